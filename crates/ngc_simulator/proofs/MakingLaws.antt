@@ -1,8 +1,11 @@
 -- What making a machine file comes to, from what its parts come to.
-use Rattle.std.proofs.Common.{◌≡◌, ℕ, List, Option, None, Err, refl}
+use Rattle.std.proofs.Common.{◌≡◌, ℕ, List, Option, None, Result, Ok, Err, is_err, OnOk, false, inl, inr, refl, subst}
+use Rattle.std.specs.Io.KnownBytes.{Keeps}
+use Rattle.ngc_machine.specs.Machine.{MachineFile}
+use Rattle.ngc_machine.specs.MachineText.{machine_file}
 use Rattle.ngc_command_line.specs.declared.options.MachineOptions.{MachineOptions}
 use Rattle.ngc_simulator.specs.Answers.{MachineComes, MakesOn}
-use Rattle.ngc_simulator.specs.Making.{MakeFails}
+use Rattle.ngc_simulator.specs.Making.{AreAskedKeys, IsNotRead, IsUnmade, MakeFails, with_remarks}
 use Rattle.ngc_simulator.specs.Setups.{FileBytes}
 use Rattle.ngc_simulator.specs.Unread.{unread_by}
 use Rattle.ngc_simulator.specs.declared.fault.AnswerFault.{AnswerFault}
@@ -23,3 +26,31 @@ not_unread options dump old new (answers.Input e) fails = absurd fails
 not_unread options dump old new (answers.Read e) fails = absurd fails
 not_unread options dump old new (answers.Certificate e) fails = absurd fails
 not_unread options dump old new _ fails = refl
+
+-- ---- the text of a machine file
+
+-- the reader refuses the keys
+pub keys_refused : (keys : List ℕ) (fault : AnswerFault) → IsNotRead keys fault → IsUnmade keys fault
+keys_refused keys (answers.Machine e) refuses = inl refuses
+keys_refused keys _ refuses = absurd refuses
+
+-- it refuses them with the comments behind them
+pub whole_refused : (keys text : List ℕ) (machine : MachineFile) (fault : AnswerFault) → machine_file keys ≡ Ok machine →
+    text ≡ with_remarks keys machine
+    → IsNotRead text fault → IsUnmade keys fault
+whole_refused keys text machine (answers.Machine e) says is refuses =
+    inr (machine, says, subst (λ (t : List ℕ). IsNotRead t (answers.Machine e)) is refuses)
+whole_refused keys text machine _ says is refuses = absurd refuses
+
+-- of keys of which no text is made nothing is written
+pub unmade : (options : MachineOptions) (dump : Option (List ℕ)) (old new : Option (List ℕ)) (keys : List ℕ) (fault : AnswerFault) →
+    AreAskedKeys options dump keys
+    → Keeps old new → IsUnmade keys fault → MakeFails options dump old new fault
+unmade options dump old new keys answers.Memory are keeps h = keeps
+unmade options dump old new keys (answers.Machine e) are keeps h = (keeps, (keys, are, h))
+unmade options dump old new keys _ are keeps h = absurd h
+
+-- what holds of a result that is no error
+pub of_no_error : {T E : Type 0} (r : Result T E) (P : Type 0) → is_err r ≡ false → OnOk r P → P
+of_no_error (Ok x) P fine h = h
+of_no_error (Err e) P fine h = cc

@@ -56,7 +56,7 @@ module _ (setup : Setup) (bytes : List ℕ) (request : ReportRequest) (text : Pr
     the_setup : MachineFile → List Tool → Setup
     the_setup m tools = record { machine = m; tools = tools }
 
-  fit_report : (c : CertificateData) (t : List ℕ) → IsMadeOf j request.cuts c → IsFitText j c request.form t → IsFitReport setup bytes request t
+  fit_report : (c : CertificateData) (t : List ℕ) → IsMadeOf j request.cuts c → IsFitText j c request.form text.lines t → IsFitReport setup bytes request t
   fit_report c t made is = record {
     certificate = c;
     made = made_for_file setup bytes request.cuts text j c is_text have is_job made;
@@ -65,17 +65,17 @@ module _ (setup : Setup) (bytes : List ℕ) (request : ReportRequest) (text : Pr
     on_time = is.on_time;
     on_lasts = subst (λ (m : MachineFile). LastsFor m (commands_in true j) is.on_time) the_job.machine is.on_lasts;
     tells = is.tells
-        ∙ ap (λ (d : Bool). fits_text request.form d (setup_in j) j.off (commands_in true j) c is.off_time is.on_time) the_job.apart
-        ∙ ap (λ (s : Setup). fits_text request.form (has_deleted (program_said text have.readings).lines) s j.off (commands_in true j) c is.off_time is.on_time)
+        ∙ ap (λ (d : Bool). fits_text request.form d (setup_in j) j.off (commands_in true j) c is.off_time is.on_time text.lines) the_job.apart
+        ∙ ap (λ (s : Setup). fits_text request.form (has_deleted (program_said text have.readings).lines) s j.off (commands_in true j) c is.off_time is.on_time text.lines)
         same_setup;
   }
 
-  pub told_fit : (c : CertificateData) (old new : Option (List ℕ)) → IsMadeOf j request.cuts c → Tells (IsFitText j c request.form) old new (Ok tt) →
+  pub told_fit : (c : CertificateData) (old new : Option (List ℕ)) → IsMadeOf j request.cuts c → Tells (IsFitText j c request.form text.lines) old new (Ok tt) →
       Reports setup bytes request old new (Ok tt)
   told_fit c old new made tells = (tells.0, fit_report c tells.0 made tells.1, tells.2)
 
   pub fit_stopped : (c : CertificateData) (old new : Option (List ℕ)) (fault : ReportFault) → IsMadeOf j request.cuts c
-      → Tells (IsFitText j c request.form) old new (Err fault) → Reports setup bytes request old new (Err (of_report fault))
+      → Tells (IsFitText j c request.form text.lines) old new (Err fault) → Reports setup bytes request old new (Err (of_report fault))
   fit_stopped c old new faults.Memory made tells = tells
   fit_stopped c old new (faults.Write fault) made tells = (tells.0, inl (fit_report c tells.0 made tells.1), tells.2)
 

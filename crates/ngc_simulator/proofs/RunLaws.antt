@@ -20,7 +20,7 @@ use Rattle.ngc_events.specs.declared.event.EventLine.{EventLine}
 use Rattle.ngc_events.specs.declared.fault.EventsFault.{EventsFault}
 use Rattle.ngc_events.specs.declared.fault.EventsFault.TheVariants as texts
 use Rattle.ngc_behaviour.specs.Headline.{job_of}
-use Rattle.ngc_command_line.specs.declared.options.Recording.{Recording}
+use Rattle.ngc_simulator.specs.declared.writing.Writing.{Writing}
 use Rattle.ngc_run_log.specs.declared.report.Report.{Report}
 use Rattle.ngc_run_log.specs.declared.report.RunFault.{RunFault}
 use Rattle.ngc_run_log.specs.declared.report.RunFault.TheVariants as runs
@@ -45,18 +45,18 @@ no_events A events (texts.BadLine line) says = says
 no_events A events texts.TooManyLines says = says
 no_events A events texts.Memory says = tt
 
-pub events_refused : (A : Type 0) (recording : Recording) (setup : Setup) (bytes text events : List ℕ) (block_delete : Bool) (known : Option (List ℕ))
+pub events_refused : (A : Type 0) (writing : Writing) (setup : Setup) (bytes text events : List ℕ) (block_delete : Bool) (known : Option (List ℕ))
     (verdict : Verdict) (fault : EventsFault)
     → IsVerdict setup bytes text verdict → GivesEvents {A = A} (Err fault) (events_said events)
-    → Runs recording setup bytes text events block_delete known known (Err (answers.Events fault))
-events_refused A recording setup bytes text events block_delete known verdict fault is says =
+    → Runs writing setup bytes text events block_delete known known (Err (answers.Events fault))
+events_refused A writing setup bytes text events block_delete known verdict fault is says =
     (((is.program, is.certificate, is.given), no_events A events fault says), keeps_same known)
 
-pub run_refused : (recording : Recording) (setup : Setup) (bytes text events : List ℕ) (block_delete : Bool) (known : Option (List ℕ))
+pub run_refused : (writing : Writing) (setup : Setup) (bytes text events : List ℕ) (block_delete : Bool) (known : Option (List ℕ))
     (lines : List EventLine) (verdict : Verdict) (fault : CheckFault)
     → IsVerdict setup bytes text verdict → verdict ≡ Err fault → events_said events ≡ Ok lines
-    → Runs recording setup bytes text events block_delete known known (Err (answers.Check fault))
-run_refused recording setup bytes text events block_delete known lines verdict fault is refuses are_lines = (
+    → Runs writing setup bytes text events block_delete known known (Err (answers.Check fault))
+run_refused writing setup bytes text events block_delete known lines verdict fault is refuses are_lines = (
   record {
     lines = lines;
     are_lines = are_lines;
@@ -86,32 +86,32 @@ accepted_job setup bytes text block_delete verdict a is accepts =
       is_job = ap (λ machine. job_of machine (commands_at block_delete a)) checked.1.machine;
     }
 
-pub ran_over : (recording : Recording) (setup : Setup) (bytes text events : List ℕ) (block_delete : Bool) (old new : Option (List ℕ))
+pub ran_over : (writing : Writing) (setup : Setup) (bytes text events : List ℕ) (block_delete : Bool) (old new : Option (List ℕ))
     (lines given_lines : List EventLine) (verdict : Verdict) (a : AcceptedData) (result : Result Report RunFault)
     → IsVerdict setup bytes text verdict → verdict ≡ Ok a → events_said events ≡ Ok lines
-    → given_lines ≡ lines → RecordsRun recording (job_of a.machine (commands_at block_delete a)) given_lines old new result
-    → RunsOver recording setup bytes text events block_delete old new result
-ran_over recording setup bytes text events block_delete old new lines given_lines verdict a result is accepts are_lines same comes = record {
+    → given_lines ≡ lines → RecordsRun writing (job_of a.machine (commands_at block_delete a)) given_lines old new result
+    → RunsOver writing setup bytes text events block_delete old new result
+ran_over writing setup bytes text events block_delete old new lines given_lines verdict a result is accepts are_lines same comes = record {
   job = job_of a.machine (commands_at block_delete a);
   accepted = accepted_job setup bytes text block_delete verdict a is accepts;
   lines = lines;
   are_lines = are_lines;
-  comes = subst (λ ls. RecordsRun recording (job_of a.machine (commands_at block_delete a)) ls old new result) same comes;
+  comes = subst (λ ls. RecordsRun writing (job_of a.machine (commands_at block_delete a)) ls old new result) same comes;
 }
 
-pub run_failed : (recording : Recording) (setup : Setup) (bytes text events : List ℕ) (block_delete : Bool) (old new : Option (List ℕ)) (fault : RunFault)
-    → RunsOver recording setup bytes text events block_delete old new (Err fault) →
-    Runs recording setup bytes text events block_delete old new (Err (of_run fault))
-run_failed recording setup bytes text events block_delete old new runs.Memory ran = ran
-run_failed recording setup bytes text events block_delete old new (runs.Write e) ran = ran
+pub run_failed : (writing : Writing) (setup : Setup) (bytes text events : List ℕ) (block_delete : Bool) (old new : Option (List ℕ)) (fault : RunFault)
+    → RunsOver writing setup bytes text events block_delete old new (Err fault) →
+    Runs writing setup bytes text events block_delete old new (Err (of_run fault))
+run_failed writing setup bytes text events block_delete old new runs.Memory ran = ran
+run_failed writing setup bytes text events block_delete old new (runs.Write e) ran = ran
 
 -- of the bytes that were read, and so of those of the file
-pub run_over : (recording : Recording) (setup : Setup) (bytes text events slice items : List ℕ) (block_delete : Bool) (old new : Option (List ℕ))
+pub run_over : (writing : Writing) (setup : Setup) (bytes text events slice items : List ℕ) (block_delete : Bool) (old new : Option (List ℕ))
     (outcome : Result Report AnswerFault)
-    → slice ≡ items → items ≡ events → Runs recording setup bytes text slice block_delete old new outcome →
-    Runs recording setup bytes text events block_delete old new outcome
-run_over recording setup bytes text events slice items block_delete old new outcome same read runs =
-    subst (λ es. Runs recording setup bytes text es block_delete old new outcome) (same ∙ read) runs
+    → slice ≡ items → items ≡ events → Runs writing setup bytes text slice block_delete old new outcome →
+    Runs writing setup bytes text events block_delete old new outcome
+run_over writing setup bytes text events slice items block_delete old new outcome same read runs =
+    subst (λ es. Runs writing setup bytes text es block_delete old new outcome) (same ∙ read) runs
 
 pub no_certificate : (A : Type 0) (view : Certificate A → CertificateData) (text : List ℕ) (fault : CertificateFault) →
     GivesCertificate view (Err fault) (certificate_said text)
@@ -147,30 +147,30 @@ on_files first second third known source events P Q R S is_first is_second is_th
     on_all (Some a) source events p q r = on_two source events a p q r
 
 -- of what was read: the shop, then the program, the certificate and the events
-pub ran_files : (bytes after later last : FileBytes) (options : RunOptions) (shop : Shop) (old new : Option (List ℕ)) (outcome : Result Report AnswerFault)
+pub ran_files : (bytes after later last : FileBytes) (options : RunOptions) (writing : Writing) (shop : Shop) (old new : Option (List ℕ)) (outcome : Result Report AnswerFault)
     (P Q R : List ℕ → Type 0)
     → GivesShop bytes (Some options.machine.now) (Some options.tools.now) (Ok shop) → KeepsFiles bytes after → KeepsNamed after later → KeepsFiles later last
     → IfSome (after (option_map (λ n. n.now) options.program)) P → IfSome (later (Some options.certificate.now)) Q → IfSome (last (Some options.events.now)) R
-    → ((a b e : List ℕ) → P a → Q b → R e → Runs options.recording (setup_of shop.machine shop.tools) a b e options.delete old new outcome)
-    → RunsOn bytes options old new outcome
-ran_files bytes after later last options shop old new outcome P Q R said keeps named kept p q r on =
+    → ((a b e : List ℕ) → P a → Q b → R e → Runs writing (setup_of shop.machine shop.tools) a b e options.delete old new outcome)
+    → RunsOn bytes options writing old new outcome
+ran_files bytes after later last options writing shop old new outcome P Q R said keeps named kept p q r on =
     on_setup bytes (Some options.machine.now) (Some options.tools.now) (setup_of shop.machine shop.tools)
     (λ setup. IfSome (bytes (option_map (λ n. n.now) options.program))
     (λ a. IfSome (bytes (Some options.certificate.now))
-    (λ b. IfSome (bytes (Some options.events.now)) (λ e. Runs options.recording setup a b e options.delete old new outcome))))
+    (λ b. IfSome (bytes (Some options.events.now)) (λ e. Runs writing setup a b e options.delete old new outcome))))
     said.0 said.1
-    (on_files _ _ _ _ _ _ P Q R (λ a b e. Runs options.recording (setup_of shop.machine shop.tools) a b e options.delete old new outcome)
+    (on_files _ _ _ _ _ _ P Q R (λ a b e. Runs writing (setup_of shop.machine shop.tools) a b e options.delete old new outcome)
     (keeps (option_map (λ n. n.now) options.program))
     (named options.certificate.now ∙ keeps (Some options.certificate.now))
     (kept (Some options.events.now) ∙ named options.events.now ∙ keeps (Some options.events.now)) on p q r)
 
 -- ---- to the end
 
-pub through_refused : (recording : Recording) (setup : Setup) (bytes text : List ℕ) (block_delete : Bool) (known : Option (List ℕ))
+pub through_refused : (writing : Writing) (setup : Setup) (bytes text : List ℕ) (block_delete : Bool) (known : Option (List ℕ))
     (verdict : Verdict) (fault : CheckFault)
     → IsVerdict setup bytes text verdict → verdict ≡ Err fault
-    → RunsThrough recording setup bytes text block_delete known known (Err (answers.Check fault))
-through_refused recording setup bytes text block_delete known verdict fault is refuses = (
+    → RunsThrough writing setup bytes text block_delete known known (Err (answers.Check fault))
+through_refused writing setup bytes text block_delete known verdict fault is refuses = (
   record {
     program = is.program;
     certificate = is.certificate;
@@ -180,21 +180,21 @@ through_refused recording setup bytes text block_delete known verdict fault is r
   keeps_same known,
 )
 
-pub went_through : (recording : Recording) (setup : Setup) (bytes text : List ℕ) (block_delete : Bool) (old new : Option (List ℕ))
+pub went_through : (writing : Writing) (setup : Setup) (bytes text : List ℕ) (block_delete : Bool) (old new : Option (List ℕ))
     (verdict : Verdict) (a : AcceptedData) (result : Result Report RunFault)
     → IsVerdict setup bytes text verdict → verdict ≡ Ok a
-    → RecordsThrough recording (job_of a.machine (commands_at block_delete a)) old new result
-    → RunsWhole recording setup bytes text block_delete old new result
-went_through recording setup bytes text block_delete old new verdict a result is accepts goes = record {
+    → RecordsThrough writing (job_of a.machine (commands_at block_delete a)) old new result
+    → RunsWhole writing setup bytes text block_delete old new result
+went_through writing setup bytes text block_delete old new verdict a result is accepts goes = record {
   job = job_of a.machine (commands_at block_delete a);
   accepted = accepted_job setup bytes text block_delete verdict a is accepts;
   goes_through = goes;
 }
 
-pub through_failed : (recording : Recording) (setup : Setup) (bytes text : List ℕ) (block_delete : Bool) (old new : Option (List ℕ)) (fault : RunFault)
-    → RunsWhole recording setup bytes text block_delete old new (Err fault) → RunsThrough recording setup bytes text block_delete old new (Err (of_run fault))
-through_failed recording setup bytes text block_delete old new runs.Memory ran = ran
-through_failed recording setup bytes text block_delete old new (runs.Write e) ran = ran
+pub through_failed : (writing : Writing) (setup : Setup) (bytes text : List ℕ) (block_delete : Bool) (old new : Option (List ℕ)) (fault : RunFault)
+    → RunsWhole writing setup bytes text block_delete old new (Err fault) → RunsThrough writing setup bytes text block_delete old new (Err (of_run fault))
+through_failed writing setup bytes text block_delete old new runs.Memory ran = ran
+through_failed writing setup bytes text block_delete old new (runs.Write e) ran = ran
 
 -- of two files, where each is opened after the one before it
 pub on_two_files : (first second known source : Option (List ℕ)) (P Q : List ℕ → Type 0) (S : List ℕ → List ℕ → Type 0)
@@ -212,18 +212,18 @@ on_two_files first second known source P Q S is_first is_second on p q =
     on_both (Some a) source p q = on_last source a p q
 
 -- of what was read: the shop, then the program and the certificate
-pub went_files : (bytes after later : FileBytes) (options : RunThroughOptions) (shop : Shop) (old new : Option (List ℕ)) (outcome : Result Report AnswerFault)
+pub went_files : (bytes after later : FileBytes) (options : RunThroughOptions) (writing : Writing) (shop : Shop) (old new : Option (List ℕ)) (outcome : Result Report AnswerFault)
     (P Q : List ℕ → Type 0)
     → GivesShop bytes (Some options.machine.now) (Some options.tools.now) (Ok shop) → KeepsFiles bytes after → KeepsNamed after later
     → IfSome (after (option_map (λ n. n.now) options.program)) P → IfSome (later (Some options.certificate.now)) Q
-    → ((a b : List ℕ) → P a → Q b → RunsThrough options.recording (setup_of shop.machine shop.tools) a b options.delete old new outcome)
-    → RunsThroughOn bytes options old new outcome
-went_files bytes after later options shop old new outcome P Q said keeps named p q on =
+    → ((a b : List ℕ) → P a → Q b → RunsThrough writing (setup_of shop.machine shop.tools) a b options.delete old new outcome)
+    → RunsThroughOn bytes options writing old new outcome
+went_files bytes after later options writing shop old new outcome P Q said keeps named p q on =
     on_setup bytes (Some options.machine.now) (Some options.tools.now) (setup_of shop.machine shop.tools)
     (λ setup. IfSome (bytes (option_map (λ n. n.now) options.program))
-    (λ a. IfSome (bytes (Some options.certificate.now)) (λ b. RunsThrough options.recording setup a b options.delete old new outcome)))
+    (λ a. IfSome (bytes (Some options.certificate.now)) (λ b. RunsThrough writing setup a b options.delete old new outcome)))
     said.0 said.1
-    (on_two_files _ _ _ _ P Q (λ a b. RunsThrough options.recording (setup_of shop.machine shop.tools) a b options.delete old new outcome)
+    (on_two_files _ _ _ _ P Q (λ a b. RunsThrough writing (setup_of shop.machine shop.tools) a b options.delete old new outcome)
     (keeps (option_map (λ n. n.now) options.program))
     (named options.certificate.now ∙ keeps (Some options.certificate.now)) on p q)
 

@@ -31,6 +31,8 @@ use Rattle.ngc_simulator.specs.Guides.{Guides, version_text}
 use Rattle.ngc_simulator.specs.Faults.{FailsByOutput, OfCertifying, OfChecking, OfDrawing}
 use Rattle.ngc_simulator.specs.Faults.{OfListing, OfReporting, OfRunning, OfTelling, OfWriting}
 use Rattle.ngc_simulator.specs.Faults.{OrOfReading, answer_status, fault_line}
+use Rattle.ngc_simulator.specs.declared.writing.Writing.{Writing}
+use Rattle.ngc_simulator.specs.Writing.{writing_named}
 use Rattle.ngc_simulator.specs.Lists.{Lists}
 use Rattle.ngc_drawing.specs.declared.view.View.{View}
 use Rattle.ngc_simulator.specs.Drawing.{DrawsGiven, DrawsProgram, view_named}
@@ -78,23 +80,23 @@ ChecksOn bytes options old new outcome =
     IfSome (bytes (Some options.certificate.now))
     (λ certificate. Checks setup text certificate old new outcome)))
 
-abbrev pub RunsOn : FileBytes → RunOptions → Option (List ℕ) → Option (List ℕ) →
+abbrev pub RunsOn : FileBytes → RunOptions → Writing → Option (List ℕ) → Option (List ℕ) →
     Result Report AnswerFault → Type 0
-RunsOn bytes options old new outcome =
+RunsOn bytes options writing old new outcome =
     OnSetup bytes (Some options.machine.now) (Some options.tools.now) (λ setup.
     IfSome (bytes (option_map (λ name. name.now) options.program)) (λ text.
     IfSome (bytes (Some options.certificate.now)) (λ certificate.
     IfSome (bytes (Some options.events.now))
-    (λ events. Runs options.recording setup text certificate events options.delete old
+    (λ events. Runs writing setup text certificate events options.delete old
     new outcome))))
 
-abbrev pub RunsThroughOn : FileBytes → RunThroughOptions → Option (List ℕ) → Option (List ℕ) →
-    Result Report AnswerFault → Type 0
-RunsThroughOn bytes options old new outcome =
+abbrev pub RunsThroughOn : FileBytes → RunThroughOptions → Writing → Option (List ℕ) →
+    Option (List ℕ) → Result Report AnswerFault → Type 0
+RunsThroughOn bytes options writing old new outcome =
     OnSetup bytes (Some options.machine.now) (Some options.tools.now) (λ setup.
     IfSome (bytes (option_map (λ name. name.now) options.program)) (λ text.
     IfSome (bytes (Some options.certificate.now))
-    (λ certificate. RunsThrough options.recording setup text certificate options.delete old
+    (λ certificate. RunsThrough writing setup text certificate options.delete old
     new outcome)))
 
 -- a picture from this side, without a certificate or with one
@@ -167,17 +169,29 @@ CheckComes bytes options old new outcome =
     Comes (StopsEarly bytes (Some options.machine.now) (Some options.tools.now) old new)
     (OrOfReading OfChecking) (ChecksOn bytes options old new) outcome
 
+-- what is written of a run, if the form has a name that is known
+abbrev pub run_writing : RunOptions → Option Writing
+run_writing options =
+    writing_named options.recording (option_map (λ name. name.now) options.output) options.inverted
+
+abbrev pub run_through_writing : RunThroughOptions → Option Writing
+run_through_writing options =
+    writing_named options.recording (option_map (λ name. name.now) options.output) options.inverted
+
 -- a run over events has a report, which the program does not write
 abbrev pub WithReport : (Result Report AnswerFault → Type 0) →
     Result (Unit {0}) AnswerFault → Type 0
 WithReport Does (Ok u) = (report : Report) × Does (Ok report)
 WithReport Does (Err fault) = Does (Err fault)
 
-abbrev pub RunComes : FileBytes → RunOptions → Option (List ℕ) → Option (List ℕ) →
-    Result Done AnswerFault → Type 0
-RunComes bytes options old new outcome =
+-- a form that isn't known is answered before a file is read
+abbrev pub RunComes : FileBytes → RunOptions → Option Writing → Option (List ℕ) →
+    Option (List ℕ) → Result Done AnswerFault → Type 0
+RunComes bytes options None old new outcome =
+    (outcome ≡ Err answers.UnknownForm) × Keeps old new
+RunComes bytes options (Some writing) old new outcome =
     Comes (StopsEarly bytes (Some options.machine.now) (Some options.tools.now) old new)
-    (OrOfReading OfRunning) (WithReport (RunsOn bytes options old new)) outcome
+    (OrOfReading OfRunning) (WithReport (RunsOn bytes options writing old new)) outcome
 
 -- a view that isn't known is answered before a file is read
 abbrev pub DrawComes : FileBytes → DrawOptions → Option View → Option (List ℕ) → Option (List ℕ) →
@@ -228,17 +242,20 @@ abbrev pub IsTimeOn : FileBytes → RunThroughOptions → Report → RunTime →
 IsTimeOn bytes options report time = OnSetup bytes (Some options.machine.now)
     (Some options.tools.now) (λ setup. IsTimeOf setup report time)
 
--- of a run to the end the program tells the time
-abbrev pub RunThroughComes : FileBytes → RunThroughOptions → Option (List ℕ) → Option (List ℕ) →
-    Result Done AnswerFault → Type 0
-RunThroughComes bytes options old new (Ok Quietly) = ⊥
-RunThroughComes bytes options old new (Ok (WithNotes notes)) = ⊥
-RunThroughComes bytes options old new (Ok (RunThrough time)) =
-    (report : Report) × RunsThroughOn bytes options old new (Ok report) ×
+-- of a run to the end the program tells the time; a form that isn't known is answered before a file
+-- is read
+abbrev pub RunThroughComes : FileBytes → RunThroughOptions → Option Writing → Option (List ℕ) →
+    Option (List ℕ) → Result Done AnswerFault → Type 0
+RunThroughComes bytes options None old new outcome =
+    (outcome ≡ Err answers.UnknownForm) × Keeps old new
+RunThroughComes bytes options (Some writing) old new (Ok Quietly) = ⊥
+RunThroughComes bytes options (Some writing) old new (Ok (WithNotes notes)) = ⊥
+RunThroughComes bytes options (Some writing) old new (Ok (RunThrough time)) =
+    (report : Report) × RunsThroughOn bytes options writing old new (Ok report) ×
     IsTimeOn bytes options report time
-RunThroughComes bytes options old new (Err fault) =
+RunThroughComes bytes options (Some writing) old new (Err fault) =
     StopsEarly bytes (Some options.machine.now) (Some options.tools.now) old new fault
-    ⊎ (OrOfReading OfRunning fault × RunsThroughOn bytes options old new (Err fault))
+    ⊎ (OrOfReading OfRunning fault × RunsThroughOn bytes options writing old new (Err fault))
 
 -- ---- programs for other controls
 
@@ -316,9 +333,10 @@ ComesBy bytes (commands.List options) old new outcome = ListComes bytes options 
 ComesBy bytes (commands.Certify options) old new outcome =
     CertifyComes bytes options old new outcome
 ComesBy bytes (commands.Check options) old new outcome = CheckComes bytes options old new outcome
-ComesBy bytes (commands.Run options) old new outcome = RunComes bytes options old new outcome
+ComesBy bytes (commands.Run options) old new outcome =
+    RunComes bytes options (run_writing options) old new outcome
 ComesBy bytes (commands.RunThrough options) old new outcome =
-    RunThroughComes bytes options old new outcome
+    RunThroughComes bytes options (run_through_writing options) old new outcome
 ComesBy bytes (commands.Draw options) old new outcome =
     DrawComes bytes options (view_named (option_map (λ name. name.now) options.view))
     old new outcome
@@ -358,14 +376,17 @@ check_inputs options =
     ++ program_input (option_map (λ name. name.now) options.program)
     ∷ certificate_input options.certificate.now ∷ []
 
-abbrev pub run_inputs : RunOptions → List Input
-run_inputs options =
+-- where the form is known
+abbrev pub run_inputs : RunOptions → Option Writing → List Input
+run_inputs options None = []
+run_inputs options (Some writing) =
     shop_inputs (Some options.machine.now) (Some options.tools.now)
     ++ program_input (option_map (λ name. name.now) options.program)
     ∷ certificate_input options.certificate.now ∷ events_input options.events.now ∷ []
 
-abbrev pub run_through_inputs : RunThroughOptions → List Input
-run_through_inputs options =
+abbrev pub run_through_inputs : RunThroughOptions → Option Writing → List Input
+run_through_inputs options None = []
+run_through_inputs options (Some writing) =
     shop_inputs (Some options.machine.now) (Some options.tools.now)
     ++ program_input (option_map (λ name. name.now) options.program)
     ∷ certificate_input options.certificate.now ∷ []
@@ -412,8 +433,9 @@ abbrev pub inputs_of : Options → List Input
 inputs_of (commands.List options) = list_inputs options
 inputs_of (commands.Certify options) = certify_inputs options
 inputs_of (commands.Check options) = check_inputs options
-inputs_of (commands.Run options) = run_inputs options
-inputs_of (commands.RunThrough options) = run_through_inputs options
+inputs_of (commands.Run options) = run_inputs options (run_writing options)
+inputs_of (commands.RunThrough options) =
+    run_through_inputs options (run_through_writing options)
 inputs_of (commands.Draw options) =
     draw_inputs options (view_named (option_map (λ name. name.now) options.view))
 inputs_of (commands.Show options) = show_inputs options

@@ -4,6 +4,7 @@ pub mod Guides
 pub mod Jobs
 pub mod Judging
 pub mod Running
+pub mod Writing
 pub mod Drawing
 pub mod Showing
 pub mod Reporting

@@ -1,9 +1,13 @@
 -- What making a machine file from figures comes to. Our own.
-use Rattle.std.specs.Prelude.{◌≡◌, ℕ, ◌&&◌, ◌||◌, not, Bool, true, false, List, Option, Some, None, is_some}
-use Rattle.std.specs.Prelude.{option_map, Result, Ok, Err, IfSome, if◌then◌else◌}
+use Rattle.std.specs.Prelude.{◌≡◌, ◌⊎◌, ℕ, ◌&&◌, ◌||◌, not, Bool, true, false, List, [], ◌++◌, Option}
+use Rattle.std.specs.Prelude.{Some, None, is_some, option_map, Result, Ok, Err, IsOk, IfSome}
+use Rattle.std.specs.Prelude.{if◌then◌else◌}
 use Rattle.std.specs.Io.KnownBytes.{Appends, Keeps}
 use Rattle.ngc_text.specs.Written.{AppendsBeginning}
 use Rattle.ngc_command_line.specs.declared.options.MachineOptions.{MachineOptions}
+use Rattle.ngc_machine.specs.Machine.{MachineFile}
+use Rattle.ngc_machine.specs.MachineText.{machine_file}
+use Rattle.ngc_machine.specs.declared.fault.FileFault.{FileFault}
 use Rattle.ngc_machine_maker.specs.declared.choices.Choices.{Choices}
 use Rattle.ngc_machine_maker.specs.declared.figures.Figures.{Figures}
 use Rattle.ngc_machine_maker.specs.declared.numbers.MachineNumbers.{MachineNumbers}
@@ -15,10 +19,11 @@ use Rattle.ngc_machine_maker.specs.Grbl.{figures_in}
 use Rattle.ngc_machine_maker.specs.Numbers.{numbers_of}
 use Rattle.ngc_machine_maker.specs.Options.{figures_of}
 use Rattle.ngc_machine_maker.specs.Sentences.{refusal_line}
+use Rattle.ngc_setup_sheet.specs.Sheets.{warning_remarks}
 use Rattle.ngc_simulator.specs.declared.done.Notes.{Notes}
 use Rattle.ngc_simulator.specs.declared.fault.AnswerFault.{AnswerFault}
 use Rattle.ngc_simulator.specs.declared.fault.AnswerFault.TheVariants as answers
-use Rattle.ngc_simulator.specs.Setups.{FileBytes}
+use Rattle.ngc_simulator.specs.Setups.{FileBytes, Refuses}
 
 -- steps, travel, feed and acceleration are given
 abbrev pub has_all_figures : MachineOptions → Bool
@@ -76,9 +81,39 @@ abbrev pub TellsRefusal : Refusal → Option (List ℕ) → Option (List ℕ) �
 TellsRefusal refusal old new notes = Keeps old new × (notes.is_written ≡ false)
     × (notes.text.items ≡ refusal_line refusal)
 
+-- a text isn't read as a machine file, with the reader's fault
+abbrev pub IsNotRead : List ℕ → AnswerFault → Type 0
+IsNotRead text (answers.Machine e) = Refuses e (machine_file text)
+IsNotRead text _ = ⊥
+
+-- the keys of a machine file, and behind them the warnings of `ngc show` on this machine without
+-- tools, as comments
+abbrev pub with_remarks : List ℕ → MachineFile → List ℕ
+with_remarks keys machine = keys ++ warning_remarks machine []
+
+-- the machine is the one that the keys say, and the whole is read as a machine file
+pub record IsMadeText (keys text : List ℕ) : Type 0 where
+  pub machine : MachineFile
+  pub says : machine_file keys ≡ Ok machine
+  pub is_text : text ≡ with_remarks keys machine
+  pub is_file : IsOk (machine_file text)
+
+-- the reader refuses the keys, or the keys with the comments behind them
+abbrev pub IsUnread : List ℕ → FileFault → Type 0
+IsUnread keys e = Refuses e (machine_file keys)
+    ⊎ ((machine : MachineFile) × (machine_file keys ≡ Ok machine)
+    × Refuses e (machine_file (with_remarks keys machine)))
+
+-- why no text is made of some keys
+abbrev pub IsUnmade : List ℕ → AnswerFault → Type 0
+IsUnmade keys answers.Memory = Unit {0}
+IsUnmade keys (answers.Machine e) = IsUnread keys e
+IsUnmade keys _ = ⊥
+
 abbrev pub WritesNumbers : Figures → Result MachineNumbers Refusal → Option (List ℕ) →
     Option (List ℕ) → Notes → Type 0
-WritesNumbers figures (Ok numbers) old new notes = Appends old new (file_text numbers figures)
+WritesNumbers figures (Ok numbers) old new notes =
+    ((text : List ℕ) × IsMadeText (file_text numbers figures) text × Appends old new text)
     × (notes.is_written ≡ true) × (notes.text.items ≡ notes_text numbers figures)
 WritesNumbers figures (Err refusal) old new notes = TellsRefusal refusal old new notes
 
@@ -86,20 +121,24 @@ abbrev pub MakesFile : Result Figures Refusal → Option (List ℕ) → Option (
 MakesFile (Ok figures) old new notes = WritesNumbers figures (numbers_of figures) old new notes
 MakesFile (Err refusal) old new notes = TellsRefusal refusal old new notes
 
--- the text of the machine file that is asked for
-pub record IsAskedFile (options : MachineOptions) (dump : Option (List ℕ)) (text : List ℕ) : Type 0 where
+-- the keys of the machine file that is asked for
+pub record AreAskedKeys (options : MachineOptions) (dump : Option (List ℕ)) (keys : List ℕ) : Type 0 where
   pub figures : Figures
   pub are_asked : IsAskedFor options dump (Ok figures)
   pub numbers : MachineNumbers
   pub are_numbers : numbers_of figures ≡ Ok numbers
-  pub is_text : text ≡ file_text numbers figures
+  pub are_keys : keys ≡ file_text numbers figures
 
--- where a write fails, a beginning of that text is written
+-- where what would be written isn't read as a machine file, nothing is, and where a write fails a
+-- beginning of it is
 abbrev pub MakeFails : MachineOptions → Option (List ℕ) → Option (List ℕ) → Option (List ℕ) →
     AnswerFault → Type 0
 MakeFails options dump old new answers.Memory = Keeps old new
+MakeFails options dump old new (answers.Machine e) = Keeps old new
+    × ((keys : List ℕ) × AreAskedKeys options dump keys × IsUnread keys e)
 MakeFails options dump old new (answers.Write e) =
-    (text : List ℕ) × IsAskedFile options dump text × AppendsBeginning old new text
+    (keys text : List ℕ) × AreAskedKeys options dump keys × IsMadeText keys text
+    × AppendsBeginning old new text
 MakeFails options dump old new _ = ⊥
 
 abbrev pub Makes : MachineOptions → Option (List ℕ) → Option (List ℕ) → Option (List ℕ) →

@@ -34,6 +34,7 @@ pub record IsFitReport (setup : Setup) (bytes : List ℕ) (request : ReportReque
   pub on_lasts : LastsFor setup.machine made.on on_time
   pub tells : text ≡ fits_text request.form
       (has_deleted made.means.program.lines) setup made.off made.on certificate off_time on_time
+      made.means.is_program.text.lines
 
 -- the report of one of which command k isn't cleared at a setting
 pub record IsFirstReport (setup : Setup) (bytes : List ℕ) (request : ReportRequest) (s : Setting)

@@ -19,25 +19,27 @@ use Rattle.ngc_behaviour.specs.Headline.{job_of}
 use Rattle.ngc_run_log.specs.declared.report.Report.{Report}
 use Rattle.ngc_run_log.specs.declared.report.RunFault.{RunFault}
 use Rattle.ngc_run_log.specs.declared.report.RunFault.TheVariants as runs
-use Rattle.ngc_run_log.specs.Forms.{PulsesCome, PulsesGoThrough}
+use Rattle.ngc_run_log.specs.Forms.{PulsesCome, PulsesGoThrough, SamplesCome, SamplesGoThrough}
 use Rattle.ngc_run_log.specs.Runs.{ComesTo}
 use Rattle.ngc_run_log.specs.Through.{GoesThrough}
-use Rattle.ngc_command_line.specs.declared.options.Recording.{Recording}
-use Rattle.ngc_command_line.specs.declared.options.Recording.TheVariants.{Log, Pulses}
 use Rattle.ngc_simulator.specs.declared.fault.AnswerFault.{AnswerFault}
 use Rattle.ngc_simulator.specs.declared.fault.AnswerFault.TheVariants as answers
+use Rattle.ngc_simulator.specs.declared.writing.Writing.{Writing}
+use Rattle.ngc_simulator.specs.declared.writing.Writing.TheVariants.{Log, Dump, Samples}
 use Rattle.ngc_simulator.specs.Jobs.{AreGiven, IsNoCertificate}
 
 -- what a run over events comes to by what is written of it, and what a run to the end comes to
-abbrev pub RecordsRun : Recording → Job → List EventLine → Option (List ℕ) → Option (List ℕ) →
+abbrev pub RecordsRun : Writing → Job → List EventLine → Option (List ℕ) → Option (List ℕ) →
     Result Report RunFault → Type 0
 RecordsRun Log = ComesTo
-RecordsRun Pulses = PulsesCome
+RecordsRun Dump = PulsesCome
+RecordsRun (Samples inverted) = SamplesCome inverted
 
-abbrev pub RecordsThrough : Recording → Job → Option (List ℕ) → Option (List ℕ) →
+abbrev pub RecordsThrough : Writing → Job → Option (List ℕ) → Option (List ℕ) →
     Result Report RunFault → Type 0
 RecordsThrough Log = GoesThrough
-RecordsThrough Pulses = PulsesGoThrough
+RecordsThrough Dump = PulsesGoThrough
+RecordsThrough (Samples inverted) = SamplesGoThrough inverted
 
 -- The job of a program's file at a setting of block delete: the commands that the program means
 -- there. Nothing is refused of it and of a certificate's file.
@@ -53,14 +55,14 @@ pub record IsAcceptedJob (setup : Setup) (bytes text : List ℕ) (block_delete :
 
 -- the run of such a job over the events that a third file says, and what is written of it, and what
 -- it came to
-pub record RunsOver (recording : Recording) (setup : Setup) (bytes text events : List ℕ)
+pub record RunsOver (writing : Writing) (setup : Setup) (bytes text events : List ℕ)
     (block_delete : Bool) (old new : Option (List ℕ)) (result : Result Report RunFault) :
     Type 0 where
   pub job : Job
   pub accepted : IsAcceptedJob setup bytes text block_delete job
   pub lines : List EventLine
   pub are_lines : events_said events ≡ Ok lines
-  pub comes : RecordsRun recording job lines old new result
+  pub comes : RecordsRun writing job lines old new result
 
 -- a program's file and a certificate's file are read
 abbrev pub AreRead : List ℕ → List ℕ → Type 0
@@ -84,12 +86,12 @@ pub record IsRefusedRun (setup : Setup) (bytes text events : List ℕ) (fault : 
   pub first : IsFirst fault (first_refusal program setup certificate)
 
 -- the run of such a job to its end, and what is written of it, and what it came to
-pub record RunsWhole (recording : Recording) (setup : Setup) (bytes text : List ℕ)
+pub record RunsWhole (writing : Writing) (setup : Setup) (bytes text : List ℕ)
     (block_delete : Bool) (old new : Option (List ℕ)) (result : Result Report RunFault) :
     Type 0 where
   pub job : Job
   pub accepted : IsAcceptedJob setup bytes text block_delete job
-  pub goes_through : RecordsThrough recording job old new result
+  pub goes_through : RecordsThrough writing job old new result
 
 -- the first refusal of the two files
 pub record IsRefusedWhole (setup : Setup) (bytes text : List ℕ) (fault : CheckFault) : Type 0 where
@@ -101,37 +103,37 @@ pub record IsRefusedWhole (setup : Setup) (bytes text : List ℕ) (fault : Check
 -- Of a program's file, a certificate's file, an events file and a sink: the log or the pulses of
 -- the run were written, or a beginning where the sink failed; where there is no run, what was
 -- written is as it was.
-abbrev pub Runs : Recording → Setup → List ℕ → List ℕ → List ℕ → Bool → Option (List ℕ) →
+abbrev pub Runs : Writing → Setup → List ℕ → List ℕ → List ℕ → Bool → Option (List ℕ) →
     Option (List ℕ) → Result Report AnswerFault → Type 0
-Runs recording setup bytes text events block_delete old new (Ok report) =
-    RunsOver recording setup bytes text events block_delete old new (Ok report)
-Runs recording setup bytes text events block_delete old new (Err (answers.Read fault)) =
+Runs writing setup bytes text events block_delete old new (Ok report) =
+    RunsOver writing setup bytes text events block_delete old new (Ok report)
+Runs writing setup bytes text events block_delete old new (Err (answers.Read fault)) =
     FaultIs fault (program_of bytes) × Keeps old new
-Runs recording setup bytes text events block_delete old new (Err (answers.Certificate fault)) =
+Runs writing setup bytes text events block_delete old new (Err (answers.Certificate fault)) =
     IsNoCertificate text fault × Keeps old new
-Runs recording setup bytes text events block_delete old new (Err (answers.Events fault)) =
+Runs writing setup bytes text events block_delete old new (Err (answers.Events fault)) =
     (AreRead bytes text × AreNoEvents events fault) × Keeps old new
-Runs recording setup bytes text events block_delete old new (Err (answers.Check fault)) =
+Runs writing setup bytes text events block_delete old new (Err (answers.Check fault)) =
     IsRefusedRun setup bytes text events fault × Keeps old new
-Runs recording setup bytes text events block_delete old new (Err answers.Memory) =
-    RunsOver recording setup bytes text events block_delete old new (Err runs.Memory)
-Runs recording setup bytes text events block_delete old new (Err (answers.Write fault)) =
-    RunsOver recording setup bytes text events block_delete old new (Err (runs.Write fault))
-Runs recording setup bytes text events block_delete old new (Err _) = ⊥
+Runs writing setup bytes text events block_delete old new (Err answers.Memory) =
+    RunsOver writing setup bytes text events block_delete old new (Err runs.Memory)
+Runs writing setup bytes text events block_delete old new (Err (answers.Write fault)) =
+    RunsOver writing setup bytes text events block_delete old new (Err (runs.Write fault))
+Runs writing setup bytes text events block_delete old new (Err _) = ⊥
 
 -- Of a program's file, a certificate's file and a sink: the same of a run to the end.
-abbrev pub RunsThrough : Recording → Setup → List ℕ → List ℕ → Bool → Option (List ℕ) →
+abbrev pub RunsThrough : Writing → Setup → List ℕ → List ℕ → Bool → Option (List ℕ) →
     Option (List ℕ) → Result Report AnswerFault → Type 0
-RunsThrough recording setup bytes text block_delete old new (Ok report) =
-    RunsWhole recording setup bytes text block_delete old new (Ok report)
-RunsThrough recording setup bytes text block_delete old new (Err (answers.Read fault)) =
+RunsThrough writing setup bytes text block_delete old new (Ok report) =
+    RunsWhole writing setup bytes text block_delete old new (Ok report)
+RunsThrough writing setup bytes text block_delete old new (Err (answers.Read fault)) =
     FaultIs fault (program_of bytes) × Keeps old new
-RunsThrough recording setup bytes text block_delete old new (Err (answers.Certificate fault)) =
+RunsThrough writing setup bytes text block_delete old new (Err (answers.Certificate fault)) =
     IsNoCertificate text fault × Keeps old new
-RunsThrough recording setup bytes text block_delete old new (Err (answers.Check fault)) =
+RunsThrough writing setup bytes text block_delete old new (Err (answers.Check fault)) =
     IsRefusedWhole setup bytes text fault × Keeps old new
-RunsThrough recording setup bytes text block_delete old new (Err answers.Memory) =
-    RunsWhole recording setup bytes text block_delete old new (Err runs.Memory)
-RunsThrough recording setup bytes text block_delete old new (Err (answers.Write fault)) =
-    RunsWhole recording setup bytes text block_delete old new (Err (runs.Write fault))
-RunsThrough recording setup bytes text block_delete old new (Err _) = ⊥
+RunsThrough writing setup bytes text block_delete old new (Err answers.Memory) =
+    RunsWhole writing setup bytes text block_delete old new (Err runs.Memory)
+RunsThrough writing setup bytes text block_delete old new (Err (answers.Write fault)) =
+    RunsWhole writing setup bytes text block_delete old new (Err (runs.Write fault))
+RunsThrough writing setup bytes text block_delete old new (Err _) = ⊥

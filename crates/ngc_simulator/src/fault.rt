@@ -78,6 +78,9 @@ pub enum AnswerFault {
     /// Neither a dump of settings nor all figures are given, or both are: 726.
     #[error("no figures of a machine")]
     NoFigures,
+    /// No form of what a run writes has the name: 727.
+    #[error("no form has this name")]
+    UnknownForm,
 }
 
 impl AnswerFault {
@@ -103,6 +106,7 @@ impl AnswerFault {
             AnswerFault::UnknownControl => 724,
             AnswerFault::WrongCodes => 725,
             AnswerFault::NoFigures => 726,
+            AnswerFault::UnknownForm => 727,
         }
     }
 
@@ -122,7 +126,10 @@ impl AnswerFault {
             AnswerFault::Events(fault) => status_of_events(fault),
             AnswerFault::Input(_) | AnswerFault::Memory | AnswerFault::Write(_) => 1,
             AnswerFault::UnknownFault | AnswerFault::UnknownCommand | AnswerFault::UnknownView => 3,
-            AnswerFault::UnknownControl | AnswerFault::WrongCodes | AnswerFault::NoFigures => 3,
+            AnswerFault::UnknownControl
+            | AnswerFault::WrongCodes
+            | AnswerFault::NoFigures
+            | AnswerFault::UnknownForm => 3,
         }
     }
 }

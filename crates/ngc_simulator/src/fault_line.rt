@@ -199,7 +199,8 @@ fn add_place(chunk: &mut Chunk, fault: &AnswerFault)
         | AnswerFault::UnknownView
         | AnswerFault::UnknownControl
         | AnswerFault::WrongCodes
-        | AnswerFault::NoFigures => {}
+        | AnswerFault::NoFigures
+        | AnswerFault::UnknownForm => {}
     }
 }
 

@@ -25,6 +25,7 @@ mod setup;
 mod showing;
 mod through;
 mod unread_files;
+mod writing;
 
 pub use certifier::certify;
 pub use checking::check_program;
@@ -54,10 +55,14 @@ pub use ngc_listing::write_list;
 pub use ngc_machine::{FileFault, Fixture, Machine, Tool, Tools, built_in_machine};
 pub use ngc_program_report::{ReportRequest, RunTime};
 pub use ngc_report::Form;
-pub use ngc_run_log::{Report, RunFault, run, run_through, write_pulses, write_pulses_through};
+pub use ngc_run_log::{
+    Report, RunFault, run, run_through, write_pulses, write_pulses_through, write_samples,
+    write_samples_through,
+};
 pub use ngc_setup_sheet::write_sheet;
 pub use ngc_step_kernel::{ArcKernel, ArcPath};
 pub use program::answer;
 pub use reporting::report_program;
 pub use running::run_program;
 pub use through::run_program_through;
+pub use writing::Writing;

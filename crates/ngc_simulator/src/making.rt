@@ -1,9 +1,18 @@
 //! Machine files from figures, of the command line or of a file that it names.
-ghost use Rattle.std.specs.Prelude.{◌≡◌, IfErr, IfOk, true, false, is_some, option_map, Some};
+ghost use Rattle.std.specs.Prelude.{◌≡◌, ◌++◌, [], IfErr, IfOk, MatchResult, Ok, true, false};
+ghost use Rattle.std.specs.Prelude.{is_some, option_map, Some};
+ghost use Rattle.ngc_machine.specs.Machine.{file_of};
+ghost use Rattle.ngc_machine.specs.MachineText.{machine_file};
+ghost use Rattle.ngc_machine_maker.specs.Asked.{scale_in};
+ghost use Rattle.ngc_machine_maker.specs.File.{file_text};
+ghost use Rattle.ngc_machine_maker.specs.InFile.{AreInFile};
+ghost use Rattle.ngc_machine_maker.specs.Ranges.{IsScale};
 ghost use Rattle.ngc_machine_maker.specs.Sentences.{refusal_line};
 ghost use Rattle.ngc_simulator.specs.Answers.{MachineComes, machine_inputs};
 ghost use Rattle.ngc_simulator.specs.Faults.{FailsByOutput};
-ghost use Rattle.ngc_simulator.specs.Making.{AreChoices, AreFigures, IsAskedFor, Makes, MakesFile};
+ghost use Rattle.ngc_setup_sheet.specs.Sheets.{warning_remarks};
+ghost use Rattle.ngc_simulator.specs.Making.{AreChoices, AreFigures, IsAskedFor, IsMadeText};
+ghost use Rattle.ngc_simulator.specs.Making.{IsNotRead, IsUnmade, Makes, MakesFile};
 ghost use Rattle.ngc_simulator.specs.Making.{MakeFails, has_all_figures, has_source};
 ghost use Rattle.ngc_simulator.specs.Unread.{FailsByInput, SourceFails};
 
@@ -12,11 +21,13 @@ use crate::fault::AnswerFault;
 use crate::files::Files;
 use crate::setup::bytes_of;
 use ngc_command_line::MachineOptions;
+use ngc_machine::Machine;
 use ngc_machine_maker::{
-    Choices, Figures, Options, Refusal, numbers_of, read_grbl, write_machine_file, write_notes,
-    write_refusal,
+    Choices, Figures, MachineNumbers, Options, Refusal, numbers_of, read_grbl, write_machine_file,
+    write_notes, write_refusal,
 };
-use ngc_text::{Device, Sink};
+use ngc_setup_sheet::write_warning_remarks;
+use ngc_text::{Device, Sink, write_all};
 use std::alloc::Global;
 
 fn has_source(options: &MachineOptions<'_>) -> bool
@@ -112,7 +123,72 @@ fn refused(alloc: Global, refusal: Refusal) -> Result<Notes, AnswerFault>
     }
 }
 
-// Writes the machine file of some figures. Nothing is written where they are refused.
+// The keys of a machine file, each with its remark.
+fn keys_text(
+    alloc: Global,
+    numbers: &MachineNumbers,
+    figures: &Figures,
+) -> Result<Vec<u8, Global>, AnswerFault>
+    requires numbers { AreInFile numbers.now }
+    requires scale { IsScale (scale_in numbers.now figures.now) }
+    ensures text { IfOk result (λ text. text.items ≡ file_text numbers.now figures.now) }
+    ensures fault { IfErr result (λ fault. fault ≡ AnswerFault.Memory) }
+{
+    let mut keys = Device::new(Vec::new(alloc));
+    match write_machine_file(numbers, figures, &mut keys) {
+        Ok(()) => Ok(keys.into_inner()),
+        Err(_) => Err(AnswerFault::Memory),
+    }
+}
+
+// The machine that a text says.
+fn machine_in(alloc: Global, text: &[u8]) -> Result<Machine<Global>, AnswerFault>
+    ensures { MatchResult result (λ m. machine_file text.now ≡ Ok (file_of m)) (IsNotRead text.now) }
+{
+    match Machine::read(alloc, text) {
+        Ok(machine) => Ok(machine),
+        Err(fault) => Err(AnswerFault::Machine(fault)),
+    }
+}
+
+// A text with the warnings of a machine behind it, as comments.
+fn with_warnings(
+    text: Vec<u8, Global>,
+    machine: &Machine<Global>,
+) -> Result<Vec<u8, Global>, AnswerFault>
+    ensures text { IfOk result
+        (λ made. made.items ≡ text.items ++ warning_remarks (file_of machine.now) []) }
+    ensures fault { IfErr result (λ fault. fault ≡ AnswerFault.Memory) }
+{
+    let mut made = Device::new(text);
+    match write_warning_remarks(machine, &[], &mut made) {
+        Ok(()) => Ok(made.into_inner()),
+        Err(_) => Err(AnswerFault::Memory),
+    }
+}
+
+// The whole text of a machine file: its keys, and behind them the warnings of the machine that they
+// say. The keys are read for that, and then the whole, so that what is written is a machine file.
+fn made_text(
+    alloc: Global,
+    numbers: &MachineNumbers,
+    figures: &Figures,
+) -> Result<Vec<u8, Global>, AnswerFault>
+    requires numbers { AreInFile numbers.now }
+    requires scale { IsScale (scale_in numbers.now figures.now) }
+    ensures made { MatchResult result
+        (λ text. IsMadeText (file_text numbers.now figures.now) text.items)
+        (IsUnmade (file_text numbers.now figures.now)) }
+{
+    let keys = keys_text(alloc, numbers, figures)?;
+    let machine = machine_in(alloc, keys.as_slice())?;
+    let text = with_warnings(keys, &machine)?;
+    let _read = machine_in(alloc, text.as_slice())?;
+    Ok(text)
+}
+
+// Writes the machine file of some figures. Nothing is written where they are refused, or where what
+// would be written isn't read as a machine file.
 fn make<W: Sink>(
     alloc: Global,
     options: &MachineOptions<'_>,
@@ -136,7 +212,8 @@ fn make<W: Sink>(
     if write_notes(&numbers, &figures, &mut told).is_err() {
         return Err(AnswerFault::Memory);
     }
-    write_machine_file(&numbers, &figures, output)?;
+    let text = made_text(alloc, &numbers, &figures)?;
+    write_all(output, text.as_slice())?;
     Ok(Notes {
         text: told.into_inner(),
         is_written: true,

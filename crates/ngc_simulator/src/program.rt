@@ -16,9 +16,9 @@ use crate::guide::{write_help, write_version};
 use crate::lister::list_files;
 use crate::making::machine_files;
 use crate::reporting_files::report_files;
-use crate::running::run_files;
+use crate::running::run_asked;
 use crate::showing::show_files;
-use crate::through::run_through_files;
+use crate::through::run_through_asked;
 use ngc_command_line::Options;
 use ngc_fault_texts::{ExplainFault, explain};
 use ngc_program_report::add_time_line;
@@ -41,8 +41,8 @@ fn run_command<F: Files, W: Sink>(
         Options::List(options) => list_files(alloc, options, files, output),
         Options::Certify(options) => certify_files(alloc, options, files, output),
         Options::Check(options) => check_files(alloc, options, files, output),
-        Options::Run(options) => run_files(alloc, options, files, output),
-        Options::RunThrough(options) => run_through_files(alloc, options, files, output),
+        Options::Run(options) => run_asked(alloc, options, files, output),
+        Options::RunThrough(options) => run_through_asked(alloc, options, files, output),
         Options::Draw(options) => draw_files(alloc, options, files, output),
         Options::Show(options) => show_files(alloc, options, files, output),
         Options::Report(options) => report_files(alloc, options, files, output),

@@ -83,7 +83,7 @@ pub fn report_program<A: Allocator + Copy, R: Source, W: Sink>(
     };
     match made_for(alloc, &job, request.cuts) {
         Ok(certificate) => {
-            report_fit(alloc, job, &certificate, request.form, output)?;
+            report_fit(alloc, &program, job, &certificate, request.form, output)?;
             Ok(())
         }
         Err(MakeFault::NotCleared { setting, command }) => {

@@ -3,7 +3,7 @@ ghost use Rattle.ngc_canonical.specs.State.{Setup};
 ghost use Rattle.ngc_behaviour.specs.Headline.{job_of};
 ghost use Rattle.ngc_checker.specs.Accepted.{commands_at};
 ghost use Rattle.ngc_run_log.specs.Runs.{FailsByWriting};
-ghost use Rattle.ngc_simulator.specs.Answers.{RunComes, run_inputs};
+ghost use Rattle.ngc_simulator.specs.Answers.{RunComes, run_inputs, run_writing};
 ghost use Rattle.ngc_simulator.specs.Faults.{FailsByOutput, OfRunning};
 ghost use Rattle.ngc_simulator.specs.Judging.{IsVerdict};
 ghost use Rattle.ngc_simulator.specs.Running.{Runs, RecordsRun};
@@ -15,10 +15,11 @@ use crate::files::Files;
 use crate::judging::{Verdict, judge_file};
 use crate::opening::read_program;
 use crate::setup::{bytes_of, read_shop};
+use crate::writing::{Writing, writing_of};
 use ngc_checker::Accepted;
-use ngc_command_line::{Recording, RunOptions};
+use ngc_command_line::RunOptions;
 use ngc_events::{EventLine, read_events};
-use ngc_run_log::{Report, RunFault, run, write_pulses};
+use ngc_run_log::{Report, RunFault, run, write_pulses, write_samples};
 use ngc_text::Sink;
 use std::alloc::{Allocator, Global};
 
@@ -28,17 +29,20 @@ fn record_run<A: Allocator + Copy, W: Sink>(
     accepted: Accepted<A>,
     block_delete: bool,
     lines: &[EventLine],
-    recording: Recording,
+    writing: Writing,
     output: &mut W,
 ) -> Result<Report, RunFault>
-    ensures records { RecordsRun recording
+    ensures records { RecordsRun writing
         (job_of accepted.machine (commands_at block_delete accepted)) lines.now
         (W.written output.old) (W.written output.new) result }
     ensures counts { FailsByWriting result (W.failures output.old) (W.failures output.new) }
 {
-    match recording {
-        Recording::Log => run(alloc, accepted, block_delete, lines, output),
-        Recording::Pulses => write_pulses(alloc, accepted, block_delete, lines, output),
+    match writing {
+        Writing::Log => run(alloc, accepted, block_delete, lines, output),
+        Writing::Dump => write_pulses(alloc, accepted, block_delete, lines, output),
+        Writing::Samples(inverted) => {
+            write_samples(alloc, accepted, block_delete, lines, inverted, output)
+        }
     }
 }
 
@@ -53,12 +57,12 @@ pub fn run_program<A: Allocator + Copy, W: Sink>(
     verdict: Verdict<A>,
     events: &[u8],
     block_delete: bool,
-    recording: Recording,
+    writing: Writing,
     output: &mut W,
 ) -> Result<Report, AnswerFault>
     // Whatever files the verdict is on: the answer is that of these and of the events.
     ensures runs { (setup : Setup) (bytes text : List ℕ) → IsVerdict setup bytes text verdict →
-        Runs recording setup bytes text events.now block_delete (W.written output.old)
+        Runs writing setup bytes text events.now block_delete (W.written output.old)
         (W.written output.new) result }
     ensures sink { FailsByOutput result (W.failures output.old) (W.failures output.new) }
     ensures faults { IfErr result OfRunning }
@@ -70,7 +74,7 @@ pub fn run_program<A: Allocator + Copy, W: Sink>(
         accepted,
         block_delete,
         lines.as_slice(),
-        recording,
+        writing,
         output,
     )?;
     Ok(report)
@@ -78,16 +82,17 @@ pub fn run_program<A: Allocator + Copy, W: Sink>(
 
 // A run over events. Each file is read before the next one is opened. A refusal of the certificate
 // is returned only after the events are read and understood.
-pub(crate) fn run_files<F: Files, W: Sink>(
+fn run_files<F: Files, W: Sink>(
     alloc: Global,
     options: &RunOptions<'_>,
+    writing: Writing,
     files: &mut F,
     output: &mut W,
 ) -> Result<Done, AnswerFault>
-    ensures comes { RunComes (F.bytes files.old) options.now (W.written output.old)
-        (W.written output.new) result }
+    ensures comes { RunComes (F.bytes files.old) options.now (Some writing)
+        (W.written output.old) (W.written output.new) result }
     ensures unread { FailsByInput (SourceFails F.R.remaining F.R.failures) (F.bytes files.old)
-        (run_inputs options.now) (F.failures files.old) (F.failures files.new) result }
+        (run_inputs options.now (Some writing)) (F.failures files.old) (F.failures files.new) result }
     ensures sink { FailsByOutput result (W.failures output.old) (W.failures output.new) }
 {
     let shop = read_shop(alloc, Some(options.machine), Some(options.tools), files)?;
@@ -99,8 +104,28 @@ pub(crate) fn run_files<F: Files, W: Sink>(
         verdict,
         events.as_slice(),
         options.delete,
-        options.recording,
+        writing,
         output,
     )?;
     Ok(Done::Quietly)
+}
+
+/// A run in the form that is asked for. The form is looked up before a file is read.
+pub(crate) fn run_asked<F: Files, W: Sink>(
+    alloc: Global,
+    options: &RunOptions<'_>,
+    files: &mut F,
+    output: &mut W,
+) -> Result<Done, AnswerFault>
+    ensures comes { RunComes (F.bytes files.old) options.now (run_writing options.now)
+        (W.written output.old) (W.written output.new) result }
+    ensures unread { FailsByInput (SourceFails F.R.remaining F.R.failures) (F.bytes files.old)
+        (run_inputs options.now (run_writing options.now)) (F.failures files.old)
+        (F.failures files.new) result }
+    ensures sink { FailsByOutput result (W.failures output.old) (W.failures output.new) }
+{
+    let Some(writing) = writing_of(options.recording, options.output, options.inverted) else {
+        return Err(AnswerFault::UnknownForm);
+    };
+    run_files(alloc, options, writing, files, output)
 }

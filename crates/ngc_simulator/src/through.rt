@@ -3,7 +3,7 @@ ghost use Rattle.ngc_canonical.specs.State.{Setup};
 ghost use Rattle.ngc_behaviour.specs.Headline.{job_of};
 ghost use Rattle.ngc_checker.specs.Accepted.{commands_at};
 ghost use Rattle.ngc_run_log.specs.Runs.{FailsByWriting};
-ghost use Rattle.ngc_simulator.specs.Answers.{RunThroughComes, run_through_inputs};
+ghost use Rattle.ngc_simulator.specs.Answers.{RunThroughComes, run_through_inputs, run_through_writing};
 ghost use Rattle.ngc_simulator.specs.Faults.{FailsByOutput, OfRunning};
 ghost use Rattle.ngc_simulator.specs.Judging.{IsVerdict};
 ghost use Rattle.ngc_simulator.specs.Running.{RunsThrough, RecordsThrough};
@@ -15,10 +15,11 @@ use crate::files::Files;
 use crate::judging::{Verdict, judge_file};
 use crate::opening::read_program;
 use crate::setup::read_shop;
+use crate::writing::{Writing, writing_of};
 use ngc_checker::Accepted;
-use ngc_command_line::{Recording, RunThroughOptions};
+use ngc_command_line::RunThroughOptions;
 use ngc_program_report::RunTime;
-use ngc_run_log::{Report, RunFault, run_through, write_pulses_through};
+use ngc_run_log::{Report, RunFault, run_through, write_pulses_through, write_samples_through};
 use ngc_text::Sink;
 use std::alloc::{Allocator, Global};
 
@@ -27,17 +28,20 @@ fn record_through<A: Allocator + Copy, W: Sink>(
     alloc: A,
     accepted: Accepted<A>,
     block_delete: bool,
-    recording: Recording,
+    writing: Writing,
     output: &mut W,
 ) -> Result<Report, RunFault>
-    ensures records { RecordsThrough recording
+    ensures records { RecordsThrough writing
         (job_of accepted.machine (commands_at block_delete accepted)) (W.written output.old)
         (W.written output.new) result }
     ensures counts { FailsByWriting result (W.failures output.old) (W.failures output.new) }
 {
-    match recording {
-        Recording::Log => run_through(alloc, accepted, block_delete, output),
-        Recording::Pulses => write_pulses_through(alloc, accepted, block_delete, output),
+    match writing {
+        Writing::Log => run_through(alloc, accepted, block_delete, output),
+        Writing::Dump => write_pulses_through(alloc, accepted, block_delete, output),
+        Writing::Samples(inverted) => {
+            write_samples_through(alloc, accepted, block_delete, inverted, output)
+        }
     }
 }
 
@@ -49,40 +53,61 @@ pub fn run_program_through<A: Allocator + Copy, W: Sink>(
     alloc: A,
     verdict: Verdict<A>,
     block_delete: bool,
-    recording: Recording,
+    writing: Writing,
     output: &mut W,
 ) -> Result<Report, AnswerFault>
     // Whatever files the verdict is on: the answer is that of these.
     ensures runs { (setup : Setup) (bytes text : List ℕ) → IsVerdict setup bytes text verdict →
-        RunsThrough recording setup bytes text block_delete (W.written output.old)
+        RunsThrough writing setup bytes text block_delete (W.written output.old)
         (W.written output.new) result }
     ensures sink { FailsByOutput result (W.failures output.old) (W.failures output.new) }
     ensures faults { IfErr result OfRunning }
 {
     let accepted = verdict?;
-    let report = record_through(alloc, accepted, block_delete, recording, output)?;
+    let report = record_through(alloc, accepted, block_delete, writing, output)?;
     Ok(report)
 }
 
 // A run to the end, and how long it took. Each file is read before the next one is opened.
-pub(crate) fn run_through_files<F: Files, W: Sink>(
+fn run_through_files<F: Files, W: Sink>(
     alloc: Global,
     options: &RunThroughOptions<'_>,
+    writing: Writing,
     files: &mut F,
     output: &mut W,
 ) -> Result<Done, AnswerFault>
-    ensures comes { RunThroughComes (F.bytes files.old) options.now (W.written output.old)
-        (W.written output.new) result }
+    ensures comes { RunThroughComes (F.bytes files.old) options.now (Some writing)
+        (W.written output.old) (W.written output.new) result }
     ensures unread { FailsByInput (SourceFails F.R.remaining F.R.failures) (F.bytes files.old)
-        (run_through_inputs options.now) (F.failures files.old) (F.failures files.new) result }
+        (run_through_inputs options.now (Some writing)) (F.failures files.old) (F.failures files.new) result }
     ensures sink { FailsByOutput result (W.failures output.old) (W.failures output.new) }
 {
     let shop = read_shop(alloc, Some(options.machine), Some(options.tools), files)?;
     let program = read_program(alloc, options.program, files)?;
     let verdict = judge_file(alloc, &program, &shop, options.certificate, files)?;
-    let report = run_program_through(alloc, verdict, options.delete, options.recording, output)?;
+    let report = run_program_through(alloc, verdict, options.delete, writing, output)?;
     Ok(Done::RunThrough(RunTime {
         ticks: report.ticks,
         ticks_per_second: shop.machine.ticks_per_second,
     }))
+}
+
+/// A run in the form that is asked for. The form is looked up before a file is read.
+pub(crate) fn run_through_asked<F: Files, W: Sink>(
+    alloc: Global,
+    options: &RunThroughOptions<'_>,
+    files: &mut F,
+    output: &mut W,
+) -> Result<Done, AnswerFault>
+    ensures comes { RunThroughComes (F.bytes files.old) options.now (run_through_writing options.now)
+        (W.written output.old) (W.written output.new) result }
+    ensures unread { FailsByInput (SourceFails F.R.remaining F.R.failures) (F.bytes files.old)
+        (run_through_inputs options.now (run_through_writing options.now)) (F.failures files.old)
+        (F.failures files.new) result }
+    ensures sink { FailsByOutput result (W.failures output.old) (W.failures output.new) }
+{
+    let Some(writing) = writing_of(options.recording, options.output, options.inverted) else {
+        return Err(AnswerFault::UnknownForm);
+    };
+    run_through_files(alloc, options, writing, files, output)
 }

@@ -9,31 +9,31 @@ use Rattle.ngc_simulator.proofs.running.run_program.Goals as goal
 pub returns-in_err-lines-clause-runs : goal.returns-in_err-lines-clause-runs
 returns-in_err-lines-clause-runs g c setup bytes text is =
     turned _ (answers.Events c.in_err-lines.field-0.0)
-    (λ r. Runs c.args.recording setup bytes text c.args.events.now c.args.block_delete (g.W.Sink.written c.args.output.now)
+    (λ r. Runs c.args.writing setup bytes text c.args.events.now c.args.block_delete (g.W.Sink.written c.args.output.now)
     (g.W.Sink.written c.args.output.now) r) c.from_residual.ensures.1
-    (events_refused g.row.A.Denot c.args.recording setup bytes text c.args.events.now c.args.block_delete _ c.args.verdict c.in_err-lines.field-0.0
+    (events_refused g.row.A.Denot c.args.writing setup bytes text c.args.events.now c.args.block_delete _ c.args.verdict c.in_err-lines.field-0.0
     is c.in_err-lines.ensures)
 
 pub returns-in_err-accepted-clause-runs : goal.returns-in_err-accepted-clause-runs
 returns-in_err-accepted-clause-runs g c setup bytes text is =
     turned _ (answers.Check c.in_err-accepted.field-0.0)
-    (λ r. Runs c.args.recording setup bytes text c.args.events.now c.args.block_delete (g.W.Sink.written c.args.output.now)
+    (λ r. Runs c.args.writing setup bytes text c.args.events.now c.args.block_delete (g.W.Sink.written c.args.output.now)
     (g.W.Sink.written c.args.output.now) r) c.from_residual-in_err-accepted.ensures.1
-    (run_refused c.args.recording setup bytes text c.args.events.now c.args.block_delete _ c.in_ok-lines.lines.items c.args.verdict
+    (run_refused c.args.writing setup bytes text c.args.events.now c.args.block_delete _ c.in_ok-lines.lines.items c.args.verdict
     c.in_err-accepted.field-0.0 is c.in_err-accepted.was c.in_ok-lines.ensures)
 
 pub returns-in_err-report-clause-runs : goal.returns-in_err-report-clause-runs
 returns-in_err-report-clause-runs g c setup bytes text is =
     let fault = c.in_err-report.field-0.0 in
     turned _ (of_run fault)
-    (λ r. Runs c.args.recording setup bytes text c.args.events.now c.args.block_delete (g.W.Sink.written c.args.output.now)
+    (λ r. Runs c.args.writing setup bytes text c.args.events.now c.args.block_delete (g.W.Sink.written c.args.output.now)
     (g.W.Sink.written c.record_run.new.output) r) c.from_residual-in_err-report.ensures.1
-    (run_failed c.args.recording setup bytes text c.args.events.now c.args.block_delete _ _ fault
-    (ran_over c.args.recording setup bytes text c.args.events.now c.args.block_delete _ _ c.in_ok-lines.lines.items c.as_slice.result.now c.args.verdict
+    (run_failed c.args.writing setup bytes text c.args.events.now c.args.block_delete _ _ fault
+    (ran_over c.args.writing setup bytes text c.args.events.now c.args.block_delete _ _ c.in_ok-lines.lines.items c.as_slice.result.now c.args.verdict
     c.in_ok-accepted.accepted (Err fault) is c.in_ok-accepted.was c.in_ok-lines.ensures c.as_slice.ensures.value c.in_err-report.ensures.records))
 
 pub returns-clause-runs : goal.returns-clause-runs
 returns-clause-runs g c setup bytes text is =
-    ran_over c.args.recording setup bytes text c.args.events.now c.args.block_delete _ _ c.in_ok-lines.lines.items c.as_slice.result.now c.args.verdict
+    ran_over c.args.writing setup bytes text c.args.events.now c.args.block_delete _ _ c.in_ok-lines.lines.items c.as_slice.result.now c.args.verdict
     c.in_ok-accepted.accepted (Ok c.in_ok-report.report) is c.in_ok-accepted.was c.in_ok-lines.ensures c.as_slice.ensures.value
     c.in_ok-report.ensures.records

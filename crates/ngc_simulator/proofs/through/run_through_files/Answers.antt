@@ -18,18 +18,18 @@ use Rattle.ngc_simulator.proofs.through.run_through_files.Goals as goal
 pub returns-in_err-shop-clause-comes : goal.returns-in_err-shop-clause-comes
 returns-in_err-shop-clause-comes g c =
     turned _ c.in_err-shop.field-0.0
-    (RunThroughComes (g.F.Files.bytes c.args.files.now) c.args.options.now (g.W.Sink.written c.args.output.now) (g.W.Sink.written c.args.output.now))
+    (RunThroughComes (g.F.Files.bytes c.args.files.now) c.args.options.now (Some c.args.writing) (g.W.Sink.written c.args.output.now) (g.W.Sink.written c.args.output.now))
     c.from_residual.ensures.1 (inl (c.in_err-shop.ensures.said, keeps_same _))
 
 pub returns-in_err-program-clause-comes : goal.returns-in_err-program-clause-comes
 returns-in_err-program-clause-comes g c =
     let fault = answers.Read c.in_err-program.field-0.0 in
-    turned _ fault (RunThroughComes (g.F.Files.bytes c.args.files.now) c.args.options.now (g.W.Sink.written c.args.output.now)
+    turned _ fault (RunThroughComes (g.F.Files.bytes c.args.files.now) c.args.options.now (Some c.args.writing) (g.W.Sink.written c.args.output.now)
     (g.W.Sink.written c.args.output.now)) c.from_residual-in_err-program.ensures.1
     (inr (
       tt,
       went_files (g.F.Files.bytes c.args.files.now) (g.F.Files.bytes c.read_shop.new.files)
-          (g.F.Files.bytes c.read_shop.new.files) c.args.options.now c.in_ok-shop.shop _ _ (Err fault) _ (λ b. Unit {0})
+          (g.F.Files.bytes c.read_shop.new.files) c.args.options.now c.args.writing c.in_ok-shop.shop _ _ (Err fault) _ (λ b. Unit {0})
           c.in_ok-shop.ensures.said c.read_shop.ensures.keeps (λ name. refl)
           c.in_err-program.ensures.text (all_known _ _ (λ b. tt))
           (λ a b fault_is q. (fault_is, keeps_same _)),
@@ -38,12 +38,12 @@ returns-in_err-program-clause-comes g c =
 pub returns-in_err-verdict-clause-comes : goal.returns-in_err-verdict-clause-comes
 returns-in_err-verdict-clause-comes g c =
     let fault = answers.Certificate c.in_err-verdict.field-0.0 in
-    turned _ fault (RunThroughComes (g.F.Files.bytes c.args.files.now) c.args.options.now (g.W.Sink.written c.args.output.now)
+    turned _ fault (RunThroughComes (g.F.Files.bytes c.args.files.now) c.args.options.now (Some c.args.writing) (g.W.Sink.written c.args.output.now)
     (g.W.Sink.written c.args.output.now)) c.from_residual-in_err-verdict.ensures.1
     (inr (
       tt,
       went_files (g.F.Files.bytes c.args.files.now) (g.F.Files.bytes c.read_shop.new.files)
-          (g.F.Files.bytes c.read_program.new.files) c.args.options.now c.in_ok-shop.shop _ _ (Err fault) (λ a. Unit {0}) _
+          (g.F.Files.bytes c.read_program.new.files) c.args.options.now c.args.writing c.in_ok-shop.shop _ _ (Err fault) (λ a. Unit {0}) _
           c.in_ok-shop.ensures.said c.read_shop.ensures.keeps c.read_program.ensures.named
           (all_known _ _ (λ a. tt))
           (c.in_err-verdict.ensures.judges c.in_ok-program.ensures.readings.readings c.in_ok-program.ensures.readings.are)
@@ -54,7 +54,7 @@ pub returns-clause-comes : goal.returns-clause-comes
 returns-clause-comes g c = (
   c.in_ok-report.report,
   went_files (g.F.Files.bytes c.args.files.now) (g.F.Files.bytes c.read_shop.new.files)
-      (g.F.Files.bytes c.read_program.new.files) c.args.options.now c.in_ok-shop.shop (g.W.Sink.written c.args.output.now)
+      (g.F.Files.bytes c.read_program.new.files) c.args.options.now c.args.writing c.in_ok-shop.shop (g.W.Sink.written c.args.output.now)
       (g.W.Sink.written c.run_program_through.new.output) (Ok c.in_ok-report.report) _ _
       c.in_ok-shop.ensures.said c.read_shop.ensures.keeps c.read_program.ensures.named
       c.in_ok-program.ensures.text
@@ -69,12 +69,12 @@ returns-clause-comes g c = (
 pub returns-in_err-report-clause-comes : goal.returns-in_err-report-clause-comes
 returns-in_err-report-clause-comes g c =
     let fault = c.in_err-report.field-0.0 in
-    turned _ fault (RunThroughComes (g.F.Files.bytes c.args.files.now) c.args.options.now (g.W.Sink.written c.args.output.now)
+    turned _ fault (RunThroughComes (g.F.Files.bytes c.args.files.now) c.args.options.now (Some c.args.writing) (g.W.Sink.written c.args.output.now)
     (g.W.Sink.written c.run_program_through.new.output)) c.from_residual-in_err-report.ensures.1
     (inr (
       or_of_reading OfRunning fault c.in_err-report.ensures.faults,
       went_files (g.F.Files.bytes c.args.files.now) (g.F.Files.bytes c.read_shop.new.files)
-          (g.F.Files.bytes c.read_program.new.files) c.args.options.now c.in_ok-shop.shop (g.W.Sink.written c.args.output.now)
+          (g.F.Files.bytes c.read_program.new.files) c.args.options.now c.args.writing c.in_ok-shop.shop (g.W.Sink.written c.args.output.now)
           (g.W.Sink.written c.run_program_through.new.output) (Err fault) _ _
           c.in_ok-shop.ensures.said c.read_shop.ensures.keeps c.read_program.ensures.named
           c.in_ok-program.ensures.text
@@ -88,7 +88,7 @@ returns-in_err-report-clause-comes g c =
 pub returns-in_err-shop-clause-unread : goal.returns-in_err-shop-clause-unread
 returns-in_err-shop-clause-unread g c =
     unread_told (SourceFails g.F.R.Source.remaining g.F.R.Source.failures) (g.F.Files.bytes c.args.files.now)
-    (run_through_inputs c.args.options.now) _ _ _ c.in_err-shop.field-0.0 c.from_residual.ensures.1
+    (run_through_inputs c.args.options.now (Some c.args.writing)) _ _ _ c.in_err-shop.field-0.0 c.from_residual.ensures.1
     (told_before (SourceFails g.F.R.Source.remaining g.F.R.Source.failures) (g.F.Files.bytes c.args.files.now)
     (shop_inputs (Some c.args.options.now.machine.now) (Some c.args.options.now.tools.now))
     (program_input (option_map (λ n. n.now) c.args.options.now.program) ∷ certificate_input c.args.options.now.certificate.now ∷ []) _ _
@@ -96,7 +96,7 @@ returns-in_err-shop-clause-unread g c =
 
 pub returns-in_err-program-clause-unread : goal.returns-in_err-program-clause-unread
 returns-in_err-program-clause-unread g c =
-    unread_told (SourceFails g.F.R.Source.remaining g.F.R.Source.failures) (g.F.Files.bytes c.args.files.now) (run_through_inputs c.args.options.now) _ _ _
+    unread_told (SourceFails g.F.R.Source.remaining g.F.R.Source.failures) (g.F.Files.bytes c.args.files.now) (run_through_inputs c.args.options.now (Some c.args.writing)) _ _ _
     (answers.Read c.in_err-program.field-0.0) c.from_residual-in_err-program.ensures.1
     (told_behind (SourceFails g.F.R.Source.remaining g.F.R.Source.failures) (g.F.Files.bytes c.args.files.now) (g.F.Files.bytes c.read_shop.new.files)
     (shop_inputs (Some c.args.options.now.machine.now) (Some c.args.options.now.tools.now)) OfProgram (option_map (λ n. n.now) c.args.options.now.program)
@@ -107,7 +107,7 @@ returns-in_err-program-clause-unread g c =
 
 pub returns-in_err-verdict-clause-unread : goal.returns-in_err-verdict-clause-unread
 returns-in_err-verdict-clause-unread g c =
-    unread_told (SourceFails g.F.R.Source.remaining g.F.R.Source.failures) (g.F.Files.bytes c.args.files.now) (run_through_inputs c.args.options.now) _ _ _
+    unread_told (SourceFails g.F.R.Source.remaining g.F.R.Source.failures) (g.F.Files.bytes c.args.files.now) (run_through_inputs c.args.options.now (Some c.args.writing)) _ _ _
     (answers.Certificate c.in_err-verdict.field-0.0) c.from_residual-in_err-verdict.ensures.1
     (told_behind (SourceFails g.F.R.Source.remaining g.F.R.Source.failures) (g.F.Files.bytes c.args.files.now) (g.F.Files.bytes c.read_program.new.files)
     (shop_inputs (Some c.args.options.now.machine.now) (Some c.args.options.now.tools.now)
@@ -128,7 +128,7 @@ returns-in_err-verdict-clause-unread g c =
 pub returns-in_err-report-clause-unread : goal.returns-in_err-report-clause-unread
 returns-in_err-report-clause-unread g c =
     unread_told (SourceFails g.F.R.Source.remaining g.F.R.Source.failures) (g.F.Files.bytes c.args.files.now)
-    (run_through_inputs c.args.options.now) _ _ _ c.in_err-report.field-0.0 c.from_residual-in_err-report.ensures.1
+    (run_through_inputs c.args.options.now (Some c.args.writing)) _ _ _ c.in_err-report.field-0.0 c.from_residual-in_err-report.ensures.1
     (run_told (SourceFails g.F.R.Source.remaining g.F.R.Source.failures) (g.F.Files.bytes c.args.files.now)
-    (run_through_inputs c.args.options.now) _ _ c.in_err-report.field-0.0 c.in_err-report.ensures.faults
+    (run_through_inputs c.args.options.now (Some c.args.writing)) _ _ c.in_err-report.field-0.0 c.in_err-report.ensures.faults
     (c.in_ok-verdict.ensures.unread ∙ c.in_ok-program.ensures.unread ∙ c.in_ok-shop.ensures.unread))

@@ -1,0 +1,57 @@
+//! What is written of a run, from the options.
+ghost use Rattle.std.specs.Prelude.{◌≡◌, option_map};
+ghost use Rattle.ngc_simulator.specs.Writing.{is_own_name, own_writing, writing_named};
+
+use ngc_command_line::Recording;
+
+/// What is written of a run.
+#[derive(Clone, Copy)]
+pub enum Writing {
+    /// The log.
+    Log,
+    /// The pulses as a value change dump.
+    Dump,
+    /// The pulses as samples: two bytes for each tick, in which the bits of a mask are turned over.
+    Samples(u8),
+}
+
+// What is written where no form is named.
+fn own_writing(recording: Recording) -> Writing
+    ensures { result ≡ own_writing recording }
+{
+    match recording {
+        Recording::Log => Writing::Log,
+        Recording::Pulses => Writing::Dump,
+    }
+}
+
+fn is_own_name(recording: Recording, name: &str) -> bool
+    ensures { result ≡ is_own_name recording name.now }
+{
+    match recording {
+        Recording::Log => name == "log",
+        Recording::Pulses => name == "vcd",
+    }
+}
+
+/// What a command that records this writes in the form with this name, if it has one.
+pub(crate) fn writing_of(
+    recording: Recording,
+    output: Option<&str>,
+    inverted: u8,
+) -> Option<Writing>
+    ensures { result ≡ writing_named recording (option_map (λ name. name.now) output.entry) inverted }
+{
+    match output {
+        None => Some(own_writing(recording)),
+        Some(name) => {
+            if name == "samples" {
+                Some(Writing::Samples(inverted))
+            } else if is_own_name(recording, name) {
+                Some(own_writing(recording))
+            } else {
+                None
+            }
+        }
+    }
+}
