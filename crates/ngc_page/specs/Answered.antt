@@ -9,12 +9,15 @@ use Rattle.ngc_simulator.specs.Setups.{FileBytes}
 use Rattle.ngc_simulator.specs.Unread.{unread_by}
 use Rattle.ngc_simulator.specs.declared.done.Done.{Done}
 use Rattle.ngc_simulator.specs.declared.fault.AnswerFault.{AnswerFault}
-use Rattle.ngc_page.specs.declared.lines.TheConstants.{LINES_LIMIT}
 
 -- a file couldn't be opened, or reading it failed
 abbrev pub SaysUnreadable : Option InputFault → Type 0
 SaysUnreadable (Some Device) = Unit {0}
 SaysUnreadable _ = ⊥
+
+-- how many bytes of standard error are kept
+abbrev pub LINES_KEPT : ℕ
+LINES_KEPT = 65536
 
 -- What `ngc` comes to with these options on these files: its output, the lines of its standard
 -- error, of which the first 65,536 bytes are kept, and its status. No file is unreadable.
@@ -27,7 +30,7 @@ pub record Told (files : FileBytes) (options : Options) (output errors : List �
   pub read : IfErr outcome (λ fault. ¬ SaysUnreadable (unread_by fault))
   pub tells : Tells outcome
       (record { old = Some []; new = Some errors; failures = 0; failures_now = failed })
-  pub keeps : 0 < failed → length errors ≡ LINES_LIMIT
+  pub keeps : 0 < failed → length errors ≡ LINES_KEPT
 
 -- the text stands at the front of what was there, as far as that reaches
 abbrev pub Holds : List ℕ → List ℕ → List ℕ → Type 0

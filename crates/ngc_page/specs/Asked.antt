@@ -46,7 +46,7 @@ AsksCheck =
 abbrev pub AsksPulses : Bool → Options → Type 0
 AsksPulses delete =
     AsksForRun Pulses (codes "machine") (codes "tools") (codes "certificate") None
-    (Some (codes "program")) delete
+    (Some (codes "program")) delete None
 
 abbrev pub AsksShow : Options → Type 0
 AsksShow = AsksForShow (codes "machine") (Some (codes "tools")) false

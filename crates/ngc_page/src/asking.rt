@@ -102,6 +102,8 @@ pub fn pulses_options(delete: bool) -> Options<'static>
         certificate: "certificate",
         program: Some("program"),
         delete,
+        output: None,
+        inverted: 0,
     })
 }
 
