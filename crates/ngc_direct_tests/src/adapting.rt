@@ -20,6 +20,12 @@ const ROWS: &[(Dialect, &str, &str, &str)] = &[
         "line 1 (1): blend_tolerance exact: P0.01 -> nothing\nline 2 (2): zero_offset exact: K0 -> nothing\nblend_tolerance: 1\nzero_offset: 1\n",
     ),
     (
+        Dialect::Grbl,
+        "G0 X1 (a (b) c)\n(open\nM2\n",
+        "G0 X1 (a [b] c)\n(open)\nM2\n",
+        "line 1 (1): plain_comment exact: (a (b) c) -> (a [b] c)\nline 2 (2): plain_comment exact: (open -> (open)\nplain_comment: 2\n",
+    ),
+    (
         Dialect::Fanuc,
         "N100005 G71\nM30\n",
         "G21 \nM30\n",

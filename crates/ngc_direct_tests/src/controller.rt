@@ -16,10 +16,14 @@ fn accepted_on<A: Allocator + Copy>(
     text: &str,
     certificate: &[u8],
     tools: &Tools<A>,
+    has_long_ring: bool,
 ) -> Option<Accepted<A>> {
     let program = Program::read(alloc, &mut Device::new(text.as_bytes())).ok()?;
     let certificate = Certificate::read(alloc, &mut Device::new(certificate)).ok()?;
-    let machine = built_in_machine(alloc);
+    let mut machine = built_in_machine(alloc);
+    if has_long_ring {
+        machine.ring = 1_024;
+    }
     check(alloc, &program, &machine, tools, &certificate).ok()
 }
 
@@ -61,7 +65,7 @@ fn tells(rt: &impl Abort, controller: &mut Controller<ArcPath, Global>) {
 #[test]
 fn what_a_controller_tells(rt: HostRuntime) -> Result<(), Fail> {
     let tools = Tools::read(rt.alloc(), TOOLS.as_bytes())?;
-    let accepted = accepted_on(rt.alloc(), "T1 M6\nM2\n", NO_MOTIONS, &tools);
+    let accepted = accepted_on(rt.alloc(), "T1 M6\nM2\n", NO_MOTIONS, &tools, false);
     match Controller::new(rt.alloc(), accepted.ok_or("not accepted")?, false) {
         Ok(mut controller) => tells(&rt, &mut controller),
         Err((_accepted, fault)) => Err(fault)?,
@@ -69,17 +73,16 @@ fn what_a_controller_tells(rt: HostRuntime) -> Result<(), Fail> {
     Ok(())
 }
 
-const HEAP: usize = 262_144;
-
-// Fills a heap, and then frees `spare` KiB of it.
+// Fills a heap with fillers of so many bytes, and then frees `spare` of them.
 fn fillers_of(
     alloc: Global,
     heap: &LocalHeap,
+    size: usize,
     spare: usize,
 ) -> Result<Vec<Vec<u8, &LocalHeap>>, Fail> {
     let mut fillers = Vec::new(alloc);
     for _ in 0..300u32 {
-        if let Ok(filler) = Vec::<u8, _>::with_capacity(heap, 1024) {
+        if let Ok(filler) = Vec::<u8, _>::with_capacity(heap, size) {
             fillers.push(filler)?;
         }
     }
@@ -105,23 +108,41 @@ fn is_made<'a>(rt: &impl Abort, heap: &'a LocalHeap, accepted: Accepted<&'a Loca
     }
 }
 
-#[test]
-fn a_controller_with_little_memory(rt: HostRuntime) -> Result<(), Fail> {
+// Makes controllers in a heap of `heap_size` bytes, of which from 1 to 63 times `filler_size` bytes
+// are free: each growth of memory is refused in turn.
+fn with_little_memory(
+    rt: &impl Abort,
+    alloc: Global,
+    heap_size: usize,
+    filler_size: usize,
+    has_long_ring: bool,
+) -> Result<(), Fail> {
     let mut refused = 0u32;
     let mut done = 0u32;
     for spare in 1..64usize {
-        let heap = LocalHeap::new(rt.alloc(), HEAP)?;
+        let heap = LocalHeap::new(alloc, heap_size)?;
         let tools = Tools::empty(&heap);
-        let Some(accepted) = accepted_on(&heap, "M0\nM2\n", NO_MOTIONS, &tools) else {
+        let accepted = accepted_on(&heap, "M0\nM2\n", NO_MOTIONS, &tools, has_long_ring);
+        let Some(accepted) = accepted else {
             continue;
         };
-        let _fillers = fillers_of(rt.alloc(), &heap, spare)?;
-        if is_made(&rt, &heap, accepted) {
+        let _fillers = fillers_of(alloc, &heap, filler_size, spare)?;
+        if is_made(rt, &heap, accepted) {
             done = done.saturating_add(1);
         } else {
             refused = refused.saturating_add(1);
         }
     }
-    holds(&rt, &"refused and done", refused > 0 && done > 0);
+    holds(rt, &"refused and done", refused > 0 && done > 0);
     Ok(())
+}
+
+#[test]
+fn a_controller_with_little_memory(rt: HostRuntime) -> Result<(), Fail> {
+    with_little_memory(&rt, rt.alloc(), 262_144, 1_024, false)
+}
+
+#[test]
+fn a_controller_with_a_long_ring_and_little_memory(rt: HostRuntime) -> Result<(), Fail> {
+    with_little_memory(&rt, rt.alloc(), 2_097_152, 16_384, true)
 }

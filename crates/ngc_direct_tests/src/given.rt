@@ -1,7 +1,7 @@
 //! The small mill and its tools, and what the program does on them over any allocator.
 use ngc_line_reader::Program;
 use ngc_simulator::{
-    Format, Machine, Recording, Tools, certify, check_program, judge, list, run_program,
+    Format, Machine, Tools, Writing, certify, check_program, judge, list, run_program,
 };
 use ngc_text::{Device, Sink};
 use std::alloc::Allocator;
@@ -134,7 +134,7 @@ fn run_text<A: Allocator + Copy, W: Sink>(
     let verdict = judge(alloc, &program, &shop.machine, &shop.tools, &mut source).map_err(
         |fault| fault.number(),
     )?;
-    match run_program(alloc, verdict, events, false, Recording::Log, output) {
+    match run_program(alloc, verdict, events, false, Writing::Log, output) {
         Ok(_) => Ok(()),
         Err(fault) => Err(fault.number()),
     }
