@@ -1,0 +1,129 @@
+"""Part programs like the output of CAM systems, for bench/cut. Each function returns the lines of a program without its end. They are
+computed, and so are the same each time."""
+import math
+
+
+def head(feed):
+    return ["G21 G90 G17 G94", "G0 Z5", f"F{feed}"]
+
+
+def raster():
+    """A finishing raster over a wavy surface: lines of 0.1 mm along X, rows 0.5 mm apart."""
+    def height(x, y):
+        return 2.5 * math.sin(x / 5) * math.cos(y / 7) + 0.8 * math.sin((x + y) / 1.7)
+
+    lines = head(3000) + ["G0 X0 Y0", f"G1 Z{height(0, 0):.4f}"]
+    for row in range(60):
+        y = row * 0.5
+        places = [k * 0.1 for k in range(401)]
+        for x in places if row % 2 == 0 else reversed(places):
+            lines.append(f"X{x:.4f} Y{y:.4f} Z{height(x, y):.4f}")
+    return lines
+
+
+def adaptive():
+    """Clearing of a field of 60 x 40 mm by arcs of 4 mm, with short lines between them."""
+    lines = head(2400) + ["G0 X0 Y0", "G1 Z-2"]
+    radius = 4.0
+    for lane in range(5):
+        y = lane * 9.0
+        lines += ["G0 Z5", f"G0 X{0:.4f} Y{y + radius:.4f}", "G1 Z-2 F600", "F2400"]
+        for k in range(75):
+            x = k * 0.8
+            lines.append(f"G2 X{x:.4f} Y{y - radius:.4f} I0 J{-radius:.4f}")
+            lines.append(f"G1 X{x - 1.0:.4f}")
+            lines.append(f"G2 X{x - 1.0:.4f} Y{y + radius:.4f} I0 J{radius:.4f}")
+            lines.append(f"G1 X{x + 0.8:.4f}")
+    return lines
+
+
+def curve(x, y, rx, ry, begin, end):
+    count = max(8, int(abs(end - begin) * max(rx, ry) / 0.12))
+    angles = [begin + (end - begin) * k / count for k in range(count + 1)]
+    return [(x + rx * math.cos(a), y + ry * math.sin(a)) for a in angles]
+
+
+def stroke(ax, ay, bx, by):
+    count = max(2, int(math.hypot(bx - ax, by - ay) / 0.2))
+    return [(ax + (bx - ax) * k / count, ay + (by - ay) * k / count) for k in range(count + 1)]
+
+
+def joined(*parts):
+    """Parts of a stroke, each of which begins where the one before it ends."""
+    return parts[0] + [place for part in parts[1:] for place in part[1:]]
+
+
+LETTERS = {
+    "S": [joined(curve(4, 9, 3.5, 3, 0.2, 1.5 * math.pi), curve(4, 3, 3.5, 3, 0.5 * math.pi, -math.pi + 0.2))],
+    "C": [curve(5, 6, 4.5, 6, 0.25 * math.pi, 1.75 * math.pi)],
+    "O": [curve(5, 6, 4.5, 6, 0, 2 * math.pi)],
+    "N": [joined(stroke(0, 0, 0, 12), stroke(0, 12, 8, 0), stroke(8, 0, 8, 12))],
+    "A": [joined(stroke(0, 0, 4, 12), stroke(4, 12, 8, 0)), stroke(1.3, 4, 6.7, 4)],
+    "R": [stroke(0, 0, 0, 12) + joined(curve(3, 9, 4, 3, 0.5 * math.pi, -0.5 * math.pi), stroke(3, 6, 8, 0))],
+    "E": [joined(stroke(7, 12, 0, 12), stroke(0, 12, 0, 0), stroke(0, 0, 7, 0)), stroke(0, 6, 5, 6)],
+}
+
+
+def carved(places, x, y):
+    """The places of a stroke with depths: full depth in the middle, up to the surface at both ends, waves between."""
+    total = sum(math.dist(a, b) for a, b in zip(places, places[1:]))
+    along = 0.0
+    for k, place in enumerate(places):
+        if k:
+            along += math.dist(place, places[k - 1])
+        rise = max(0.0, min(1.0, along / 1.2, (total - along) / 1.2))
+        yield x + place[0], y + place[1], -1.4 * rise - 0.25 * math.sin(along * 1.1) * rise
+
+
+def lettering():
+    """V-carved letters of 12 mm: lines of 0.05 to 0.2 mm with depths."""
+    lines = head(1500)
+    for row, word in enumerate(("SCANNER", "OCEANS", "CARSON", "SENECA", "ROSCOE", "ARENAS")):
+        for column, letter in enumerate(word):
+            for places in LETTERS[letter]:
+                first, *rest = carved(places, column * 11.0, row * -16.0)
+                lines += ["G0 X{:.4f} Y{:.4f}".format(*first), "G0 Z1", "G1 Z{:.4f} F400".format(first[2]), "F1500"]
+                lines += ["G1 X{:.4f} Y{:.4f} Z{:.4f}".format(*place) for place in rest]
+                lines.append("G0 Z5")
+    return lines
+
+
+def spiral_pocket():
+    """A round pocket of 30 mm radius as one spiral, 1 mm a turn, in chords within 0.005 mm."""
+    lines = head(3000) + ["G0 X0 Y0", "G1 Z-3 F300", "F3000"]
+    angle = 0.5
+    while (radius := angle / (2 * math.pi)) <= 30:
+        lines.append(f"G1 X{radius * math.cos(angle):.4f} Y{radius * math.sin(angle):.4f}")
+        angle += min(0.5, 2 * math.acos(1 - 0.005 / max(radius, 0.05)))
+    end = angle + 2 * math.pi
+    while angle < end:
+        lines.append(f"G1 X{30 * math.cos(angle):.4f} Y{30 * math.sin(angle):.4f}")
+        angle += 2 * math.acos(1 - 0.005 / 30)
+    return lines
+
+
+def drilling():
+    """500 holes on a grid of 5 mm."""
+    lines = head(300) + ["G99"]
+    for k in range(500):
+        row, column = divmod(k, 25)
+        x = column if row % 2 == 0 else 24 - column
+        lines.append(f"X{x * 5} Y{row * 5}" if k else f"G81 X{x * 5} Y{row * 5} Z-4 R1")
+    return lines + ["G80"]
+
+
+def fine_circle():
+    """Ten turns of 1 mm radius in chords of 0.02 mm: what a bound for neighbours alone would take too fast."""
+    chords = int(100 * math.pi)
+    angles = [2 * math.pi * k / chords for k in range(1, 10 * chords + 1)]
+    return head(6000) + ["G0 X1 Y0", "G1 Z-1"] + [f"X{math.cos(a):.6f} Y{math.sin(a):.6f}" for a in angles]
+
+
+PROGRAMS = {
+    "3D raster of 0.1 mm, F3000": raster,
+    "adaptive clearing, F2400": adaptive,
+    "V-carved lettering, F1500": lettering,
+    "spiral pocket, F3000": spiral_pocket,
+    "500 drilled holes, F300": drilling,
+    "circle of 0.02 mm chords, F6000": fine_circle,
+}
