@@ -2,6 +2,8 @@
 pub mod LegLaws
 -- A tick on a motion: the ramp's rules give the machine's.
 pub mod TravelLaws
+-- The head of a ring leaves.
+pub mod RingLaws
 -- What the fields of a controller keep.
 pub mod OrderLaws
 -- A tick on the motion at the head, by what the fields of a controller keep.

@@ -7,6 +7,7 @@ use Rattle.ngc_commands.specs.declared.command.Action.TheVariants as actions
 use Rattle.ngc_machine.specs.MachineRanges.{IsMachine}
 use Rattle.ngc_machine.specs.declared.tools.Tool.{Tool}
 use Rattle.ngc_fixed_length.specs.Limits.{MILLION}
+use Rattle.ngc_planner.specs.Joints.{joint_before}
 use Rattle.ngc_planner.specs.Ramp.{IsRest, next_rest}
 use Rattle.ngc_behaviour.specs.State.{Job, State, Queued, path_steps, millionths}
 use Rattle.ngc_behaviour.specs.Progress.{TravelsAtLeast}
@@ -57,6 +58,8 @@ pub record IsInOrder {A : Type 0} (job : Job) (done : ℕ) (ring : RingData) (dr
   pub left : IsRest drive.ramp.rest drive.ramp.legs
   pub slow : (IsMoving ring.loaded → ⊥) → drive.ramp.rate ≤ job.machine.change
   pub whole : (IsMoving ring.loaded → ⊥) → drive.ramp.rest ≡ next_rest 0 drive.ramp.legs
+  pub entry : drive.entry
+      ≡ joint_before job.machine job.commands (done + length ring.loaded)
   pub flows_on : drive.flows_on ≡ last_flows_on drive.flows_on ring.loaded
   pub place : ring.place ≡ travelled_of ring.loaded drive.ramp.rest / MILLION
   pub target : IsTarget job.machine (effective_at panel) ring.loaded ring.place drive.target

@@ -1,7 +1,8 @@
 -- A loaded command with its path and the place on it. Our own.
-use Rattle.std.specs.Prelude.{◌≡◌, ℕ, ◌+◌, ◌≤◌, List, [], Bool, if◌then◌else◌}
+use Rattle.std.specs.Prelude.{◌≡◌, ℕ, ℤ, ◌+◌, ◌≤◌, List, [], Bool, if◌then◌else◌}
 use Rattle.std.specs.List.{AllByRecursion}
 use Rattle.ngc_fixed_length.specs.declared.points.StepPos.{StepPos}
+use Rattle.ngc_planner.specs.ArcFeed.{helix_length}
 use Rattle.ngc_planner.specs.Bounds.{IsMotion}
 use Rattle.ngc_planner.specs.Caps.{STEPS_LIMIT}
 use Rattle.ngc_events.specs.declared.event.Event.{Event}
@@ -31,11 +32,13 @@ pub record LoadedData : Type 0 where
   pub queued : Queued
   pub place : ℕ
 
--- how many path steps it has; only motions have some
-pub record IsLoaded (queued : Queued) (steps : ℕ) : Type 0 where
+-- how many path steps it has; only motions have some; and the length of a helix on the grid of a
+-- step
+pub record IsLoaded (queued : Queued) (steps : ℕ) (step : ℤ) (length : ℕ) : Type 0 where
   pub count : steps ≡ path_steps queued
   pub few : steps ≤ STEPS_LIMIT
   pub moves : 1 ≤ steps → IsMotion queued.command.action
+  pub sloped : length ≡ helix_length step queued.command.action steps
 
 -- each of these paths has at most so many path steps
 abbrev pub AreShort : List Queued → Type 0

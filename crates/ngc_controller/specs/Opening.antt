@@ -1,5 +1,6 @@
 -- How far the machine is when it is started: nowhere. Our own.
 use Rattle.std.specs.Prelude.{◌≡◌, ℕ, []}
+use Rattle.ngc_fixed_length.specs.Limits.{MILLION}
 use Rattle.ngc_controller.specs.declared.progress.Progress.{Progress}
 
 pub record IsOpening {K A : Type 0} (change places : ℕ) (p : Progress K A) : Type 0 where
@@ -8,5 +9,6 @@ pub record IsOpening {K A : Type 0} (change places : ℕ) (p : Progress K A) : T
   pub room : p.ring.room ≡ places
   pub still : p.drive.ramp ≡
       record { change = change; rate = 0; rest = 0; legs = []; room = places }
+  pub entry : p.drive.entry ≡ MILLION
   pub done : p.done ≡ 0
   pub dwelt : p.dwelt ≡ 0

@@ -1,11 +1,12 @@
 //! The ramp, and how motions come onto it.
 ghost use Rattle.std.specs.Prelude.{◌≡◌, ◌≤◌, ◌<◌, ◌+◌, length};
 ghost use Rattle.ngc_machine.specs.Machine.{file_of};
-ghost use Rattle.ngc_planner.specs.Joints.{joint_before};
+ghost use Rattle.ngc_planner.specs.Bounds.{bound_of};
+ghost use Rattle.ngc_planner.specs.Joints.{joint_at, joint_before};
 ghost use Rattle.ngc_planner.specs.Leg.{IsLeg};
 ghost use Rattle.ngc_behaviour.specs.Headline.{job_of};
-ghost use Rattle.ngc_behaviour.specs.State.{path_steps};
-ghost use Rattle.ngc_behaviour.specs.Reach.{stops, leg_of};
+ghost use Rattle.ngc_behaviour.specs.State.{path_steps, millionths};
+ghost use Rattle.ngc_behaviour.specs.Reach.{stops};
 ghost use Rattle.ngc_controller.specs.Drive.{flows_on, with_one_more};
 
 use crate::route::Loaded;
@@ -21,6 +22,9 @@ pub struct Drive<A: Allocator> {
     pub ramp: Ramp<A>,
     /// In millionths of a path step a tick. It is kept, so that a tick need not compute it.
     pub target: u64,
+    /// The bound of the joint between the command that was loaded last and the next one, 1,000,000
+    /// before the first one. It is kept, so that it is computed once for both of them.
+    pub entry: u64,
     /// Whether the command that was loaded last is a motion with path steps at whose end the axes
     /// need not stop.
     pub flows_on: bool,
@@ -36,30 +40,26 @@ fn stops(action: &Action) -> bool
     }
 }
 
-// The greatest rate of the first tick of the motion at an index.
-fn entry_of<A: Allocator>(commands: &[Command], index: u32, machine: &Machine<A>) -> u64
-    ensures value { result ≡ joint_before (file_of machine.now) commands.now index }
-    ensures least { 1 ≤ result }
-{
-    if index == 0 {
-        1_000_000
-    } else {
-        joint_at(commands, index - 1, machine)
-    }
-}
-
-// The motion at an index, as a leg of the ramp: whether the way comes into it without a stop is
-// `joined`.
-fn leg_of<K: ArcKernel + Drop, A: Allocator>(
-    commands: &[Command],
-    index: u32,
+// A motion as a leg of the ramp, between two joints: whether the way comes into it without a stop
+// is `joined`.
+fn leg_between<K: ArcKernel + Drop, A: Allocator>(
+    entry: u64,
+    exit: u64,
     joined: bool,
     loaded: &Loaded<K>,
     machine: &Machine<A>,
 ) -> Leg
-    requires { 1 ≤ path_steps loaded.now.queued }
-    ensures value { result ≡ leg_of (job_of (file_of machine.now) commands.now) index joined
-        loaded.now.queued }
+    requires some { 1 ≤ path_steps loaded.now.queued }
+    requires entry { 1 ≤ entry }
+    requires exit { 1 ≤ exit }
+    ensures value { result ≡ record {
+      millionths = millionths loaded.now.queued;
+      bound = bound_of (file_of machine.now) loaded.now.queued.command.action
+          (path_steps loaded.now.queued);
+      entry = entry;
+      exit = exit;
+      joined = joined;
+    } }
     ensures leg { IsLeg result }
 {
     let command = loaded.command();
@@ -67,8 +67,8 @@ fn leg_of<K: ArcKernel + Drop, A: Allocator>(
     Leg {
         millionths: steps * 1_000_000,
         bound: bound_of(&command.action, steps, machine),
-        entry: entry_of(commands, index, machine),
-        exit: joint_at(commands, index, machine),
+        entry,
+        exit,
         joined,
     }
 }
@@ -83,18 +83,22 @@ impl<A: Allocator> Drive<A> {
         commands: &[Command],
         machine: &Machine<B>,
     )
-        requires { length self.old.ramp.legs < self.old.ramp.room }
+        requires room { length self.old.ramp.legs < self.old.ramp.room }
+        requires entry { self.old.entry ≡ joint_before (file_of machine.now) commands.now index }
         ensures ramp { self.new.ramp ≡ with_one_more
             (job_of (file_of machine.now) commands.now) index self.old.flows_on loaded.now.queued
             self.old.ramp }
         ensures target { self.new.target ≡ self.old.target }
+        ensures entry { self.new.entry ≡ joint_at (file_of machine.now) commands.now index }
         ensures flows_on { self.new.flows_on ≡ flows_on loaded.now.queued }
     {
         let moves = loaded.path_steps() > 0;
+        let exit = joint_at(commands, index, machine);
         if moves {
-            self.ramp
-                .load(leg_of(commands, index, self.flows_on, loaded, machine));
+            let leg = leg_between(self.entry, exit, self.flows_on, loaded, machine);
+            self.ramp.load(leg);
         }
+        self.entry = exit;
         self.flows_on = moves && !stops(&loaded.command().action);
     }
 

@@ -4,6 +4,7 @@ ghost use Rattle.std.specs.Prelude.{IfOk};
 ghost use Rattle.ngc_machine.specs.Machine.{file_of};
 ghost use Rattle.ngc_fixed_length.specs.Limits.{MILLION};
 ghost use Rattle.ngc_behaviour.specs.Headline.{job_of};
+ghost use Rattle.ngc_planner.specs.Joints.{joint_at, joint_before};
 ghost use Rattle.ngc_planner.specs.Ramp.{MOST_LEGS};
 ghost use Rattle.ngc_controller.specs.Drive.{flows_on, with_one_more, IsTarget, is_head_by_place};
 ghost use Rattle.ngc_controller.specs.Loaded.{next_place};
@@ -48,6 +49,7 @@ impl<K: ArcKernel + Drop, A: Allocator + Copy> Progress<K, A> {
             drive: Drive {
                 ramp,
                 target: 0,
+                entry: 1_000_000,
                 flows_on: false,
             },
             done: 0,
@@ -79,6 +81,8 @@ impl<K: ArcKernel + Drop, A: Allocator + Copy> Progress<K, A> {
         requires beginning { loaded.place ≡ 0 }
         requires aimed { IsTarget (file_of machine.now) percent self.old.ring.loaded
             self.old.ring.place self.old.drive.target }
+        requires entry { self.old.drive.entry ≡ joint_before (file_of machine.now) commands.now
+            (self.old.done + length self.old.ring.loaded) }
         ensures loaded { self.new.ring.loaded ≡ self.old.ring.loaded ++ loaded.queued ∷ [] }
         ensures place { self.new.ring.place ≡ self.old.ring.place }
         ensures room { self.new.ring.room ≡ self.old.ring.room }
@@ -88,6 +92,8 @@ impl<K: ArcKernel + Drop, A: Allocator + Copy> Progress<K, A> {
             (job_of (file_of machine.now) commands.now)
             (self.old.done + length self.old.ring.loaded) self.old.drive.flows_on loaded.queued
             self.old.drive.ramp }
+        ensures entry { self.new.drive.entry ≡ joint_at (file_of machine.now) commands.now
+            (self.old.done + length self.old.ring.loaded) }
         ensures flows_on { self.new.drive.flows_on ≡ flows_on loaded.queued }
         ensures target { IsTarget (file_of machine.now) percent self.new.ring.loaded
             self.new.ring.place self.new.drive.target }
@@ -111,6 +117,7 @@ impl<K: ArcKernel + Drop, A: Allocator + Copy> Progress<K, A> {
         ensures done { self.new.done ≡ self.old.done + 1 }
         ensures dwelt { self.new.dwelt ≡ 0 }
         ensures ramp { self.new.drive.ramp ≡ self.old.drive.ramp }
+        ensures entry { self.new.drive.entry ≡ self.old.drive.entry }
         ensures flows_on { self.new.drive.flows_on ≡ self.old.drive.flows_on }
         ensures target { IsTarget (file_of machine.now) percent self.new.ring.loaded
             self.new.ring.place self.new.drive.target }
@@ -127,6 +134,7 @@ impl<K: ArcKernel + Drop, A: Allocator + Copy> Progress<K, A> {
         ensures done { self.new.done ≡ self.old.done }
         ensures dwelt { self.new.dwelt ≡ self.old.dwelt }
         ensures ramp { self.new.drive.ramp ≡ self.old.drive.ramp }
+        ensures entry { self.new.drive.entry ≡ self.old.drive.entry }
         ensures flows_on { self.new.drive.flows_on ≡ self.old.drive.flows_on }
         ensures target { IsTarget (file_of machine.now) percent self.old.ring.loaded
             self.old.ring.place self.new.drive.target }
@@ -135,6 +143,7 @@ impl<K: ArcKernel + Drop, A: Allocator + Copy> Progress<K, A> {
             self.drive.target = target_on(
                 &head.command().action,
                 head.path_steps(),
+                head.helix_length(machine.step),
                 percent,
                 &head.position(),
                 machine,
@@ -167,6 +176,7 @@ impl<K: ArcKernel + Drop, A: Allocator + Copy> Progress<K, A> {
         ensures done { self.new.done ≡ self.old.done }
         ensures dwelt { self.new.dwelt ≡ self.old.dwelt }
         ensures ramp { self.new.drive.ramp ≡ self.old.drive.ramp }
+        ensures entry { self.new.drive.entry ≡ self.old.drive.entry }
         ensures flows_on { self.new.drive.flows_on ≡ self.old.drive.flows_on }
         ensures target { IsTarget (file_of machine.now) percent self.new.ring.loaded
             self.new.ring.place self.new.drive.target }

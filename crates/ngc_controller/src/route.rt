@@ -2,6 +2,7 @@
 ghost use Rattle.std.specs.Prelude.{◌≡◌, ◌≤◌, ◌<◌, ◌+◌, ◌-◌, length, true};
 ghost use Rattle.ngc_fixed_length.specs.Length.{IsStep};
 ghost use Rattle.ngc_fixed_length.specs.LinePath.{point};
+ghost use Rattle.ngc_planner.specs.ArcFeed.{helix_length};
 ghost use Rattle.ngc_planner.specs.Bounds.{IsMotion};
 ghost use Rattle.ngc_planner.specs.Caps.{STEPS_LIMIT};
 ghost use Rattle.ngc_behaviour.specs.State.{Job, path_steps};
@@ -10,6 +11,7 @@ ghost use Rattle.ngc_controller.specs.Loaded.{points_of, place_of, next_place, I
 
 use ngc_commands::{Action, Command, Way};
 use ngc_fixed_length::{Nm, StepPos};
+use ngc_planner::helix_length;
 use ngc_step_kernel::{ArcKernel, LinePath, Path};
 use std::marker::Model;
 
@@ -96,6 +98,10 @@ pub struct Loaded<K: ArcKernel + Drop> {
     command: Command,
     route: Route<K>,
     steps: u64,
+    /// The step of the grid, and the length of a helix on it. It is kept, so that no tick takes a
+    /// root for it.
+    step: Nm,
+    length: u64,
 }
 
 impl<K: ArcKernel + Drop> Model for Loaded<K> {
@@ -110,7 +116,8 @@ impl<K: ArcKernel + Drop> Model for Loaded<K> {
         } };
 
     ghost invariant = { λ l. IsLoaded
-        (record { command = l.command; path = points_of K.points l.route }) l.steps };
+        (record { command = l.command; path = points_of K.points l.route }) l.steps l.step
+        l.length };
 }
 
 impl<K: ArcKernel + Drop> Loaded<K> {
@@ -129,6 +136,8 @@ impl<K: ArcKernel + Drop> Loaded<K> {
             command: *command,
             route,
             steps,
+            step,
+            length: helix_length(&command.action, steps, step),
         }
     }
 
@@ -145,6 +154,20 @@ impl<K: ArcKernel + Drop> Loaded<K> {
         ensures moves { 1 ≤ result → IsMotion self.now.queued.command.action }
     {
         self.steps
+    }
+
+    /// The length of a helix on a grid of this step, as `helix_length` has it: 0 for any other
+    /// command. On the grid of its path it was computed when the command was loaded.
+    pub fn helix_length(&self, step: Nm) -> u64
+        requires { IsStep step }
+        ensures { result ≡ helix_length step self.now.queued.command.action
+            (path_steps self.now.queued) }
+    {
+        if step == self.step {
+            self.length
+        } else {
+            helix_length(&self.command.action, self.steps, step)
+        }
     }
 
     /// The point of the path at the place, zero for a command that is no motion.

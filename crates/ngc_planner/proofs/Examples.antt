@@ -310,11 +310,45 @@ place_inverse : target_on at_feed (along round (Inverse 2000000)) 2828 100 (step
 unfolding whole_root whole_root_above
 place_inverse = refl
 
--- a helix is slower all along
-place_helix : target_on at_feed (along (record round { end = at (pos 5000000) (pos 0) (pos 1000000) }) (PerMinute 600000000)) 2828 100
-    (step_at (pos 500) (pos 0) (pos 0)) ≡ 57703
+-- a helix about zero with a radius of 5 mm
+abbrev screw : ℕ → ArcShape
+screw rise = record round { end = at (pos 5000000) (pos 0) (pos rise) }
+
+-- 2,828 path steps of 0.01 mm are 28.28 mm; 21.21 mm high are three quarters of that, and the long
+-- side is five quarters: 35.35 mm. So four fifths of the feed are left for the plane: of 99,800
+helix_on_axis : target_on at_feed (along (screw 21210000) (PerMinute 600000000)) 2828 100 (step_at (pos 500) (pos 0) (pos 0)) ≡ 79840
 unfolding whole_root whole_root_above
-place_helix = refl
+helix_on_axis = refl
+
+-- of 86,400, at any height
+helix_at_thirty : target_on at_feed (along (screw 21210000) (PerMinute 600000000)) 2828 100 (step_at (negsuc 432) (pos 250) (pos 1000)) ≡ 69120
+unfolding whole_root whole_root_above
+helix_at_thirty = refl
+
+-- of 70,600 they are 56,480, and the cap without a place is 100,000 / 1.733
+helix_diagonal : target_on at_feed (along (screw 21210000) (PerMinute 600000000)) 2828 100 (step_at (pos 354) (negsuc 353) (pos 0)) ≡ 57703
+unfolding whole_root whole_root_above
+helix_diagonal = refl
+
+helix_without : target_on built_in_machine (along (screw 21210000) (PerMinute 600000000)) 2828 100 (step_at (pos 500) (pos 0) (pos 0)) ≡ 57703
+unfolding whole_root whole_root_above
+helix_without = refl
+
+-- half of it
+helix_overridden : target_on at_feed (along (screw 21210000) (PerMinute 600000000)) 2828 50 (step_at (pos 500) (pos 0) (pos 0)) ≡ 39920
+unfolding whole_root whole_root_above
+helix_overridden = refl
+
+-- a helix that rises by 1 mm a turn takes 1 in 1,600 of the feed for its height: the long side is
+-- 28.2977 mm, and 99,800 * 28.28 / 28.2977 is 99,737.6
+helix_slight : target_on at_feed (along (screw 1000000) (PerMinute 600000000)) 2828 100 (step_at (pos 500) (pos 0) (pos 0)) ≡ 99737
+unfolding whole_root whole_root_above
+helix_slight = refl
+
+-- twice a minute over 2,828 path steps
+helix_inverse : target_on at_feed (along (screw 21210000) (Inverse 2000000)) 2828 100 (step_at (pos 500) (pos 0) (pos 0)) ≡ 9426
+unfolding whole_root whole_root_above
+helix_inverse = refl
 
 -- a plane sees two of the coordinates
 out_zx : farther_out (pos 10000) (record round { plane = ZX }) (step_at (pos 300) (pos 700) (negsuc 399)) ≡ 4000000

@@ -4,11 +4,14 @@ use Rattle.std.specs.Prelude.{◌≡◌, ℕ, ◌+◌, ◌-◌, ◌*◌, ◌/◌
 use Rattle.std.specs.Prelude.{false, ◌&&◌, if◌then◌else◌}
 use Rattle.ngc_fixed_length.specs.Grid.{distance}
 use Rattle.ngc_fixed_length.specs.Limits.{MILLION}
+use Rattle.ngc_fixed_length.specs.Places.{height}
+use Rattle.ngc_fixed_length.specs.Roots.{whole_root_above}
 use Rattle.ngc_fixed_length.specs.declared.points.StepPos.{StepPos}
 use Rattle.ngc_arc_geometry.specs.GridPlaces.{seen}
-use Rattle.ngc_arc_geometry.specs.Radii.{outer_radius}
+use Rattle.ngc_arc_geometry.specs.Radii.{IsArc, outer_radius}
 use Rattle.ngc_arc_geometry.specs.Shape.{ArcShape}
 use Rattle.ngc_machine.specs.Machine.{MachineFile}
+use Rattle.ngc_machine.specs.MachineRanges.{IsMachine}
 use Rattle.ngc_commands.specs.declared.command.Action.{Action}
 use Rattle.ngc_commands.specs.declared.command.Action.TheVariants.{Move}
 use Rattle.ngc_commands.specs.declared.movement.Feed.{Feed}
@@ -18,7 +21,7 @@ use Rattle.ngc_commands.specs.declared.movement.Pace.TheVariants as paces
 use Rattle.ngc_commands.specs.declared.movement.Way.{Way}
 use Rattle.ngc_commands.specs.declared.movement.Way.TheVariants.{Line, Arc}
 use Rattle.ngc_planner.specs.Bounds.{aimed_at, target_at}
-use Rattle.ngc_planner.specs.Caps.{cap_of}
+use Rattle.ngc_planner.specs.Caps.{STEPS_LIMIT, square, cap_of}
 use Rattle.ngc_planner.specs.Headings.{is_level}
 
 -- how far out a grid point is from an arc's centre, along the axis of the plane on which that is
@@ -34,32 +37,58 @@ farther_out step a p =
 abbrev pub place_cap : ℕ → ℕ → ℕ → ℕ → ℕ → ℕ
 place_cap hz step radius m f = f * MILLION * min (m - step) radius / (60 * hz * step * radius)
 
--- on an arc without change of height, and at a feed a minute; else there is none
-abbrev pub feed_cap_at : MachineFile → ArcShape → Feed → StepPos → ℕ
-feed_cap_at m a (PerMinute f) p = if is_level a
-    then place_cap m.ticks_per_second (unsigned_abs m.step) (outer_radius a)
-    (farther_out m.step a p) f
-    else 0
-feed_cap_at m a (Inverse f) p = 0
+-- how much an arc's ends differ in height, in nanometres
+abbrev pub rise : ArcShape → ℕ
+rise a = distance (height a.plane a.start) (height a.plane a.end)
 
-abbrev pub arc_cap_at : MachineFile → ArcShape → Pace → StepPos → ℕ
-arc_cap_at m a paces.Rapid p = 0
-arc_cap_at m a (paces.Feed f) p = feed_cap_at m a f p
+-- the length of a line that goes so far in the plane and rises so much, rounded up
+abbrev pub sloped_length : ℕ → ℕ → ℕ
+sloped_length flat rise = whole_root_above (square flat + square rise)
 
-abbrev pub way_cap_at : MachineFile → Way → Pace → StepPos → ℕ
-way_cap_at m (Line b e) pace p = 0
-way_cap_at m (Arc a) pace p = arc_cap_at m a pace p
+-- The length of a line that goes as many steps along an axis as a helix has path steps, n, and rises
+-- as much; 0 for any other motion
+abbrev pub length_along : ℤ → Way → ℕ → ℕ
+length_along step (Line b e) n = 0
+length_along step (Arc a) n =
+    if is_level a then 0 else sloped_length (n * unsigned_abs step) (rise a)
+
+abbrev pub helix_length : ℤ → Action → ℕ → ℕ
+helix_length step (Move motion) n = length_along step motion.way n
+helix_length step _ n = 0
+
+-- The cap on a helix. Its height is spread evenly over its path steps, and no path step is shorter
+-- in the plane than a step. So the share of the feed that is left for the plane is no less than
+-- that of a line that goes all path steps along an axis and rises as much.
+abbrev pub sloped_cap : ℕ → ℕ → ℕ → ℕ
+sloped_cap flat length cap = cap * flat / length
+
+-- the cap at a place of an arc of n path steps, at a feed a minute; else there is none
+abbrev pub feed_cap_at : MachineFile → ArcShape → ℕ → Feed → StepPos → ℕ
+feed_cap_at m a n (PerMinute f) p =
+    let cap = place_cap m.ticks_per_second (unsigned_abs m.step) (outer_radius a)
+    (farther_out m.step a p) f in
+    if is_level a then cap
+    else sloped_cap (n * unsigned_abs m.step) (length_along m.step (Arc a) n) cap
+feed_cap_at m a n (Inverse f) p = 0
+
+abbrev pub arc_cap_at : MachineFile → ArcShape → ℕ → Pace → StepPos → ℕ
+arc_cap_at m a n paces.Rapid p = 0
+arc_cap_at m a n (paces.Feed f) p = feed_cap_at m a n f p
+
+abbrev pub way_cap_at : MachineFile → Way → ℕ → Pace → StepPos → ℕ
+way_cap_at m (Line b e) n pace p = 0
+way_cap_at m (Arc a) n pace p = arc_cap_at m a n pace p
 
 -- where the machine has arcs at their feed
-abbrev pub cap_at : MachineFile → Action → StepPos → ℕ
-cap_at m (Move motion) p = if m.arc_feed then way_cap_at m motion.way motion.pace p else 0
-cap_at m _ p = 0
+abbrev pub cap_at : MachineFile → Action → ℕ → StepPos → ℕ
+cap_at m (Move motion) n p = if m.arc_feed then way_cap_at m motion.way n motion.pace p else 0
+cap_at m _ n p = 0
 
 -- the rate that a tick of a motion of n path steps is to reach at a place: by the greater of its
 -- two caps, so that no place asks for less than `target_at`
 abbrev pub target_on : MachineFile → Action → ℕ → ℕ → StepPos → ℕ
 target_on machine action n percent p =
-    aimed_at machine action (max (cap_of action n machine) (cap_at machine action p)) percent
+    aimed_at machine action (max (cap_of action n machine) (cap_at machine action n p)) percent
 
 -- ---- whether it depends on the place
 
@@ -71,13 +100,13 @@ abbrev pub has_minute_feed : Pace → Bool
 has_minute_feed paces.Rapid = false
 has_minute_feed (paces.Feed f) = is_minute_feed f
 
-abbrev pub is_level_arc : Way → Bool
-is_level_arc (Line b e) = false
-is_level_arc (Arc a) = is_level a
+abbrev pub is_arc : Way → Bool
+is_arc (Line b e) = false
+is_arc (Arc a) = true
 
 abbrev pub is_by_place : MachineFile → Action → Bool
 is_by_place m (Move motion) =
-    m.arc_feed && (is_level_arc motion.way && has_minute_feed motion.pace)
+    m.arc_feed && (is_arc motion.way && has_minute_feed motion.pace)
 is_by_place m _ = false
 
 -- ---- what holds of every place
@@ -92,6 +121,24 @@ abbrev pub PlacesKeepFeed : Type 0
 PlacesKeepFeed =
     (hz step radius m f v : ℕ) → v ≤ place_cap hz step radius m f →
     KeepsArcFeed hz step radius m f v
+
+-- The same of each arc, with its height. At m nanometres out a path step is step * radius / m long
+-- in the plane, or less, and it rises by an nth of the height; and a line of n path steps along an
+-- axis rises as much. The squares of these lengths make that of the way that a rate goes a minute.
+pub record KeepsSlopedFeed (hz step radius n rise m f v : ℕ) : Type 0 where
+  pub along_arc :
+      square (v * (60 * hz)) * (square (n * step * radius) + square (rise * (m - step)))
+      ≤ square (f * MILLION * n * (m - step))
+  pub along_line :
+      square (v * (60 * hz)) * (square (n * step) + square rise) ≤ square (f * MILLION * n)
+
+abbrev pub ArcsKeepFeed : Type 0
+ArcsKeepFeed =
+    (machine : MachineFile) (a : ArcShape) (n f v : ℕ) (p : StepPos) →
+    IsMachine machine → IsArc a → n ≤ STEPS_LIMIT →
+    v ≤ feed_cap_at machine a n (PerMinute f) p →
+    KeepsSlopedFeed machine.ticks_per_second (unsigned_abs machine.step) (outer_radius a) n
+    (rise a) (farther_out machine.step a p) f v
 
 -- no place asks for less than the target without it
 abbrev pub IsNoLessByPlace : Type 0

@@ -1,21 +1,23 @@
-ghost use Rattle.std.specs.Prelude.{◌≡◌, ◌≤◌, ◌<◌, ◌^◌, ◌*ℤ◌};
+ghost use Rattle.std.specs.Prelude.{◌≡◌, ◌≤◌, ◌<◌, ◌*◌, ◌^◌, ◌*ℤ◌, unsigned_abs};
 ghost use Rattle.ngc_arc_geometry.specs.Radii.{IsArc};
 ghost use Rattle.ngc_fixed_length.specs.Grid.{distance};
 ghost use Rattle.ngc_fixed_length.specs.Length.{IsStep};
 ghost use Rattle.ngc_fixed_length.specs.Limits.{MILLION};
 ghost use Rattle.ngc_machine.specs.Machine.{file_of};
-ghost use Rattle.ngc_planner.specs.ArcFeed.{farther_out, place_cap, feed_cap_at, arc_cap_at};
-ghost use Rattle.ngc_planner.specs.ArcFeed.{way_cap_at, cap_at, target_on, is_minute_feed};
-ghost use Rattle.ngc_planner.specs.ArcFeed.{has_minute_feed, is_level_arc, is_by_place};
+ghost use Rattle.ngc_commands.specs.declared.movement.Way.TheVariants as ways;
+ghost use Rattle.ngc_planner.specs.ArcFeed.{farther_out, place_cap, rise, sloped_length};
+ghost use Rattle.ngc_planner.specs.ArcFeed.{length_along, helix_length, sloped_cap, feed_cap_at};
+ghost use Rattle.ngc_planner.specs.ArcFeed.{arc_cap_at, way_cap_at, cap_at, target_on};
+ghost use Rattle.ngc_planner.specs.ArcFeed.{is_minute_feed, has_minute_feed, is_arc, is_by_place};
 ghost use Rattle.ngc_planner.specs.Bounds.{IsMotion};
 ghost use Rattle.ngc_planner.specs.Caps.{STEPS_LIMIT};
 
 use crate::bounds::aimed_at;
-use crate::caps::cap_of;
+use crate::caps::{cap_of, squared_distance};
 use crate::headings::is_level;
 use ngc_arc_geometry::Arc;
 use ngc_commands::{Action, Feed, Pace, Way};
-use ngc_fixed_length::{Nm, Plane, StepPos, nanometres_at};
+use ngc_fixed_length::{Nm, Plane, StepPos, nanometres_at, root_ceil};
 use ngc_machine::Machine;
 use std::alloc::Allocator;
 
@@ -52,37 +54,106 @@ fn place_cap(ticks_per_second: u32, step: u64, radius: u64, farther_out: u64, fe
     requires radius_least { 1 ≤ radius }
     requires radius_greatest { radius ≤ 2000020000 }
     ensures value { result ≡ place_cap ticks_per_second step radius farther_out feed }
-    ensures bound { result < 2 ^ 115 }
+    ensures bound { result < 2 ^ 79 }
 {
     let out = farther_out.saturating_sub(step).min(radius);
     u128::from(feed) * 1_000_000 * u128::from(out)
         / (60 * u128::from(ticks_per_second) * u128::from(step) * u128::from(radius))
 }
 
-/// The cap at a place of an arc without change of height, at a feed a minute, and else 0.
+/// So many steps as a length in nanometres.
+fn flat_length(n: u64, step: Nm) -> u64
+    requires steps { n ≤ STEPS_LIMIT }
+    requires step { IsStep step }
+    ensures value { result ≡ n * unsigned_abs step }
+    ensures bound { result ≤ 5 * 10 ^ 13 }
+{
+    n * step.nanometres().unsigned_abs()
+}
+
+/// The length of a line that goes so many nanometres in the plane of an arc and rises as much as
+/// the arc, rounded up to whole nanometres.
+fn sloped_length(flat: u64, arc: &Arc) -> u64
+    requires { flat ≤ 5 * 10 ^ 13 }
+    ensures { result ≡ sloped_length flat (rise arc.now) }
+{
+    let plane = arc.plane();
+    let flat = u128::from(flat);
+    let rise = squared_distance(arc.start().height(plane), arc.end().height(plane));
+    root_ceil(flat * flat + rise)
+}
+
+fn length_along(way: &Way, n: u64, step: Nm) -> u64
+    requires steps { n ≤ STEPS_LIMIT }
+    requires step { IsStep step }
+    ensures { result ≡ length_along step way.now n }
+{
+    match way {
+        Way::Line { .. } => 0,
+        Way::Arc(arc) => {
+            if is_level(arc) {
+                0
+            } else {
+                sloped_length(flat_length(n, step), arc)
+            }
+        }
+    }
+}
+
+/// Returns the length of a line that goes as many steps along an axis as a helix has path steps, `n`
+/// and at most 10^9, and rises as much as the helix: in nanometres, rounded up. For an action that
+/// is no helix it is 0. It takes a whole root.
+pub fn helix_length(action: &Action, n: u64, step: Nm) -> u64
+    requires steps { n ≤ STEPS_LIMIT }
+    requires step { IsStep step }
+    ensures { result ≡ helix_length step action.now n }
+{
+    match action {
+        Action::Move(motion) => length_along(&motion.way, n, step),
+        _ => 0,
+    }
+}
+
+/// The cap of a plane, reduced by the share that the height of a helix takes.
+fn sloped_cap(flat: u64, length: u64, cap: u128) -> u128
+    requires flat { flat ≤ 5 * 10 ^ 13 }
+    requires some { 1 ≤ length }
+    requires least { flat ≤ length }
+    requires cap { cap < 2 ^ 79 }
+    ensures value { result ≡ sloped_cap flat length cap }
+    ensures bound { result < 2 ^ 115 }
+{
+    cap * u128::from(flat) / u128::from(length)
+}
+
+/// The cap at a place of an arc of `n` path steps, at a feed a minute, and else 0.
 fn feed_cap_at<A: Allocator>(
     arc: &Arc,
+    n: u64,
+    length: u64,
     feed: &Feed,
     position: &StepPos,
     machine: &Machine<A>,
 ) -> u128
-    ensures value { result ≡ feed_cap_at (file_of machine.now) arc.now feed.now position.now }
+    requires steps { n ≤ STEPS_LIMIT }
+    requires length { length ≡ length_along machine.now.step (ways.Arc arc.now) n }
+    ensures value { result ≡ feed_cap_at (file_of machine.now) arc.now n feed.now position.now }
     ensures bound { result < 2 ^ 115 }
 {
     match feed {
         Feed::PerMinute(feed) => {
-            if !is_level(arc) {
-                return 0;
-            }
-            let step = machine.step.nanometres().unsigned_abs();
-            let out = farther_out(machine.step, arc, position);
-            place_cap(
+            let cap = place_cap(
                 machine.ticks_per_second,
-                step,
+                machine.step.nanometres().unsigned_abs(),
                 arc.outer_radius(),
-                out,
+                farther_out(machine.step, arc, position),
                 *feed,
-            )
+            );
+            if is_level(arc) {
+                cap
+            } else {
+                sloped_cap(flat_length(n, machine.step), length, cap)
+            }
         }
         Feed::Inverse(_) => 0,
     }
@@ -90,43 +161,59 @@ fn feed_cap_at<A: Allocator>(
 
 fn arc_cap_at<A: Allocator>(
     arc: &Arc,
+    n: u64,
+    length: u64,
     pace: &Pace,
     position: &StepPos,
     machine: &Machine<A>,
 ) -> u128
-    ensures value { result ≡ arc_cap_at (file_of machine.now) arc.now pace.now position.now }
+    requires steps { n ≤ STEPS_LIMIT }
+    requires length { length ≡ length_along machine.now.step (ways.Arc arc.now) n }
+    ensures value { result ≡ arc_cap_at (file_of machine.now) arc.now n pace.now position.now }
     ensures bound { result < 2 ^ 115 }
 {
     match pace {
         Pace::Rapid => 0,
-        Pace::Feed(feed) => feed_cap_at(arc, feed, position, machine),
+        Pace::Feed(feed) => feed_cap_at(arc, n, length, feed, position, machine),
     }
 }
 
 fn way_cap_at<A: Allocator>(
     way: &Way,
+    n: u64,
+    length: u64,
     pace: &Pace,
     position: &StepPos,
     machine: &Machine<A>,
 ) -> u128
-    ensures value { result ≡ way_cap_at (file_of machine.now) way.now pace.now position.now }
+    requires steps { n ≤ STEPS_LIMIT }
+    requires length { length ≡ length_along machine.now.step way.now n }
+    ensures value { result ≡ way_cap_at (file_of machine.now) way.now n pace.now position.now }
     ensures bound { result < 2 ^ 115 }
 {
     match way {
         Way::Line { .. } => 0,
-        Way::Arc(arc) => arc_cap_at(arc, pace, position, machine),
+        Way::Arc(arc) => arc_cap_at(arc, n, length, pace, position, machine),
     }
 }
 
-/// The cap of an action at a place, 0 where no place changes it.
-fn cap_at<A: Allocator>(action: &Action, position: &StepPos, machine: &Machine<A>) -> u128
-    ensures value { result ≡ cap_at (file_of machine.now) action.now position.now }
+/// The cap of an action of `n` path steps at a place, 0 where no place changes it.
+fn cap_at<A: Allocator>(
+    action: &Action,
+    n: u64,
+    length: u64,
+    position: &StepPos,
+    machine: &Machine<A>,
+) -> u128
+    requires steps { n ≤ STEPS_LIMIT }
+    requires length { length ≡ helix_length machine.now.step action.now n }
+    ensures value { result ≡ cap_at (file_of machine.now) action.now n position.now }
     ensures bound { result < 2 ^ 115 }
 {
     match action {
         Action::Move(motion) => {
             if machine.arc_feed {
-                way_cap_at(&motion.way, &motion.pace, position, machine)
+                way_cap_at(&motion.way, n, length, &motion.pace, position, machine)
             } else {
                 0
             }
@@ -137,20 +224,22 @@ fn cap_at<A: Allocator>(action: &Action, position: &StepPos, machine: &Machine<A
 
 /// The rate that a tick on a motion of `n` path steps, at most 10^9, is to reach at a grid point of
 /// its path under an override in percent: that of `target_at`, or more on an arc where the machine
-/// has arcs at their feed.
+/// has arcs at their feed. The length is that of `helix_length`, which is the same at each place.
 pub fn target_on<A: Allocator>(
     action: &Action,
     n: u64,
+    length: u64,
     percent: u8,
     position: &StepPos,
     machine: &Machine<A>,
 ) -> u64
-    requires { n ≤ STEPS_LIMIT }
+    requires steps { n ≤ STEPS_LIMIT }
+    requires length { length ≡ helix_length machine.now.step action.now n }
     ensures value { result ≡ target_on (file_of machine.now) action.now n percent position.now }
     ensures least { IsMotion action.now → 1 ≤ percent → 1 ≤ result }
     ensures greatest { result ≤ MILLION }
 {
-    let cap = cap_of(action, n, machine).max(cap_at(action, position, machine));
+    let cap = cap_of(action, n, machine).max(cap_at(action, n, length, position, machine));
     aimed_at(action, cap, percent, machine)
 }
 
@@ -172,23 +261,20 @@ fn has_minute_feed(pace: &Pace) -> bool
     }
 }
 
-fn is_level_arc(way: &Way) -> bool
-    ensures { result ≡ is_level_arc way.now }
+fn is_arc(way: &Way) -> bool
+    ensures { result ≡ is_arc way.now }
 {
-    match way {
-        Way::Line { .. } => false,
-        Way::Arc(arc) => is_level(arc),
-    }
+    matches!(way, Way::Arc(_))
 }
 
-/// Whether the target of `target_on` depends on the grid point: on an arc without change of height
-/// at a feed a minute, where the machine has arcs at their feed.
+/// Whether the target of `target_on` depends on the grid point: on an arc or a helix at a feed a
+/// minute, where the machine has arcs at their feed.
 pub fn is_by_place<A: Allocator>(action: &Action, machine: &Machine<A>) -> bool
     ensures { result ≡ is_by_place (file_of machine.now) action.now }
 {
     match action {
         Action::Move(motion) => {
-            machine.arc_feed && (is_level_arc(&motion.way) && has_minute_feed(&motion.pace))
+            machine.arc_feed && (is_arc(&motion.way) && has_minute_feed(&motion.pace))
         }
         _ => false,
     }

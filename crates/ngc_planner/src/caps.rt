@@ -13,7 +13,7 @@ use ngc_machine::Machine;
 use std::alloc::Allocator;
 
 /// The square of the way from one coordinate to another.
-fn squared_distance(start: Nm, end: Nm) -> u128
+pub(crate) fn squared_distance(start: Nm, end: Nm) -> u128
     ensures value { result ≡ distance start end * distance start end }
     ensures bound { result ≤ 4 * 10 ^ 22 }
 {

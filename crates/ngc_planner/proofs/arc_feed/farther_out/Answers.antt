@@ -1,4 +1,4 @@
-use Rattle.std.proofs.Common.{ap₂, max, ℕ, ◌≡◌, ◌∙◌, rules}
+use Rattle.std.proofs.Common.{rules}
 use Rattle.ngc_planner.proofs.arc_feed.farther_out.Goals as goal
 use Rattle.ngc_planner.proofs.arc_feed.farther_out.Goals.{in-XY, in-ZX, in-YZ}
 

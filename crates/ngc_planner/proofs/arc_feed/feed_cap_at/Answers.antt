@@ -1,8 +1,35 @@
-use Rattle.std.proofs.Common.{arith}
-use Rattle.ngc_planner.proofs.ArcFeedLaws.{radius_some}
+use Rattle.std.proofs.Common.{◌≡◌, ◌≤◌, ◌*◌, ◌∙◌, ℕ, ap, arith, cond, false, sym, unsigned_abs}
+use Rattle.ngc_arc_geometry.specs.Radii.{IsArc}
+use Rattle.ngc_arc_geometry.specs.Shape.{ArcShape}
+use Rattle.ngc_machine.specs.Machine.{file_of}
+use Rattle.ngc_planner.specs.ArcFeed.{rise, sloped_length}
+use Rattle.ngc_planner.specs.Caps.{STEPS_LIMIT}
+use Rattle.ngc_planner.specs.Headings.{is_level}
+use Rattle.ngc_planner.proofs.ArcFeedLaws.{radius_some, length_some}
+use Rattle.ngc_planner.proofs.BoundLaws.{step_within, ranges_of}
 use Rattle.ngc_planner.proofs.arc_feed.feed_cap_at.Goals as goal
 
-pub place_cap-requires-clause-radius_least : goal.place_cap-requires-clause-radius_least
-place_cap-requires-clause-radius_least g c =
-    let some = radius_some c.args.arc.now c.farther_out-out.ensures.arc in
+pub place_cap-cap-requires-clause-radius_least : goal.place_cap-cap-requires-clause-radius_least
+place_cap-cap-requires-clause-radius_least g c =
+    let some = radius_some c.args.arc.now c.farther_out.ensures.arc in
     omega (arith, some, c.outer_radius.ensures.value)
+
+-- the length of a helix
+long_enough : (flat step n length : ℕ) (a : ArcShape) → IsArc a → is_level a ≡ false → flat ≡ n * step → n ≤ STEPS_LIMIT → step ≤ 50000 →
+    length ≡ cond (is_level a) 0 (sloped_length (n * step) (rise a)) → (1 ≤ length) × (flat ≤ length)
+long_enough flat step n length a is helix same few small h =
+    let some = length_some flat step n a is helix same few small in
+    let long = h ∙ ap (λ b. cond b 0 (sloped_length (n * step) (rise a))) helix in
+    (omega (arith, some.0, long), omega (arith, some.1, long))
+
+pub sloped_cap-requires-clause-some : goal.sloped_cap-requires-clause-some
+sloped_cap-requires-clause-some g c =
+    let step = step_within (file_of c.args.machine.now) (ranges_of c.args.machine.now) in
+    (long_enough c.flat_length.result (unsigned_abs c.args.machine.now.step) c.args.n c.args.length c.args.arc.now c.farther_out.ensures.arc
+    (sym c.is_level.ensures ∙ c.if-is_level.false) c.flat_length.ensures.value c.requires.steps step.1 c.requires.length).0
+
+pub sloped_cap-requires-clause-least : goal.sloped_cap-requires-clause-least
+sloped_cap-requires-clause-least g c =
+    let step = step_within (file_of c.args.machine.now) (ranges_of c.args.machine.now) in
+    (long_enough c.flat_length.result (unsigned_abs c.args.machine.now.step) c.args.n c.args.length c.args.arc.now c.farther_out.ensures.arc
+    (sym c.is_level.ensures ∙ c.if-is_level.false) c.flat_length.ensures.value c.requires.steps step.1 c.requires.length).1

@@ -6,7 +6,7 @@ use Rattle.ngc_machine.specs.Machine.{MachineFile}
 use Rattle.ngc_checker.specs.Accepted.{commands_at}
 use Rattle.ngc_controller.specs.Panel.{effective_at}
 use Rattle.ngc_controller.specs.Fields.{state_of}
-use Rattle.ngc_controller.proofs.OrderLaws.{few_on, more_as, target_as, loaded_order, loads, loads_not}
+use Rattle.ngc_controller.proofs.OrderLaws.{few_on, joint_as, joint_of, more_as, target_as, loaded_order, loads, loads_not}
 use Rattle.ngc_controller.proofs.controller.Controller.load.Goals as goal
 
 found_in : (xs ys : List Command) (i j : ℕ) (x : Command) → i < length xs → x ≡ get_or xs i x → xs ≡ ys → i ≡ j → slice_get ys j ≡ Some x
@@ -18,6 +18,13 @@ load-requires-clause-legs g c =
     let ring = ap (λ (m : MachineFile). m.ring) c.machine-machine.ensures.value in
     few_on (job_of c.self.inside.accepted.machine (commands_at c.self.inside.block_delete c.self.inside.accepted)) p.done p.ring p.drive p.dwelt
     c.self.inside.panel c.self.invariant (omega (arith, ring, c.len-2.ensures.value, c.if-len-machine.false))
+
+pub load-requires-clause-entry : goal.load-requires-clause-entry
+load-requires-clause-entry g c =
+    let i = c.self.inside in
+    let p = i.progress in
+    joint_of i.accepted.machine _ (commands_at i.block_delete i.accepted) _ (p.done + length p.ring.loaded) p.drive.entry c.self.invariant.entry
+    c.machine-machine.ensures.value c.commands-commands.ensures
 
 pub returns-then-len-machine-clause-loads : goal.returns-then-len-machine-clause-loads
 returns-then-len-machine-clause-loads g c =
@@ -43,12 +50,14 @@ invariant_of-self g c =
     let q = c.new-loaded.result.queued in
     let ramp = more_as machine _ commands _ (p.done + length p.ring.loaded) p.drive.flows_on q p.drive.ramp n.drive.ramp c.load.ensures.ramp
     c.machine-machine.ensures.value c.commands-commands.ensures in
+    let joint = joint_as machine _ commands _ (p.done + length p.ring.loaded) n.drive.entry c.load.ensures.entry c.machine-machine.ensures.value
+    c.commands-commands.ensures in
     let target = target_as machine _ (effective_at i.panel) _ n.ring.loaded n.ring.place n.drive.target c.load.ensures.target c.machine-machine.ensures.value
     c.effective.ensures in
     let found : slice_get commands (p.done + length p.ring.loaded) ≡ Some c.in-Some.command.now =
     (let lookup = c.in-Some.ensures.lookup in found_in c.commands-commands.result.now commands (p.done + c.len.result)
     (p.done + length p.ring.loaded) c.in-Some.command.now lookup.3.0 lookup.1 c.commands-commands.ensures (ap (λ k. p.done + k) c.len.ensures.value)) in
-    loaded_order job p.done p.ring p.drive p.dwelt i.panel q n.done n.ring n.drive n.dwelt c.self.invariant ramp c.load.ensures.flows_on target
+    loaded_order job p.done p.ring p.drive p.dwelt i.panel q n.done n.ring n.drive n.dwelt c.self.invariant ramp c.load.ensures.flows_on joint target
     (slice_get_within _ _ _ found) c.load.ensures.done c.load.ensures.dwelt c.load.ensures.loaded c.load.ensures.place c.load.ensures.room
 
 pub returns-clause-loads : goal.returns-clause-loads

@@ -1,8 +1,26 @@
 use Rattle.std.proofs.Common.{rules}
+use Rattle.ngc_checker.specs.Accepted.{commands_at}
+use Rattle.ngc_controller.proofs.OrderLaws.{first_joint}
 use Rattle.ngc_controller.proofs.controller.Controller.new.Goals as goal
 
 pub returns-clause-made : goal.returns-clause-made
 returns-clause-made g c = search rules
 
 pub invariant_of-result : goal.invariant_of-result
-invariant_of-result g c = search rules
+invariant_of-result g c = record {
+  machine = search rules;
+  change = search rules;
+  room = search rules;
+  places = search rules;
+  legs = search rules;
+  left = search rules;
+  slow = search rules;
+  whole = search rules;
+  entry = first_joint c.args.accepted.machine (commands_at c.args.block_delete c.args.accepted) _ _ _ c.in-Ok.ensures.entry c.in-Ok.ensures.done c.in-Ok.ensures.none;
+  flows_on = search rules;
+  place = search rules;
+  target = search rules;
+  few = search rules;
+  brief = search rules;
+  still = search rules;
+}
