@@ -1262,13 +1262,19 @@ rules_signed_parameter : rules_of first (codes "G0 X-#1 Y + #2") ≡ rules.Signe
 unfolding rules_of items_of item_of rule_for
 rules_signed_parameter = refl
 
-written_signed_bracket : written first (codes "G0 X-[#1]") ≡ codes "G0 X-[#1]"
+-- and in front of a bracket
+written_signed_bracket : written first (codes "G0 X-[#1] Y - [ 2 * [#1+1] ]Z-#[#2]") ≡ codes "G0 X[0-[#1]] Y[0-[2*[#1+1]]] Z[0-#[#2]] "
 unfolding written items_of item_of rule_for
 written_signed_bracket = refl
 
-rules_signed_bracket : rules_of first (codes "G0 X-[#1]") ≡ []
+rules_signed_bracket : rules_of first (codes "G0 X-[#1]") ≡ rules.SignedParameter ∷ []
 unfolding rules_of items_of item_of rule_for
 rules_signed_bracket = refl
+
+-- a bracket has no sign in front
+written_bracket : written first (codes "G0 X[0-#1] Y[-1]") ≡ codes "G0 X[0-#1] Y[-1]"
+unfolding written items_of item_of rule_for
+written_bracket = refl
 
 written_signed_offset : written straight (codes "X1 K-#1") ≡ codes "X1 "
 unfolding written items_of item_of rule_for

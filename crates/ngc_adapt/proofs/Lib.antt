@@ -32,3 +32,5 @@ pub mod ReadLaws
 pub mod ReportLaws
 -- Values that have no blank in front of a character.
 pub mod OnePiece
+-- Lines that are plain.
+pub mod PlainLaws

@@ -1,13 +1,13 @@
 -- Words that a rule writes, whatever follows them.
 use Rattle.std.proofs.Common.{◌≡◌, ℕ, zero, suc, ◌+◌, ◌-◌, ◌<◌, ◌≤◌, min, Bool, true, false, cond, List, [], ◌∷◌, ◌++◌, length, take, drop, refl, ap, ◌∙◌, sym, arith, add-one, length-append, append_assoc, Option, Some, None}
-use Rattle.std.specs.Prelude.{◌==◌, ◌/◌, ◌%◌, ◌&&◌, ◌||◌, filter, is_some, codes, decimal, nat_le}
+use Rattle.std.specs.Prelude.{◌==◌, ◌/◌, ◌%◌, ◌&&◌, ◌||◌, not, filter, is_some, codes, decimal, nat_le}
 use Rattle.std.specs.Char.{is_ascii_digit}
 use Rattle.std.specs.List.{list_all, prefix_len}
 use Rattle.std.specs.Fmt.{digit_glyph, digits_onto, digits}
 use Rattle.std.proofs.lemmas.Bool.Decides.{nat_tests}
 use Rattle.std.proofs.lemmas.List.{length-take}
 use Rattle.std.proofs.lemmas.List.Folds.{list_all-append}
-use Rattle.ngc_adapt.specs.Numbers.{is_blank, begins, is_lead, after_lead, is_of_number, is_parameter_byte, depth_after, bracket_length, value_length}
+use Rattle.ngc_adapt.specs.Numbers.{is_blank, begins, is_lead, after_lead, is_of_number, is_ink, without_blanks, depth_after, bracket_length, stays_open, value_length}
 use Rattle.ngc_adapt.specs.Items.{is_in_comment, bare_length, item_length}
 use Rattle.ngc_adapt.specs.Rules.{number_text, padded, in_seconds}
 use Rattle.ngc_adapt.proofs.ValueLaws.{prefix_good, begins_head, and_parts}
@@ -210,33 +210,50 @@ pub program_number_fits : (item s : List ℕ) → prefix_len is_of_number s ≡ 
 program_number_fits item s good =
     comment_fits (79 ∷ filter is_ascii_digit item) s (digits_in_comment (filter is_ascii_digit item) (all_kept is_ascii_digit item)) good
 
-opens_nothing : (b : ℕ) → is_parameter_byte b ≡ true → (b == 91) ≡ false
-opens_nothing b h = grind (arith, nat_tests)
+blank_depth : (d b : ℕ) → is_ink b ≡ false → depth_after d b ≡ d
+blank_depth d b h = grind (arith, nat_tests)
 
-closes_nothing : (b : ℕ) → is_parameter_byte b ≡ true → (b == 93) ≡ false
-closes_nothing b h = grind (arith, nat_tests)
+blank_closes_nothing : (b : ℕ) → is_ink b ≡ false → (b == 93) ≡ false
+blank_closes_nothing b h = grind (arith, nat_tests)
 
--- the rest of a bracket without brackets inside
-inner : (w t : List ℕ) → list_all is_parameter_byte w ≡ true → bracket_length 1 (w ++ (93 ∷ t)) ≡ length w + 1
-inner [] t h = refl
-inner (x ∷ w) t h =
-    let parts = and_parts (is_parameter_byte x) (list_all is_parameter_byte w) h in
-    let rest = w ++ (93 ∷ t) in
-    let opened = opens_nothing x parts.0 in
-    let closed = closes_nothing x parts.0 in
-    ap (λ (c : Bool). cond (c && nat_le 1 1) 1 (1 + bracket_length (depth_after 1 x) rest)) closed
-    ∙ ap (λ (c : Bool). 1 + bracket_length (cond c 2 (cond (x == 93) 0 1)) rest) opened
-    ∙ ap (λ (c : Bool). 1 + bracket_length (cond c 0 1) rest) closed
-    ∙ omega (arith, inner w t parts.1)
+ink_if : (t : Bool) (d b : ℕ) (w u : List ℕ) → is_ink b ≡ t → stays_open (depth_after d b) w ≡ stays_open (depth_after d b) u
+    → stays_open d (cond t (b ∷ w) w) ≡ (not ((b == 93) && nat_le d 1) && stays_open (depth_after d b) u)
+ink_if true d b w u e h = ap (λ (c : Bool). not ((b == 93) && nat_le d 1) && c) h
+ink_if false d b w u e h =
+    ap (λ (k : ℕ). stays_open k w) (sym (blank_depth d b e)) ∙ h
+    ∙ sym (ap (λ (c : Bool). not (c && nat_le d 1) && stays_open (depth_after d b) u) (blank_closes_nothing b e))
 
-bracketed : (w t : List ℕ) → list_all is_parameter_byte w ≡ true → value_length (91 ∷ (48 ∷ (w ++ (93 ∷ t)))) ≡ length w + 3
+-- blanks neither open nor close a bracket
+ink_open : (d : ℕ) (v : List ℕ) → stays_open d (without_blanks v) ≡ stays_open d v
+ink_open d [] = refl
+ink_open d (b ∷ v) = ink_if (is_ink b) d b (without_blanks v) v refl (ink_open (depth_after d b) v)
+
+is_one : (n : ℕ) → (n == 1) ≡ true → n ≡ 1
+is_one n h = grind (arith, nat_tests)
+
+last_closes : (d : ℕ) (t : List ℕ) → d ≡ 1 → bracket_length d (93 ∷ t) ≡ 1
+last_closes d t e = ap (λ (k : ℕ). bracket_length k (93 ∷ t)) e
+
+not_closed : (c : Bool) → not c ≡ true → c ≡ false
+not_closed true h = absurd cc
+not_closed false h = refl
+
+-- the rest of a bracket: each other bracket in it is closed
+inner : (d : ℕ) (w t : List ℕ) → stays_open d w ≡ true → bracket_length d (w ++ (93 ∷ t)) ≡ length w + 1
+inner d [] t h = last_closes d t (is_one d h)
+inner d (x ∷ w) t h =
+    let parts = and_parts (not ((x == 93) && nat_le d 1)) (stays_open (depth_after d x) w) h in
+    ap (λ (c : Bool). cond c 1 (1 + bracket_length (depth_after d x) (w ++ (93 ∷ t)))) (not_closed ((x == 93) && nat_le d 1) parts.0)
+    ∙ omega (arith, inner (depth_after d x) w t parts.1)
+
+bracketed : (w t : List ℕ) → stays_open 1 w ≡ true → value_length (91 ∷ (48 ∷ (w ++ (93 ∷ t)))) ≡ length w + 3
 bracketed w t h =
     let u = 48 ∷ (w ++ (93 ∷ t)) in
     ap (λ (c : Bool). cond c (0 + bracket_length 0 (91 ∷ u)) (0 + prefix_len is_of_number (91 ∷ u))) (begins_head 91 91 u)
-    ∙ omega (arith, inner w t h)
+    ∙ omega (arith, inner 1 w t h)
 
--- a letter and a parameter with a sign in front, in brackets
-signed_fits_by : (c : ℕ) (w s : List ℕ) → ((t : List ℕ) → bare_length (c ∷ t) ≡ value_length t + 1) → list_all is_parameter_byte w ≡ true → prefix_len is_of_number s ≡ 0
+-- a letter and a value with a sign in front, in brackets
+signed_fits_by : (c : ℕ) (w s : List ℕ) → ((t : List ℕ) → bare_length (c ∷ t) ≡ value_length t + 1) → stays_open 1 w ≡ true → prefix_len is_of_number s ≡ 0
     → item_length (c ∷ ((91 ∷ (48 ∷ (w ++ codes "] "))) ++ s)) ≡ length (c ∷ (91 ∷ (48 ∷ (w ++ codes "] "))))
 signed_fits_by c w s bare h good =
     let front = 91 ∷ (48 ∷ (w ++ (93 ∷ []))) in
@@ -251,9 +268,9 @@ signed_fits_by c w s bare h good =
     ∙ ap (λ (t : List ℕ). (length front + 1) + prefix_len is_blank t) rest
     ∙ omega (arith, long, end, no_blanks s good)
 
-pub signed_fits : (c : ℕ) (v s : List ℕ) → ((t : List ℕ) → bare_length (c ∷ t) ≡ value_length t + 1) → prefix_len is_of_number s ≡ 0
-    → item_length (c ∷ ((91 ∷ (48 ∷ (filter is_parameter_byte v ++ codes "] "))) ++ s)) ≡ length (c ∷ (91 ∷ (48 ∷ (filter is_parameter_byte v ++ codes "] "))))
-signed_fits c v s bare good = signed_fits_by c (filter is_parameter_byte v) s bare (all_kept is_parameter_byte v) good
+pub signed_fits : (c : ℕ) (v s : List ℕ) → ((t : List ℕ) → bare_length (c ∷ t) ≡ value_length t + 1) → stays_open 1 v ≡ true → prefix_len is_of_number s ≡ 0
+    → item_length (c ∷ ((91 ∷ (48 ∷ (without_blanks v ++ codes "] "))) ++ s)) ≡ length (c ∷ (91 ∷ (48 ∷ (without_blanks v ++ codes "] "))))
+signed_fits c v s bare h good = signed_fits_by c (without_blanks v) s bare (ink_open 1 v ∙ h) good
 
 -- a time in seconds and a blank
 pub seconds_fit : (item s : List ℕ) → prefix_len is_of_number s ≡ 0

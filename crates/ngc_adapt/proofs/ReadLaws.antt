@@ -10,12 +10,12 @@ use Rattle.ngc_adapt.specs.declared.item.Letter.TheVariants as letters
 use Rattle.ngc_adapt.specs.declared.item.Item.{Item}
 use Rattle.ngc_adapt.specs.declared.item.Item.TheVariants as items
 use Rattle.ngc_adapt.specs.declared.number.Number.{Number}
-use Rattle.ngc_adapt.specs.Numbers.{is_blank, begins, is_of_number, is_parameter_byte, value_length, is_whole, number_of}
+use Rattle.ngc_adapt.specs.Numbers.{is_blank, begins, is_of_number, without_blanks, stays_open, value_length, is_whole, number_of}
 use Rattle.ngc_adapt.specs.declared.rule.Rule.{Rule}
 use Rattle.ngc_adapt.specs.declared.rule.Rule.TheVariants as rules
 use Rattle.ngc_adapt.specs.declared.rule.Modes.{Modes}
 use Rattle.ngc_adapt.specs.Items.{letter_of, is_letter, is_in_comment, setting_length, bare_length, item_length, items_within, items_of, is_mark, is_comment, is_setting, word_item, item_of, is_unread, word_in, has_unread, words_in, words_of, words_unless}
-use Rattle.ngc_adapt.specs.Rules.{front, replacement, rule_for, mounted_after, system_after, system_number, is_first_traverse}
+use Rattle.ngc_adapt.specs.Rules.{front, signed_text, replacement, rule_for, mounted_after, system_after, system_number, is_first_traverse}
 use Rattle.ngc_adapt.specs.Lines.{by_rule, front_by, item_rule, item_front, item_written, is_axis_item, is_axis_word, traverse, pieces_of, written, written_by}
 use Rattle.ngc_adapt.specs.Laws.{items_left}
 use Rattle.ngc_adapt.proofs.ItemLaws.{some_bytes, items_step, nothing}
@@ -425,6 +425,9 @@ front_good modes words rules.Dropped = refl
 front_good modes words rules.ProgramEnd = refl
 front_good modes words rules.ProgramNumber = refl
 front_good modes words rules.PlainComment = refl
+front_good modes words rules.BlockDelete = refl
+front_good modes words rules.LongComment = refl
+front_good modes words rules.IdleLine = refl
 front_good modes words rules.SignedParameter = refl
 
 front_by_good : (modes : Modes) (words : List Word) (r : Option Rule) → prefix_len is_of_number (front_by modes words r) ≡ 0
@@ -432,11 +435,18 @@ front_by_good modes words None = refl
 front_by_good modes words (Some rule) = front_good modes words rule
 
 -- what begins as an item does
-signed_good : (x : List ℕ) → begins_well x ≡ true → prefix_len is_of_number (take 1 x ++ (codes "[0" ++ (filter is_parameter_byte (drop 1 x) ++ codes "] "))) ≡ 0
-signed_good [] h = refl
-signed_good (b ∷ v) h =
+bracket_good : (x : List ℕ) → begins_well x ≡ true → prefix_len is_of_number (take 1 x ++ (codes "[0" ++ (without_blanks (drop 1 x) ++ codes "] "))) ≡ 0
+bracket_good [] h = refl
+bracket_good (b ∷ v) h =
     let no = zero_if (is_of_number b) (prefix_len is_of_number v) (is_zero (prefix_len is_of_number (b ∷ v)) h) in
-    ap (λ (t : Bool). cond t (1 + prefix_len is_of_number (codes "[0" ++ (filter is_parameter_byte v ++ codes "] "))) 0) no
+    ap (λ (t : Bool). cond t (1 + prefix_len is_of_number (codes "[0" ++ (without_blanks v ++ codes "] "))) 0) no
+
+either_good : (c : Bool) (x y : List ℕ) → prefix_len is_of_number x ≡ 0 → prefix_len is_of_number y ≡ 0 → prefix_len is_of_number (cond c x y) ≡ 0
+either_good true x y f g = f
+either_good false x y f g = g
+
+signed_good : (x : List ℕ) → begins_well x ≡ true → prefix_len is_of_number (signed_text x) ≡ 0
+signed_good x h = either_good (stays_open 1 (drop 1 x)) _ x (bracket_good x h) (is_zero (prefix_len is_of_number x) h)
 
 replacement_good : (modes : Modes) (words : List Word) (x : List ℕ) (rule : Rule) → begins_well x ≡ true → prefix_len is_of_number (replacement modes words x rule) ≡ 0
 replacement_good modes words x rules.BlendTolerance h = refl
@@ -466,6 +476,9 @@ replacement_good modes words x rules.Dropped h = refl
 replacement_good modes words x rules.ProgramEnd h = refl
 replacement_good modes words x rules.ProgramNumber h = refl
 replacement_good modes words x rules.PlainComment h = refl
+replacement_good modes words x rules.BlockDelete h = refl
+replacement_good modes words x rules.LongComment h = refl
+replacement_good modes words x rules.IdleLine h = refl
 replacement_good modes words x rules.SignedParameter h = signed_good x h
 
 by_rule_good : (modes : Modes) (words : List Word) (x : List ℕ) (r : Option Rule) → begins_well x ≡ true → prefix_len is_of_number (by_rule modes words x r) ≡ 0
@@ -525,6 +538,9 @@ front_fits modes words rules.Dropped s good h = absurd (omega arith)
 front_fits modes words rules.ProgramEnd s good h = absurd (omega arith)
 front_fits modes words rules.ProgramNumber s good h = absurd (omega arith)
 front_fits modes words rules.PlainComment s good h = absurd (omega arith)
+front_fits modes words rules.BlockDelete s good h = absurd (omega arith)
+front_fits modes words rules.LongComment s good h = absurd (omega arith)
+front_fits modes words rules.IdleLine s good h = absurd (omega arith)
 front_fits modes words rules.SignedParameter s good h = absurd (omega arith)
 
 front_by_fits : (modes : Modes) (words : List Word) (r : Option Rule) (s : List ℕ) → (is_some r ≡ true → prefix_len is_of_number s ≡ 0) → 0 < length (front_by modes words r)
@@ -564,9 +580,15 @@ with_l b v s h whole good =
     let w = word_of b v h in
     lettered b 76 v s (w.1 v) refl (read_word letters.L (number_of v) w.2) (λ e. absurd cc) whole good
 
-with_sign : (b : ℕ) (v s : List ℕ) → is_some (word_in (item_of (b ∷ v))) ≡ true → prefix_len is_of_number s ≡ 0
-    → item_length (b ∷ ((91 ∷ (48 ∷ (filter is_parameter_byte v ++ codes "] "))) ++ s)) ≡ length (b ∷ (91 ∷ (48 ∷ (filter is_parameter_byte v ++ codes "] "))))
-with_sign b v s h good = signed_fits b v s (word_of b v h).1 good
+sign_if : (c : Bool) (x y s : List ℕ) → (c ≡ true → item_length (x ++ s) ≡ length x) → item_length (y ++ s) ≡ length y
+    → item_length (cond c x y ++ s) ≡ length (cond c x y)
+sign_if true x y s f g = f refl
+sign_if false x y s f g = g
+
+with_sign : (b : ℕ) (v s : List ℕ) → is_some (word_in (item_of (b ∷ v))) ≡ true → prefix_len is_of_number s ≡ 0 → item_length ((b ∷ v) ++ s) ≡ length (b ∷ v)
+    → item_length (signed_text (b ∷ v) ++ s) ≡ length (signed_text (b ∷ v))
+with_sign b v s h good same =
+    sign_if (stays_open 1 v) (b ∷ (91 ∷ (48 ∷ (without_blanks v ++ codes "] ")))) (b ∷ v) s (λ e. signed_fits b v s (word_of b v h).1 e good) same
 
 replacement_fits : (modes : Modes) (words : List Word) (b : ℕ) (v : List ℕ) (rule : Rule) (s : List ℕ) → prefix_len is_of_number s ≡ 0
     → is_some (word_in (item_of (b ∷ v))) ≡ true → item_length (b ∷ v) ≡ length (b ∷ v) → item_length ((b ∷ v) ++ s) ≡ length (b ∷ v) → 0 < length (replacement modes words (b ∷ v) rule)
@@ -598,7 +620,10 @@ replacement_fits modes words b v rules.ToolInSpindle s good word whole same h = 
 replacement_fits modes words b v rules.Dropped s good word whole same h = absurd (omega arith)
 replacement_fits modes words b v rules.ProgramEnd s good word whole same h = item_same 77 (50 ∷ 32 ∷ []) s refl (λ e. absurd cc) good
 replacement_fits modes words b v rules.ProgramNumber s good word whole same h = program_number_fits (b ∷ v) s good
-replacement_fits modes words b v rules.SignedParameter s good word whole same h = with_sign b v s word good
+replacement_fits modes words b v rules.BlockDelete s good word whole same h = absurd (omega arith)
+replacement_fits modes words b v rules.LongComment s good word whole same h = absurd (omega arith)
+replacement_fits modes words b v rules.IdleLine s good word whole same h = absurd (omega arith)
+replacement_fits modes words b v rules.SignedParameter s good word whole same h = with_sign b v s word good same
 replacement_fits modes words b v rules.PlainComment s good word whole same h = absurd (omega arith)
 
 by_rule_fits : (modes : Modes) (words : List Word) (b : ℕ) (v others s : List ℕ) (r : Option Rule) → item_length ((b ∷ v) ++ others) ≡ length (b ∷ v)

@@ -49,7 +49,7 @@ may_change_by words letters.U number = has codes.DWELL words
 may_change_by words letters.X number = has codes.DWELL words
 may_change_by words _ number = false
 
--- or a parameter with a sign in front
+-- or a parameter or a bracket with a sign in front
 abbrev pub may_change : List Word → Word → Bool
 may_change words w = w.number.is_signed || may_change_by words w.letter w.number
 

@@ -5,6 +5,7 @@ pub mod Items
 pub mod Laws
 pub mod Lines
 pub mod Numbers
+pub mod Plain
 pub mod Refusals
 pub mod Reports
 pub mod Rules

@@ -159,13 +159,15 @@ written_number value = option_and_then facts_if_number (short_text value)
 abbrev pub is_name_byte : ℕ → Bool
 is_name_byte b = (nat_le 65 b && nat_le b 90) || (nat_le 97 b && nat_le b 122)
 
--- the value of a parameter with a sign in front, as -#1
-abbrev pub is_signed : List ℕ → Bool
-is_signed value = has_sign (drop (prefix_len is_blank value) value) && not (has_byte 91 value)
+-- inside a bracket, where `depth` are open: each other bracket is closed, and that one stays open
+abbrev pub stays_open : ℕ → List ℕ → Bool
+stays_open depth [] = depth == 1
+stays_open depth (b ∷ rest) =
+    not (b == 93 && nat_le depth 1) && stays_open (depth_after depth b) rest
 
--- a byte of such a value
-abbrev pub is_parameter_byte : ℕ → Bool
-is_parameter_byte b = is_ascii_digit b || ((b == 43) || ((b == 45) || ((b == 46) || (b == 35))))
+-- the value of a parameter or a bracket with a sign in front, as -#1 or -[#1+2]
+abbrev pub is_signed : List ℕ → Bool
+is_signed value = has_sign (drop (prefix_len is_blank value) value) && stays_open 1 value
 
 -- of a value that is computed nothing is known but whether it has a sign in front and whether a
 -- name is in it: a function or an operator that is a word

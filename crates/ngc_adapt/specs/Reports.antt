@@ -15,6 +15,9 @@ use Rattle.ngc_adapt.specs.Numbers.{is_blank}
 use Rattle.ngc_adapt.specs.Items.{items_of, words_of}
 use Rattle.ngc_adapt.specs.Rules.{rule_name, front, replacement, is_first_traverse}
 use Rattle.ngc_adapt.specs.Comments.{has_odd_comment, comment_of, plain}
+use Rattle.ngc_adapt.specs.declared.facts.Levels.{Levels}
+use Rattle.ngc_adapt.specs.Plain.{after_comment, has_idle_level, has_long_comment}
+use Rattle.ngc_adapt.specs.Plain.{slash_length, with_comment_read, without_level}
 use Rattle.ngc_adapt.specs.Refusals.{refusal_name, sentence, refusals_by}
 use Rattle.ngc_adapt.specs.Lines.{item_rule, is_axis_item, traverse}
 use Rattle.ngc_adapt.specs.Changes.{change_at}
@@ -28,6 +31,7 @@ class_of rules.Switch = codes "told"
 class_of rules.ToolInSpindle = codes "told"
 class_of rules.Dropped = codes "told"
 class_of rules.ProgramEnd = codes "told"
+class_of rules.BlockDelete = codes "told"
 class_of _ = codes "exact"
 
 -- a text without the blanks at its end
@@ -69,6 +73,34 @@ comment_report number written line =
     then change_text (change_at number written rules.PlainComment) (comment_of line)
     (plain (drop 1 (comment_of line)))
     else []
+
+-- the change of a line's level of block delete
+abbrev pub level_report : ℕ → ℕ → Levels → List ℕ → List ℕ
+level_report number written levels line =
+    if has_idle_level levels line
+    then change_text (change_at number written rules.BlockDelete)
+    (take (slash_length line + 1) line) (take (slash_length line) line)
+    else []
+
+-- the change of a comment that makes its line too long
+abbrev pub long_report : ℕ → ℕ → List ℕ → List ℕ
+long_report number written line =
+    if has_long_comment line
+    then change_text (change_at number written rules.LongComment) (comment_of line)
+    (after_comment (comment_of line))
+    else []
+
+-- the changes that make a line plain
+unfoldable pub plain_report : ℕ → ℕ → Levels → List ℕ → List ℕ
+plain_report number written levels line =
+    level_report number written levels line
+    ++ (comment_report number written (without_level levels line)
+    ++ long_report number written (with_comment_read levels line))
+
+-- a line with nothing but blanks and a comment, which is left out
+abbrev pub idle_report : ℕ → ℕ → List ℕ → List ℕ
+idle_report number written line =
+    change_text (change_at number written rules.IdleLine) line []
 
 -- the changes of items, from left to right
 abbrev pub items_report : ℕ → ℕ → Bool → Modes → List Word → List (List ℕ) → List ℕ
@@ -124,6 +156,9 @@ rank rules.ProgramEnd = 24
 rank rules.ProgramNumber = 25
 rank rules.SignedParameter = 26
 rank rules.PlainComment = 27
+rank rules.BlockDelete = 28
+rank rules.LongComment = 29
+rank rules.IdleLine = 30
 
 abbrev pub is_by : Rule → Change → Bool
 is_by rule c = rank c.rule == rank rule

@@ -7,7 +7,7 @@ use Rattle.std.specs.Prelude.{Some, None}
 use Rattle.std.specs.Prelude.{codes as codes_of, if◌then◌else◌}
 use Rattle.std.specs.Option.{option_or}
 use Rattle.std.specs.Char.{is_ascii_digit}
-use Rattle.ngc_adapt.specs.Numbers.{is_parameter_byte}
+use Rattle.ngc_adapt.specs.Numbers.{stays_open, without_blanks}
 use Rattle.std.specs.List.{list_any, find}
 use Rattle.ngc_adapt.specs.declared.item.Letter.{Letter}
 use Rattle.ngc_adapt.specs.declared.item.Letter.TheVariants as letters
@@ -700,6 +700,9 @@ rule_name rules.ProgramEnd = codes_of "program_end"
 rule_name rules.ProgramNumber = codes_of "program_number"
 rule_name rules.SignedParameter = codes_of "signed_parameter"
 rule_name rules.PlainComment = codes_of "plain_comment"
+rule_name rules.BlockDelete = codes_of "block_delete"
+rule_name rules.LongComment = codes_of "long_comment"
+rule_name rules.IdleLine = codes_of "idle_line"
 
 -- a number, or 0 where it isn't known
 abbrev pub number_text : Option ℕ → List ℕ
@@ -728,6 +731,14 @@ front modes words rules.ToolOffset =
 front modes words rules.CycleDwell = codes_of "P0 "
 front modes words _ = []
 
+-- A word whose value has a sign in front, in brackets: 0 goes in front of the sign. One whose
+-- brackets aren't closed stays.
+abbrev pub signed_text : List ℕ → List ℕ
+signed_text item =
+    if stays_open 1 (drop 1 item)
+    then take 1 item ++ (codes_of "[0" ++ (without_blanks (drop 1 item) ++ codes_of "] "))
+    else item
+
 -- what is written in place of a word that a rule changes
 abbrev pub replacement : Modes → List Word → List ℕ → Rule → List ℕ
 replacement modes words item rules.Inches = codes_of "G20 "
@@ -736,9 +747,7 @@ replacement modes words item rules.ToolCenter = codes_of "G43 "
 replacement modes words item rules.ProgramEnd = codes_of "M2 "
 replacement modes words item rules.ProgramNumber =
     codes_of "(O" ++ (filter is_ascii_digit item ++ codes_of ") ")
-replacement modes words item rules.SignedParameter =
-    take 1 item
-    ++ (codes_of "[0" ++ (filter is_parameter_byte (drop 1 item) ++ codes_of "] "))
+replacement modes words item rules.SignedParameter = signed_text item
 replacement modes words item rules.ToolOffset = item
 replacement modes words item rules.CycleDwell = item
 replacement modes words item rules.Milliseconds =

@@ -15,7 +15,7 @@ fn is_before_comment(byte: u8) -> bool
 }
 
 #[tactic(auto, using(crate::proofs::Digits::counted))]
-fn code_length(line: &[u8]) -> usize
+pub(crate) fn code_length(line: &[u8]) -> usize
     ensures count { result ≡ spec.code_length line.now }
     ensures within { result ≤ length line.now }
 {
@@ -23,7 +23,7 @@ fn code_length(line: &[u8]) -> usize
 }
 
 // What is in front of the first comment.
-fn code_of(line: &[u8]) -> &[u8]
+pub(crate) fn code_of(line: &[u8]) -> &[u8]
     ensures { result.now ≡ spec.code_of line.now }
 {
     line.split_at(code_length(line)).0
@@ -65,7 +65,7 @@ fn has_digit(text: &[u8]) -> bool
 }
 
 // The bytes that follow the first ones, or none.
-fn after(count: usize, text: &[u8]) -> &[u8]
+pub(crate) fn after(count: usize, text: &[u8]) -> &[u8]
     ensures { result.now ≡ drop count text.now }
 {
     if count < text.len() {
@@ -130,7 +130,7 @@ pub(crate) fn add_plain<A: Allocator>(rest: &[u8], out: &mut Vec<u8, A>) -> Resu
 
 /// Returns whether our language can't read the first comment of a line: it isn't closed, or it has
 /// parentheses inside and no digit after the first closing one.
-pub fn has_odd_comment(line: &[u8]) -> bool
+pub(crate) fn has_odd_comment(line: &[u8]) -> bool
     ensures { result ≡ spec.has_odd_comment line.now }
 {
     let comment = comment_of(line);
@@ -139,10 +139,10 @@ pub fn has_odd_comment(line: &[u8]) -> bool
 
 /// Adds a line to `out` with its first comment as our language can read it: parentheses inside
 /// become brackets, and a comment that isn't closed is closed. Any other line is copied byte for
-/// byte. Call it on each line of a program before its facts and before `adapt_line`.
+/// byte.
 ///
 /// After an error, which means that memory was refused, `out` has any prefix of it.
-pub fn add_with_plain_comment<A: Allocator>(
+pub(crate) fn add_with_plain_comment<A: Allocator>(
     line: &[u8],
     out: &mut Vec<u8, A>,
 ) -> Result<(), AllocError>

@@ -126,6 +126,24 @@ impl Levels {
     }
 }
 
+impl Levels {
+    ghost use Rattle.ngc_adapt.specs.Plain.{levels_of};
+
+    /// Returns the levels of block delete in a program's text, after one pass over it.
+    pub fn of(text: &[u8]) -> Levels
+        ensures { result ≡ levels_of text.now }
+    {
+        let mut levels = Levels::None;
+        let mut rest = text;
+        while !rest.is_empty() {
+            let (line, others) = split_line(rest);
+            levels = levels.after(level_of(line.split_at(body_length(line)).0));
+            rest = others;
+        }
+        levels
+    }
+}
+
 impl Facts {
     ghost use Rattle.ngc_adapt.specs.Facts.{no_facts, facts_after, facts_of};
 

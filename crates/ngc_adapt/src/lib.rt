@@ -12,6 +12,7 @@ pub mod laws;
 mod line;
 mod number;
 mod options;
+mod plain;
 mod refusal;
 mod replacement;
 mod report;
@@ -21,7 +22,6 @@ mod text;
 
 pub use adapting::{AdaptedLine, adapt_line};
 pub use change::Change;
-pub use comment::{add_with_plain_comment, has_odd_comment};
 pub use dialect::Dialect;
 pub use facts::{Facts, Levels};
 pub use item::{
@@ -33,8 +33,9 @@ pub use number::{
     without_blanks,
 };
 pub use options::{MOST_DROPPED, Options};
+pub use plain::{MOST_PLAIN_RULES, add_plain_line, is_idle, is_plain, plain_rules};
 pub use refusal::Refusal;
-pub use report::{add_comment_report, add_counts};
+pub use report::{add_counts, add_idle_report, add_plain_report};
 pub use rule::{Cycle, Modes, Motion, Plane, Rule, is_one_of};
 pub use source::{body_length, split_line};
 pub use text::{TextChanges, text_of};

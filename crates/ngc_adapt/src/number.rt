@@ -29,7 +29,7 @@ pub struct Number {
     pub is_computed: bool,
     /// Whether a name is in what computes it, such as `cos` or `MOD`.
     pub has_name: bool,
-    /// Whether it is a parameter with a sign in front, as `-#1`.
+    /// Whether it is a parameter or a bracket with a sign in front, as `-#1` or `-[#1+2]`.
     pub is_signed: bool,
 }
 
@@ -168,7 +168,7 @@ pub fn without_blanks(value: &[u8]) -> Option<ArrayVec<u8, LONGEST_NUMBER>>
     Some(text)
 }
 
-fn is_ink(byte: u8) -> bool
+pub(crate) fn is_ink(byte: u8) -> bool
     ensures { result ≡ numbers.is_ink byte }
 {
     !is_blank(byte)
@@ -354,18 +354,30 @@ pub(crate) fn blank_length(text: &[u8]) -> usize
     text.iter().take_while(|b| is_blank(**b)).count()
 }
 
-// Whether a value is a parameter with a sign in front.
+/// Returns whether a value inside a bracket closes each bracket that it opens, and no other.
+#[tactic(auto, using(crate::proofs::BracketLaws::open_step, crate::proofs::BracketLaws::open_end))]
+pub(crate) fn stays_open(value: &[u8]) -> bool
+    ensures { result ≡ numbers.stays_open 1 value.now }
+{
+    let mut depth: usize = 1;
+    for byte in value {
+        if *byte == b']' && depth <= 1 {
+            return false;
+        }
+        depth = match *byte {
+            b'[' => depth + 1,
+            b']' => depth - 1,
+            _ => depth,
+        };
+    }
+    depth == 1
+}
+
+// Whether a value is a parameter or a bracket with a sign in front.
 fn is_signed(value: &[u8]) -> bool
     ensures { result ≡ numbers.is_signed value.now }
 {
-    has_sign(value.split_at(blank_length(value)).1) && !has_byte(b'[', value)
-}
-
-/// Returns whether a byte can be one of a parameter with a sign in front.
-pub(crate) fn is_parameter_byte(byte: u8) -> bool
-    ensures { result ≡ numbers.is_parameter_byte byte }
-{
-    byte.is_ascii_digit() || byte == b'+' || byte == b'-' || byte == b'.' || byte == b'#'
+    has_sign(value.split_at(blank_length(value)).1) && stays_open(value)
 }
 
 // What is known of a value that is computed.

@@ -1,11 +1,11 @@
 //! What is written in place of a word that a rule changes.
 ghost use Rattle.std.specs.Prelude.{◌≡◌, ◌++◌, ◌∷◌, [], IfOk, codes, filter, length, take, drop};
 ghost use Rattle.std.specs.Char.{is_ascii_digit};
-ghost use Rattle.ngc_adapt.specs.Numbers.{is_parameter_byte as parameter_byte};
+ghost use Rattle.ngc_adapt.specs.Numbers.{is_ink as ink};
 ghost use Rattle.ngc_adapt.specs.Rules as spec;
 
 use crate::item::Word;
-use crate::number::{is_parameter_byte, without_first};
+use crate::number::{is_ink, stays_open, without_first};
 use crate::rule::{Modes, Rule};
 use itoa::Buffer;
 use std::alloc::{AllocError, Allocator};
@@ -150,13 +150,12 @@ fn first_byte(item: &[u8]) -> &[u8]
     }
 }
 
-// Adds the bytes of a parameter with a sign in front, without blanks.
-fn add_parameter<A: Allocator>(value: &[u8], out: &mut Vec<u8, A>) -> Result<(), AllocError>
-    ensures { IfOk result
-        (λ _. out.new.items ≡ out.old.items ++ filter parameter_byte value.now) }
+// Adds the bytes of a value without its blanks.
+fn add_ink<A: Allocator>(value: &[u8], out: &mut Vec<u8, A>) -> Result<(), AllocError>
+    ensures { IfOk result (λ _. out.new.items ≡ out.old.items ++ filter ink value.now) }
 {
     for byte in value {
-        if is_parameter_byte(*byte) {
+        if is_ink(*byte) {
             out.push(*byte)?;
         }
     }
@@ -165,12 +164,16 @@ fn add_parameter<A: Allocator>(value: &[u8], out: &mut Vec<u8, A>) -> Result<(),
 
 // Adds an item with its value in brackets, and 0 in front of the sign.
 fn add_signed<A: Allocator>(item: &[u8], out: &mut Vec<u8, A>) -> Result<(), AllocError>
-    ensures { IfOk result (λ _. out.new.items ≡ out.old.items ++ (take 1 item.now
-        ++ (codes "[0" ++ (filter parameter_byte (drop 1 item.now) ++ codes "] ")))) }
+    ensures { IfOk result (λ _. out.new.items ≡ out.old.items ++ spec.signed_text item.now) }
 {
+    let value = without_first(item);
+    if !stays_open(value) {
+        out.extend_from_slice(item)?;
+        return Ok(());
+    }
     out.extend_from_slice(first_byte(item))?;
     out.extend_from_slice(b"[0")?;
-    add_parameter(without_first(item), out)?;
+    add_ink(value, out)?;
     out.extend_from_slice(b"] ")?;
     Ok(())
 }

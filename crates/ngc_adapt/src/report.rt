@@ -8,9 +8,13 @@ ghost use Rattle.ngc_adapt.specs.Comments.{plain};
 ghost use Rattle.ngc_adapt.specs.Reports as spec;
 
 use crate::change::Change;
-use crate::comment::{add_plain, comment_of, has_odd_comment};
+use crate::comment::{add_plain, add_with_plain_comment, comment_of, has_odd_comment};
+use crate::facts::Levels;
 use crate::item::Word;
 use crate::number::{is_blank, without_first};
+use crate::plain::{
+    add_without_level, after_comment, has_idle_level, has_long_comment, slash_and_level, slash_of,
+};
 use crate::refusal::Refusal;
 use crate::replacement::{add_front, add_replacement};
 use crate::rule::{Modes, Rule};
@@ -18,7 +22,7 @@ use itoa::Buffer;
 use std::alloc::{AllocError, Allocator};
 
 /// Every rule, in the order of the counts.
-pub const EVERY_RULE: [Rule; 28] = [
+pub const EVERY_RULE: [Rule; 31] = [
     Rule::BlendTolerance,
     Rule::ZeroOffset,
     Rule::CycleEnd,
@@ -47,6 +51,9 @@ pub const EVERY_RULE: [Rule; 28] = [
     Rule::ProgramNumber,
     Rule::SignedParameter,
     Rule::PlainComment,
+    Rule::BlockDelete,
+    Rule::LongComment,
+    Rule::IdleLine,
 ];
 
 impl Rule {
@@ -63,7 +70,8 @@ impl Rule {
             | Rule::Switch
             | Rule::ToolInSpindle
             | Rule::Dropped
-            | Rule::ProgramEnd => "told",
+            | Rule::ProgramEnd
+            | Rule::BlockDelete => "told",
             _ => "exact",
         }
     }
@@ -101,6 +109,9 @@ impl Rule {
             Rule::ProgramNumber => 25,
             Rule::SignedParameter => 26,
             Rule::PlainComment => 27,
+            Rule::BlockDelete => 28,
+            Rule::LongComment => 29,
+            Rule::IdleLine => 30,
         }
     }
 }
@@ -219,10 +230,8 @@ fn add_odd_comment<A: Allocator>(
     Ok(())
 }
 
-/// Adds a line for the change of a line's first comment, if our language can't read it: `number` is
-/// its line in the source and `written` its line in what is written, both from 1. An error means
-/// that memory was refused.
-pub fn add_comment_report<A: Allocator>(
+// Adds a line for the change of a line's first comment, if our language can't read it.
+fn add_comment_report<A: Allocator>(
     number: usize,
     written: usize,
     line: &[u8],
@@ -236,6 +245,98 @@ pub fn add_comment_report<A: Allocator>(
         add_odd_comment(&change, comment_of(line), report)?;
     }
     Ok(())
+}
+
+// Adds a line for the change of some bytes by a rule.
+fn add_change<A: Allocator>(
+    change: &Change,
+    was: &[u8],
+    is: &[u8],
+    report: &mut Vec<u8, A>,
+) -> Result<(), AllocError>
+    ensures { IfOk result (λ _. report.new.items ≡ report.old.items
+        ++ spec.change_text change.now was.now is.now) }
+{
+    add_was(change, was, report)?;
+    report.extend_from_slice(or_nothing(trimmed(is)))?;
+    report.extend_from_slice(b"\n")?;
+    Ok(())
+}
+
+// Adds a line for the change of a line's level of block delete.
+fn add_level_report<A: Allocator>(
+    number: usize,
+    written: usize,
+    levels: Levels,
+    line: &[u8],
+    report: &mut Vec<u8, A>,
+) -> Result<(), AllocError>
+    ensures { IfOk result (λ _. report.new.items ≡ report.old.items
+        ++ spec.level_report number written levels line.now) }
+{
+    if has_idle_level(levels, line) {
+        let change = Change::at(number, written, Rule::BlockDelete);
+        add_change(&change, slash_and_level(line), slash_of(line), report)?;
+    }
+    Ok(())
+}
+
+// Adds a line for the change of a comment that makes its line too long.
+fn add_long_report<A: Allocator>(
+    number: usize,
+    written: usize,
+    line: &[u8],
+    report: &mut Vec<u8, A>,
+) -> Result<(), AllocError>
+    ensures { IfOk result (λ _. report.new.items ≡ report.old.items
+        ++ spec.long_report number written line.now) }
+{
+    if has_long_comment(line) {
+        let change = Change::at(number, written, Rule::LongComment);
+        let comment = comment_of(line);
+        add_change(&change, comment, after_comment(comment), report)?;
+    }
+    Ok(())
+}
+
+/// Adds a line for each change that makes a line plain: `number` is its line in the source and
+/// `written` its line in what is written, both from 1. An error means that memory was refused.
+#[tactic(auto, unfolding(crate::specs::Reports::plain_report))]
+pub fn add_plain_report<A: Allocator + Copy>(
+    alloc: A,
+    number: usize,
+    written: usize,
+    levels: Levels,
+    line: &[u8],
+    report: &mut Vec<u8, A>,
+) -> Result<(), AllocError>
+    ensures { IfOk result (λ _. report.new.items ≡ report.old.items
+        ++ spec.plain_report number written levels line.now) }
+{
+    let mut leveled = Vec::new(alloc);
+    add_without_level(levels, line, &mut leveled)?;
+    let mut read = Vec::new(alloc);
+    add_with_plain_comment(leveled.as_slice(), &mut read)?;
+    add_level_report(number, written, levels, line, report)?;
+    add_comment_report(number, written, leveled.as_slice(), report)?;
+    add_long_report(number, written, read.as_slice(), report)?;
+    Ok(())
+}
+
+/// Adds a line for a line that is left out, with nothing but blanks and a comment: `number` is its
+/// line in the source and `written` the line that follows what is written before it, both from 1. An
+/// error means that memory was refused.
+pub fn add_idle_report<A: Allocator>(
+    number: usize,
+    written: usize,
+    line: &[u8],
+    report: &mut Vec<u8, A>,
+) -> Result<(), AllocError>
+    ensures { IfOk result (λ _. report.new.items ≡ report.old.items
+        ++ spec.idle_report number written line.now) }
+{
+    let change = Change::at(number, written, Rule::IdleLine);
+    add_change(&change, line, b"", report)
 }
 
 pub(crate) fn add_item_change<A: Allocator>(

@@ -69,10 +69,17 @@ pub enum Rule {
     ProgramEnd,
     /// The number of a program, alone on its line, which is a comment in our language.
     ProgramNumber,
-    /// A parameter with a sign in front, as `-#1`, which our language reads in brackets alone.
+    /// A parameter or a bracket with a sign in front, as `-#1`, which our language reads in brackets
+    /// alone.
     SignedParameter,
     /// A comment with parentheses inside, or one that isn't closed.
     PlainComment,
+    /// The level of block delete, where a program has one alone: `/2` is `/` in our language.
+    BlockDelete,
+    /// A comment on a line of more than 256 characters.
+    LongComment,
+    /// A line with nothing but blanks and a comment, in a program of more than 100,000 lines.
+    IdleLine,
 }
 
 impl Rule {
@@ -111,6 +118,9 @@ impl Rule {
             Rule::ProgramNumber => "program_number",
             Rule::SignedParameter => "signed_parameter",
             Rule::PlainComment => "plain_comment",
+            Rule::BlockDelete => "block_delete",
+            Rule::LongComment => "long_comment",
+            Rule::IdleLine => "idle_line",
         }
     }
 }

@@ -94,13 +94,13 @@ home_line place deletable =
     slash deletable ++ (codes "G53 G0" ++ (target_text axes.X place.x
     ++ (target_text axes.Y place.y ++ target_text axes.Z place.z)))
 
--- the lines before the source's own, each with a separator behind it
+-- the lines before the source's own, each followed by a separator
 abbrev pub before_written : List ℕ → Plan → List ℕ → List ℕ
 before_written separator plan line =
     if is_first plan.feeding
     then slash (may_be_deleted line) ++ (feed_words line ++ separator) else []
 
--- the lines after the source's own, each behind a separator
+-- the lines after the source's own, each after a separator
 abbrev pub after_written : List ℕ → Homing → Bool → List ℕ
 after_written separator (homings.Between place) deletable = separator ++ home_line place deletable
 after_written separator _ deletable = []
@@ -174,7 +174,7 @@ abbrev pub lines_by : Places → Option (List Word) → ℕ
 lines_by places None = 1
 lines_by places (Some words) = line_count (plan_of places words)
 
--- what is written of a line; one that can't be read stays as it is, and is told
+-- what is written of a line; one that can't be read stays as it is, and is reported
 unfoldable pub written : Places → List ℕ → List ℕ
 written places line = written_by places line (words_of line)
 

@@ -99,7 +99,7 @@ fn add_feed_words<A: Allocator>(line: &[u8], out: &mut Vec<u8, A>) -> Result<(),
     Ok(())
 }
 
-// Adds the lines before the source's own, each with a separator behind it.
+// Adds the lines before the source's own, each followed by a separator.
 fn add_before<A: Allocator>(
     separator: &[u8],
     plan: &Plan,
@@ -176,7 +176,7 @@ fn add_home_line<A: Allocator>(
     Ok(())
 }
 
-// Adds the lines after the source's own, each behind a separator.
+// Adds the lines after the source's own, each after a separator.
 fn add_after<A: Allocator>(
     separator: &[u8],
     homing: &Homing,

@@ -30,7 +30,7 @@ fn limited_value(digits: &[u8]) -> u64
     value
 }
 
-// The decimal at an index behind the point, 0 where none is written.
+// The decimal at an index after the point, 0 where none is written.
 fn decimal_at(decimals: &[u8], index: usize) -> u64
     ensures value { result ≡ spec.decimal_at decimals.now index }
     ensures few { result < 256 }

@@ -1,4 +1,4 @@
--- Line feeds behind a seam of two texts.
+-- Line feeds after a seam of two texts.
 use Rattle.std.proofs.Common.{◌≡◌, ℕ, List, ◌++◌, length, drop, ap, ◌∙◌}
 use Rattle.std.proofs.Math.Seq.{drop-append_seam}
 use Rattle.ngc_adapt_program.specs.Programs.{feeds}

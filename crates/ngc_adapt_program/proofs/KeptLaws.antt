@@ -5,8 +5,9 @@ use Rattle.std.specs.List.{concat}
 use Rattle.std.proofs.lemmas.Bool.Decides.{nat_tests}
 use Rattle.std.proofs.lemmas.List.{take-append-drop}
 use Rattle.ngc_adapt.specs.declared.rule.Rule.{Rule}
-use Rattle.ngc_adapt.specs.Comments.{has_odd_comment, with_plain_comment}
 use Rattle.ngc_adapt.specs.Lines.{rules_of, written}
+use Rattle.ngc_adapt.specs.Plain.{is_plain, plain_line as plain_body}
+use Rattle.ngc_adapt.proofs.PlainLaws.{plain_same}
 use Rattle.ngc_adapt.specs.Sources.{lines_of, body_of, body_length, end_of}
 use Rattle.ngc_adapt.specs.Text.{text_of}
 use Rattle.ngc_adapt.proofs.LineLaws.{same_line}
@@ -17,7 +18,7 @@ use Rattle.ngc_adapt_moves.specs.Lines.{rules_for, written as moves_written}
 use Rattle.ngc_adapt_moves.proofs.LineLaws.{unchanged_is_copied}
 use Rattle.ngc_adapt_program.specs.declared.program.Progress.{Progress}
 use Rattle.ngc_adapt_program.specs.Laws.{is_kept, are_kept, KeptIsCopied}
-use Rattle.ngc_adapt_program.specs.Programs.{start, plain_text, read_of, read_line, progress_after, tool_left, tool_line, tool_before, has_refused_words, moved, body_written, line_written, feed_if, lines_written, program_written, is_executed, mounts_tool}
+use Rattle.ngc_adapt_program.specs.Programs.{start, plain_text, read_of, read_line, leaves_out, progress_after, progress_after_read, read_written, tool_left, tool_line, tool_before, has_refused_words, moved, body_written, line_written, feed_if, lines_written, program_written, is_executed, mounts_tool}
 
 no_rules : (rules : List Rule) → (length rules == 0) ≡ true → rules ≡ []
 no_rules [] h = refl
@@ -56,47 +57,56 @@ kept_if : (ended changed : Bool) (body out : List ℕ) → (changed ≡ true →
 kept_if true changed body out f h = refl
 kept_if false changed body out f h = f h
 
--- what is read of a line that has no odd comment, or comes after the end
-plain_kept : (odd : Bool) (body plain : List ℕ) → not odd ≡ true → (if odd then plain else body) ≡ body
-plain_kept true body plain h = absurd cc
-plain_kept false body plain h = refl
+abbrev quiet : Progress → List ℕ → Bool
+quiet p body = (length (rules_of p.modes body) == 0) && (length (rules_for p.places (written p.modes body)) == 0)
 
-read_kept : (p : Progress) (body : List ℕ) → is_kept p body ≡ true → read_of p body ≡ body
+read_kept : (p : Progress) (body : List ℕ) → (p.ended || (is_plain p.levels body && quiet p body)) ≡ true → read_of p body ≡ body
 read_kept p body h =
-    let quiet : Bool = (length (rules_of p.modes body) == 0) && (length (rules_for p.places (written p.modes body)) == 0) in
-    let stays : (not (has_odd_comment body) && quiet) ≡ true → with_plain_comment body ≡ body =
-    λ (e : (not (has_odd_comment body) && quiet) ≡ true).
-    plain_kept (has_odd_comment body) body _ (both (not (has_odd_comment body)) quiet e).0 in
-    kept_if p.ended (not (has_odd_comment body) && quiet) body (with_plain_comment body) stays h
+    kept_if p.ended (is_plain p.levels body && quiet p body) body (plain_body p.levels body)
+    (λ e. plain_same p.levels body (both (is_plain p.levels body) (quiet p body) e).0) h
 
-kept_body : (p : Progress) (body : List ℕ) → is_kept p body ≡ true → body_written p body ≡ body
+kept_body : (p : Progress) (body : List ℕ) → (p.ended || (is_plain p.levels body && quiet p body)) ≡ true → body_written p body ≡ body
 kept_body p body h =
-    let quiet : Bool = (length (rules_of p.modes body) == 0) && (length (rules_for p.places (written p.modes body)) == 0) in
-    let stays : (not (has_odd_comment body) && quiet) ≡ true → moved (has_refused_words p body) p.places (written p.modes body) ≡ body =
-    λ (e : (not (has_odd_comment body) && quiet) ≡ true).
+    let stays : (is_plain p.levels body && quiet p body) ≡ true → moved (has_refused_words p body) p.places (written p.modes body) ≡ body =
+    λ (e : (is_plain p.levels body && quiet p body) ≡ true).
     let none = both (length (rules_of p.modes body) == 0) (length (rules_for p.places (written p.modes body)) == 0)
-    (both (not (has_odd_comment body)) quiet e).1 in
+    (both (is_plain p.levels body) (quiet p body) e).1 in
     kept_moved (has_refused_words p body) p.places body (written p.modes body)
     (same_line p.modes body (no_rules (rules_of p.modes body) none.0))
     (unchanged_is_copied p.places (written p.modes body) (no_moves (rules_for p.places (written p.modes body)) none.1)) in
-    kept_if p.ended (not (has_odd_comment body) && quiet) body (moved (has_refused_words p body) p.places (written p.modes body)) stays h
+    kept_if p.ended (is_plain p.levels body && quiet p body) body (moved (has_refused_words p body) p.places (written p.modes body)) stays h
 
-kept_line : (p : Progress) (line : List ℕ) → p.tool ≡ None → is_kept p (body_of line) ≡ true → line_written p line ≡ line
-unfolding line_written
-kept_line p line none h =
+read_line_kept : (p : Progress) (line : List ℕ) → p.tool ≡ None → (p.ended || (is_plain p.levels (body_of line) && quiet p (body_of line))) ≡ true
+    → read_written p line ≡ line
+unfolding read_written
+read_line_kept p line none h =
     let before = no_line (tool_before p (read_line p line)) (never (not p.ended && is_executed (read_line p line)) p.tool none) in
     ap (λ (t : List ℕ). t ++ (body_written p (read_line p line) ++ end_of line)) before
     ∙ ap (λ (t : List ℕ). body_written p t ++ end_of line) (read_kept p (body_of line) h)
     ∙ ap (λ (t : List ℕ). t ++ end_of line) (kept_body p (body_of line) h)
     ∙ take-append-drop (body_length line) line
 
+stays_in : (out : Bool) (x y : List ℕ) → not out ≡ true → (if out then x else y) ≡ y
+stays_in true x y h = absurd cc
+stays_in false x y h = refl
+
+kept_line : (p : Progress) (line : List ℕ) → p.tool ≡ None → is_kept p (body_of line) ≡ true → line_written p line ≡ line
+unfolding line_written
+kept_line p line none h =
+    let parts = both (not (leaves_out p (body_of line))) (p.ended || (is_plain p.levels (body_of line) && quiet p (body_of line))) h in
+    stays_in (leaves_out p (body_of line)) [] (read_written p line) parts.0 ∙ read_line_kept p line none parts.1
+
 tool_after : (ended : Bool) (x y : Progress) → x.tool ≡ None → y.tool ≡ None → (if ended then x else y).tool ≡ None
 tool_after true x y h k = h
 tool_after false x y h k = k
 
+none_after_read : (p : Progress) (line : List ℕ) → p.tool ≡ None → (progress_after_read p line).tool ≡ None
+unfolding progress_after_read
+none_after_read p line none = tool_after p.ended _ _ none (none_left (is_executed (read_line p line)) p.tool none)
+
 none_after : (p : Progress) (line : List ℕ) → p.tool ≡ None → (progress_after p line).tool ≡ None
 unfolding progress_after
-none_after p line none = tool_after p.ended _ _ none (none_left (is_executed (read_line p line)) p.tool none)
+none_after p line none = tool_after (leaves_out p (body_of line)) p (progress_after_read p line) none (none_after_read p line none)
 
 no_ending : (marked closed ended lacks : Bool) → not (if marked then not closed else not ended) ≡ true
     → feed_if ((if marked then not closed else not ended) && lacks) ++ (if marked then (if closed then [] else codes "%\n") else (if ended then [] else codes "M2\n")) ≡ []
@@ -115,5 +125,5 @@ kept_lines p (line ∷ rest) none h =
 pub kept_is_copied : KeptIsCopied
 unfolding program_written
 kept_is_copied request file none h =
-    kept_lines (start request (plain_text (text_of file))) (lines_of (text_of file))
+    kept_lines (start request (text_of file) (plain_text (text_of file))) (lines_of (text_of file))
     (never_mounted (mounts_tool (plain_text (text_of file))) request.tool none) h ∙ whole (text_of file)

@@ -2,9 +2,11 @@
 mod Counted
 -- The lines and items that are left.
 mod Ends
--- Line feeds behind a seam.
+-- Line feeds after a seam.
 mod Feeds
 -- What is left at the end, and whole reports.
 mod Wholes
 -- Texts in which no rule applies.
 mod KeptLaws
+-- Lines that are plain.
+pub mod PlainLaws

@@ -9,13 +9,14 @@ use Rattle.ngc_adapt.specs.declared.item.Letter.{Letter}
 use Rattle.ngc_adapt.specs.declared.item.Letter.TheVariants as letters
 use Rattle.ngc_adapt.specs.declared.change.Change.{Change}
 use Rattle.ngc_adapt.specs.declared.rule.Rule.TheVariants as rules
-use Rattle.ngc_adapt.specs.Comments.{has_odd_comment, with_plain_comment}
+use Rattle.ngc_adapt.specs.declared.facts.Levels.{Levels}
 use Rattle.ngc_adapt.specs.Facts.{facts_of}
 use Rattle.ngc_adapt.specs.Items.{words_of}
 use Rattle.ngc_adapt.specs.Lines.{written, rules_of, next_modes, is_end, refusals_of}
 use Rattle.ngc_adapt.specs.Numbers.{is_blank, byte_count}
 use Rattle.ngc_adapt.specs.Changes.{change_at}
-use Rattle.ngc_adapt.specs.Reports.{line_report, comment_report, counts_text}
+use Rattle.ngc_adapt.specs.Plain.{is_idle, levels_of, plain_line as plain_body, plain_rules}
+use Rattle.ngc_adapt.specs.Reports.{line_report, plain_report, idle_report, counts_text}
 use Rattle.ngc_adapt.specs.Rules.{start_modes}
 use Rattle.ngc_adapt.specs.Sources.{lines_of, body_of, end_of, ends}
 use Rattle.ngc_adapt.specs.Text.{text_of}
@@ -69,28 +70,41 @@ is_blank_or_percent b = is_blank b || b == 37
 abbrev pub is_percent_line : List ℕ → Bool
 is_percent_line body = (byte_count 37 body == 1) && list_all is_blank_or_percent body
 
--- ---- comments
+-- ---- lines whose words can be read
 
--- a line whose first comment our language can read, with its line feed
-abbrev pub plain_line : List ℕ → List ℕ
-plain_line line = with_plain_comment (body_of line) ++ end_of line
+-- a line that is plain, with its line feed
+abbrev pub plain_line : Levels → List ℕ → List ℕ
+plain_line levels line = plain_body levels (body_of line) ++ end_of line
 
 -- a text of such lines
 unfoldable pub plain_text : List ℕ → List ℕ
-plain_text text = flat_map plain_line (lines_of text)
+plain_text text = flat_map (plain_line (levels_of text)) (lines_of text)
 
 -- ---- what the lines before leave
 
-abbrev pub start : Request → List ℕ → Progress
-start request text =
+abbrev pub is_feed : ℕ → Bool
+is_feed b = b == 10
+
+abbrev pub feeds : List ℕ → ℕ
+feeds text = count_by is_feed text
+
+-- a text of more than 100,000 lines
+abbrev pub is_long : List ℕ → Bool
+is_long text = nat_lt 100000 (feeds text + (if ends 10 text then 0 else 1))
+
+-- of a text, where this is the same with plain lines
+abbrev pub start : Request → List ℕ → List ℕ → Progress
+start request text plain =
     record {
-      modes = start_modes request.options (facts_of text);
+      modes = start_modes request.options (facts_of plain);
       places = start_places request.options.dialect request.homes;
+      levels = levels_of text;
+      is_long = is_long text;
       begun = false;
       marked = false;
       closed = false;
       ended = false;
-      tool = if mounts_tool text then None else request.tool;
+      tool = if mounts_tool plain then None else request.tool;
       lacks_feed = false;
     }
 
@@ -126,6 +140,8 @@ after_body p body lacks_feed =
     record {
       modes = next_modes p.modes body;
       places = next_places p body;
+      levels = p.levels;
+      is_long = p.is_long;
       begun = p.begun || not (list_all is_blank body);
       marked = p.marked || (is_percent_line body && not p.begun);
       closed = p.closed || (is_percent_line body && p.begun);
@@ -140,6 +156,8 @@ after_ended p body lacks_feed =
     record {
       modes = p.modes;
       places = p.places;
+      levels = p.levels;
+      is_long = p.is_long;
       begun = p.begun;
       marked = p.marked;
       closed = p.closed || is_percent_line body;
@@ -152,16 +170,24 @@ abbrev pub progress_after_body : Progress → List ℕ → Bool → Progress
 progress_after_body p body lacks_feed =
     if p.ended then after_ended p body lacks_feed else after_body p body lacks_feed
 
--- what is read of a line: its first comment is one that our language can read. After the end the line
--- stays as it is
+-- what is read of a line: a plain one. After the end the line stays as it is
 abbrev pub read_of : Progress → List ℕ → List ℕ
-read_of p body = if p.ended then body else with_plain_comment body
+read_of p body = if p.ended then body else plain_body p.levels body
 
 abbrev pub read_line : Progress → List ℕ → List ℕ
 read_line p line = read_of p (body_of line)
 
+-- a long text has no lines with nothing but blanks and a comment
+abbrev pub leaves_out : Progress → List ℕ → Bool
+leaves_out p body = p.is_long && (not p.ended && is_idle body)
+
+unfoldable pub progress_after_read : Progress → List ℕ → Progress
+progress_after_read p line = progress_after_body p (read_line p line) (not (ends 10 line))
+
+-- a line that is left out leaves what was
 unfoldable pub progress_after : Progress → List ℕ → Progress
-progress_after p line = progress_after_body p (read_line p line) (not (ends 10 line))
+progress_after p line =
+    if leaves_out p (body_of line) then p else progress_after_read p line
 
 -- ---- what is written
 
@@ -176,10 +202,13 @@ tool_before p body = if not p.ended && is_executed body then p.tool else None
 abbrev pub body_written : Progress → List ℕ → List ℕ
 body_written p body = if p.ended then body else executed_written p body
 
-unfoldable pub line_written : Progress → List ℕ → List ℕ
-line_written p line =
+unfoldable pub read_written : Progress → List ℕ → List ℕ
+read_written p line =
     tool_line (tool_before p (read_line p line))
     ++ (body_written p (read_line p line) ++ end_of line)
+
+unfoldable pub line_written : Progress → List ℕ → List ℕ
+line_written p line = if leaves_out p (body_of line) then [] else read_written p line
 
 abbrev pub feed_if : Bool → List ℕ
 feed_if lacks_feed = if lacks_feed then codes "\n" else []
@@ -203,7 +232,8 @@ lines_written p (line ∷ rest) = line_written p line ++ lines_written (progress
 -- what is written of a file
 unfoldable pub program_written : Request → List ℕ → List ℕ
 program_written request file =
-    lines_written (start request (plain_text (text_of file))) (lines_of (text_of file))
+    lines_written (start request (text_of file) (plain_text (text_of file)))
+    (lines_of (text_of file))
 
 -- ---- what stands in the way
 
@@ -213,9 +243,12 @@ is_left p body =
     && (has_refused_words p body
     || nat_lt 0 (length (refusals_for p.places (written p.modes body))))
 
+unfoldable pub read_left : Progress → List ℕ → Bool
+read_left p line = is_left p (read_line p line)
+
 -- something on a line of the source stands in the way
 unfoldable pub source_left : Progress → List ℕ → Bool
-source_left p line = is_left p (read_line p line)
+source_left p line = if leaves_out p (body_of line) then false else read_left p line
 
 abbrev pub lines_left : Progress → List (List ℕ) → Bool
 lines_left p [] = false
@@ -224,15 +257,9 @@ lines_left p (line ∷ rest) = source_left p line || lines_left (progress_after 
 -- something in a file stands in the way
 unfoldable pub program_left : Request → List ℕ → Bool
 program_left request file =
-    lines_left (start request (plain_text (text_of file))) (lines_of (text_of file))
+    lines_left (start request (text_of file) (plain_text (text_of file))) (lines_of (text_of file))
 
 -- ---- the report
-
-abbrev pub is_feed : ℕ → Bool
-is_feed b = b == 10
-
-abbrev pub feeds : List ℕ → ℕ
-feeds text = count_by is_feed text
 
 -- line N (M): RULE CLASS: nothing ->
 unfoldable pub place_text : ℕ → ℕ → List ℕ
@@ -258,21 +285,26 @@ body_report number before p body =
     if p.ended then []
     else line_report number (before + 1) p.modes body ++ moved_report number (before + 1) p body
 
--- the change of a line's comment
-abbrev pub plain_report : ℕ → ℕ → Progress → List ℕ → List ℕ
-plain_report number before p body =
-    if p.ended then [] else comment_report number (before + 1) body
+-- the changes that make a line plain
+abbrev pub plainly_report : ℕ → ℕ → Progress → List ℕ → List ℕ
+plainly_report number before p body =
+    if p.ended then [] else plain_report number (before + 1) p.levels body
 
 -- of a line of the source with these bytes, of which this is read
 abbrev pub parts_report : ℕ → ℕ → Progress → List ℕ → List ℕ → List ℕ
 parts_report number before p body read =
     let above = before + feeds (tool_line (tool_before p read)) in
     tool_report number (before + 1) (tool_before p read)
-    ++ (plain_report number above p body ++ body_report number above p read)
+    ++ (plainly_report number above p body ++ body_report number above p read)
+
+unfoldable pub read_report : ℕ → ℕ → Progress → List ℕ → List ℕ
+read_report number before p line =
+    parts_report number before p (body_of line) (read_line p line)
 
 unfoldable pub source_report : ℕ → ℕ → Progress → List ℕ → List ℕ
 source_report number before p line =
-    parts_report number before p (body_of line) (read_line p line)
+    if leaves_out p (body_of line) then idle_report number (before + 1) (body_of line)
+    else read_report number before p line
 
 abbrev pub ending_rule : Bool → List ℕ
 ending_rule marked = if marked then codes "closing_percent exact" else codes "program_end told"
@@ -298,17 +330,21 @@ word_changes number before p body =
 
 abbrev pub plain_changes : ℕ → ℕ → Progress → List ℕ → List Change
 plain_changes number before p body =
-    if not p.ended && has_odd_comment body
-    then change_at number (before + 1) rules.PlainComment ∷ [] else []
+    if p.ended then [] else map (change_at number (before + 1)) (plain_rules p.levels body)
 
 abbrev pub parts_changes : ℕ → ℕ → Progress → List ℕ → List ℕ → List Change
 parts_changes number before p body read =
     let above = before + feeds (tool_line (tool_before p read)) in
     plain_changes number above p body ++ word_changes number above p read
 
+unfoldable pub read_changes : ℕ → ℕ → Progress → List ℕ → List Change
+read_changes number before p line =
+    parts_changes number before p (body_of line) (read_line p line)
+
 unfoldable pub source_changes : ℕ → ℕ → Progress → List ℕ → List Change
 source_changes number before p line =
-    parts_changes number before p (body_of line) (read_line p line)
+    if leaves_out p (body_of line) then map (change_at number (before + 1)) (rules.IdleLine ∷ [])
+    else read_changes number before p line
 
 abbrev pub lines_changes : ℕ → ℕ → Progress → List (List ℕ) → List Change
 lines_changes number before p [] = []
@@ -318,12 +354,14 @@ lines_changes number before p (line ∷ rest) =
 
 abbrev pub program_changes : Request → List ℕ → List Change
 program_changes request file =
-    lines_changes 1 0 (start request (plain_text (text_of file))) (lines_of (text_of file))
+    lines_changes 1 0 (start request (text_of file) (plain_text (text_of file)))
+    (lines_of (text_of file))
 
 -- a line for each change and for each word that stands in the way, which tools are named, and how
 -- often each rule of words applied
 unfoldable pub program_report : Request → List ℕ → List ℕ
 program_report request file =
-    lines_report 1 0 (start request (plain_text (text_of file))) (lines_of (text_of file))
+    lines_report 1 0 (start request (text_of file) (plain_text (text_of file)))
+    (lines_of (text_of file))
     ++ (tools_text (tools_named (program_written request file))
     ++ counts_text (program_changes request file))

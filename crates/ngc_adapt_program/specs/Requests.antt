@@ -52,7 +52,7 @@ code_in _ = None
 abbrev pub code_of : List ℕ → Option ℕ
 code_of part = code_in (item_of (first_part part))
 
--- the code behind n commas
+-- the code after n commas
 abbrev pub code_at : ℕ → List ℕ → Option ℕ
 code_at n text = option_and_then code_of (after_commas n text)
 
@@ -63,7 +63,7 @@ is_code_or_none (Some part) = is_some (code_of part)
 abbrev pub is_code_at : List ℕ → ℕ → Bool
 is_code_at text n = is_code_or_none (after_commas n text)
 
--- there is nothing behind the sixteenth comma
+-- there is nothing after the sixteenth comma
 abbrev pub is_short : List ℕ → Bool
 is_short text = not (is_some (after_commas 16 text))
 

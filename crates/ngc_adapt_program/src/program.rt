@@ -1,11 +1,12 @@
 ghost use Rattle.std.specs.Prelude.{◌≡◌, ◌+◌, ◌≤◌, ◌++◌, ◌||◌, [], length, map, IfOk, true, false};
-ghost use Rattle.std.specs.Prelude.{nat_lt, ◌<◌, ◌^◌, drop, if◌then◌else◌};
-ghost use Rattle.std.specs.List.{list_all};
+ghost use Rattle.std.specs.Prelude.{nat_lt, ◌<◌, ◌^◌, ◌∷◌, drop, if◌then◌else◌};
+ghost use Rattle.std.specs.List.{list_all, flat_map};
 ghost use Rattle.ngc_adapt.specs.Numbers.{is_blank as blank};
 ghost use Rattle.ngc_adapt.specs.Sources.{body_of, ends, lines_of};
 ghost use Rattle.ngc_adapt.specs.Lines.{written, rules_of, next_modes, is_end, refusals_of};
 ghost use Rattle.ngc_adapt.specs.Changes.{change_at};
-ghost use Rattle.ngc_adapt.specs.Reports.{line_report};
+ghost use Rattle.ngc_adapt.specs.declared.rule.Rule.TheVariants as rules;
+ghost use Rattle.ngc_adapt.specs.Reports.{line_report, idle_report};
 ghost use Rattle.ngc_adapt_moves.specs.Lines.{written as moves_written, refusals_for, places_after};
 ghost use Rattle.ngc_adapt_moves.specs.LineReports.{line_report as moves_report};
 ghost use Rattle.ngc_adapt_program.specs.Programs as spec;
@@ -16,11 +17,15 @@ use crate::request::Request;
 use crate::tools::{add_tools_report, tools_named};
 use itoa::Buffer;
 use ngc_adapt::{
-    Change, Facts, Modes, Rule, adapt_line, add_comment_report, add_counts, add_with_plain_comment,
-    body_length, byte_count, has_odd_comment, is_blank, split_line, text_of,
+    Change, Facts, Levels, Modes, Rule, adapt_line, add_counts, add_idle_report, add_plain_line,
+    add_plain_report, body_length, byte_count, is_blank, is_idle, is_plain, plain_rules,
+    split_line, text_of,
 };
 use ngc_adapt_moves::{Places, rewrite_line};
 use std::alloc::{AllocError, Allocator};
+
+// The most lines of a program in our language.
+const MOST_LINES: usize = 100_000;
 
 /// What the lines before leave.
 #[derive(Clone, Copy)]
@@ -29,6 +34,10 @@ pub struct Progress {
     pub modes: Modes,
     /// Where they leave the tool.
     pub places: Places,
+    /// The levels of block delete in the whole text.
+    pub levels: Levels,
+    /// Whether the whole text has more than 100,000 lines.
+    pub is_long: bool,
     /// Whether one of them isn't blank.
     pub begun: bool,
     /// Whether the first of these is a percent sign.
@@ -94,7 +103,7 @@ fn feeds(text: &[u8]) -> usize
     text.iter().filter(|b| is_feed(**b)).count()
 }
 
-// How many line feeds a text has behind its first bytes.
+// How many line feeds a text has after its first bytes.
 fn feeds_from(text: &[u8], start: usize) -> usize
     requires { start ≤ length text.now }
     ensures count { result ≡ spec.feeds (drop start text.now) }
@@ -107,6 +116,14 @@ fn ends_with_feed(line: &[u8]) -> bool
     ensures { result ≡ ends 10 line.now }
 {
     !line.is_empty() && is_feed(line[line.len() - 1])
+}
+
+// Whether a text has more than 100,000 lines.
+fn is_long(text: &[u8]) -> bool
+    ensures { result ≡ spec.is_long text.now }
+{
+    let unended: usize = if ends_with_feed(text) { 0 } else { 1 };
+    feeds(text).saturating_add(unended) > MOST_LINES
 }
 
 // The tool to mount in a text that mounts none. The text is read only where a tool is asked for.
@@ -130,22 +147,32 @@ fn tool_left(body: &[u8], tool: Option<u16>) -> Option<u16>
 }
 
 impl Progress {
-    ghost use Rattle.ngc_adapt_program.specs.Programs.{start, after_ended, tool_before, has_ending};
+    ghost use Rattle.ngc_adapt_program.specs.Programs.{start, leaves_out, after_ended, tool_before};
+    ghost use Rattle.ngc_adapt_program.specs.Programs.{has_ending};
 
-    /// Returns what is known where a text begins.
-    pub fn start(request: &Request, text: &[u8]) -> Progress
-        ensures { result ≡ start request.now text.now }
+    /// Returns what is known where a text begins, which is `plain` with plain lines.
+    pub fn start(request: &Request, text: &[u8], plain: &[u8]) -> Progress
+        ensures { result ≡ start request.now text.now plain.now }
     {
         Progress {
-            modes: Modes::start(&request.options, &Facts::of(text)),
+            modes: Modes::start(&request.options, &Facts::of(plain)),
             places: Places::start(request.options.dialect, request.homes),
+            levels: Levels::of(text),
+            is_long: is_long(text),
             begun: false,
             marked: false,
             closed: false,
             ended: false,
-            tool: tool_to_mount(text, request.tool),
+            tool: tool_to_mount(plain, request.tool),
             lacks_feed: false,
         }
+    }
+
+    // Whether a line is left out, which has nothing but blanks and a comment, of a long text.
+    fn leaves_out(&self, body: &[u8]) -> bool
+        ensures { result ≡ leaves_out self.now body.now }
+    {
+        self.is_long && !self.ended && is_idle(body)
     }
 
     // What a line after the end leaves.
@@ -294,7 +321,7 @@ struct Writing<A: Allocator> {
     before: usize,
 }
 
-impl<A: Allocator> Writing<A> {
+impl<A: Allocator + Copy> Writing<A> {
     ghost use Rattle.ngc_adapt_program.specs.Programs.{feeds, has_refused_words};
 
     // Adds the line that mounts a tool.
@@ -317,27 +344,49 @@ impl<A: Allocator> Writing<A> {
         Ok(())
     }
 
-    // Adds the change of a line's comment, and its report.
-    fn add_comment(
+    // Adds the changes that make a line plain, and their report.
+    fn add_plain(
         &mut self,
+        alloc: A,
         number: usize,
         progress: &Progress,
         body: &[u8],
     ) -> Result<(), AllocError>
         requires { self.old.before ≡ feeds self.old.text.items }
         ensures report { IfOk result (λ _. self.new.report.items ≡ self.old.report.items
-            ++ spec.plain_report number self.old.before progress.now body.now) }
+            ++ spec.plainly_report number self.old.before progress.now body.now) }
         ensures changes { IfOk result (λ _. self.new.changes.items ≡ self.old.changes.items
             ++ spec.plain_changes number self.old.before progress.now body.now) }
         ensures same { (self.new.text ≡ self.old.text) × (self.new.is_left ≡ self.old.is_left)
             × (self.new.before ≡ self.old.before) }
     {
-        if progress.ended || !has_odd_comment(body) {
+        if progress.ended {
+            return Ok(());
+        }
+        if is_plain(progress.levels, body) {
             return Ok(());
         }
         let written = self.before + 1;
-        add_comment_report(number, written, body, &mut self.report)?;
-        add_changes(number, written, &[Rule::PlainComment], &mut self.changes)?;
+        let rules = plain_rules(alloc, progress.levels, body)?;
+        let report = &mut self.report;
+        add_plain_report(alloc, number, written, progress.levels, body, report)?;
+        add_changes(number, written, rules.as_slice(), &mut self.changes)?;
+        Ok(())
+    }
+
+    // Adds the change of a line that is left out, and its report.
+    fn add_idle(&mut self, number: usize, body: &[u8]) -> Result<(), AllocError>
+        requires { self.old.before ≡ feeds self.old.text.items }
+        ensures report { IfOk result (λ _. self.new.report.items ≡ self.old.report.items
+            ++ idle_report number (self.old.before + 1) body.now) }
+        ensures changes { IfOk result (λ _. self.new.changes.items ≡ self.old.changes.items
+            ++ map (change_at number (self.old.before + 1)) (rules.IdleLine ∷ [])) }
+        ensures same { (self.new.text ≡ self.old.text) × (self.new.is_left ≡ self.old.is_left)
+            × (self.new.before ≡ self.old.before) }
+    {
+        let written = self.before + 1;
+        add_idle_report(number, written, body, &mut self.report)?;
+        add_changes(number, written, &[Rule::IdleLine], &mut self.changes)?;
         Ok(())
     }
 
@@ -464,6 +513,8 @@ fn after_body(
     Progress {
         modes: executed.modes,
         places,
+        levels: progress.levels,
+        is_long: progress.is_long,
         begun: progress.begun || !is_blank_line(body),
         marked: progress.marked || (percent && !progress.begun),
         closed: progress.closed || (percent && progress.begun),
@@ -531,7 +582,7 @@ fn add_parts<A: Allocator + Copy>(
         (λ p. p ≡ spec.progress_after_body progress.now read.now lacks_feed) }
 {
     out.add_tool(number, progress.tool_before(read))?;
-    out.add_comment(number, progress, body)?;
+    out.add_plain(alloc, number, progress, body)?;
     let after = add_body(alloc, number, progress, read, lacks_feed, out)?;
     Ok(after)
 }
@@ -560,20 +611,20 @@ fn add_read<A: Allocator + Copy>(
     ensures progress { IfOk result (λ p. p
         ≡ spec.progress_after_body progress.now (spec.read_of progress.now body.now) lacks_feed) }
 {
-    if progress.ended || !has_odd_comment(body) {
+    if progress.ended {
         let after = add_parts(alloc, number, progress, body, body, lacks_feed, out)?;
         return Ok(after);
     }
     let mut plain = Vec::new(alloc);
-    add_with_plain_comment(body, &mut plain)?;
+    add_plain_line(alloc, progress.levels, body, &mut plain)?;
     let read = plain.as_slice();
     let after = add_parts(alloc, number, progress, body, read, lacks_feed, out)?;
     Ok(after)
 }
 
-// Adds what is written of a line, its changes and their report, and returns what it leaves. How many
-// lines the text has isn't counted.
-#[tactic(auto, unfolding(crate::specs::Programs::line_written, crate::specs::Programs::source_report, crate::specs::Programs::source_changes, crate::specs::Programs::source_left, crate::specs::Programs::progress_after))]
+// Adds what is written of a line that isn't left out, its changes and their report, and returns what
+// it leaves. How many lines the text has isn't counted.
+#[tactic(auto, unfolding(crate::specs::Programs::read_written, crate::specs::Programs::read_report, crate::specs::Programs::read_changes, crate::specs::Programs::read_left, crate::specs::Programs::progress_after_read))]
 fn add_source<A: Allocator + Copy>(
     alloc: A,
     number: usize,
@@ -583,14 +634,14 @@ fn add_source<A: Allocator + Copy>(
 ) -> Result<Progress, AllocError>
     requires { out.old.before ≡ spec.feeds out.old.text.items }
     ensures text { IfOk result
-        (λ _. out.new.text.items ≡ out.old.text.items ++ spec.line_written progress.now line.now) }
+        (λ _. out.new.text.items ≡ out.old.text.items ++ spec.read_written progress.now line.now) }
     ensures report { IfOk result (λ _. out.new.report.items ≡ out.old.report.items
-        ++ spec.source_report number out.old.before progress.now line.now) }
+        ++ spec.read_report number out.old.before progress.now line.now) }
     ensures changes { IfOk result (λ _. out.new.changes.items ≡ out.old.changes.items
-        ++ spec.source_changes number out.old.before progress.now line.now) }
+        ++ spec.read_changes number out.old.before progress.now line.now) }
     ensures left { IfOk result
-        (λ _. out.new.is_left ≡ (out.old.is_left || spec.source_left progress.now line.now)) }
-    ensures progress { IfOk result (λ p. p ≡ spec.progress_after progress.now line.now) }
+        (λ _. out.new.is_left ≡ (out.old.is_left || spec.read_left progress.now line.now)) }
+    ensures progress { IfOk result (λ p. p ≡ spec.progress_after_read progress.now line.now) }
 {
     let (body, end) = line.split_at(body_length(line));
     let after = add_read(alloc, number, progress, body, !ends_with_feed(line), out)?;
@@ -600,6 +651,35 @@ fn add_source<A: Allocator + Copy>(
 
 // The same, and counts the lines.
 #[tactic(auto, using(crate::proofs::Feeds::seam_feeds))]
+fn add_counted<A: Allocator + Copy>(
+    alloc: A,
+    number: usize,
+    progress: &Progress,
+    line: &[u8],
+    out: &mut Writing<A>,
+) -> Result<Progress, AllocError>
+    requires { out.old.before ≡ spec.feeds out.old.text.items }
+    ensures text { IfOk result
+        (λ _. out.new.text.items ≡ out.old.text.items ++ spec.read_written progress.now line.now) }
+    ensures report { IfOk result (λ _. out.new.report.items ≡ out.old.report.items
+        ++ spec.read_report number out.old.before progress.now line.now) }
+    ensures changes { IfOk result (λ _. out.new.changes.items ≡ out.old.changes.items
+        ++ spec.read_changes number out.old.before progress.now line.now) }
+    ensures left { IfOk result
+        (λ _. out.new.is_left ≡ (out.old.is_left || spec.read_left progress.now line.now)) }
+    ensures before { IfOk result (λ _. out.new.before
+        ≡ out.old.before + spec.feeds (spec.read_written progress.now line.now)) }
+    ensures progress { IfOk result (λ p. p ≡ spec.progress_after_read progress.now line.now) }
+{
+    let start = out.text.len();
+    let before = out.before;
+    let after = add_source(alloc, number, progress, line, out)?;
+    out.before = before + feeds_from(out.text.as_slice(), start);
+    Ok(after)
+}
+
+// Adds what is written of a line, its changes and their report, and returns what it leaves.
+#[tactic(auto, unfolding(crate::specs::Programs::line_written, crate::specs::Programs::source_report, crate::specs::Programs::source_changes, crate::specs::Programs::source_left, crate::specs::Programs::progress_after))]
 fn add_line<A: Allocator + Copy>(
     alloc: A,
     number: usize,
@@ -620,10 +700,12 @@ fn add_line<A: Allocator + Copy>(
         ≡ out.old.before + spec.feeds (spec.line_written progress.now line.now)) }
     ensures progress { IfOk result (λ p. p ≡ spec.progress_after progress.now line.now) }
 {
-    let start = out.text.len();
-    let before = out.before;
-    let after = add_source(alloc, number, progress, line, out)?;
-    out.before = before + feeds_from(out.text.as_slice(), start);
+    let body = line.split_at(body_length(line)).0;
+    if progress.leaves_out(body) {
+        out.add_idle(number, body)?;
+        return Ok(*progress);
+    }
+    let after = add_counted(alloc, number, progress, line, out)?;
     Ok(after)
 }
 
@@ -687,25 +769,37 @@ fn add_ending<A: Allocator>(
     Ok(())
 }
 
-// A text of lines whose first comments our language can read.
-#[tactic(auto, unfolding(crate::specs::Programs::plain_text))]
-fn plain_text<A: Allocator>(alloc: A, text: &[u8]) -> Result<Vec<u8, A>, AllocError>
-    ensures { IfOk result (λ plain. plain.items ≡ spec.plain_text text.now) }
+// A text of plain lines.
+fn plain_lines<A: Allocator + Copy>(
+    alloc: A,
+    levels: Levels,
+    text: &[u8],
+) -> Result<Vec<u8, A>, AllocError>
+    ensures { IfOk result
+        (λ plain. plain.items ≡ flat_map (spec.plain_line levels) (lines_of text.now)) }
 {
     let mut plain = Vec::with_capacity(alloc, text.len())?;
     let mut rest = text;
     while !rest.is_empty() {
         let (line, others) = split_line(rest);
         let (body, end) = line.split_at(body_length(line));
-        add_with_plain_comment(body, &mut plain)?;
+        add_plain_line(alloc, levels, body, &mut plain)?;
         plain.extend_from_slice(end)?;
         rest = others;
     }
     Ok(plain)
 }
 
+#[tactic(auto, unfolding(crate::specs::Programs::plain_text))]
+fn plain_text<A: Allocator + Copy>(alloc: A, text: &[u8]) -> Result<Vec<u8, A>, AllocError>
+    ensures { IfOk result (λ plain. plain.items ≡ spec.plain_text text.now) }
+{
+    let plain = plain_lines(alloc, Levels::of(text), text)?;
+    Ok(plain)
+}
+
 // Adds what is written of a text, with its changes and their report. The other text is the same with
-// plain comments.
+// plain lines.
 fn add_lines<A: Allocator + Copy>(
     alloc: A,
     request: &Request,
@@ -717,15 +811,15 @@ fn add_lines<A: Allocator + Copy>(
     requires before { out.old.before ≡ 0 }
     requires left { out.old.is_left ≡ false }
     ensures text { IfOk result (λ _. out.new.text.items
-        ≡ spec.lines_written (spec.start request.now plain.now) (lines_of source.now)) }
+        ≡ spec.lines_written (spec.start request.now source.now plain.now) (lines_of source.now)) }
     ensures report { IfOk result (λ _. out.new.report.items ≡ out.old.report.items
-        ++ spec.lines_report 1 0 (spec.start request.now plain.now) (lines_of source.now)) }
+        ++ spec.lines_report 1 0 (spec.start request.now source.now plain.now) (lines_of source.now)) }
     ensures changes { IfOk result (λ _. out.new.changes.items ≡ out.old.changes.items
-        ++ spec.lines_changes 1 0 (spec.start request.now plain.now) (lines_of source.now)) }
+        ++ spec.lines_changes 1 0 (spec.start request.now source.now plain.now) (lines_of source.now)) }
     ensures left { IfOk result (λ _. out.new.is_left
-        ≡ spec.lines_left (spec.start request.now plain.now) (lines_of source.now)) }
+        ≡ spec.lines_left (spec.start request.now source.now plain.now) (lines_of source.now)) }
 {
-    let mut progress = Progress::start(request, plain);
+    let mut progress = Progress::start(request, source, plain);
     let mut number = 1;
     let mut rest = source;
     while !rest.is_empty() {

@@ -17,15 +17,16 @@ returns-clause-report g c =
     let is_plain = c.as_slice-3.ensures.value ∙ c.in_ok-plain.ensures ∙ ap plain_text (c.as_slice.ensures.value ∙ c.in_ok-source.ensures.text) in
     let named = tools_named (program_written request c.args.file.now) in
     whole_report c.new.result.items c.add_lines.new.out.report.items c.add_tools_report.new.report.items c.add_counts.new.report.items
-    (lines_report 1 0 (start request plain) (lines_of text)) c.as_slice-5.result.now named
-    c.as_slice-6.result.now c.add_lines.new.out.changes.items c.new-2.result.items (lines_changes 1 0 (start request plain) (lines_of text))
+    (lines_report 1 0 (start request text plain) (lines_of text)) c.as_slice-5.result.now named
+    c.as_slice-6.result.now c.add_lines.new.out.changes.items c.new-2.result.items (lines_changes 1 0 (start request text plain) (lines_of text))
     c.new.ensures.items c.in_ok-add_lines.ensures.report c.in_ok-add_tools_report.ensures
     (c.as_slice-5.ensures.value ∙ c.in_ok-tools.ensures
     ∙ ap tools_named (c.as_slice-4.ensures.value ∙ c.in_ok-add_lines.ensures.text
-    ∙ ap (λ (t : List ℕ). lines_written (start request plain) (lines_of t)) is_text
-    ∙ ap (λ (t : List ℕ). lines_written (start request t) (lines_of (text_of c.args.file.now))) is_plain))
+    ∙ ap (λ (t : List ℕ). lines_written (start request t plain) (lines_of t)) is_text
+    ∙ ap (λ (t : List ℕ). lines_written (start request (text_of c.args.file.now) t) (lines_of (text_of c.args.file.now))) is_plain))
     c.in_ok-add_counts.ensures c.as_slice-6.ensures.value c.in_ok-add_lines.ensures.changes c.new-2.ensures.items
-    ∙ ap (λ (t : List ℕ). lines_report 1 0 (start request plain) (lines_of t) ++ (tools_text named ++ counts_text (lines_changes 1 0 (start request plain) (lines_of t))))
+    ∙ ap (λ (t : List ℕ). lines_report 1 0 (start request t plain) (lines_of t) ++ (tools_text named ++ counts_text (lines_changes 1 0 (start request t plain) (lines_of t))))
     is_text
-    ∙ ap (λ (t : List ℕ). lines_report 1 0 (start request t) (lines_of (text_of c.args.file.now)) ++ (tools_text named ++ counts_text (lines_changes 1 0 (start request t) (lines_of (text_of c.args.file.now)))))
+    ∙ ap (λ (t : List ℕ). lines_report 1 0 (start request (text_of c.args.file.now) t) (lines_of (text_of c.args.file.now))
+    ++ (tools_text named ++ counts_text (lines_changes 1 0 (start request (text_of c.args.file.now) t) (lines_of (text_of c.args.file.now)))))
     is_plain
