@@ -1,7 +1,7 @@
 -- Figures of three machines, and figures that are refused, worked by hand by dividing by the longer
 -- of the file's step and the motor's.
 use Rattle.std.proofs.Common.{◌≡◌, ℕ, ◌*◌, Some, None, refl}
-use Rattle.std.specs.Prelude.{pos, neg_ℤ, Ok, Err}
+use Rattle.std.specs.Prelude.{pos, neg_ℤ, Ok, Err, true, false}
 use Rattle.ngc_machine_maker.specs.declared.figures.Acceleration.{Acceleration}
 use Rattle.ngc_machine_maker.specs.declared.figures.Axis.TheVariants as axes
 use Rattle.ngc_machine_maker.specs.declared.figures.End.TheVariants as ends
@@ -12,7 +12,7 @@ use Rattle.ngc_machine_maker.specs.declared.figures.Speed.{Speed}
 use Rattle.ngc_machine_maker.specs.declared.refusal.Refusal.TheVariants as refusals
 use Rattle.ngc_machine_maker.specs.declared.refusal.Stop.TheVariants as stops
 use Rattle.ngc_machine_maker.specs.Formulas.{nearest_step}
-use Rattle.ngc_machine_maker.specs.Numbers.{numbers_of}
+use Rattle.ngc_machine_maker.specs.Numbers.{numbers_of, ring_of}
 
 abbrev pub three : {T : Type 0} → T → T → T → PerAxis T
 three x y z = record { x = x; y = y; z = z }
@@ -51,6 +51,8 @@ small_router = record {
   jump = mm_a_minute 0;
   arcs = None;
   ticks = None;
+  ring = None;
+  arc_feed = false;
   zero = three ends.Low ends.Low ends.High;
   start = three (mm 0) (mm 0) (mm 0);
   home28 = None;
@@ -66,6 +68,8 @@ numbers_of_a_small_router : numbers_of small_router ≡ Ok (record {
   turn = 10973936;
   axis_rate = three 493827 493827 296296;
   jump = 0;
+  ring = None;
+  arc_feed = false;
   low = three (pos 0) (pos 0) (neg_ℤ (pos 45000000));
   high = three (pos 300000000) (pos 180000000) (pos 0);
   start = three (pos 0) (pos 0) (pos 0);
@@ -87,6 +91,8 @@ bench_mill = record {
   jump = mm_a_minute 0;
   arcs = None;
   ticks = None;
+  ring = None;
+  arc_feed = false;
   zero = three ends.High ends.High ends.High;
   start = three (mm 1) (mm 1) (mm 1);
   home28 = Some (three (mm 0) (mm 0) (mm 0));
@@ -102,6 +108,8 @@ numbers_of_a_bench_mill : numbers_of bench_mill ≡ Ok (record {
   turn = 54663448;
   axis_rate = three 488035 488035 349846;
   jump = 0;
+  ring = None;
+  arc_feed = false;
   low = three (neg_ℤ (pos 219999932)) (neg_ℤ (pos 126999506)) (neg_ℤ (pos 158999294));
   high = three (pos 0) (pos 0) (pos 0);
   start = three (neg_ℤ (pos 999646)) (neg_ℤ (pos 999646)) (neg_ℤ (pos 999646));
@@ -111,7 +119,8 @@ numbers_of_a_bench_mill : numbers_of bench_mill ≡ Ok (record {
 numbers_of_a_bench_mill = refl
 
 -- A large router with 188.976 steps a millimetre, 800 by 600 by 100 mm, at 40,000 ticks a second,
--- with its start at the top of Z.
+-- with its start at the top of Z, a ring of 64
+-- commands, and arcs at their feed.
 abbrev pub large_router : Figures
 large_router = record {
   steps = record { millionths = 188976000 };
@@ -122,6 +131,8 @@ large_router = record {
   jump = mm_a_minute 1200;
   arcs = Some (mm_a_second_squared 300);
   ticks = Some 40000;
+  ring = Some 64;
+  arc_feed = true;
   zero = three ends.Low ends.Low ends.Low;
   start = three (mm 0) (mm 0) (mm 100);
   home28 = None;
@@ -137,6 +148,8 @@ numbers_of_a_large_router : numbers_of large_router ≡ Ok (record {
   turn = 17715419;
   axis_rate = three 787351 787351 393675;
   jump = 94482;
+  ring = Some 64;
+  arc_feed = true;
   low = three (pos 0) (pos 0) (pos 0);
   high = three (pos 799996932) (pos 599996376) (pos 99997632);
   start = three (pos 0) (pos 0) (pos 99997632);
@@ -161,3 +174,16 @@ long_travel = refl
 
 start_outside : numbers_of (record large_router { start = three (mm 0) (mm 0) (mm 101) }) ≡ Err (refusals.Outside stops.Start axes.Z)
 start_outside = refl
+
+-- a ring of 16 commands is the least, and one of 1,024 the greatest
+least_ring : ring_of (Some 16) ≡ Ok (Some 16)
+least_ring = refl
+
+short_ring : numbers_of (record large_router { ring = Some 15 }) ≡ Err refusals.Ring
+short_ring = refl
+
+greatest_ring : ring_of (Some 1024) ≡ Ok (Some 1024)
+greatest_ring = refl
+
+long_ring : numbers_of (record large_router { ring = Some 1025 }) ≡ Err refusals.Ring
+long_ring = refl

@@ -1,6 +1,6 @@
 -- The travel and the places in it, as nanometres of a file.
 use Rattle.std.proofs.Common.{◌≡◌, ℕ, ◌≤◌, ◌<◌, ◌+◌, ◌*◌, ◌%◌, ap, subst, arith}
-use Rattle.std.specs.Prelude.{pos, neg_ℤ, ◌-ℤ◌, ◌≤ℤ◌, unsigned_abs}
+use Rattle.std.specs.Prelude.{pos, neg_ℤ, ◌-ℤ◌, ◌≤ℤ◌, unsigned_abs, Option, IfSome}
 use Rattle.std.proofs.lemmas.Int.{ints}
 use Rattle.std.proofs.Math.Nat.{mul_assoc}
 use Rattle.std.proofs.lemmas.Nat.{mul-le, mod-mul-add}
@@ -15,7 +15,7 @@ use Rattle.ngc_machine_maker.specs.Asked.{IsTravelWithin, IsNoMoreThanAsked, sca
 use Rattle.ngc_machine_maker.specs.InFile.{IsAxisInFile, AreInFile, AreStepsWithin}
 use Rattle.ngc_machine_maker.specs.Numbers.{numbers_by}
 use Rattle.ngc_machine_maker.specs.Places.{low_of, high_of, coordinate}
-use Rattle.ngc_machine_maker.specs.Ranges.{IsTravel, IsStop, IsScale, AreAllRates}
+use Rattle.ngc_machine_maker.specs.Ranges.{IsTravel, IsStop, IsScale, AreAllRates, IsRing}
 use Rattle.ngc_machine_maker.specs.Safe.{IsNoFarther, AreNoFarther, AreSafe}
 
 -- no farther from zero than the travel is long
@@ -93,8 +93,9 @@ axis_in_file scale zero travel start home28 home30 m t s a b =
       home30_to = place_to scale zero travel home30 bb;
     }
 
-pub numbers_in_file : (f : Figures) (scale : Scale) (rates : Rates) (steps : Steps) → IsScale scale → AreAllRates rates → AreStepsWithin scale steps → AreInFile (numbers_by f scale rates steps)
-numbers_in_file f scale rates steps s r w = record {
+pub numbers_in_file : (f : Figures) (scale : Scale) (rates : Rates) (steps : Steps) (ring : Option ℕ) → IsScale scale → AreAllRates rates → AreStepsWithin scale steps
+    → IfSome ring IsRing → AreInFile (numbers_by f scale rates steps ring)
+numbers_in_file f scale rates steps ring s r w i = record {
   least_step = s.least;
   greatest_step = s.greatest;
   ticks_per_second = r.ticks;
@@ -104,6 +105,7 @@ numbers_in_file f scale rates steps s r w = record {
   turn = r.turn;
   axis_rate = r.axis_rate;
   jump = r.jump;
+  ring = i;
   places = record {
     x = axis_in_file scale f.zero.x steps.travel.x steps.start.x steps.home28.x steps.home30.x s w.travel.x w.start.x w.home28.x w.home30.x;
     y = axis_in_file scale f.zero.y steps.travel.y steps.start.y steps.home28.y steps.home30.y s w.travel.y w.start.y w.home28.y w.home30.y;
@@ -114,9 +116,10 @@ numbers_in_file f scale rates steps s r w = record {
 abbrev scale_with : ℕ → ℕ → Scale
 scale_with steps step = record { steps = steps; step = step }
 
-pub numbers_as_asked : (f : Figures) (scale : Scale) (rates : Rates) (steps : Steps) → scale.steps ≡ f.steps.millionths → AreSafe scale rates f → AreNoFarther scale steps.travel f.travel → IsNoMoreThanAsked (numbers_by f scale rates steps) f
-numbers_as_asked f scale rates steps same r w =
-    let own : scale ≡ scale_in (numbers_by f scale rates steps) f = ap (λ (n : ℕ). scale_with n scale.step) same in
+pub numbers_as_asked : (f : Figures) (scale : Scale) (rates : Rates) (steps : Steps) (ring : Option ℕ) → scale.steps ≡ f.steps.millionths → AreSafe scale rates f
+    → AreNoFarther scale steps.travel f.travel → IsNoMoreThanAsked (numbers_by f scale rates steps ring) f
+numbers_as_asked f scale rates steps ring same r w =
+    let own : scale ≡ scale_in (numbers_by f scale rates steps ring) f = ap (λ (n : ℕ). scale_with n scale.step) same in
     record {
       rates = subst (λ (s : Scale). AreSafe s rates f) own r;
       x = subst (λ (s : Scale). IsTravelWithin s (low_of scale f.zero.x steps.travel.x) (high_of scale f.zero.x steps.travel.x) f.travel.x) own (travel_within scale f.zero.x steps.travel.x f.travel.x w.x);

@@ -1,7 +1,7 @@
 -- What may be chosen beside the figures of a machine.
 use Rattle.std.specs.Borrow.{Bor}
 use Rattle.std.specs.Prelude.{ℕ, ◌==◌, List, drop, Option, Some, None, Result, Ok, option_and_then}
-use Rattle.std.specs.Prelude.{if◌then◌else◌}
+use Rattle.std.specs.Prelude.{◌||◌, if◌then◌else◌}
 use Rattle.ngc_machine_maker.specs.declared.choices.Choices.{Choices}
 use Rattle.ngc_machine_maker.specs.declared.figures.Acceleration.{Acceleration}
 use Rattle.ngc_machine_maker.specs.declared.figures.End.{End}
@@ -45,6 +45,16 @@ ticks_in text = read_by fields.Ticks some_ticks (number_in 0 text)
 abbrev pub ticks_by : Option ℕ → Option (Bor (List ℕ)) → Result (Option ℕ) Refusal
 ticks_by otherwise None = Ok otherwise
 ticks_by otherwise (Some text) = ticks_in text.now
+
+abbrev pub some_commands : ℕ → Option ℕ
+some_commands n = Some n
+
+abbrev pub ring_in : List ℕ → Result (Option ℕ) Refusal
+ring_in text = read_by fields.Ring some_commands (number_in 0 text)
+
+abbrev pub ring_by : Option ℕ → Option (Bor (List ℕ)) → Result (Option ℕ) Refusal
+ring_by otherwise None = Ok otherwise
+ring_by otherwise (Some text) = ring_in text.now
 
 -- ---- places, by their coordinates in millimetres: where zero is at the high end of an axis, its
 -- other coordinates have a minus sign
@@ -90,6 +100,7 @@ chosen f choices =
     and_then (speed_by fields.Jump f.jump choices.jump) (λ jump.
     and_then (arcs_by f.arcs choices.arcs) (λ arcs.
     and_then (ticks_by f.ticks choices.ticks) (λ ticks.
+    and_then (ring_by f.ring choices.ring) (λ ring.
     and_then (start_by f.zero f.start choices.start) (λ start.
     and_then (home_by f.zero stops.Home28 f.home28 choices.home28) (λ home28.
     and_then (home_by f.zero stops.Home30 f.home30 choices.home30) (λ home30.
@@ -102,8 +113,10 @@ chosen f choices =
       jump = jump;
       arcs = arcs;
       ticks = ticks;
+      ring = ring;
+      arc_feed = f.arc_feed || choices.arc_feed;
       zero = f.zero;
       start = start;
       home28 = home28;
       home30 = home30;
-    }))))))))
+    })))))))))

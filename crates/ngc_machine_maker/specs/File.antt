@@ -1,5 +1,6 @@
 -- A machine file, line by line.
-use Rattle.std.specs.Prelude.{ℕ, ℤ, List, [], ◌++◌, codes, decimal, Bool, if◌then◌else◌}
+use Rattle.std.specs.Prelude.{ℕ, ℤ, List, [], ◌++◌, codes, decimal, Bool, Option, Some, None}
+use Rattle.std.specs.Prelude.{if◌then◌else◌}
 use Rattle.ngc_text.specs.Millimetres.{size_text}
 use Rattle.ngc_machine_maker.specs.declared.figures.Figures.{Figures}
 use Rattle.ngc_machine_maker.specs.declared.figures.PerAxis.{PerAxis}
@@ -56,6 +57,18 @@ acceleration_lines n =
     line_text (codes "change") (values.Number n.change) (remarks.Acceleration (acceleration n))
     ++ line_text (codes "turn") (values.Number n.turn) (remarks.Arcs (arc_acceleration n))
 
+-- keys that are written only where they are asked for
+abbrev pub ring_line : Option ℕ → List ℕ
+ring_line None = []
+ring_line (Some ring) = line_text (codes "ring") (values.Number ring) remarks.Ring
+
+abbrev pub arc_feed_line : Bool → List ℕ
+arc_feed_line arc_feed =
+    if arc_feed then line_text (codes "arc_feed") (values.Number 1) remarks.ArcFeed else []
+
+unfoldable pub asked_lines : MachineNumbers → List ℕ
+asked_lines n = ring_line n.ring ++ arc_feed_line n.arc_feed
+
 abbrev pub place_line : List ℕ → PerAxis ℤ → List ℕ
 place_line key place = line_text key (values.Place place) (remarks.Place place)
 
@@ -67,7 +80,7 @@ place_lines n = place_line (codes "low") n.low ++ place_line (codes "high") n.hi
 -- the whole file
 abbrev pub file_text : MachineNumbers → Figures → List ℕ
 file_text n f = heading ++ scale_after (codes "# ") n f ++ step_lines n ++ speed_lines n
-    ++ acceleration_lines n ++ place_lines n
+    ++ acceleration_lines n ++ asked_lines n ++ place_lines n
 
 -- the notes beside it
 abbrev pub notes_text : MachineNumbers → Figures → List ℕ

@@ -1,9 +1,9 @@
 -- The numbers that a machine file may have, as docs/FORMATS.md says.
-use Rattle.std.specs.Prelude.{ℕ, ◌≤◌, ◌%◌, ◌≡◌, ℤ, ◌≤ℤ◌, unsigned_abs}
+use Rattle.std.specs.Prelude.{ℕ, ◌≤◌, ◌%◌, ◌≡◌, ℤ, ◌≤ℤ◌, unsigned_abs, IfSome}
 use Rattle.ngc_machine_maker.specs.declared.numbers.MachineNumbers.{MachineNumbers}
 use Rattle.ngc_machine_maker.specs.declared.numbers.Steps.{Steps}
 use Rattle.ngc_machine_maker.specs.declared.scale.Scale.{Scale}
-use Rattle.ngc_machine_maker.specs.Ranges.{IsRate, AreRates, IsTurn, AreTravels, AreStops}
+use Rattle.ngc_machine_maker.specs.Ranges.{IsRate, AreRates, IsTurn, AreTravels, AreStops, IsRing}
 
 -- the travel of an axis is within 1,000 mm of zero; the start is in it, a whole number of steps
 -- from zero, and so are the home positions
@@ -33,6 +33,7 @@ pub record AreInFile (n : MachineNumbers) : Type 0 where
   pub turn : IsTurn n.turn
   pub axis_rate : AreRates n.axis_rate
   pub jump : n.jump ≤ 1000000
+  pub ring : IfSome n.ring IsRing
   pub places : ArePlacesInFile n
 
 -- steps of which such places are made

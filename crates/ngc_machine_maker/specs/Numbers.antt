@@ -1,10 +1,11 @@
 -- The numbers of a machine file, from the figures of a machine.
-use Rattle.std.specs.Prelude.{Result, Ok}
+use Rattle.std.specs.Prelude.{ℕ, ◌||◌, nat_lt, Option, Some, None, Result, Ok, Err, if◌then◌else◌}
 use Rattle.ngc_machine_maker.specs.declared.figures.Figures.{Figures}
 use Rattle.ngc_machine_maker.specs.declared.numbers.MachineNumbers.{MachineNumbers}
 use Rattle.ngc_machine_maker.specs.declared.numbers.Steps.{Steps}
 use Rattle.ngc_machine_maker.specs.declared.rates.Rates.{Rates}
 use Rattle.ngc_machine_maker.specs.declared.refusal.Refusal.{Refusal}
+use Rattle.ngc_machine_maker.specs.declared.refusal.Refusal.TheVariants as refusals
 use Rattle.ngc_machine_maker.specs.declared.refusal.Stop.TheVariants as stops
 use Rattle.ngc_machine_maker.specs.declared.scale.Scale.{Scale}
 use Rattle.ngc_machine_maker.specs.Formulas.{and_then, scale_of, rates_of}
@@ -20,8 +21,14 @@ placed scale f =
     and_then (stops_by scale travel f.travel stops.Home30 start f.home30) (λ home30.
     Ok (record { travel = travel; start = start; home28 = home28; home30 = home30 })))))
 
-abbrev pub numbers_by : Figures → Scale → Rates → Steps → MachineNumbers
-numbers_by f scale rates steps =
+-- a ring is from 16 to 1,024 commands, where one is asked for
+abbrev pub ring_of : Option ℕ → Result (Option ℕ) Refusal
+ring_of None = Ok None
+ring_of (Some ring) =
+    if nat_lt ring 16 || nat_lt 1024 ring then Err refusals.Ring else Ok (Some ring)
+
+abbrev pub numbers_by : Figures → Scale → Rates → Steps → Option ℕ → MachineNumbers
+numbers_by f scale rates steps ring =
     record {
       step = scale.step;
       ticks_per_second = rates.ticks;
@@ -31,6 +38,8 @@ numbers_by f scale rates steps =
       turn = rates.turn;
       axis_rate = rates.axis_rate;
       jump = rates.jump;
+      ring = ring;
+      arc_feed = f.arc_feed;
       low = lows_of scale f.zero steps.travel;
       high = highs_of scale f.zero steps.travel;
       start = place_of scale f.zero steps.start;
@@ -44,4 +53,5 @@ numbers_of f =
     and_then (scale_of f.steps) (λ scale.
     and_then (rates_of scale f) (λ rates.
     and_then (placed scale f) (λ steps.
-    Ok (numbers_by f scale rates steps))))
+    and_then (ring_of f.ring) (λ ring.
+    Ok (numbers_by f scale rates steps ring)))))

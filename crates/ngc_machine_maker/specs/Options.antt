@@ -1,7 +1,7 @@
 -- The figures that the texts of options give.
 use Rattle.std.specs.Borrow.{Bor}
 use Rattle.std.specs.Prelude.{ℕ, ◌*◌, nat_lt, List, codes, bytes_eq, Option, Some, None, Result}
-use Rattle.std.specs.Prelude.{Ok, Err, if◌then◌else◌}
+use Rattle.std.specs.Prelude.{Ok, Err, false, if◌then◌else◌}
 use Rattle.ngc_machine_maker.specs.declared.figures.Acceleration.{Acceleration}
 use Rattle.ngc_machine_maker.specs.declared.figures.End.{End}
 use Rattle.ngc_machine_maker.specs.declared.figures.End.TheVariants as ends
@@ -100,6 +100,8 @@ figures_by steps travel feed acceleration zero =
       jump = speed_of 0;
       arcs = None;
       ticks = None;
+      ring = None;
+      arc_feed = false;
       zero = zero;
       start = same_for_all (length_of 0);
       home28 = None;

@@ -36,6 +36,11 @@ pub record AreAllRates (rates : Rates) : Type 0 where
   pub turn : IsTurn rates.turn
   pub jump : rates.jump ≤ 1000000
 
+-- how many commands are loaded and not done at most
+pub record IsRing (ring : ℕ) : Type 0 where
+  pub least : 16 ≤ ring
+  pub greatest : ring ≤ 1024
+
 -- a travel in steps: at least one, and at most 1,000 mm
 pub record IsTravel (scale : Scale) (steps : ℕ) : Type 0 where
   pub some : 1 ≤ steps

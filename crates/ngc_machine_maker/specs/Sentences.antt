@@ -35,6 +35,7 @@ field_text fields.Jump = codes "--jump is not a speed in mm/s, with at most thre
 field_text fields.Arcs = codes
     "--turn is not a number in mm/s^2, with at most three decimals, as 30"
 field_text fields.Ticks = codes "--ticks is not a whole number, as 40000"
+field_text fields.Ring = codes "--ring is not a whole number, as 64"
 field_text (fields.Stop stop) = codes "--" ++ stop_text stop
     ++ codes " is not three coordinates in mm, as 0,0,-1: below zero where zero is the high end"
 
@@ -44,6 +45,8 @@ refusal_text refusals.Step = codes
     "a step is not from 500 to 50000 nm: give from 20 to 2000 steps a mm"
 refusal_text refusals.Ticks = codes
     "the ticks a second are not from 1 to 1000000: give a number between"
+refusal_text refusals.Ring = codes
+    "the ring is not from 16 to 1024 commands: give a number between"
 refusal_text (refusals.SlowFeed axis) = axis_text axis
     ++ codes " has less than a millionth of a step in a tick: give a greater feed or fewer ticks"
 refusal_text (refusals.FastFeed axis) = axis_text axis

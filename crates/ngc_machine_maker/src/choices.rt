@@ -20,6 +20,11 @@ pub struct Choices<'a> {
     pub arcs: Option<&'a [u8]>,
     /// Ticks a second. `None`: about two for each step of the fastest axis.
     pub ticks: Option<&'a [u8]>,
+    /// How many commands are loaded and not done at most, 16 to 1,024. `None`: the file has no such
+    /// key, which stands for 16.
+    pub ring: Option<&'a [u8]>,
+    /// Whether arcs run at their feed at every place.
+    pub arc_feed: bool,
     /// The coordinates of the start in millimetres, as `0,0,-1`.
     pub start: Option<&'a [u8]>,
     /// Those of the place where `G28` goes. `None`: the start.
@@ -86,6 +91,24 @@ fn ticks_by(otherwise: Option<u32>, text: Option<&[u8]>) -> Result<Option<u32>, 
     match text {
         None => Ok(otherwise),
         Some(text) => ticks_in(text),
+    }
+}
+
+fn ring_in(text: &[u8]) -> Result<Option<u32>, Refusal>
+    ensures { result ≡ spec.ring_in text.now }
+{
+    match number_in(text, 0) {
+        None => Err(Refusal::Unread(Field::Ring)),
+        Some(ring) => Ok(Some(ring)),
+    }
+}
+
+fn ring_by(otherwise: Option<u32>, text: Option<&[u8]>) -> Result<Option<u32>, Refusal>
+    ensures { result ≡ spec.ring_by otherwise text.entry }
+{
+    match text {
+        None => Ok(otherwise),
+        Some(text) => ring_in(text),
     }
 }
 
@@ -186,6 +209,7 @@ impl Figures {
         let jump = speed_by(Field::Jump, self.jump, choices.jump)?;
         let arcs = arcs_by(self.arcs, choices.arcs)?;
         let ticks = ticks_by(self.ticks, choices.ticks)?;
+        let ring = ring_by(self.ring, choices.ring)?;
         let start = start_by(&self.zero, self.start, choices.start)?;
         let home28 = home_by(&self.zero, Stop::Home28, self.home28, choices.home28)?;
         let home30 = home_by(&self.zero, Stop::Home30, self.home30, choices.home30)?;
@@ -198,6 +222,8 @@ impl Figures {
             jump,
             arcs,
             ticks,
+            ring,
+            arc_feed: self.arc_feed || choices.arc_feed,
             zero: self.zero,
             start,
             home28,

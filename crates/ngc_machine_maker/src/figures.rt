@@ -69,6 +69,10 @@ pub struct Figures {
     pub arcs: Option<Acceleration>,
     /// Ticks a second. `None`: about two for each step of the fastest axis.
     pub ticks: Option<u32>,
+    /// How many commands are loaded and not done at most. `None`: the file has no such key.
+    pub ring: Option<u32>,
+    /// Whether arcs run at their feed at every place.
+    pub arc_feed: bool,
     pub zero: PerAxis<End>,
     /// Where the axes are when a program starts.
     pub start: PerAxis<Length>,

@@ -9,7 +9,8 @@ ghost use Rattle.ngc_machine_maker.specs.Asked.{scale_in};
 ghost use Rattle.ngc_machine_maker.specs.File.{heading, direction_text, steps_text, errors_text};
 ghost use Rattle.ngc_machine_maker.specs.File.{scale_text, scale_after, step_lines, rate_line};
 ghost use Rattle.ngc_machine_maker.specs.File.{speed_lines, acceleration_lines, place_line};
-ghost use Rattle.ngc_machine_maker.specs.File.{place_lines, file_text, notes_text};
+ghost use Rattle.ngc_machine_maker.specs.File.{ring_line, arc_feed_line, asked_lines, place_lines};
+ghost use Rattle.ngc_machine_maker.specs.File.{file_text, notes_text};
 ghost use Rattle.ngc_machine_maker.specs.InFile.{AreInFile};
 ghost use Rattle.ngc_machine_maker.specs.Ranges.{IsScale};
 ghost use Rattle.ngc_machine_maker.specs.Texts.{axes_text};
@@ -175,6 +176,38 @@ fn add_acceleration_lines(chunk: &mut Chunk, numbers: &MachineNumbers)
     );
 }
 
+fn add_ring(chunk: &mut Chunk, ring: Option<u32>)
+    requires { length chunk.old + 330 ≤ CHUNK_SIZE }
+    ensures text { chunk.new ≡ chunk.old ++ ring_line ring }
+    ensures short { length chunk.new ≤ length chunk.old + 330 }
+{
+    if let Some(commands) = ring {
+        let value = Value::Number(u64::from(commands));
+        add_line(chunk, b"ring", value, Remark::Ring);
+    }
+}
+
+fn add_arc_feed(chunk: &mut Chunk, arc_feed: bool)
+    requires { length chunk.old + 330 ≤ CHUNK_SIZE }
+    ensures text { chunk.new ≡ chunk.old ++ arc_feed_line arc_feed }
+    ensures short { length chunk.new ≤ length chunk.old + 330 }
+{
+    if arc_feed {
+        add_line(chunk, b"arc_feed", Value::Number(1), Remark::ArcFeed);
+    }
+}
+
+// Adds the keys that are written only where they are asked for.
+#[tactic(auto, unfolding(crate::specs::File::asked_lines))]
+fn add_asked_lines(chunk: &mut Chunk, numbers: &MachineNumbers)
+    requires { length chunk.old + 660 ≤ CHUNK_SIZE }
+    ensures text { chunk.new ≡ chunk.old ++ asked_lines numbers.now }
+    ensures short { length chunk.new ≤ length chunk.old + 660 }
+{
+    add_ring(chunk, numbers.ring);
+    add_arc_feed(chunk, numbers.arc_feed);
+}
+
 // Adds the line of a key that is a place.
 fn add_place_line(chunk: &mut Chunk, key: &[u8], place: &PerAxis<i64>)
     requires room { length chunk.old + 330 ≤ CHUNK_SIZE }
@@ -199,7 +232,7 @@ fn add_place_lines(chunk: &mut Chunk, numbers: &MachineNumbers)
 }
 
 fn add_file(chunk: &mut Chunk, numbers: &MachineNumbers, figures: &Figures)
-    requires room { length chunk.old + 6000 ≤ CHUNK_SIZE }
+    requires room { length chunk.old + 6100 ≤ CHUNK_SIZE }
     requires numbers { AreInFile numbers.now }
     requires scale { IsScale (scale_in numbers.now figures.now) }
     ensures { chunk.new ≡ chunk.old ++ file_text numbers.now figures.now }
@@ -209,6 +242,7 @@ fn add_file(chunk: &mut Chunk, numbers: &MachineNumbers, figures: &Figures)
     add_step_lines(chunk, numbers);
     add_speed_lines(chunk, numbers);
     add_acceleration_lines(chunk, numbers);
+    add_asked_lines(chunk, numbers);
     add_place_lines(chunk, numbers);
 }
 

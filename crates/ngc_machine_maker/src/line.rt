@@ -32,6 +32,8 @@ pub(crate) enum Remark {
     Acceleration(u128),
     /// The greatest acceleration towards the centre of an arc, in millimetres per second squared.
     Arcs(u128),
+    Ring,
+    ArcFeed,
     /// A place, in nanometres.
     Place(PerAxis<i64>),
 }
@@ -158,6 +160,8 @@ fn add_remark(chunk: &mut Chunk, remark: &Remark)
         Remark::Speeds(speeds) => add_speeds(chunk, speeds),
         Remark::Acceleration(number) => add_rounded(chunk, *number, b" mm/s^2"),
         Remark::Arcs(number) => add_rounded(chunk, *number, b" mm/s^2 on arcs at most"),
+        Remark::Ring => chunk.add_text(b"how many commands are loaded and not done at most"),
+        Remark::ArcFeed => chunk.add_text(b"arcs run at their feed at every place"),
         Remark::Place(place) => add_coordinates(chunk, place),
     }
 }

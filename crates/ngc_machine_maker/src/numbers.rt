@@ -1,7 +1,7 @@
 //! The numbers of a machine file.
-ghost use Rattle.std.specs.Prelude.{◌≡◌, IfOk};
-ghost use Rattle.ngc_machine_maker.specs.Numbers.{numbers_of, placed, numbers_by};
-ghost use Rattle.ngc_machine_maker.specs.Ranges.{IsScale, AreAllRates, AreTravels, AreStops};
+ghost use Rattle.std.specs.Prelude.{◌≡◌, IfOk, IfSome};
+ghost use Rattle.ngc_machine_maker.specs.Numbers.{numbers_of, placed, numbers_by, ring_of};
+ghost use Rattle.ngc_machine_maker.specs.Ranges.{IsScale, AreAllRates, AreTravels, AreStops, IsRing};
 ghost use Rattle.ngc_machine_maker.specs.InFile.{AreInFile, ArePlacesInFile, AreStepsWithin};
 ghost use Rattle.ngc_machine_maker.specs.Asked.{IsNoMoreThanAsked, scale_in};
 ghost use Rattle.ngc_machine_maker.specs.Safe.{AreNoFarther};
@@ -24,6 +24,10 @@ pub struct MachineNumbers {
     pub turn: u64,
     pub axis_rate: PerAxis<u32>,
     pub jump: u32,
+    /// `None`: the file has no such key.
+    pub ring: Option<u32>,
+    /// Whether the file has this key, and there 1.
+    pub arc_feed: bool,
     pub low: PerAxis<i64>,
     pub high: PerAxis<i64>,
     pub start: PerAxis<i64>,
@@ -73,6 +77,17 @@ fn steps_of(scale: &Scale, figures: &Figures) -> Result<Steps, Refusal>
     })
 }
 
+fn ring_of(ring: Option<u32>) -> Result<Option<u32>, Refusal>
+    ensures value { result ≡ ring_of ring }
+    ensures range { IfOk result (λ ring. IfSome ring IsRing) }
+{
+    match ring {
+        None => Ok(None),
+        Some(commands) if commands < 16 || commands > 1_024 => Err(Refusal::Ring),
+        Some(commands) => Ok(Some(commands)),
+    }
+}
+
 /// Returns the numbers of a machine file for some figures, or the first refusal. The file's step is
 /// the motor's to the nearest nanometre. Rates, accelerations and the travel are rounded down, so
 /// that neither by the file's step nor by the motor's is one more than the figures say.
@@ -85,6 +100,7 @@ pub fn numbers_of(figures: &Figures) -> Result<MachineNumbers, Refusal>
     let scale = Scale::of(figures.steps)?;
     let rates = rates_of(&scale, figures)?;
     let steps = steps_of(&scale, figures)?;
+    let ring = ring_of(figures.ring)?;
     let zero = &figures.zero;
     Ok(MachineNumbers {
         step: scale.step,
@@ -95,6 +111,8 @@ pub fn numbers_of(figures: &Figures) -> Result<MachineNumbers, Refusal>
         turn: rates.turn,
         axis_rate: rates.axis_rate,
         jump: rates.jump,
+        ring,
+        arc_feed: figures.arc_feed,
         low: lows_of(&scale, zero, &steps.travel),
         high: highs_of(&scale, zero, &steps.travel),
         start: place_of(&scale, zero, &steps.travel, &steps.start),

@@ -164,6 +164,8 @@ pub(crate) fn figures_by(
         jump: speed_of(0),
         arcs: None,
         ticks: None,
+        ring: None,
+        arc_feed: false,
         zero,
         start: PerAxis {
             x: length_of(0),

@@ -22,6 +22,7 @@ pub enum Field {
     Jump,
     Arcs,
     Ticks,
+    Ring,
     Stop(Stop),
 }
 
@@ -34,6 +35,8 @@ pub enum Refusal {
     Step,
     /// The ticks a second are not from 1 to 1,000,000.
     Ticks,
+    /// The ring is not from 16 to 1,024 commands.
+    Ring,
     /// The axis has less than a millionth of a step in a tick.
     SlowFeed(Axis),
     /// The axis has more than a step in a tick.

@@ -80,6 +80,7 @@ fn add_field(chunk: &mut Chunk, field: Field)
             chunk.add_text(b"--turn is not a number in mm/s^2, with at most three decimals, as 30")
         }
         Field::Ticks => chunk.add_text(b"--ticks is not a whole number, as 40000"),
+        Field::Ring => chunk.add_text(b"--ring is not a whole number, as 64"),
         Field::Stop(stop) => add_named(
             chunk,
             b"--",
@@ -139,6 +140,9 @@ fn add_refusal(chunk: &mut Chunk, refusal: Refusal)
         Refusal::Ticks => chunk.add_text(
             b"the ticks a second are not from 1 to 1000000: give a number between",
         ),
+        Refusal::Ring => {
+            chunk.add_text(b"the ring is not from 16 to 1024 commands: give a number between")
+        }
         Refusal::SlowFeed(axis) => add_named(
             chunk,
             b"",
