@@ -1,4 +1,4 @@
--- How far shapes are drawn, where others come behind them.
+-- How far shapes are drawn, where others follow them.
 pub mod Ahead
 -- A curve is halved.
 pub mod Curves

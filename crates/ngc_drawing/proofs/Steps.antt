@@ -1,12 +1,16 @@
 -- What is still to be drawn, one step further.
 use Rattle.std.proofs.Common.{◌≡◌, ℕ, ◌+◌, ◌<◌, List, ◌++◌, length, get_or, drop, Option, ap, sym, ◌∙◌}
 use Rattle.std.proofs.lemmas.List.{drop_more}
+use Rattle.ngc_fixed_length.specs.declared.points.Point3.{Point3}
 use Rattle.ngc_machine.specs.declared.machine.Fixture.{Fixture}
 use Rattle.ngc_machine.specs.declared.tools.Tool.{Tool}
 use Rattle.ngc_commands.specs.declared.command.Command.{Command}
-use Rattle.ngc_drawing.specs.Pictures.{fixture, fixtures_from, tool_row, tool_rows}
+use Rattle.ngc_drawing.specs.Holes.{drilled, ended, holes_from}
+use Rattle.ngc_drawing.specs.Pictures.{fixture, fixtures_from, origin, origins_from, tool_row, tool_rows}
 use Rattle.ngc_drawing.specs.Strokes.{strokes_of, strokes_from, after}
+use Rattle.ngc_drawing.specs.declared.holes.Drilling.{Drilling}
 use Rattle.ngc_drawing.specs.declared.pen.Pen.{Pen}
+use Rattle.ngc_drawing.specs.declared.spot.Rectangle.{Rectangle}
 use Rattle.ngc_drawing.specs.declared.view.View.{View}
 
 pub next_fixture : (view : View) (fs : List Fixture) (i : ℕ) (f : Fixture) → i < length fs → f ≡ get_or fs i f
@@ -19,8 +23,19 @@ pub next_tool : (tools : List (Option Tool)) (i : ℕ) (t : Option Tool) → i <
 next_tool tools i t inside found =
     ap (tool_rows i) (drop_more tools i t inside) ∙ ap (λ (x : Option Tool). tool_row i x ++ tool_rows (i + 1) (drop (i + 1) tools)) (sym found)
 
-pub next_command : (view : View) (tools : List (Option Tool)) (pen : Pen) (cs : List Command) (i : ℕ) (c : Command) → i < length cs → c ≡ get_or cs i c
-    → strokes_from view tools pen (drop i cs) ≡ strokes_of view pen c.action ++ strokes_from view tools (after view tools pen c.action) (drop (i + 1) cs)
-next_command view tools pen cs i c inside found =
-    ap (strokes_from view tools pen) (drop_more cs i c inside)
-    ∙ ap (λ (x : Command). strokes_of view pen x.action ++ strokes_from view tools (after view tools pen x.action) (drop (i + 1) cs)) (sym found)
+pub next_command : (tools : List (Option Tool)) (pen : Pen) (cs : List Command) (i : ℕ) (c : Command) → i < length cs → c ≡ get_or cs i c
+    → strokes_from tools pen (drop i cs) ≡ strokes_of pen c.action ++ strokes_from tools (after tools pen c.action) (drop (i + 1) cs)
+next_command tools pen cs i c inside found =
+    ap (strokes_from tools pen) (drop_more cs i c inside)
+    ∙ ap (λ (x : Command). strokes_of pen x.action ++ strokes_from tools (after tools pen x.action) (drop (i + 1) cs)) (sym found)
+
+pub next_drilled : (d : Drilling) (cs : List Command) (i : ℕ) (c : Command) → i < length cs → c ≡ get_or cs i c
+    → holes_from d (drop i cs) ≡ ended d c.action ++ holes_from (drilled d c.action) (drop (i + 1) cs)
+next_drilled d cs i c inside found =
+    ap (holes_from d) (drop_more cs i c inside) ∙ ap (λ (x : Command). ended d x.action ++ holes_from (drilled d x.action) (drop (i + 1) cs)) (sym found)
+
+pub next_origin : (view : View) (area : Rectangle) (ps : List Point3) (i : ℕ) (p : Point3) → i < length ps → p ≡ get_or ps i p
+    → origins_from view area i (drop i ps) ≡ origin view area i p ++ origins_from view area (i + 1) (drop (i + 1) ps)
+next_origin view area ps i p inside found =
+    ap (origins_from view area i) (drop_more ps i p inside)
+    ∙ ap (λ (x : Point3). origin view area i x ++ origins_from view area (i + 1) (drop (i + 1) ps)) (sym found)

@@ -70,7 +70,20 @@ all_filled view step used s tool solids given before now i is all same at fillin
     ∙ ap (λ (l : List Solid). before ++ map (body view) l) (sym filling)
     ∙ ap (λ (t : Option Tool). before ++ map (body view) (bodies t (span step s.bounds))) at
 
--- what stands at no place of a list
+-- and those that it fills at a place
+abbrev pub outlined : View → Solid → Shape
+outlined view b = shapes.FaultTool (rectangle view b.low b.high)
+
+pub all_outlined : (view : View) (filling : List Solid) (solids given : List solid.Solid) (before now : List Shape) (i : ℕ)
+    → now ≡ before ++ map (λ (b : solid.Solid). outlined view (solid_of b)) (take i given) → length given ≤ i → given ≡ solids
+    → filling ≡ map solid_of solids → now ≡ before ++ map (outlined view) filling
+all_outlined view filling solids given before now i is all same fills =
+    is
+    ∙ ap (λ (l : List solid.Solid). before ++ map (λ (b : solid.Solid). outlined view (solid_of b)) l) (take_all i given all ∙ same)
+    ∙ ap (λ (l : List Shape). before ++ l) (map_twice (outlined view) solid_of solids)
+    ∙ ap (λ (l : List Solid). before ++ map (outlined view) l) (sym fills)
+
+-- what is at no place of a list
 abbrev pub no_sweep : Sweep
 no_sweep =
     record { rank = 0; count = 0; bounds = record { low = record { x = pos 0; y = pos 0; z = pos 0 }; high = record { x = pos 0; y = pos 0; z = pos 0 } } }

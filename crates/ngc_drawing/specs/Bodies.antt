@@ -38,7 +38,7 @@ boxes_from used rank (Move m ∷ actions) (entry ∷ entries) =
     map (sweep_of rank) entry.pieces ++ boxes_from used rank actions entries
 boxes_from used rank (_ ∷ actions) entries = boxes_from used rank actions entries
 
--- boxes that a view doesn't tell apart
+-- boxes that look the same in a view
 abbrev pub is_same_x : GridBox → GridBox → Bool
 is_same_x a b = int_eq a.low.x b.low.x && int_eq a.high.x b.high.x
 
@@ -53,7 +53,7 @@ are_seen_alike Top a b = is_same_x a b && is_same_y a b
 are_seen_alike Front a b = is_same_x a b && is_same_z a b
 are_seen_alike Side a b = is_same_y a b && is_same_z a b
 
--- a box is drawn with those before it that have its tool, where they are fewer than so many, or
+-- a box is drawn with those before it that have its tool, where they are fewer than `most`, or
 -- seen at its place
 abbrev pub takes : View → ℕ → Sweep → Sweep → Bool
 takes view most s next =
@@ -89,7 +89,7 @@ joined view most held [] = held_last held
 joined view most held (next ∷ boxes) =
     finished view most held next ++ joined view most (Some (held_with view most held next)) boxes
 
--- so many boxes are drawn as one: one up to 19,999 boxes, two up to 39,999, and so on
+-- how many boxes are drawn as one: one up to 19,999 boxes, two up to 39,999, and so on
 abbrev pub box_count : List Entry → ℕ
 box_count entries = sum_by (λ (e : Entry). length e.pieces) entries
 

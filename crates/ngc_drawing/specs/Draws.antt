@@ -5,7 +5,7 @@ use Rattle.ngc_certificate_text.specs.Collects.{Collects}
 use Rattle.ngc_drawing.specs.Spelling.{shapes_text}
 use Rattle.ngc_drawing.specs.declared.shape.Shape.{Shape}
 
--- the text of shapes comes behind what was collected; where a write fails, a beginning of both is
+-- the text of shapes follows what was collected; where a write fails, a prefix of both is
 -- written
 abbrev pub Draws : ℤ → Option (List ℕ) → Option (List ℕ) → List ℕ → List ℕ →
     Result (Unit {0}) WriteFault → List Shape → Type 0

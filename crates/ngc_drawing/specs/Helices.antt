@@ -70,7 +70,7 @@ halfway arc p q =
 abbrev pub middle : ArcShape → Point3
 middle arc = point_between arc arc.start arc.end (middle_direction arc)
 
--- the points behind p, up to q: the way is halved, and each half again, so many times
+-- the points after p, up to q: the way is halved, and each half again, n times
 abbrev pub curve : ℕ → ArcShape → Point3 → Point3 → List Point3
 curve zero arc p q = q ∷ []
 curve (suc n) arc p q = curve n arc p (halfway arc p q) ++ curve n arc (halfway arc p q) q

@@ -5,6 +5,7 @@ pub mod Units
 pub mod Helices
 pub mod Ways
 pub mod Strokes
+pub mod Holes
 pub mod Bodies
 pub mod Sweeping
 pub mod Spelling

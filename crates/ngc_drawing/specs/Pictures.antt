@@ -1,28 +1,40 @@
 -- What is drawn of a program on its machine. Our own.
-use Rattle.std.specs.Prelude.{ℕ, ◌+◌, ◌*◌, min, nat_le, pos, ◌*ℤ◌, unsigned_abs, List, [], ◌∷◌}
-use Rattle.std.specs.Prelude.{◌++◌, length, map, drop, Option, Some, None, if◌then◌else◌}
+use Rattle.std.specs.Prelude.{ℕ, ◌+◌, ◌*◌, ℤ, min, nat_le, pos, ◌*ℤ◌, unsigned_abs, List, [], ◌∷◌}
+use Rattle.std.specs.Prelude.{◌++◌, length, map, drop, take, Option, Some, None, if◌then◌else◌}
+use Rattle.std.specs.Prelude.{Bool, ◌&&◌}
+use Rattle.std.specs.Ordering.{int_eq}
+use Rattle.ngc_fixed_length.specs.Boxes.{only}
+use Rattle.ngc_fixed_length.specs.Grid.{grid}
+use Rattle.ngc_fixed_length.specs.declared.points.Point3.{Point3}
 use Rattle.ngc_machine.specs.Machine.{MachineFile}
 use Rattle.ngc_machine.specs.declared.machine.Fixture.{Fixture}
 use Rattle.ngc_machine.specs.declared.parts.Part.{Part}
 use Rattle.ngc_machine.specs.declared.tools.Tool.{Tool}
 use Rattle.ngc_commands.specs.Movement.{end_of}
+use Rattle.ngc_commands.specs.Reached.{at_start, after_all}
 use Rattle.ngc_commands.specs.declared.command.Action.{Action}
 use Rattle.ngc_commands.specs.declared.command.Action.TheVariants.{Move}
 use Rattle.ngc_commands.specs.declared.command.Command.{Command}
 use Rattle.ngc_commands.specs.declared.movement.Way.{Way}
 use Rattle.ngc_certificate_text.specs.Certificate.{Entry}
+use Rattle.ngc_collision.specs.Body.{bodies, span}
 use Rattle.ngc_drawing.specs.Bodies.{sweeps, swept_from}
-use Rattle.ngc_drawing.specs.Sheets.{frame, unit_of, sheet}
+use Rattle.ngc_drawing.specs.Holes.{holes}
+use Rattle.ngc_drawing.specs.Sheets.{frame, is_in, is_within, unit_of, sheet, pane}
 use Rattle.ngc_drawing.specs.Spelling.{shapes_text}
 use Rattle.ngc_drawing.specs.Strokes.{stroke, strokes}
-use Rattle.ngc_drawing.specs.Tools.{used, number_of}
-use Rattle.ngc_drawing.specs.Views.{spot, rectangle, micrometres}
+use Rattle.ngc_drawing.specs.Tools.{used, number_of, eye_of}
+use Rattle.ngc_drawing.specs.Views.{spot, tip_spot, rectangle, micrometres}
+use Rattle.ngc_drawing.specs.declared.eye.Eye.{Eye}
+use Rattle.ngc_drawing.specs.declared.look.Look.{Look}
 use Rattle.ngc_drawing.specs.declared.refusal.Refusal.{Refusal}
 use Rattle.ngc_drawing.specs.declared.shape.Ink.TheVariants as inks
+use Rattle.ngc_drawing.specs.declared.shape.Mark.{Mark}
 use Rattle.ngc_drawing.specs.declared.shape.Mark.TheVariants as marks
 use Rattle.ngc_drawing.specs.declared.shape.Shape.{Shape}
 use Rattle.ngc_drawing.specs.declared.shape.Shape.TheVariants as shapes
 use Rattle.ngc_drawing.specs.declared.spot.Rectangle.{Rectangle}
+use Rattle.ngc_drawing.specs.declared.spot.Spot.{Spot}
 use Rattle.ngc_drawing.specs.declared.sweep.Sweep.{Sweep}
 use Rattle.ngc_drawing.specs.declared.view.View.{View}
 
@@ -35,21 +47,40 @@ abbrev pub fixtures_from : View → ℕ → List Fixture → List Shape
 fixtures_from view i [] = []
 fixtures_from view i (f ∷ fs) = fixture view i f ++ fixtures_from view (i + 1) fs
 
+-- a mark at a spot that the picture shows
+abbrev pub marked_in : Rectangle → Mark → Spot → List Shape
+marked_in area mark p = if is_in area p then shapes.Mark mark p ∷ [] else []
+
 -- where the machine starts, where its homes are, and what the axes are called
+abbrev pub places : View → MachineFile → Rectangle → List Shape
+places view machine area =
+    marked_in area marks.Start (spot view machine.start)
+    ++ marked_in area marks.Home (spot view machine.home28)
+    ++ marked_in area marks.SecondHome (spot view machine.home30)
+    ++ shapes.Mark (marks.Axes view) area.low ∷ []
+
+abbrev pub is_zero : Point3 → Bool
+is_zero p = int_eq p.x (pos 0) && (int_eq p.y (pos 0) && int_eq p.z (pos 0))
+
+-- the origin of the coordinate system with this number, from 0, unless it is that of the machine
+abbrev pub origin : View → Rectangle → ℕ → Point3 → List Shape
+origin view area i p = if is_zero p then [] else marked_in area (marks.Origin i) (spot view p)
+
+abbrev pub origins_from : View → Rectangle → ℕ → List Point3 → List Shape
+origins_from view area i [] = []
+origins_from view area i (p ∷ ps) = origin view area i p ++ origins_from view area (i + 1) ps
+
 abbrev pub marked : View → MachineFile → Rectangle → List Shape
 marked view machine area =
-    shapes.Mark marks.Start (spot view machine.start)
-    ∷ shapes.Mark marks.Home (spot view machine.home28) ∷
-    shapes.Mark marks.SecondHome (spot view machine.home30)
-    ∷ shapes.Mark (marks.Axes view) area.low ∷ []
+    places view machine area ++ origins_from view area 0 machine.origins
 
--- lengths that a scale has, in micrometres: 1, 2 and 5 with noughts behind
+-- lengths that a scale has, in micrometres: 1, 2 and 5 followed by zeros
 abbrev pub SCALES : List ℕ
 SCALES =
     50000000 ∷ 20000000 ∷ 10000000 ∷ 5000000 ∷ 2000000 ∷ 1000000 ∷ 500000 ∷ 200000 ∷ 100000 ∷ 50000
     ∷ 20000 ∷ 10000 ∷ 5000 ∷ 2000 ∷ 1000 ∷ []
 
--- the longest of at most so many micrometres, or the shortest
+-- the longest of at most `most` micrometres, or the shortest
 abbrev pub scale_in : ℕ → List ℕ → ℕ
 scale_in most [] = 1000
 scale_in most (n ∷ ns) = if nat_le n most then n else scale_in most ns
@@ -81,24 +112,49 @@ refused_fixture view fixtures None = []
 refused_fixture view fixtures (Some i) = first_red view (drop i fixtures)
 
 -- a way in red, with the fault's number at its end
-abbrev pub refused_way : View → ℕ → Way → List Shape
-refused_way view fault way = stroke view None inks.Fault way ++ shapes.PathEnd
-    ∷ shapes.FaultNumber (spot view (end_of way)) fault ∷ []
+abbrev pub refused_way : Eye → ℕ → Way → List Shape
+refused_way eye fault way = stroke eye None inks.Fault way ++ shapes.PathEnd
+    ∷ shapes.FaultNumber (tip_spot eye (end_of way)) fault ∷ []
 
 -- that of the first of these motions
-abbrev pub refused_action : View → ℕ → Action → List Shape
-refused_action view fault (Move m) = refused_way view fault m.way
-refused_action view fault _ = []
+abbrev pub refused_action : Eye → ℕ → Action → List Shape
+refused_action eye fault (Move m) = refused_way eye fault m.way
+refused_action eye fault _ = []
 
-abbrev pub first_refused : View → ℕ → List Command → List Shape
-first_refused view fault [] = []
-first_refused view fault (c ∷ cs) = refused_action view fault c.action
+abbrev pub first_refused : Eye → ℕ → List Command → List Shape
+first_refused eye fault [] = []
+first_refused eye fault (c ∷ cs) = refused_action eye fault c.action
+
+-- the tool that is mounted at a command
+abbrev pub tool_before : MachineFile → List Command → ℕ → Option Tool
+tool_before machine commands k = (after_all (at_start machine) (take k commands)).tool
+
+-- the boxes that a tool fills at a place, which is rounded to the grid; without a tool the place
+-- itself
+abbrev pub standing : View → ℤ → Option Tool → Point3 → List Shape
+standing view step tool p = map (λ b. shapes.FaultTool (rectangle view b.low b.high))
+    (bodies tool (span step (only (grid step p))))
+
+-- those at the end of the first of these motions
+abbrev pub outline : View → ℤ → Option Tool → Action → List Shape
+outline view step tool (Move m) = standing view step tool (end_of m.way)
+outline view step tool _ = []
+
+abbrev pub first_outline : View → ℤ → Option Tool → List Command → List Shape
+first_outline view step tool [] = []
+first_outline view step tool (c ∷ cs) = outline view step tool c.action
+
+-- the fixture, the tool at the end of the motion, and the motion, while this tool is mounted
+abbrev pub refused_by : View → MachineFile → List Command → Refusal → Option Tool → List Shape
+refused_by view machine commands r tool =
+    refused_fixture view machine.fixtures r.fixture
+    ++ first_outline view machine.step tool (drop r.command commands)
+    ++ first_refused (eye_of view tool) r.fault (drop r.command commands)
 
 abbrev pub refused : View → MachineFile → List Command → Option Refusal → List Shape
 refused view machine commands None = []
 refused view machine commands (Some r) =
-    refused_fixture view machine.fixtures r.fixture
-    ++ first_refused view r.fault (drop r.command commands)
+    refused_by view machine commands r (tool_before machine commands r.command)
 
 abbrev pub refusal_row : Option Refusal → List Shape
 refusal_row None = []
@@ -106,14 +162,20 @@ refusal_row (Some r) = shapes.FaultLine r.fault r.command ∷ []
 
 -- ---- the whole picture
 
--- how many rows the legend has; there is room for a thousand tools
+-- how many rows of tools and faults the legend has; there is space for a thousand tools
 abbrev pub rows : List (Option Tool) → ℕ
 rows tools = min (length tools) 1000 + 1
 
+-- the travel limits; where the picture shows a part of them alone, as a thin line, and that part
+abbrev pub travel_in : Rectangle → Rectangle → List Shape
+travel_in area travel =
+    if is_within area travel then shapes.Travel travel ∷ []
+    else shapes.Window (pane area) ∷ shapes.ThinTravel travel ∷ shapes.WindowEnd ∷ []
+
 abbrev pub opening : View → MachineFile → Rectangle → List (Option Tool) → List Shape
 opening view machine area tools =
-    shapes.Begin (sheet area (rows tools)) ∷ shapes.Lines
-    ∷ shapes.Travel (rectangle view machine.low machine.high) ∷ []
+    (shapes.Begin (sheet area (rows tools)) ∷ shapes.Lines ∷ [])
+    ++ travel_in area (rectangle view machine.low machine.high)
 
 abbrev pub scaled : Rectangle → List Shape
 scaled area =
@@ -127,24 +189,33 @@ ground view machine area tools swept =
     opening view machine area tools
     ++ (fixtures_from view 0 machine.fixtures ++ swept_from view machine.step tools None swept)
 
+-- the path and the holes that are drilled
+abbrev pub path : View → List (Option Tool) → List Command → List Shape
+path view tools commands = strokes view tools commands ++ holes view commands
+
 -- these, the path, the marks, what is refused, the scale and the legend
 abbrev pub picture_of : View → MachineFile → List Command → Option Refusal → Rectangle →
     List (Option Tool) → List Sweep → List Shape
 picture_of view machine commands refusal area tools swept =
-    ground view machine area tools swept ++ (strokes view tools commands ++
+    ground view machine area tools swept ++ (path view tools commands ++
     (marked view machine area
     ++ (refused view machine commands refusal ++ (scaled area ++ (tool_rows 0 tools ++
     (refusal_row refusal ++ shapes.End ∷ []))))))
 
 -- on the sheet that commands need
-abbrev pub text_of : View → MachineFile → List Command → Option Refusal → List (Option Tool) →
+abbrev pub text_of : Look → MachineFile → List Command → Option Refusal → List (Option Tool) →
     List Sweep → List ℕ
-text_of view machine commands refusal tools swept =
-    shapes_text (unit_of (frame view machine commands))
-    (picture_of view machine commands refusal (frame view machine commands) tools swept)
+text_of look machine commands refusal tools swept =
+    shapes_text (unit_of (frame look machine commands))
+    (picture_of look.view machine commands refusal (frame look machine commands) tools swept)
+
+-- the bodies over the boxes of a certificate's motions, if they are to be drawn
+abbrev pub shown_sweeps : Look → List (Option Tool) → List Command → List Entry → List Sweep
+shown_sweeps look tools commands entries =
+    if look.bodies then sweeps look.view tools commands entries else []
 
 -- the text of the picture of commands with the motions of a certificate, or with none
-abbrev pub picture_text : View → MachineFile → List Command → List Entry → Option Refusal → List ℕ
-picture_text view machine commands entries refusal =
-    text_of view machine commands refusal (used commands)
-    (sweeps view (used commands) commands entries)
+abbrev pub picture_text : Look → MachineFile → List Command → List Entry → Option Refusal → List ℕ
+picture_text look machine commands entries refusal =
+    text_of look machine commands refusal (used commands)
+    (shown_sweeps look (used commands) commands entries)

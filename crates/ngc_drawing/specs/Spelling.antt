@@ -1,5 +1,5 @@
 -- The text of what is drawn: SVG 1.1, in millimetres. Our own use of it.
-use Rattle.std.specs.Prelude.{ℕ, ◌+◌, ◌/◌, ◌%◌, ◌==◌, ℤ, pos, ◌-ℤ◌, ◌*ℤ◌, unsigned_abs, List, []}
+use Rattle.std.specs.Prelude.{ℕ, ◌+◌, ◌-◌, nat_lt, ◌/◌, ◌%◌, ◌==◌, ℤ, pos, ◌-ℤ◌, ◌*ℤ◌, unsigned_abs, List, []}
 use Rattle.std.specs.Prelude.{◌∷◌, ◌++◌, flat_map, codes, decimal, Bool, true, false, if◌then◌else◌}
 use Rattle.ngc_text.specs.Millimetres.{sign_text}
 use Rattle.ngc_drawing.specs.declared.view.View.{View}
@@ -12,6 +12,7 @@ use Rattle.ngc_drawing.specs.declared.shape.Mark.{Mark}
 use Rattle.ngc_drawing.specs.declared.shape.Mark.TheVariants as marks
 use Rattle.ngc_drawing.specs.declared.shape.Shape.{Shape}
 use Rattle.ngc_drawing.specs.declared.shape.Shape.TheVariants as shapes
+use Rattle.ngc_drawing.specs.declared.shape.Pane.{Pane}
 use Rattle.ngc_drawing.specs.declared.shape.Sheet.{Sheet}
 
 -- a point and three digits; 48 is the code of 0
@@ -68,6 +69,11 @@ axes_text Top = codes "X</text><text x=\"-7.2\" y=\"-3.7\" fill=\"#808080\" stro
 axes_text Front = codes "X</text><text x=\"-7.2\" y=\"-3.7\" fill=\"#808080\" stroke=\"none\">Z"
 axes_text Side = codes "Y</text><text x=\"-7.2\" y=\"-3.7\" fill=\"#808080\" stroke=\"none\">Z"
 
+-- the codes of the nine coordinate systems, G54 to G59 and G59.1 to G59.3, by their numbers from 0
+abbrev pub system_text : ℕ → List ℕ
+system_text i =
+    if nat_lt i 6 then codes "G" ++ decimal (54 + i) else codes "G59." ++ decimal (i - 5)
+
 unfoldable pub mark_text : Mark → List ℕ
 mark_text marks.Start =
     codes "<circle r=\".8\"/><text x=\"1\" y=\"-1\" fill=\"#808080\" stroke=\"none\">start</text>"
@@ -75,6 +81,10 @@ mark_text marks.Home =
     codes "<path d=\"M-1 -1L1 1M-1 1L1 -1\"/><text x=\"1\" y=\"2.4\" fill=\"#808080\" stroke=\"none\">G28</text>"
 mark_text marks.SecondHome =
     codes "<path d=\"M-1 0L0 -1L1 0L0 1Z\"/><text x=\"-1\" y=\"2.4\" text-anchor=\"end\" fill=\"#808080\" stroke=\"none\">G30</text>"
+mark_text (marks.Origin i) =
+    codes "<path d=\"M0 -3V0H3M-.5 -2L0 -3L.5 -2M2 -.5L3 0L2 .5\"/><text x=\"-.6\" y=\"2\" text-anchor=\"end\" fill=\"#808080\" stroke=\"none\">" ++
+    system_text i ++ codes "</text>"
+mark_text marks.Hole = codes "<circle r=\".6\"/><path d=\"M-1 0H1M0 -1V1\"/>"
 mark_text (marks.Axes view) =
     codes "<path d=\"M-6.5 -3V3H-1M-7.1 -1.6L-6.5 -3L-5.9 -1.6M-2.4 2.4L-1 3L-2.4 3.6\"/><text x=\"-.5\" y=\"3.7\" fill=\"#808080\" stroke=\"none\">" ++
     axes_text view ++ codes "</text>"
@@ -86,10 +96,18 @@ turn_text false = codes " 0 0 0 "
 abbrev pub begin_text : Sheet → List ℕ
 begin_text s =
     codes "<?xml version=\"1.0\" encoding=\"UTF-8\"?>\n<svg xmlns=\"http://www.w3.org/2000/svg\" version=\"1.1\" width=\"" ++
-    length_text s.width ++ codes "mm\" height=\"" ++ length_text s.height ++ codes "mm\" viewBox=\""
+    length_text s.page_width ++ codes "mm\" height=\"" ++ length_text s.page_height
+    ++ codes "mm\" viewBox=\""
     ++ length_text s.left ++ codes " " ++
     length_text s.top ++ codes " " ++ length_text s.width ++ codes " " ++ length_text s.height
     ++ codes "\">\n"
+
+abbrev pub window_text : Pane → List ℕ
+window_text p =
+    codes "<svg x=\"" ++ length_text p.left ++ codes "\" y=\"" ++ length_text p.top
+    ++ codes "\" width=\"" ++ length_text p.width ++ codes "\" height=\"" ++ length_text p.height
+    ++ codes "\" viewBox=\"" ++ length_text p.left ++ codes " " ++ length_text p.top
+    ++ codes " " ++ length_text p.width ++ codes " " ++ length_text p.height ++ codes "\">\n"
 
 abbrev pub scale_text : ℤ → Spot → ℕ → List ℕ
 scale_text unit at length =
@@ -107,6 +125,10 @@ shape_text unit (shapes.Begin sheet) = begin_text sheet
 shape_text unit shapes.Lines =
     codes "<g fill=\"none\" stroke=\"#808080\" stroke-width=\".15%\" stroke-linecap=\"round\" stroke-linejoin=\"round\" font-family=\"sans-serif\" font-size=\"2\">\n"
 shape_text unit (shapes.Travel r) = codes "<path d=\"" ++ area_text r ++ codes "\"/>\n"
+shape_text unit (shapes.Window pane) = window_text pane
+shape_text unit (shapes.ThinTravel r) =
+    codes "<path stroke-width=\".1%\" d=\"" ++ area_text r ++ codes "\"/>\n"
+shape_text unit shapes.WindowEnd = codes "</svg>\n"
 shape_text unit (shapes.Fixture r) =
     codes "<path fill=\"#808080\" fill-opacity=\".3\" d=\"" ++ area_text r ++ codes "\"/>\n"
 shape_text unit (shapes.FixtureNumber at number) =
@@ -116,6 +138,8 @@ shape_text unit (shapes.FixtureNumber at number) =
 shape_text unit (shapes.FaultFixture r) =
     codes "<path stroke=\"#E60000\" fill=\"#E60000\" fill-opacity=\".3\" d=\"" ++ area_text r
     ++ codes "\"/>\n"
+shape_text unit (shapes.FaultTool r) =
+    codes "<path stroke=\"#E60000\" d=\"" ++ area_text r ++ codes "\"/>\n"
 shape_text unit shapes.Bodies = codes "<g stroke=\"none\" opacity=\".2\">\n"
 shape_text unit (shapes.BodiesOf rank) =
     codes "<path fill=\"" ++ colour_text rank ++ codes "\" d=\""
@@ -140,7 +164,7 @@ shape_text unit (shapes.ScaleLength at length) =
     ++ decimal (length / 1000) ++ codes " mm</text>")
 shape_text unit (shapes.Legend at) =
     codes "<g transform=\"translate(" ++ spot_text at ++ codes ") scale(" ++ length_text unit ++
-    codes ")\"><text y=\"8.4\" fill=\"#808080\" stroke=\"none\">\n<tspan x=\"0\" dy=\"3\">solid: feeds, dashed: traverses; of a tool each part's diameter x length</tspan>\n"
+    codes ")\"><text y=\"8.4\" fill=\"#808080\" stroke=\"none\">\n<tspan x=\"0\" dy=\"3\">solid: feeds, dashed: traverses, both at the tip of the mounted tool</tspan>\n<tspan x=\"0\" dy=\"3\">start, G28, G30: the spindle nose; tools: each part's diameter x length</tspan>\n"
 shape_text unit (shapes.Tool rank number) =
     codes "<tspan x=\"0\" dy=\"3\" fill=\"" ++ colour_text rank ++ codes "\">&#9632; "
     ++ tool_text number

@@ -1,4 +1,4 @@
--- What is drawn of the path. Our own.
+-- What is drawn of the path, at the tip of the mounted tool. Our own.
 use Rattle.std.specs.Prelude.{ℕ, ◌==◌, pos, List, [], ◌∷◌, ◌++◌, map, Option, Some, None, Bool}
 use Rattle.std.specs.Prelude.{true, false, ◌&&◌, if◌then◌else◌}
 use Rattle.std.specs.Ordering.{int_eq}
@@ -19,8 +19,9 @@ use Rattle.ngc_commands.specs.declared.movement.Way.{Way}
 use Rattle.ngc_commands.specs.declared.movement.Way.TheVariants.{Line, Arc}
 use Rattle.ngc_drawing.specs.Arcs.{corner_spots}
 use Rattle.ngc_drawing.specs.Helices.{helix_points}
-use Rattle.ngc_drawing.specs.Tools.{rank_of, number_of}
-use Rattle.ngc_drawing.specs.Views.{spot, faces, is_same, micrometres}
+use Rattle.ngc_drawing.specs.Tools.{rank_of, number_of, eye_of}
+use Rattle.ngc_drawing.specs.Views.{tip_spot, faces, is_same, micrometres}
+use Rattle.ngc_drawing.specs.declared.eye.Eye.{Eye}
 use Rattle.ngc_drawing.specs.declared.pen.Pen.{Pen}
 use Rattle.ngc_drawing.specs.declared.pen.Run.{Run}
 use Rattle.ngc_drawing.specs.declared.shape.Ink.{Ink}
@@ -67,49 +68,56 @@ abbrev pub is_flat : ArcShape → Bool
 is_flat arc = int_eq (height arc.plane arc.start) (height arc.plane arc.end)
 
 -- straight on to a point
-abbrev pub line_to : View → Point3 → Shape
-line_to view p = shapes.Line (spot view p)
+abbrev pub line_to : Eye → Point3 → Shape
+line_to eye p = shapes.Line (tip_spot eye p)
 
-abbrev pub arc_course : View → ArcShape → List Shape
-arc_course view arc =
-    if faces view arc.plane then map (round view arc) (corner_spots view arc)
-    else (if is_flat arc then map shapes.Line (corner_spots view arc)
-    else map (line_to view) (helix_points arc))
+abbrev pub arc_course : Eye → ArcShape → List Shape
+arc_course eye arc =
+    if faces eye.view arc.plane then map (round eye.view arc) (corner_spots eye arc)
+    else (if is_flat arc then map shapes.Line (corner_spots eye arc)
+    else map (line_to eye) (helix_points arc))
 
 -- the way to a motion's end; what falls on one spot is left out
-abbrev pub course : View → Way → List Shape
-course view (Line start end) =
-    if is_same (spot view start) (spot view end) then [] else shapes.Line (spot view end) ∷ []
-course view (Arc arc) = arc_course view arc
+abbrev pub course : Eye → Way → List Shape
+course eye (Line start end) =
+    if is_same (tip_spot eye start) (tip_spot eye end) then []
+    else shapes.Line (tip_spot eye end) ∷ []
+course eye (Arc arc) = arc_course eye arc
 
-abbrev pub stroke : View → Option Run → Ink → Way → List Shape
-stroke view run ink way = lead run ink (spot view (start_of way)) ++ course view way
+abbrev pub stroke : Eye → Option Run → Ink → Way → List Shape
+stroke eye run ink way = lead run ink (tip_spot eye (start_of way)) ++ course eye way
 
-abbrev pub strokes_of : View → Pen → Action → List Shape
-strokes_of view pen (Move m) = stroke view pen.run (ink_of pen.rank m.pace) m.way
-strokes_of view pen _ = []
+abbrev pub strokes_of : Pen → Action → List Shape
+strokes_of pen (Move m) = stroke pen.eye pen.run (ink_of pen.rank m.pace) m.way
+strokes_of pen _ = []
 
 -- how the pen goes on
-abbrev pub after : View → List (Option Tool) → Pen → Action → Pen
-after view used pen (Move m) =
+abbrev pub after : List (Option Tool) → Pen → Action → Pen
+after used pen (Move m) =
     record {
       rank = pen.rank;
-      run = Some (record { ink = ink_of pen.rank m.pace; at = spot view (end_of m.way) });
+      eye = pen.eye;
+      run = Some (record { ink = ink_of pen.rank m.pace; at = tip_spot pen.eye (end_of m.way) });
     }
-after view used pen (Mount tool) = record { rank = rank_of used (number_of tool); run = pen.run }
-after view used pen _ = pen
+after used pen (Mount tool) =
+    record {
+      rank = rank_of used (number_of tool);
+      eye = eye_of pen.eye.view tool;
+      run = pen.run;
+    }
+after used pen _ = pen
 
 abbrev pub last_end : Option Run → List Shape
 last_end None = []
 last_end (Some run) = shapes.PathEnd ∷ []
 
 -- all motions, in order
-abbrev pub strokes_from : View → List (Option Tool) → Pen → List Command → List Shape
-strokes_from view used pen [] = last_end pen.run
-strokes_from view used pen (c ∷ cs) =
-    strokes_of view pen c.action ++ strokes_from view used (after view used pen c.action) cs
+abbrev pub strokes_from : List (Option Tool) → Pen → List Command → List Shape
+strokes_from used pen [] = last_end pen.run
+strokes_from used pen (c ∷ cs) =
+    strokes_of pen c.action ++ strokes_from used (after used pen c.action) cs
 
 -- without a tool at first
 abbrev pub strokes : View → List (Option Tool) → List Command → List Shape
 strokes view used commands =
-    strokes_from view used (record { rank = rank_of used 0; run = None }) commands
+    strokes_from used (record { rank = rank_of used 0; eye = eye_of view None; run = None }) commands

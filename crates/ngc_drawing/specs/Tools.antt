@@ -1,17 +1,29 @@
 -- The tools that a program's motions use, and their colours. Our own.
 use Rattle.std.specs.Prelude.{ℕ, ◌+◌, ◌==◌, nat_lt, length, List, [], ◌∷◌, ◌++◌, Option, Some, None}
-use Rattle.std.specs.Prelude.{if◌then◌else◌}
+use Rattle.std.specs.Prelude.{if◌then◌else◌, ℤ, pos}
 use Rattle.ngc_machine.specs.declared.tools.Tool.{Tool}
 use Rattle.ngc_commands.specs.declared.command.Action.{Action}
 use Rattle.ngc_commands.specs.declared.command.Action.TheVariants.{Move, Mount}
 use Rattle.ngc_commands.specs.declared.command.Command.{Command}
+use Rattle.ngc_drawing.specs.declared.eye.Eye.{Eye}
+use Rattle.ngc_drawing.specs.declared.view.View.{View}
 
 -- no tool is 0
 abbrev pub number_of : Option Tool → ℕ
 number_of None = 0
 number_of (Some tool) = tool.number
 
--- where in a list the tool of a number first stands, or the list's length
+-- how high the tip of a tool is above the spindle nose, in nanometres, at most 0: there its lowest
+-- part begins; without a tool the tip is the nose itself
+abbrev pub tip_of : Option Tool → ℤ
+tip_of None = pos 0
+tip_of (Some tool) = tool.bottom
+
+-- how a path is seen while a tool is mounted
+abbrev pub eye_of : View → Option Tool → Eye
+eye_of view tool = record { view = view; tip = tip_of tool }
+
+-- where in a list the tool of a number is first, or the list's length
 abbrev pub rank_of : List (Option Tool) → ℕ → ℕ
 rank_of [] n = 0
 rank_of (tool ∷ tools) n = if number_of tool == n then 0 else rank_of tools n + 1
@@ -21,7 +33,7 @@ abbrev pub with_tool : List (Option Tool) → Option Tool → List (Option Tool)
 with_tool tools tool =
     if nat_lt (rank_of tools (number_of tool)) (length tools) then tools else tools ++ tool ∷ []
 
--- the tool that is mounted behind an action, and the tools that are used by then
+-- the tool that is mounted after an action, and the tools that are used by then
 abbrev pub mounted : Option Tool → Action → Option Tool
 mounted tool (Mount other) = other
 mounted tool _ = tool

@@ -3,7 +3,7 @@ ghost use Rattle.std.specs.Prelude.{◌≡◌};
 use ngc_text::WriteFault;
 use thiserror::Error;
 
-/// Why no picture is drawn, or only a beginning of one.
+/// Why no picture is drawn, or only a prefix of one.
 #[derive(Clone, Copy, Debug, PartialEq, Eq, Error)]
 pub enum DrawFault {
     /// Memory was refused: 900.

@@ -3,8 +3,12 @@
 
 mod bodies;
 mod drawer;
+mod eye;
 mod fault;
 mod helix;
+mod holes;
+mod look;
+mod outline;
 mod pen;
 mod picture;
 mod refusal;
@@ -18,6 +22,7 @@ mod tools;
 mod view;
 
 pub use fault::DrawFault;
+pub use look::Look;
 pub use picture::write_svg;
 pub use refusal::Refusal;
 pub use shape::{Ink, Mark, Shape, Sheet};

@@ -1,24 +1,26 @@
 ghost use Rattle.std.specs.Prelude.{◌≡◌};
 ghost use Rattle.ngc_drawing.specs.Strokes.{ink_of, is_same_ink, after};
 
+use crate::eye::Eye;
 use crate::shape::Ink;
 use crate::spot::Spot;
 use crate::tools::{number_of, rank_of};
-use crate::view::View;
 use ngc_commands::{Action, Pace};
 use ngc_machine::Tool;
 
-/// A path that is being drawn: its ink, and where it has come to.
+/// A path that is being drawn: its ink, and the spot that it has reached.
 #[derive(Clone, Copy)]
 pub(crate) struct Run {
     pub ink: Ink,
     pub at: Spot,
 }
 
-/// The rank of the mounted tool among those that are used, and the path that is being drawn.
+/// The rank of the mounted tool among those that are used, where its tip is seen, and the path that
+/// is being drawn.
 #[derive(Clone, Copy)]
 pub(crate) struct Pen {
     pub rank: usize,
+    pub eye: Eye,
     pub run: Option<Run>,
 }
 
@@ -46,20 +48,22 @@ impl Ink {
 }
 
 impl Pen {
-    /// The pen behind an action.
-    pub(crate) fn after(&self, view: View, used: &[Option<Tool>], action: &Action) -> Pen
-        ensures { result ≡ after view used.now self.now action.now }
+    /// Returns the pen after an action.
+    pub(crate) fn after(&self, used: &[Option<Tool>], action: &Action) -> Pen
+        ensures { result ≡ after used.now self.now action.now }
     {
         match action {
             Action::Move(motion) => Pen {
                 rank: self.rank,
+                eye: self.eye,
                 run: Some(Run {
                     ink: ink_of(self.rank, &motion.pace),
-                    at: view.spot(&motion.way.end()),
+                    at: self.eye.spot(&motion.way.end()),
                 }),
             },
             Action::Mount(tool) => Pen {
                 rank: rank_of(used, number_of(tool)),
+                eye: Eye::of(self.eye.view, tool),
                 run: self.run,
             },
             _ => *self,

@@ -1,6 +1,6 @@
 //! The whole picture.
 ghost use Rattle.std.specs.Prelude.{◌≡◌, ◌<◌, ◌≤◌, ◌*◌, unsigned_abs, ◌++◌, ◌∷◌, [], length, drop};
-ghost use Rattle.std.specs.Prelude.{map, OnOk, OnErr, Err};
+ghost use Rattle.std.specs.Prelude.{map, OnOk, OnErr, Err, IfOk, ◌+◌};
 ghost use Rattle.std.specs.Io.KnownBytes.{Appends, Keeps};
 ghost use Rattle.ngc_text.specs.Failures.{CountsFailure};
 ghost use Rattle.ngc_text.specs.Written.{AppendsBeginning};
@@ -9,22 +9,29 @@ ghost use Rattle.ngc_drawing.specs.declared.shape.Shape.TheVariants as drawn;
 ghost use Rattle.ngc_drawing.specs.Draws.{Draws};
 ghost use Rattle.ngc_drawing.specs.Faults.{CountsUnlessMemory};
 ghost use Rattle.ngc_drawing.specs.Sheets.{unit_of};
-ghost use Rattle.ngc_drawing.specs.Tools.{used};
-ghost use Rattle.ngc_drawing.specs.Pictures.{fixture, fixtures_from, marked, SCALES, scale_in};
+ghost use Rattle.ngc_drawing.specs.Holes.{holes};
+ghost use Rattle.ngc_drawing.specs.Tools.{used, eye_of};
+ghost use Rattle.ngc_drawing.specs.Pictures.{fixture, fixtures_from, marked_in, marked, SCALES};
+ghost use Rattle.ngc_drawing.specs.Pictures.{scale_in, travel_in, shown_sweeps, places, is_zero};
+ghost use Rattle.ngc_drawing.specs.Pictures.{origin, origins_from, picture_text};
 ghost use Rattle.ngc_drawing.specs.Pictures.{part, parts, tool_row, tool_rows, first_red};
 ghost use Rattle.ngc_drawing.specs.Pictures.{refused_fixture, refused_way, refused_action};
 ghost use Rattle.ngc_drawing.specs.Pictures.{first_refused, refused, refusal_row, rows, opening};
-ghost use Rattle.ngc_drawing.specs.Pictures.{scaled, ground, picture_of, text_of, picture_text};
+ghost use Rattle.ngc_drawing.specs.Pictures.{refused_by, path, scaled, ground, picture_of, text_of};
 ghost use Rattle.ngc_drawing.specs.Strokes.{strokes_from, strokes, last_end};
 
 use crate::bodies::draw_swept;
 use crate::drawer::draw_all;
+use crate::eye::Eye;
 use crate::fault::DrawFault;
+use crate::holes::draw_holes;
+use crate::look::Look;
+use crate::outline::{add_outline_at, tool_before};
 use crate::pen::{Pen, Run};
 use crate::refusal::Refusal;
 use crate::shape::{Ink, Mark, Shape};
-use crate::sheet::{Unit, frame, sheet, unit_of};
-use crate::spot::Rectangle;
+use crate::sheet::{Unit, frame, pane, sheet, unit_of};
+use crate::spot::{Rectangle, Spot};
 use crate::strokes::{draw_action, draw_stroke};
 use crate::sweep::{Sweep, sweeps};
 use crate::tools::{number_of, rank_of, used};
@@ -32,16 +39,17 @@ use crate::view::{View, to_micrometres};
 use arrayvec::ArrayVec;
 use ngc_certificate_text::Motions;
 use ngc_commands::{Action, Command, Way};
+use ngc_fixed_length::Point3;
 use ngc_machine::{Fixture, Machine, Part, Tool};
 use ngc_text::{Chunk, Sink, WriteFault};
-use std::alloc::Allocator;
+use std::alloc::{AllocError, Allocator};
 
 const SCALES: [u64; 15] = [
     50_000_000, 20_000_000, 10_000_000, 5_000_000, 2_000_000, 1_000_000, 500_000, 200_000, 100_000,
     50_000, 20_000, 10_000, 5_000, 2_000, 1_000,
 ];
 
-/// The first of these lengths that is at most so many micrometres, or a millimetre.
+/// Returns the first of these lengths that is at most `most` micrometres, or a millimetre.
 fn first_within(most: u64, lengths: &[u64]) -> u64
     ensures { result ≡ scale_in most lengths.now }
 {
@@ -114,16 +122,36 @@ fn draw_strokes<W: Sink>(
 {
     let mut pen = Pen {
         rank: rank_of(tools, 0),
+        eye: Eye::of(view, &None),
         run: None,
     };
     for command in commands {
-        match draw_action(chunk, unit, view, &pen, &command.action, sink) {
+        match draw_action(chunk, unit, &pen, &command.action, sink) {
             Ok(()) => {}
             Err(fault) => return Err(fault),
         }
-        pen = pen.after(view, tools, &command.action);
+        pen = pen.after(tools, &command.action);
     }
     draw_last_end(chunk, unit, &pen.run, sink)
+}
+
+fn draw_path<W: Sink>(
+    chunk: &mut Chunk,
+    unit: &Unit,
+    view: View,
+    tools: &[Option<Tool>],
+    commands: &[Command],
+    sink: &mut W,
+) -> Result<(), WriteFault>
+    ensures drawn { Draws unit.now.micrometres (W.written sink.old)
+        (W.written sink.new) chunk.old chunk.new result (path view tools.now commands.now) }
+    ensures counts { CountsFailure (W.failures sink.old) (W.failures sink.new) result }
+{
+    match draw_strokes(chunk, unit, view, tools, commands, sink) {
+        Ok(()) => {}
+        Err(fault) => return Err(fault),
+    }
+    draw_holes(chunk, unit, view, commands, sink)
 }
 
 fn part(measures: &Part) -> Shape
@@ -190,22 +218,22 @@ fn draw_tools<W: Sink>(
 fn draw_refused_way<W: Sink>(
     chunk: &mut Chunk,
     unit: &Unit,
-    view: View,
+    eye: &Eye,
     fault: u16,
     way: &Way,
     sink: &mut W,
 ) -> Result<(), WriteFault>
     ensures drawn { Draws unit.now.micrometres (W.written sink.old)
-        (W.written sink.new) chunk.old chunk.new result (refused_way view fault way.now) }
+        (W.written sink.new) chunk.old chunk.new result (refused_way eye.now fault way.now) }
     ensures counts { CountsFailure (W.failures sink.old) (W.failures sink.new) result }
 {
-    match draw_stroke(chunk, unit, view, &None, Ink::Fault, way, sink) {
+    match draw_stroke(chunk, unit, eye, &None, Ink::Fault, way, sink) {
         Ok(()) => {}
         Err(fault) => return Err(fault),
     }
     let end = [
         Shape::PathEnd,
-        Shape::FaultNumber(view.spot(&way.end()), fault),
+        Shape::FaultNumber(eye.spot(&way.end()), fault),
     ];
     draw_all(chunk, unit, &end, sink)
 }
@@ -213,17 +241,17 @@ fn draw_refused_way<W: Sink>(
 fn draw_refused_action<W: Sink>(
     chunk: &mut Chunk,
     unit: &Unit,
-    view: View,
+    eye: &Eye,
     fault: u16,
     action: &Action,
     sink: &mut W,
 ) -> Result<(), WriteFault>
     ensures drawn { Draws unit.now.micrometres (W.written sink.old)
-        (W.written sink.new) chunk.old chunk.new result (refused_action view fault action.now) }
+        (W.written sink.new) chunk.old chunk.new result (refused_action eye.now fault action.now) }
     ensures counts { CountsFailure (W.failures sink.old) (W.failures sink.new) result }
 {
     match action {
-        Action::Move(motion) => draw_refused_way(chunk, unit, view, fault, &motion.way, sink),
+        Action::Move(motion) => draw_refused_way(chunk, unit, eye, fault, &motion.way, sink),
         _ => Ok(()),
     }
 }
@@ -231,18 +259,18 @@ fn draw_refused_action<W: Sink>(
 fn draw_first_refused<W: Sink>(
     chunk: &mut Chunk,
     unit: &Unit,
-    view: View,
+    eye: &Eye,
     fault: u16,
     commands: &[Command],
     sink: &mut W,
 ) -> Result<(), WriteFault>
     ensures drawn { Draws unit.now.micrometres (W.written sink.old)
-        (W.written sink.new) chunk.old chunk.new result (first_refused view fault commands.now) }
+        (W.written sink.new) chunk.old chunk.new result (first_refused eye.now fault commands.now) }
     ensures counts { CountsFailure (W.failures sink.old) (W.failures sink.new) result }
 {
     match commands {
         [] => Ok(()),
-        [command, ..] => draw_refused_action(chunk, unit, view, fault, &command.action, sink),
+        [command, ..] => draw_refused_action(chunk, unit, eye, fault, &command.action, sink),
     }
 }
 
@@ -250,21 +278,25 @@ fn draw_refused_motion<W: Sink>(
     chunk: &mut Chunk,
     unit: &Unit,
     view: View,
+    tool: &Option<Tool>,
     commands: &[Command],
     refusal: &Refusal,
     sink: &mut W,
 ) -> Result<(), WriteFault>
     ensures drawn { Draws unit.now.micrometres (W.written sink.old)
         (W.written sink.new) chunk.old chunk.new result
-        (first_refused view refusal.now.fault (drop refusal.now.command commands.now)) }
+        (first_refused (eye_of view tool.now) refusal.now.fault
+        (drop refusal.now.command commands.now)) }
     ensures counts { CountsFailure (W.failures sink.old) (W.failures sink.new) result }
 {
+    let eye = Eye::of(view, tool);
     let rest = &commands[refusal.command.min(commands.len())..];
-    draw_first_refused(chunk, unit, view, refusal.fault, rest, sink)
+    draw_first_refused(chunk, unit, &eye, refusal.fault, rest, sink)
 }
 
 fn first_red(view: View, fixtures: &[Fixture]) -> ArrayVec<Shape, 8>
-    ensures { result.items ≡ first_red view fixtures.now }
+    ensures value { result.items ≡ first_red view fixtures.now }
+    ensures one { length result.items ≤ 1 }
 {
     let mut shapes = ArrayVec::new();
     if let [fixture, ..] = fixtures {
@@ -274,7 +306,8 @@ fn first_red(view: View, fixtures: &[Fixture]) -> ArrayVec<Shape, 8>
 }
 
 fn refused_fixture(view: View, fixtures: &[Fixture], fixture: Option<usize>) -> ArrayVec<Shape, 8>
-    ensures { result.items ≡ refused_fixture view fixtures.now fixture }
+    ensures value { result.items ≡ refused_fixture view fixtures.now fixture }
+    ensures one { length result.items ≤ 1 }
 {
     match fixture {
         None => ArrayVec::new(),
@@ -289,20 +322,21 @@ fn draw_refusal<A: Allocator, W: Sink>(
     machine: &Machine<A>,
     commands: &[Command],
     refusal: &Refusal,
+    tool: &Option<Tool>,
     sink: &mut W,
 ) -> Result<(), WriteFault>
     ensures drawn { Draws unit.now.micrometres (W.written sink.old)
         (W.written sink.new) chunk.old chunk.new result
-        (refused_fixture view (file_of machine.now).fixtures refusal.now.fixture
-        ++ first_refused view refusal.now.fault (drop refusal.now.command commands.now)) }
+        (refused_by view (file_of machine.now) commands.now refusal.now tool.now) }
     ensures counts { CountsFailure (W.failures sink.old) (W.failures sink.new) result }
 {
-    let fixture = refused_fixture(view, machine.fixtures.as_slice(), refusal.fixture);
-    match draw_all(chunk, unit, fixture.as_slice(), sink) {
+    let mut first = refused_fixture(view, machine.fixtures.as_slice(), refusal.fixture);
+    add_outline_at(&mut first, view, machine, tool, commands, refusal.command);
+    match draw_all(chunk, unit, first.as_slice(), sink) {
         Ok(()) => {}
         Err(fault) => return Err(fault),
     }
-    draw_refused_motion(chunk, unit, view, commands, refusal, sink)
+    draw_refused_motion(chunk, unit, view, tool, commands, refusal, sink)
 }
 
 fn draw_refused<A: Allocator, W: Sink>(
@@ -321,7 +355,10 @@ fn draw_refused<A: Allocator, W: Sink>(
 {
     match refusal {
         None => Ok(()),
-        Some(refusal) => draw_refusal(chunk, unit, view, machine, commands, refusal, sink),
+        Some(refusal) => {
+            let tool = tool_before(machine, commands, refusal.command);
+            draw_refusal(chunk, unit, view, machine, commands, refusal, &tool, sink)
+        }
     }
 }
 
@@ -336,7 +373,7 @@ fn refusal_row(refusal: &Option<Refusal>) -> ArrayVec<Shape, 8>
     shapes
 }
 
-/// The rows of the legend: one for each tool, with room for a thousand, and one for a fault.
+/// The rows of the legend: one for each tool, with space for a thousand, and one for a fault.
 fn rows(tools: &[Option<Tool>]) -> u32
     ensures value { result ≡ rows tools.now }
     ensures few { result < 2000 }
@@ -344,26 +381,119 @@ fn rows(tools: &[Option<Tool>]) -> u32
     tools.len().min(1_000) as u32 + 1
 }
 
+// The travel limits, or the part of them that the picture shows.
+fn add_travel(shapes: &mut ArrayVec<Shape, 8>, area: &Rectangle, travel: &Rectangle)
+    requires { length shapes.old.items ≤ 2 }
+    ensures { shapes.new.items ≡ shapes.old.items ++ travel_in area.now travel.now }
+{
+    if area.has_all_of(travel) {
+        shapes.push(Shape::Travel(*travel));
+        return;
+    }
+    shapes.push(Shape::Window(pane(area)));
+    shapes.push(Shape::ThinTravel(*travel));
+    shapes.push(Shape::WindowEnd);
+}
+
+fn opening<A: Allocator>(
+    view: View,
+    machine: &Machine<A>,
+    area: &Rectangle,
+    tools: &[Option<Tool>],
+) -> ArrayVec<Shape, 8>
+    ensures { result.items ≡ opening view (file_of machine.now) area.now tools.now }
+{
+    let mut shapes = ArrayVec::new();
+    shapes.push(Shape::Begin(sheet(area, rows(tools))));
+    shapes.push(Shape::Lines);
+    let travel = view.rectangle(&machine.low, &machine.high);
+    add_travel(&mut shapes, area, &travel);
+    shapes
+}
+
 fn draw_opening<A: Allocator, W: Sink>(
     chunk: &mut Chunk,
-    unit: &Unit,
     view: View,
     machine: &Machine<A>,
     area: &Rectangle,
     tools: &[Option<Tool>],
     sink: &mut W,
 ) -> Result<(), WriteFault>
-    ensures drawn { Draws unit.now.micrometres (W.written sink.old)
+    ensures drawn { Draws (unit_of area.now) (W.written sink.old)
         (W.written sink.new) chunk.old chunk.new result
         (opening view (file_of machine.now) area.now tools.now) }
     ensures counts { CountsFailure (W.failures sink.old) (W.failures sink.new) result }
 {
-    let shapes = [
-        Shape::Begin(sheet(area, rows(tools))),
-        Shape::Lines,
-        Shape::Travel(view.rectangle(&machine.low, &machine.high)),
-    ];
-    draw_all(chunk, unit, &shapes, sink)
+    let unit = unit_of(area);
+    let shapes = opening(view, machine, area, tools);
+    draw_all(chunk, &unit, shapes.as_slice(), sink)
+}
+
+// A mark at a spot that the picture shows.
+fn mark_in(shapes: &mut ArrayVec<Shape, 8>, area: &Rectangle, mark: Mark, spot: &Spot)
+    requires { length shapes.old.items ≤ 7 }
+    ensures marked { shapes.new.items ≡ shapes.old.items ++ marked_in area.now mark spot.now }
+    ensures few { length shapes.new.items ≤ length shapes.old.items + 1 }
+{
+    if area.has(spot) {
+        shapes.push(Shape::Mark(mark, *spot));
+    }
+}
+
+fn places<A: Allocator>(view: View, machine: &Machine<A>, area: &Rectangle) -> ArrayVec<Shape, 8>
+    ensures { result.items ≡ places view (file_of machine.now) area.now }
+{
+    let mut shapes = ArrayVec::new();
+    mark_in(&mut shapes, area, Mark::Start, &view.spot(&machine.start));
+    mark_in(&mut shapes, area, Mark::Home, &view.spot(&machine.home28));
+    mark_in(
+        &mut shapes,
+        area,
+        Mark::SecondHome,
+        &view.spot(&machine.home30),
+    );
+    shapes.push(Shape::Mark(Mark::Axes(view), area.low));
+    shapes
+}
+
+fn is_zero(point: &Point3) -> bool
+    ensures { result ≡ is_zero point.now }
+{
+    point.x.nanometres() == 0 && point.y.nanometres() == 0 && point.z.nanometres() == 0
+}
+
+fn origin(view: View, area: &Rectangle, system: usize, place: &Point3) -> ArrayVec<Shape, 8>
+    ensures { result.items ≡ origin view area.now system place.now }
+{
+    let mut shapes = ArrayVec::new();
+    if !is_zero(place) {
+        mark_in(&mut shapes, area, Mark::Origin(system), &view.spot(place));
+    }
+    shapes
+}
+
+// The origins of the coordinate systems that are set in the machine file.
+fn draw_origins<W: Sink>(
+    chunk: &mut Chunk,
+    unit: &Unit,
+    view: View,
+    area: &Rectangle,
+    origins: &[Point3],
+    sink: &mut W,
+) -> Result<(), WriteFault>
+    ensures drawn { Draws unit.now.micrometres (W.written sink.old)
+        (W.written sink.new) chunk.old chunk.new result
+        (origins_from view area.now 0 origins.now) }
+    ensures counts { CountsFailure (W.failures sink.old) (W.failures sink.new) result }
+{
+    for (i, place) in origins.iter().enumerate() {
+        let shapes = origin(view, area, i, place);
+        match draw_all(chunk, unit, shapes.as_slice(), sink) {
+            Ok(()) => {}
+            Err(fault) => return Err(fault),
+        }
+    }
+    Ok(())
 }
 
 fn draw_marks<A: Allocator, W: Sink>(
@@ -379,13 +509,12 @@ fn draw_marks<A: Allocator, W: Sink>(
         (marked view (file_of machine.now) area.now) }
     ensures counts { CountsFailure (W.failures sink.old) (W.failures sink.new) result }
 {
-    let shapes = [
-        Shape::Mark(Mark::Start, view.spot(&machine.start)),
-        Shape::Mark(Mark::Home, view.spot(&machine.home28)),
-        Shape::Mark(Mark::SecondHome, view.spot(&machine.home30)),
-        Shape::Mark(Mark::Axes(view), area.low),
-    ];
-    draw_all(chunk, unit, &shapes, sink)
+    let shapes = places(view, machine, area);
+    match draw_all(chunk, unit, shapes.as_slice(), sink) {
+        Ok(()) => {}
+        Err(fault) => return Err(fault),
+    }
+    draw_origins(chunk, unit, view, area, &machine.origins, sink)
 }
 
 fn draw_scale<W: Sink>(chunk: &mut Chunk, area: &Rectangle, sink: &mut W) -> Result<(), WriteFault>
@@ -403,7 +532,7 @@ fn draw_scale<W: Sink>(chunk: &mut Chunk, area: &Rectangle, sink: &mut W) -> Res
     draw_all(chunk, &unit, &shapes, sink)
 }
 
-// What stands below the picture.
+// What is below the picture.
 fn draw_legend<W: Sink>(
     chunk: &mut Chunk,
     area: &Rectangle,
@@ -445,11 +574,11 @@ fn draw_ground<A: Allocator, W: Sink>(
         (ground view (file_of machine.now) area.now tools.now swept.now) }
     ensures counts { CountsFailure (W.failures sink.old) (W.failures sink.new) result }
 {
-    let unit = unit_of(area);
-    match draw_opening(chunk, &unit, view, machine, area, tools, sink) {
+    match draw_opening(chunk, view, machine, area, tools, sink) {
         Ok(()) => {}
         Err(fault) => return Err(fault),
     }
+    let unit = unit_of(area);
     match draw_fixtures(chunk, &unit, view, machine.fixtures.as_slice(), sink) {
         Ok(()) => {}
         Err(fault) => return Err(fault),
@@ -479,7 +608,7 @@ fn draw_picture<A: Allocator, W: Sink>(
         Err(fault) => return Err(fault),
     }
     let unit = unit_of(area);
-    match draw_strokes(chunk, &unit, view, tools, commands, sink) {
+    match draw_path(chunk, &unit, view, tools, commands, sink) {
         Ok(()) => {}
         Err(fault) => return Err(fault),
     }
@@ -495,7 +624,7 @@ fn draw_picture<A: Allocator, W: Sink>(
 }
 
 fn write_picture<A: Allocator, W: Sink>(
-    view: View,
+    look: &Look,
     machine: &Machine<A>,
     commands: &[Command],
     refusal: &Option<Refusal>,
@@ -505,32 +634,52 @@ fn write_picture<A: Allocator, W: Sink>(
 ) -> Result<(), WriteFault>
     ensures ok { OnOk result
         (Appends (W.written sink.old) (W.written sink.new)
-        (text_of view (file_of machine.now) commands.now refusal.now tools.now swept.now)) }
+        (text_of look.now (file_of machine.now) commands.now refusal.now tools.now swept.now)) }
     ensures fault { OnErr result
         (AppendsBeginning (W.written sink.old) (W.written sink.new)
-        (text_of view (file_of machine.now) commands.now refusal.now tools.now swept.now)) }
+        (text_of look.now (file_of machine.now) commands.now refusal.now tools.now swept.now)) }
     ensures counts { CountsFailure (W.failures sink.old) (W.failures sink.new) result }
 {
-    let area = frame(view, machine, commands);
+    let area = frame(look, machine, commands);
     let mut chunk = Chunk::new();
     match draw_picture(
-        &mut chunk, view, machine, commands, refusal, &area, tools, swept, sink,
+        &mut chunk, look.view, machine, commands, refusal, &area, tools, swept, sink,
     ) {
         Ok(()) => chunk.write_out(sink),
         Err(fault) => Err(fault),
     }
 }
 
+// The boxes whose bodies are drawn. It fails where memory is refused.
+fn shown_sweeps<A: Allocator, B: Allocator>(
+    alloc: A,
+    look: &Look,
+    tools: &[Option<Tool>],
+    commands: &[Command],
+    motions: &Motions<B>,
+) -> Result<Vec<Sweep, A>, AllocError>
+    ensures { IfOk result
+        (λ v. v.items ≡ shown_sweeps look.now tools.now commands.now motions.now) }
+{
+    if look.bodies {
+        sweeps(alloc, look.view, tools, commands, motions)
+    } else {
+        Ok(Vec::new(alloc))
+    }
+}
+
 /// Writes the picture of a program on a machine, as SVG 1.1 in millimetres, seen from one side:
-/// travel, fixtures, the bodies of the tools over the boxes of a certificate's motions (of none, if
-/// there are no motions), home and start, the path of the commands, what is refused in red, a scale
-/// and a legend.
+/// travel, fixtures, if `look` says so the bodies of the tools over the boxes of a certificate's
+/// motions (of none, if there are no motions), home and start, the path that the commands take the
+/// tip of the mounted tool on, what is refused in red, a scale and a legend. The picture has the
+/// whole travel, or, where the travel is more than three times as wide or as high as the fixtures and
+/// the path, these alone.
 ///
 /// After a fault (900 for refused memory, when nothing is written; 902, and only where the sink
-/// failed) a beginning of the text is written.
+/// failed) a prefix of the text is written.
 pub fn write_svg<A: Allocator + Copy, B: Allocator, W: Sink>(
     alloc: A,
-    view: View,
+    look: &Look,
     machine: &Machine<B>,
     commands: &[Command],
     motions: &Motions<B>,
@@ -539,10 +688,10 @@ pub fn write_svg<A: Allocator + Copy, B: Allocator, W: Sink>(
 ) -> Result<(), DrawFault>
     ensures ok { OnOk result
         (Appends (W.written sink.old) (W.written sink.new)
-        (picture_text view (file_of machine.now) commands.now motions.now refusal.now)) }
+        (picture_text look.now (file_of machine.now) commands.now motions.now refusal.now)) }
     ensures fault { OnErr result
         (AppendsBeginning (W.written sink.old) (W.written sink.new)
-        (picture_text view (file_of machine.now) commands.now motions.now refusal.now)) }
+        (picture_text look.now (file_of machine.now) commands.now motions.now refusal.now)) }
     ensures memory { result ≡ Err DrawFault.Memory →
         Keeps (W.written sink.old) (W.written sink.new) }
     ensures counts { CountsUnlessMemory (W.failures sink.old) (W.failures sink.new) result }
@@ -550,11 +699,11 @@ pub fn write_svg<A: Allocator + Copy, B: Allocator, W: Sink>(
     let Ok(tools) = used(alloc, commands) else {
         return Err(DrawFault::Memory);
     };
-    let Ok(swept) = sweeps(alloc, view, tools.as_slice(), commands, motions) else {
+    let Ok(swept) = shown_sweeps(alloc, look, tools.as_slice(), commands, motions) else {
         return Err(DrawFault::Memory);
     };
     match write_picture(
-        view,
+        look,
         machine,
         commands,
         refusal,

@@ -13,19 +13,34 @@ pub enum Ink {
 /// A mark beside the path.
 #[derive(Clone, Copy)]
 pub enum Mark {
-    /// Where the axes stand when the machine is started.
+    /// Where the axes are when the machine is started.
     Start,
     /// The home position of G28.
     Home,
     /// The home position of G30.
     SecondHome,
+    /// The origin of a coordinate system, by its number from 0: G54, G55 and so on.
+    Origin(usize),
+    /// A drilled hole, at its bottom.
+    Hole,
     /// The names of the axes.
     Axes(View),
 }
 
-/// The sheet that is drawn on, in micrometres: its corner, and its size.
+/// The sheet that is drawn on, in micrometres: its corner, its size, and how large it is on a page.
 #[derive(Clone, Copy)]
 pub struct Sheet {
+    pub left: i128,
+    pub top: i128,
+    pub width: i128,
+    pub height: i128,
+    pub page_width: i128,
+    pub page_height: i128,
+}
+
+/// A part of the sheet, in micrometres: its corner, and its size.
+#[derive(Clone, Copy)]
+pub struct Pane {
     pub left: i128,
     pub top: i128,
     pub width: i128,
@@ -35,21 +50,28 @@ pub struct Sheet {
 /// What a picture is made of, in the order of its text.
 #[derive(Clone, Copy)]
 pub enum Shape {
-    /// The sheet; all else stands in it.
+    /// The sheet; all else is in it.
     Begin(Sheet),
     /// How lines are drawn.
     Lines,
     /// The travel limits.
     Travel(Rectangle),
+    /// What follows is seen in this part of the sheet alone.
+    Window(Pane),
+    /// The travel limits, as a thin line.
+    ThinTravel(Rectangle),
+    WindowEnd,
     /// A fixture.
     Fixture(Rectangle),
     /// The number of a fixture.
     FixtureNumber(Spot, usize),
     /// A fixture that a fault names.
     FaultFixture(Rectangle),
+    /// A box that the tool fills at the end of a refused motion.
+    FaultTool(Rectangle),
     /// The bodies of tools follow, lightly.
     Bodies,
-    /// Where the body of the tool of this rank comes.
+    /// The boxes that the tool of this rank fills follow.
     BodiesOf(usize),
     /// A box that a part of it fills.
     Body(Rectangle),
@@ -69,7 +91,7 @@ pub enum Shape {
     FaultNumber(Spot, u16),
     /// A bar of this length in micrometres, below a spot.
     Scale(Spot, u64),
-    /// What it says.
+    /// The text of it.
     ScaleLength(Spot, u64),
     /// The legend, below a spot.
     Legend(Spot),

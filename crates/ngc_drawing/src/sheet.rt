@@ -4,12 +4,17 @@ ghost use Rattle.std.specs.Prelude.{int_div, unsigned_abs};
 ghost use Rattle.std.specs.Int.{int_max};
 ghost use Rattle.ngc_machine.specs.Machine.{file_of};
 ghost use Rattle.ngc_drawing.specs.Sheets.{holding_all, with_way, with_action, with_commands};
-ghost use Rattle.ngc_drawing.specs.Sheets.{with_fixtures, bench, frame, unit_of, sheet};
+ghost use Rattle.ngc_drawing.specs.Sheets.{with_fixtures, bench, whole, at, work, is_far_longer, is_far_larger, is_between};
+ghost use Rattle.ngc_drawing.specs.Sheets.{width_of, height_of, frame, is_in, is_within, unit_of};
+ghost use Rattle.ngc_drawing.specs.Sheets.{sheet_width, sheet_height, enlarged, sheet, pane};
 ghost use Rattle.ngc_drawing.specs.Units.{IsUnit};
 
-use crate::shape::Sheet;
+use crate::eye::Eye;
+use crate::look::Look;
+use crate::shape::{Pane, Sheet};
 use crate::spot::{Rectangle, Spot};
 use crate::strokes::corner_spots;
+use crate::tools::mounted;
 use crate::view::View;
 use ngc_commands::{Action, Command, Way};
 use ngc_machine::{Fixture, Machine};
@@ -32,33 +37,36 @@ fn holding_all(area: Rectangle, spots: &[Spot]) -> Rectangle
     all
 }
 
-fn with_way(view: View, area: Rectangle, way: &Way) -> Rectangle
-    ensures { result ≡ with_way view area way.now }
+fn with_way(eye: &Eye, area: Rectangle, way: &Way) -> Rectangle
+    ensures { result ≡ with_way eye.now area way.now }
 {
     match way {
-        Way::Line { start, end } => area.holding(&view.spot(start)).holding(&view.spot(end)),
+        Way::Line { start, end } => area.holding(&eye.spot(start)).holding(&eye.spot(end)),
         Way::Arc(arc) => holding_all(
-            area.holding(&view.spot(&arc.start())),
-            corner_spots(view, arc).as_slice(),
+            area.holding(&eye.spot(&arc.start())),
+            corner_spots(eye, arc).as_slice(),
         ),
     }
 }
 
-fn with_action(view: View, area: Rectangle, action: &Action) -> Rectangle
-    ensures { result ≡ with_action view area action.now }
+fn with_action(eye: &Eye, area: Rectangle, action: &Action) -> Rectangle
+    ensures { result ≡ with_action eye.now area action.now }
 {
     match action {
-        Action::Move(motion) => with_way(view, area, &motion.way),
+        Action::Move(motion) => with_way(eye, area, &motion.way),
         _ => area,
     }
 }
 
+// Without a tool at first.
 fn with_commands(view: View, area: Rectangle, commands: &[Command]) -> Rectangle
-    ensures { result ≡ with_commands view area commands.now }
+    ensures { result ≡ with_commands view None area commands.now }
 {
     let mut all = area;
+    let mut tool = None;
     for command in commands {
-        all = with_action(view, all, &command.action);
+        all = with_action(&Eye::of(view, &tool), all, &command.action);
+        tool = mounted(&tool, &command.action);
     }
     all
 }
@@ -84,21 +92,36 @@ fn bench<A: Allocator>(view: View, machine: &Machine<A>) -> Rectangle
         .holding(&view.spot(&machine.home30))
 }
 
-/// The least rectangle that holds what is drawn: travel, home positions, fixtures and path.
-pub(crate) fn frame<A: Allocator>(
-    view: View,
-    machine: &Machine<A>,
-    commands: &[Command],
-) -> Rectangle
-    ensures { result ≡ frame view (file_of machine.now) commands.now }
+/// The least rectangle that holds travel, home positions, fixtures and path.
+fn whole<A: Allocator>(view: View, machine: &Machine<A>, commands: &[Command]) -> Rectangle
+    ensures { result ≡ whole view (file_of machine.now) commands.now }
 {
     let fixed = with_fixtures(view, bench(view, machine), machine.fixtures.as_slice());
     with_commands(view, fixed, commands)
 }
 
-/// How wide what is drawn is.
+/// The rectangle of one spot.
+fn at(spot: Spot) -> Rectangle
+    ensures { result ≡ at spot }
+{
+    Rectangle {
+        low: spot,
+        high: spot,
+    }
+}
+
+/// The least rectangle that holds the start, the fixtures and the path.
+fn work<A: Allocator>(view: View, machine: &Machine<A>, commands: &[Command]) -> Rectangle
+    ensures { result ≡ work view (file_of machine.now) commands.now }
+{
+    let start = at(view.spot(&machine.start));
+    let fixed = with_fixtures(view, start, machine.fixtures.as_slice());
+    with_commands(view, fixed, commands)
+}
+
+/// How wide a rectangle is.
 fn across(area: &Rectangle) -> i128
-    ensures value { result ≡ area.now.high.across -ℤ area.now.low.across }
+    ensures value { result ≡ width_of area.now }
     ensures bound { unsigned_abs result < 2 ^ 64 }
 {
     i128::from(area.high.across) - i128::from(area.low.across)
@@ -106,10 +129,69 @@ fn across(area: &Rectangle) -> i128
 
 /// How high it is.
 fn up(area: &Rectangle) -> i128
-    ensures value { result ≡ area.now.high.up -ℤ area.now.low.up }
+    ensures value { result ≡ height_of area.now }
     ensures bound { unsigned_abs result < 2 ^ 64 }
 {
     i128::from(area.high.up) - i128::from(area.low.up)
+}
+
+/// Returns whether one length is more than three times another.
+fn is_far_longer(one: i128, other: i128) -> bool
+    requires { unsigned_abs other < 2 ^ 64 }
+    ensures { result ≡ is_far_longer one other }
+{
+    3 * other < one
+}
+
+/// Returns whether `area` is more than three times as wide or as high as `part`.
+fn is_far_larger(area: &Rectangle, part: &Rectangle) -> bool
+    ensures { result ≡ is_far_larger area.now part.now }
+{
+    is_far_longer(across(area), across(part)) || is_far_longer(up(area), up(part))
+}
+
+/// The least rectangle that holds what a picture shows.
+pub(crate) fn frame<A: Allocator>(
+    look: &Look,
+    machine: &Machine<A>,
+    commands: &[Command],
+) -> Rectangle
+    ensures { result ≡ frame look.now (file_of machine.now) commands.now }
+{
+    if look.whole {
+        return whole(look.view, machine, commands);
+    }
+    let travel = look.view.rectangle(&machine.low, &machine.high);
+    let work = work(look.view, machine, commands);
+    if is_far_larger(&travel, &work) {
+        work
+    } else {
+        whole(look.view, machine, commands)
+    }
+}
+
+/// Returns whether a coordinate is between two others, or at one of them.
+fn is_between(low: i64, coordinate: i64, high: i64) -> bool
+    ensures { result ≡ is_between low coordinate high }
+{
+    low <= coordinate && coordinate <= high
+}
+
+impl Rectangle {
+    /// Returns whether a spot is in this rectangle, its edges included.
+    pub(crate) fn has(&self, spot: &Spot) -> bool
+        ensures { result ≡ is_in self.now spot.now }
+    {
+        is_between(self.low.across, spot.across, self.high.across)
+            && is_between(self.low.up, spot.up, self.high.up)
+    }
+
+    /// Returns whether another rectangle is in this one.
+    pub(crate) fn has_all_of(&self, other: &Rectangle) -> bool
+        ensures { result ≡ is_within self.now other.now }
+    {
+        self.has(&other.low) && self.has(&other.high)
+    }
 }
 
 fn greater(a: i128, b: i128) -> i128
@@ -139,7 +221,7 @@ pub(crate) fn unit_of(area: &Rectangle) -> Unit
     }
 }
 
-/// So many units.
+/// The length of `count` units.
 fn units(unit: &Unit, count: u32) -> i128
     ensures value { result ≡ pos count *ℤ unit.now.micrometres }
     ensures bound { unsigned_abs result < 2 ^ 92 }
@@ -160,21 +242,58 @@ fn top(area: &Rectangle, unit: &Unit) -> i128
 }
 
 fn width(area: &Rectangle, unit: &Unit) -> i128
-    ensures { result ≡ int_max (area.now.high.across -ℤ area.now.low.across)
+    ensures value { result ≡ int_max (width_of area.now)
         (pos 60 *ℤ unit.now.micrometres) +ℤ (pos 16 *ℤ unit.now.micrometres) }
+    ensures bound { unsigned_abs result < 2 ^ 94 }
 {
     greater(across(area), units(unit, 60)) + units(unit, 16)
 }
 
 fn height(area: &Rectangle, unit: &Unit, rows: u32) -> i128
     requires { rows < 2000 }
-    ensures { result ≡ (area.now.high.up -ℤ area.now.low.up)
-        +ℤ (pos (20 + 3 * rows) *ℤ unit.now.micrometres) }
+    ensures value { result ≡ height_of area.now
+        +ℤ (pos (23 + 3 * rows) *ℤ unit.now.micrometres) }
+    ensures bound { unsigned_abs result < 2 ^ 94 }
 {
-    up(area) + units(unit, 20 + 3 * rows)
+    up(area) + units(unit, 23 + 3 * rows)
 }
 
-/// The sheet for a picture with so many rows in the legend.
+/// How long a length is on the page: small pictures are drawn larger than they are.
+fn enlarged(unit: i64, length: i128) -> i128
+    requires { unsigned_abs length < 2 ^ 94 }
+    ensures { result ≡ enlarged unit length }
+{
+    if unit < 200 {
+        20 * length
+    } else if unit < 400 {
+        10 * length
+    } else if unit < 1_000 {
+        5 * length
+    } else if unit < 2_000 {
+        2 * length
+    } else {
+        length
+    }
+}
+
+/// How wide the sheet is on the page.
+fn page_width(area: &Rectangle, unit: &Unit) -> i128
+    ensures { result ≡ enlarged unit.now.micrometres (int_max (width_of area.now)
+        (pos 60 *ℤ unit.now.micrometres) +ℤ (pos 16 *ℤ unit.now.micrometres)) }
+{
+    enlarged(unit.micrometres, width(area, unit))
+}
+
+/// How high it is.
+fn page_height(area: &Rectangle, unit: &Unit, rows: u32) -> i128
+    requires { rows < 2000 }
+    ensures { result ≡ enlarged unit.now.micrometres (height_of area.now
+        +ℤ (pos (23 + 3 * rows) *ℤ unit.now.micrometres)) }
+{
+    enlarged(unit.micrometres, height(area, unit, rows))
+}
+
+/// The sheet for a picture with `rows` rows of tools and faults in the legend.
 pub(crate) fn sheet(area: &Rectangle, rows: u32) -> Sheet
     requires { rows < 2000 }
     ensures { result ≡ sheet area.now rows }
@@ -185,5 +304,19 @@ pub(crate) fn sheet(area: &Rectangle, rows: u32) -> Sheet
         top: top(area, &unit),
         width: width(area, &unit),
         height: height(area, &unit, rows),
+        page_width: page_width(area, &unit),
+        page_height: page_height(area, &unit, rows),
+    }
+}
+
+/// A rectangle as a part of the sheet.
+pub(crate) fn pane(area: &Rectangle) -> Pane
+    ensures { result ≡ pane area.now }
+{
+    Pane {
+        left: i128::from(area.low.across),
+        top: -i128::from(area.high.up),
+        width: across(area),
+        height: up(area),
     }
 }

@@ -5,9 +5,9 @@ ghost use Rattle.ngc_drawing.specs.declared.shape.Shape.TheVariants as shapes;
 ghost use Rattle.ngc_drawing.specs.Spelling.{decimals, size_text, length_text, down_text};
 ghost use Rattle.ngc_drawing.specs.Spelling.{spot_text, area_text, colour_text, ink_text, sign_at};
 ghost use Rattle.ngc_drawing.specs.Spelling.{axes_text, mark_text, turn_text, begin_text};
-ghost use Rattle.ngc_drawing.specs.Spelling.{scale_text, tool_text, shape_text};
+ghost use Rattle.ngc_drawing.specs.Spelling.{system_text, window_text, scale_text, tool_text, shape_text};
 
-use crate::shape::{Ink, Mark, Shape, Sheet};
+use crate::shape::{Ink, Mark, Pane, Shape, Sheet};
 use crate::spot::{Rectangle, Spot};
 use crate::view::View;
 use ngc_text::Chunk;
@@ -136,7 +136,7 @@ fn add_ink(chunk: &mut Chunk, ink: &Ink)
     }
 }
 
-/// Where signs in units begin: they stand about a spot.
+/// Where signs in units begin: they are drawn about a spot.
 fn begin_sign(chunk: &mut Chunk, unit: i64, at: &Spot)
     requires { length chunk.old + 190 ≤ CHUNK_SIZE }
     ensures text { chunk.new ≡ chunk.old
@@ -163,6 +163,21 @@ fn axes(view: View) -> &'static [u8]
     }
 }
 
+/// Adds the code of a coordinate system.
+fn add_system(chunk: &mut Chunk, system: usize)
+    requires { length chunk.old + 44 ≤ CHUNK_SIZE }
+    ensures text { chunk.new ≡ chunk.old ++ system_text system }
+    ensures short { length chunk.new ≤ length chunk.old + 44 }
+{
+    if system < 6 {
+        chunk.add_text(b"G");
+        chunk.add_number(54 + system);
+    } else {
+        chunk.add_text(b"G59.");
+        chunk.add_number(system - 5);
+    }
+}
+
 #[tactic(auto, unfolding(crate::specs::Spelling::mark_text))]
 fn add_mark(chunk: &mut Chunk, mark: &Mark)
     requires { length chunk.old + 220 ≤ CHUNK_SIZE }
@@ -179,6 +194,14 @@ fn add_mark(chunk: &mut Chunk, mark: &Mark)
         Mark::SecondHome => chunk.add_text(
             b"<path d=\"M-1 0L0 -1L1 0L0 1Z\"/><text x=\"-1\" y=\"2.4\" text-anchor=\"end\" fill=\"#808080\" stroke=\"none\">G30</text>",
         ),
+        Mark::Origin(system) => {
+            chunk.add_text(
+                b"<path d=\"M0 -3V0H3M-.5 -2L0 -3L.5 -2M2 -.5L3 0L2 .5\"/><text x=\"-.6\" y=\"2\" text-anchor=\"end\" fill=\"#808080\" stroke=\"none\">",
+            );
+            add_system(chunk, *system);
+            chunk.add_text(b"</text>");
+        }
+        Mark::Hole => chunk.add_text(b"<circle r=\".6\"/><path d=\"M-1 0H1M0 -1V1\"/>"),
         Mark::Axes(view) => {
             chunk.add_text(
                 b"<path d=\"M-6.5 -3V3H-1M-7.1 -1.6L-6.5 -3L-5.9 -1.6M-2.4 2.4L-1 3L-2.4 3.6\"/><text x=\"-.5\" y=\"3.7\" fill=\"#808080\" stroke=\"none\">",
@@ -204,9 +227,9 @@ fn add_begin(chunk: &mut Chunk, sheet: &Sheet)
     chunk.add_text(
         b"<?xml version=\"1.0\" encoding=\"UTF-8\"?>\n<svg xmlns=\"http://www.w3.org/2000/svg\" version=\"1.1\" width=\"",
     );
-    add_wide(chunk, sheet.width);
+    add_wide(chunk, sheet.page_width);
     chunk.add_text(b"mm\" height=\"");
-    add_wide(chunk, sheet.height);
+    add_wide(chunk, sheet.page_height);
     chunk.add_text(b"mm\" viewBox=\"");
     add_wide(chunk, sheet.left);
     chunk.add_text(b" ");
@@ -218,7 +241,30 @@ fn add_begin(chunk: &mut Chunk, sheet: &Sheet)
     chunk.add_text(b"\">\n");
 }
 
-/// Adds an outline behind what begins its element.
+fn add_window(chunk: &mut Chunk, pane: &Pane)
+    requires { HasLineRoom chunk.old }
+    ensures { chunk.new ≡ chunk.old ++ window_text pane.now }
+{
+    chunk.add_text(b"<svg x=\"");
+    add_wide(chunk, pane.left);
+    chunk.add_text(b"\" y=\"");
+    add_wide(chunk, pane.top);
+    chunk.add_text(b"\" width=\"");
+    add_wide(chunk, pane.width);
+    chunk.add_text(b"\" height=\"");
+    add_wide(chunk, pane.height);
+    chunk.add_text(b"\" viewBox=\"");
+    add_wide(chunk, pane.left);
+    chunk.add_text(b" ");
+    add_wide(chunk, pane.top);
+    chunk.add_text(b" ");
+    add_wide(chunk, pane.width);
+    chunk.add_text(b" ");
+    add_wide(chunk, pane.height);
+    chunk.add_text(b"\">\n");
+}
+
+/// Adds an outline after what begins its element.
 fn add_outline(chunk: &mut Chunk, beginning: &[u8], area: &Rectangle)
     requires room { HasLineRoom chunk.old }
     requires beginning { length beginning.now ≤ 100 }
@@ -300,7 +346,7 @@ fn add_legend(chunk: &mut Chunk, unit: i64, at: &Spot)
     chunk.add_text(b") scale(");
     add_length(chunk, unit);
     chunk.add_text(
-        b")\"><text y=\"8.4\" fill=\"#808080\" stroke=\"none\">\n<tspan x=\"0\" dy=\"3\">solid: feeds, dashed: traverses; of a tool each part's diameter x length</tspan>\n",
+        b")\"><text y=\"8.4\" fill=\"#808080\" stroke=\"none\">\n<tspan x=\"0\" dy=\"3\">solid: feeds, dashed: traverses, both at the tip of the mounted tool</tspan>\n<tspan x=\"0\" dy=\"3\">start, G28, G30: the spindle nose; tools: each part's diameter x length</tspan>\n",
     );
 }
 
@@ -408,6 +454,9 @@ pub(crate) fn add_shape(chunk: &mut Chunk, unit: i64, shape: &Shape)
             b"<g fill=\"none\" stroke=\"#808080\" stroke-width=\".15%\" stroke-linecap=\"round\" stroke-linejoin=\"round\" font-family=\"sans-serif\" font-size=\"2\">\n",
         ),
         Shape::Travel(area) => add_outline(chunk, b"<path d=\"", area),
+        Shape::Window(pane) => add_window(chunk, pane),
+        Shape::ThinTravel(area) => add_outline(chunk, b"<path stroke-width=\".1%\" d=\"", area),
+        Shape::WindowEnd => chunk.add_text(b"</svg>\n"),
         Shape::Fixture(area) => {
             add_outline(
                 chunk,
@@ -422,6 +471,7 @@ pub(crate) fn add_shape(chunk: &mut Chunk, unit: i64, shape: &Shape)
                 area,
             );
         }
+        Shape::FaultTool(area) => add_outline(chunk, b"<path stroke=\"#E60000\" d=\"", area),
         Shape::FixtureNumber(at, number) => add_fixture_number(chunk, unit, at, *number),
         Shape::FaultNumber(at, fault) => add_fault_number(chunk, unit, at, *fault),
         Shape::Mark(mark, at) => add_marked(chunk, unit, mark, at),

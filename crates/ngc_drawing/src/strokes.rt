@@ -1,4 +1,4 @@
-//! The path, motion by motion.
+//! The path of the tip, motion by motion.
 ghost use Rattle.std.specs.Prelude.{◌≡◌, ◌≤◌, ◌++◌, length, map};
 ghost use Rattle.ngc_text.specs.Failures.{CountsFailure};
 ghost use Rattle.ngc_commands.specs.Movement.{start_of};
@@ -10,6 +10,7 @@ ghost use Rattle.ngc_drawing.specs.Strokes.{lead, is_seen_clockwise, round, is_f
 ghost use Rattle.ngc_drawing.specs.Strokes.{arc_course, course, stroke, strokes_of};
 
 use crate::drawer::draw_all;
+use crate::eye::Eye;
 use crate::helix::{halfway_along, halvings, middle};
 use crate::pen::{Pen, Run, ink_of};
 use crate::shape::{Ink, Shape};
@@ -23,16 +24,16 @@ use ngc_fixed_length::{Point3, Turn};
 use ngc_text::{Chunk, Sink, WriteFault};
 
 /// Where the extreme points of an arc and its end are seen.
-pub(crate) fn corner_spots(view: View, arc: &Arc) -> ArrayVec<Spot, 5>
-    ensures { result.items ≡ corner_spots view arc.now }
+pub(crate) fn corner_spots(eye: &Eye, arc: &Arc) -> ArrayVec<Spot, 5>
+    ensures { result.items ≡ corner_spots eye.now arc.now }
 {
     let plane = arc.plane();
     let height = arc.start().height(plane);
     let mut spots = ArrayVec::new();
     for point in arc.extremes().as_slice() {
-        spots.push(view.spot(&point.at_height(plane, height)));
+        spots.push(eye.spot(&point.at_height(plane, height)));
     }
-    spots.push(view.spot(&arc.end()));
+    spots.push(eye.spot(&arc.end()));
     spots
 }
 
@@ -47,7 +48,7 @@ fn is_seen_clockwise(view: View, turn: Turn) -> bool
     }
 }
 
-/// What comes to the start of a motion.
+/// The shapes that lead to the start of a motion.
 fn lead(run: &Option<Run>, ink: Ink, from: Spot) -> ArrayVec<Shape, 2>
     ensures { result.items ≡ lead run.now ink from }
 {
@@ -70,35 +71,35 @@ fn is_flat(arc: &Arc) -> bool
 }
 
 /// An arc in quarters.
-fn rounds(view: View, arc: &Arc) -> ArrayVec<Shape, 5>
-    ensures { result.items ≡ map (round view arc.now) (corner_spots view arc.now) }
+fn rounds(eye: &Eye, arc: &Arc) -> ArrayVec<Shape, 5>
+    ensures { result.items ≡ map (round eye.now.view arc.now) (corner_spots eye.now arc.now) }
 {
     let radius = to_micrometres(arc.outer_radius() as i64);
-    let clockwise = is_seen_clockwise(view, arc.turn());
+    let clockwise = is_seen_clockwise(eye.view, arc.turn());
     let mut shapes = ArrayVec::new();
-    for spot in corner_spots(view, arc).as_slice() {
+    for spot in corner_spots(eye, arc).as_slice() {
         shapes.push(Shape::Round(radius, clockwise, *spot));
     }
     shapes
 }
 
 /// An arc to and fro.
-fn corners(view: View, arc: &Arc) -> ArrayVec<Shape, 5>
-    ensures { result.items ≡ map drawn.Line (corner_spots view arc.now) }
+fn corners(eye: &Eye, arc: &Arc) -> ArrayVec<Shape, 5>
+    ensures { result.items ≡ map drawn.Line (corner_spots eye.now arc.now) }
 {
     let mut shapes = ArrayVec::new();
-    for spot in corner_spots(view, arc).as_slice() {
+    for spot in corner_spots(eye, arc).as_slice() {
         shapes.push(Shape::Line(*spot));
     }
     shapes
 }
 
-/// Draws the way from one point of an arc to another, at most half a turn apart, halved so many
+/// Draws the way from one point of an arc to another, at most half a turn apart, halved `halvings`
 /// times.
 fn draw_curve<W: Sink>(
     chunk: &mut Chunk,
     unit: &Unit,
-    view: View,
+    eye: &Eye,
     arc: &Arc,
     halvings: u32,
     from: &Point3,
@@ -107,95 +108,87 @@ fn draw_curve<W: Sink>(
 ) -> Result<(), WriteFault>
     ensures drawn { Draws unit.now.micrometres (W.written sink.old)
         (W.written sink.new) chunk.old chunk.new result
-        (map (line_to view) (curve halvings arc.now from.now to.now)) }
+        (map (line_to eye.now) (curve halvings arc.now from.now to.now)) }
     ensures counts { CountsFailure (W.failures sink.old) (W.failures sink.new) result }
 {
     if halvings == 0 {
-        return draw_all(chunk, unit, &[Shape::Line(view.spot(to))], sink);
+        return draw_all(chunk, unit, &[Shape::Line(eye.spot(to))], sink);
     }
     let between = halfway_along(arc, from, to);
-    match draw_curve(chunk, unit, view, arc, halvings - 1, from, &between, sink) {
+    match draw_curve(chunk, unit, eye, arc, halvings - 1, from, &between, sink) {
         Ok(()) => {}
         Err(fault) => return Err(fault),
     }
-    draw_curve(chunk, unit, view, arc, halvings - 1, &between, to, sink)
+    draw_curve(chunk, unit, eye, arc, halvings - 1, &between, to, sink)
 }
 
 fn draw_helix<W: Sink>(
     chunk: &mut Chunk,
     unit: &Unit,
-    view: View,
+    eye: &Eye,
     arc: &Arc,
     sink: &mut W,
 ) -> Result<(), WriteFault>
     ensures drawn { Draws unit.now.micrometres (W.written sink.old)
         (W.written sink.new) chunk.old chunk.new result
-        (map (line_to view) (helix_points arc.now)) }
+        (map (line_to eye.now) (helix_points arc.now)) }
     ensures counts { CountsFailure (W.failures sink.old) (W.failures sink.new) result }
 {
     let halvings = halvings(arc.outer_radius());
     let middle = middle(arc);
-    match draw_curve(
-        chunk,
-        unit,
-        view,
-        arc,
-        halvings,
-        &arc.start(),
-        &middle,
-        sink,
-    ) {
+    match draw_curve(chunk, unit, eye, arc, halvings, &arc.start(), &middle, sink) {
         Ok(()) => {}
         Err(fault) => return Err(fault),
     }
-    draw_curve(chunk, unit, view, arc, halvings, &middle, &arc.end(), sink)
+    draw_curve(chunk, unit, eye, arc, halvings, &middle, &arc.end(), sink)
 }
 
 fn draw_arc<W: Sink>(
     chunk: &mut Chunk,
     unit: &Unit,
-    view: View,
+    eye: &Eye,
     arc: &Arc,
     sink: &mut W,
 ) -> Result<(), WriteFault>
     ensures drawn { Draws unit.now.micrometres (W.written sink.old)
-        (W.written sink.new) chunk.old chunk.new result (arc_course view arc.now) }
+        (W.written sink.new) chunk.old chunk.new result (arc_course eye.now arc.now) }
     ensures counts { CountsFailure (W.failures sink.old) (W.failures sink.new) result }
 {
-    if view.faces(arc.plane()) {
-        draw_all(chunk, unit, rounds(view, arc).as_slice(), sink)
+    if eye.view.faces(arc.plane()) {
+        draw_all(chunk, unit, rounds(eye, arc).as_slice(), sink)
     } else if is_flat(arc) {
-        draw_all(chunk, unit, corners(view, arc).as_slice(), sink)
+        draw_all(chunk, unit, corners(eye, arc).as_slice(), sink)
     } else {
-        draw_helix(chunk, unit, view, arc, sink)
+        draw_helix(chunk, unit, eye, arc, sink)
     }
 }
 
 fn draw_course<W: Sink>(
     chunk: &mut Chunk,
     unit: &Unit,
-    view: View,
+    eye: &Eye,
     way: &Way,
     sink: &mut W,
 ) -> Result<(), WriteFault>
     ensures drawn { Draws unit.now.micrometres (W.written sink.old)
-        (W.written sink.new) chunk.old chunk.new result (course view way.now) }
+        (W.written sink.new) chunk.old chunk.new result (course eye.now way.now) }
     ensures counts { CountsFailure (W.failures sink.old) (W.failures sink.new) result }
 {
     match way {
         Way::Line { start, end } => {
-            let to = view.spot(end);
-            if view.spot(start).is_same(&to) {
+            let to = eye.spot(end);
+            if eye.spot(start).is_same(&to) {
                 Ok(())
             } else {
                 draw_all(chunk, unit, &[Shape::Line(to)], sink)
             }
         }
-        Way::Arc(arc) => draw_arc(chunk, unit, view, arc, sink),
+        Way::Arc(arc) => draw_arc(chunk, unit, eye, arc, sink),
     }
 }
 
-fn start_of(way: &Way) -> Point3
+/// Where a way begins.
+pub(crate) fn start_of(way: &Way) -> Point3
     ensures { result ≡ start_of way.now }
 {
     match way {
@@ -208,42 +201,41 @@ fn start_of(way: &Way) -> Point3
 pub(crate) fn draw_stroke<W: Sink>(
     chunk: &mut Chunk,
     unit: &Unit,
-    view: View,
+    eye: &Eye,
     run: &Option<Run>,
     ink: Ink,
     way: &Way,
     sink: &mut W,
 ) -> Result<(), WriteFault>
     ensures drawn { Draws unit.now.micrometres (W.written sink.old)
-        (W.written sink.new) chunk.old chunk.new result (stroke view run.now ink way.now) }
+        (W.written sink.new) chunk.old chunk.new result (stroke eye.now run.now ink way.now) }
     ensures counts { CountsFailure (W.failures sink.old) (W.failures sink.new) result }
 {
-    let lead = lead(run, ink, view.spot(&start_of(way)));
+    let lead = lead(run, ink, eye.spot(&start_of(way)));
     match draw_all(chunk, unit, lead.as_slice(), sink) {
         Ok(()) => {}
         Err(fault) => return Err(fault),
     }
-    draw_course(chunk, unit, view, way, sink)
+    draw_course(chunk, unit, eye, way, sink)
 }
 
 /// Draws an action.
 pub(crate) fn draw_action<W: Sink>(
     chunk: &mut Chunk,
     unit: &Unit,
-    view: View,
     pen: &Pen,
     action: &Action,
     sink: &mut W,
 ) -> Result<(), WriteFault>
     ensures drawn { Draws unit.now.micrometres (W.written sink.old)
-        (W.written sink.new) chunk.old chunk.new result (strokes_of view pen.now action.now) }
+        (W.written sink.new) chunk.old chunk.new result (strokes_of pen.now action.now) }
     ensures counts { CountsFailure (W.failures sink.old) (W.failures sink.new) result }
 {
     match action {
         Action::Move(motion) => draw_stroke(
             chunk,
             unit,
-            view,
+            &pen.eye,
             &pen.run,
             ink_of(pen.rank, &motion.pace),
             &motion.way,

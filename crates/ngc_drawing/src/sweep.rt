@@ -152,7 +152,7 @@ fn finish_last<A: Allocator>(
     }
 }
 
-/// Goes through the pieces of a motion, and answers what is drawn as one behind them.
+/// Goes through the pieces of a motion, and returns what is drawn as one after them.
 fn sweep_pieces<A: Allocator>(
     list: &mut Vec<Sweep, A>,
     view: View,
@@ -161,7 +161,7 @@ fn sweep_pieces<A: Allocator>(
     pieces: &[Piece],
     before: &Option<Sweep>,
 ) -> Result<Option<Sweep>, AllocError>
-    // Whatever boxes come behind them.
+    // Whatever boxes follow.
     ensures { IfOk result (λ held. (rest : List Sweep) →
         list.old.items ++ joined view most before.now (map (sweep_of rank) pieces.now ++ rest)
         ≡ list.new.items ++ joined view most held rest) }
@@ -222,7 +222,7 @@ impl Sweeping {
         motions: &Motions<B>,
         action: &Action,
     ) -> Result<Sweeping, AllocError>
-        // Whatever is done behind it.
+        // Whatever is done after it.
         ensures { IfOk result (λ new. (rest : List Action) →
             list.old.items ++ sweeps_ahead view most tools.now self.now
             (action.now ∷ rest) motions.now ≡ list.new.items

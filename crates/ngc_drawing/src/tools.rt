@@ -15,7 +15,7 @@ pub(crate) fn number_of(tool: &Option<Tool>) -> u32
     }
 }
 
-/// Where in a list the tool of a number first stands, or the list's length.
+/// Returns where in a list the tool of a number is first, or the list's length.
 pub(crate) fn rank_of(tools: &[Option<Tool>], number: u32) -> usize
     ensures { result ≡ rank_of tools.now number }
 {
@@ -27,7 +27,7 @@ pub(crate) fn rank_of(tools: &[Option<Tool>], number: u32) -> usize
     tools.len()
 }
 
-/// The tool that is mounted behind an action.
+/// Returns the tool that is mounted after an action.
 pub(crate) fn mounted(tool: &Option<Tool>, action: &Action) -> Option<Tool>
     ensures { result ≡ mounted tool.now action.now }
 {

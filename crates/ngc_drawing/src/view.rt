@@ -47,7 +47,7 @@ fn spot_of(across: i64, up: i64) -> Spot
 }
 
 impl View {
-    /// Where a place of the machine stands.
+    /// Returns where a place of the machine is in the picture.
     pub(crate) fn sees(self, place: &Place) -> Spot
         ensures { result ≡ spot self (place_of place.now) }
     {
@@ -58,7 +58,7 @@ impl View {
         }
     }
 
-    /// Where a point of the machine stands.
+    /// Returns where a point of the machine is in the picture.
     pub fn spot(self, point: &Point3) -> Spot
         ensures { result ≡ spot self point.now }
     {

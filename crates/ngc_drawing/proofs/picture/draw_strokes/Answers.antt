@@ -17,8 +17,8 @@ returns-in-Err-clause-drawn g c =
     let action = c.command-item.result.action in
     stopped c.args.unit.now.micrometres (g.W.Sink.written c.args.sink.now) (g.W.Sink.written c.loop-command.sink)
     (g.W.Sink.written c.draw_action.new.sink) c.args.chunk.now c.loop-command.chunk
-    (strokes_of view pen action) (strokes_from view ts (after view ts pen action) (drop (i + 1) cs)) (strokes_from view ts pen (drop i cs)) (strokes view ts cs)
-    (next_command view ts pen cs i c.command-item.result c.loop-command-test.true c.command-item.is) c.loop-command.invariant.ahead
+    (strokes_of pen action) (strokes_from ts (after ts pen action) (drop (i + 1) cs)) (strokes_from ts pen (drop i cs)) (strokes view ts cs)
+    (next_command ts pen cs i c.command-item.result c.loop-command-test.true c.command-item.is) c.loop-command.invariant.ahead
     c.in-Err.ensures.drawn
 
 pub loop-command-preserved : goal.loop-command-preserved
@@ -32,8 +32,8 @@ loop-command-preserved g c =
     let drawn =
     went c.args.unit.now.micrometres (g.W.Sink.written c.args.sink.now) (g.W.Sink.written c.loop-command.sink)
     (g.W.Sink.written c.draw_action.new.sink) c.args.chunk.now c.loop-command.chunk c.draw_action.new.chunk
-    (strokes_of view pen action) (strokes_from view ts (after view ts pen action) (drop (i + 1) cs)) (strokes_from view ts pen (drop i cs)) (strokes view ts cs)
-    (next_command view ts pen cs i c.command-item.result c.loop-command-test.true c.command-item.is) c.loop-command.invariant.ahead
+    (strokes_of pen action) (strokes_from ts (after ts pen action) (drop (i + 1) cs)) (strokes_from ts pen (drop i cs)) (strokes view ts cs)
+    (next_command ts pen cs i c.command-item.result c.loop-command-test.true c.command-item.is) c.loop-command.invariant.ahead
     c.in-Ok.ensures.drawn in
     record {
       ahead = rw c.after-pen.ensures drawn;
@@ -47,10 +47,10 @@ returns-clause-drawn g c =
     let cs = c.args.commands.now in
     let i = c.loop-command.command-index in
     let pen = c.loop-command.pen in
-    let none = at_drop_all (strokes_from view ts pen) cs i c.loop-command-test.false in
+    let none = at_drop_all (strokes_from ts pen) cs i c.loop-command-test.false in
     last c.draw_last_end.result c.args.unit.now.micrometres (g.W.Sink.written c.args.sink.now) (g.W.Sink.written c.loop-command.sink)
     (g.W.Sink.written c.draw_last_end.new.sink) c.args.chunk.now c.loop-command.chunk c.draw_last_end.new.chunk
-    (strokes_from view ts pen (drop i cs)) (strokes view ts cs) c.loop-command.invariant.ahead
+    (strokes_from ts pen (drop i cs)) (strokes view ts cs) c.loop-command.invariant.ahead
     (subst (λ (l : List Shape). Draws c.args.unit.now.micrometres (g.W.Sink.written c.loop-command.sink)
     (g.W.Sink.written c.draw_last_end.new.sink) c.loop-command.chunk c.draw_last_end.new.chunk c.draw_last_end.result l)
     (sym none) c.draw_last_end.ensures.drawn)

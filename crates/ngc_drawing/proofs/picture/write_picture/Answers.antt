@@ -23,20 +23,20 @@ part_out (Err e) old mid new text after h k = beginning_written old mid new text
 pub returns-in-Ok-clause-ok : goal.returns-in-Ok-clause-ok
 returns-in-Ok-clause-ok g c =
     whole_out c.write_out.result (g.W.Sink.written c.args.sink.now) (g.W.Sink.written c.draw_picture.new.sink) (g.W.Sink.written c.write_out.new.sink)
-    (text_of c.args.view (file_of c.args.machine.now) c.args.commands.now c.args.refusal.now c.args.tools.now c.args.swept.now) c.draw_picture.new.chunk
+    (text_of c.args.look.now (file_of c.args.machine.now) c.args.commands.now c.args.refusal.now c.args.tools.now c.args.swept.now) c.draw_picture.new.chunk
     (subst (λ (l : List ℕ). WritesFront (g.W.Sink.written c.args.sink.now) (g.W.Sink.written c.draw_picture.new.sink) l c.draw_picture.new.chunk)
-    (from_start c.args.view (file_of c.args.machine.now) c.args.commands.now c.args.refusal.now c.frame-area.result c.args.tools.now c.args.swept.now
+    (from_start c.args.look.now (file_of c.args.machine.now) c.args.commands.now c.args.refusal.now c.frame-area.result c.args.tools.now c.args.swept.now
     c.new-chunk.result c.frame-area.ensures c.new-chunk.ensures) c.in-Ok.ensures.drawn) c.write_out.ensures.ok
 
 pub returns-in-Ok-clause-fault : goal.returns-in-Ok-clause-fault
 returns-in-Ok-clause-fault g c =
     part_out c.write_out.result (g.W.Sink.written c.args.sink.now) (g.W.Sink.written c.draw_picture.new.sink) (g.W.Sink.written c.write_out.new.sink)
-    (text_of c.args.view (file_of c.args.machine.now) c.args.commands.now c.args.refusal.now c.args.tools.now c.args.swept.now) c.draw_picture.new.chunk
+    (text_of c.args.look.now (file_of c.args.machine.now) c.args.commands.now c.args.refusal.now c.args.tools.now c.args.swept.now) c.draw_picture.new.chunk
     (subst (λ (l : List ℕ). WritesFront (g.W.Sink.written c.args.sink.now) (g.W.Sink.written c.draw_picture.new.sink) l c.draw_picture.new.chunk)
-    (from_start c.args.view (file_of c.args.machine.now) c.args.commands.now c.args.refusal.now c.frame-area.result c.args.tools.now c.args.swept.now
+    (from_start c.args.look.now (file_of c.args.machine.now) c.args.commands.now c.args.refusal.now c.frame-area.result c.args.tools.now c.args.swept.now
     c.new-chunk.result c.frame-area.ensures c.new-chunk.ensures) c.in-Ok.ensures.drawn) c.write_out.ensures.fault
 
 pub returns-in-Err-clause-fault : goal.returns-in-Err-clause-fault
 returns-in-Err-clause-fault g c = subst (λ (l : List ℕ). AppendsBeginning (g.W.Sink.written c.args.sink.now) (g.W.Sink.written c.draw_picture.new.sink) l)
-    (from_start c.args.view (file_of c.args.machine.now) c.args.commands.now c.args.refusal.now c.frame-area.result c.args.tools.now c.args.swept.now
+    (from_start c.args.look.now (file_of c.args.machine.now) c.args.commands.now c.args.refusal.now c.frame-area.result c.args.tools.now c.args.swept.now
     c.new-chunk.result c.frame-area.ensures c.new-chunk.ensures) c.in-Err.ensures.drawn

@@ -9,4 +9,20 @@ returns c =
     let r1 : to_z w128 (of_z w128 c.top.result) ≡ c.top.result = omega (arith, ints) in
     let r2 : to_z w128 (of_z w128 c.width.result) ≡ c.width.result = omega (arith, ints) in
     let r3 : to_z w128 (of_z w128 c.height.result) ≡ c.height.result = omega (arith, ints) in
-    rw (r0, r1, r2, r3, c.left.ensures, c.top.ensures, c.width.ensures, c.height.ensures, c.unit_of-unit.ensures)
+    let r4 : to_z w128 (of_z w128 c.page_width.result) ≡ c.page_width.result = omega (arith, ints) in
+    let r5 : to_z w128 (of_z w128 c.page_height.result) ≡ c.page_height.result = omega (arith, ints) in
+    rw (
+      r0,
+      r1,
+      r2,
+      r3,
+      r4,
+      r5,
+      c.left.ensures,
+      c.top.ensures,
+      c.width.ensures.value,
+      c.height.ensures.value,
+      c.page_width.ensures,
+      c.page_height.ensures,
+      c.unit_of-unit.ensures,
+    )

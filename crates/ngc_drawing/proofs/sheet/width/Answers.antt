@@ -3,8 +3,8 @@ use Rattle.std.specs.Int.{w128}
 use Rattle.std.proofs.lemmas.Int.{ints}
 use Rattle.ngc_drawing.proofs.sheet.width.Goals as goal
 
-pub returns : goal.returns
-returns c =
+pub returns-clause-value : goal.returns-clause-value
+returns-clause-value c =
     let across : to_z w128 (of_z w128 c.across.result) ≡ c.across.result = omega (arith, ints) in
     let least : to_z w128 (of_z w128 c.units.result) ≡ c.units.result = omega (arith, ints) in
     let greater : to_z w128 (of_z w128 c.greater.result) ≡ c.greater.result = omega (arith, ints) in

@@ -7,6 +7,8 @@ use Rattle.ngc_drawing.proofs.spelling.add_begin.Goals as goal
 pub returns : goal.returns
 returns c =
     let v0 : to_z w128 (of_z w128 c.args.sheet.now.width) ≡ c.args.sheet.now.width = omega (arith, ints) in
+    let w0 : to_z w128 (of_z w128 c.args.sheet.now.page_width) ≡ c.args.sheet.now.page_width = omega (arith, ints) in
+    let w1 : to_z w128 (of_z w128 c.args.sheet.now.page_height) ≡ c.args.sheet.now.page_height = omega (arith, ints) in
     let v1 : to_z w128 (of_z w128 c.args.sheet.now.height) ≡ c.args.sheet.now.height = omega (arith, ints) in
     let v2 : to_z w128 (of_z w128 c.args.sheet.now.left) ≡ c.args.sheet.now.left = omega (arith, ints) in
     let v3 : to_z w128 (of_z w128 c.args.sheet.now.top) ≡ c.args.sheet.now.top = omega (arith, ints) in
@@ -25,9 +27,9 @@ returns c =
       v2,
       c.add_text-3.ensures,
       c.add_wide-2.ensures.text,
-      v1,
+      w1,
       c.add_text-2.ensures,
       c.add_wide.ensures.text,
-      v0,
+      w0,
       c.add_text.ensures,
     ) (simp append_assoc)

@@ -11,7 +11,7 @@ use Rattle.ngc_drawing.proofs.strokes.rounds.Goals as goal
 
 pub push-requires : goal.push-requires
 push-requires c =
-    let few = how_many (round c.args.view c.args.arc.now) c.as_slice-spot-items.result.now c.loop-spot.spot-index c.loop-spot.shapes.items
+    let few = how_many (round c.args.eye.now.view c.args.arc.now) c.as_slice-spot-items.result.now c.loop-spot.spot-index c.loop-spot.shapes.items
     (omega arith) c.loop-spot.invariant in
     let within : length c.as_slice-spot-items.result.now ≤ 5 = c.as_slice-spot-items.ensures.fits in
     let room : length c.loop-spot.shapes.items < 5 = omega (arith, few, within, c.loop-spot-test.true) in
@@ -26,16 +26,16 @@ loop-spot-preserved c =
     let cast : to_z w64 c.outer_radius.result ≡ pos c.outer_radius.result = omega (arith, ints) in
     let radius : c.to_micrometres-radius.result ≡ micrometres (pos (outer_radius arc)) =
     rw (cast, c.outer_radius.ensures.value) at c.to_micrometres-radius.ensures in
-    let clockwise : c.is_seen_clockwise-clockwise.result ≡ is_seen_clockwise c.args.view arc.turn =
+    let clockwise : c.is_seen_clockwise-clockwise.result ≡ is_seen_clockwise c.args.eye.now.view arc.turn =
     rw c.turn.ensures at c.is_seen_clockwise-clockwise.ensures in
     let is : shapes.Round (to_z w64 (of_z w64 c.to_micrometres-radius.result)) c.is_seen_clockwise-clockwise.result
-    (get_or xs i (record { across = pos 0; up = pos 0 })) ≡ round c.args.view arc (get_or xs i (record { across = pos 0; up = pos 0 })) =
+    (get_or xs i (record { across = pos 0; up = pos 0 })) ≡ round c.args.eye.now.view arc (get_or xs i (record { across = pos 0; up = pos 0 })) =
     rw (kept, radius, clockwise) refl in
-    one_more (round c.args.view arc) xs i (record { across = pos 0; up = pos 0 }) c.loop-spot.shapes.items c.push.new.self.items _ c.loop-spot-test.true
+    one_more (round c.args.eye.now.view arc) xs i (record { across = pos 0; up = pos 0 }) c.loop-spot.shapes.items c.push.new.self.items _ c.loop-spot-test.true
     c.loop-spot.invariant is c.push.ensures.items
 
 pub returns : goal.returns
 returns c =
-    let all = all_mapped (round c.args.view c.args.arc.now) c.as_slice-spot-items.result.now c.loop-spot.spot-index c.loop-spot.shapes.items
+    let all = all_mapped (round c.args.eye.now.view c.args.arc.now) c.as_slice-spot-items.result.now c.loop-spot.spot-index c.loop-spot.shapes.items
     (omega arith) c.loop-spot.invariant in
     rw (all, c.as_slice-spot-items.ensures.value, c.corner_spots.ensures) refl

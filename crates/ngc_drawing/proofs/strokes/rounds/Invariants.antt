@@ -3,4 +3,4 @@ use Rattle.ngc_drawing.specs.Strokes.{round}
 use Rattle.ngc_drawing.proofs.strokes.rounds.Given as goal
 
 abbrev pub invariant-loop-spot : goal.invariant-loop-spot
-invariant-loop-spot l = l.shapes.items ≡ map (round l.fn.view l.fn.arc) (take l.spot-index l.spot-items)
+invariant-loop-spot l = l.shapes.items ≡ map (round l.fn.eye.view l.fn.arc) (take l.spot-index l.spot-items)

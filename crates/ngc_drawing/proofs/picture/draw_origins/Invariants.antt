@@ -1,0 +1,11 @@
+use Rattle.std.proofs.Common.{◌≡◌, drop}
+use Rattle.ngc_drawing.specs.Pictures.{origins_from}
+use Rattle.ngc_drawing.proofs.Ahead.{Ahead}
+use Rattle.ngc_drawing.proofs.picture.draw_origins.Given as goal
+
+abbrev pub invariant-loop-i : goal.invariant-loop-i
+invariant-loop-i g l = record {
+  ahead : Ahead l.unit.micrometres (g.W.Sink.written l.initial.sink) (g.W.Sink.written l.sink) l.initial.chunk l.chunk
+      (origins_from l.view l.area l.i (drop l.i l.origins)) (origins_from l.view l.area 0 l.origins);
+  failures : g.W.Sink.failures l.sink ≡ g.W.Sink.failures l.initial.sink;
+}
