@@ -1,5 +1,5 @@
 -- Tests of whole numbers.
-use Rattle.std.proofs.Common.{◌≡◌, refl, sym, arith, true, false, ℤ, pos, ◌-ℤ◌, ◌*ℤ◌, ◌≤ℤ◌}
+use Rattle.std.proofs.Common.{◌≡◌, ◌∙◌, ap, refl, sym, arith, true, false, ℤ, pos, ◌-ℤ◌, ◌*ℤ◌, ◌≤ℤ◌}
 use Rattle.std.specs.Prelude.{Bool, ◌&&◌, ◌||◌, int_le}
 use Rattle.std.specs.Int.{int_max}
 use Rattle.std.proofs.lemmas.Int.{ints, clamps}
@@ -68,3 +68,7 @@ tightest_law r =
     simp least_left
     (triples (int_le (pos 0) r.x.below) (int_le (pos 0) r.x.above) (int_le (pos 0) r.y.below) (int_le (pos 0) r.y.above) (int_le (pos 0) r.z.below)
     (int_le (pos 0) r.z.above))
+
+-- where the first of two tests holds, both hold exactly where the second does
+pub both_hold : (p q r : Bool) → p ≡ true → r ≡ q → r ≡ (p && q)
+both_hold p q r holds is = is ∙ ap (λ (b : Bool). b && q) (sym holds)

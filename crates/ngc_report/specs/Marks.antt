@@ -25,7 +25,7 @@ use Rattle.ngc_report.specs.declared.marks.Wanted.{Wanted}
 use Rattle.ngc_report.specs.declared.marks.Wanted.TheVariants.{Any, Number, Reckoned}
 use Rattle.ngc_report.specs.declared.form.Form.{Form}
 use Rattle.ngc_report.specs.declared.form.Form.TheVariants.{Words, Json}
-use Rattle.ngc_report.specs.Quotes.{bytes_with, mark}
+use Rattle.ngc_report.specs.Quotes.{bytes_with, mark, quote}
 
 -- ---- the word
 
@@ -125,3 +125,9 @@ named_below form number fault (Some bytes) =
 
 abbrev pub named_line : Form → ℕ → Fault → List Line → List ℕ
 named_line form number fault lines = named_below form number fault (bytes_with number lines)
+
+-- a line with both below it, or nothing where there is none
+abbrev pub named_quote : Form → ℕ → Fault → Option (List ℕ) → List ℕ
+named_quote form number fault None = []
+named_quote form number fault (Some bytes) =
+    quote form number (Some bytes) ++ named_below form number fault (Some bytes)

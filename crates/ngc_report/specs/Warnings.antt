@@ -30,10 +30,12 @@ use Rattle.ngc_report.specs.ToolStates.{beginning, next}
 use Rattle.ngc_report.specs.Ways.{square_between}
 use Rattle.ngc_report.specs.declared.line.Line as told
 use Rattle.ngc_report.specs.declared.line.Line.TheVariants as lines
+use Rattle.ngc_report.specs.declared.tool_state.Entry.{Entry}
 use Rattle.ngc_report.specs.declared.tool_state.ToolState.{ToolState}
 use Rattle.ngc_report.specs.declared.warnings.Concern.{Concern}
 use Rattle.ngc_report.specs.declared.warnings.Concern.TheVariants.{NoTool, IdleSpindle}
 use Rattle.ngc_report.specs.declared.warnings.Concern.TheVariants.{FastFeed, NearlyFull, LowHome}
+use Rattle.ngc_report.specs.declared.warnings.Concern.TheVariants.{LowAcross}
 use Rattle.ngc_report.specs.declared.warnings.Warning.{Warning}
 
 -- ---- without a tool
@@ -105,11 +107,14 @@ is_nearly_full (Line start end) = false
 abbrev pub is_at : Point3 → Point3 → Bool
 is_at p q = int_eq p.x q.x && (int_eq p.y q.y && int_eq p.z q.z)
 
+-- not only up or down
+abbrev pub is_sideways : Point3 → Point3 → Bool
+is_sideways start end = not (int_eq start.x end.x) || not (int_eq start.y end.y)
+
 -- to a home position, and not only up or down
 abbrev pub goes_home : MachineFile → Point3 → Point3 → Bool
 goes_home machine start end =
-    (is_at end machine.home28 || is_at end machine.home30)
-    && (not (int_eq start.x end.x) || not (int_eq start.y end.y))
+    (is_at end machine.home28 || is_at end machine.home30) && is_sideways start end
 
 -- a body reaches below the top of some fixture
 abbrev pub is_low : MachineFile → Solid → Bool
@@ -125,6 +130,35 @@ is_low_home machine tool (Line start end) Rapid =
     goes_home machine start end && comes_low machine tool (reach machine.step (Line start end))
 is_low_home machine tool _ _ = false
 
+-- ---- across the work
+
+-- a box reaches inside an area along X, and along Y
+abbrev pub is_into_x : GridBox → GridBox → Bool
+is_into_x a b = int_lt b.low.x a.high.x && int_lt a.low.x b.high.x
+
+abbrev pub is_into_y : GridBox → GridBox → Bool
+is_into_y a b = int_lt b.low.y a.high.y && int_lt a.low.y b.high.y
+
+-- and as seen from above
+abbrev pub is_across : GridBox → GridBox → Bool
+is_across a b = is_into_x a b && is_into_y a b
+
+abbrev pub is_over : Option GridBox → GridBox → Bool
+is_over None b = false
+is_over (Some a) b = is_across a b
+
+-- an end of a line is lower than this height
+abbrev pub is_lower : Option ℤ → Point3 → Point3 → Bool
+is_lower None start end = false
+is_lower (Some height) start end = int_lt start.z height || int_lt end.z height
+
+-- A traverse that isn't only up or down, that reaches inside the area of the feeds, and of which an
+-- end is lower than the height at which the last feeds began.
+abbrev pub is_low_across : ℤ → Option GridBox → Entry → Way → Pace → Bool
+is_low_across step area e (Line start end) Rapid =
+    is_sideways start end && (is_lower e.height start end && is_over area (reach step (Line start end)))
+is_low_across step area e _ _ = false
+
 -- ---- over a program
 
 abbrev pub concerns : MachineFile → Concern → ToolState → Motion → Bool
@@ -133,6 +167,7 @@ concerns machine IdleSpindle s m = is_idle s.is_turning s.reached.tool m.pace
 concerns machine FastFeed s m = is_fast machine m.way m.pace
 concerns machine NearlyFull s m = is_nearly_full m.way
 concerns machine LowHome s m = is_low_home machine s.reached.tool m.way m.pace
+concerns machine LowAcross s m = is_low_across machine.step s.area s.entry m.way m.pace
 
 -- a motion, with what holds then of tool and spindle
 abbrev pub is_concerned : MachineFile → Concern → ToolState → Action → Bool
@@ -164,7 +199,7 @@ warning concern (line ∷ lines) = Some (record {
 
 abbrev pub warning_about : MachineFile → Concern → List Command → Option Warning
 warning_about machine concern commands =
-    warning concern (lines_of machine concern (beginning machine) commands)
+    warning concern (lines_of machine concern (beginning machine concern commands) commands)
 
 abbrev pub warned_lines : Option Warning → List told.Line
 warned_lines None = []
@@ -173,11 +208,15 @@ warned_lines (Some w) = lines.Warned w ∷ []
 abbrev pub warned : MachineFile → Concern → List Command → List told.Line
 warned machine concern commands = warned_lines (warning_about machine concern commands)
 
--- what is asked of a motion by itself, and of traverses home
+-- of traverses
+abbrev pub traverse_lines : MachineFile → List Command → List told.Line
+traverse_lines machine commands = warned machine LowHome commands ++ warned machine LowAcross commands
+
+-- of a motion by itself, and of traverses
 abbrev pub motion_lines : MachineFile → List Command → List told.Line
 motion_lines machine commands =
     warned machine FastFeed commands
-    ++ (warned machine NearlyFull commands ++ warned machine LowHome commands)
+    ++ (warned machine NearlyFull commands ++ traverse_lines machine commands)
 
 abbrev pub warning_lines : MachineFile → List Command → List told.Line
 warning_lines machine commands =

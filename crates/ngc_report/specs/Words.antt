@@ -21,6 +21,7 @@ use Rattle.ngc_report.specs.declared.uses.ToolUse.{ToolUse}
 use Rattle.ngc_report.specs.declared.warnings.Concern.{Concern}
 use Rattle.ngc_report.specs.declared.warnings.Concern.TheVariants.{NoTool, IdleSpindle}
 use Rattle.ngc_report.specs.declared.warnings.Concern.TheVariants.{FastFeed, NearlyFull, LowHome}
+use Rattle.ngc_report.specs.declared.warnings.Concern.TheVariants.{LowAcross}
 use Rattle.ngc_report.specs.declared.warnings.Warning.{Warning}
 
 -- ---- lengths
@@ -102,6 +103,7 @@ concern_text IdleSpindle = codes "feeds with a tool and the spindle off"
 concern_text FastFeed = codes "feeds above the greatest speed of the machine"
 concern_text NearlyFull = codes "arcs of over 359 degrees with ends less than 0.01 mm apart"
 concern_text LowHome = codes "traverses home along X or Y, below the top of a fixture"
+concern_text LowAcross = codes "traverses across the work without a retract before them"
 
 abbrev pub warning_text : Warning → List ℕ
 warning_text w =

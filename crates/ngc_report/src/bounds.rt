@@ -17,7 +17,7 @@ use ngc_fixed_length::{GridBox, Nm, StepPos};
 use ngc_machine::Machine;
 use std::alloc::Allocator;
 
-fn joint_box(one: &GridBox, other: &GridBox) -> GridBox
+pub(crate) fn joint_box(one: &GridBox, other: &GridBox) -> GridBox
     ensures { result ≡ joint_box one.now other.now }
 {
     GridBox {

@@ -40,6 +40,7 @@
 //! warning: feeds above the greatest speed of the machine: 5, the first in line 7.
 //! warning: arcs of over 359 degrees with ends less than 0.01 mm apart: 1, the first in line 8.
 //! warning: traverses home along X or Y, below the top of a fixture: 1, the first in line 9.
+//! warning: traverses across the work without a retract before them: 1, the first in line 9.
 //! ```
 #![tactic(auto)]
 
@@ -70,7 +71,7 @@ pub use form::Form;
 pub use gaps::gap;
 pub use line::{Along, Line};
 pub use margins::{Axis, Margin, Side};
-pub use marks::{letter_byte, mark_of, write_named, written_number};
+pub use marks::{letter_byte, mark_of, write_named, write_named_source, written_number};
 pub use nearest::Nearest;
 pub use quotes::write_line;
 pub use refusals::write_refusals;

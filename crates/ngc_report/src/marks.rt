@@ -1,21 +1,24 @@
 //! The word of a quoted line that a fault names, in a mark and a sentence below the line.
 ghost use Rattle.std.specs.Prelude.{◌≡◌, ◌+◌, ◌≤◌, ◌++◌, length, OnOk, OnErr};
-ghost use Rattle.std.specs.Option.{option_or};
+ghost use Rattle.std.specs.Option.{option_map, option_or};
 ghost use Rattle.std.specs.Io.KnownBytes.{Appends};
 ghost use Rattle.ngc_text.specs.Failures.{CountsFailure};
 ghost use Rattle.ngc_text.specs.Written.{AppendsBeginning};
 ghost use Rattle.ngc_line_reader.specs.Letter.{letter_byte};
+ghost use Rattle.ngc_line_reader.specs.Program.{lines_of};
 ghost use Rattle.ngc_line_reader.specs.ProgramView.{text_in};
 ghost use Rattle.ngc_line_reader.specs.ScanLine.{parts_of};
 ghost use Rattle.ngc_text.specs.Collected.{CHUNK_SIZE, HasLineRoom};
+ghost use Rattle.ngc_report.specs.Quotes.{bytes_with};
 ghost use Rattle.ngc_report.specs.Marks.{number_of, written_number, is_wanted, fits, first_word};
 ghost use Rattle.ngc_report.specs.Marks.{named_word, mark_of, mark_if, letter_text, unknown_text};
 ghost use Rattle.ngc_report.specs.Marks.{idle_text, missing_text, phrase, has_phrase};
 ghost use Rattle.ngc_report.specs.Marks.{words_sentence, fact_sentence, sentence, named_line};
+ghost use Rattle.ngc_report.specs.Marks.{named_quote};
 
 use crate::form::Form;
-use crate::quotes::line_bytes;
-use crate::source_lines::add_mark;
+use crate::quotes::{line_bytes, quote_of};
+use crate::source_lines::{add_mark, source_line};
 use ngc_canonical::Fault;
 use ngc_line_reader::{Letter, Line, Program, RawWord, Symbol, Token, read_line};
 use ngc_modal_state::{MissingWord, ModalFault};
@@ -311,5 +314,39 @@ pub fn write_named<A: Allocator, W: Sink>(
     ensures counts { CountsFailure (W.failures sink.old) (W.failures sink.new) result }
 {
     let mut chunk = named(program, form, number, fault);
+    chunk.write_out(sink)
+}
+
+fn named_quote(form: Form, number: u32, bytes: Option<&[u8]>, fault: &Fault) -> Chunk
+    ensures { result ≡ named_quote form number fault.now (option_map (λ b. b.now) bytes.entry) }
+{
+    let mut chunk = quote_of(form, number, bytes);
+    match bytes {
+        None => {}
+        Some(bytes) => add_named(&mut chunk, form, number, bytes, fault),
+    }
+    chunk
+}
+
+/// Writes a line of a program's text, by its number from 1, and below it which word the fault is
+/// about, as `write_named` does. Nothing is written where there is no such line.
+///
+/// After a fault (902, and only where the sink failed) a prefix of the text is written.
+pub fn write_named_source<W: Sink>(
+    form: Form,
+    text: &[u8],
+    number: u32,
+    fault: &Fault,
+    sink: &mut W,
+) -> Result<(), WriteFault>
+    ensures ok { OnOk result
+        (Appends (W.written sink.old) (W.written sink.new)
+        (named_quote form number fault.now (bytes_with number (lines_of text.now)))) }
+    ensures fault { OnErr result
+        (AppendsBeginning (W.written sink.old) (W.written sink.new)
+        (named_quote form number fault.now (bytes_with number (lines_of text.now)))) }
+    ensures counts { CountsFailure (W.failures sink.old) (W.failures sink.new) result }
+{
+    let mut chunk = named_quote(form, number, source_line(text, number), fault);
     chunk.write_out(sink)
 }

@@ -27,7 +27,7 @@ fn cut_line(bytes: &[u8]) -> (&[u8], &[u8])
 }
 
 /// The bytes of the line with this number, from 1.
-fn source_line(bytes: &[u8], number: u32) -> Option<&[u8]>
+pub(crate) fn source_line(bytes: &[u8], number: u32) -> Option<&[u8]>
     ensures { option_map (λ b. b.now) result ≡ bytes_with number (lines_of bytes.now) }
 {
     let mut left = number;

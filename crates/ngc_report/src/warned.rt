@@ -5,7 +5,7 @@ ghost use Rattle.ngc_text.specs.Failures.{CountsFailure};
 ghost use Rattle.ngc_text.specs.Written.{AppendsBeginning};
 ghost use Rattle.ngc_machine.specs.Machine.{file_of};
 ghost use Rattle.ngc_report.specs.Reports.{Tells};
-ghost use Rattle.ngc_report.specs.Warnings.{warned, motion_lines, warning_lines};
+ghost use Rattle.ngc_report.specs.Warnings.{warned, traverse_lines, motion_lines, warning_lines};
 ghost use Rattle.ngc_report.specs.Forms.{report_text};
 
 use crate::form::Form;
@@ -35,6 +35,24 @@ fn tell_warned<A: Allocator, W: Sink>(
     }
 }
 
+fn tell_traverses<A: Allocator, W: Sink>(
+    chunk: &mut Chunk,
+    form: Form,
+    machine: &Machine<A>,
+    commands: &[Command],
+    sink: &mut W,
+) -> Result<(), WriteFault>
+    ensures told { Tells form (W.written sink.old) (W.written sink.new) chunk.old chunk.new result
+        (traverse_lines (file_of machine.now) commands.now) }
+    ensures counts { CountsFailure (W.failures sink.old) (W.failures sink.new) result }
+{
+    match tell_warned(chunk, form, machine, Concern::LowHome, commands, sink) {
+        Ok(()) => {}
+        Err(fault) => return Err(fault),
+    }
+    tell_warned(chunk, form, machine, Concern::LowAcross, commands, sink)
+}
+
 fn tell_motions<A: Allocator, W: Sink>(
     chunk: &mut Chunk,
     form: Form,
@@ -54,7 +72,7 @@ fn tell_motions<A: Allocator, W: Sink>(
         Ok(()) => {}
         Err(fault) => return Err(fault),
     }
-    tell_warned(chunk, form, machine, Concern::LowHome, commands, sink)
+    tell_traverses(chunk, form, machine, commands, sink)
 }
 
 fn tell_warnings<A: Allocator, W: Sink>(
@@ -81,10 +99,11 @@ fn tell_warnings<A: Allocator, W: Sink>(
 
 /// Writes the warnings on a program: motions without a tool that leave the height of the start,
 /// feeds with a tool while the spindle is off or at speed 0, feeds above the machine's greatest
-/// speed along an axis, arcs of more than 359 degrees whose ends lie less than 0.01 mm apart, and
-/// traverses home along X or Y below the top of a fixture. Each kind that there is has a line with the number of its commands, and
-/// the line of the program, from 1, that gives the first; of a program without any nothing is
-/// written.
+/// speed along an axis, arcs of more than 359 degrees whose ends lie less than 0.01 mm apart,
+/// traverses home along X or Y below the top of a fixture, and traverses along X or Y inside the
+/// area of the feeds, lower than the last feeds began. Each kind that occurs has a line with the
+/// number of its commands, and the line of the program, from 1, that has the first; of a program
+/// without any nothing is written.
 ///
 /// It takes no memory. After a fault (902, and only where the sink failed) a beginning of the text
 /// is written.

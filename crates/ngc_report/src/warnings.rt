@@ -11,10 +11,12 @@ ghost use Rattle.ngc_report.specs.Warnings.{rate_on_axis, greatest_rate};
 ghost use Rattle.ngc_report.specs.Warnings.{is_idle, square_apart, ends_meet, is_nearly_full};
 ghost use Rattle.ngc_report.specs.Warnings.{is_fast, is_at, goes_home, is_low, comes_low};
 ghost use Rattle.ngc_report.specs.Warnings.{is_low_home, concerns, is_concerned, line_of};
+ghost use Rattle.ngc_report.specs.Warnings.{is_across, is_over, is_lower, is_low_across, is_sideways};
+ghost use Rattle.ngc_report.specs.Warnings.{is_into_x, is_into_y};
 ghost use Rattle.ngc_report.specs.Warnings.{warning_about, counted, number_of};
 
 use crate::bounds::reach;
-use crate::tool_state::ToolState;
+use crate::tool_state::{Entry, ToolState};
 use crate::ways::square_between;
 use ngc_arc_geometry::Arc;
 use ngc_collision::Solid;
@@ -39,6 +41,10 @@ pub enum Concern {
     /// Traverses along a line to a home position, not only up or down, on which a part of the
     /// tool's body, or without a tool the controlled point, comes below the top of a fixture.
     LowHome,
+    /// Traverses along a line, not only up or down, of which an end is lower than the height at
+    /// which the last feeds began, and which reach inside the area of the program's feeds, as seen
+    /// from above: mostly a retract that is missing, or that isn't high enough.
+    LowAcross,
 }
 
 /// A warning about the commands of a program.
@@ -177,11 +183,16 @@ fn is_at(point: &Point3, place: &Point3) -> bool
     is_same(point.x, place.x) && is_same(point.y, place.y) && is_same(point.z, place.z)
 }
 
+fn is_sideways(start: &Point3, end: &Point3) -> bool
+    ensures { result ≡ is_sideways start.now end.now }
+{
+    !is_same(start.x, end.x) || !is_same(start.y, end.y)
+}
+
 fn goes_home<A: Allocator>(machine: &Machine<A>, start: &Point3, end: &Point3) -> bool
     ensures { result ≡ goes_home (file_of machine.now) start.now end.now }
 {
-    (is_at(end, &machine.home28) || is_at(end, &machine.home30))
-        && (!is_same(start.x, end.x) || !is_same(start.y, end.y))
+    (is_at(end, &machine.home28) || is_at(end, &machine.home30)) && is_sideways(start, end)
 }
 
 fn is_low<A: Allocator>(machine: &Machine<A>, solid: &Solid) -> bool
@@ -227,6 +238,62 @@ fn is_low_home<A: Allocator>(
     }
 }
 
+// Whether a box reaches inside an area along X.
+fn is_into_x(area: &GridBox, bounds: &GridBox) -> bool
+    ensures { result ≡ is_into_x area.now bounds.now }
+{
+    bounds.low.x < area.high.x && area.low.x < bounds.high.x
+}
+
+// Whether a box reaches inside an area along Y.
+fn is_into_y(area: &GridBox, bounds: &GridBox) -> bool
+    ensures { result ≡ is_into_y area.now bounds.now }
+{
+    bounds.low.y < area.high.y && area.low.y < bounds.high.y
+}
+
+// Whether a box reaches inside an area, as seen from above.
+fn is_across(area: &GridBox, bounds: &GridBox) -> bool
+    ensures { result ≡ is_across area.now bounds.now }
+{
+    is_into_x(area, bounds) && is_into_y(area, bounds)
+}
+
+fn is_over(area: &Option<GridBox>, bounds: &GridBox) -> bool
+    ensures { result ≡ is_over area.now bounds.now }
+{
+    match area {
+        Some(area) => is_across(area, bounds),
+        None => false,
+    }
+}
+
+fn is_lower(height: Option<Nm>, start: &Point3, end: &Point3) -> bool
+    ensures { result ≡ is_lower height start.now end.now }
+{
+    match height {
+        Some(height) => {
+            let height = height.nanometres();
+            start.z.nanometres() < height || end.z.nanometres() < height
+        }
+        None => false,
+    }
+}
+
+fn is_low_across(step: Nm, area: &Option<GridBox>, entry: &Entry, way: &Way, pace: &Pace) -> bool
+    requires { IsStep step }
+    ensures { result ≡ is_low_across step area.now entry.now way.now pace.now }
+{
+    match (way, pace) {
+        (Way::Line { start, end }, Pace::Rapid) => {
+            is_sideways(start, end)
+                && is_lower(entry.height, start, end)
+                && is_over(area, &reach(step, way))
+        }
+        (Way::Line { .. }, Pace::Feed(_)) | (Way::Arc(_), _) => false,
+    }
+}
+
 fn concerns<A: Allocator>(
     machine: &Machine<A>,
     concern: Concern,
@@ -242,6 +309,13 @@ fn concerns<A: Allocator>(
         Concern::FastFeed => is_fast(machine, &motion.way, &motion.pace),
         Concern::NearlyFull => is_nearly_full(&motion.way),
         Concern::LowHome => is_low_home(machine, tool, &motion.way, &motion.pace),
+        Concern::LowAcross => is_low_across(
+            machine.step,
+            &before.area,
+            &before.entry,
+            &motion.way,
+            &motion.pace,
+        ),
     }
 }
 
@@ -307,7 +381,7 @@ pub(crate) fn warning_about<A: Allocator>(
     ensures { result ≡ warning_about (file_of machine.now) concern commands.now }
 {
     let mut found = None;
-    let mut before = ToolState::at_start(machine);
+    let mut before = ToolState::at_start(machine, concern, commands);
     for command in commands {
         found = with_command(machine, concern, found, &before, command);
         before = before.after(&command.action);

@@ -274,6 +274,7 @@ pub(crate) fn concern_words(concern: Concern) -> &'static [u8]
         Concern::FastFeed => b"feeds above the greatest speed of the machine",
         Concern::NearlyFull => b"arcs of over 359 degrees with ends less than 0.01 mm apart",
         Concern::LowHome => b"traverses home along X or Y, below the top of a fixture",
+        Concern::LowAcross => b"traverses across the work without a retract before them",
     }
 }
 

@@ -1,17 +1,16 @@
 -- What is found over lines, one line further.
-use Rattle.std.proofs.Common.{◌≡◌, ℕ, zero, suc, ◌+◌, List, [], ◌∷◌, ◌++◌, length, take, Option, Some, None, Bool, ap, sym, ◌∙◌, refl, arith}
+use Rattle.std.proofs.Common.{◌≡◌, ℕ, zero, suc, ◌+◌, List, [], ◌∷◌, ◌++◌, length, drop, Option, Some, None, Bool, ap, sym, ◌∙◌, refl, arith}
 use Rattle.std.specs.List.{slice_get}
 use Rattle.std.specs.Option.{option_map}
-use Rattle.std.specs.Prelude.{flat_map}
-use Rattle.std.proofs.lemmas.List.{append-nil, length-append}
-use Rattle.std.proofs.lemmas.List.Concat.{flat_map-append}
 use Rattle.ngc_line_reader.specs.Program.{Line}
 use Rattle.ngc_line_reader.specs.ReadLine.{line_read}
 use Rattle.ngc_commands.specs.declared.command.Command.{Command}
-use Rattle.ngc_word_warnings.specs.Slips.{found_in, found_at, slips_among, slips_of, slip_read, counted}
+use Rattle.ngc_word_warnings.specs.Slips.{all_found, found_in, step_of, step_read, counted, with_later}
+use Rattle.ngc_word_warnings.specs.declared.between.Between.{Between}
 use Rattle.ngc_word_warnings.specs.declared.slip.Found.{Found}
 use Rattle.ngc_word_warnings.specs.declared.slip.Kind.{Kind}
 use Rattle.ngc_word_warnings.specs.declared.slip.Slip.{Slip}
+use Rattle.ngc_word_warnings.specs.declared.slip.Slips.{Slips}
 
 -- what is known of the line at index i
 pub record At (lines : List Line) (i number : ℕ) (bytes : List ℕ) : Type 0 where
@@ -28,29 +27,36 @@ at lines i number bytes told said = by (slice_get lines i) refl told said where
   by None is told said = cc
   by (Some l) is told said = record { line = l; is = is; number_is = cc told; bytes_are = cc said }
 
-taken : (lines : List Line) (i : ℕ) (l : Line) → slice_get lines i ≡ Some l → take (suc i) lines ≡ take i lines ++ (l ∷ [])
-taken [] i l is = cc is
-taken (x ∷ xs) zero l is = let same : x ≡ l = cc is in ap (λ (y : Line). y ∷ []) same
-taken (x ∷ xs) (suc i) l is = ap (λ (ys : List Line). x ∷ ys) (taken xs i l is)
+-- the line is the first of those that are left
+from_here : (lines : List Line) (i : ℕ) (l : Line) → slice_get lines i ≡ Some l → drop i lines ≡ l ∷ drop (suc i) lines
+from_here [] i l is = cc is
+from_here (x ∷ xs) zero l is = let same : x ≡ l = cc is in ap (λ (y : Line). y ∷ xs) same
+from_here (x ∷ xs) (suc i) l is = from_here xs i l is
 
-longer : (x : Found) (fs : List Found) → length fs + 1 ≡ length (fs ++ (x ∷ []))
-longer x fs = omega (arith, length-append fs (x ∷ []))
+next_here : (lines : List Line) (i : ℕ) (l : Line) → slice_get lines i ≡ Some l → drop i lines ≡ l ∷ drop (i + 1) lines
+next_here lines i l is =
+    let one : suc i ≡ i + 1 = omega arith in
+    from_here lines i l is ∙ ap (λ (n : ℕ). l ∷ drop n lines) one
 
--- one more is counted
-one_more : (fs : List Found) (number : ℕ) (slip : Option Slip) → counted (slips_among fs) number slip ≡ slips_among (fs ++ found_in number slip)
-one_more fs number None = ap slips_among (sym (append-nil fs))
-one_more [] number (Some slip) = refl
-one_more (f ∷ fs) number (Some slip) = ap (λ (n : ℕ). Some (record { first = f; count = n })) (longer (record { line = number; slip = slip }) (f ∷ fs))
+-- one is counted, and then those that come after
+one_more : (found : Option Slips) (number : ℕ) (slip : Option Slip) (fs : List Found) →
+    with_later (counted found number slip) fs ≡ with_later found (found_in number slip ++ fs)
+one_more None number None fs = refl
+one_more (Some s) number None fs = refl
+one_more None number (Some slip) fs =
+    ap (λ (n : ℕ). Some (record { first = record { line = number; slip = slip }; count = n })) (omega arith)
+one_more (Some s) number (Some slip) fs = ap (λ (n : ℕ). Some (record s { count = n })) (omega arith)
 
-pub further : (kind : Kind) (deletes : Bool) (commands : List Command) (lines : List Line) (i number : ℕ) (bytes : List ℕ) → At lines i number bytes →
-    counted (slips_of kind deletes commands (take i lines)) number (slip_read kind deletes commands number (line_read bytes))
-    ≡ slips_of kind deletes commands (take (suc i) lines)
-further kind deletes commands lines i number bytes here =
-    let f : Line → List Found = found_at kind deletes commands in
-    let split : flat_map f (take i lines ++ (here.line ∷ [])) ≡ flat_map f (take i lines) ++ f here.line =
-    flat_map-append f (take i lines) (here.line ∷ []) ∙ ap (λ (l : List Found). flat_map f (take i lines) ++ l) (append-nil (f here.line)) in
-    let same : found_in number (slip_read kind deletes commands number (line_read bytes)) ≡ f here.line =
-    rw (here.number_is, here.bytes_are) refl in
-    one_more (flat_map f (take i lines)) number (slip_read kind deletes commands number (line_read bytes))
-    ∙ ap (λ (l : List Found). slips_among (flat_map f (take i lines) ++ l)) same
-    ∙ sym (ap slips_among (ap (flat_map f) (taken lines i here.line here.is) ∙ split))
+pub none_later : (found : Option Slips) → with_later found [] ≡ found
+none_later None = refl
+none_later (Some s) = ap (λ (n : ℕ). Some (record s { count = n })) (omega arith)
+
+pub further : (kind : Kind) (deletes : Bool) (commands : List Command) (lines : List Line) (i number : ℕ) (bytes : List ℕ) (b : Between) (found : Option Slips)
+    → At lines i number bytes →
+    with_later (counted found number (step_read kind deletes commands b number (line_read bytes)).slip)
+    (all_found kind deletes commands (step_read kind deletes commands b number (line_read bytes)).between (drop (i + 1) lines))
+    ≡ with_later found (all_found kind deletes commands b (drop i lines))
+further kind deletes commands lines i number bytes b found here =
+    one_more found number (step_read kind deletes commands b number (line_read bytes)).slip
+    (all_found kind deletes commands (step_read kind deletes commands b number (line_read bytes)).between (drop (i + 1) lines))
+    ∙ rw (next_here lines i here.line here.is, here.number_is, here.bytes_are) refl

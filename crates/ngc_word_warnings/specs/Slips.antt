@@ -1,10 +1,11 @@
 -- What the words of a program say that passes and is nearly always a mistake. Our own.
 use Rattle.std.specs.Prelude.{ℕ, ◌+◌, ◌-◌, ◌*◌, ◌==◌, ◌&&◌, nat_le, ℤ, pos, int_lt, List, [], ◌∷◌}
-use Rattle.std.specs.Prelude.{find, flat_map, length, slice_get, Option, Some, None, Result, Ok, Err}
-use Rattle.std.specs.Prelude.{fold, ◌||◌, Bool, false, true, not, if◌then◌else◌}
+use Rattle.std.specs.Prelude.{find, length, slice_get, drop, take_while, Option, Some, None, Result}
+use Rattle.std.specs.Prelude.{Ok, Err, ◌++◌, ◌||◌, Bool, false, true, not, if◌then◌else◌}
 use Rattle.std.specs.List.{list_any}
 use Rattle.std.specs.Option.{option_and_then}
 use Rattle.std.specs.Ordering.{int_eq}
+use Rattle.ngc_machine.specs.Machine.{MachineFile}
 use Rattle.ngc_machine.specs.declared.tools.Tool.{Tool}
 use Rattle.ngc_line_reader.specs.Letter.{letter_byte}
 use Rattle.ngc_line_reader.specs.Program.{Line}
@@ -16,9 +17,16 @@ use Rattle.ngc_line_reader.specs.declared.letter.Letter.TheVariants as letters
 use Rattle.ngc_line_reader.specs.declared.line.RawWord.{RawWord}
 use Rattle.ngc_line_reader.specs.declared.token.Token.{Token}
 use Rattle.ngc_commands.specs.declared.command.Action.{Action}
-use Rattle.ngc_commands.specs.declared.command.Action.TheVariants.{Mount}
+use Rattle.ngc_commands.specs.declared.command.Action.TheVariants.{Mount, Move}
 use Rattle.ngc_commands.specs.declared.command.Command.{Command}
+use Rattle.ngc_commands.specs.declared.movement.Pace.{Pace}
+use Rattle.ngc_commands.specs.declared.movement.Pace.TheVariants.{Rapid, Feed}
+use Rattle.ngc_commands.specs.declared.reached.Reached.{Reached}
+use Rattle.ngc_commands.specs.Movement.{end_of}
+use Rattle.ngc_commands.specs.Reached.{after, after_all, at_start}
 use Rattle.ngc_report.specs.Marks.{written_number}
+use Rattle.ngc_word_warnings.specs.declared.between.Between.{Between}
+use Rattle.ngc_word_warnings.specs.declared.between.Step.{Step}
 use Rattle.ngc_word_warnings.specs.declared.slip.Found.{Found}
 use Rattle.ngc_word_warnings.specs.declared.slip.Kind.{Kind}
 use Rattle.ngc_word_warnings.specs.declared.slip.Kind.TheVariants as kinds
@@ -31,10 +39,10 @@ use Rattle.ngc_word_warnings.specs.declared.slip.Slips.{Slips}
 abbrev pub has_letter : Letter → RawWord → Bool
 has_letter letter word = letter_byte word.letter == letter_byte letter
 
--- The number that a line has behind a letter, in millionths: none where it has no such word, and
+-- The number that a line has after a letter, in millionths: none where it has no such word, and
 -- where that word's value has brackets or a parameter.
-abbrev pub number_behind : Letter → Parts → Option ℤ
-number_behind letter said =
+abbrev pub number_after : Letter → Parts → Option ℤ
+number_after letter said =
     option_and_then (written_number said.tokens) (find (has_letter letter) said.words)
 
 -- ---- a tool that is never mounted
@@ -55,16 +63,6 @@ unmounted commands number =
 
 -- ---- the offset of another tool
 
--- the tool after an action
-abbrev pub tool_after : Option Tool → Action → Option Tool
-tool_after before (Mount tool) = tool
-tool_after before _ = before
-
--- the tool that is mounted after the commands of the lines up to this one
-abbrev pub tool_at : ℕ → List Command → Option Tool
-tool_at number commands =
-    fold (λ tool c. if nat_le c.line number then tool_after tool c.action else tool) None commands
-
 -- an offset's number, in millionths, that is another than the tool's; H0 is no tool's
 abbrev pub other_offset : Option Tool → ℤ → Option Slip
 other_offset None offset = None
@@ -84,11 +82,11 @@ is_code letter number tokens word =
 abbrev pub has_code : Letter → ℤ → Parts → Bool
 has_code letter number said = list_any (is_code letter number said.tokens) said.words
 
--- G43 with a number behind H
-abbrev pub wrong_offset : List Command → ℕ → Parts → Option Slip
-wrong_offset commands number said =
+-- G43 with a number after H, while this tool is mounted
+abbrev pub wrong_offset : Option Tool → Parts → Option Slip
+wrong_offset mounted said =
     if has_code letters.G (pos 43000000) said
-    then option_and_then (other_offset (tool_at number commands)) (number_behind letters.H said)
+    then option_and_then (other_offset mounted) (number_after letters.H said)
     else None
 
 -- ---- home along some axes
@@ -111,7 +109,7 @@ goes_home said = has_code letters.G (pos 28000000) said || has_code letters.G (p
 
 -- how many of them are written as 0
 abbrev pub is_zero : Letter → Parts → Bool
-is_zero letter said = is_number (pos 0) (number_behind letter said)
+is_zero letter said = is_number (pos 0) (number_after letter said)
 
 abbrev pub zero_words : Parts → ℕ
 zero_words said =
@@ -127,34 +125,100 @@ part_home said =
     if goes_home said && names_some (axis_words said) (zero_words said)
     then Some slips.PartHome else None
 
+-- ---- no length offset
+
+-- whether a length offset is in force after the words of a line: G43 takes one, but with H0, and G49
+-- takes none
+abbrev pub is_offset_after : Bool → Parts → Bool
+is_offset_after before said =
+    if has_code letters.G (pos 43000000) said then not (is_zero letters.H said)
+    else (if has_code letters.G (pos 49000000) said then false else before)
+
+abbrev pub is_feed : Pace → Bool
+is_feed Rapid = false
+is_feed (Feed feed) = true
+
+-- a feed that ends lower than it begins
+abbrev pub feeds_down : Reached → Action → Bool
+feeds_down r (Move m) = is_feed m.pace && int_lt (end_of m.way).z r.place.z
+feeds_down r _ = false
+
+-- a tool whose offset in the tool table isn't 0 feeds downwards
+abbrev pub bare_tool : Option Tool → Bool → Option Slip
+bare_tool None down = None
+bare_tool (Some tool) down =
+    if down && not (int_eq tool.offset (pos 0)) then Some (slips.NoOffset tool.number) else None
+
+abbrev pub or_else : Option Slip → Option Slip → Option Slip
+or_else (Some slip) later = Some slip
+or_else None later = later
+
+-- the first of these commands on which it does
+abbrev pub bare_feed : Reached → List Command → Option Slip
+bare_feed r [] = None
+bare_feed r (c ∷ cs) =
+    or_else (bare_tool r.tool (feeds_down r c.action)) (bare_feed (after r c.action) cs)
+
+abbrev pub without_offset : Bool → Reached → List Command → Option Slip
+without_offset is_offset r cs = if is_offset then None else bare_feed r cs
+
+-- ---- from line to line
+
+-- before the first line
+abbrev pub beginning : MachineFile → Between
+beginning machine = record { count = 0; reached = at_start machine; is_offset = false }
+
+-- the commands of the line with this number
+abbrev pub given : ℕ → List Command → Between → List Command
+given number commands b = take_while (λ c. nat_le c.line number) (drop b.count commands)
+
+-- after that line, with these words
+abbrev pub passed : ℕ → List Command → Parts → Between → Between
+passed number commands said b = record {
+  count = b.count + length (given number commands b);
+  reached = after_all b.reached (given number commands b);
+  is_offset = is_offset_after b.is_offset said;
+}
+
 -- ---- a line
 
--- what is wrong with the words of the line with this number, of a kind
-abbrev pub slip_of : Kind → List Command → ℕ → Parts → Option Slip
-slip_of kinds.Unmounted commands number said =
-    option_and_then (unmounted commands) (number_behind letters.T said)
-slip_of kinds.OtherOffset commands number said = wrong_offset commands number said
-slip_of kinds.PartHome commands number said = part_home said
+-- what is wrong with a line that has these words and commands of its own, of a kind
+abbrev pub slip_in : Kind → List Command → Between → List Command → Parts → Between → Option Slip
+slip_in kinds.Unmounted commands before own said after_it =
+    option_and_then (unmounted commands) (number_after letters.T said)
+slip_in kinds.OtherOffset commands before own said after_it =
+    wrong_offset after_it.reached.tool said
+slip_in kinds.NoOffset commands before own said after_it =
+    without_offset after_it.is_offset before.reached own
+slip_in kinds.PartHome commands before own said after_it = part_home said
 
--- the line that gives the last command
+-- the line of the last command
 abbrev pub last_line : Option Command → ℕ
 last_line None = 0
 last_line (Some c) = c.line
 
--- A line is executed up to that which gives the last command, and not where block delete takes it
--- out.
+-- A line is executed where it doesn't come after that of the last command, and block delete doesn't
+-- take it out.
 abbrev pub is_executed : Bool → List Command → ℕ → Bool → Bool
 is_executed deletes commands number deleted =
     nat_le number (last_line (slice_get commands (length commands - 1))) && not (deletes && deleted)
 
-abbrev pub slip_said : Kind → Bool → List Command → ℕ → Said → Option Slip
-slip_said kind deletes commands number said =
-    if is_executed deletes commands number said.deleted
-    then slip_of kind commands number said.parts else None
+-- what is wrong with the line with this number, and what holds after it
+abbrev pub step_taken : Kind → List Command → Between → ℕ → Parts → Step
+step_taken kind commands b number said = record {
+  slip = slip_in kind commands b (given number commands b) said (passed number commands said b);
+  between = passed number commands said b;
+}
 
-abbrev pub slip_read : Kind → Bool → List Command → ℕ → Result Said LineFault → Option Slip
-slip_read kind deletes commands number (Ok said) = slip_said kind deletes commands number said
-slip_read kind deletes commands number (Err fault) = None
+abbrev pub step_said : Kind → Bool → List Command → Between → ℕ → Said → Step
+step_said kind deletes commands b number said =
+    if is_executed deletes commands number said.deleted
+    then step_taken kind commands b number said.parts
+    else record { slip = None; between = b }
+
+abbrev pub step_read : Kind → Bool → List Command → Between → ℕ → Result Said LineFault → Step
+step_read kind deletes commands b number (Ok said) = step_said kind deletes commands b number said
+step_read kind deletes commands b number (Err fault) = record { slip = None; between = b }
 
 -- ---- over a program
 
@@ -162,22 +226,25 @@ abbrev pub found_in : ℕ → Option Slip → List Found
 found_in number None = []
 found_in number (Some slip) = record { line = number; slip = slip } ∷ []
 
--- the mistake of a line, if it has one of this kind
-abbrev pub found_at : Kind → Bool → List Command → Line → List Found
-found_at kind deletes commands l =
-    found_in l.number (slip_read kind deletes commands l.number (line_read l.bytes))
+abbrev pub step_of : Kind → Bool → List Command → Between → Line → Step
+step_of kind deletes commands b l =
+    step_read kind deletes commands b l.number (line_read l.bytes)
 
--- those of a program, whose lines give these commands
-abbrev pub all_found : Kind → Bool → List Command → List Line → List Found
-all_found kind deletes commands lines = flat_map (found_at kind deletes commands) lines
+-- the mistakes of a kind in these lines, in order; the commands are those of the whole program
+abbrev pub all_found : Kind → Bool → List Command → Between → List Line → List Found
+all_found kind deletes commands b [] = []
+all_found kind deletes commands b (l ∷ ls) =
+    found_in l.number (step_of kind deletes commands b l).slip
+    ++ all_found kind deletes commands (step_of kind deletes commands b l).between ls
 
 -- the first with their number, or none
 abbrev pub slips_among : List Found → Option Slips
 slips_among [] = None
 slips_among (f ∷ fs) = Some (record { first = f; count = length (f ∷ fs) })
 
-abbrev pub slips_of : Kind → Bool → List Command → List Line → Option Slips
-slips_of kind deletes commands lines = slips_among (all_found kind deletes commands lines)
+abbrev pub slips_of : Kind → Bool → MachineFile → List Command → List Line → Option Slips
+slips_of kind deletes machine commands lines =
+    slips_among (all_found kind deletes commands (beginning machine) lines)
 
 -- ---- as they are counted
 
@@ -187,6 +254,11 @@ counted found number None = found
 counted None number (Some slip) =
     Some (record { first = record { line = number; slip = slip }; count = 1 })
 counted (Some s) number (Some slip) = Some (record s { count = s.count + 1 })
+
+-- with those that come after
+abbrev pub with_later : Option Slips → List Found → Option Slips
+with_later None fs = slips_among fs
+with_later (Some s) fs = Some (record s { count = s.count + length fs })
 
 abbrev pub count_of : Option Slips → ℕ
 count_of None = 0

@@ -1,7 +1,8 @@
--- How what is found is spelled, in words and as facts of a JSON document. Our own.
+-- How mistakes are written, in words and as facts of a JSON document. Our own.
 use Rattle.std.specs.Prelude.{ℕ, ℤ, List, [], ◌++◌, codes, decimal, Option, Some, None, Bool}
 use Rattle.ngc_line_reader.specs.Program.{Line}
 use Rattle.ngc_text.specs.Millimetres.{length_text}
+use Rattle.ngc_machine.specs.Machine.{MachineFile}
 use Rattle.ngc_commands.specs.declared.command.Command.{Command}
 use Rattle.ngc_report.specs.declared.form.Form.{Form}
 use Rattle.ngc_report.specs.declared.form.Form.TheVariants.{Words, Json}
@@ -16,6 +17,7 @@ use Rattle.ngc_word_warnings.specs.declared.slip.Slips.{Slips}
 unfoldable pub kind_text : Slip → List ℕ
 kind_text (slips.Unmounted tool) = codes "T words of tools that are never mounted"
 kind_text (slips.OtherOffset offset tool) = codes "G43 with the H of another tool"
+kind_text (slips.NoOffset tool) = codes "feeds downwards without a length offset"
 kind_text slips.PartHome = codes "G28 or G30 with one or two axis words, each 0"
 
 abbrev pub offset_remark : ℤ → ℕ → List ℕ
@@ -26,6 +28,7 @@ offset_remark offset tool =
 unfoldable pub remark_text : Slip → List ℕ
 remark_text (slips.Unmounted tool) = codes "write M6 T" ++ length_text tool
 remark_text (slips.OtherOffset offset tool) = offset_remark offset tool
+remark_text (slips.NoOffset tool) = codes "write G43 H" ++ decimal tool
 remark_text slips.PartHome = codes "X, Y and Z all go home"
 
 -- the numbers that it is about, as members of an object
@@ -33,6 +36,7 @@ unfoldable pub number_facts : Slip → List ℕ
 number_facts (slips.Unmounted tool) = codes ",\"tool\":" ++ length_text tool
 number_facts (slips.OtherOffset offset tool) =
     codes ",\"offset\":" ++ length_text offset ++ codes ",\"tool\":" ++ decimal tool
+number_facts (slips.NoOffset tool) = codes ",\"tool\":" ++ decimal tool
 number_facts slips.PartHome = []
 
 abbrev pub slips_words : Slips → List ℕ
@@ -53,12 +57,14 @@ spelled Words (Some s) = slips_words s
 spelled Json (Some s) = slips_fact s
 
 -- the line of a kind, or nothing where the program has no such mistake
-abbrev pub kind_line : Form → Kind → Bool → List Command → List Line → List ℕ
-kind_line form kind deletes commands lines = spelled form (slips_of kind deletes commands lines)
+abbrev pub kind_line : Form → Kind → Bool → MachineFile → List Command → List Line → List ℕ
+kind_line form kind deletes machine commands lines =
+    spelled form (slips_of kind deletes machine commands lines)
 
 -- all of a program at a setting of block delete, with its commands there
-abbrev pub word_warnings : Form → Bool → List Command → List Line → List ℕ
-word_warnings form deletes commands lines =
-    kind_line form kinds.Unmounted deletes commands lines
-    ++ kind_line form kinds.OtherOffset deletes commands lines
-    ++ kind_line form kinds.PartHome deletes commands lines
+abbrev pub word_warnings : Form → Bool → MachineFile → List Command → List Line → List ℕ
+word_warnings form deletes machine commands lines =
+    kind_line form kinds.Unmounted deletes machine commands lines
+    ++ kind_line form kinds.OtherOffset deletes machine commands lines
+    ++ kind_line form kinds.NoOffset deletes machine commands lines
+    ++ kind_line form kinds.PartHome deletes machine commands lines

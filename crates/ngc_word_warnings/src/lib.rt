@@ -6,10 +6,12 @@
 //! ```text
 //! warning: T words of tools that are never mounted: 1, the first in line 5: write M6 T3.
 //! warning: G43 with the H of another tool: 1, the first in line 8: H2, but tool 1 is mounted.
+//! warning: feeds downwards without a length offset: 3, the first in line 9: write G43 H1.
 //! warning: G28 or G30 with one or two axis words, each 0: 1, the first in line 12: X, Y and Z all go home.
 //! ```
 #![tactic(auto)]
 
+mod between;
 mod said;
 mod slip;
 mod slips;

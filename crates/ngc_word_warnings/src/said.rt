@@ -3,7 +3,7 @@ ghost use Rattle.std.specs.Prelude.{◌≡◌, find};
 ghost use Rattle.ngc_line_reader.specs.ScanLine.{parts_of};
 ghost use Rattle.ngc_word_warnings.specs.Slips.{axis_words, count_if, has_code, has_letter};
 ghost use Rattle.ngc_word_warnings.specs.Slips.{has_word, is_code, is_number, is_zero};
-ghost use Rattle.ngc_word_warnings.specs.Slips.{number_behind, zero_words};
+ghost use Rattle.ngc_word_warnings.specs.Slips.{number_after, zero_words};
 
 use ngc_line_reader::{Letter, Line, RawWord, Token};
 use ngc_report::{letter_byte, written_number};
@@ -29,7 +29,7 @@ fn is_code(letter: Letter, number: i64, tokens: &[Token], word: &RawWord) -> boo
     has_letter(letter, word) && is_number(number, written_number(tokens, word))
 }
 
-fn word_behind(line: &Line, letter: Letter) -> Option<RawWord>
+fn word_with(line: &Line, letter: Letter) -> Option<RawWord>
     ensures { result ≡ find (has_letter letter) line.now.words.items }
 {
     line.words
@@ -75,11 +75,11 @@ pub(crate) fn axis_words(line: &Line) -> u8
         + count_if(has_word(line, Letter::Z))
 }
 
-// Whether the line has 0 behind a letter.
-fn is_zero(line: &Line, letter: Letter) -> bool
+/// Whether the line has a word with this letter that is written as 0.
+pub(crate) fn is_zero(line: &Line, letter: Letter) -> bool
     ensures { result ≡ is_zero letter (parts_of line.now) }
 {
-    is_number(0, number_behind(line, letter))
+    is_number(0, number_after(line, letter))
 }
 
 /// How many of the words X, Y and Z the line has that are written as 0.
@@ -91,12 +91,12 @@ pub(crate) fn zero_words(line: &Line) -> u8
         + count_if(is_zero(line, Letter::Z))
 }
 
-/// The number that the line has behind a letter, in millionths, or `None` where no such word is
+/// The number that the line has after a letter, in millionths, or `None` where no such word is
 /// written as a number.
-pub(crate) fn number_behind(line: &Line, letter: Letter) -> Option<i64>
-    ensures { result ≡ number_behind letter (parts_of line.now) }
+pub(crate) fn number_after(line: &Line, letter: Letter) -> Option<i64>
+    ensures { result ≡ number_after letter (parts_of line.now) }
 {
-    match word_behind(line, letter) {
+    match word_with(line, letter) {
         Some(word) => written_number(line.tokens.as_slice(), &word),
         None => None,
     }

@@ -5,6 +5,9 @@ pub enum Kind {
     Unmounted,
     /// G43 with the H of another tool than the one that is mounted then; H0 is no tool's.
     OtherOffset,
+    /// A feed downwards with a tool whose offset in the tool table isn't 0, while no length offset
+    /// is in force: before any G43, after G49, or after G43 H0.
+    NoOffset,
     /// G28 or G30 with one or two of the words X, Y and Z, each 0. Other controls move only those
     /// axes home.
     PartHome,
@@ -13,10 +16,12 @@ pub enum Kind {
 /// A mistake in the words of a line, with the numbers that it is about.
 #[derive(Clone, Copy)]
 pub enum Slip {
-    /// The number behind T, in millionths, of a tool that no command mounts.
+    /// The number of the T word, in millionths, of a tool that no command mounts.
     Unmounted { tool: i64 },
-    /// The number behind H, in millionths, and that of the tool that is mounted.
+    /// The number of the H word, in millionths, and that of the tool that is mounted.
     OtherOffset { offset: i64, tool: u32 },
+    /// The number of the tool that feeds downwards.
+    NoOffset { tool: u32 },
     /// G28 or G30 with some axis words, each 0.
     PartHome,
 }

@@ -1,20 +1,25 @@
 //! The mistakes in the words of a program.
-ghost use Rattle.std.specs.Prelude.{◌≡◌, ◌+◌, ◌-◌, ◌≤◌, ◌<◌, nat_le, length, slice_get};
-ghost use Rattle.std.specs.Prelude.{if◌then◌else◌};
+ghost use Rattle.std.specs.Prelude.{◌≡◌, ◌+◌, ◌-◌, ◌≤◌, ◌<◌, nat_le, length, slice_get, drop};
+ghost use Rattle.std.specs.Prelude.{take_while};
+ghost use Rattle.ngc_commands.specs.Reached.{after_all};
+ghost use Rattle.ngc_machine.specs.Machine.{file_of};
 ghost use Rattle.ngc_line_reader.specs.ProgramView.{text_in};
 ghost use Rattle.ngc_line_reader.specs.ReadLine.{line_read};
 ghost use Rattle.ngc_line_reader.specs.ScanLine.{parts_of, said_of};
-ghost use Rattle.ngc_word_warnings.specs.Slips.{mounts_tool, is_mounted, unmounted, slip_of};
-ghost use Rattle.ngc_word_warnings.specs.Slips.{last_line, is_executed, slip_said, slip_read};
-ghost use Rattle.ngc_word_warnings.specs.Slips.{slips_of, counted, count_of, tool_after, tool_at};
+ghost use Rattle.ngc_word_warnings.specs.Slips.{mounts_tool, is_mounted, unmounted, slip_in};
+ghost use Rattle.ngc_word_warnings.specs.Slips.{last_line, is_executed, step_taken};
+ghost use Rattle.ngc_word_warnings.specs.Slips.{step_said, step_read};
+ghost use Rattle.ngc_word_warnings.specs.Slips.{slips_of, counted, count_of, given};
 ghost use Rattle.ngc_word_warnings.specs.Slips.{other_offset, wrong_offset, goes_home, names_some};
-ghost use Rattle.ngc_word_warnings.specs.Slips.{part_home};
+ghost use Rattle.ngc_word_warnings.specs.Slips.{part_home, beginning, is_offset_after, is_feed};
+ghost use Rattle.ngc_word_warnings.specs.Slips.{feeds_down, bare_tool, bare_feed, without_offset};
 
-use crate::said::{axis_words, has_code, number_behind, zero_words};
+use crate::between::{Between, Step};
+use crate::said::{axis_words, has_code, is_zero, number_after, zero_words};
 use crate::slip::{Found, Kind, Slip, Slips};
-use ngc_commands::{Action, Command};
+use ngc_commands::{Action, Command, Pace, Reached};
 use ngc_line_reader::{Letter, Line, Program, read_line};
-use ngc_machine::Tool;
+use ngc_machine::{Machine, Tool};
 use std::alloc::Allocator;
 
 // Whether an action mounts the tool of this number, in millionths.
@@ -45,28 +50,6 @@ fn unmounted(commands: &[Command], number: i64) -> Option<Slip>
     }
 }
 
-// The tool after a command, if it counts.
-fn tool_after(number: u32, before: Option<Tool>, command: &Command) -> Option<Tool>
-    ensures { result ≡ if nat_le command.now.line number
-        then tool_after before command.now.action else before }
-{
-    match command.action {
-        Action::Mount(tool) if command.line <= number => tool,
-        _ => before,
-    }
-}
-
-// The tool that is mounted after the commands of the lines up to this one.
-fn tool_at(number: u32, commands: &[Command]) -> Option<Tool>
-    ensures { result ≡ tool_at number commands.now }
-{
-    let mut tool = None;
-    for command in commands {
-        tool = tool_after(number, tool, command);
-    }
-    tool
-}
-
 fn other_offset(mounted: Option<Tool>, offset: i64) -> Option<Slip>
     ensures { result ≡ other_offset mounted offset }
 {
@@ -81,14 +64,14 @@ fn other_offset(mounted: Option<Tool>, offset: i64) -> Option<Slip>
     }
 }
 
-fn wrong_offset(commands: &[Command], number: u32, line: &Line) -> Option<Slip>
-    ensures { result ≡ wrong_offset commands.now number (parts_of line.now) }
+fn wrong_offset(mounted: Option<Tool>, line: &Line) -> Option<Slip>
+    ensures { result ≡ wrong_offset mounted (parts_of line.now) }
 {
     if !has_code(line, Letter::G, 43_000_000) {
         return None;
     }
-    match number_behind(line, Letter::H) {
-        Some(offset) => other_offset(tool_at(number, commands), offset),
+    match number_after(line, Letter::H) {
+        Some(offset) => other_offset(mounted, offset),
         None => None,
     }
 }
@@ -115,13 +98,138 @@ fn part_home(line: &Line) -> Option<Slip>
     }
 }
 
-fn slip_of(kind: Kind, commands: &[Command], number: u32, line: &Line) -> Option<Slip>
-    ensures { result ≡ slip_of kind commands.now number (parts_of line.now) }
+fn is_offset_after(before: bool, line: &Line) -> bool
+    ensures { result ≡ is_offset_after before (parts_of line.now) }
+{
+    if has_code(line, Letter::G, 43_000_000) {
+        !is_zero(line, Letter::H)
+    } else if has_code(line, Letter::G, 49_000_000) {
+        false
+    } else {
+        before
+    }
+}
+
+fn is_feed(pace: &Pace) -> bool
+    ensures { result ≡ is_feed pace.now }
+{
+    match pace {
+        Pace::Rapid => false,
+        Pace::Feed(_) => true,
+    }
+}
+
+fn feeds_down(before: &Reached, action: &Action) -> bool
+    ensures { result ≡ feeds_down before.now action.now }
+{
+    match action {
+        Action::Move(motion) => {
+            is_feed(&motion.pace) && motion.way.end().z.nanometres() < before.place.z.nanometres()
+        }
+        _ => false,
+    }
+}
+
+fn bare_tool(tool: &Option<Tool>, down: bool) -> Option<Slip>
+    ensures { result ≡ bare_tool tool.now down }
+{
+    match tool {
+        Some(tool) if down && tool.offset.nanometres() != 0 => Some(Slip::NoOffset {
+            tool: tool.number,
+        }),
+        _ => None,
+    }
+}
+
+fn bare_feed(reached: Reached, commands: &[Command]) -> Option<Slip>
+    ensures { result ≡ bare_feed reached commands.now }
+{
+    let mut before = reached;
+    for command in commands {
+        let slip = bare_tool(&before.tool, feeds_down(&before, &command.action));
+        if slip.is_some() {
+            return slip;
+        }
+        before = before.after(&command.action);
+    }
+    None
+}
+
+fn without_offset(is_offset: bool, reached: Reached, commands: &[Command]) -> Option<Slip>
+    ensures { result ≡ without_offset is_offset reached commands.now }
+{
+    if is_offset {
+        None
+    } else {
+        bare_feed(reached, commands)
+    }
+}
+
+/// The commands of the lines up to this one.
+fn up_to(number: u32, commands: &[Command]) -> &[Command]
+    ensures value { result.now ≡ take_while (λ c. nat_le c.line number) commands.now }
+    ensures few { length result.now ≤ length commands.now }
+{
+    for (i, command) in commands.iter().enumerate() {
+        if number < command.line {
+            return &commands[..i];
+        }
+    }
+    commands
+}
+
+impl Between {
+    fn at_start<A: Allocator>(machine: &Machine<A>) -> Between
+        ensures { result ≡ beginning (file_of machine.now) }
+    {
+        Between {
+            count: 0,
+            reached: Reached::at_start(machine),
+            is_offset: false,
+        }
+    }
+
+    // The commands of the line with this number.
+    fn given<'a>(&self, number: u32, commands: &'a [Command]) -> &'a [Command]
+        requires { self.now.count ≤ length commands.now }
+        ensures value { result.now ≡ given number commands.now self.now }
+        ensures few { self.now.count + length result.now ≤ length commands.now }
+    {
+        up_to(number, &commands[self.count..])
+    }
+
+    // What holds after a line with these commands.
+    fn after_line(&self, line: &Line, given: &[Command]) -> Between
+        requires { self.now.count + length given.now ≤ usize.MAX }
+        ensures { result ≡ record {
+          count = self.now.count + length given.now;
+          reached = after_all self.now.reached given.now;
+          is_offset = is_offset_after self.now.is_offset (parts_of line.now);
+        } }
+    {
+        Between {
+            count: self.count + given.len(),
+            reached: self.reached.after_all(given),
+            is_offset: is_offset_after(self.is_offset, line),
+        }
+    }
+}
+
+fn slip_in(
+    kind: Kind,
+    commands: &[Command],
+    before: &Between,
+    given: &[Command],
+    line: &Line,
+    after: &Between,
+) -> Option<Slip>
+    ensures { result ≡ slip_in kind commands.now before.now given.now (parts_of line.now) after.now }
 {
     match kind {
-        Kind::OtherOffset => wrong_offset(commands, number, line),
+        Kind::OtherOffset => wrong_offset(after.reached.tool, line),
+        Kind::NoOffset => without_offset(after.is_offset, before.reached, given),
         Kind::PartHome => part_home(line),
-        Kind::Unmounted => match number_behind(line, Letter::T) {
+        Kind::Unmounted => match number_after(line, Letter::T) {
             Some(number) => unmounted(commands, number),
             None => None,
         },
@@ -143,34 +251,55 @@ fn is_executed(deletes: bool, commands: &[Command], number: u32, deleted: bool) 
     number <= last_line(commands) && !(deletes && deleted)
 }
 
-fn slip_said(
-    kind: Kind,
-    deletes: bool,
-    commands: &[Command],
-    number: u32,
-    line: &Line,
-) -> Option<Slip>
-    ensures { result ≡ slip_said kind deletes commands.now number (said_of line.now) }
+fn step_taken(kind: Kind, commands: &[Command], before: &Between, number: u32, line: &Line) -> Step
+    requires { before.now.count ≤ length commands.now }
+    ensures value { result ≡ step_taken kind commands.now before.now number (parts_of line.now) }
+    ensures few { result.between.count ≤ length commands.now }
 {
-    if is_executed(deletes, commands, number, line.deleted) {
-        slip_of(kind, commands, number, line)
-    } else {
-        None
+    let given = before.given(number, commands);
+    let after = before.after_line(line, given);
+    Step {
+        slip: slip_in(kind, commands, before, given, line, &after),
+        between: after,
     }
 }
 
-fn slip_read(
+fn step_said(
     kind: Kind,
     deletes: bool,
     commands: &[Command],
+    before: &Between,
+    number: u32,
+    line: &Line,
+) -> Step
+    requires { before.now.count ≤ length commands.now }
+    ensures value { result ≡ step_said kind deletes commands.now before.now number
+        (said_of line.now) }
+    ensures few { result.between.count ≤ length commands.now }
+{
+    if is_executed(deletes, commands, number, line.deleted) {
+        step_taken(kind, commands, before, number, line)
+    } else {
+        Step::nothing(before)
+    }
+}
+
+fn step_read(
+    kind: Kind,
+    deletes: bool,
+    commands: &[Command],
+    before: &Between,
     number: u32,
     bytes: &[u8],
-) -> Option<Slip>
-    ensures { result ≡ slip_read kind deletes commands.now number (line_read bytes.now) }
+) -> Step
+    requires { before.now.count ≤ length commands.now }
+    ensures value { result ≡ step_read kind deletes commands.now before.now number
+        (line_read bytes.now) }
+    ensures few { result.between.count ≤ length commands.now }
 {
     match read_line(bytes) {
-        Ok(line) => slip_said(kind, deletes, commands, number, &line),
-        Err(_) => None,
+        Ok(line) => step_said(kind, deletes, commands, before, number, &line),
+        Err(_) => Step::nothing(before),
     }
 }
 
@@ -192,21 +321,33 @@ fn counted(found: Option<Slips>, line: u32, slip: Option<Slip>) -> Option<Slips>
     }
 }
 
-/// The mistakes of a kind in the lines of a program that are executed, whether block delete takes
-/// out lines or not, where the program gives these commands; or `None` where no line has one.
-pub fn slips_of<A: Allocator>(
+/// The mistakes of a kind in the lines of a program that are executed on a machine, whether block
+/// delete takes out lines or not, where these are the program's commands; or `None` where no line
+/// has one. It takes time in proportion to the lines and the commands.
+pub fn slips_of<A: Allocator, B: Allocator>(
     kind: Kind,
     deletes: bool,
     program: &Program<A>,
+    machine: &Machine<B>,
     commands: &[Command],
 ) -> Option<Slips>
-    ensures { result ≡ slips_of kind deletes commands.now (text_in program.now).lines }
+    ensures { result ≡ slips_of kind deletes (file_of machine.now) commands.now
+        (text_in program.now).lines }
 {
     let mut found = None;
+    let mut between = Between::at_start(machine);
     for index in 0..program.len() {
         let number = program.number(index);
-        let slip = slip_read(kind, deletes, commands, number, program.bytes(index));
-        found = counted(found, number, slip);
+        let step = step_read(
+            kind,
+            deletes,
+            commands,
+            &between,
+            number,
+            program.bytes(index),
+        );
+        found = counted(found, number, step.slip);
+        between = step.between;
     }
     found
 }

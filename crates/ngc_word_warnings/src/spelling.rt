@@ -16,6 +16,7 @@ fn kind_text(slip: &Slip) -> &'static [u8]
     match slip {
         Slip::Unmounted { .. } => b"T words of tools that are never mounted",
         Slip::OtherOffset { .. } => b"G43 with the H of another tool",
+        Slip::NoOffset { .. } => b"feeds downwards without a length offset",
         Slip::PartHome => b"G28 or G30 with one or two axis words, each 0",
     }
 }
@@ -44,6 +45,10 @@ fn add_remark(chunk: &mut Chunk, slip: &Slip)
             chunk.add_length(i128::from(*tool));
         }
         Slip::OtherOffset { offset, tool } => add_offset_remark(chunk, *offset, *tool),
+        Slip::NoOffset { tool } => {
+            chunk.add_text(b"write G43 H");
+            chunk.add_number(*tool);
+        }
         Slip::PartHome => chunk.add_text(b"X, Y and Z all go home"),
     }
 }
@@ -62,6 +67,10 @@ fn add_numbers(chunk: &mut Chunk, slip: &Slip)
         Slip::OtherOffset { offset, tool } => {
             chunk.add_text(b",\"offset\":");
             chunk.add_length(i128::from(*offset));
+            chunk.add_text(b",\"tool\":");
+            chunk.add_number(*tool);
+        }
+        Slip::NoOffset { tool } => {
             chunk.add_text(b",\"tool\":");
             chunk.add_number(*tool);
         }

@@ -4,6 +4,7 @@ ghost use Rattle.std.specs.Io.KnownBytes.{Appends};
 ghost use Rattle.ngc_text.specs.Collected.{CHUNK_SIZE};
 ghost use Rattle.ngc_text.specs.Failures.{CountsFailure};
 ghost use Rattle.ngc_text.specs.Written.{AppendsBeginning};
+ghost use Rattle.ngc_machine.specs.Machine.{file_of};
 ghost use Rattle.ngc_line_reader.specs.ProgramView.{text_in};
 ghost use Rattle.ngc_word_warnings.specs.Spelling.{kind_line, word_warnings};
 
@@ -12,33 +13,39 @@ use crate::slips::slips_of;
 use crate::spelling::add_slips;
 use ngc_commands::Command;
 use ngc_line_reader::Program;
+use ngc_machine::Machine;
 use ngc_report::Form;
 use ngc_text::{Chunk, Sink, WriteFault};
 use std::alloc::Allocator;
 
-fn add_kind<A: Allocator>(
+fn add_kind<A: Allocator, B: Allocator>(
     chunk: &mut Chunk,
     form: Form,
     kind: Kind,
     deletes: bool,
     program: &Program<A>,
+    machine: &Machine<B>,
     commands: &[Command],
 )
     requires { length chunk.old + 400 ≤ CHUNK_SIZE }
     ensures text { chunk.new ≡ chunk.old
-        ++ kind_line form kind deletes commands.now (text_in program.now).lines }
+        ++ kind_line form kind deletes (file_of machine.now) commands.now
+        (text_in program.now).lines }
     ensures short { length chunk.new ≤ length chunk.old + 400 }
 {
-    add_slips(chunk, form, &slips_of(kind, deletes, program, commands));
+    let found = slips_of(kind, deletes, program, machine, commands);
+    add_slips(chunk, form, &found);
 }
 
-fn warnings_of<A: Allocator>(
+fn warnings_of<A: Allocator, B: Allocator>(
     form: Form,
     deletes: bool,
     program: &Program<A>,
+    machine: &Machine<B>,
     commands: &[Command],
 ) -> Chunk
-    ensures { result ≡ word_warnings form deletes commands.now (text_in program.now).lines }
+    ensures { result ≡ word_warnings form deletes (file_of machine.now) commands.now
+        (text_in program.now).lines }
 {
     let mut chunk = Chunk::new();
     add_kind(
@@ -47,6 +54,7 @@ fn warnings_of<A: Allocator>(
         Kind::Unmounted,
         deletes,
         program,
+        machine,
         commands,
     );
     add_kind(
@@ -55,37 +63,60 @@ fn warnings_of<A: Allocator>(
         Kind::OtherOffset,
         deletes,
         program,
+        machine,
         commands,
     );
-    add_kind(&mut chunk, form, Kind::PartHome, deletes, program, commands);
+    add_kind(
+        &mut chunk,
+        form,
+        Kind::NoOffset,
+        deletes,
+        program,
+        machine,
+        commands,
+    );
+    add_kind(
+        &mut chunk,
+        form,
+        Kind::PartHome,
+        deletes,
+        program,
+        machine,
+        commands,
+    );
     chunk
 }
 
 /// Writes what the words of a program say that is nearly always a mistake, where block delete
-/// takes out lines or not, and the program gives these commands there: T words of tools that are
-/// never mounted, G43 with the H of another tool than the mounted one, and G28 or G30 with one or
-/// two axis words, each 0, where other controls move only these axes home. Each kind that there is has a line with the number of the program's lines that
-/// have it, and the first of them, from 1, with its numbers; of a program without any nothing is
-/// written. Words whose values have brackets or parameters are not looked at, nor lines behind
-/// that of the last command.
+/// takes out lines or not, and these are the program's commands on the machine there. The kinds
+/// are T words of tools that are never mounted, G43 with the H of another tool than the mounted
+/// one, feeds downwards without a length offset with a tool whose offset in the tool table isn't
+/// 0, and G28 or G30 with one or two axis words, each 0, where other controls move only these axes
+/// home. Each kind that occurs has a line with the number of the program's lines that have it, and
+/// the first of them, from 1, with its numbers; of a program without any nothing is written. Words
+/// whose values have brackets or parameters are not looked at, nor lines after that of the last
+/// command.
 ///
-/// It takes no memory. After a fault (902, and only where the sink failed) a beginning of the text
-/// is written.
-pub fn write_word_warnings<A: Allocator, W: Sink>(
+/// It takes no memory. After a fault (902, and only where the sink failed) a prefix of the text is
+/// written.
+pub fn write_word_warnings<A: Allocator, B: Allocator, W: Sink>(
     form: Form,
     deletes: bool,
     program: &Program<A>,
+    machine: &Machine<B>,
     commands: &[Command],
     sink: &mut W,
 ) -> Result<(), WriteFault>
     ensures ok { OnOk result
         (Appends (W.written sink.old) (W.written sink.new)
-        (word_warnings form deletes commands.now (text_in program.now).lines)) }
+        (word_warnings form deletes (file_of machine.now) commands.now
+        (text_in program.now).lines)) }
     ensures fault { OnErr result
         (AppendsBeginning (W.written sink.old) (W.written sink.new)
-        (word_warnings form deletes commands.now (text_in program.now).lines)) }
+        (word_warnings form deletes (file_of machine.now) commands.now
+        (text_in program.now).lines)) }
     ensures counts { CountsFailure (W.failures sink.old) (W.failures sink.new) result }
 {
-    let mut chunk = warnings_of(form, deletes, program, commands);
+    let mut chunk = warnings_of(form, deletes, program, machine, commands);
     chunk.write_out(sink)
 }

@@ -1,7 +1,7 @@
 use Rattle.std.proofs.Common.{◌++◌}
 use Rattle.ngc_machine.specs.Machine.{file_of}
-use Rattle.ngc_report.specs.Warnings.{warned}
-use Rattle.ngc_report.specs.declared.warnings.Concern.TheVariants.{FastFeed, NearlyFull, LowHome}
+use Rattle.ngc_report.specs.Warnings.{warned, traverse_lines}
+use Rattle.ngc_report.specs.declared.warnings.Concern.TheVariants.{FastFeed, NearlyFull}
 use Rattle.ngc_report.proofs.Ahead.{first_stopped, second_stopped, all_three}
 use Rattle.ngc_report.proofs.warned.tell_motions.Goals as goal
 
@@ -10,23 +10,23 @@ returns-in-Err-clause-told g c =
     let m = file_of c.args.machine.now in
     let cs = c.args.commands.now in
     first_stopped c.args.form (g.W.Sink.written c.args.sink.now) (g.W.Sink.written c.tell_warned.new.sink) c.args.chunk.now
-    (warned m FastFeed cs) (warned m NearlyFull cs ++ warned m LowHome cs) c.in-Err.ensures.told
+    (warned m FastFeed cs) (warned m NearlyFull cs ++ traverse_lines m cs) c.in-Err.ensures.told
 
 pub returns-in-Err-tell_warned-clause-told : goal.returns-in-Err-tell_warned-clause-told
 returns-in-Err-tell_warned-clause-told g c =
     let m = file_of c.args.machine.now in
     let cs = c.args.commands.now in
     second_stopped c.args.form (g.W.Sink.written c.args.sink.now) (g.W.Sink.written c.tell_warned.new.sink) (g.W.Sink.written c.tell_warned-2.new.sink)
-    c.args.chunk.now c.tell_warned.new.chunk (warned m FastFeed cs) (warned m NearlyFull cs) (warned m LowHome cs)
+    c.args.chunk.now c.tell_warned.new.chunk (warned m FastFeed cs) (warned m NearlyFull cs) (traverse_lines m cs)
     c.in-Ok.ensures.told c.in-Err-tell_warned.ensures.told
 
 pub returns-clause-told : goal.returns-clause-told
 returns-clause-told g c =
     let m = file_of c.args.machine.now in
     let cs = c.args.commands.now in
-    all_three c.args.form c.tell_warned-3.result (g.W.Sink.written c.args.sink.now) (g.W.Sink.written c.tell_warned.new.sink)
+    all_three c.args.form c.tell_traverses.result (g.W.Sink.written c.args.sink.now) (g.W.Sink.written c.tell_warned.new.sink)
     (g.W.Sink.written c.tell_warned-2.new.sink)
-    (g.W.Sink.written c.tell_warned-3.new.sink)
-    c.args.chunk.now c.tell_warned.new.chunk c.tell_warned-2.new.chunk c.tell_warned-3.new.chunk (warned m FastFeed cs) (warned m NearlyFull cs)
-    (warned m LowHome cs)
-    c.in-Ok.ensures.told c.in-Ok-tell_warned.ensures.told c.tell_warned-3.ensures.told
+    (g.W.Sink.written c.tell_traverses.new.sink)
+    c.args.chunk.now c.tell_warned.new.chunk c.tell_warned-2.new.chunk c.tell_traverses.new.chunk (warned m FastFeed cs) (warned m NearlyFull cs)
+    (traverse_lines m cs)
+    c.in-Ok.ensures.told c.in-Ok-tell_warned.ensures.told c.tell_traverses.ensures.told

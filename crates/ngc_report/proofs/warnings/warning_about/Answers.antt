@@ -23,4 +23,4 @@ returns g c =
     let k = c.args.concern in
     sym (at_drop_all (λ l. fold (counted k) c.loop-command.found (lines_of m k c.loop-command.before l)) c.args.commands.now c.loop-command.command-index
     c.loop-command-test.false)
-    ∙ c.loop-command.invariant.same ∙ all_counted k (lines_of m k (beginning m) c.args.commands.now)
+    ∙ c.loop-command.invariant.same ∙ all_counted k (lines_of m k (beginning m k c.args.commands.now) c.args.commands.now)

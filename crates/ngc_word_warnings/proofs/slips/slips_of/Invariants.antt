@@ -1,11 +1,14 @@
--- What is found so far is what the lines so far have.
-use Rattle.std.proofs.Common.{◌≡◌, ◌≤◌, take}
+-- What is found so far, with what the rest of the lines has, is what all lines have.
+use Rattle.std.proofs.Common.{◌≡◌, ◌≤◌, drop, length}
+use Rattle.ngc_machine.specs.Machine.{file_of}
 use Rattle.ngc_line_reader.specs.ProgramView.{text_in}
-use Rattle.ngc_word_warnings.specs.Slips.{slips_of, count_of}
+use Rattle.ngc_word_warnings.specs.Slips.{all_found, slips_of, count_of, with_later}
 use Rattle.ngc_word_warnings.proofs.slips.slips_of.Given as goal
 
 abbrev pub invariant-loop-index : goal.invariant-loop-index
 invariant-loop-index g l = record {
-  same : l.found ≡ slips_of l.kind l.deletes l.commands (take l.index (text_in l.program).lines);
+  same : with_later l.found (all_found l.kind l.deletes l.commands l.between (drop l.index (text_in l.program).lines))
+      ≡ slips_of l.kind l.deletes (file_of l.machine) l.commands (text_in l.program).lines;
   few : count_of l.found ≤ l.index;
+  inside : l.between.count ≤ length l.commands;
 }
