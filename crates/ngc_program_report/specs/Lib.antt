@@ -2,4 +2,5 @@
 pub mod Times
 pub mod Met
 pub mod Texts
+pub mod FaultTexts
 pub mod JobReports

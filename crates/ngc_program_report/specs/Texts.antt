@@ -82,7 +82,7 @@ is_on On = true
 abbrev pub remarks : Form → Setting → MachineFile → List Command → List Line → List ℕ
 remarks form s machine commands lines =
     report_text form (warning_lines machine commands)
-    ++ word_warnings form (is_on s) commands lines
+    ++ word_warnings form (is_on s) machine commands lines
 
 -- what fits at a setting, how long it takes, and what looks wrong there
 abbrev pub setting_text : Form → Bool → Bool → Setting → MachineFile → List Command → List Entry →

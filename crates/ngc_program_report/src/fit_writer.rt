@@ -89,7 +89,7 @@ fn write_remarks<A: Allocator, W: Sink>(
     ensures counts { CountsFailure (W.failures output.old) (W.failures output.new) result }
 {
     write_warnings(form, machine, commands, output)?;
-    write_word_warnings(form, is_on(setting), program, commands, output)
+    write_word_warnings(form, is_on(setting), program, machine, commands, output)
 }
 
 // What fits at a setting, how long it takes, and what looks wrong there.

@@ -2,6 +2,7 @@
 //! way.
 #![tactic(auto)]
 
+mod fault_writer;
 mod fit_writer;
 mod job_report;
 pub mod laws;
@@ -16,6 +17,7 @@ mod run_time;
 mod timing;
 mod use_times;
 
+pub use fault_writer::write_faults;
 pub use job_report::{report_fit, report_refusal};
 pub use met::met_at;
 pub use refusal_writer::write_rejection;

@@ -248,7 +248,7 @@ pub(crate) fn write_all_both<A: Allocator, W: Sink>(
     write_ending(form, 304, output)
 }
 
-fn refused_line(form: Form) -> &'static [u8]
+pub(crate) fn refused_line(form: Form) -> &'static [u8]
     ensures { result.now ≡ refused_line form }
 {
     match form {

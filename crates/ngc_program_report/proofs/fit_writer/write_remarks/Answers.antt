@@ -1,5 +1,6 @@
 use Rattle.std.proofs.Common.{ap}
 use Rattle.ngc_text.proofs.Appended.{appends_both}
+use Rattle.ngc_machine.specs.Machine.{file_of}
 use Rattle.ngc_line_reader.specs.ProgramView.{text_in}
 use Rattle.ngc_word_warnings.specs.Spelling.{word_warnings}
 use Rattle.ngc_program_report.proofs.WrittenLaws.{appends_as, begins_as, begins_first, begins_last, err_weaker, ok_weaker, on_err}
@@ -10,12 +11,12 @@ returns-in_err-write_warnings-clause-fault g c = on_err _ _ (begins_first _ _ _ 
 
 pub returns-clause-ok : goal.returns-clause-ok
 returns-clause-ok g c =
-    let words = ap (λ deletes. word_warnings c.args.form deletes c.args.commands.now (text_in c.args.program.now).lines) c.is_on.ensures in
+    let words = ap (λ deletes. word_warnings c.args.form deletes (file_of c.args.machine.now) c.args.commands.now (text_in c.args.program.now).lines) c.is_on.ensures in
     ok_weaker c.write_word_warnings.result _ _ (λ wrote. appends_both _ _ _ _ _ c.in_ok-write_warnings.ensures.ok (appends_as _ _ _ _ words wrote))
     c.write_word_warnings.ensures.ok
 
 pub returns-clause-fault : goal.returns-clause-fault
 returns-clause-fault g c =
-    let words = ap (λ deletes. word_warnings c.args.form deletes c.args.commands.now (text_in c.args.program.now).lines) c.is_on.ensures in
+    let words = ap (λ deletes. word_warnings c.args.form deletes (file_of c.args.machine.now) c.args.commands.now (text_in c.args.program.now).lines) c.is_on.ensures in
     err_weaker c.write_word_warnings.result _ _ (λ wrote. begins_last _ _ _ _ _ c.in_ok-write_warnings.ensures.ok (begins_as _ _ _ _ words wrote))
     c.write_word_warnings.ensures.fault

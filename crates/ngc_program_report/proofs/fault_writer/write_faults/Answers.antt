@@ -1,0 +1,46 @@
+use Rattle.std.proofs.Common.{ap}
+use Rattle.ngc_text.proofs.Appended.{appends_both}
+use Rattle.ngc_program_report.specs.Texts.{ending}
+use Rattle.ngc_program_report.proofs.WrittenLaws.{appends_as, begins_as, begins_first, begins_last, err_weaker, ok_weaker, on_err}
+use Rattle.ngc_program_report.proofs.fault_writer.write_faults.Goals as goal
+
+pub returns-in_err-write_all-clause-fault : goal.returns-in_err-write_all-clause-fault
+returns-in_err-write_all-clause-fault g c = on_err _ _ (begins_first _ _ _ _ (begins_as _ _ _ _ c.opening.ensures.text c.in_err-write_all.ensures.fault))
+
+pub returns-in_err-write_all-2-clause-fault : goal.returns-in_err-write_all-2-clause-fault
+returns-in_err-write_all-2-clause-fault g c =
+    let opened = appends_as _ _ _ _ c.opening.ensures.text c.in_ok-write_all.ensures.ok in
+    on_err _ _ (begins_last _ _ _ _ _ opened (begins_first _ _ _ _ (begins_as _ _ _ _ c.faulty_line.ensures c.in_err-write_all-2.ensures.fault)))
+
+pub returns-in_err-write_list-clause-fault : goal.returns-in_err-write_list-clause-fault
+returns-in_err-write_list-clause-fault g c =
+    let opened = appends_as _ _ _ _ c.opening.ensures.text c.in_ok-write_all.ensures.ok in
+    let headed = appends_as _ _ _ _ c.faulty_line.ensures c.in_ok-write_all-2.ensures.ok in
+    on_err _ _ (begins_last _ _ _ _ _ opened (begins_last _ _ _ _ _ headed (begins_first _ _ _ _ c.in_err-write_list.ensures.fault)))
+
+pub returns-in_err-write_list-2-clause-fault : goal.returns-in_err-write_list-2-clause-fault
+returns-in_err-write_list-2-clause-fault g c =
+    let opened = appends_as _ _ _ _ c.opening.ensures.text c.in_ok-write_all.ensures.ok in
+    let headed = appends_as _ _ _ _ c.faulty_line.ensures c.in_ok-write_all-2.ensures.ok in
+    on_err _ _ (begins_last _ _ _ _ _ opened (begins_last _ _ _ _ _ headed (begins_last _ _ _ _ _ c.in_ok-write_list.ensures.ok
+    (begins_first _ _ _ _ c.in_err-write_list-2.ensures.fault))))
+
+pub returns-clause-ok : goal.returns-clause-ok
+returns-clause-ok g c =
+    let opened = appends_as _ _ _ _ c.opening.ensures.text c.in_ok-write_all.ensures.ok in
+    let headed = appends_as _ _ _ _ c.faulty_line.ensures c.in_ok-write_all-2.ensures.ok in
+    let is = ap (λ n. ending c.args.form n) c.number.ensures in
+    ok_weaker c.write_ending.result _ _
+    (λ wrote. appends_both _ _ _ _ _ opened (appends_both _ _ _ _ _ headed (appends_both _ _ _ _ _ c.in_ok-write_list.ensures.ok
+    (appends_both _ _ _ _ _ c.in_ok-write_list-2.ensures.ok (appends_as _ _ _ _ is wrote)))))
+    c.write_ending.ensures.ok
+
+pub returns-clause-fault : goal.returns-clause-fault
+returns-clause-fault g c =
+    let opened = appends_as _ _ _ _ c.opening.ensures.text c.in_ok-write_all.ensures.ok in
+    let headed = appends_as _ _ _ _ c.faulty_line.ensures c.in_ok-write_all-2.ensures.ok in
+    let is = ap (λ n. ending c.args.form n) c.number.ensures in
+    err_weaker c.write_ending.result _ _
+    (λ wrote. begins_last _ _ _ _ _ opened (begins_last _ _ _ _ _ headed (begins_last _ _ _ _ _ c.in_ok-write_list.ensures.ok
+    (begins_last _ _ _ _ _ c.in_ok-write_list-2.ensures.ok (begins_as _ _ _ _ is wrote)))))
+    c.write_ending.ensures.fault
