@@ -1,3 +1,4 @@
+pub mod Arriving
 pub mod Events
 pub mod Faults
 pub mod Given

@@ -7,7 +7,7 @@ use thiserror::Error;
 pub enum EventsFault {
     /// The line of this number, from 1, says no event or lacks its line feed.
     #[error("wrong line {}", .0)]
-    BadLine(u32),
+    BadLine(u64),
     /// There are more than 1,000,000 lines.
     #[error("too many lines")]
     TooManyLines,

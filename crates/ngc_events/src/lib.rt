@@ -2,6 +2,7 @@
 //! answers, and the file that lists events, one a line.
 #![tactic(auto)]
 
+mod arriving;
 mod event;
 mod event_fault;
 mod fault;
@@ -10,6 +11,7 @@ mod line;
 mod read;
 mod reply;
 
+pub use arriving::EventLines;
 pub use event::{Event, EventLine};
 pub use event_fault::EventFault;
 pub use fault::EventsFault;

@@ -20,7 +20,7 @@ fn first_line(before: usize, text: &[u8]) -> Result<(EventLine, &[u8]), EventsFa
     if before >= LINE_LIMIT {
         return Err(EventsFault::TooManyLines);
     }
-    let number = before as u32 + 1;
+    let number = before as u64 + 1;
     let Some(end) = memchr(b'\n', text) else {
         return Err(EventsFault::BadLine(number));
     };

@@ -13,7 +13,7 @@ use Rattle.ngc_pulses.specs.Vcd.{steps_of, directions_after}
 use Rattle.ngc_pulses.specs.Dumping.{step_between, pulses_over}
 use Rattle.ngc_pulses.specs.Samples.{levels_in, level_bits, tick_bytes, samples_from, samples}
 use Rattle.ngc_pulses.specs.Sampling.{SampleState, SampleTick, is_rest, rest_bytes, changed_by, changed_bytes, rested, place_after, after_sample, sample_text}
-use Rattle.ngc_pulses.specs.Sampling.{after_samples, samples_text, switches_of, positions_of, first_samples}
+use Rattle.ngc_pulses.specs.Sampling.{after_samples, samples_text, settled, switches_of, positions_of, first_samples}
 use Rattle.ngc_pulses.proofs.Dumps.{resting, still_steps}
 use Rattle.ngc_pulses.proofs.Repeating.{begun_more}
 
@@ -138,3 +138,20 @@ one_rests s t false = omega arith
 pub few_rest : (s : SampleState) (ticks : List SampleTick) → (after_samples s ticks).resting ≤ s.resting + length ticks
 few_rest s [] = omega arith
 few_rest s (t ∷ ticks) = omega (arith, few_rest (after_sample s t) ticks, one_rests s t (is_rest t))
+
+-- ---- samples that go on once the bytes of the ticks that rest are written
+
+one_settled : (s : SampleState) (t : SampleTick) (b : Bool) →
+    settled (if b then rested 1 (settled s) else changed_by (settled s) t) ≡ settled (if b then rested 1 s else changed_by s t)
+one_settled s t true = refl
+one_settled s t false = refl
+
+pub after_settled : (s : SampleState) (ts : List SampleTick) → settled (after_samples (settled s) ts) ≡ settled (after_samples s ts)
+after_settled s [] = refl
+after_settled s (t ∷ ts) =
+    sym (after_settled (after_sample (settled s) t) ts) ∙ ap (λ k. settled (after_samples k ts)) (one_settled s t (is_rest t))
+    ∙ after_settled (after_sample s t) ts
+
+pub whole_settled : (s : SampleState) (ts : List SampleTick) → samples_text s ts ++ rest_bytes (after_samples s ts)
+    ≡ rest_bytes s ++ (samples_text (settled s) ts ++ rest_bytes (after_samples (settled s) ts))
+whole_settled s ts = all_whole ts s ∙ ap (λ l. rest_bytes s ++ l) (sym (all_whole ts (settled s)))

@@ -65,6 +65,10 @@ changed_bytes s t = tick_bytes s.inverted (levels_in s.levels (sample_steps s t.
 abbrev pub rested : ℕ → SampleState → SampleState
 rested n s = record s { resting = s.resting + n }
 
+-- the same once the bytes of the ticks that changed nothing are written
+abbrev pub settled : SampleState → SampleState
+settled s = record s { resting = 0 }
+
 -- a tick that changes nothing is counted; before another the bytes of those that were counted come
 abbrev pub after_sample : SampleState → SampleTick → SampleState
 after_sample s t = if is_rest t then rested 1 s else changed_by s t

@@ -6,7 +6,7 @@ ghost use Rattle.ngc_text.specs.Written.{AppendsBeginning};
 ghost use Rattle.ngc_pulses.specs.Samples.{bit, level_bits, levels_in, step_bits, switched};
 ghost use Rattle.ngc_pulses.specs.Sampling.{after_sample, changed_by, changed_bytes};
 ghost use Rattle.ngc_pulses.specs.Sampling.{first_samples, is_rest, rest_bytes};
-ghost use Rattle.ngc_pulses.specs.Sampling.{rested, sample_text, stays};
+ghost use Rattle.ngc_pulses.specs.Sampling.{rested, sample_text, settled, stays};
 
 use crate::axis_step::{Directions, Steps};
 use crate::repeated::write_repeated;
@@ -217,6 +217,19 @@ impl PulseSamples {
         self.position = place;
         self.levels = levels;
         self.resting = 0;
+    }
+
+    /// Returns the samples as they go on once the bytes of the ticks that changed nothing are
+    /// written.
+    pub fn settled(&self) -> PulseSamples
+        ensures { result ≡ settled self.now }
+    {
+        PulseSamples {
+            inverted: self.inverted,
+            position: self.position,
+            levels: self.levels,
+            resting: 0,
+        }
     }
 
     /// Writes the bytes of the ticks that were counted and changed nothing. There is room for a line

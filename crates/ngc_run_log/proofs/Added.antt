@@ -1,6 +1,6 @@
 -- A text that is written in two parts.
 use Rattle.std.proofs.Common.{◌≡◌, List, [], ◌++◌, ℕ, Option, ap, subst, sym, ◌∙◌}
-use Rattle.std.proofs.lemmas.List.{append_assoc, append-nil}
+use Rattle.std.proofs.lemmas.List.{append-nil}
 use Rattle.ngc_text.proofs.Appended.{begins_after}
 use Rattle.ngc_text.specs.Written.{AppendsBeginning}
 use Rattle.ngc_text.specs.Collected.{WritesFront}

@@ -80,47 +80,47 @@ reports trace job s a b events outcomes new counts =
     }
 
 -- what was written and what is still collected is the text before the last
-text_is : (trace : Trace) (job : Job) (s : State) (a b : Recorder) (x y : Option (List ℕ)) (events : List Event) (outcomes : List Outcome) →
-    AreNew trace job s a → (r : Records events outcomes a b x y) →
+text_is : (trace : Trace) (a b : Recorder) (x y : Option (List ℕ)) (events : List Event) (outcomes : List Outcome) →
+    a.trace ≡ trace → a.chunk ≡ opening_text trace → (r : Records events outcomes a b x y) →
     r.collects.front ++ (b.chunk ++ last_text b.trace) ≡ whole_text trace outcomes
-text_is trace job s a b x y events outcomes new r =
-    let after : b.trace ≡ trace_after trace outcomes = r.trace ∙ ap (λ t. trace_after t outcomes) new.trace in
-    let opened : a.chunk ++ trace_text a.trace outcomes ≡ opening_text trace ++ trace_text trace outcomes =
-    ap (λ l. l ++ trace_text a.trace outcomes) new.chunk ∙ ap (λ t. opening_text trace ++ trace_text t outcomes) new.trace in
+text_is trace a b x y events outcomes same opened r =
+    let after : b.trace ≡ trace_after trace outcomes = r.trace ∙ ap (λ t. trace_after t outcomes) same in
+    let whole : a.chunk ++ trace_text a.trace outcomes ≡ opening_text trace ++ trace_text trace outcomes =
+    ap (λ l. l ++ trace_text a.trace outcomes) opened ∙ ap (λ t. opening_text trace ++ trace_text t outcomes) same in
     sym (append_assoc r.collects.front b.chunk (last_text b.trace))
-    ∙ ap (λ l. l ++ last_text b.trace) (sym r.collects.splits ∙ opened)
+    ∙ ap (λ l. l ++ last_text b.trace) (sym r.collects.splits ∙ whole)
     ∙ ap (λ t. (opening_text trace ++ trace_text trace outcomes) ++ last_text t) after
     ∙ append_assoc (opening_text trace) (trace_text trace outcomes) (last_text (trace_after trace outcomes))
 
 -- all was written, and the last text
-pub all_written : (trace : Trace) (job : Job) (s : State) (a b : Recorder) (x y z : Option (List ℕ)) (events : List Event) (outcomes : List Outcome) →
-    AreNew trace job s a → Records events outcomes a b x y →
+pub all_written : (trace : Trace) (a b : Recorder) (x y z : Option (List ℕ)) (events : List Event) (outcomes : List Outcome) →
+    a.trace ≡ trace → a.chunk ≡ opening_text trace → Records events outcomes a b x y →
     Appends y z (b.chunk ++ last_text b.trace) → Appends x z (whole_text trace outcomes)
-all_written trace job s a b x y z events outcomes new r wrote =
+all_written trace a b x y z events outcomes same opened r wrote =
     let P : List ℕ → Type 0 = λ text. Appends x z text in
-    subst P (text_is trace job s a b x y events outcomes new r) (appends_both x y z r.collects.front (b.chunk ++ last_text b.trace) r.collects.writes wrote)
+    subst P (text_is trace a b x y events outcomes same opened r) (appends_both x y z r.collects.front (b.chunk ++ last_text b.trace) r.collects.writes wrote)
 
 -- then a write failed
-pub all_begun : (trace : Trace) (job : Job) (s : State) (a b : Recorder) (x y z : Option (List ℕ)) (events : List Event) (outcomes : List Outcome) →
-    AreNew trace job s a → Records events outcomes a b x y →
+pub all_begun : (trace : Trace) (a b : Recorder) (x y z : Option (List ℕ)) (events : List Event) (outcomes : List Outcome) →
+    a.trace ≡ trace → a.chunk ≡ opening_text trace → Records events outcomes a b x y →
     AppendsBeginning y z (b.chunk ++ last_text b.trace) → AppendsBeginning x z (whole_text trace outcomes)
-all_begun trace job s a b x y z events outcomes new r wrote =
+all_begun trace a b x y z events outcomes same opened r wrote =
     let P : List ℕ → Type 0 = λ text. AppendsBeginning x z text in
     let rest : List ℕ = b.chunk ++ last_text b.trace in
     let text : r.collects.front ++ (rest ++ []) ≡ whole_text trace outcomes =
-    ap (λ l. r.collects.front ++ l) (append-nil rest) ∙ text_is trace job s a b x y events outcomes new r in
+    ap (λ l. r.collects.front ++ l) (append-nil rest) ∙ text_is trace a b x y events outcomes same opened r in
     subst P text (begins_after x y z r.collects.front rest [] r.collects.writes wrote)
 
 -- a write failed before the last text was added
-pub some_begun : (trace : Trace) (job : Job) (s : State) (a : Recorder) (x z : Option (List ℕ)) (outcomes : List Outcome) → AreNew trace job s a →
+pub some_begun : (trace : Trace) (a : Recorder) (x z : Option (List ℕ)) (outcomes : List Outcome) → a.trace ≡ trace → a.chunk ≡ opening_text trace →
     AppendsBeginning x z (a.chunk ++ trace_text a.trace outcomes) → AppendsBeginning x z (whole_text trace outcomes)
-some_begun trace job s a x z outcomes new wrote =
+some_begun trace a x z outcomes same opened wrote =
     let end : List ℕ = last_text (trace_after trace outcomes) in
-    let opened : a.chunk ++ trace_text a.trace outcomes ≡ opening_text trace ++ trace_text trace outcomes =
-    ap (λ l. l ++ trace_text a.trace outcomes) new.chunk ∙ ap (λ t. opening_text trace ++ trace_text t outcomes) new.trace in (
+    let whole : a.chunk ++ trace_text a.trace outcomes ≡ opening_text trace ++ trace_text trace outcomes =
+    ap (λ l. l ++ trace_text a.trace outcomes) opened ∙ ap (λ t. opening_text trace ++ trace_text t outcomes) same in (
       wrote.0,
       wrote.1 ++ end,
-      sym (append_assoc (opening_text trace) (trace_text trace outcomes) end) ∙ ap (λ l. l ++ end) (sym opened ∙ wrote.2) ∙ append_assoc wrote.0 wrote.1 end,
+      sym (append_assoc (opening_text trace) (trace_text trace outcomes) end) ∙ ap (λ l. l ++ end) (sym whole ∙ wrote.2) ∙ append_assoc wrote.0 wrote.1 end,
       wrote.3,
     )
 
@@ -139,7 +139,7 @@ run_traced trace job s t a b x y z lines i report new safe in_time h done wrote 
     record {
       outcomes = whole.outcomes;
       run = is_run job s t (events_of lines) whole.outcomes safe in_time new.opens whole.stretch;
-      written = all_written trace job s a b x y z (events_of lines) whole.outcomes new whole.records wrote;
+      written = all_written trace a b x y z (events_of lines) whole.outcomes new.trace new.chunk whole.records wrote;
       reports = subst R (sym same) (reports trace job s a b (events_of lines) whole.outcomes new whole.records.counts);
     }
 
@@ -161,7 +161,7 @@ run_untraced trace job s t a b x y z lines i new safe in_time h done wrote =
       are_first = sym (append-nil (events_of lines));
       outcomes = whole.outcomes;
       run = is_run job s t (events_of lines) whole.outcomes safe in_time new.opens whole.stretch;
-      written = all_begun trace job s a b x y z (events_of lines) whole.outcomes new whole.records wrote;
+      written = all_begun trace a b x y z (events_of lines) whole.outcomes new.trace new.chunk whole.records wrote;
     }
 
 -- a write failed before all events were given
@@ -174,7 +174,7 @@ run_cut trace job s a x z lines new safe in_time cut = record {
   are_first = cut.are_first;
   outcomes = cut.outcomes;
   run = is_run job s cut.reached cut.given cut.outcomes safe in_time new.opens cut.stretch;
-  written = some_begun trace job s a x z cut.outcomes new cut.begun;
+  written = some_begun trace a x z cut.outcomes new.trace new.chunk cut.begun;
 }
 
 pub safe_of : (a : AcceptedData) (block_delete : Bool) (job : Job) → IsAccepted a → job ≡ job_of a.machine (commands_at block_delete a) → RunsSafely job

@@ -107,7 +107,7 @@ first_text Pulses job list es os xs machine joined are r =
     whole_dump job.machine.ticks_per_second (start_of_job job) (ticks_in os)
     ∙ ap (vcd job.machine.ticks_per_second) (sym (run_pulses job es os xs machine joined r))
 
-text_of_run : (form : Form) (job : Job) (trace : Trace) (es : List Event) (os : List Outcome) (xs : List State) → IsTraceOf form job trace →
+pub text_of_run : (form : Form) (job : Job) (trace : Trace) (es : List Event) (os : List Outcome) (xs : List State) → IsTraceOf form job trace →
     Run job (opening job.machine) es os xs → whole_text trace os ≡ text_as form job es os xs
 text_of_run form job trace es os xs t r = ap (λ (x : Trace). whole_text x os) t.is ∙ first_text form job t.list es os xs t.machine t.joined t.are r
 

@@ -57,7 +57,7 @@ goings_joined job s (e ∷ es) fs [] xs ys r k m = absurd r
 goings_joined job s (e ∷ es) fs (o ∷ os) [] ys r k m = absurd r
 
 -- an outcome for each event
-same_lengths : (job : Job) (s : State) (es : List Event) (os : List Outcome) (xs : List State) → Run job s es os xs → length os ≡ length es
+pub same_lengths : (job : Job) (s : State) (es : List Event) (os : List Outcome) (xs : List State) → Run job s es os xs → length os ≡ length es
 same_lengths job s [] [] [] r = refl
 same_lengths job s (e ∷ es) (o ∷ os) (x ∷ xs) r = omega (arith, same_lengths job x es os xs r.1)
 same_lengths job s [] (o ∷ os) xs r = absurd r

@@ -26,3 +26,11 @@ pub mod Parted
 pub mod Leads
 -- What a run comes to in one of the forms.
 pub mod Forms
+-- A run that goes on from piece to piece of its events' text.
+pub mod LiveLaws
+-- The lines of a piece, one after another.
+pub mod PieceLaws
+-- What is given for events that are sent, where a ring is fed.
+pub mod FeedingLaws
+-- Events from a source, one piece after another.
+pub mod LiveSources

@@ -26,7 +26,7 @@ turn_recorded job at s t u a b c x y z e o k same done does goes recorded =
     subst P (replicate_more k e)
     (recorded_both job s t u a b c x y z (replicate k e) (e ∷ []) done (one_recorded job t u b c y z e o (subst S same does) (subst G same goes) recorded))
 
-turns_left : (e : Event) (k n : ℕ) → k < n → replicate k e ++ (replicate 1 e ++ replicate (n - k - 1) e) ≡ replicate n e
+pub turns_left : (e : Event) (k n : ℕ) → k < n → replicate k e ++ (replicate 1 e ++ replicate (n - k - 1) e) ≡ replicate n e
 turns_left e k n h =
     let more : 1 + (n - k - 1) ≡ n - k = omega arith in
     let all : k + (n - k) ≡ n = omega arith in

@@ -23,7 +23,6 @@ use Rattle.ngc_controller.specs.Controller.{ControllerData}
 use Rattle.ngc_controller.specs.Fields.{DWELL_LIMIT}
 use Rattle.ngc_controller.specs.Loaded.{AreShort}
 use Rattle.ngc_run_log.specs.declared.recorder.Recorder.{Recorder}
-use Rattle.ngc_run_log.specs.Tracing.{trace_text}
 use Rattle.ngc_run_log.specs.Runs.{is_refusal}
 use Rattle.ngc_behaviour.specs.Stretch.{Stretch}
 use Rattle.ngc_run_log.specs.Recording.{HasFew}
@@ -31,7 +30,7 @@ use Rattle.ngc_run_log.specs.Policy.{next_event, FollowPolicy}
 use Rattle.ngc_run_log.specs.Through.{IsLoadTickOrStart, TellsEnd}
 use Rattle.ngc_run_log.specs.Stretches.{IsUntouched, IsGiven, IsGivenLast, GoesBy, BreaksOff, TicksBy, Works, spent, ending_in, is_stop, does_in, SPENT_LIMIT}
 use Rattle.ngc_run_log.specs.Stretches.{TellsBy, TellsHead, GoesBehind, FinishesHead, Finishes}
-use Rattle.ngc_run_log.proofs.Joined.{one_step, stretches_joined, records_joined, begun_behind, begun_more, none_recorded, count_by-append, few_more}
+use Rattle.ngc_run_log.proofs.Joined.{one_step, stretches_joined, records_joined, begun_behind, none_recorded, count_by-append, few_more}
 use Rattle.ngc_run_log.proofs.Policy.{start_is_next, load_is_next, follows_joined}
 use Rattle.ngc_run_log.proofs.Ticks.{Goes, HasLeft, tick_goes}
 

@@ -6,5 +6,8 @@ pub mod Runs
 pub mod Policy
 pub mod Through
 pub mod Forms
+pub mod LiveFaults
+pub mod Feeding
+pub mod Living
 pub mod Stretches
 pub mod Parts

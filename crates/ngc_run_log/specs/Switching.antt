@@ -1,5 +1,5 @@
 -- What the commands of a program do to the spindle and the coolant. Our own.
-use Rattle.std.specs.Prelude.{◌≡◌, ℕ, List, map, slice_get, unwrap_or, Option, Some, None, true}
+use Rattle.std.specs.Prelude.{◌≡◌, List, map, slice_get, unwrap_or, Option, Some, None, true}
 use Rattle.std.specs.Prelude.{false}
 use Rattle.ngc_commands.specs.declared.command.Action.{Action}
 use Rattle.ngc_commands.specs.declared.command.Action.TheVariants as actions

@@ -44,14 +44,14 @@ fn coast<A: Allocator + Copy>(
     ticks as u32
 }
 
-// Gives the event of a line as often as it says.
-fn run_line<A: Allocator + Copy, W: Sink>(
+/// Gives the event of a line as often as it says.
+pub(crate) fn run_line<A: Allocator + Copy, W: Sink>(
     controller: &mut Controller<ArcPath, A>,
     line: &EventLine,
     recorder: &mut Recorder,
     sink: &mut W,
 ) -> Result<(), WriteFault>
-    requires { HasFew (2 ^ 100) recorder.old }
+    requires { HasFew (2 ^ 110) recorder.old }
     ensures job { controller.new.job ≡ controller.old.job }
     ensures recorded { OnOk result
         (IsRecorded controller.old.job controller.old.state controller.new.state recorder.old

@@ -8,6 +8,7 @@ ghost use Rattle.ngc_text.specs.Failures.{CountsFailure};
 ghost use Rattle.ngc_text.specs.Written.{AppendsBeginning};
 ghost use Rattle.ngc_pulses.specs.Dumping.{after_tick, closing_text, tick_text};
 ghost use Rattle.ngc_pulses.specs.Sampling.{after_samples, rest_bytes, samples_text};
+ghost use Rattle.ngc_run_log.specs.Living.{samples_of, trace_from};
 ghost use Rattle.ngc_run_log.specs.Log.{log};
 ghost use Rattle.ngc_run_log.specs.Tracing.{dump_after, dump_text, last_text, opening_text};
 ghost use Rattle.ngc_run_log.specs.Tracing.{sampled, switched_by, ticks_of, trace_after, trace_of};
@@ -208,6 +209,26 @@ impl<'s> Trace<'s> {
             Form::Samples(inverted) => {
                 Trace::Samples(PulseSamples::new(inverted, position), switches)
             }
+        }
+    }
+
+    /// After some events of which all text is written: of a log, or of samples that go on.
+    pub(crate) fn going_on(samples: &Option<PulseSamples>, switches: Switches<'s>) -> Trace<'s>
+        ensures { result ≡ trace_from samples.now switches.entry }
+    {
+        match samples {
+            None => Trace::Log,
+            Some(samples) => Trace::Samples(samples.settled(), switches),
+        }
+    }
+
+    /// Returns the samples as they go on once all text is written, or `None` where there are none.
+    pub(crate) fn samples(&self) -> Option<PulseSamples>
+        ensures { result ≡ samples_of self.now }
+    {
+        match self {
+            Trace::Log | Trace::Pulses(_) | Trace::Untold => None,
+            Trace::Samples(samples, _) => Some(samples.settled()),
         }
     }
 

@@ -15,12 +15,12 @@ turns-init g c =
 
 pub add-requires : goal.add-requires
 add-requires g c =
-    few_turns _ _ _ _ _ _ _ c.args.line.now.event (c.args.line.now.times - c.turns.left) (2 ^ 100) (2 ^ 126) c.turns.invariant.recorded c.requires (omega arith)
+    few_turns _ _ _ _ _ _ _ c.args.line.now.event (c.args.line.now.times - c.turns.left) (2 ^ 110) (2 ^ 126) c.turns.invariant.recorded c.requires (omega arith)
 
 pub coast-left-requires : goal.coast-left-requires
 coast-left-requires g c =
     let k = c.args.line.now.times - c.turns.left in
-    few_turns _ _ _ _ _ _ _ c.args.line.now.event (k + 1) (2 ^ 100) (2 ^ 125)
+    few_turns _ _ _ _ _ _ _ c.args.line.now.event (k + 1) (2 ^ 110) (2 ^ 125)
     (turn_recorded _ _ _ _ _ _ _ _ _ _ _ c.args.line.now.event _ k c.turns.invariant.job c.turns.invariant.recorded c.event-outcome.ensures.step
     c.event-outcome.ensures.goes_on c.in-Ok.ensures.records) c.requires (omega arith)
 

@@ -1,0 +1,107 @@
+-- Events whose text arrives in pieces of any size. Our own.
+use Rattle.std.specs.Prelude.{◌≡◌, ◌⊎◌, ℕ, ◌+◌, ◌-◌, ◌*◌, ◌^◌, ◌<◌, ◌==◌, List, [], ◌∷◌, ◌++◌, length}
+use Rattle.std.specs.Prelude.{Option, Some, None, Result, Ok, Err, IsTrue, Bool, not}
+use Rattle.std.specs.Borrow.{Bor}
+use Rattle.std.specs.List.{list_all}
+use Rattle.ngc_events.specs.declared.event.EventLine.{EventLine}
+use Rattle.ngc_events.specs.declared.fault.EventsFault.{EventsFault}
+use Rattle.ngc_events.specs.declared.fault.EventsFault.TheVariants.{BadLine, TooManyLines, Memory}
+use Rattle.ngc_events.specs.Events.{event_said}
+use Rattle.ngc_events.specs.Spelling.{events_text, is_given}
+
+-- the length of the longest line that says an event, as `tick 1000000` and `override 255`
+abbrev pub LONGEST_LINE : ℕ
+LONGEST_LINE = 12
+
+-- no byte is a line feed
+abbrev pub is_feedless : List ℕ → Bool
+is_feedless text = list_all (λ b. not (b == 10)) text
+
+-- bytes that a line feed parts
+pub record IsSplit (bytes line behind : List ℕ) : Type 0 where
+  pub feedless : IsTrue (is_feedless line)
+  pub parts : bytes ≡ line ++ 10 ∷ behind
+
+-- how many lines are complete, and what has arrived of the next one
+pub record Arriving : Type 0 where
+  pub complete : ℕ
+  pub begun : List ℕ
+
+-- A text is the lines of these events, and the beginning of another line. By the law of one
+-- spelling it says these events up to that line, just as the text of an events file does.
+pub record HaveArrived (text : List ℕ) (lines : List EventLine) (now : Arriving) : Type 0 where
+  pub spelled : text ≡ events_text lines ++ now.begun
+  pub given : IsTrue (list_all (λ (line : EventLine). is_given line.event line.times) lines)
+  pub feedless : IsTrue (is_feedless now.begun)
+  pub counted : now.complete ≡ length lines
+
+-- a text begins with the lines of these events
+pub record Begins (text : List ℕ) (lines : List EventLine) : Type 0 where
+  pub behind : List ℕ
+  pub spelled : text ≡ events_text lines ++ behind
+  pub given : IsTrue (list_all (λ (line : EventLine). is_given line.event line.times) lines)
+
+-- the first line of a text says no event, whatever follows the text
+pub record IsNoEvent (text : List ℕ) : Type 0 where
+  pub line : List ℕ
+  pub behind : List ℕ
+  pub splits : text ≡ line ++ behind
+  pub feedless : IsTrue (is_feedless line)
+  pub wrong : (LONGEST_LINE < length line) ⊎
+      ((event_said line ≡ None) × (rest : List ℕ) × (behind ≡ 10 ∷ rest))
+
+-- a text is the lines of these events, and then a line that says no event: the line of this number
+pub record IsWrongAfter (text : List ℕ) (lines : List EventLine) (at : ℕ) : Type 0 where
+  pub wrong : List ℕ
+  pub spelled : text ≡ events_text lines ++ wrong
+  pub given : IsTrue (list_all (λ (line : EventLine). is_given line.event line.times) lines)
+  pub no_event : IsNoEvent wrong
+  pub number : at ≡ length lines + 1
+
+-- the most lines that are counted
+abbrev pub MOST_LINES : ℕ
+MOST_LINES = 2 ^ 64 - 1
+
+-- why no more events are read behind these
+abbrev pub StopsAfter : List ℕ → List EventLine → EventsFault → Type 0
+StopsAfter text lines (BadLine number) = IsWrongAfter text lines number
+StopsAfter text lines TooManyLines = Begins text lines × (length lines ≡ MOST_LINES)
+StopsAfter text lines Memory = ⊥
+
+-- the most bytes that have come by what is known, if each line is as long as one may be
+abbrev pub filled : Arriving → ℕ
+filled now = (LONGEST_LINE + 1) * now.complete + length now.begun
+
+-- and that may come
+abbrev pub MOST_TEXT : ℕ
+MOST_TEXT = (LONGEST_LINE + 1) * MOST_LINES + LONGEST_LINE
+
+-- the first line that a piece completes, and the bytes behind it
+pub record TakesOne (text piece : List ℕ) (lines : List EventLine) (line : EventLine)
+    (rest : List ℕ) (new : Arriving) : Type 0 where
+  pub front : List ℕ
+  pub splits : piece ≡ front ++ rest
+  pub arrived : HaveArrived (text ++ front) (lines ++ line ∷ []) new
+  pub shorter : length rest < length piece
+
+-- what is taken of a piece that follows a text
+abbrev pub Takes : List ℕ → List EventLine → List ℕ → Arriving →
+    Result (Option (EventLine × Bor (List ℕ))) EventsFault → Type 0
+Takes text lines piece new (Ok None) = HaveArrived (text ++ piece) lines new
+Takes text lines piece new (Ok (Some (line, rest))) =
+    TakesOne text piece lines line rest.now new
+Takes text lines piece new (Err fault) = StopsAfter (text ++ piece) lines fault
+
+-- a text is the lines of these events, and then a line of this number that lacks its line feed
+pub record IsUnended (text : List ℕ) (lines : List EventLine) (at : ℕ) : Type 0 where
+  pub begun : List ℕ
+  pub spelled : text ≡ events_text lines ++ begun
+  pub some : 0 < length begun
+  pub number : at ≡ length lines + 1
+
+-- what a text comes to of which no more arrives
+abbrev pub Ends : List ℕ → List EventLine → Result (Unit {0}) EventsFault → Type 0
+Ends text lines (Ok done) = text ≡ events_text lines
+Ends text lines (Err (BadLine number)) = IsUnended text lines number
+Ends text lines (Err TooManyLines) = length lines ≡ MOST_LINES
+Ends text lines (Err Memory) = ⊥

@@ -1,0 +1,319 @@
+-- A run that goes on from piece to piece of its events' text.
+use Rattle.std.proofs.Common.{◌≡◌, ◌++◌, [], ℕ, List, Option, Some, None, Bool, true, false, refl, ap, ap₂, subst, sym, ◌∙◌, arith}
+use Rattle.std.proofs.lemmas.List.{append_assoc, append-nil}
+use Rattle.std.proofs.lemmas.Grind.{flat_map-append}
+use Rattle.std.proofs.KnownBytes.{Appends-nil}
+use Rattle.std.specs.Io.KnownBytes.{Appends}
+use Rattle.ngc_text.specs.Written.{AppendsBeginning}
+use Rattle.ngc_text.proofs.Appended.{appends_both, begins_after}
+use Rattle.ngc_fixed_length.specs.declared.points.StepPos.{StepPos}
+use Rattle.ngc_checker.specs.Accepted.{AcceptedData, IsAccepted, commands_at}
+use Rattle.ngc_commands.specs.Movement.{actions_of, ways_of, AreJoined}
+use Rattle.ngc_commands.specs.declared.command.Command.{Command}
+use Rattle.ngc_machine.specs.MachineRanges.{IsMachine}
+use Rattle.ngc_events.specs.Arriving.{Arriving, Begins, HaveArrived}
+use Rattle.ngc_events.specs.declared.event.Event.{Event}
+use Rattle.ngc_events.specs.declared.event.EventLine.{EventLine}
+use Rattle.ngc_behaviour.specs.Headline.{job_of, RunsInTime, RunsSafely}
+use Rattle.ngc_behaviour.specs.State.{Job, State, opening}
+use Rattle.ngc_behaviour.specs.Step.{Outcome}
+use Rattle.ngc_behaviour.specs.Run.{Run, events_of}
+use Rattle.ngc_behaviour.specs.Safety.{start_of_job}
+use Rattle.ngc_behaviour.specs.Stretch.{Stretch}
+use Rattle.ngc_pulses.specs.declared.samples.Switch.{Switch}
+use Rattle.ngc_pulses.specs.Sampling.{SampleState, SampleTick, after_samples, first_samples, rest_bytes, samples_text, settled}
+use Rattle.ngc_pulses.proofs.Sampled.{after_samples-append, after_settled, samples_text-append, whole_settled}
+use Rattle.ngc_run_log.specs.declared.live_form.LiveForm.{LiveForm}
+use Rattle.ngc_run_log.specs.declared.live_form.LiveForm.TheVariants as live
+use Rattle.ngc_run_log.specs.declared.recorder.Recorder.{Recorder}
+use Rattle.ngc_run_log.specs.declared.report.Report.{Report}
+use Rattle.ngc_run_log.specs.declared.switches.Switches.{Switches}
+use Rattle.ngc_run_log.specs.declared.trace.Trace.{Trace}
+use Rattle.ngc_run_log.specs.Forms.{text_as}
+use Rattle.ngc_run_log.specs.Living.{form_of, samples_of, trace_from, first_paused, paused, LiveData, IsReady, HasRun, IsLive, IsBrokenLive}
+use Rattle.ngc_run_log.specs.Log.{log, text_of}
+use Rattle.ngc_run_log.specs.Feeding.{AreBegun, AreGiven, IsFed, IsFedShort}
+use Rattle.ngc_run_log.specs.Recording.{HasFew}
+use Rattle.ngc_run_log.specs.Runs.{IsRun}
+use Rattle.ngc_run_log.specs.Switching.{AreSwitches}
+use Rattle.ngc_run_log.specs.Tracing.{last_text, opening_text, sample_in, samples_in, ticks_of, trace_after, trace_of, whole_text}
+use Rattle.ngc_run_log.proofs.Comes.{all_begun, all_written, in_time_of, opens_of, safe_of, some_begun}
+use Rattle.ngc_run_log.proofs.Forms.{are_switches, IsTraceOf, text_of_run}
+use Rattle.ngc_run_log.proofs.FeedingLaws.{begun_joined, begun_all, given_joined}
+use Rattle.ngc_run_log.proofs.Joined.{stretches_joined}
+
+-- ---- the trace that goes on
+
+pub opens_empty : (o : Option SampleState) (s : Switches) → opening_text (trace_from o s) ≡ []
+opens_empty None s = refl
+opens_empty (Some d) s = refl
+
+pub none_ticked_yet : (o : Option SampleState) (s : Switches) → ticks_of (trace_from o s) ≡ 0
+none_ticked_yet None s = refl
+none_ticked_yet (Some d) s = refl
+
+-- nothing is counted yet
+pub none_counted_yet : (a : Recorder) (o : Option SampleState) (s : Switches) (position : StepPos) →
+    a.report ≡ record { ticks = 0; path_steps = 0; refused = 0; position = position } → a.trace ≡ trace_from o s → HasFew 0 a
+none_counted_yet a o s position report same = record {
+  report = record {
+    ticks = omega (arith, ap (λ (r : Report). r.ticks) report);
+    path_steps = omega (arith, ap (λ (r : Report). r.path_steps) report);
+    refused = omega (arith, ap (λ (r : Report). r.refused) report);
+  };
+  ticks = omega (arith, ap ticks_of same, none_ticked_yet o s);
+}
+
+-- ---- the text of more outcomes
+
+more_text : (form : LiveForm) (rate : ℕ) (start : StepPos) (s : Switches) (os ps : List Outcome) →
+    whole_text (trace_of (form_of form) rate start s) (os ++ ps)
+    ≡ whole_text (trace_of (form_of form) rate start s) os ++ whole_text (trace_from (paused form start s.list.now os) s) ps
+more_text live.Log rate start s os ps =
+    append-nil (log (os ++ ps)) ∙ flat_map-append text_of os ps ∙ ap₂ (λ a b. a ++ b) (sym (append-nil (log os))) (sym (append-nil (log ps)))
+more_text (live.Samples inverted) rate start s os ps =
+    let list : List Switch = s.list.now in
+    let first : SampleState = first_samples inverted start in
+    let xs : List SampleTick = samples_in list os in
+    let ys : List SampleTick = samples_in list ps in
+    let mid : SampleState = after_samples first xs in
+    ap (λ ts. samples_text first ts ++ rest_bytes (after_samples first ts)) (flat_map-append (sample_in list) os ps)
+    ∙ ap₂ (λ a d. a ++ rest_bytes d) (samples_text-append first xs ys) (after_samples-append first xs ys)
+    ∙ append_assoc (samples_text first xs) (samples_text mid ys) (rest_bytes (after_samples mid ys))
+    ∙ ap (λ t. samples_text first xs ++ t) (whole_settled mid ys)
+    ∙ sym (append_assoc (samples_text first xs) (rest_bytes mid) (samples_text (settled mid) ys ++ rest_bytes (after_samples (settled mid) ys)))
+
+more_samples : (form : LiveForm) (start : StepPos) (s : Switches) (os ps : List Outcome) →
+    samples_of (trace_after (trace_from (paused form start s.list.now os) s) ps) ≡ paused form start s.list.now (os ++ ps)
+more_samples live.Log start s os ps = refl
+more_samples (live.Samples inverted) start s os ps =
+    let list : List Switch = s.list.now in
+    let first : SampleState = first_samples inverted start in
+    let xs : List SampleTick = samples_in list os in
+    let ys : List SampleTick = samples_in list ps in
+    ap Some
+    (after_settled (after_samples first xs) ys
+    ∙ sym (ap settled (ap (after_samples first) (flat_map-append (sample_in list) os ps) ∙ after_samples-append first xs ys)))
+
+-- ---- the run so far, and more of it
+
+-- the trace with which the job began, with what its commands switch as it is borrowed now
+abbrev began : LiveForm → Job → Switches → Trace
+began form job s = trace_of (form_of form) job.machine.ticks_per_second (start_of_job job) s
+
+is_began : (form : LiveForm) (job : Job) (list : List Switch) (s : Switches) → IsReady form job list → s.list.now ≡ list →
+    IsTraceOf (form_of form) job (began form job s)
+is_began form job list s ready same = record {
+  machine = ready.machine;
+  joined = ready.joined;
+  list = s;
+  are = subst (AreSwitches (form_of form) job.commands) (sym same) ready.are;
+  is = refl;
+}
+
+-- and the trace that goes on behind outcomes
+abbrev pub behind : LiveForm → LiveData → Switches → List Outcome → Trace
+behind form live s outcomes = trace_from (paused form (start_of_job live.job) s.list.now outcomes) s
+
+goes_on : (form : LiveForm) (live : LiveData) (lines : List EventLine) (first x : Option (List ℕ)) (s : Switches) (h : HasRun form live lines first x) →
+    s.list.now ≡ live.switches → trace_from live.samples s ≡ behind form live s h.outcomes
+goes_on form live lines first x s h same =
+    ap (λ o. trace_from o s) (h.samples ∙ ap (λ l. paused form (start_of_job live.job) l h.outcomes) (sym same))
+
+wrote_before : (form : LiveForm) (live : LiveData) (lines : List EventLine) (first x : Option (List ℕ)) (s : Switches) (h : HasRun form live lines first x) →
+    s.list.now ≡ live.switches → Appends first x (whole_text (began form live.job s) h.outcomes)
+wrote_before form live lines first x s h same =
+    subst (Appends first x)
+    (sym (text_of_run (form_of form) live.job (began form live.job s) h.given h.outcomes h.run.states
+    (is_began form live.job live.switches s h.ready same) h.run.runs)) h.written
+
+abbrev run_over : (job : Job) (t : State) (events : List Event) (outcomes : List Outcome) → RunsSafely job → RunsInTime job →
+    Stretch job (opening job.machine) t events outcomes → IsRun job events outcomes
+run_over job t events outcomes safe in_time stretch = record {
+  states = stretch.states;
+  runs = stretch.runs;
+  is_safe = safe events outcomes stretch.states stretch.runs;
+  goes_on = stretch.goes_on;
+  in_time = in_time events outcomes stretch.states stretch.runs stretch.goes_on;
+}
+
+abbrev stretch_of : (form : LiveForm) (live : LiveData) (lines : List EventLine) (first x : Option (List ℕ)) → (h : HasRun form live lines first x) →
+    Stretch live.job (opening live.job.machine) live.state h.given h.outcomes
+stretch_of form live lines first x h = record { states = h.run.states; runs = h.run.runs; goes_on = h.run.goes_on; last = h.reached }
+
+events_both : (xs ys : List EventLine) → events_of (xs ++ ys) ≡ events_of xs ++ events_of ys
+events_both xs ys = flat_map-append _ xs ys
+
+-- the text of the run with more outcomes
+text_with : (form : LiveForm) (live : LiveData) (lines : List EventLine) (first x : Option (List ℕ)) (s : Switches) (h : HasRun form live lines first x)
+    (events : List Event) (ps : List Outcome) (states : List State) → s.list.now ≡ live.switches →
+    Run live.job (opening live.job.machine) events (h.outcomes ++ ps) states →
+    whole_text (began form live.job s) h.outcomes ++ whole_text (behind form live s h.outcomes) ps
+    ≡ text_as (form_of form) live.job events (h.outcomes ++ ps) states
+text_with form live lines first x s h events ps states same runs =
+    sym (more_text form live.job.machine.ticks_per_second (start_of_job live.job) s h.outcomes ps)
+    ∙ text_of_run (form_of form) live.job (began form live.job s) events (h.outcomes ++ ps) states
+    (is_began form live.job live.switches s h.ready same) runs
+
+-- all is written
+runs_on : (form : LiveForm) (live : LiveData) (t : State) (arriving : Arriving) (o : Option SampleState) (lines more : List EventLine)
+    (first x y z : Option (List ℕ)) (s : Switches) (a b : Recorder) → HasRun form live lines first x →
+    s.list.now ≡ live.switches → a.trace ≡ trace_from live.samples s → a.chunk ≡ opening_text (trace_from live.samples s) →
+    IsFed live.feeds live.job live.state t a b x y (events_of more) → Appends y z (b.chunk ++ last_text b.trace) → o ≡ samples_of b.trace →
+    HasRun form (record { job = live.job; state = t; arriving = arriving; switches = live.switches; samples = o; feeds = live.feeds }) (lines ++ more) first z
+runs_on form live t arriving o lines more first x y z s a b h same trace chunk done wrote settles =
+    let job : Job = live.job in
+    let os : List Outcome = h.outcomes in
+    let ps : List Outcome = done.outcomes in
+    let given : List Event = h.given ++ done.given in
+    let stretch : Stretch job (opening job.machine) t given (os ++ ps) =
+    stretches_joined job (opening job.machine) live.state t h.given done.given os ps (stretch_of form live lines first x h) done.stretch in
+    let G : State → Type 0 = λ k. AreGiven live.feeds job k (events_of more) done.given done.stretch.states in
+    let E : List Event → Type 0 = λ es. AreGiven live.feeds job (opening job.machine) es given (h.run.states ++ done.stretch.states) in
+    let on : trace_from live.samples s ≡ behind form live s os = goes_on form live lines first x s h same in
+    let now : Appends x z (whole_text (behind form live s os) ps) =
+    all_written (behind form live s os) a b x y z done.given ps (trace ∙ on) (chunk ∙ ap opening_text on) done.records wrote in
+    record {
+      given = given;
+      outcomes = os ++ ps;
+      run = run_over job t given (os ++ ps) h.ready.safe h.ready.in_time stretch;
+      are_given =
+          subst E (sym (events_both lines more))
+          (given_joined live.feeds job (opening job.machine) (events_of lines) (events_of more) h.given done.given h.run.states done.stretch.states
+          h.are_given (subst G h.reached done.are_given));
+      written =
+          subst (Appends first z) (text_with form live lines first x s h given ps stretch.states same stretch.runs)
+          (appends_both first x z (whole_text (began form job s) os) (whole_text (behind form live s os) ps) (wrote_before form live lines first x s h same) now);
+      reached = stretch.last;
+      ready = h.ready;
+      samples =
+          settles ∙ ap samples_of (done.records.trace ∙ ap (λ (k : Trace). trace_after k ps) (trace ∙ on))
+          ∙ more_samples form (start_of_job job) s os ps ∙ ap (λ l. paused form (start_of_job job) l (os ++ ps)) same;
+    }
+
+-- of a run whose parts are the same
+same_parts : (form : LiveForm) (live new : LiveData) (lines : List EventLine) (first z : Option (List ℕ)) → new.job ≡ live.job → new.switches ≡ live.switches →
+    new.feeds ≡ live.feeds →
+    HasRun form (record { job = live.job; state = new.state; arriving = new.arriving; switches = live.switches; samples = new.samples; feeds = live.feeds }) lines first z →
+    HasRun form new lines first z
+same_parts form live new lines first z job switches feeds h =
+    let J : Job → Type 0 = λ j.
+    HasRun form (record { job = j; state = new.state; arriving = new.arriving; switches = live.switches; samples = new.samples; feeds = live.feeds }) lines first z in
+    let L : List Switch → Type 0 = λ l.
+    HasRun form (record { job = new.job; state = new.state; arriving = new.arriving; switches = l; samples = new.samples; feeds = live.feeds }) lines first z in
+    let F : Bool → Type 0 = λ b.
+    HasRun form (record { job = new.job; state = new.state; arriving = new.arriving; switches = new.switches; samples = new.samples; feeds = b }) lines first z in
+    subst F (sym feeds) (subst L (sym switches) (subst J (sym job) h))
+
+pub has_run : (form : LiveForm) (live new : LiveData) (lines more : List EventLine)
+    (first x y z : Option (List ℕ)) (s : Switches) (a b : Recorder) → HasRun form live lines first x →
+    s.list.now ≡ live.switches → a.trace ≡ trace_from live.samples s → a.chunk ≡ opening_text (trace_from live.samples s) →
+    IsFed live.feeds live.job live.state new.state a b x y (events_of more) → Appends y z (b.chunk ++ last_text b.trace) →
+    new.job ≡ live.job → new.switches ≡ live.switches → new.feeds ≡ live.feeds → new.samples ≡ samples_of b.trace →
+    HasRun form new (lines ++ more) first z
+has_run form live new lines more first x y z s a b h same trace chunk done wrote job switches feeds settles =
+    same_parts form live new (lines ++ more) first z job switches feeds
+    (runs_on form live new.state new.arriving new.samples lines more first x y z s a b h same trace chunk done wrote settles)
+
+-- ---- a write failed
+
+breaks : (form : LiveForm) (live : LiveData) (t : State) (lines more : List EventLine) (first x z : Option (List ℕ)) (s : Switches) (text : List ℕ)
+    (given : List Event) (ps : List Outcome) → (h : HasRun form live lines first x) → s.list.now ≡ live.switches →
+    Begins text (lines ++ more) → (stretch : Stretch live.job live.state t given ps) →
+    AreBegun live.feeds live.job live.state (events_of more) given stretch.states →
+    AppendsBeginning x z (whole_text (behind form live s h.outcomes) ps) → IsBrokenLive form live.feeds live.job text first z
+breaks form live t lines more first x z s text given ps h same begins stretch are wrote =
+    let job : Job = live.job in
+    let os : List Outcome = h.outcomes in
+    let whole : Stretch job (opening job.machine) t (h.given ++ given) (os ++ ps) =
+    stretches_joined job (opening job.machine) live.state t h.given given os ps (stretch_of form live lines first x h) stretch in
+    let G : State → Type 0 = λ k. AreBegun live.feeds job k (events_of more) given stretch.states in
+    let E : List Event → Type 0 = λ es. AreBegun live.feeds job (opening job.machine) es (h.given ++ given) (h.run.states ++ stretch.states) in
+    let old : List ℕ = whole_text (began form job s) os in
+    let now : List ℕ = whole_text (behind form live s os) ps in
+    let P : List ℕ → Type 0 = λ l. AppendsBeginning first z l in
+    record {
+      lines = lines ++ more;
+      begins = begins;
+      given = h.given ++ given;
+      outcomes = os ++ ps;
+      run = run_over job t (h.given ++ given) (os ++ ps) h.ready.safe h.ready.in_time whole;
+      are_begun =
+          subst E (sym (events_both lines more))
+          (begun_joined live.feeds job (opening job.machine) (events_of lines) (events_of more) h.given given h.run.states stretch.states
+          h.are_given (subst G h.reached are));
+      written =
+          subst P (ap (λ l. old ++ l) (append-nil now) ∙ text_with form live lines first x s h (h.given ++ given) ps whole.states same whole.runs)
+          (begins_after first x z old now [] (wrote_before form live lines first x s h same) wrote);
+    }
+
+-- before all of a piece was given
+pub broken_within : (form : LiveForm) (live : LiveData) (job : Job) (feeds : Bool) (lines more : List EventLine) (first x z : Option (List ℕ)) (s : Switches)
+    (a : Recorder) (text : List ℕ) → HasRun form live lines first x → s.list.now ≡ live.switches → a.trace ≡ trace_from live.samples s →
+    a.chunk ≡ opening_text (trace_from live.samples s) → Begins text (lines ++ more) → IsFedShort live.feeds live.job live.state a x z (events_of more) →
+    job ≡ live.job → feeds ≡ live.feeds → IsBrokenLive form feeds job text first z
+broken_within form live job feeds lines more first x z s a text h same trace chunk begins cut is are =
+    let on : trace_from live.samples s ≡ behind form live s h.outcomes = goes_on form live lines first x s h same in
+    subst (λ b. IsBrokenLive form b job text first z) (sym are)
+    (subst (λ (j : Job). IsBrokenLive form live.feeds j text first z) (sym is)
+    (breaks form live cut.reached lines more first x z s text cut.given cut.outcomes h same begins cut.stretch cut.are_begun
+    (some_begun (behind form live s h.outcomes) a x z cut.outcomes (trace ∙ on) (chunk ∙ ap opening_text on) cut.begun)))
+
+-- and after it
+pub broken_behind : (form : LiveForm) (live : LiveData) (job : Job) (feeds : Bool) (t : State) (lines more : List EventLine) (first x y z : Option (List ℕ))
+    (s : Switches) (a b : Recorder) (text : List ℕ) → HasRun form live lines first x → s.list.now ≡ live.switches → a.trace ≡ trace_from live.samples s →
+    a.chunk ≡ opening_text (trace_from live.samples s) → Begins text (lines ++ more) → IsFed live.feeds live.job live.state t a b x y (events_of more) →
+    AppendsBeginning y z (b.chunk ++ last_text b.trace) → job ≡ live.job → feeds ≡ live.feeds → IsBrokenLive form feeds job text first z
+broken_behind form live job feeds t lines more first x y z s a b text h same trace chunk begins done wrote is are =
+    let on : trace_from live.samples s ≡ behind form live s h.outcomes = goes_on form live lines first x s h same in
+    subst (λ k. IsBrokenLive form k job text first z) (sym are)
+    (subst (λ (j : Job). IsBrokenLive form live.feeds j text first z) (sym is)
+    (breaks form live t lines more first x z s text done.given done.outcomes h same begins done.stretch
+    (begun_all live.feeds live.job live.state (events_of more) done.given done.stretch.states done.are_given)
+    (all_begun (behind form live s h.outcomes) a b x y z done.given done.outcomes (trace ∙ on) (chunk ∙ ap opening_text on) done.records wrote)))
+
+-- ---- nothing is fed yet
+
+no_text : (form : LiveForm) (job : Job) → text_as (form_of form) job [] [] [] ≡ []
+no_text live.Log job = refl
+no_text (live.Samples inverted) job = refl
+
+first_is : (form : LiveForm) (start : StepPos) (list : List Switch) → first_paused form start ≡ paused form start list []
+first_is live.Log start list = refl
+first_is (live.Samples inverted) start list = refl
+
+joined_of : (a : AcceptedData) (block_delete : Bool) → IsAccepted a → AreJoined a.machine.start (ways_of (actions_of (commands_at block_delete a)))
+joined_of a false ok = ok.off_commands.joined
+joined_of a true ok = ok.on_commands.joined
+
+pub nothing_fed : (form : LiveForm) (a : AcceptedData) (block_delete : Bool) (live : LiveData) (position : StepPos) (commands : List Command) (xs : List Switch)
+    (written : Option (List ℕ)) → IsAccepted a → live.job ≡ job_of a.machine (commands_at block_delete a) → live.state ≡ opening a.machine →
+    position ≡ live.state.position → live.samples ≡ first_paused form position → commands ≡ commands_at block_delete a →
+    AreSwitches (form_of form) commands xs → live.switches ≡ xs → HaveArrived [] [] live.arriving → IsLive form live [] written written
+nothing_fed form a block_delete live position commands xs written ok job opens place samples cs are list arrived =
+    let asked : Job = job_of a.machine (commands_at block_delete a) in
+    let joined : AreJoined asked.machine.start (ways_of (actions_of asked.commands)) = joined_of a block_delete ok in
+    let safe : RunsSafely live.job = safe_of a block_delete live.job ok job in
+    let in_time : RunsInTime live.job = in_time_of a block_delete live.job ok job in
+    let start : position ≡ start_of_job live.job = place ∙ ap (λ (s : State). s.position) opens ∙ ap start_of_job (sym job) in
+    record {
+      lines = [];
+      arrived = arrived;
+      has_run = record {
+        given = [];
+        outcomes = [];
+        are_given = tt;
+        run = record { states = []; runs = tt; is_safe = safe [] [] [] tt; goes_on = tt; in_time = in_time [] [] [] tt tt };
+        written = subst (Appends written written) (sym (no_text form live.job)) (Appends-nil written);
+        reached = opens_of a block_delete live.job live.state job opens;
+        ready = record {
+          safe = safe;
+          in_time = in_time;
+          machine = subst (λ (j : Job). IsMachine j.machine) (sym job) ok.machine;
+          joined = subst (λ (j : Job). AreJoined j.machine.start (ways_of (actions_of j.commands))) (sym job) joined;
+          are = subst (λ (j : Job). AreSwitches (form_of form) j.commands live.switches) (sym job)
+              (are_switches (form_of form) commands (commands_at block_delete a) xs live.switches cs list are);
+        };
+        samples = samples ∙ ap (first_paused form) start ∙ first_is form (start_of_job live.job) live.switches;
+      };
+    }

@@ -1,0 +1,77 @@
+-- A ring that is fed: loads come before each tick while one is possible. Our own.
+use Rattle.std.specs.Prelude.{◌≡◌, ℕ, ◌≤◌, List, [], ◌∷◌, ◌++◌, replicate, Option, Bool, true, ◌&&◌}
+use Rattle.std.specs.Prelude.{MatchBool}
+use Rattle.ngc_text.specs.Written.{AppendsBeginning}
+use Rattle.ngc_events.specs.declared.event.Event.{Event}
+use Rattle.ngc_events.specs.declared.event.Event.TheVariants.{Load, Tick}
+use Rattle.ngc_behaviour.specs.State.{Job, State}
+use Rattle.ngc_behaviour.specs.Step.{Outcome}
+use Rattle.ngc_behaviour.specs.Progress.{is_tick}
+use Rattle.ngc_behaviour.specs.Stretch.{Stretch}
+use Rattle.ngc_run_log.specs.declared.recorder.Recorder.{Recorder}
+use Rattle.ngc_run_log.specs.Policy.{can_load}
+use Rattle.ngc_run_log.specs.Recording.{Records}
+use Rattle.ngc_run_log.specs.Tracing.{trace_text}
+
+-- a load comes before an event that is sent: the ring is fed, the event is a tick, and the ring has
+-- room for a command that is left
+abbrev pub loads_first : Bool → Job → State → Event → Bool
+loads_first feeds job s event = (is_tick event && feeds) && can_load job s
+
+-- The events that are given for those that are sent, each in the state before it: the same, and the
+-- loads that come before ticks.
+abbrev pub AreGiven : Bool → Job → State → List Event → List Event → List State → Type 0
+AreGiven feeds job s [] [] [] = Unit {0}
+AreGiven feeds job s [] [] (t ∷ states) = ⊥
+AreGiven feeds job s (e ∷ sent) [] states = ⊥
+AreGiven feeds job s [] (g ∷ given) states = ⊥
+AreGiven feeds job s (e ∷ sent) (g ∷ given) [] = ⊥
+AreGiven feeds job s (e ∷ sent) (g ∷ given) (t ∷ states) =
+    MatchBool (loads_first feeds job s e)
+    ((g ≡ Load) × AreGiven feeds job t (e ∷ sent) given states)
+    ((g ≡ e) × AreGiven feeds job t sent given states)
+
+-- the first of them
+abbrev pub AreBegun : Bool → Job → State → List Event → List Event → List State → Type 0
+AreBegun feeds job s sent [] states = Unit {0}
+AreBegun feeds job s [] (g ∷ given) states = ⊥
+AreBegun feeds job s (e ∷ sent) (g ∷ given) [] = ⊥
+AreBegun feeds job s (e ∷ sent) (g ∷ given) (t ∷ states) =
+    MatchBool (loads_first feeds job s e)
+    ((g ≡ Load) × AreBegun feeds job t (e ∷ sent) given states)
+    ((g ≡ e) × AreBegun feeds job t sent given states)
+
+-- ---- on the way
+
+-- events were sent, and those that are given for them are recorded
+pub record IsFed (feeds : Bool) (job : Job) (old new : State) (before after : Recorder)
+    (written now : Option (List ℕ)) (sent : List Event) : Type 0 where
+  pub given : List Event
+  pub outcomes : List Outcome
+  pub stretch : Stretch job old new given outcomes
+  pub are_given : AreGiven feeds job old sent given stretch.states
+  pub records : Records given outcomes before after written now
+
+-- the first of them were given, and then a write failed
+pub record IsFedShort (feeds : Bool) (job : Job) (old : State) (before : Recorder)
+    (written now : Option (List ℕ)) (sent : List Event) : Type 0 where
+  pub given : List Event
+  pub outcomes : List Outcome
+  pub reached : State
+  pub stretch : Stretch job old reached given outcomes
+  pub are_begun : AreBegun feeds job old sent given stretch.states
+  pub begun : AppendsBeginning written now (before.chunk ++ trace_text before.trace outcomes)
+
+-- so many loads were given that come before a tick, whatever comes behind it
+pub record IsLoaded (job : Job) (old new : State) (before after : Recorder)
+    (written now : Option (List ℕ)) (count : ℕ) : Type 0 where
+  pub few : count ≤ 1024
+  pub outcomes : List Outcome
+  pub stretch : Stretch job old new (replicate count Load) outcomes
+  pub records : Records (replicate count Load) outcomes before after written now
+  pub given : (sent given : List Event) (states : List State) →
+      AreGiven true job new (Tick ∷ sent) given states →
+      AreGiven true job old (Tick ∷ sent) (replicate count Load ++ given) (stretch.states ++ states)
+  pub begun : (sent given : List Event) (states : List State) →
+      AreBegun true job new (Tick ∷ sent) given states →
+      AreBegun true job old (Tick ∷ sent) (replicate count Load ++ given) (stretch.states ++ states)

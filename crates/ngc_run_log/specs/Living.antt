@@ -1,0 +1,212 @@
+-- A run whose events arrive while it goes on. Our own.
+use Rattle.std.specs.Prelude.{◌≡◌, ◌⊎◌, ℕ, List, ◌++◌, Option, Some, None, Result, Ok, Err, Bool}
+use Rattle.std.specs.Io.KnownBytes.{Appends, Consumes}
+use Rattle.ngc_text.specs.Failures.{Rises}
+use Rattle.ngc_text.specs.Written.{AppendsBeginning}
+use Rattle.ngc_fixed_length.specs.declared.points.StepPos.{StepPos}
+use Rattle.ngc_machine.specs.MachineRanges.{IsMachine}
+use Rattle.ngc_commands.specs.Movement.{actions_of, ways_of, AreJoined}
+use Rattle.ngc_events.specs.Arriving.{Arriving, Begins, Ends, HaveArrived, StopsAfter}
+use Rattle.ngc_events.specs.declared.event.Event.{Event}
+use Rattle.ngc_events.specs.declared.event.EventLine.{EventLine}
+use Rattle.ngc_events.specs.declared.fault.EventsFault.{EventsFault}
+use Rattle.ngc_behaviour.specs.Headline.{RunsInTime, RunsSafely}
+use Rattle.ngc_behaviour.specs.State.{Job, State, opening}
+use Rattle.ngc_behaviour.specs.Step.{Outcome}
+use Rattle.ngc_behaviour.specs.Run.{events_of}
+use Rattle.ngc_behaviour.specs.Safety.{start_of_job}
+use Rattle.ngc_behaviour.specs.Stretch.{last_state}
+use Rattle.ngc_pulses.specs.declared.samples.Switch.{Switch}
+use Rattle.ngc_pulses.specs.Sampling.{SampleState, after_samples, first_samples, settled}
+use Rattle.ngc_run_log.specs.declared.live_fault.LiveFault.{LiveFault}
+use Rattle.ngc_run_log.specs.declared.live_fault.LiveFault.TheVariants.{Events, Read, Write}
+use Rattle.ngc_run_log.specs.declared.live_form.LiveForm.{LiveForm}
+use Rattle.ngc_run_log.specs.declared.live_form.LiveForm.TheVariants as live
+use Rattle.ngc_run_log.specs.declared.recorder.Recorder.{Recorder}
+use Rattle.ngc_run_log.specs.declared.switches.Switches.{Switches}
+use Rattle.ngc_run_log.specs.declared.trace.Form.{Form}
+use Rattle.ngc_run_log.specs.declared.trace.Form.TheVariants as forms
+use Rattle.ngc_run_log.specs.declared.trace.Trace.{Trace}
+use Rattle.ngc_run_log.specs.declared.trace.Trace.TheVariants.{Log, Pulses, Samples, Untold}
+use Rattle.ngc_run_log.specs.Forms.{text_as}
+use Rattle.ngc_run_log.specs.Feeding.{AreBegun, AreGiven, IsFed, IsFedShort}
+use Rattle.ngc_run_log.specs.Runs.{IsRun}
+use Rattle.ngc_run_log.specs.Switching.{AreSwitches}
+use Rattle.ngc_run_log.specs.Tracing.{samples_in}
+
+-- in which form the run is written
+abbrev pub form_of : LiveForm → Form
+form_of live.Log = forms.Log
+form_of (live.Samples inverted) = forms.Samples inverted
+
+-- ---- the samples between two pieces
+
+-- what is known of the samples behind a trace whose text is all written
+abbrev pub samples_of : Trace → Option SampleState
+samples_of Log = None
+samples_of (Pulses d) = None
+samples_of (Samples d s) = Some (settled d)
+samples_of Untold = None
+
+-- and the trace that goes on there
+abbrev pub trace_from : Option SampleState → Switches → Trace
+trace_from None s = Log
+trace_from (Some d) s = Samples (settled d) s
+
+abbrev pub first_paused : LiveForm → StepPos → Option SampleState
+first_paused live.Log position = None
+first_paused (live.Samples inverted) position = Some (first_samples inverted position)
+
+abbrev pub paused : LiveForm → StepPos → List Switch → List Outcome → Option SampleState
+paused live.Log position list outcomes = None
+paused (live.Samples inverted) position list outcomes =
+    Some (settled (after_samples (first_samples inverted position) (samples_in list outcomes)))
+
+-- ---- what has come of the events
+
+-- what is known of a live run: its job, the machine's state, what has arrived, what the commands
+-- switch, the samples so far, and whether the ring is fed
+pub record LiveData : Type 0 where
+  pub job : Job
+  pub state : State
+  pub arriving : Arriving
+  pub switches : List Switch
+  pub samples : Option SampleState
+  pub feeds : Bool
+
+-- what makes each run of a job a safe one, which is done in time, and its text that of its pulses
+pub record IsReady (form : LiveForm) (job : Job) (list : List Switch) : Type 0 where
+  pub safe : RunsSafely job
+  pub in_time : RunsInTime job
+  pub machine : IsMachine job.machine
+  pub joined : AreJoined job.machine.start (ways_of (actions_of job.commands))
+  pub are : AreSwitches (form_of form) job.commands list
+
+-- The events of these lines were given, with the loads that come before ticks where the ring is fed.
+-- What was written since the beginning is the text of their
+-- run, which is a safe one; and that is where the machine stands.
+pub record HasRun (form : LiveForm) (live : LiveData) (lines : List EventLine)
+    (first now : Option (List ℕ)) : Type 0 where
+  pub given : List Event
+  pub outcomes : List Outcome
+  pub run : IsRun live.job given outcomes
+  pub are_given : AreGiven live.feeds live.job (opening live.job.machine) (events_of lines) given
+      run.states
+  pub written : Appends first now (text_as (form_of form) live.job given outcomes run.states)
+  pub reached : live.state ≡ last_state (opening live.job.machine) run.states
+  pub ready : IsReady form live.job live.switches
+  pub samples : live.samples ≡ paused form (start_of_job live.job) live.switches outcomes
+
+-- This text has arrived since the beginning, and the events of all lines that are complete in it
+-- were given, and all that came of them was written.
+pub record IsLive (form : LiveForm) (live : LiveData) (text : List ℕ)
+    (first now : Option (List ℕ)) : Type 0 where
+  pub lines : List EventLine
+  pub arrived : HaveArrived text lines live.arriving
+  pub has_run : HasRun form live lines first now
+
+-- A line of the text says no event. The events of the lines before it were given, and all that came
+-- of them was written.
+pub record IsStopped (form : LiveForm) (live : LiveData) (text : List ℕ)
+    (first now : Option (List ℕ)) (fault : EventsFault) : Type 0 where
+  pub lines : List EventLine
+  pub stops : StopsAfter text lines fault
+  pub has_run : HasRun form live lines first now
+
+-- A write failed. The text begins with some lines, the first of their events were given, and what
+-- was written begins the text of their run.
+pub record IsBrokenLive (form : LiveForm) (feeds : Bool) (job : Job) (text : List ℕ)
+    (first now : Option (List ℕ)) : Type 0 where
+  pub lines : List EventLine
+  pub begins : Begins text lines
+  pub given : List Event
+  pub outcomes : List Outcome
+  pub run : IsRun job given outcomes
+  pub are_begun : AreBegun feeds job (opening job.machine) (events_of lines) given run.states
+  pub written : AppendsBeginning first now (text_as (form_of form) job given outcomes run.states)
+
+-- what the text that has arrived comes to, with the piece that was fed last
+abbrev pub Feeds : LiveForm → LiveData → List ℕ → Option (List ℕ) → Option (List ℕ) →
+    Result (Unit {0}) LiveFault → Type 0
+Feeds form live text first now (Ok done) = IsLive form live text first now
+Feeds form live text first now (Err (Events fault)) = IsStopped form live text first now fault
+Feeds form live text first now (Err Read) = ⊥
+Feeds form live text first now (Err (Write fault)) = IsBrokenLive form live.feeds live.job text first now
+
+-- the sink's count of failures rose where a write failed, and else it is what it was
+abbrev pub FailsLive : Result (Unit {0}) LiveFault → ℕ → ℕ → Type 0
+FailsLive (Ok done) old new = new ≡ old
+FailsLive (Err (Events fault)) old new = new ≡ old
+FailsLive (Err Read) old new = new ≡ old
+FailsLive (Err (Write fault)) old new = Rises old new
+
+-- ---- events from a source
+
+-- What a source gave comes to: it ended behind the last line; or a line of it says no event, or
+-- lacks its line feed at the end; or it failed; or a write did.
+abbrev pub LiveEnds : LiveForm → LiveData → List ℕ → Option (List ℕ) → Option (List ℕ) →
+    Result (Unit {0}) LiveFault → Type 0
+LiveEnds form live text first now (Ok done) =
+    (lines : List EventLine) × HasRun form live lines first now × Ends text lines (Ok done)
+LiveEnds form live text first now (Err (Events fault)) =
+    IsStopped form live text first now fault ⊎
+    ((lines : List EventLine) × HasRun form live lines first now × Ends text lines (Err fault))
+LiveEnds form live text first now (Err Read) = IsLive form live text first now
+LiveEnds form live text first now (Err (Write fault)) = IsBrokenLive form live.feeds live.job text first now
+
+-- this text was read of the source, and that is what it comes to
+pub record LivesOn (form : LiveForm) (live : LiveData) (source rest first now : Option (List ℕ))
+    (result : Result (Unit {0}) LiveFault) : Type 0 where
+  pub text : List ℕ
+  pub read : Consumes source rest text
+  pub ends : LiveEnds form live text first now result
+
+-- so far
+pub record LivesSoFar (form : LiveForm) (live : LiveData) (source rest first now : Option (List ℕ)) :
+    Type 0 where
+  pub text : List ℕ
+  pub read : Consumes source rest text
+  pub is_live : IsLive form live text first now
+
+-- the source's count of failures rose where it failed, and else it is what it was
+abbrev pub FailsByReading : Result (Unit {0}) LiveFault → ℕ → ℕ → Type 0
+FailsByReading (Ok done) old new = new ≡ old
+FailsByReading (Err (Events fault)) old new = new ≡ old
+FailsByReading (Err Read) old new = Rises old new
+FailsByReading (Err (Write fault)) old new = new ≡ old
+
+-- what a line that says no event stops
+abbrev pub live_result : Result (Unit {0}) EventsFault → Result (Unit {0}) LiveFault
+live_result (Ok done) = Ok done
+live_result (Err fault) = Err (Events fault)
+
+-- ---- on the way
+
+-- a piece was taken: lines that it completed were given, and the rest is kept or stops the run
+abbrev pub Reaches : List ℕ → List EventLine → Arriving → Result (Unit {0}) EventsFault → Type 0
+Reaches text lines now (Ok done) = HaveArrived text lines now
+Reaches text lines now (Err fault) = StopsAfter text lines fault
+
+pub record GivesPiece (feeds : Bool) (job : Job) (old new : State) (before after : Recorder)
+    (written now : Option (List ℕ)) (text : List ℕ) (lines : List EventLine)
+    (arriving : Arriving) (result : Result (Unit {0}) EventsFault) : Type 0 where
+  pub more : List EventLine
+  pub fed : IsFed feeds job old new before after written now (events_of more)
+  pub reaches : Reaches text (lines ++ more) arriving result
+
+-- a write failed in the midst of that
+pub record CutsPiece (feeds : Bool) (job : Job) (old : State) (before : Recorder) (written now : Option (List ℕ))
+    (text : List ℕ) (lines : List EventLine) : Type 0 where
+  pub more : List EventLine
+  pub begins : Begins text (lines ++ more)
+  pub cut : IsFedShort feeds job old before written now (events_of more)
+
+-- some lines of a piece were given, and these bytes of it are left
+pub record GivesFront (feeds : Bool) (job : Job) (old new : State) (before after : Recorder)
+    (written now : Option (List ℕ)) (text piece : List ℕ) (lines : List EventLine) (left : List ℕ)
+    (arriving : Arriving) : Type 0 where
+  pub front : List ℕ
+  pub splits : piece ≡ front ++ left
+  pub more : List EventLine
+  pub fed : IsFed feeds job old new before after written now (events_of more)
+  pub arrived : HaveArrived (text ++ front) (lines ++ more) arriving

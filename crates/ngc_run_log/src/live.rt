@@ -1,0 +1,223 @@
+//! A run whose events arrive while it goes on.
+ghost use Rattle.std.specs.Prelude.{◌≡◌, ◌≢◌, ◌≤◌, ◌+◌, ◌^◌, ℕ, Err, List, [], ◌++◌, length, Option};
+ghost use Rattle.std.specs.Prelude.{IfOk, IfErr, OnOk, OnErr};
+ghost use Rattle.ngc_behaviour.specs.Headline.{job_of};
+ghost use Rattle.ngc_checker.specs.Accepted.{commands_at};
+ghost use Rattle.ngc_events.specs.Arriving.{Ends, HaveArrived, MOST_TEXT, filled};
+ghost use Rattle.ngc_events.specs.declared.event.EventLine.{EventLine as Line};
+ghost use Rattle.ngc_run_log.specs.Living.{CutsPiece, FailsLive, Feeds, GivesPiece, IsLive};
+ghost use Rattle.ngc_run_log.specs.Living.{first_paused, form_of, live_result};
+ghost use Rattle.ngc_run_log.specs.declared.live_form.LiveForm.{LiveForm as Written};
+ghost use Rattle.ngc_run_log.specs.Recording.{HasFew};
+ghost use Rattle.ngc_text.specs.Failures.{CountsFailure};
+
+use crate::feeding::give_line;
+use crate::live_fault::LiveFault;
+use crate::live_form::LiveForm;
+use crate::recorder::Recorder;
+use crate::report::RunFault;
+use crate::switches::{Switches, switches_for};
+use crate::trace::{Form, Trace};
+use ngc_checker::Accepted;
+use ngc_controller::Controller;
+use ngc_events::{EventLines, EventsFault};
+use ngc_fixed_length::StepPos;
+use ngc_pulses::{PulseSamples, Switch};
+use ngc_step_kernel::ArcPath;
+use ngc_text::{Sink, WriteFault};
+use std::alloc::Allocator;
+use std::marker::Model;
+
+/// A run of what was accepted, whose events arrive while it goes on.
+///
+/// It keeps no list of events, and its memory doesn't grow.
+#[derive(Drop)]
+pub struct LiveRun<A: Allocator> {
+    controller: Controller<ArcPath, A>,
+    lines: EventLines,
+    switches: Vec<Switch, A>,
+    // Of a run that is written as samples.
+    samples: Option<PulseSamples>,
+    // Whether loads come before ticks while the ring has room.
+    feeds_ring: bool,
+}
+
+impl<A: Allocator> Model for LiveRun<A> {
+    ghost use Rattle.ngc_run_log.specs.Living.{LiveData};
+
+    ghost Value = { LiveData };
+
+    ghost view = { λ l. record {
+      job = l.controller.job;
+      state = l.controller.state;
+      arriving = l.lines;
+      switches = l.switches.items;
+      samples = l.samples;
+      feeds = l.feeds_ring;
+    } };
+
+    ghost invariant = { λ l. Unit {0} };
+}
+
+fn form_of(form: LiveForm) -> Form
+    ensures { result ≡ form_of form }
+{
+    match form {
+        LiveForm::Log => Form::Log,
+        LiveForm::Samples(inverted) => Form::Samples(inverted),
+    }
+}
+
+fn first_samples(form: LiveForm, position: StepPos) -> Option<PulseSamples>
+    ensures { result ≡ first_paused form position }
+{
+    match form {
+        LiveForm::Log => None,
+        LiveForm::Samples(inverted) => Some(PulseSamples::new(inverted, position)),
+    }
+}
+
+fn ended(taken: Result<(), EventsFault>) -> Result<(), LiveFault>
+    ensures is { result ≡ live_result taken }
+    ensures not_read { result ≢ Err LiveFault.Read }
+{
+    match taken {
+        Ok(()) => Ok(()),
+        Err(fault) => Err(LiveFault::Events(fault)),
+    }
+}
+
+// Gives the events of the lines that a piece completes, up to a line that says none.
+fn give_lines<A: Allocator + Copy, W: Sink>(
+    controller: &mut Controller<ArcPath, A>,
+    feeds_ring: bool,
+    lines: &mut EventLines,
+    piece: &[u8],
+    recorder: &mut Recorder,
+    sink: &mut W,
+) -> Result<Result<(), EventsFault>, WriteFault>
+    requires { HasFew 0 recorder.old }
+    ensures job { controller.new.job ≡ controller.old.job }
+    ensures gives { IfOk result
+        (λ r. (text : List ℕ) (before : List Line) → HaveArrived text before lines.old →
+        GivesPiece feeds_ring controller.old.job controller.old.state controller.new.state recorder.old
+        recorder.new (W.written sink.old) (W.written sink.new) (text ++ piece.now) before lines.new
+        r) }
+    ensures cut { OnErr result
+        ((text : List ℕ) (before : List Line) → HaveArrived text before lines.old →
+        CutsPiece feeds_ring controller.old.job controller.old.state recorder.old (W.written sink.old)
+        (W.written sink.new) (text ++ piece.now) before) }
+    ensures few { OnOk result (HasFew (2 ^ 110) recorder.new) }
+    ensures fills { IfOk result
+        (λ r. OnOk r (filled lines.old + length piece.now ≤ filled lines.new)) }
+    ensures bound { IfOk result (λ r. OnOk r (filled lines.new ≤ MOST_TEXT)) }
+    ensures failures { CountsFailure (W.failures sink.old) (W.failures sink.new) result }
+{
+    let mut left = piece;
+    'lines: loop {
+        match lines.take(left) {
+            Ok(Some((line, rest))) => {
+                match give_line(controller, feeds_ring, &line, recorder, sink) {
+                    Ok(()) => {}
+                    Err(fault) => return Err(fault),
+                }
+                left = rest;
+            }
+            Ok(None) => return Ok(Ok(())),
+            Err(fault) => return Ok(Err(fault)),
+        }
+    }
+}
+
+impl<A: Allocator + Copy> LiveRun<A> {
+    /// A run to which nothing is fed yet, of what was accepted, at a setting of block delete. Where
+    /// `feeds_ring` is set, loads come before each tick while the ring has room for a command that
+    /// is left. It takes all its memory here; where there is too little, that is 900.
+    pub fn new(
+        alloc: A,
+        accepted: Accepted<A>,
+        block_delete: bool,
+        form: LiveForm,
+        feeds_ring: bool,
+    ) -> Result<LiveRun<A>, RunFault>
+        ensures job { IfOk result
+            (λ live. live.job ≡ job_of accepted.machine (commands_at block_delete accepted)) }
+        ensures feeds { IfOk result (λ live. live.feeds ≡ feeds_ring) }
+        ensures live { IfOk result
+            (λ live. (written : Option (List ℕ)) → IsLive form live [] written written) }
+        ensures memory { IfErr result (λ fault. fault ≡ RunFault.Memory) }
+    {
+        let _machine = accepted.machine();
+        let switches = match switches_for(alloc, form_of(form), accepted.commands(block_delete)) {
+            Ok(switches) => switches,
+            Err(fault) => return Err(fault),
+        };
+        let controller = match Controller::<ArcPath, A>::new(alloc, accepted, block_delete) {
+            Ok(controller) => controller,
+            Err(_) => return Err(RunFault::Memory),
+        };
+        let samples = first_samples(form, controller.position());
+        Ok(LiveRun {
+            controller,
+            lines: EventLines::new(),
+            switches,
+            samples,
+            feeds_ring,
+        })
+    }
+
+    /// Takes a piece of the text of events, gives the event of each line that is complete now, and
+    /// writes all that comes of them.
+    ///
+    /// Each line says an event as in an events file, and there is no limit on their number. A line that says none
+    /// stops the run with 711 and its number, when its line feed or its 13th byte arrives; what came
+    /// of the lines before it is written. Where a write fails (902), a prefix of the text is
+    /// written. After a fault nothing more is fed.
+    pub fn feed<W: Sink>(&mut self, piece: &[u8], sink: &mut W) -> Result<(), LiveFault>
+        // Whatever text has arrived before: the sink has the text of the run over the events of
+        // all lines that are complete.
+        ensures feeds { (form : Written) (text : List ℕ) (first : Option (List ℕ)) →
+            IsLive form self.old text first (W.written sink.old) →
+            Feeds form self.new (text ++ piece.now) first (W.written sink.new) result }
+        ensures job { self.new.job ≡ self.old.job }
+        ensures feeds_ring { self.new.feeds ≡ self.old.feeds }
+        // A text is no longer than its lines may be.
+        ensures fills { OnOk result
+            (filled self.old.arriving + length piece.now ≤ filled self.new.arriving) }
+        ensures bound { OnOk result (filled self.new.arriving ≤ MOST_TEXT) }
+        ensures not_read { result ≢ Err LiveFault.Read }
+        ensures failures { FailsLive result (W.failures sink.old) (W.failures sink.new) }
+    {
+        let switches = Switches {
+            list: self.switches.as_slice(),
+        };
+        let trace = Trace::going_on(&self.samples, switches);
+        let mut recorder = Recorder::new(trace, self.controller.position());
+        let taken = match give_lines(
+            &mut self.controller,
+            self.feeds_ring,
+            &mut self.lines,
+            piece,
+            &mut recorder,
+            sink,
+        ) {
+            Ok(taken) => taken,
+            Err(fault) => return Err(LiveFault::Write(fault)),
+        };
+        self.samples = recorder.samples();
+        match recorder.finish(sink) {
+            Ok(_) => {}
+            Err(fault) => return Err(LiveFault::Write(fault)),
+        }
+        ended(taken)
+    }
+
+    /// Whether the text of events is complete, where no more of it arrives: a last line without its
+    /// line feed is 711.
+    pub fn finish(&self) -> Result<(), EventsFault>
+        ensures { (text : List ℕ) (lines : List Line) → HaveArrived text lines self.now.arriving →
+            Ends text lines result }
+    {
+        self.lines.finish()
+    }
+}
