@@ -282,81 +282,132 @@ run_read words recording machine tools certificate events program delete output 
     (subst Are spelled are)
 
 -- the values of `draw` that were found are these
-abbrev FindsDraw : Text → Text → Option Text → Option Text → Option Text → Bool → Option (Text × List Row) → Type 0
-FindsDraw machine tools certificate program view delete None = ⊥
-FindsDraw machine tools certificate program view delete (Some found) = (found.0 ≡ codes "draw") × (first_of (codes "machine") found.1 ≡ Some machine)
+abbrev FindsDraw : Text → Text → Option Text → Option Text → Option Text → Bool → Bool → Bool → Option (Text × List Row) → Type 0
+FindsDraw machine tools certificate program view delete bodies whole None = ⊥
+FindsDraw machine tools certificate program view delete bodies whole (Some found) = (found.0 ≡ codes "draw") × (first_of (codes "machine") found.1 ≡ Some machine)
     × (first_of (codes "tools") found.1 ≡ Some tools) × (first_of (codes "certificate") found.1 ≡ certificate)
     × (first_of (codes "program") found.1 ≡ program) × (first_of (codes "view") found.1 ≡ view)
-    × (is_set (codes "delete") found.1 ≡ delete)
+    × (is_set (codes "delete") found.1 ≡ delete) × (is_set (codes "bodies") found.1 ≡ bodies)
+    × (is_set (codes "whole") found.1 ≡ whole)
 
-draw_spells : (machine tools : Text) (certificate program view : Option Text) (delete : Bool)
-    → Spells (draw_words machine tools certificate program view delete) (FindsDraw machine tools certificate program view delete)
+draw_spells : (machine tools : Text) (certificate program view : Option Text) (delete bodies whole : Bool)
+    → Spells (draw_words machine tools certificate program view delete bodies whole) (FindsDraw machine tools certificate program view delete bodies whole)
 unfolding clap_on_literals
-draw_spells machine tools None None None false = (refl, (refl, refl, refl, refl, refl, refl, refl))
-draw_spells machine tools None None None true = (refl, (refl, refl, refl, refl, refl, refl, refl))
-draw_spells machine tools None None (Some view) false = (refl, (refl, refl, refl, refl, refl, refl, refl))
-draw_spells machine tools None None (Some view) true = (refl, (refl, refl, refl, refl, refl, refl, refl))
-draw_spells machine tools None (Some program) None false = (refl, (refl, refl, refl, refl, refl, refl, refl))
-draw_spells machine tools None (Some program) None true = (refl, (refl, refl, refl, refl, refl, refl, refl))
-draw_spells machine tools None (Some program) (Some view) false = (refl, (refl, refl, refl, refl, refl, refl, refl))
-draw_spells machine tools None (Some program) (Some view) true = (refl, (refl, refl, refl, refl, refl, refl, refl))
-draw_spells machine tools (Some certificate) None None false = (refl, (refl, refl, refl, refl, refl, refl, refl))
-draw_spells machine tools (Some certificate) None None true = (refl, (refl, refl, refl, refl, refl, refl, refl))
-draw_spells machine tools (Some certificate) None (Some view) false = (refl, (refl, refl, refl, refl, refl, refl, refl))
-draw_spells machine tools (Some certificate) None (Some view) true = (refl, (refl, refl, refl, refl, refl, refl, refl))
-draw_spells machine tools (Some certificate) (Some program) None false = (refl, (refl, refl, refl, refl, refl, refl, refl))
-draw_spells machine tools (Some certificate) (Some program) None true = (refl, (refl, refl, refl, refl, refl, refl, refl))
-draw_spells machine tools (Some certificate) (Some program) (Some view) false = (refl, (refl, refl, refl, refl, refl, refl, refl))
-draw_spells machine tools (Some certificate) (Some program) (Some view) true = (refl, (refl, refl, refl, refl, refl, refl, refl))
+draw_spells machine tools None None None false false false = (refl, (refl, refl, refl, refl, refl, refl, refl, refl, refl))
+draw_spells machine tools None None None false false true = (refl, (refl, refl, refl, refl, refl, refl, refl, refl, refl))
+draw_spells machine tools None None None false true false = (refl, (refl, refl, refl, refl, refl, refl, refl, refl, refl))
+draw_spells machine tools None None None false true true = (refl, (refl, refl, refl, refl, refl, refl, refl, refl, refl))
+draw_spells machine tools None None None true false false = (refl, (refl, refl, refl, refl, refl, refl, refl, refl, refl))
+draw_spells machine tools None None None true false true = (refl, (refl, refl, refl, refl, refl, refl, refl, refl, refl))
+draw_spells machine tools None None None true true false = (refl, (refl, refl, refl, refl, refl, refl, refl, refl, refl))
+draw_spells machine tools None None None true true true = (refl, (refl, refl, refl, refl, refl, refl, refl, refl, refl))
+draw_spells machine tools None None (Some view) false false false = (refl, (refl, refl, refl, refl, refl, refl, refl, refl, refl))
+draw_spells machine tools None None (Some view) false false true = (refl, (refl, refl, refl, refl, refl, refl, refl, refl, refl))
+draw_spells machine tools None None (Some view) false true false = (refl, (refl, refl, refl, refl, refl, refl, refl, refl, refl))
+draw_spells machine tools None None (Some view) false true true = (refl, (refl, refl, refl, refl, refl, refl, refl, refl, refl))
+draw_spells machine tools None None (Some view) true false false = (refl, (refl, refl, refl, refl, refl, refl, refl, refl, refl))
+draw_spells machine tools None None (Some view) true false true = (refl, (refl, refl, refl, refl, refl, refl, refl, refl, refl))
+draw_spells machine tools None None (Some view) true true false = (refl, (refl, refl, refl, refl, refl, refl, refl, refl, refl))
+draw_spells machine tools None None (Some view) true true true = (refl, (refl, refl, refl, refl, refl, refl, refl, refl, refl))
+draw_spells machine tools None (Some program) None false false false = (refl, (refl, refl, refl, refl, refl, refl, refl, refl, refl))
+draw_spells machine tools None (Some program) None false false true = (refl, (refl, refl, refl, refl, refl, refl, refl, refl, refl))
+draw_spells machine tools None (Some program) None false true false = (refl, (refl, refl, refl, refl, refl, refl, refl, refl, refl))
+draw_spells machine tools None (Some program) None false true true = (refl, (refl, refl, refl, refl, refl, refl, refl, refl, refl))
+draw_spells machine tools None (Some program) None true false false = (refl, (refl, refl, refl, refl, refl, refl, refl, refl, refl))
+draw_spells machine tools None (Some program) None true false true = (refl, (refl, refl, refl, refl, refl, refl, refl, refl, refl))
+draw_spells machine tools None (Some program) None true true false = (refl, (refl, refl, refl, refl, refl, refl, refl, refl, refl))
+draw_spells machine tools None (Some program) None true true true = (refl, (refl, refl, refl, refl, refl, refl, refl, refl, refl))
+draw_spells machine tools None (Some program) (Some view) false false false = (refl, (refl, refl, refl, refl, refl, refl, refl, refl, refl))
+draw_spells machine tools None (Some program) (Some view) false false true = (refl, (refl, refl, refl, refl, refl, refl, refl, refl, refl))
+draw_spells machine tools None (Some program) (Some view) false true false = (refl, (refl, refl, refl, refl, refl, refl, refl, refl, refl))
+draw_spells machine tools None (Some program) (Some view) false true true = (refl, (refl, refl, refl, refl, refl, refl, refl, refl, refl))
+draw_spells machine tools None (Some program) (Some view) true false false = (refl, (refl, refl, refl, refl, refl, refl, refl, refl, refl))
+draw_spells machine tools None (Some program) (Some view) true false true = (refl, (refl, refl, refl, refl, refl, refl, refl, refl, refl))
+draw_spells machine tools None (Some program) (Some view) true true false = (refl, (refl, refl, refl, refl, refl, refl, refl, refl, refl))
+draw_spells machine tools None (Some program) (Some view) true true true = (refl, (refl, refl, refl, refl, refl, refl, refl, refl, refl))
+draw_spells machine tools (Some certificate) None None false false false = (refl, (refl, refl, refl, refl, refl, refl, refl, refl, refl))
+draw_spells machine tools (Some certificate) None None false false true = (refl, (refl, refl, refl, refl, refl, refl, refl, refl, refl))
+draw_spells machine tools (Some certificate) None None false true false = (refl, (refl, refl, refl, refl, refl, refl, refl, refl, refl))
+draw_spells machine tools (Some certificate) None None false true true = (refl, (refl, refl, refl, refl, refl, refl, refl, refl, refl))
+draw_spells machine tools (Some certificate) None None true false false = (refl, (refl, refl, refl, refl, refl, refl, refl, refl, refl))
+draw_spells machine tools (Some certificate) None None true false true = (refl, (refl, refl, refl, refl, refl, refl, refl, refl, refl))
+draw_spells machine tools (Some certificate) None None true true false = (refl, (refl, refl, refl, refl, refl, refl, refl, refl, refl))
+draw_spells machine tools (Some certificate) None None true true true = (refl, (refl, refl, refl, refl, refl, refl, refl, refl, refl))
+draw_spells machine tools (Some certificate) None (Some view) false false false = (refl, (refl, refl, refl, refl, refl, refl, refl, refl, refl))
+draw_spells machine tools (Some certificate) None (Some view) false false true = (refl, (refl, refl, refl, refl, refl, refl, refl, refl, refl))
+draw_spells machine tools (Some certificate) None (Some view) false true false = (refl, (refl, refl, refl, refl, refl, refl, refl, refl, refl))
+draw_spells machine tools (Some certificate) None (Some view) false true true = (refl, (refl, refl, refl, refl, refl, refl, refl, refl, refl))
+draw_spells machine tools (Some certificate) None (Some view) true false false = (refl, (refl, refl, refl, refl, refl, refl, refl, refl, refl))
+draw_spells machine tools (Some certificate) None (Some view) true false true = (refl, (refl, refl, refl, refl, refl, refl, refl, refl, refl))
+draw_spells machine tools (Some certificate) None (Some view) true true false = (refl, (refl, refl, refl, refl, refl, refl, refl, refl, refl))
+draw_spells machine tools (Some certificate) None (Some view) true true true = (refl, (refl, refl, refl, refl, refl, refl, refl, refl, refl))
+draw_spells machine tools (Some certificate) (Some program) None false false false = (refl, (refl, refl, refl, refl, refl, refl, refl, refl, refl))
+draw_spells machine tools (Some certificate) (Some program) None false false true = (refl, (refl, refl, refl, refl, refl, refl, refl, refl, refl))
+draw_spells machine tools (Some certificate) (Some program) None false true false = (refl, (refl, refl, refl, refl, refl, refl, refl, refl, refl))
+draw_spells machine tools (Some certificate) (Some program) None false true true = (refl, (refl, refl, refl, refl, refl, refl, refl, refl, refl))
+draw_spells machine tools (Some certificate) (Some program) None true false false = (refl, (refl, refl, refl, refl, refl, refl, refl, refl, refl))
+draw_spells machine tools (Some certificate) (Some program) None true false true = (refl, (refl, refl, refl, refl, refl, refl, refl, refl, refl))
+draw_spells machine tools (Some certificate) (Some program) None true true false = (refl, (refl, refl, refl, refl, refl, refl, refl, refl, refl))
+draw_spells machine tools (Some certificate) (Some program) None true true true = (refl, (refl, refl, refl, refl, refl, refl, refl, refl, refl))
+draw_spells machine tools (Some certificate) (Some program) (Some view) false false false = (refl, (refl, refl, refl, refl, refl, refl, refl, refl, refl))
+draw_spells machine tools (Some certificate) (Some program) (Some view) false false true = (refl, (refl, refl, refl, refl, refl, refl, refl, refl, refl))
+draw_spells machine tools (Some certificate) (Some program) (Some view) false true false = (refl, (refl, refl, refl, refl, refl, refl, refl, refl, refl))
+draw_spells machine tools (Some certificate) (Some program) (Some view) false true true = (refl, (refl, refl, refl, refl, refl, refl, refl, refl, refl))
+draw_spells machine tools (Some certificate) (Some program) (Some view) true false false = (refl, (refl, refl, refl, refl, refl, refl, refl, refl, refl))
+draw_spells machine tools (Some certificate) (Some program) (Some view) true false true = (refl, (refl, refl, refl, refl, refl, refl, refl, refl, refl))
+draw_spells machine tools (Some certificate) (Some program) (Some view) true true false = (refl, (refl, refl, refl, refl, refl, refl, refl, refl, refl))
+draw_spells machine tools (Some certificate) (Some program) (Some view) true true true = (refl, (refl, refl, refl, refl, refl, refl, refl, refl, refl))
 
-draw_asked : (machine tools : Text) (certificate program view : Option Text) (delete : Bool) (found : Option (Text × List Row)) (options : Options)
-    → FindsDraw machine tools certificate program view delete found → AreOptions found options →
-    AsksForDraw machine tools certificate program view delete options
-draw_asked machine tools certificate program view delete None options finds are = absurd finds
-draw_asked machine tools certificate program view delete (Some found) (ToDraw draw) finds are = (
+draw_asked : (machine tools : Text) (certificate program view : Option Text) (delete bodies whole : Bool) (found : Option (Text × List Row)) (options : Options)
+    → FindsDraw machine tools certificate program view delete bodies whole found → AreOptions found options →
+    AsksForDraw machine tools certificate program view delete bodies whole options
+draw_asked machine tools certificate program view delete bodies whole None options finds are = absurd finds
+draw_asked machine tools certificate program view delete bodies whole (Some found) (ToDraw draw) finds are = (
   same_text _ _ _ are.1.machine finds.1,
   same_text _ _ _ are.1.tools finds.2,
   are.1.certificate ∙ finds.3,
   are.1.program ∙ finds.4,
   are.1.view ∙ finds.5,
   are.1.delete ∙ finds.6,
+  are.1.bodies ∙ finds.7,
+  are.1.whole ∙ finds.8,
 )
-draw_asked machine tools certificate program view delete (Some found) (ToList list) finds are =
+draw_asked machine tools certificate program view delete bodies whole (Some found) (ToList list) finds are =
     other_letter (codes "draw") (codes "list") (sym finds.0 ∙ are.0) (λ letters. omega (arith, letters))
-draw_asked machine tools certificate program view delete (Some found) (ToCertify certify) finds are =
+draw_asked machine tools certificate program view delete bodies whole (Some found) (ToCertify certify) finds are =
     other_name (codes "draw") (codes "certify") (sym finds.0 ∙ are.0) (λ lengths. omega (arith, lengths))
-draw_asked machine tools certificate program view delete (Some found) (ToCheck check) finds are =
+draw_asked machine tools certificate program view delete bodies whole (Some found) (ToCheck check) finds are =
     other_name (codes "draw") (codes "check") (sym finds.0 ∙ are.0) (λ lengths. omega (arith, lengths))
-draw_asked machine tools certificate program view delete (Some found) (ToRun run) finds are =
+draw_asked machine tools certificate program view delete bodies whole (Some found) (ToRun run) finds are =
     no_run (codes "draw") run.recording (sym finds.0 ∙ are.0) (λ three. omega (arith, three)) (λ six. omega (arith, six))
-draw_asked machine tools certificate program view delete (Some found) (ToRunThrough run) finds are =
+draw_asked machine tools certificate program view delete bodies whole (Some found) (ToRunThrough run) finds are =
     no_run (codes "draw") run.recording (sym finds.0 ∙ are.0) (λ three. omega (arith, three)) (λ six. omega (arith, six))
-draw_asked machine tools certificate program view delete (Some found) (ToShow show) finds are =
+draw_asked machine tools certificate program view delete bodies whole (Some found) (ToShow show) finds are =
     other_letter (codes "draw") (codes "show") (sym finds.0 ∙ are.0) (λ letters. omega (arith, letters))
-draw_asked machine tools certificate program view delete (Some found) (ToReport report) finds are =
+draw_asked machine tools certificate program view delete bodies whole (Some found) (ToReport report) finds are =
     other_name (codes "draw") (codes "report") (sym finds.0 ∙ are.0) (λ lengths. omega (arith, lengths))
-draw_asked machine tools certificate program view delete (Some found) (ToAdapt adapt) finds are =
+draw_asked machine tools certificate program view delete bodies whole (Some found) (ToAdapt adapt) finds are =
     other_letter (codes "draw") (codes "adapt") (sym finds.0 ∙ are.0) (λ letters. omega (arith, letters))
-draw_asked machine tools certificate program view delete (Some found) (ToMachine made) finds are =
+draw_asked machine tools certificate program view delete bodies whole (Some found) (ToMachine made) finds are =
     other_letter (codes "draw") (codes "machine") (sym finds.0 ∙ are.0) (λ letters. omega (arith, letters))
-draw_asked machine tools certificate program view delete (Some found) (ToExplain number) finds are =
+draw_asked machine tools certificate program view delete bodies whole (Some found) (ToExplain number) finds are =
     other_name (codes "draw") (codes "explain") (sym finds.0 ∙ are.0) (λ lengths. omega (arith, lengths))
-draw_asked machine tools certificate program view delete (Some found) (ToHelp command) finds are =
+draw_asked machine tools certificate program view delete bodies whole (Some found) (ToHelp command) finds are =
     other_letter (codes "draw") (codes "help") (sym finds.0 ∙ are.0) (λ letters. omega (arith, letters))
-draw_asked machine tools certificate program view delete (Some found) ToVersion finds are =
+draw_asked machine tools certificate program view delete bodies whole (Some found) ToVersion finds are =
     other_name (codes "draw") (codes "version") (sym finds.0 ∙ are) (λ lengths. omega (arith, lengths))
 
-pub draw_taken : (words : List Text) (machine tools : Text) (certificate program view : Option Text) (delete : Bool)
-    → words ≡ draw_words machine tools certificate program view delete → IsTaken words
-draw_taken words machine tools certificate program view delete spelled =
-    subst IsTaken (sym spelled) (draw_spells machine tools certificate program view delete).0
+pub draw_taken : (words : List Text) (machine tools : Text) (certificate program view : Option Text) (delete bodies whole : Bool)
+    → words ≡ draw_words machine tools certificate program view delete bodies whole → IsTaken words
+draw_taken words machine tools certificate program view delete bodies whole spelled =
+    subst IsTaken (sym spelled) (draw_spells machine tools certificate program view delete bodies whole).0
 
-pub draw_read : (words : List Text) (machine tools : Text) (certificate program view : Option Text) (delete : Bool) (options : Options)
-    → words ≡ draw_words machine tools certificate program view delete → AreOptions (subcommand_of ngc_app words) options
-    → AsksForDraw machine tools certificate program view delete options
-draw_read words machine tools certificate program view delete options spelled are =
+pub draw_read : (words : List Text) (machine tools : Text) (certificate program view : Option Text) (delete bodies whole : Bool) (options : Options)
+    → words ≡ draw_words machine tools certificate program view delete bodies whole → AreOptions (subcommand_of ngc_app words) options
+    → AsksForDraw machine tools certificate program view delete bodies whole options
+draw_read words machine tools certificate program view delete bodies whole options spelled are =
     let Are : List Text → Type 0 = λ ws. AreOptions (subcommand_of ngc_app ws) options in
-    draw_asked machine tools certificate program view delete _ options (draw_spells machine tools certificate program view delete).1 (subst Are spelled are)
+    draw_asked machine tools certificate program view delete bodies whole _ options (draw_spells machine tools certificate program view delete bodies whole).1 (subst Are spelled are)
 
 -- the values of `show` that were found are these
 abbrev FindsShow : Text → Option Text → Bool → Option (Text × List Row) → Type 0
@@ -781,26 +832,27 @@ FindsMachine source corner ticks frame (Some found) = (found.0 ≡ codes "machin
     × (first_of (codes "feed") found.1 ≡ feed_in source) × (first_of (codes "acceleration") found.1 ≡ acceleration_in source)
     × (first_of (codes "corner") found.1 ≡ corner) × (first_of (codes "ticks") found.1 ≡ ticks) × (first_of (codes "frame") found.1 ≡ frame)
     × (first_of (codes "jump") found.1 ≡ None) × (first_of (codes "turn") found.1 ≡ None) × (first_of (codes "start") found.1 ≡ None) × (first_of (codes "home28") found.1 ≡ None) × (first_of (codes "home30") found.1 ≡ None)
+    × (first_of (codes "ring") found.1 ≡ None) × (is_set (codes "arc-feed") found.1 ≡ false)
 
 machine_spells : (source : MachineSource) (corner ticks frame : Option Text) →
     Spells (machine_words source corner ticks frame) (FindsMachine source corner ticks frame)
 unfolding clap_on_literals
-machine_spells (FromGrbl file) None None None = (refl, (refl, refl, refl, refl, refl, refl, refl, refl, refl, refl, refl, refl, refl, refl))
-machine_spells (FromGrbl file) None None (Some frame) = (refl, (refl, refl, refl, refl, refl, refl, refl, refl, refl, refl, refl, refl, refl, refl))
-machine_spells (FromGrbl file) None (Some ticks) None = (refl, (refl, refl, refl, refl, refl, refl, refl, refl, refl, refl, refl, refl, refl, refl))
-machine_spells (FromGrbl file) None (Some ticks) (Some frame) = (refl, (refl, refl, refl, refl, refl, refl, refl, refl, refl, refl, refl, refl, refl, refl))
-machine_spells (FromGrbl file) (Some corner) None None = (refl, (refl, refl, refl, refl, refl, refl, refl, refl, refl, refl, refl, refl, refl, refl))
-machine_spells (FromGrbl file) (Some corner) None (Some frame) = (refl, (refl, refl, refl, refl, refl, refl, refl, refl, refl, refl, refl, refl, refl, refl))
-machine_spells (FromGrbl file) (Some corner) (Some ticks) None = (refl, (refl, refl, refl, refl, refl, refl, refl, refl, refl, refl, refl, refl, refl, refl))
-machine_spells (FromGrbl file) (Some corner) (Some ticks) (Some frame) = (refl, (refl, refl, refl, refl, refl, refl, refl, refl, refl, refl, refl, refl, refl, refl))
-machine_spells (FromFigures steps travel feed acceleration) None None None = (refl, (refl, refl, refl, refl, refl, refl, refl, refl, refl, refl, refl, refl, refl, refl))
-machine_spells (FromFigures steps travel feed acceleration) None None (Some frame) = (refl, (refl, refl, refl, refl, refl, refl, refl, refl, refl, refl, refl, refl, refl, refl))
-machine_spells (FromFigures steps travel feed acceleration) None (Some ticks) None = (refl, (refl, refl, refl, refl, refl, refl, refl, refl, refl, refl, refl, refl, refl, refl))
-machine_spells (FromFigures steps travel feed acceleration) None (Some ticks) (Some frame) = (refl, (refl, refl, refl, refl, refl, refl, refl, refl, refl, refl, refl, refl, refl, refl))
-machine_spells (FromFigures steps travel feed acceleration) (Some corner) None None = (refl, (refl, refl, refl, refl, refl, refl, refl, refl, refl, refl, refl, refl, refl, refl))
-machine_spells (FromFigures steps travel feed acceleration) (Some corner) None (Some frame) = (refl, (refl, refl, refl, refl, refl, refl, refl, refl, refl, refl, refl, refl, refl, refl))
-machine_spells (FromFigures steps travel feed acceleration) (Some corner) (Some ticks) None = (refl, (refl, refl, refl, refl, refl, refl, refl, refl, refl, refl, refl, refl, refl, refl))
-machine_spells (FromFigures steps travel feed acceleration) (Some corner) (Some ticks) (Some frame) = (refl, (refl, refl, refl, refl, refl, refl, refl, refl, refl, refl, refl, refl, refl, refl))
+machine_spells (FromGrbl file) None None None = (refl, (refl, refl, refl, refl, refl, refl, refl, refl, refl, refl, refl, refl, refl, refl, refl, refl))
+machine_spells (FromGrbl file) None None (Some frame) = (refl, (refl, refl, refl, refl, refl, refl, refl, refl, refl, refl, refl, refl, refl, refl, refl, refl))
+machine_spells (FromGrbl file) None (Some ticks) None = (refl, (refl, refl, refl, refl, refl, refl, refl, refl, refl, refl, refl, refl, refl, refl, refl, refl))
+machine_spells (FromGrbl file) None (Some ticks) (Some frame) = (refl, (refl, refl, refl, refl, refl, refl, refl, refl, refl, refl, refl, refl, refl, refl, refl, refl))
+machine_spells (FromGrbl file) (Some corner) None None = (refl, (refl, refl, refl, refl, refl, refl, refl, refl, refl, refl, refl, refl, refl, refl, refl, refl))
+machine_spells (FromGrbl file) (Some corner) None (Some frame) = (refl, (refl, refl, refl, refl, refl, refl, refl, refl, refl, refl, refl, refl, refl, refl, refl, refl))
+machine_spells (FromGrbl file) (Some corner) (Some ticks) None = (refl, (refl, refl, refl, refl, refl, refl, refl, refl, refl, refl, refl, refl, refl, refl, refl, refl))
+machine_spells (FromGrbl file) (Some corner) (Some ticks) (Some frame) = (refl, (refl, refl, refl, refl, refl, refl, refl, refl, refl, refl, refl, refl, refl, refl, refl, refl))
+machine_spells (FromFigures steps travel feed acceleration) None None None = (refl, (refl, refl, refl, refl, refl, refl, refl, refl, refl, refl, refl, refl, refl, refl, refl, refl))
+machine_spells (FromFigures steps travel feed acceleration) None None (Some frame) = (refl, (refl, refl, refl, refl, refl, refl, refl, refl, refl, refl, refl, refl, refl, refl, refl, refl))
+machine_spells (FromFigures steps travel feed acceleration) None (Some ticks) None = (refl, (refl, refl, refl, refl, refl, refl, refl, refl, refl, refl, refl, refl, refl, refl, refl, refl))
+machine_spells (FromFigures steps travel feed acceleration) None (Some ticks) (Some frame) = (refl, (refl, refl, refl, refl, refl, refl, refl, refl, refl, refl, refl, refl, refl, refl, refl, refl))
+machine_spells (FromFigures steps travel feed acceleration) (Some corner) None None = (refl, (refl, refl, refl, refl, refl, refl, refl, refl, refl, refl, refl, refl, refl, refl, refl, refl))
+machine_spells (FromFigures steps travel feed acceleration) (Some corner) None (Some frame) = (refl, (refl, refl, refl, refl, refl, refl, refl, refl, refl, refl, refl, refl, refl, refl, refl, refl))
+machine_spells (FromFigures steps travel feed acceleration) (Some corner) (Some ticks) None = (refl, (refl, refl, refl, refl, refl, refl, refl, refl, refl, refl, refl, refl, refl, refl, refl, refl))
+machine_spells (FromFigures steps travel feed acceleration) (Some corner) (Some ticks) (Some frame) = (refl, (refl, refl, refl, refl, refl, refl, refl, refl, refl, refl, refl, refl, refl, refl, refl, refl))
 
 machine_asked : (source : MachineSource) (corner ticks frame : Option Text) (found : Option (Text × List Row)) (options : Options)
     → FindsMachine source corner ticks frame found → AreOptions found options → AsksForMachine source corner ticks frame options
@@ -819,6 +871,8 @@ machine_asked source corner ticks frame (Some found) (ToMachine machine) finds a
   are.1.start ∙ finds.11,
   are.1.home28 ∙ finds.12,
   are.1.home30 ∙ finds.13,
+  are.1.ring ∙ finds.14,
+  are.1.arc_feed ∙ finds.15,
 )
 machine_asked source corner ticks frame (Some found) (ToList list) finds are =
     other_letter (codes "machine") (codes "list") (sym finds.0 ∙ are.0) (λ letters. omega (arith, letters))

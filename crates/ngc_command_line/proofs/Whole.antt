@@ -186,7 +186,9 @@ draw_sound =
     let program = set_is_sound FitsCuts _ refl refl refl (λ v none. no_cuts (codes "program") v refl) in
     let view = set_is_sound FitsCuts _ refl refl refl (λ v none. no_cuts (codes "view") v refl) in
     let delete = flag_is_sound FitsCuts _ (codes "true") (codes "false") refl refl refl (λ v. no_cuts (codes "delete") v refl) in
-    (machine, (tools, (certificate, (program, (view, (delete, (help_is_sound FitsCuts _ refl refl, tt)))))))
+    let bodies = flag_is_sound FitsCuts _ (codes "true") (codes "false") refl refl refl (λ v. no_cuts (codes "bodies") v refl) in
+    let whole = flag_is_sound FitsCuts _ (codes "true") (codes "false") refl refl refl (λ v. no_cuts (codes "whole") v refl) in
+    (machine, (tools, (certificate, (program, (view, (delete, (bodies, (whole, (help_is_sound FitsCuts _ refl refl, tt)))))))))
 
 draw_values : (words : List Text) → level_fault draw_shape [] nothing_held words false [] ≡ [] → HasDrawValues (rows_after draw_shape.rules [] words)
 draw_values words none =

@@ -74,12 +74,14 @@ run_app = with_run_rules (new_app (codes "run"))
 abbrev pub pulses_app : App
 pulses_app = with_run_rules (new_app (codes "pulses"))
 
--- `draw --machine FILE --tools FILE [--certificate FILE] [--program FILE] [--view VIEW] [--delete]`
+-- `draw --machine FILE --tools FILE [--certificate FILE] [--program FILE] [--view VIEW] [--delete]
+-- [--bodies] [--whole]`
 abbrev pub draw_app : App
 draw_app = fold with_rule (new_app (codes "draw"))
     (required_file (codes "machine") ∷ required_file (codes "tools")
     ∷ file_option (codes "certificate") ∷ file_option (codes "program")
-    ∷ file_option (codes "view") ∷ flag (codes "delete") ∷ [])
+    ∷ file_option (codes "view") ∷ flag (codes "delete") ∷ flag (codes "bodies")
+    ∷ flag (codes "whole") ∷ [])
 
 -- `show --machine FILE [--tools FILE] [--warnings]`
 abbrev pub show_app : App
@@ -104,14 +106,15 @@ adapt_app = fold with_rule (new_app (codes "adapt"))
 
 -- `machine [--grbl FILE] [--steps-per-mm N] [--travel X,Y,Z] [--feed X,Y,Z] [--acceleration X,Y,Z]`
 -- and `[--corner SPEED] [--ticks N] [--frame END] [--jump SPEED] [--turn ACCELERATION]
--- [--start X,Y,Z] [--home28 X,Y,Z] [--home30 X,Y,Z]`
+-- [--start X,Y,Z] [--home28 X,Y,Z] [--home30 X,Y,Z] [--ring N] [--arc-feed]`
 abbrev pub machine_app : App
 machine_app = fold with_rule (new_app (codes "machine"))
     (file_option (codes "grbl") ∷ file_option (codes "steps-per-mm") ∷ file_option (codes "travel")
     ∷ file_option (codes "feed") ∷ file_option (codes "acceleration")
     ∷ file_option (codes "corner") ∷ file_option (codes "ticks") ∷ file_option (codes "frame")
     ∷ file_option (codes "jump") ∷ file_option (codes "turn") ∷ file_option (codes "start")
-    ∷ file_option (codes "home28") ∷ file_option (codes "home30") ∷ [])
+    ∷ file_option (codes "home28") ∷ file_option (codes "home30") ∷ file_option (codes "ring")
+    ∷ flag (codes "arc-feed") ∷ [])
 
 -- `N`, a number from 1 to 999, which may not be left out
 abbrev pub number_argument : Rule
@@ -207,11 +210,13 @@ help_words None = codes "help" ∷ []
 help_words (Some command) = codes "help" ∷ command ∷ []
 
 -- the words of `ngc draw` with these options, in one spelling
-abbrev pub draw_words : Text → Text → Option Text → Option Text → Option Text → Bool → List Text
-draw_words machine tools certificate program view delete = codes "draw"
+abbrev pub draw_words : Text → Text → Option Text → Option Text → Option Text → Bool → Bool →
+    Bool → List Text
+draw_words machine tools certificate program view delete bodies whole = codes "draw"
     ∷ (codes "--machine=" ++ machine) ∷ (codes "--tools=" ++ tools)
     ∷ (file_words (codes "--certificate=") certificate ++ file_words (codes "--program=") program
-    ++ file_words (codes "--view=") view ++ flag_words (codes "--delete") delete)
+    ++ file_words (codes "--view=") view ++ flag_words (codes "--delete") delete
+    ++ flag_words (codes "--bodies") bodies ++ flag_words (codes "--whole") whole)
 
 -- the words of `ngc show` with these options, in one spelling
 abbrev pub show_words : Text → Option Text → Bool → List Text

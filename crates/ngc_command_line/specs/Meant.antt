@@ -137,6 +137,8 @@ pub record AreDrawOptions (rows : List Row) (options : DrawOptions) : Type 0 whe
   pub program : option_map (λ name. name.now) options.program ≡ first_of (codes "program") rows
   pub view : option_map (λ name. name.now) options.view ≡ first_of (codes "view") rows
   pub delete : options.delete ≡ is_set (codes "delete") rows
+  pub bodies : options.bodies ≡ is_set (codes "bodies") rows
+  pub whole : options.whole ≡ is_set (codes "whole") rows
 
 -- each option of `show` by the first value that was found under its own name
 pub record AreShowOptions (rows : List Row) (options : ShowOptions) : Type 0 where
@@ -185,6 +187,8 @@ pub record AreMachineOptions (rows : List Row) (options : MachineOptions) : Type
   pub start : option_map (λ name. name.now) options.start ≡ first_of (codes "start") rows
   pub home28 : option_map (λ name. name.now) options.home28 ≡ first_of (codes "home28") rows
   pub home30 : option_map (λ name. name.now) options.home30 ≡ first_of (codes "home30") rows
+  pub ring : option_map (λ name. name.now) options.ring ≡ first_of (codes "ring") rows
+  pub arc_feed : options.arc_feed ≡ is_set (codes "arc-feed") rows
 
 -- a value was found under the name
 abbrev pub HasValue : Text → List Row → Type 0
@@ -311,14 +315,15 @@ AsksForRun recording machine tools certificate None program delete output (ToRun
 AsksForRun recording machine tools certificate events program delete output other = ⊥
 
 -- `draw` is asked for, with these options
-abbrev pub AsksForDraw : Text → Text → Option Text → Option Text → Option Text → Bool →
-    Options → Type 0
-AsksForDraw machine tools certificate program view delete (ToDraw draw) =
+abbrev pub AsksForDraw : Text → Text → Option Text → Option Text → Option Text → Bool → Bool →
+    Bool → Options → Type 0
+AsksForDraw machine tools certificate program view delete bodies whole (ToDraw draw) =
     (draw.machine.now ≡ machine) × (draw.tools.now ≡ tools)
     × (option_map (λ name. name.now) draw.certificate ≡ certificate)
     × (option_map (λ name. name.now) draw.program ≡ program)
     × (option_map (λ name. name.now) draw.view ≡ view) × (draw.delete ≡ delete)
-AsksForDraw machine tools certificate program view delete other = ⊥
+    × (draw.bodies ≡ bodies) × (draw.whole ≡ whole)
+AsksForDraw machine tools certificate program view delete bodies whole other = ⊥
 
 -- `show` is asked for, with these options
 abbrev pub AsksForShow : Text → Option Text → Bool → Options → Type 0
@@ -381,6 +386,8 @@ AsksForMachine source corner ticks frame (ToMachine machine) =
     × (option_map (λ name. name.now) machine.start ≡ None)
     × (option_map (λ name. name.now) machine.home28 ≡ None)
     × (option_map (λ name. name.now) machine.home30 ≡ None)
+    × (option_map (λ name. name.now) machine.ring ≡ None)
+    × (machine.arc_feed ≡ false)
 AsksForMachine source corner ticks frame other = ⊥
 
 -- `help` is asked for, of this command

@@ -26,6 +26,22 @@ const CERTIFICATE: Argument<'static> = Argument {
     help: "Certificate to check, as `ngc certify` prints it\n[default: try to make one]",
 };
 
+const BODIES: Argument<'static> = Argument {
+    name: "bodies",
+    is_named: true,
+    is_required: false,
+    takes: Takes::Nothing,
+    help: "Draw also the rectangles that the tool fills\nover the boxes of the certificate",
+};
+
+const WHOLE: Argument<'static> = Argument {
+    name: "whole",
+    is_named: true,
+    is_required: false,
+    takes: Takes::Nothing,
+    help: "Show the whole travel, also where it is more than\nthree times larger than fixtures and path",
+};
+
 pub(crate) static DRAW: SubcommandRow<'static> = SubcommandRow {
     name: "draw",
     about: "Draw a part program, its fixtures and its travel as an SVG picture",
@@ -40,6 +56,8 @@ pub(crate) static DRAW: SubcommandRow<'static> = SubcommandRow {
         PROGRAM,
         VIEW,
         DELETE,
+        BODIES,
+        WHOLE,
     ],
 };
 
@@ -54,5 +72,7 @@ pub(crate) fn draw_options<'a>(found: &ArgMatches<'a>) -> DrawOptions<'a>
         program: found.get_str("program"),
         view: found.get_str("view"),
         delete: flag_is_set(found, "delete"),
+        bodies: flag_is_set(found, "bodies"),
+        whole: flag_is_set(found, "whole"),
     }
 }

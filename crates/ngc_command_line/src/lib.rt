@@ -182,12 +182,14 @@ pub fn read_options<'a>(alloc: Global, words: &'a [&'a str]) -> Result<Options<'
         → MatchResult result
         (AsksForRun recording machine tools certificate events program delete output)
         (λ fault. fault ≡ UsageFault.Memory) }
-    // `draw --machine=FILE --tools=FILE --certificate=FILE --program=FILE --view=VIEW --delete` is
-    // read as it is spelled, where the last four may be left out.
+    // `draw --machine=FILE --tools=FILE --certificate=FILE --program=FILE --view=VIEW --delete
+    // --bodies --whole` is read as it is spelled, where the last six may be left out.
     ensures spelled_draw { (machine tools : Text) (certificate program : Option Text)
-        (view : Option Text) (delete : Bool)
-        → texts words.entry.now ≡ draw_words machine tools certificate program view delete
-        → MatchResult result (AsksForDraw machine tools certificate program view delete)
+        (view : Option Text) (delete bodies whole : Bool)
+        → texts words.entry.now
+        ≡ draw_words machine tools certificate program view delete bodies whole
+        → MatchResult result
+        (AsksForDraw machine tools certificate program view delete bodies whole)
         (λ fault. fault ≡ UsageFault.Memory) }
     // `show --machine=FILE --tools=FILE --warnings` is read as it is spelled, where the last two may
     // be left out.

@@ -3,7 +3,7 @@
 ghost use Rattle.clap.specs.Words.{found_of, rows_of};
 ghost use Rattle.ngc_command_line.specs.Meant.{AreMachineOptions};
 
-use crate::arguments::help_end;
+use crate::arguments::{flag_is_set, help_end};
 use crate::options::MachineOptions;
 use crate::table::{Argument, SubcommandRow, Takes};
 use clap::ArgMatches;
@@ -112,6 +112,22 @@ const HOME30: Argument<'static> = Argument {
     help: "Where G30 goes, in mm [default: the start]",
 };
 
+const RING: Argument<'static> = Argument {
+    name: "ring",
+    is_named: true,
+    is_required: false,
+    takes: Takes::Text("N"),
+    help: "Commands that are loaded and not done at most,\n16 to 1024 [default: 16]",
+};
+
+const ARC_FEED: Argument<'static> = Argument {
+    name: "arc-feed",
+    is_named: true,
+    is_required: false,
+    takes: Takes::Nothing,
+    help: "Run arcs at their feed at every place [default: at the\nleast that the feed allows anywhere on the arc]",
+};
+
 pub(crate) static MACHINE: SubcommandRow<'static> = SubcommandRow {
     name: "machine",
     about: "Print a machine file from figures at hand, or from a dump of GRBL's settings",
@@ -133,6 +149,8 @@ pub(crate) static MACHINE: SubcommandRow<'static> = SubcommandRow {
         START,
         HOME28,
         HOME30,
+        RING,
+        ARC_FEED,
     ],
 };
 
@@ -153,5 +171,7 @@ pub(crate) fn machine_options<'a>(found: &ArgMatches<'a>) -> MachineOptions<'a>
         start: found.get_str("start"),
         home28: found.get_str("home28"),
         home30: found.get_str("home30"),
+        ring: found.get_str("ring"),
+        arc_feed: flag_is_set(found, "arc-feed"),
     }
 }

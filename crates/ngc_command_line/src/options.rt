@@ -148,7 +148,7 @@ pub struct DrawOptions<'a> {
     pub machine: &'a str,
     /// The file of the tool table.
     pub tools: &'a str,
-    /// The file of the certificate whose boxes are drawn. With none no boxes are.
+    /// The file of the certificate whose boxes may be drawn. With none no boxes are.
     pub certificate: Option<&'a str>,
     /// The file of the part program. With none it comes from standard input.
     pub program: Option<&'a str>,
@@ -157,6 +157,11 @@ pub struct DrawOptions<'a> {
     pub view: Option<&'a str>,
     /// Whether block delete is on, so that lines that begin with `/` are left out.
     pub delete: bool,
+    /// Whether the rectangles that the tool fills over the boxes of the certificate are drawn.
+    pub bodies: bool,
+    /// Whether the whole travel is shown, also where it is more than three times larger than
+    /// fixtures and path.
+    pub whole: bool,
 }
 
 /// The options of `ngc show`.
@@ -232,4 +237,8 @@ pub struct MachineOptions<'a> {
     pub home28: Option<&'a str>,
     /// Where G30 goes, in millimetres.
     pub home30: Option<&'a str>,
+    /// How many commands are loaded and not done at most.
+    pub ring: Option<&'a str>,
+    /// Whether arcs run at their feed at every place.
+    pub arc_feed: bool,
 }

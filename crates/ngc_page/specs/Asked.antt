@@ -22,7 +22,7 @@ view_name n = if n == 1 then codes "front" else if n == 2 then codes "side" else
 abbrev pub AsksDraw : ℕ → Bool → Options → Type 0
 AsksDraw view delete =
     AsksForDraw (codes "machine") (codes "tools") None (Some (codes "program"))
-    (Some (view_name view)) delete
+    (Some (view_name view)) delete false false
 
 abbrev pub AsksList : Bool → Options → Type 0
 AsksList delete =

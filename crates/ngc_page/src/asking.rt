@@ -45,6 +45,8 @@ pub fn draw_options(view: u32, delete: bool) -> Options<'static>
         program: Some("program"),
         view: Some(view_name(view)),
         delete,
+        bodies: false,
+        whole: false,
     })
 }
 
@@ -179,5 +181,7 @@ pub fn machine_options() -> Options<'static>
         start: None,
         home28: None,
         home30: None,
+        ring: None,
+        arc_feed: false,
     })
 }

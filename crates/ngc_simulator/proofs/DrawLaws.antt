@@ -1,4 +1,4 @@
--- What drawing a program comes to, from what its parts come to.
+-- The result of drawing a program, from the results of its parts.
 use Rattle.std.proofs.Common.{◌≡◌, ℕ, ◌-◌, List, [], ◌∷◌, ◌++◌, Option, Some, None, Bool, Result, Ok, Err, IfSome, ap, refl, subst}
 use Rattle.std.proofs.Common.{sym, ◌∙◌}
 use Rattle.std.specs.Prelude.{MatchOption, option_map}
@@ -23,12 +23,13 @@ use Rattle.ngc_command_line.specs.declared.options.DrawOptions.{DrawOptions}
 use Rattle.ngc_drawing.specs.Pictures.{picture_text}
 use Rattle.ngc_drawing.specs.declared.fault.DrawFault.{DrawFault}
 use Rattle.ngc_drawing.specs.declared.fault.DrawFault.TheVariants.{Memory, Write}
+use Rattle.ngc_drawing.specs.declared.look.Look.{Look}
 use Rattle.ngc_drawing.specs.declared.refusal.Refusal.{Refusal}
 use Rattle.ngc_drawing.specs.declared.view.View.{View}
 use Rattle.ngc_simulator.specs.Answers.{DrawsFrom, certificate_input, certificate_inputs, draw_inputs, program_input}
 use Rattle.ngc_simulator.specs.Drawing.{Draws, DrawsGiven, DrawsProgram, IsGivenRefusal, IsMadeRefusal, fault_at, refusal_answer}
 use Rattle.ngc_program_report.specs.Met.{met_at}
-use Rattle.ngc_simulator.specs.Drawing.{setting_of}
+use Rattle.ngc_simulator.specs.Drawing.{look_of, setting_of}
 use Rattle.ngc_simulator.specs.Faults.{of_picture}
 use Rattle.ngc_simulator.specs.Lists.{IsMeaning, IsRefused}
 use Rattle.ngc_simulator.specs.Setups.{FileBytes, KeepsFiles, KeepsNamed}
@@ -67,53 +68,53 @@ refused_program setup bytes block_delete text fault is_text have fails = record 
 }
 
 -- the picture of commands that were handed on as a slice
-pub drawn : (setup : Setup) (bytes : List ℕ) (block_delete : Bool) (view : View) (entries : List Entry) (IsShown : List Command → Option Refusal → Type 0)
+pub drawn : (setup : Setup) (bytes : List ℕ) (block_delete : Bool) (look : Look) (entries : List Entry) (IsShown : List Command → Option Refusal → Type 0)
     (old new : Option (List ℕ))
     (text : ProgramText) (commands given shown : List Command) (found : List Entry) (refusal : Option Refusal)
     → given ≡ commands → shown ≡ commands → found ≡ entries → program_of bytes ≡ Ok text → HaveReadings text.lines →
     Means text setup block_delete (Ok commands) → IsShown given refusal
-    → Appends old new (picture_text view setup.machine shown found refusal) → Draws setup bytes block_delete view entries IsShown old new (Ok tt)
-drawn setup bytes block_delete view entries IsShown old new text commands given shown found refusal same same_shown same_found is_text have means shows wrote = (
-  picture_text view setup.machine shown found refusal,
+    → Appends old new (picture_text look setup.machine shown found refusal) → Draws setup bytes block_delete look entries IsShown old new (Ok tt)
+drawn setup bytes block_delete look entries IsShown old new text commands given shown found refusal same same_shown same_found is_text have means shows wrote = (
+  picture_text look setup.machine shown found refusal,
   record {
     commands = commands;
     meaning = is_meaning setup bytes block_delete text (Ok commands) is_text have means;
     refusal = refusal;
     shows = subst (λ cs. IsShown cs refusal) same shows;
-    draws = ap (λ cs. picture_text view setup.machine cs found refusal) same_shown ∙ ap (λ es. picture_text view setup.machine commands es refusal) same_found;
+    draws = ap (λ cs. picture_text look setup.machine cs found refusal) same_shown ∙ ap (λ es. picture_text look setup.machine commands es refusal) same_found;
   },
   wrote,
 )
 
--- and a beginning of it, or nothing where memory ran out
-pub drawing_stopped : (setup : Setup) (bytes : List ℕ) (block_delete : Bool) (view : View) (entries : List Entry)
+-- and a prefix of it, or nothing where memory ran out
+pub drawing_stopped : (setup : Setup) (bytes : List ℕ) (block_delete : Bool) (look : Look) (entries : List Entry)
     (IsShown : List Command → Option Refusal → Type 0) (old new : Option (List ℕ))
     (text : ProgramText) (commands given shown : List Command) (found : List Entry) (refusal : Option Refusal) (fault : DrawFault)
     → given ≡ commands → shown ≡ commands → found ≡ entries → program_of bytes ≡ Ok text → HaveReadings text.lines →
     Means text setup block_delete (Ok commands) → IsShown given refusal
-    → AppendsBeginning old new (picture_text view setup.machine shown found refusal) → (fault ≡ Memory → Keeps old new)
-    → Draws setup bytes block_delete view entries IsShown old new (Err (of_picture fault))
-drawing_stopped setup bytes block_delete view entries IsShown old new text commands given shown found refusal Memory same same_shown same_found is_text have
+    → AppendsBeginning old new (picture_text look setup.machine shown found refusal) → (fault ≡ Memory → Keeps old new)
+    → Draws setup bytes block_delete look entries IsShown old new (Err (of_picture fault))
+drawing_stopped setup bytes block_delete look entries IsShown old new text commands given shown found refusal Memory same same_shown same_found is_text have
     means shows wrote keeps = keeps refl
-drawing_stopped setup bytes block_delete view entries IsShown old new text commands given shown found refusal Write same same_shown same_found is_text have
+drawing_stopped setup bytes block_delete look entries IsShown old new text commands given shown found refusal Write same same_shown same_found is_text have
     means shows wrote keeps = (
-      picture_text view setup.machine shown found refusal,
+      picture_text look setup.machine shown found refusal,
       record {
         commands = commands;
         meaning = is_meaning setup bytes block_delete text (Ok commands) is_text have means;
         refusal = refusal;
         shows = subst (λ cs. IsShown cs refusal) same shows;
         draws =
-            ap (λ cs. picture_text view setup.machine cs found refusal) same_shown ∙ ap (λ es. picture_text view setup.machine commands es refusal) same_found;
+            ap (λ cs. picture_text look setup.machine cs found refusal) same_shown ∙ ap (λ es. picture_text look setup.machine commands es refusal) same_found;
       },
       wrote,
     )
 
-pub no_memory : (setup : Setup) (bytes : List ℕ) (block_delete : Bool) (view : View) (entries : List Entry) (IsShown : List Command → Option Refusal → Type 0)
+pub no_memory : (setup : Setup) (bytes : List ℕ) (block_delete : Bool) (look : Look) (entries : List Entry) (IsShown : List Command → Option Refusal → Type 0)
     (known : Option (List ℕ)) (fault : DrawFault)
-    → fault ≡ Memory → Draws setup bytes block_delete view entries IsShown known known (Err (of_picture fault))
-no_memory setup bytes block_delete view entries IsShown known Memory is = keeps_same known
-no_memory setup bytes block_delete view entries IsShown known Write is = cc
+    → fault ≡ Memory → Draws setup bytes block_delete look entries IsShown known known (Err (of_picture fault))
+no_memory setup bytes block_delete look entries IsShown known Memory is = keeps_same known
+no_memory setup bytes block_delete look entries IsShown known Write is = cc
 
 -- a command that isn't cleared, with the fixture that is met there
 pub made_refusal_of : {X : Type 0} (view : X → CertificateData) (machine : MachineFile) (commands : List Command) (fault : MakeFault) (s : Setting) (k : ℕ)
@@ -125,13 +126,13 @@ made_refusal_of view machine commands fault s k fixture is made met =
 
 -- ---- with a certificate
 
-pub given_fault : (setup : Setup) (bytes given_text : List ℕ) (block_delete : Bool) (view : View) (known : Option (List ℕ)) (text : ProgramText)
+pub given_fault : (setup : Setup) (bytes given_text : List ℕ) (block_delete : Bool) (look : Look) (known : Option (List ℕ)) (text : ProgramText)
     (commands given : List Command)
     (c : CertificateData) (fault : CheckFault)
     → given ≡ commands → program_of bytes ≡ Ok text → HaveReadings text.lines → Means text setup block_delete (Ok commands) → certificate_said given_text ≡ Ok c
     → Err fault ≡ refusal_answer (fault_at setup.machine (setting_of block_delete) given c)
-    → DrawsGiven setup bytes given_text block_delete view known known (Err (answers.Check fault))
-given_fault setup bytes given_text block_delete view known text commands given c fault same is_text have means said answers = (
+    → DrawsGiven setup bytes given_text block_delete look known known (Err (answers.Check fault))
+given_fault setup bytes given_text block_delete look known text commands given c fault same is_text have means said answers = (
   (
     commands,
     c,
@@ -142,20 +143,20 @@ given_fault setup bytes given_text block_delete view known text commands given c
   keeps_same known,
 )
 
-pub given_stopped : (setup : Setup) (bytes text : List ℕ) (block_delete : Bool) (view : View) (old new : Option (List ℕ)) (c : CertificateData)
+pub given_stopped : (setup : Setup) (bytes text : List ℕ) (block_delete : Bool) (look : Look) (old new : Option (List ℕ)) (c : CertificateData)
     (fault : DrawFault) → certificate_said text ≡ Ok c
-    → Draws setup bytes block_delete view (entries_at (setting_of block_delete) c) (IsGivenRefusal setup.machine (setting_of block_delete) c) old new
+    → Draws setup bytes block_delete look (entries_at (setting_of block_delete) c) (IsGivenRefusal setup.machine (setting_of block_delete) c) old new
     (Err (of_picture fault))
-    → DrawsGiven setup bytes text block_delete view old new (Err (of_picture fault))
-given_stopped setup bytes text block_delete view old new c Memory said draws = (c, said, draws)
-given_stopped setup bytes text block_delete view old new c Write said draws = (c, said, draws)
+    → DrawsGiven setup bytes text block_delete look old new (Err (of_picture fault))
+given_stopped setup bytes text block_delete look old new c Memory said draws = (c, said, draws)
+given_stopped setup bytes text block_delete look old new c Write said draws = (c, said, draws)
 
 -- ---- of the files that the command line names
 
 From : FileBytes → DrawOptions → View → Option (List ℕ) → Option (List ℕ) → Result (Unit {0}) AnswerFault → Setup → List ℕ → Option (List ℕ) → Type 0
 From bytes options view old new outcome setup text named =
-    MatchOption named (DrawsProgram setup text options.delete view old new outcome) (λ name.
-    IfSome (bytes (Some name)) (λ given. DrawsGiven setup text given options.delete view old new outcome))
+    MatchOption named (DrawsProgram setup text options.delete (look_of options view) old new outcome) (λ name.
+    IfSome (bytes (Some name)) (λ given. DrawsGiven setup text given options.delete (look_of options view) old new outcome))
 
 -- where no certificate is named
 pub plain_files : (bytes after : FileBytes) (options : DrawOptions) (view : View) (shop : Shop) (old new : Option (List ℕ))
@@ -163,7 +164,7 @@ pub plain_files : (bytes after : FileBytes) (options : DrawOptions) (view : View
     → option_map (λ n. n.now) options.certificate ≡ None
     → GivesShop bytes (Some options.machine.now) (Some options.tools.now) (Ok shop) → KeepsFiles bytes after
     → IfSome (after (option_map (λ n. n.now) options.program)) P
-    → ((a : List ℕ) → P a → DrawsProgram (setup_of shop.machine shop.tools) a options.delete view old new outcome)
+    → ((a : List ℕ) → P a → DrawsProgram (setup_of shop.machine shop.tools) a options.delete (look_of options view) old new outcome)
     → DrawsFrom bytes options view old new outcome
 unfolding From
 plain_files bytes after options view shop old new outcome P is_none said keeps p on =
@@ -173,11 +174,11 @@ plain_files bytes after options view shop old new outcome P is_none said keeps p
     said.0 said.1
     (subst (λ (named : Option (List ℕ)). IfSome (bytes (option_map (λ n. n.now) options.program))
     (λ text. From bytes options view old new outcome (setup_of shop.machine shop.tools) text named)) (sym is_none)
-    (subst (λ (k : Option (List ℕ)). IfSome k (λ text. DrawsProgram (setup_of shop.machine shop.tools) text options.delete view old new outcome))
+    (subst (λ (k : Option (List ℕ)). IfSome k (λ text. DrawsProgram (setup_of shop.machine shop.tools) text options.delete (look_of options view) old new outcome))
     (keeps (option_map (λ n. n.now) options.program)) (on_known _ p)))
   where
     on_known : (known : Option (List ℕ)) → IfSome known P →
-        IfSome known (λ text. DrawsProgram (setup_of shop.machine shop.tools) text options.delete view old new outcome)
+        IfSome known (λ text. DrawsProgram (setup_of shop.machine shop.tools) text options.delete (look_of options view) old new outcome)
     on_known None q = tt
     on_known (Some a) q = on a q
 
@@ -187,7 +188,7 @@ pub given_files : (bytes after later : FileBytes) (options : DrawOptions) (name 
     → option_map (λ n. n.now) options.certificate ≡ Some name
     → GivesShop bytes (Some options.machine.now) (Some options.tools.now) (Ok shop) → KeepsFiles bytes after → KeepsNamed after later
     → IfSome (after (option_map (λ n. n.now) options.program)) P → IfSome (later (Some name)) Q
-    → ((a b : List ℕ) → P a → Q b → DrawsGiven (setup_of shop.machine shop.tools) a b options.delete view old new outcome)
+    → ((a b : List ℕ) → P a → Q b → DrawsGiven (setup_of shop.machine shop.tools) a b options.delete (look_of options view) old new outcome)
     → DrawsFrom bytes options view old new outcome
 unfolding From
 given_files bytes after later options name view shop old new outcome P Q is_some said keeps named p q on =
@@ -197,7 +198,7 @@ given_files bytes after later options name view shop old new outcome P Q is_some
     said.0 said.1
     (subst (λ (given : Option (List ℕ)). IfSome (bytes (option_map (λ n. n.now) options.program))
     (λ text. From bytes options view old new outcome (setup_of shop.machine shop.tools) text given)) (sym is_some)
-    (on_two_files _ _ _ _ P Q (λ a b. DrawsGiven (setup_of shop.machine shop.tools) a b options.delete view old new outcome)
+    (on_two_files _ _ _ _ P Q (λ a b. DrawsGiven (setup_of shop.machine shop.tools) a b options.delete (look_of options view) old new outcome)
     (keeps (option_map (λ n. n.now) options.program)) (named name ∙ keeps (Some name)) on p q))
 
 -- ---- which file isn't read

@@ -35,7 +35,7 @@ use Rattle.ngc_simulator.specs.declared.writing.Writing.{Writing}
 use Rattle.ngc_simulator.specs.Writing.{writing_named}
 use Rattle.ngc_simulator.specs.Lists.{Lists}
 use Rattle.ngc_drawing.specs.declared.view.View.{View}
-use Rattle.ngc_simulator.specs.Drawing.{DrawsGiven, DrawsProgram, view_named}
+use Rattle.ngc_simulator.specs.Drawing.{DrawsGiven, DrawsProgram, look_of, view_named}
 use Rattle.ngc_simulator.specs.Showing.{Shows}
 use Rattle.ngc_report.specs.declared.form.Form.{Form}
 use Rattle.ngc_report.specs.declared.form.Form.TheVariants.{Words, Json}
@@ -106,9 +106,10 @@ DrawsFrom bytes options view old new outcome =
     OnSetup bytes (Some options.machine.now) (Some options.tools.now) (λ setup.
     IfSome (bytes (option_map (λ name. name.now) options.program)) (λ text.
     MatchOption (option_map (λ name. name.now) options.certificate)
-    (DrawsProgram setup text options.delete view old new outcome) (λ certificate.
+    (DrawsProgram setup text options.delete (look_of options view) old new outcome) (λ certificate.
     IfSome (bytes (Some certificate))
-    (λ given. DrawsGiven setup text given options.delete view old new outcome))))
+    (λ given. DrawsGiven setup text given options.delete (look_of options view) old new
+    outcome))))
 
 abbrev pub ShowsOn : FileBytes → ShowOptions → Option (List ℕ) → Option (List ℕ) →
     Result (Unit {0}) AnswerFault → Type 0

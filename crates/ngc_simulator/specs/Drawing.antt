@@ -1,4 +1,4 @@
--- What drawing a program comes to. Our own.
+-- The result of drawing a program. Our own.
 use Rattle.std.specs.Prelude.{◌≡◌, ℕ, List, [], Option, Some, None, Result, Ok}
 use Rattle.std.specs.Prelude.{Err, Bool, codes, if◌then◌else◌}
 use Rattle.std.specs.Str.{bytes_eq}
@@ -20,7 +20,9 @@ use Rattle.ngc_certificate.specs.Made.{IsMade}
 use Rattle.ngc_checker.specs.declared.fault.CheckFault.{CheckFault}
 use Rattle.ngc_checker.specs.declared.fault.CheckFault.TheVariants as checks
 use Rattle.ngc_checker.specs.FirstRefusal.{setting_fault}
+use Rattle.ngc_command_line.specs.declared.options.DrawOptions.{DrawOptions}
 use Rattle.ngc_drawing.specs.Pictures.{picture_text}
+use Rattle.ngc_drawing.specs.declared.look.Look.{Look}
 use Rattle.ngc_drawing.specs.declared.refusal.Refusal.{Refusal}
 use Rattle.ngc_drawing.specs.declared.view.View.{View}
 use Rattle.ngc_drawing.specs.declared.view.View.TheVariants.{Top, Front, Side}
@@ -38,12 +40,16 @@ view_named (Some name) =
     then Some Front
     else if bytes_eq name (codes "side") then Some Side else None
 
+-- how the picture looks from this side, with these options
+abbrev pub look_of : DrawOptions → View → Look
+look_of options view = record { view = view; whole = options.whole; bodies = options.bodies }
+
 abbrev pub setting_of : Bool → Setting
 setting_of block_delete = if block_delete then On else Off
 
 -- ---- what is refused and drawn
 
--- where no certificate is given: what making one for these commands tells, with as many pieces as
+-- where no certificate is given: the result of making one for these commands, with as many pieces as
 -- `certify` tries by itself
 abbrev pub IsMadeRefusal : MachineFile → List Command → Option Refusal → Type 0
 IsMadeRefusal machine commands None =
@@ -86,37 +92,37 @@ refusal_answer (Some fault) = drawn_or fault (drawn_refusal fault)
 
 -- the picture of what a file means with the motions of a certificate, and with what is refused of
 -- it
-pub record IsPicture (setup : Setup) (bytes : List ℕ) (block_delete : Bool) (view : View)
+pub record IsPicture (setup : Setup) (bytes : List ℕ) (block_delete : Bool) (look : Look)
     (entries : List Entry) (IsShown : List Command → Option Refusal → Type 0) (text : List ℕ) :
     Type 0 where
   pub commands : List Command
   pub meaning : IsMeaning setup bytes block_delete (Ok commands)
   pub refusal : Option Refusal
   pub shows : IsShown commands refusal
-  pub draws : text ≡ picture_text view setup.machine commands entries refusal
+  pub draws : text ≡ picture_text look setup.machine commands entries refusal
 
--- the picture was written, or a beginning of it where the sink failed; where there is none, what
+-- the picture was written, or a prefix of it where the sink failed; where there is none, what
 -- was written is as it was
-abbrev pub Draws : Setup → List ℕ → Bool → View → List Entry →
+abbrev pub Draws : Setup → List ℕ → Bool → Look → List Entry →
     (List Command → Option Refusal → Type 0) → Option (List ℕ) → Option (List ℕ) →
     Result (Unit {0}) AnswerFault → Type 0
-Draws setup bytes block_delete view entries IsShown old new (Ok u) = (text : List ℕ) ×
-    IsPicture setup bytes block_delete view entries IsShown text × Appends old new text
-Draws setup bytes block_delete view entries IsShown old new (Err (answers.Write fault)) =
-    (text : List ℕ) × IsPicture setup bytes block_delete view entries IsShown text ×
+Draws setup bytes block_delete look entries IsShown old new (Ok u) = (text : List ℕ) ×
+    IsPicture setup bytes block_delete look entries IsShown text × Appends old new text
+Draws setup bytes block_delete look entries IsShown old new (Err (answers.Write fault)) =
+    (text : List ℕ) × IsPicture setup bytes block_delete look entries IsShown text ×
     AppendsBeginning old new text
-Draws setup bytes block_delete view entries IsShown old new (Err answers.Memory) = Keeps old new
-Draws setup bytes block_delete view entries IsShown old new (Err (answers.Program fault)) =
+Draws setup bytes block_delete look entries IsShown old new (Err answers.Memory) = Keeps old new
+Draws setup bytes block_delete look entries IsShown old new (Err (answers.Program fault)) =
     IsRefused setup bytes block_delete fault × Keeps old new
-Draws setup bytes block_delete view entries IsShown old new (Err (answers.Read fault)) =
+Draws setup bytes block_delete look entries IsShown old new (Err (answers.Read fault)) =
     FaultIs fault (program_of bytes) × Keeps old new
-Draws setup bytes block_delete view entries IsShown old new (Err _) = ⊥
+Draws setup bytes block_delete look entries IsShown old new (Err _) = ⊥
 
 -- Of a program's file and a sink, without a certificate.
-abbrev pub DrawsProgram : Setup → List ℕ → Bool → View → Option (List ℕ) → Option (List ℕ) →
+abbrev pub DrawsProgram : Setup → List ℕ → Bool → Look → Option (List ℕ) → Option (List ℕ) →
     Result (Unit {0}) AnswerFault → Type 0
-DrawsProgram setup bytes block_delete view old new outcome =
-    Draws setup bytes block_delete view [] (IsMadeRefusal setup.machine) old new outcome
+DrawsProgram setup bytes block_delete look old new outcome =
+    Draws setup bytes block_delete look [] (IsMadeRefusal setup.machine) old new outcome
 
 -- what a certificate refuses of commands
 abbrev pub IsGivenRefusal : MachineFile → Setting → CertificateData → List Command →
@@ -126,18 +132,18 @@ IsGivenRefusal machine s c commands refusal =
 
 -- Of a program's file, a certificate's file and a sink. A fault of the certificate that isn't drawn
 -- is answered.
-abbrev pub DrawsGiven : Setup → List ℕ → List ℕ → Bool → View → Option (List ℕ) → Option (List ℕ) →
+abbrev pub DrawsGiven : Setup → List ℕ → List ℕ → Bool → Look → Option (List ℕ) → Option (List ℕ) →
     Result (Unit {0}) AnswerFault → Type 0
-DrawsGiven setup bytes text block_delete view old new (Err (answers.Certificate fault)) =
+DrawsGiven setup bytes text block_delete look old new (Err (answers.Certificate fault)) =
     IsNoCertificate text fault × Keeps old new
-DrawsGiven setup bytes text block_delete view old new (Err (answers.Check fault)) =
+DrawsGiven setup bytes text block_delete look old new (Err (answers.Check fault)) =
     ((commands : List Command) × (c : CertificateData) ×
     IsMeaning setup bytes block_delete (Ok commands) × (certificate_said text ≡ Ok c)
     × (refusal_answer (fault_at setup.machine (setting_of block_delete) commands c) ≡ Err fault)) ×
     Keeps old new
-DrawsGiven setup bytes text block_delete view old new (Err (answers.Read fault)) =
+DrawsGiven setup bytes text block_delete look old new (Err (answers.Read fault)) =
     FaultIs fault (program_of bytes) × Keeps old new
-DrawsGiven setup bytes text block_delete view old new outcome =
+DrawsGiven setup bytes text block_delete look old new outcome =
     (c : CertificateData) × (certificate_said text ≡ Ok c)
-    × Draws setup bytes block_delete view (entries_at (setting_of block_delete) c)
+    × Draws setup bytes block_delete look (entries_at (setting_of block_delete) c)
     (IsGivenRefusal setup.machine (setting_of block_delete) c) old new outcome

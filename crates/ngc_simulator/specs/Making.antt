@@ -54,6 +54,8 @@ pub record AreChoices (options : MachineOptions) (c : Choices) : Type 0 where
   pub jump : option_map (λ t. t.now) options.jump ≡ option_map (λ t. t.now) c.jump
   pub arcs : option_map (λ t. t.now) options.turn ≡ option_map (λ t. t.now) c.arcs
   pub ticks : option_map (λ t. t.now) options.ticks ≡ option_map (λ t. t.now) c.ticks
+  pub ring : option_map (λ t. t.now) options.ring ≡ option_map (λ t. t.now) c.ring
+  pub arc_feed : options.arc_feed ≡ c.arc_feed
   pub start : option_map (λ t. t.now) options.start ≡ option_map (λ t. t.now) c.start
   pub home28 : option_map (λ t. t.now) options.home28 ≡ option_map (λ t. t.now) c.home28
   pub home30 : option_map (λ t. t.now) options.home30 ≡ option_map (λ t. t.now) c.home30

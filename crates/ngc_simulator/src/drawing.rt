@@ -20,7 +20,7 @@ use ngc_certificate::{MakeFault, PieceFault, Setting, make_alike};
 use ngc_certificate_text::{Certificate, Motions};
 use ngc_checker::{CheckFault, setting_fault};
 use ngc_commands::Command;
-use ngc_drawing::{DrawFault, Refusal, View, write_svg};
+use ngc_drawing::{DrawFault, Look, Refusal, View, write_svg};
 use ngc_line_reader::Program;
 use ngc_machine::{Machine, Tools};
 use ngc_program_report::met_at;
@@ -145,14 +145,14 @@ pub fn draw_program<A: Allocator + Copy, W: Sink>(
     program: &Program<A>,
     machine: &Machine<A>,
     tools: &Tools<A>,
-    view: View,
+    look: Look,
     block_delete: bool,
     output: &mut W,
 ) -> Result<(), AnswerFault>
     // Whatever file the program was read from: the picture is that of what it means.
     ensures draws { (bytes : List ℕ) → program_of bytes ≡ Ok (text_in program.now) →
         HaveReadings (text_in program.now).lines →
-        DrawsProgram (setup_of machine.now tools.now) bytes block_delete view (W.written output.old)
+        DrawsProgram (setup_of machine.now tools.now) bytes block_delete look (W.written output.old)
         (W.written output.new) result }
     ensures sink { FailsByOutput result (W.failures output.old) (W.failures output.new) }
     ensures faults { IfErr result OfDrawing }
@@ -162,7 +162,7 @@ pub fn draw_program<A: Allocator + Copy, W: Sink>(
     let none = Motions::new(alloc);
     write_svg(
         alloc,
-        view,
+        &look,
         machine,
         commands.as_slice(),
         &none,
@@ -172,16 +172,16 @@ pub fn draw_program<A: Allocator + Copy, W: Sink>(
     Ok(())
 }
 
-/// Draws a program on a machine, at a setting of block delete, with the bodies of the tools over
-/// the certificate's boxes, and the motion of which it doesn't show that it keeps to the travel and
-/// clears the fixtures.
+/// Draws a program on a machine, at a setting of block delete, if `look` says so with the bodies of
+/// the tools over the certificate's boxes, and the motion of which it doesn't show that it keeps to
+/// the travel and clears the fixtures.
 pub fn draw_certified<A: Allocator + Copy, W: Sink>(
     alloc: A,
     program: &Program<A>,
     machine: &Machine<A>,
     tools: &Tools<A>,
     certificate: &Certificate<A>,
-    view: View,
+    look: Look,
     block_delete: bool,
     output: &mut W,
 ) -> Result<(), AnswerFault>
@@ -189,7 +189,7 @@ pub fn draw_certified<A: Allocator + Copy, W: Sink>(
     ensures draws { (bytes text : List ℕ) → program_of bytes ≡ Ok (text_in program.now) →
         HaveReadings (text_in program.now).lines →
         certificate_said text ≡ Ok (said_of certificate.now) →
-        DrawsGiven (setup_of machine.now tools.now) bytes text block_delete view
+        DrawsGiven (setup_of machine.now tools.now) bytes text block_delete look
         (W.written output.old) (W.written output.new) result }
     ensures sink { FailsByOutput result (W.failures output.old) (W.failures output.new) }
     ensures faults { IfErr result OfDrawing }
@@ -199,7 +199,7 @@ pub fn draw_certified<A: Allocator + Copy, W: Sink>(
     let motions = certificate.motions(setting_of(block_delete));
     write_svg(
         alloc,
-        view,
+        &look,
         machine,
         commands.as_slice(),
         motions,

@@ -12,7 +12,7 @@ use crate::files::Files;
 use crate::opening::{read_certificate, read_program};
 use crate::setup::read_shop;
 use ngc_command_line::DrawOptions;
-use ngc_drawing::View;
+use ngc_drawing::{Look, View};
 use ngc_text::Sink;
 use std::alloc::Global;
 
@@ -38,7 +38,11 @@ fn draw_plain<F: Files, W: Sink>(
         &program,
         &shop.machine,
         &shop.tools,
-        view,
+        Look {
+            view,
+            whole: options.whole,
+            bodies: options.bodies,
+        },
         options.delete,
         output,
     )?;
@@ -70,7 +74,11 @@ fn draw_with<F: Files, W: Sink>(
         &shop.machine,
         &shop.tools,
         &certificate,
-        view,
+        Look {
+            view,
+            whole: options.whole,
+            bodies: options.bodies,
+        },
         options.delete,
         output,
     )?;

@@ -85,6 +85,8 @@ fn choices_of<'a>(options: &MachineOptions<'a>) -> Choices<'a>
         jump: bytes_in(options.jump),
         arcs: bytes_in(options.turn),
         ticks: bytes_in(options.ticks),
+        ring: bytes_in(options.ring),
+        arc_feed: options.arc_feed,
         start: bytes_in(options.start),
         home28: bytes_in(options.home28),
         home30: bytes_in(options.home30),

@@ -49,7 +49,7 @@ returns-clause-spelled_run c = λ recording machine tools certificate events pro
 
 pub returns-clause-spelled_draw : goal.returns-clause-spelled_draw
 returns-clause-spelled_draw c =
-    λ machine tools certificate program view delete spelled. draw_read _ machine tools certificate program view delete _ spelled (returns-clause-options c)
+    λ machine tools certificate program view delete bodies whole spelled. draw_read _ machine tools certificate program view delete bodies whole _ spelled (returns-clause-options c)
 
 pub returns-clause-spelled_show : goal.returns-clause-spelled_show
 returns-clause-spelled_show c = λ machine tools warnings spelled. show_read _ machine tools warnings _ spelled (returns-clause-options c)
@@ -95,9 +95,9 @@ returns-in-Err-clause-spelled_run c = λ recording machine tools certificate eve
     c.in-Err.ensures.kinds)
 
 pub returns-in-Err-clause-spelled_draw : goal.returns-in-Err-clause-spelled_draw
-returns-in-Err-clause-spelled_draw c = λ machine tools certificate program view delete spelled.
+returns-in-Err-clause-spelled_draw c = λ machine tools certificate program view delete bodies whole spelled.
     c.usage_fault.ensures
-    (taken_is_memory _ _ c.in-Err.error c.in-Ok.ensures (draw_taken _ machine tools certificate program view delete spelled) c.in-Err.ensures.kinds)
+    (taken_is_memory _ _ c.in-Err.error c.in-Ok.ensures (draw_taken _ machine tools certificate program view delete bodies whole spelled) c.in-Err.ensures.kinds)
 
 pub returns-in-Err-clause-spelled_show : goal.returns-in-Err-clause-spelled_show
 returns-in-Err-clause-spelled_show c = λ machine tools warnings spelled.

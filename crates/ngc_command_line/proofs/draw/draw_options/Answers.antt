@@ -11,4 +11,6 @@ returns c = record {
   program = c.get_str-2.ensures ∙ first_value-rows (found_of c.args.found.now) (codes "program");
   view = c.get_str-3.ensures ∙ first_value-rows (found_of c.args.found.now) (codes "view");
   delete = c.flag_is_set.ensures;
+  bodies = c.flag_is_set-2.ensures;
+  whole = c.flag_is_set-3.ensures;
 }

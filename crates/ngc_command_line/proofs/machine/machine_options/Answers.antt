@@ -18,4 +18,6 @@ returns c = record {
   start = c.get_str-11.ensures ∙ first_value-rows (found_of c.args.found.now) (codes "start");
   home28 = c.get_str-12.ensures ∙ first_value-rows (found_of c.args.found.now) (codes "home28");
   home30 = c.get_str-13.ensures ∙ first_value-rows (found_of c.args.found.now) (codes "home30");
+  ring = c.get_str-14.ensures ∙ first_value-rows (found_of c.args.found.now) (codes "ring");
+  arc_feed = c.flag_is_set.ensures;
 }

@@ -14,7 +14,7 @@ use Rattle.ngc_simulator.proofs.drawing.draw_certified.Goals as goal
 pub returns-in_err-commands-clause-draws : goal.returns-in_err-commands-clause-draws
 returns-in_err-commands-clause-draws g c = λ bytes text is_text have said.
     turned _ (answers.Program c.in_err-commands.field-0.0)
-    (DrawsGiven (setup_of c.args.machine.now c.args.tools.now) bytes text c.args.block_delete c.args.view (g.W.Sink.written c.args.output.now)
+    (DrawsGiven (setup_of c.args.machine.now c.args.tools.now) bytes text c.args.block_delete c.args.look (g.W.Sink.written c.args.output.now)
     (g.W.Sink.written c.args.output.now)) c.from_residual.ensures.1 (
       said_of c.args.certificate.now,
       said,
@@ -28,9 +28,9 @@ returns-in_err-commands-clause-draws g c = λ bytes text is_text have said.
 pub returns-in_err-refusal-clause-draws : goal.returns-in_err-refusal-clause-draws
 returns-in_err-refusal-clause-draws g c = λ bytes text is_text have said.
     turned _ (answers.Check c.in_err-refusal.field-0.0)
-    (DrawsGiven (setup_of c.args.machine.now c.args.tools.now) bytes text c.args.block_delete c.args.view (g.W.Sink.written c.args.output.now)
+    (DrawsGiven (setup_of c.args.machine.now c.args.tools.now) bytes text c.args.block_delete c.args.look (g.W.Sink.written c.args.output.now)
     (g.W.Sink.written c.args.output.now)) c.from_residual-in_err-refusal.ensures.1
-    (given_fault (setup_of c.args.machine.now c.args.tools.now) bytes text c.args.block_delete c.args.view _
+    (given_fault (setup_of c.args.machine.now c.args.tools.now) bytes text c.args.block_delete c.args.look _
     (text_in c.args.program.now) c.in_ok-commands.commands.items c.as_slice.result.now (said_of c.args.certificate.now) c.in_err-refusal.field-0.0
     c.as_slice.ensures.value is_text have c.in_ok-commands.ensures.commands said c.in_err-refusal.ensures)
 
@@ -38,10 +38,10 @@ pub returns-in_err-write_svg-clause-draws : goal.returns-in_err-write_svg-clause
 returns-in_err-write_svg-clause-draws g c = λ bytes text is_text have said.
     let setup = setup_of c.args.machine.now c.args.tools.now in
     turned _ (of_picture c.in_err-write_svg.field-0.0)
-    (DrawsGiven (setup_of c.args.machine.now c.args.tools.now) bytes text c.args.block_delete c.args.view (g.W.Sink.written c.args.output.now)
+    (DrawsGiven (setup_of c.args.machine.now c.args.tools.now) bytes text c.args.block_delete c.args.look (g.W.Sink.written c.args.output.now)
     (g.W.Sink.written c.write_svg.new.sink)) c.from_residual-in_err-write_svg.ensures.1
-    (given_stopped setup bytes text c.args.block_delete c.args.view _ _ (said_of c.args.certificate.now) c.in_err-write_svg.field-0.0 said
-    (drawing_stopped setup bytes c.args.block_delete c.args.view (entries_at (setting_of c.args.block_delete) (said_of c.args.certificate.now))
+    (given_stopped setup bytes text c.args.block_delete c.args.look _ _ (said_of c.args.certificate.now) c.in_err-write_svg.field-0.0 said
+    (drawing_stopped setup bytes c.args.block_delete c.args.look (entries_at (setting_of c.args.block_delete) (said_of c.args.certificate.now))
     (IsGivenRefusal setup.machine (setting_of c.args.block_delete) (said_of c.args.certificate.now)) _ _
     (text_in c.args.program.now) c.in_ok-commands.commands.items c.as_slice.result.now c.as_slice-2.result.now c.motions-motions.result.now _
     c.in_err-write_svg.field-0.0
@@ -56,7 +56,7 @@ returns-clause-draws g c = λ bytes text is_text have said.
     let setup = setup_of c.args.machine.now c.args.tools.now in (
       said_of c.args.certificate.now,
       said,
-      drawn setup bytes c.args.block_delete c.args.view (entries_at (setting_of c.args.block_delete) (said_of c.args.certificate.now))
+      drawn setup bytes c.args.block_delete c.args.look (entries_at (setting_of c.args.block_delete) (said_of c.args.certificate.now))
           (IsGivenRefusal setup.machine (setting_of c.args.block_delete) (said_of c.args.certificate.now)) _ _
           (text_in c.args.program.now) c.in_ok-commands.commands.items c.as_slice.result.now c.as_slice-2.result.now c.motions-motions.result.now _
           c.as_slice.ensures.value c.as_slice-2.ensures.value

@@ -12,7 +12,7 @@ use Rattle.ngc_simulator.proofs.drawing.draw_program.Goals as goal
 pub returns-in_err-commands-clause-draws : goal.returns-in_err-commands-clause-draws
 returns-in_err-commands-clause-draws g c = λ bytes is_text have.
     turned _ (answers.Program c.in_err-commands.field-0.0)
-    (DrawsProgram (setup_of c.args.machine.now c.args.tools.now) bytes c.args.block_delete c.args.view (g.W.Sink.written c.args.output.now)
+    (DrawsProgram (setup_of c.args.machine.now c.args.tools.now) bytes c.args.block_delete c.args.look (g.W.Sink.written c.args.output.now)
     (g.W.Sink.written c.args.output.now)) c.from_residual.ensures.1 (
       refused_program (setup_of c.args.machine.now c.args.tools.now) bytes c.args.block_delete
           (text_in c.args.program.now) c.in_err-commands.field-0.0 is_text have c.in_err-commands.ensures.commands,
@@ -22,17 +22,17 @@ returns-in_err-commands-clause-draws g c = λ bytes is_text have.
 pub returns-in_err-refusal-clause-draws : goal.returns-in_err-refusal-clause-draws
 returns-in_err-refusal-clause-draws g c = λ bytes is_text have.
     turned _ (of_picture c.in_err-refusal.field-0.0)
-    (DrawsProgram (setup_of c.args.machine.now c.args.tools.now) bytes c.args.block_delete c.args.view (g.W.Sink.written c.args.output.now)
+    (DrawsProgram (setup_of c.args.machine.now c.args.tools.now) bytes c.args.block_delete c.args.look (g.W.Sink.written c.args.output.now)
     (g.W.Sink.written c.args.output.now)) c.from_residual-in_err-refusal.ensures.1
-    (no_memory (setup_of c.args.machine.now c.args.tools.now) bytes c.args.block_delete c.args.view [] _ _ c.in_err-refusal.field-0.0 c.in_err-refusal.ensures)
+    (no_memory (setup_of c.args.machine.now c.args.tools.now) bytes c.args.block_delete c.args.look [] _ _ c.in_err-refusal.field-0.0 c.in_err-refusal.ensures)
 
 pub returns-in_err-write_svg-clause-draws : goal.returns-in_err-write_svg-clause-draws
 returns-in_err-write_svg-clause-draws g c = λ bytes is_text have.
     let setup = setup_of c.args.machine.now c.args.tools.now in
     turned _ (of_picture c.in_err-write_svg.field-0.0)
-    (DrawsProgram (setup_of c.args.machine.now c.args.tools.now) bytes c.args.block_delete c.args.view (g.W.Sink.written c.args.output.now)
+    (DrawsProgram (setup_of c.args.machine.now c.args.tools.now) bytes c.args.block_delete c.args.look (g.W.Sink.written c.args.output.now)
     (g.W.Sink.written c.write_svg.new.sink)) c.from_residual-in_err-write_svg.ensures.1
-    (drawing_stopped setup bytes c.args.block_delete c.args.view [] (IsMadeRefusal setup.machine) _ _
+    (drawing_stopped setup bytes c.args.block_delete c.args.look [] (IsMadeRefusal setup.machine) _ _
     (text_in c.args.program.now) c.in_ok-commands.commands.items c.as_slice.result.now c.as_slice-2.result.now c.new-none.result _
     c.in_err-write_svg.field-0.0
     c.as_slice.ensures.value c.as_slice-2.ensures.value c.new-none.ensures is_text have c.in_ok-commands.ensures.commands c.in_ok-refusal.ensures
@@ -41,7 +41,7 @@ returns-in_err-write_svg-clause-draws g c = λ bytes is_text have.
 pub returns-clause-draws : goal.returns-clause-draws
 returns-clause-draws g c = λ bytes is_text have.
     let setup = setup_of c.args.machine.now c.args.tools.now in
-    drawn setup bytes c.args.block_delete c.args.view [] (IsMadeRefusal setup.machine) _ _
+    drawn setup bytes c.args.block_delete c.args.look [] (IsMadeRefusal setup.machine) _ _
     (text_in c.args.program.now) c.in_ok-commands.commands.items c.as_slice.result.now c.as_slice-2.result.now c.new-none.result _
     c.as_slice.ensures.value c.as_slice-2.ensures.value c.new-none.ensures is_text have c.in_ok-commands.ensures.commands c.in_ok-refusal.ensures
     c.in_ok-write_svg.ensures.ok
