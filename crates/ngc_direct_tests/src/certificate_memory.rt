@@ -8,7 +8,7 @@ use ngc_certificate::{join, make, uncleared};
 use ngc_certificate_text::{Certificate, CertificateFault, Setting};
 use ngc_checker::{CheckReader, check};
 use ngc_commands::{Action, Command, Motion, Pace, Way};
-use ngc_drawing::{View, write_svg};
+use ngc_drawing::{Look, View, write_svg};
 use ngc_fixed_length::{Nm, Point3};
 use ngc_line_reader::Program;
 use ngc_machine::{Fixture, Machine, Tools, built_in_machine};
@@ -181,15 +181,12 @@ fn number_of_drawing(rt: &impl Abort, alloc: Global, heap: &LocalHeap) -> Result
     let certificate = make(alloc, commands, commands, &machine, 8)?;
     let motions = certificate.motions(Setting::Off);
     let mut sink = Device::new(Vec::new(alloc));
-    let result = write_svg(
-        heap,
-        View::Top,
-        &machine,
-        commands,
-        motions,
-        &None,
-        &mut sink,
-    );
+    let look = Look {
+        view: View::Top,
+        whole: true,
+        bodies: true,
+    };
+    let result = write_svg(heap, &look, &machine, commands, motions, &None, &mut sink);
     if let Err(fault) = result {
         same(rt, &"written", &sink.into_inner().len(), &0);
         return Ok(fault.number());
