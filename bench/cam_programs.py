@@ -119,7 +119,60 @@ def fine_circle():
     return head(6000) + ["G0 X1 Y0", "G1 Z-1"] + [f"X{math.cos(a):.6f} Y{math.sin(a):.6f}" for a in angles]
 
 
+def contour():
+    """Two rounds of a wavy contour of some 20 mm radius in lines of 0.02 mm, as a scanned outline has them."""
+    def place(angle):
+        radius = 20 + 2 * math.cos(3 * angle) + 0.5 * math.sin(11 * angle)
+        return radius * math.cos(angle), radius * math.sin(angle)
+
+    lines = head(6000) + ["G0 X{:.4f} Y{:.4f}".format(*place(0)), "G1 Z-1 F300", "F6000"]
+    angle, last = 0.0, place(0)
+    while angle < 4 * math.pi:
+        angle += 0.0001
+        if math.dist(last, here := place(angle)) >= 0.02:
+            lines.append("G1 X{:.4f} Y{:.4f}".format(*here))
+            last = here
+    return lines
+
+
+def zigzag():
+    """Three hundred lines of 2 mm to and fro, each turning back by 160 degrees."""
+    lines = head(4800) + ["G0 X0 Y0", "G1 Z-1 F300", "F4800"]
+    for k in range(1, 301):
+        lines.append(f"G1 X{k * 0.35:.4f} Y{2.0 * (k % 2):.4f}")
+    return lines
+
+
+def star():
+    """A star of sixty rays of 1 to 4 mm length, in and out in lines of 0.1 mm, twenty times, each a little larger."""
+    lines = head(6000) + ["G0 X8 Y0", "G1 Z-1 F300", "F6000"]
+    for size in range(20):
+        for ray in range(60):
+            begin = 2 * math.pi * ray / 60
+            tip, foot = 9 + size * 0.1 + 3 * (ray % 4) / 4, 8 + size * 0.1
+            count = round((tip - foot) / 0.1)
+            for k in range(2 * count):
+                radius = foot + (tip - foot) * (1 - abs(k / count - 1))
+                angle = begin + 2 * math.pi / 60 * k / (2 * count)
+                lines.append(f"G1 X{radius * math.cos(angle):.4f} Y{radius * math.sin(angle):.4f}")
+    return lines
+
+
+def trochoid():
+    """A slot of 60 mm by trochoids: circles of 3 mm radius in chords of 0.2 mm, each 0.6 mm farther on."""
+    chords = round(2 * math.pi * 3 / 0.2)
+    lines = head(2400) + ["G0 X0 Y3", "G1 Z-2 F300", "F2400"]
+    for k in range(1, 100 * chords + 1):
+        angle = math.pi / 2 - 2 * math.pi * k / chords
+        lines.append(f"G1 X{3 * math.cos(angle) + 0.6 * k / chords:.4f} Y{3 * math.sin(angle):.4f}")
+    return lines
+
+
 PROGRAMS = {
+    "contour of 0.02 mm lines, F6000": contour,
+    "zigzag of 2 mm lines, F4800": zigzag,
+    "star of 0.1 mm lines, F6000": star,
+    "trochoids of 0.2 mm, F2400": trochoid,
     "3D raster of 0.1 mm, F3000": raster,
     "adaptive clearing, F2400": adaptive,
     "V-carved lettering, F1500": lettering,
