@@ -24,3 +24,5 @@ pub mod UnreadLaws
 pub mod ReportLaws
 -- What telling of a program that can't be read comes to, on the files that the command line names.
 pub mod UnreadableLaws
+-- What telling all faults of a program comes to.
+pub mod FaultsLaws

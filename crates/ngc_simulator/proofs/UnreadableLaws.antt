@@ -10,6 +10,7 @@ use Rattle.ngc_line_reader.specs.ProgramText.{program_of}
 use Rattle.ngc_line_reader.specs.ProgramView.{FaultIs}
 use Rattle.ngc_line_reader.specs.declared.program.fault.ReadFault.{ReadFault}
 use Rattle.ngc_report.specs.declared.form.Form.{Form}
+use Rattle.ngc_simulator.specs.AllFaults.{TellsFaults}
 use Rattle.ngc_simulator.specs.Answers.{ReportComes, ReportsOn, UnreadableOn, form_asked, request_of}
 use Rattle.ngc_simulator.specs.Faults.{OfCertifying, OfTelling}
 use Rattle.ngc_simulator.specs.Reporting.{Reports}
@@ -90,12 +91,12 @@ module _ (bytes after : FileBytes) (options : ReportOptions) (shop : Shop) (sour
   pub reported_comes : (new : Option (List ℕ)) (fault : AnswerFault) → OfCertifying fault → IfSome source (Reported new (Err fault)) →
       ReportComes bytes options old new (Err fault)
   reported_comes new (answers.Read e) of reports =
-      inr (inr (
+      inr (inr (inl (
         tt,
         unreadable_on new (answers.Read e)
             (if_known _ (Reported new (Err (answers.Read e))) (Tells new (answers.Read e)) (λ text r. (r.0, inl r.1))
             (known (Reported new (Err (answers.Read e))) reports)),
-      ))
+      )))
   reported_comes new fault of reports = inr (inl (of, reports_on new (Err fault) (known (Reported new (Err fault)) reports)))
 
   -- of two facts of the same file
@@ -107,7 +108,7 @@ module _ (bytes after : FileBytes) (options : ReportOptions) (shop : Shop) (sour
   pub told_comes : (later : FileBytes) (name : List ℕ) (mid new : Option (List ℕ)) (fault : ReadFault) (answer : AnswerFault) → OfTelling answer
       → option_map (λ n. n.now) options.program ≡ Some name → KeepsFiles after later → IfSome source (Reported mid (Err (answers.Read fault)))
       → TellsKnown (form_asked options.json) (Some name) (later (Some name)) mid new fault answer → ReportComes bytes options old new (Err answer)
-  told_comes later name mid new fault answer of named keeps_later reports tells = inr (inr (
+  told_comes later name mid new fault answer of named keeps_later reports tells = inr (inr (inl (
     of,
     unreadable_on new answer
         (both_known _ (Reported mid (Err (answers.Read fault))) (λ text. FaultIs fault (program_of text) →
@@ -119,4 +120,16 @@ module _ (bytes after : FileBytes) (options : ReportOptions) (shop : Shop) (sour
         (subst (λ (n : Option (List ℕ)). TellsKnown (form_asked options.json) (Some name) (bytes n) mid new fault answer) (sym named)
         (of_file (bytes (Some name)) (later (Some name)) (λ text. FaultIs fault (program_of text) →
         TellsUnreadable (form_asked options.json) (Some name) text mid new answer) (keeps_later (Some name) ∙ keeps (Some name)) tells))),
-  ))
+  )))
+
+  abbrev ToldAll : Option (List ℕ) → AnswerFault → List ℕ → Type 0
+  ToldAll new fault text = TellsFaults (setup_of shop.machine shop.tools) (form_asked options.json) text old new fault
+
+  -- where all faults are told
+  pub faults_comes : (new : Option (List ℕ)) (fault : AnswerFault) → options.all ≡ true → IfSome source (ToldAll new fault) → ReportComes bytes options old new (Err fault)
+  faults_comes new fault all tells = inr (inr (inr (
+    all,
+    on_setup bytes (Some options.machine.now) (Some options.tools.now) (setup_of shop.machine shop.tools)
+        (λ setup. Known (λ text. TellsFaults setup (form_asked options.json) text old new fault)) said.0 said.1
+        (known (ToldAll new fault) tells),
+  )))

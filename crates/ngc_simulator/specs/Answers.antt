@@ -49,6 +49,7 @@ use Rattle.ngc_simulator.specs.Shops.{RefusesShop}
 use Rattle.ngc_simulator.specs.Mistaken.{TellsRefusal}
 use Rattle.ngc_program_report.specs.Times.{time_line}
 use Rattle.ngc_simulator.specs.Unreadable.{TellsUnreadable}
+use Rattle.ngc_simulator.specs.AllFaults.{TellsFaults}
 use Rattle.ngc_simulator.specs.Unread.{Input, OfProgram, OfCertificate, OfEvents, OfSource, shop_inputs}
 use Rattle.ngc_adapt_program.specs.declared.request.Request.{Request}
 use Rattle.ngc_adapt_program.specs.Requests.{control_named, dropped_codes}
@@ -218,12 +219,21 @@ UnreadableOn bytes options old new fault =
     TellsUnreadable (form_asked options.json)
     (option_map (λ name. name.now) options.program) text old new fault))
 
--- of a program that is read the report is told, and else its fault
+-- what telling all faults of a program comes to, where all are asked for
+abbrev pub FaultsOn : FileBytes → ReportOptions → Option (List ℕ) → Option (List ℕ) →
+    AnswerFault → Type 0
+FaultsOn bytes options old new fault = (options.all ≡ true) ×
+    OnSetup bytes (Some options.machine.now) (Some options.tools.now) (λ setup.
+    IfSome (bytes (option_map (λ name. name.now) options.program)) (λ text.
+    TellsFaults setup (form_asked options.json) text old new fault))
+
+-- of a program that is read the report is told, and else its fault, or all of them
 abbrev pub ReportFails : FileBytes → ReportOptions → Option (List ℕ) → Option (List ℕ) →
     AnswerFault → Type 0
 ReportFails bytes options old new fault =
     (OfReporting fault × ReportsOn bytes options old new (Err fault)) ⊎
-    (OfTelling fault × UnreadableOn bytes options old new fault)
+    ((OfTelling fault × UnreadableOn bytes options old new fault)
+    ⊎ FaultsOn bytes options old new fault)
 
 abbrev pub ReportComes : FileBytes → ReportOptions → Option (List ℕ) → Option (List ℕ) →
     Result Done AnswerFault → Type 0

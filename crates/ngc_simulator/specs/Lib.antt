@@ -9,6 +9,7 @@ pub mod Drawing
 pub mod Showing
 pub mod Reporting
 pub mod Unreadable
+pub mod AllFaults
 pub mod Setups
 pub mod Shops
 pub mod Making

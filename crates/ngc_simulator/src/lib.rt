@@ -10,6 +10,7 @@ mod drawing;
 mod drawing_files;
 mod fault;
 mod fault_line;
+mod faults_files;
 mod files;
 mod guide;
 mod judging;

@@ -6,6 +6,7 @@ ghost use Rattle.ngc_simulator.specs.Unread.{FailsByInput, SourceFails};
 
 use crate::done::Done;
 use crate::fault::AnswerFault;
+use crate::faults_files::tell_faults;
 use crate::files::Files;
 use crate::mistaken_files::read_shop_telling;
 use crate::opening::open_file;
@@ -35,7 +36,8 @@ fn request_of(options: &ReportOptions<'_>) -> ReportRequest
 
 /// The report of a program. Its faults are those of a certificate that isn't made. Of a machine
 /// file or a tool table that is refused the mistake is written, and of a named program that can't
-/// be read the line at fault.
+/// be read the line at fault. Where all is asked for, all faults of a named program that can't be
+/// read or is refused are written.
 pub(crate) fn report_files<F: Files, W: Sink>(
     alloc: Global,
     options: &ReportOptions<'_>,
@@ -51,6 +53,7 @@ pub(crate) fn report_files<F: Files, W: Sink>(
     let request = request_of(options);
     let (machine, tools) = (options.machine, Some(options.tools));
     let shop = read_shop_telling(alloc, request.form, machine, tools, files, output)?;
+    tell_faults(alloc, options, request.form, &shop, files, output)?;
     let mut source = open_file(options.program, files)?;
     let fault = match report_program(
         alloc,
