@@ -1,6 +1,6 @@
--- What rounding to the grid gives.
+-- Properties of rounding to the grid.
 pub mod GridLemmas
--- Rounding loses at most a half.
+-- The rounding error is at most a half.
 pub mod Nearest
--- The digits' root is the greatest number whose square isn't above x, and the only one.
+-- The root by digits is the greatest number whose square is at most x, and the only one.
 pub mod RootLaws

@@ -1,11 +1,11 @@
--- The digits' root is the greatest number whose square isn't above x, and the only one.
+-- The root by digits is the greatest number whose square is at most x, and the only one.
 use Rattle.std.proofs.Common.{◌≡◌, ℕ, zero, suc, ◌+◌, ◌*◌, ◌/◌, ◌^◌, ◌≤◌, ◌<◌, Bool, true, false, cond, arith, nat_le, ◌==◌, refl, inl, inr}
 use Rattle.std.proofs.lemmas.Bool.Decides.{nat_tests}
 use Rattle.std.proofs.lemmas.Bool.{cases_lt}
 use Rattle.std.proofs.lemmas.Nat.{mul-le}
 use Rattle.ngc_fixed_length.specs.Roots.{IsRootFloor, IsRootCeil, next_root, root_of_digits, whole_root, whole_root_above}
 
--- the same by how the test went
+-- the same, for each result of the test
 chosen : (b : Bool) (x q r : ℕ) → b ≡ nat_le ((2 * r + 1) * (2 * r + 1)) x → 4 * q ≤ x → x < 4 * q + 4 → r * r ≤ q → q < (r + 1) * (r + 1) →
     IsRootFloor x (cond b (2 * r + 1) (2 * r))
 chosen true x q r went low high below above =
@@ -30,7 +30,7 @@ pub whole_root-greatest : (x : ℕ) → x < 4 ^ 64 → IsRootFloor x (whole_root
 unfolding whole_root
 whole_root-greatest x small = root_of_digits-greatest 64 x small
 
--- no two numbers are greatest
+-- there is only one greatest number
 pub at_most : (x r s : ℕ) → r * r ≤ x → x < (s + 1) * (s + 1) → r ≤ s
 at_most x r s low high =
     elim (cases_lt s r) [
@@ -52,7 +52,7 @@ above_root x r s no_square big =
       | inr less ↦ (let p : s * s ≤ r * r = mul-le s s r r less less in absurd (omega arith))
     ]
 
--- the same for the least number whose square isn't below x, by whether x is a square
+-- the same for the least number whose square is at least x, for x a square or not
 least : (b : Bool) (x r : ℕ) → b ≡ (r * r == x) → r * r ≤ x → x < (r + 1) * (r + 1) → IsRootCeil x (cond b r (r + 1))
 least true x r went below above =
     let square : r * r ≡ x = grind (arith, nat_tests) in

@@ -3,7 +3,7 @@ use Rattle.std.specs.Prelude.{ℤ, pos, ◌≤ℤ◌}
 use Rattle.ngc_fixed_length.specs.declared.units.Units.{Units}
 use Rattle.ngc_fixed_length.specs.declared.units.Units.TheVariants.{Millimetres, Inches}
 
--- how long a unit is, in nanometres
+-- the length of a unit, in nanometres
 abbrev pub nanometres_in : Units → ℤ
 nanometres_in Millimetres = pos 1000000
 nanometres_in Inches = pos 25400000

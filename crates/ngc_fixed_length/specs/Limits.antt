@@ -1,4 +1,4 @@
--- How large numbers may be, and what arithmetic on values gives. Our own rule: the manual leaves
+-- The limits of numbers, and the results of arithmetic on values. Our own rule: the manual leaves
 -- precision open.
 use Rattle.std.specs.Prelude.{ℕ, ℤ, pos, ◌+ℤ◌, ◌-ℤ◌, ◌*ℤ◌, ◌==◌, unsigned_abs, ◌≤◌, Result, Err}
 use Rattle.std.specs.Prelude.{if◌then◌else◌}
@@ -20,14 +20,14 @@ VALUE_LIMIT = 1000000000000000
 abbrev pub IsValue : ℤ → Type 0
 IsValue z = unsigned_abs z ≤ VALUE_LIMIT
 
--- 10^11 nanometres, a hundred metres
+-- 10^11 nanometres, which is a hundred metres
 abbrev pub LENGTH_LIMIT : ℕ
 LENGTH_LIMIT = 100000000000
 
 abbrev pub IsLength : ℤ → Type 0
 IsLength z = unsigned_abs z ≤ LENGTH_LIMIT
 
--- a result that is a value, or too large
+-- the number, if it is a value; otherwise too large
 abbrev pub limited : ℤ → Result ℤ NumberFault
 limited z = within VALUE_LIMIT z
 
@@ -45,10 +45,10 @@ abbrev pub quotient : ℤ → ℤ → Result ℤ NumberFault
 quotient x y =
     if unsigned_abs y == 0 then Err DivisionByZero else limited (nearest (x *ℤ pos MILLION) y)
 
--- so many millionths of a unit, to the nearest nanometre
+-- a number of millionths of a unit, to the nearest nanometre
 abbrev pub nanometres_of : Units → ℤ → ℤ
 nanometres_of units value = nearest (value *ℤ nanometres_in units) (pos MILLION)
 
--- a length, or too large
+-- the same as a length, or too large
 abbrev pub length_of : Units → ℤ → Result ℤ NumberFault
 length_of units value = within LENGTH_LIMIT (nanometres_of units value)

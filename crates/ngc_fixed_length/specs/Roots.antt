@@ -11,7 +11,7 @@ pub record IsRootCeil (x r : ℕ) : Type 0 where
   pub square : x ≤ r * r
   pub least : (s : ℕ) → x ≤ s * s → r ≤ s
 
--- the root of x/4 doubled, or one more where that isn't too much
+-- twice the root of x/4, plus 1 if the square of that is at most x
 abbrev pub next_root : ℕ → ℕ → ℕ
 next_root x r = if nat_le ((2 * r + 1) * (2 * r + 1)) x then 2 * r + 1 else 2 * r
 

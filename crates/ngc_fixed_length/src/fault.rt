@@ -2,13 +2,13 @@ ghost use Rattle.std.specs.Prelude.{◌≡◌};
 
 use thiserror::Error;
 
-/// Why arithmetic on values gave no value.
+/// The reasons why arithmetic on values returns no value.
 #[derive(Clone, Copy, Debug, PartialEq, Eq, Error)]
 pub enum NumberFault {
-    /// 101: over 10^9 units, or as a length over 10^11 nm.
+    /// Fault 101: a number over 10^9 units, or a length over 10^11 nm.
     #[error("the number is too large")]
     TooLarge,
-    /// 102.
+    /// Fault 102.
     #[error("division by zero")]
     DivisionByZero,
 }
@@ -16,7 +16,7 @@ pub enum NumberFault {
 impl NumberFault {
     ghost use Rattle.ngc_fixed_length.specs.NumberFault.{number_of};
 
-    /// The fault's number.
+    /// Returns the fault's number.
     pub fn number(&self) -> u16
         ensures { result ≡ number_of self.now }
     {

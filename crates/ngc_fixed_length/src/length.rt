@@ -33,7 +33,7 @@ impl Default for Nm {
 }
 
 impl Nm {
-    /// A number of nanometres as a length, or `TooLarge` above 10^11 in size.
+    /// Returns a number of nanometres as a length, or `TooLarge` above 10^11 in size.
     pub fn from_nanometres(nanometres: i128) -> Result<Nm, NumberFault>
         ensures { result ≡ within LENGTH_LIMIT nanometres }
     {
@@ -46,14 +46,14 @@ impl Nm {
         }
     }
 
-    /// The length 0.
+    /// Returns the length 0.
     pub fn zero() -> Nm
         ensures { result ≡ pos 0 }
     {
         Nm { nanometres: 0 }
     }
 
-    /// The number of nanometres.
+    /// Returns the number of nanometres.
     pub fn nanometres(self) -> i64
         ensures value { result ≡ self }
         ensures bound { IsLength result }
@@ -61,7 +61,7 @@ impl Nm {
         self.nanometres
     }
 
-    /// The sum, where it is at most 10^11 nm in size, as lengths are.
+    /// Returns the sum, which must be at most 10^11 nm in size, as each length is.
     pub fn plus(self, other: Nm) -> Nm
         requires { IsLength (self +ℤ other) }
         ensures { result ≡ self +ℤ other }
@@ -71,7 +71,7 @@ impl Nm {
         }
     }
 
-    /// What this length has beyond the other, where that is at most 10^11 nm in size.
+    /// Returns this length less `other`; the difference must be at most 10^11 nm in size.
     pub fn minus(self, other: Nm) -> Nm
         requires { IsLength (self -ℤ other) }
         ensures { result ≡ self -ℤ other }
@@ -81,7 +81,8 @@ impl Nm {
         }
     }
 
-    /// The nearest grid point of a step of 500 to 50,000 nm, in steps; ties go away from zero.
+    /// Returns the nearest grid point, in steps. A step is from 500 to 50,000 nm; ties go away from
+    /// zero.
     pub fn to_grid(self, step: Nm) -> i32
         requires { IsStep step }
         ensures value { result ≡ nearest self step }

@@ -1,4 +1,4 @@
-//! Values, lengths and grid points of a numerical controller, in whole numbers alone.
+//! Values, lengths and grid points of a numerical controller, computed with whole numbers only.
 #![tactic(auto)]
 
 mod fault;

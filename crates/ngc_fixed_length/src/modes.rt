@@ -1,5 +1,5 @@
-/// A plane by its axes u and v, so that u turns towards v counterclockwise as seen from the
-/// positive end of the third axis: G17, G18, G19.
+/// A plane: G17, G18 or G19. Its axes are u and v; u turns towards v counterclockwise as seen from
+/// the positive end of the third axis.
 #[derive(Clone, Copy, PartialEq, Eq)]
 pub enum Plane {
     XY,
@@ -7,29 +7,30 @@ pub enum Plane {
     YZ,
 }
 
-/// How a line's coordinates are meant: as they stand (G90), or from the current point (G91).
+/// The distance mode: a line's coordinates are absolute (G90), or relative to the current point
+/// (G91).
 #[derive(Clone, Copy)]
 pub enum Distance {
     Absolute,
     Incremental,
 }
 
-/// What an F word gives: lengths a minute (G94), or how often a minute the motion could be made
-/// (G93).
+/// The feed mode: an F word is a length per minute (G94), or the number of times per minute that
+/// the motion could be made (G93).
 #[derive(Clone, Copy)]
 pub enum FeedMode {
     PerMinute,
     InverseTime,
 }
 
-/// How high a canned cycle clears: to the height before its series (G98), or to R (G99).
+/// The height to which a canned cycle clears: the height before its series (G98), or R (G99).
 #[derive(Clone, Copy)]
 pub enum ReturnMode {
     Series,
     Retract,
 }
 
-/// A sense of turning, of an arc and of the spindle.
+/// The direction in which an arc or the spindle turns.
 #[derive(Clone, Copy, PartialEq, Eq)]
 pub enum Turn {
     Clockwise,

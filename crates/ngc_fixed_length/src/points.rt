@@ -4,7 +4,7 @@ ghost use Rattle.std.specs.Int.{int_min, int_max};
 use crate::length::Nm;
 use crate::modes::Plane;
 
-/// A point of a plane, by the plane's axes u and v.
+/// A point of a plane, as coordinates on the plane's axes u and v.
 #[derive(Clone, Copy, Default, PartialEq, Eq)]
 pub struct Point2 {
     pub u: Nm,
@@ -27,8 +27,8 @@ pub struct StepPos {
     pub z: i32,
 }
 
-/// The grid points from the lowest corner to the highest, both included. With a low corner above
-/// the high one on some axis it holds no point.
+/// The grid points from the lowest corner to the highest, both included. The box is empty if its
+/// low corner is above its high corner on some axis.
 #[derive(Clone, Copy, PartialEq, Eq)]
 pub struct GridBox {
     pub low: StepPos,
@@ -40,7 +40,7 @@ impl Point3 {
     ghost use Rattle.ngc_fixed_length.specs.Grid.{grid, IsInRange};
     ghost use Rattle.ngc_fixed_length.specs.Places.{in_plane, height};
 
-    /// The point as a plane sees it, without its height.
+    /// Returns the point's coordinates in a plane, without its height.
     pub fn in_plane(&self, plane: Plane) -> Point2
         ensures { result ≡ in_plane plane self.now }
     {
@@ -52,7 +52,7 @@ impl Point3 {
         Point2 { u, v }
     }
 
-    /// The coordinate on the axis that stands on a plane: Z, Y or X.
+    /// Returns the coordinate on the axis perpendicular to a plane: Z, Y or X.
     pub fn height(&self, plane: Plane) -> Nm
         ensures { result ≡ height plane self.now }
     {
@@ -63,7 +63,7 @@ impl Point3 {
         }
     }
 
-    /// The nearest grid point.
+    /// Returns the nearest grid point.
     pub fn to_grid(&self, step: Nm) -> StepPos
         requires { IsStep step }
         ensures value { result ≡ grid step self.now }
@@ -80,7 +80,7 @@ impl Point3 {
 impl Point2 {
     ghost use Rattle.ngc_fixed_length.specs.Places.{at_height};
 
-    /// The point of the machine that lies so high above this point of a plane.
+    /// Returns the point of the machine at `height` above this point of a plane.
     pub fn at_height(&self, plane: Plane, height: Nm) -> Point3
         ensures { result ≡ at_height plane self.now height }
     {
@@ -97,7 +97,7 @@ impl Point2 {
 impl StepPos {
     ghost use Rattle.ngc_fixed_length.specs.Grid.{greatest_distance};
 
-    /// The greatest of the distances on the three axes.
+    /// Returns the greatest of the distances along the three axes.
     pub fn greatest_distance(&self, other: &StepPos) -> u32
         ensures { result ≡ greatest_distance self.now other.now }
     {
@@ -123,14 +123,14 @@ fn greater(a: i32, b: i32) -> i32
 impl StepPos {
     ghost use Rattle.ngc_fixed_length.specs.Boxes.{is_below, lesser_corner, greater_corner};
 
-    /// On each axis this point is at most the other.
+    /// Returns whether this point is at most the other on each axis.
     pub fn is_below(&self, other: &StepPos) -> bool
         ensures { result ≡ is_below self.now other.now }
     {
         self.x <= other.x && self.y <= other.y && self.z <= other.z
     }
 
-    /// On each axis the lesser of the two.
+    /// Returns the lesser of the two coordinates on each axis.
     pub fn lesser(&self, other: &StepPos) -> StepPos
         ensures { result ≡ lesser_corner self.now other.now }
     {
@@ -141,7 +141,7 @@ impl StepPos {
         }
     }
 
-    /// On each axis the greater of the two.
+    /// Returns the greater of the two coordinates on each axis.
     pub fn greater(&self, other: &StepPos) -> StepPos
         ensures { result ≡ greater_corner self.now other.now }
     {
@@ -156,7 +156,7 @@ impl StepPos {
 impl GridBox {
     ghost use Rattle.ngc_fixed_length.specs.Boxes.{box_of, holds_box, only};
 
-    /// The box of one point.
+    /// Returns the box of one point.
     pub fn only(point: StepPos) -> GridBox
         ensures { result ≡ only point }
     {
@@ -166,7 +166,7 @@ impl GridBox {
         }
     }
 
-    /// The least box that has both points.
+    /// Returns the smallest box that contains both points.
     pub fn between(point: &StepPos, other: &StepPos) -> GridBox
         ensures { result ≡ box_of point.now other.now }
     {
@@ -176,7 +176,7 @@ impl GridBox {
         }
     }
 
-    /// This box holds all of the other.
+    /// Returns whether this box contains all of `inner`.
     pub fn holds(&self, inner: &GridBox) -> bool
         ensures { result ≡ holds_box self.now inner.now }
     {

@@ -3,7 +3,7 @@ ghost use Rattle.ngc_fixed_length.specs.Length.{IsStep};
 
 use crate::length::Nm;
 
-/// Returns how many nanometres a number of grid steps is, each of 500 to 50,000 nm.
+/// Returns the length of `steps` grid steps in nanometres. A step is from 500 to 50,000 nm.
 pub fn nanometres_at(step: Nm, steps: i32) -> i64
     requires { IsStep step }
     ensures value { result ≡ steps *ℤ step }

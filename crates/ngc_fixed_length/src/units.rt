@@ -1,4 +1,4 @@
-/// The unit of a program's lengths: G21, G20.
+/// The unit of a program's lengths: millimetres (G21) or inches (G20).
 #[derive(Clone, Copy)]
 pub enum Units {
     Millimetres,

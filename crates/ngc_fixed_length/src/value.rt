@@ -8,10 +8,10 @@ use crate::rounding::{rounded_quotient, short_quotient};
 use crate::units::Units;
 use std::marker::Model;
 
-/// How many millionths one has.
+/// The number of millionths in one unit.
 pub const MILLIONTHS: u64 = 1_000_000;
 
-/// A number of a program, in millionths: at most 10^9 units, so 10^15 millionths, in size.
+/// A number of a program, in millionths. Its size is at most 10^9 units, which is 10^15 millionths.
 #[derive(Clone, Copy, PartialEq, Eq, PartialOrd, Ord)]
 pub struct Value {
     millionths: i64,
@@ -28,7 +28,7 @@ impl Model for Value {
 }
 
 impl Value {
-    /// A number of millionths as a value, or `TooLarge` above 10^15 in size.
+    /// Returns a number of millionths as a value, or `TooLarge` above 10^15 in size.
     pub fn from_millionths(millionths: i128) -> Result<Value, NumberFault>
         ensures { result ≡ limited millionths }
     {
@@ -41,14 +41,14 @@ impl Value {
         }
     }
 
-    /// The value 0.
+    /// Returns the value 0.
     pub fn zero() -> Value
         ensures { result ≡ pos 0 }
     {
         Value { millionths: 0 }
     }
 
-    /// The number of millionths.
+    /// Returns the number of millionths.
     pub fn millionths(self) -> i64
         ensures value { result ≡ self }
         ensures bound { IsValue result }
@@ -56,21 +56,22 @@ impl Value {
         self.millionths
     }
 
-    /// The sum, exactly, or `TooLarge`.
+    /// Returns the exact sum, or `TooLarge`.
     pub fn add(self, other: Value) -> Result<Value, NumberFault>
         ensures { result ≡ sum self other }
     {
         Value::from_millionths(i128::from(self.millionths) + i128::from(other.millionths))
     }
 
-    /// The difference, exactly, or `TooLarge`.
+    /// Returns the exact difference, or `TooLarge`.
     pub fn sub(self, other: Value) -> Result<Value, NumberFault>
         ensures { result ≡ difference self other }
     {
         Value::from_millionths(i128::from(self.millionths) - i128::from(other.millionths))
     }
 
-    /// The product to the nearest millionth, ties away from zero, or `TooLarge`.
+    /// Returns the product, rounded to the nearest millionth with ties away from zero, or
+    /// `TooLarge`.
     pub fn mul(self, other: Value) -> Result<Value, NumberFault>
         ensures { result ≡ product self other }
     {
@@ -78,8 +79,8 @@ impl Value {
         Value::from_millionths(rounded_quotient(product, 1_000_000))
     }
 
-    /// The quotient to the nearest millionth, ties away from zero; `DivisionByZero` at a zero
-    /// divisor, or `TooLarge`.
+    /// Returns the quotient, rounded to the nearest millionth with ties away from zero. Returns
+    /// `DivisionByZero` for a zero divisor, or `TooLarge`.
     pub fn div(self, other: Value) -> Result<Value, NumberFault>
         ensures { result ≡ quotient self other }
     {
@@ -90,21 +91,22 @@ impl Value {
         Value::from_millionths(rounded_quotient(dividend, i128::from(other.millionths)))
     }
 
-    /// So many units in nanometres, to the nearest one, ties away from zero. A feed, in nanometres
-    /// a minute, has no other bound than a value's.
+    /// Returns this number of units in nanometres, rounded to the nearest one with ties away from
+    /// zero. It may exceed a length's limit: a feed, in nanometres per minute, has no other bound
+    /// than a value's.
     pub fn nanometres(self, units: Units) -> i64
         ensures value { result ≡ nanometres_of units self }
         ensures bound { unsigned_abs result ≤ 25400000000000000 }
     {
         match units {
             Units::Millimetres => self.millionths,
-            // An inch has 25.4 millimetres.
+            // An inch is 25.4 millimetres.
             Units::Inches => short_quotient(self.millionths * 254, 10),
         }
     }
 
-    /// The length of so many units to the nearest nanometre, ties away from zero, or `TooLarge`
-    /// above 10^11 nm.
+    /// Returns this number of units as a length, rounded to the nearest nanometre with ties away
+    /// from zero, or `TooLarge` above 10^11 nm.
     pub fn to_nm(self, units: Units) -> Result<Nm, NumberFault>
         ensures { result ≡ length_of units self }
     {
