@@ -1,2 +1,2 @@
--- Places that words give stay in the machine's reach.
+-- Places that words give stay within the machine's reach.
 pub mod Reach

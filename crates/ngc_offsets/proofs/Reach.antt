@@ -1,4 +1,4 @@
--- Places that words give stay in the machine's reach.
+-- Places that words give stay within the machine's reach.
 use Rattle.std.proofs.Common.{◌≡◌, ◌<◌, ◌≤◌, ℤ, ◌+ℤ◌, ◌-ℤ◌, inl, inr, arith, subst, sym}
 use Rattle.std.specs.Prelude.{unsigned_abs}
 use Rattle.std.proofs.lemmas.Int.{ints}
@@ -22,7 +22,7 @@ IsWithin-plus place shift p small near from = record {
   z = reach place.z shift.z p.z small.z near.z from.z;
 }
 
--- the same, of places that are equal to these
+-- the same, for places that are equal to these
 pub reaches : (place shift current p q : Point3) → q ≡ plus p shift → IsReachedFrom current p → current ≡ minus place shift → IsWithin SHIFT_LIMIT shift →
     IsWithin MACHINE_LIMIT place → IsWithin MACHINE_LIMIT q
 reaches place shift current p q e from f small near =
@@ -44,7 +44,7 @@ index_below Ninth = omega arith
 origin_within : (f : Offsets) (system : System) → AreInRange f → IsWithin OFFSET_LIMIT (origin_of f system)
 origin_within f system h = h.origins (index system) zero_point (rw h.nine (index_below system))
 
--- what lies between programmed places and the machine's is bounded
+-- the difference between machine places and programmed places is bounded
 pub IsWithin-shift_of : (f : Offsets) → AreInRange f → IsWithin SHIFT_LIMIT (shift_of f)
 IsWithin-shift_of f h =
     let o : IsWithin OFFSET_LIMIT (origin_of f f.active) = origin_within f f.active h in

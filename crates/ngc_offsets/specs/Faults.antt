@@ -1,4 +1,4 @@
--- Changes and places that may be refused, and the numbers of the faults. Our own.
+-- The faults of changes and places, and their numbers. Our own.
 use Rattle.std.specs.Prelude.{ℕ, ◌≡◌, ℤ, Result, Ok, Err, if◌then◌else◌}
 use Rattle.ngc_fixed_length.specs.Signed.{is_within}
 use Rattle.ngc_offsets.specs.declared.fault.FrameFault.{FrameFault}
@@ -25,7 +25,7 @@ abbrev pub number_of : FrameFault → ℕ
 number_of BeyondRange = 221
 number_of NoSuchTool = 222
 
--- a change was made as the definition says, or refused, and then nothing changed
+-- a change is either made as the definition says, or refused, and then nothing changes
 abbrev pub Becomes : {A : Type 0} → Result (Unit {0}) FrameFault → A → A →
     Result A FrameFault → Type 0
 Becomes (Ok u) old new says = says ≡ Ok new

@@ -1,4 +1,4 @@
--- Where a programmed place lies in the machine, and how the offsets change (NISTIR 6556, 3.2.2,
+-- The map from programmed to machine places, and the changes of the offsets (NISTIR 6556, 3.2.2,
 -- 3.5.5, 3.5.11, 3.5.13, 3.5.18).
 use Rattle.std.specs.Prelude.{ℕ, ℤ, pos, ◌-ℤ◌, List, Option, Some, None, Result, Ok, Err}
 use Rattle.std.specs.Prelude.{slice_index_or, slice_set}
@@ -15,7 +15,7 @@ use Rattle.ngc_offsets.specs.Offsets.{Offsets}
 use Rattle.ngc_offsets.specs.Ranges.{IsMachinePlace}
 use Rattle.ngc_offsets.specs.Faults.{◌>>=◌, coordinate, offset}
 
--- a system's place in the list of origins
+-- a system's index in the list of origins
 abbrev pub index : System → ℕ
 index First = 0
 index Second = 1
@@ -30,7 +30,7 @@ index Ninth = 8
 abbrev pub origin_of : Offsets → System → Point3
 origin_of f system = slice_index_or f.origins (index system) zero_point
 
--- at the start the first system is active, and nothing is offset
+-- at the start the first system is active, and there is no offset
 abbrev pub start_frames : List Point3 → Offsets
 start_frames origins =
     record {
@@ -45,7 +45,7 @@ start_frames origins =
 abbrev pub on_z : ℤ → Point3
 on_z l = record { x = pos 0; y = pos 0; z = l }
 
--- what lies between a programmed place and the machine's, without the axis offset and with it
+-- the difference between machine places and programmed places, without the axis offset and with it
 abbrev pub base_of : Offsets → Point3
 base_of f = plus (origin_of f f.active) (on_z f.length)
 
@@ -58,12 +58,11 @@ to_machine f p = plus p (shift_of f)
 abbrev pub to_program : Offsets → Point3 → Point3
 to_program f p = minus p (shift_of f)
 
--- a programmed place that lies within the machine's reach
+-- a programmed place within the machine's reach
 abbrev pub IsReachable : Offsets → Point3 → Type 0
 IsReachable f p = IsMachinePlace (to_machine f p)
 
--- one axis of an origin or offset: a missing word keeps what was there, and a length gives it by a
--- rule
+-- one axis of an origin or offset: without a word it keeps its value; a length sets it by a rule
 abbrev pub on_axis : (ℤ → Result ℤ FrameFault) → ℤ → Option ℤ → Result ℤ FrameFault
 on_axis rule had None = Ok had
 on_axis rule had (Some l) = rule l
@@ -81,7 +80,7 @@ set_origin f system given = do
   origin ← new_origin (origin_of f system) given
   Ok (record f { origins = slice_set f.origins (index system) origin })
 
--- G92: the machine place gets the coordinate l on an axis, by the axis offset that is left over
+-- G92: the axis offset with which the machine place has the coordinate l on an axis
 abbrev pub left_over : ℤ → ℤ → ℤ → Result ℤ FrameFault
 left_over place base l = do
   c ← coordinate l
@@ -109,7 +108,7 @@ suspend f = record f { axis_offset = zero_point }
 abbrev pub restore : Offsets → Offsets
 restore f = record f { axis_offset = f.saved }
 
--- G43 with the offset of its tool, if there is such a tool; G49 and H0 with 0
+-- G43 with its tool's offset, if there is such a tool; G49 and H0 with 0
 abbrev pub set_length : Offsets → Option ℤ → Result Offsets FrameFault
 set_length f None = Err NoSuchTool
 set_length f (Some l) = do

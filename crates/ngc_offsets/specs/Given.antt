@@ -1,4 +1,4 @@
--- Which place a line's words give (NISTIR 6556, 3.5.12: G53; 3.5.17: G90, G91).
+-- The places to which a line's words lead (NISTIR 6556, 3.5.12: G53; 3.5.17: G90, G91).
 use Rattle.std.specs.Prelude.{ℤ, ◌+ℤ◌, Option, Some, None, Result, Ok}
 use Rattle.ngc_fixed_length.specs.declared.modes.Distance.{Distance}
 use Rattle.ngc_fixed_length.specs.declared.modes.Distance.TheVariants.{Absolute, Incremental}
@@ -9,7 +9,7 @@ use Rattle.ngc_offsets.specs.Offsets.{Offsets}
 use Rattle.ngc_offsets.specs.Faults.{◌>>=◌, coordinate}
 use Rattle.ngc_offsets.specs.Frames.{to_machine, to_program}
 
--- the coordinate on one axis: a missing word keeps its place, and after G91 a word is added to it
+-- the coordinate on one axis: without a word it stays, and after G91 a word is added to it
 abbrev pub given_on_axis : Distance → ℤ → Option ℤ → Result ℤ FrameFault
 given_on_axis distance current None = Ok current
 given_on_axis Absolute current (Some l) = coordinate l
@@ -22,12 +22,12 @@ given_place distance current given = do
   z ← given_on_axis distance current.z given.z
   Ok (record { x = x; y = y; z = z })
 
--- the machine place that a line gives from the machine place where it begins
+-- the machine place to which a line leads from the machine place where it begins
 abbrev pub target : Distance → Offsets → Point3 → AxisLengths → Result Point3 FrameFault
 target distance f place given = do
   p ← given_place distance (to_program f place) given
   Ok (to_machine f p)
 
--- G53 takes the lengths as machine coordinates, whatever the distance mode
+-- G53 takes the lengths as machine coordinates, in either distance mode
 abbrev pub machine_target : Point3 → AxisLengths → Result Point3 FrameFault
 machine_target place given = given_place Absolute place given

@@ -1,10 +1,10 @@
--- What lies between programmed places and the machine's (NISTIR 6556, 3.2.2).
+-- The difference between machine places and programmed places (NISTIR 6556, 3.2.2).
 use Rattle.std.specs.Prelude.{ℤ, List}
 use Rattle.ngc_fixed_length.specs.declared.modes.System.{System}
 use Rattle.ngc_fixed_length.specs.declared.points.Point3.{Point3}
 
 pub record Offsets : Type 0 where
-  -- of the nine coordinate systems
+  -- one for each of the nine coordinate systems
   pub origins : List Point3
   pub active : System
   -- the axis offset in force, and the one that G92 saved

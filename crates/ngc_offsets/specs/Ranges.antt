@@ -1,25 +1,25 @@
--- How far coordinates and offsets reach, in nanometres. Our own: the manual sets no bounds.
+-- The limits of coordinates and offsets, in nanometres. Our own: the manual sets no bounds.
 use Rattle.std.specs.Prelude.{ℕ, ◌≤◌, ◌≡◌, ◌⊎◌, ℤ, unsigned_abs, length, All}
 use Rattle.ngc_fixed_length.specs.declared.points.Point3.{Point3}
 use Rattle.ngc_offsets.specs.Offsets.{Offsets}
 
--- a coordinate that words give: a metre
+-- a coordinate that words give: at most a metre
 abbrev pub COORDINATE_LIMIT : ℕ
 COORDINATE_LIMIT = 1000000000
 
--- an origin, an axis offset or a tool length offset: four metres
+-- an origin, an axis offset or a tool length offset: at most four metres
 abbrev pub OFFSET_LIMIT : ℕ
 OFFSET_LIMIT = 4000000000
 
--- an origin, an axis offset and a tool length offset together
+-- the sum of an origin, an axis offset and a tool length offset
 abbrev pub SHIFT_LIMIT : ℕ
 SHIFT_LIMIT = 12000000000
 
--- a coordinate that words give, and these
+-- the sum of a coordinate that words give and these three
 abbrev pub MACHINE_LIMIT : ℕ
 MACHINE_LIMIT = 13000000000
 
--- that, and the offsets once more
+-- the sum of a machine coordinate and these three
 abbrev pub PROGRAMMED_LIMIT : ℕ
 PROGRAMMED_LIMIT = 25000000000
 
@@ -29,7 +29,7 @@ IsCoordinate c = unsigned_abs c ≤ COORDINATE_LIMIT
 abbrev pub IsOffset : ℤ → Type 0
 IsOffset o = unsigned_abs o ≤ OFFSET_LIMIT
 
--- no coordinate's size is above the limit
+-- each coordinate's size is at most the limit
 pub record IsWithin (limit : ℕ) (p : Point3) : Type 0 where
   pub x : unsigned_abs p.x ≤ limit
   pub y : unsigned_abs p.y ≤ limit
@@ -39,11 +39,11 @@ pub record IsWithin (limit : ℕ) (p : Point3) : Type 0 where
 abbrev pub IsMachinePlace : Point3 → Type 0
 IsMachinePlace p = IsWithin MACHINE_LIMIT p
 
--- such a place as a program sees it
+-- the programmed place of such a place
 abbrev pub IsProgrammedPlace : Point3 → Type 0
 IsProgrammedPlace p = IsWithin PROGRAMMED_LIMIT p
 
--- origins and offsets no larger than they may be
+-- each origin and offset is within its limit
 pub record AreInRange (f : Offsets) : Type 0 where
   pub nine : length f.origins ≡ 9
   pub origins : All (IsWithin OFFSET_LIMIT) f.origins
@@ -51,7 +51,7 @@ pub record AreInRange (f : Offsets) : Type 0 where
   pub saved : IsWithin OFFSET_LIMIT f.saved
   pub length : IsOffset f.length
 
--- a coordinate stays, or is one that words may give
+-- a coordinate stays, or it is one that words may give
 abbrev pub IsKeptOrGiven : ℤ → ℤ → Type 0
 IsKeptOrGiven current c = (c ≡ current) ⊎ IsCoordinate c
 

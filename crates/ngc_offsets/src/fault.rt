@@ -2,13 +2,13 @@ ghost use Rattle.std.specs.Prelude.{◌≡◌};
 
 use thiserror::Error;
 
-/// Why a place or a change of frames is refused.
+/// The reasons why a place or a change of the frames is refused.
 #[derive(Clone, Copy, Debug, PartialEq, Eq, Error)]
 pub enum FrameFault {
-    /// 221: a coordinate over 10^9 nm in size, or an origin or offset over 4*10^9 nm.
+    /// Fault 221: a coordinate over 10^9 nm in size, or an origin or offset over 4*10^9 nm.
     #[error("the coordinate or offset is beyond its range")]
     BeyondRange,
-    /// 222.
+    /// Fault 222.
     #[error("the tool table has no such tool")]
     NoSuchTool,
 }
@@ -16,7 +16,7 @@ pub enum FrameFault {
 impl FrameFault {
     ghost use Rattle.ngc_offsets.specs.Faults.{number_of};
 
-    /// The fault's number, by which listings and machinists name it.
+    /// Returns the fault's number, which listings and messages print.
     pub fn number(&self) -> u16
         ensures { result ≡ number_of self.now }
     {

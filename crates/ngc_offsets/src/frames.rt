@@ -12,9 +12,9 @@ use crate::range::{coordinate, minus, offset, plus};
 use ngc_fixed_length::{Distance, Nm, Point3, System};
 use std::marker::Model;
 
-/// Where programmed coordinates lie in the machine: the origins of the nine coordinate systems,
-/// which of them is active, the axis offset in force and the one that G92 saved, and the tool
-/// length offset, on Z. Each is at most 4*10^9 nm in size.
+/// The origins and offsets that map programmed coordinates to machine coordinates: the origins of
+/// the nine coordinate systems, the active system, the axis offset in force, the one that G92
+/// saved, and the tool length offset, on Z. Each is at most 4*10^9 nm in size.
 #[derive(Clone, Copy)]
 pub struct Frames {
     pub origins: [Point3; 9],
@@ -83,7 +83,7 @@ fn zero() -> Point3
     }
 }
 
-// The coordinates of an origin after G10, of which a missing one stays.
+// Returns an origin's coordinates after G10. A missing coordinate stays.
 fn new_origin(had: &Point3, given: &AxisLengths) -> Result<Point3, FrameFault>
     requires { IsWithin OFFSET_LIMIT had.now }
     ensures value { result ≡ origin_after had.now given.now }
@@ -106,8 +106,8 @@ fn new_coordinate(had: Nm, given: Option<Nm>) -> Result<Nm, FrameFault>
     }
 }
 
-// The axis offset after G92, by which a machine place gets the coordinates given; a missing one
-// stays.
+// Returns the axis offset after G92. With it, the machine place has the coordinates given. A
+// missing coordinate stays.
 fn new_axis(
     place: &Point3,
     base: &Point3,
@@ -135,7 +135,7 @@ fn new_offset(place: Nm, base: Nm, had: Nm, given: Option<Nm>) -> Result<Nm, Fra
     }
 }
 
-// By how many nanometres a place is beyond its base and a coordinate.
+// Returns `place - base - coordinate`, in nanometres.
 fn excess(place: Nm, base: Nm, coordinate: Nm) -> i64
     ensures { result ≡ place -ℤ base -ℤ coordinate }
 {
@@ -143,7 +143,7 @@ fn excess(place: Nm, base: Nm, coordinate: Nm) -> i64
     rest - coordinate.nanometres()
 }
 
-// The axis offset by which a machine place gets a coordinate.
+// Returns the axis offset with which a machine place has the coordinate `length`.
 fn left_over(place: Nm, base: Nm, length: Nm) -> Result<Nm, FrameFault>
     ensures value { result ≡ left_over_of place base length }
     ensures range { IfOk result IsOffset }
@@ -158,7 +158,7 @@ impl Frames {
     ghost use Rattle.ngc_offsets.specs.Frames.{clear, suspend, restore, set_length, select};
     ghost use Rattle.ngc_offsets.specs.Given.{target};
 
-    /// The frames at a program's start: the first system is active, and there is no offset.
+    /// Returns the frames at a program's start: the first system is active, and there is no offset.
     pub fn new(origins: &[Point3; 9]) -> Frames
         requires { All (IsWithin OFFSET_LIMIT) origins.now }
         ensures { result ≡ start_frames origins.now }
@@ -174,7 +174,7 @@ impl Frames {
         }
     }
 
-    // What lies between programmed places and the machine's, without the axis offset.
+    // Returns the difference between machine places and programmed places, without the axis offset.
     fn base(&self) -> Point3
         ensures value { result ≡ base_of self.now }
         ensures range { IsWithin 8000000000 result }
@@ -187,7 +187,7 @@ impl Frames {
         }
     }
 
-    // What lies between programmed places and the machine's.
+    // Returns the difference between machine places and programmed places.
     fn shift(&self) -> Point3
         ensures value { result ≡ shift_of self.now }
         ensures range { IsWithin SHIFT_LIMIT result }
@@ -196,7 +196,7 @@ impl Frames {
         plus(&self.base(), &self.axis_offset)
     }
 
-    /// The machine place of a programmed one: it is offset by the active system's origin, the axis
+    /// Returns the machine place of a programmed one. It adds the active system's origin, the axis
     /// offset and, on Z, the tool length offset. NISTIR 6556, 3.2.2.
     pub fn to_machine(&self, place: Point3) -> Point3
         requires { IsReachable self.now place }
@@ -205,7 +205,7 @@ impl Frames {
         plus(&place, &self.shift())
     }
 
-    /// The programmed place of the machine's.
+    /// Returns the programmed place of a machine place.
     pub fn to_program(&self, place: Point3) -> Point3
         requires { IsMachinePlace place }
         ensures value { result ≡ to_program self.now place }
@@ -216,9 +216,9 @@ impl Frames {
         minus(&place, &self.shift())
     }
 
-    /// The machine place that a line's lengths give, from the machine place where it begins. After
-    /// G91 they are added to the programmed current point. `BeyondRange` where a programmed
-    /// coordinate that they give is over 10^9 nm in size. NISTIR 6556, 3.5.17.
+    /// Returns the machine place to which a line's lengths lead, from the machine place where it
+    /// begins. After G91 they are added to the programmed current point. Returns `BeyondRange` if a
+    /// programmed coordinate is over 10^9 nm in size. NISTIR 6556, 3.5.17.
     pub fn target(
         &self,
         distance: Distance,
@@ -234,7 +234,7 @@ impl Frames {
         Ok(plus(&programmed, &shift))
     }
 
-    /// G10 L2: sets a system's origin on the axes given. `BeyondRange` where a length is over
+    /// G10 L2: sets a system's origin on the axes given. Returns `BeyondRange` if a length is over
     /// 4*10^9 nm in size; the frames are then unchanged. NISTIR 6556, 3.5.5.
     pub fn set_origin(&mut self, system: System, given: &AxisLengths) -> Result<(), FrameFault>
         ensures { Becomes result self.old self.new (set_origin self.old system given.now) }
@@ -245,8 +245,8 @@ impl Frames {
         Ok(())
     }
 
-    /// G92: makes the machine place have the programmed coordinates given, by the axis offset,
-    /// which is saved too. `BeyondRange` where a coordinate is over 10^9 nm in size or an offset
+    /// G92: sets the axis offset so that the machine place has the programmed coordinates given,
+    /// and saves it. Returns `BeyondRange` if a coordinate is over 10^9 nm in size or an offset
     /// over 4*10^9 nm; the frames are then unchanged. NISTIR 6556, 3.5.18.
     pub fn set_axis(&mut self, place: Point3, given: &AxisLengths) -> Result<(), FrameFault>
         ensures { Becomes result self.old self.new (set_axis self.old place given.now) }
@@ -258,8 +258,9 @@ impl Frames {
         Ok(())
     }
 
-    /// G43 with the offset of its tool, or G49 and H0 with 0. `NoSuchTool` where there is none,
-    /// `BeyondRange` over 4*10^9 nm in size; the frames are then unchanged. NISTIR 6556, 3.5.11.
+    /// Sets the tool length offset: for G43 to its tool's, for G49 and H0 to 0. Returns
+    /// `NoSuchTool` for `None`, and `BeyondRange` for a length over 4*10^9 nm in size; the frames
+    /// are then unchanged. NISTIR 6556, 3.5.11.
     pub fn set_length(&mut self, length: Option<Nm>) -> Result<(), FrameFault>
         ensures { Becomes result self.old self.new (set_length self.old length) }
     {
@@ -287,7 +288,7 @@ impl Frames {
         self.axis_offset = zero();
     }
 
-    /// G92.3: brings the saved axis offset back.
+    /// G92.3: restores the saved axis offset.
     pub fn restore(&mut self)
         ensures { self.new ≡ restore self.old }
     {

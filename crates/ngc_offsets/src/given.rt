@@ -15,7 +15,7 @@ pub struct AxisLengths {
     pub z: Option<Nm>,
 }
 
-// The coordinate on one axis: a missing word keeps its place.
+// Returns the coordinate on one axis. Without a word the axis keeps its coordinate.
 fn given_on_axis(distance: Distance, current: Nm, given: Option<Nm>) -> Result<Nm, FrameFault>
     ensures value { result ≡ on_axis distance current given }
     ensures range { IfOk result (λ c. IsKeptOrGiven current c) }
@@ -29,8 +29,8 @@ fn given_on_axis(distance: Distance, current: Nm, given: Option<Nm>) -> Result<N
     }
 }
 
-/// The place that a line's lengths give from a current place; a missing length keeps its
-/// coordinate.
+/// Returns the place to which a line's lengths lead from the current place. A missing length keeps
+/// its coordinate.
 pub(crate) fn given_place(
     distance: Distance,
     current: &Point3,
@@ -45,9 +45,9 @@ pub(crate) fn given_place(
     Ok(Point3 { x, y, z })
 }
 
-/// The machine place that a line gives with G53, from the machine place where it begins: its
-/// lengths are machine coordinates whatever the distance mode, with no origin, offset or tool
-/// length. `BeyondRange` where one is over 10^9 nm in size. NISTIR 6556, 3.5.12.
+/// Returns the machine place to which a line with G53 leads. Its lengths are machine coordinates in
+/// either distance mode, with no origin, offset or tool length. Returns `BeyondRange` if one is
+/// over 10^9 nm in size. NISTIR 6556, 3.5.12.
 pub fn machine_target(place: Point3, given: &AxisLengths) -> Result<Point3, FrameFault>
     ensures value { result ≡ target_in_machine place given.now }
     ensures range { IsMachinePlace place → IfOk result IsMachinePlace }

@@ -1,5 +1,5 @@
-//! Coordinate systems, axis offsets and tool length: where programmed coordinates lie in the
-//! machine.
+//! Coordinate systems, axis offsets and tool length: the map from programmed to machine
+//! coordinates.
 #![tactic(auto)]
 
 mod fault;

@@ -8,12 +8,12 @@ ghost use Rattle.ngc_offsets.specs.Faults.{offset as offset_in};
 use crate::fault::FrameFault;
 use ngc_fixed_length::{Nm, Point3};
 
-/// How far from 0 a coordinate that words give may be, in nanometres.
+/// The greatest size of a coordinate that words give, in nanometres.
 pub const COORDINATE: u64 = 1_000_000_000;
 
 const OFFSET: u64 = 4_000_000_000;
 
-// A length whose size is at most the limit.
+// Returns a length whose size is at most the limit, or `BeyondRange`.
 fn limited(limit: u64, nanometres: i64) -> Result<Nm, FrameFault>
     requires { limit ≤ LENGTH_LIMIT }
     ensures value { result ≡ limited_to limit nanometres }
@@ -28,7 +28,7 @@ fn limited(limit: u64, nanometres: i64) -> Result<Nm, FrameFault>
     }
 }
 
-/// A coordinate that words give, or `BeyondRange` over 10^9 nm in size.
+/// Returns a coordinate that words give, or `BeyondRange` over 10^9 nm in size.
 pub(crate) fn coordinate(nanometres: i64) -> Result<Nm, FrameFault>
     ensures value { result ≡ coordinate_in nanometres }
     ensures range { IfOk result IsCoordinate }
@@ -36,7 +36,7 @@ pub(crate) fn coordinate(nanometres: i64) -> Result<Nm, FrameFault>
     limited(COORDINATE, nanometres)
 }
 
-/// An origin or an offset, or `BeyondRange` over 4*10^9 nm in size.
+/// Returns an origin or an offset, or `BeyondRange` over 4*10^9 nm in size.
 pub(crate) fn offset(nanometres: i64) -> Result<Nm, FrameFault>
     ensures value { result ≡ offset_in nanometres }
     ensures range { IfOk result IsOffset }
@@ -44,7 +44,7 @@ pub(crate) fn offset(nanometres: i64) -> Result<Nm, FrameFault>
     limited(OFFSET, nanometres)
 }
 
-/// The sum of two points, axis by axis.
+/// Returns the sum of two points, axis by axis.
 pub(crate) fn plus(p: &Point3, q: &Point3) -> Point3
     requires { IsPlace (sum_of p.now q.now) }
     ensures { result ≡ sum_of p.now q.now }
@@ -56,7 +56,7 @@ pub(crate) fn plus(p: &Point3, q: &Point3) -> Point3
     }
 }
 
-/// The difference of two points, axis by axis.
+/// Returns the difference of two points, axis by axis.
 pub(crate) fn minus(p: &Point3, q: &Point3) -> Point3
     requires { IsPlace (difference_of p.now q.now) }
     ensures { result ≡ difference_of p.now q.now }
