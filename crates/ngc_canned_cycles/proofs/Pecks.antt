@@ -5,14 +5,14 @@ use Rattle.std.proofs.lemmas.Grind.{flat_map-append}
 use Rattle.std.proofs.lemmas.Int.{ints}
 use Rattle.ngc_canned_cycles.specs.Holes.{counting}
 
--- one number more
+-- one more number
 pub counting-suc : (i n : ℕ) → counting i (suc n) ≡ counting i n ++ (i + n) ∷ []
 counting-suc i zero = let e : i + 0 ≡ i = omega arith in rw e refl
 counting-suc i (suc n) =
     let e : i + suc n ≡ (i + 1) + n = omega arith in
     rw e (ap (λ xs. i ∷ xs) (counting-suc (i + 1) n))
 
--- one peck more
+-- one more peck
 pub flat_map-counting : {A : Type 0} (f : ℕ → List A) (n : ℕ) → flat_map f (counting 1 (n + 1)) ≡ flat_map f (counting 1 n) ++ f (n + 1)
 flat_map-counting f n =
     let s : suc n ≡ n + 1 = omega arith in

@@ -21,7 +21,7 @@ and_right : (a b : Bool) → (a && b) ≡ true → b ≡ true
 and_right true b h = h
 and_right false b h = absurd (cc)
 
--- a word added j times lies between it added once and it added n times
+-- a word added j times lies between the word added once and the word added n times
 between : (b l : ℤ) (j n : ℕ) → 1 ≤ j → j ≤ n → IsCoordinate (b +ℤ (pos 1 *ℤ l)) → IsCoordinate (b +ℤ (pos n *ℤ l)) → IsCoordinate (b +ℤ (pos j *ℤ l))
 between b (pos a) j n least most first last =
     let p : 1 * a ≤ j * a = mul-le-mul_right a least in
@@ -40,7 +40,7 @@ along Incremental before None j n least most first last = inl refl
 along Absolute before (Some l) j n least most first last = inr (leb-true _ _ first)
 along Incremental before (Some l) j n least most first last = inr (between before l j n least most (leb-true _ _ first) (leb-true _ _ last))
 
--- what the words of a cycle in range give
+-- the coordinates that the words of a cycle in range give
 pub record AreCoordinates (c : Cycle) (s : Start) : Type 0 where
   pub retract : IsCoordinate (retract_of c s)
   pub bottom : IsCoordinate (bottom_of c s)

@@ -1,4 +1,4 @@
--- What may refuse a cycle, and the numbers of the faults. Our own.
+-- The faults of a cycle, and their numbers. Our own.
 use Rattle.std.specs.Prelude.{ℕ, ◌≡◌, Result, Ok, Err, Bool, if◌then◌else◌}
 use Rattle.ngc_canned_cycles.specs.declared.fault.CycleFault.{CycleFault}
 use Rattle.ngc_canned_cycles.specs.declared.fault.CycleFault.TheVariants.{RetractBelowBottom}
@@ -24,7 +24,7 @@ number_of SpindleNotTurning = 235
 number_of InverseTime = 236
 number_of Memory = 900
 
--- what a function returned, seen by view, is what the definition says, unless memory ran out
+-- a function's result, seen by view, is the definition's, unless memory ran out
 abbrev pub Fails : {Y : Type 0} → CycleFault → Result Y CycleFault → Type 0
 Fails Memory says = Unit {0}
 Fails e says = says ≡ Err e

@@ -13,14 +13,14 @@ use Rattle.ngc_canned_cycles.specs.declared.cycle.Cycle.{Cycle}
 use Rattle.ngc_canned_cycles.specs.declared.cycle.Site.{Site}
 use Rattle.ngc_canned_cycles.specs.declared.cycle.Start.{Start}
 
--- the height before the line, and the place then in the plane
+-- the height before the line, and the place before it in the plane
 abbrev pub height_before : Cycle → Start → ℤ
 height_before c s = height c.plane s.place
 
 abbrev pub place_before : Cycle → Start → Point2
 place_before c s = in_plane c.plane s.place
 
--- a length as it stands after G90, and added to what is there after G91
+-- a length unchanged in G90, and added to base in G91
 abbrev pub relative : Distance → ℤ → ℤ → ℤ
 relative Absolute base l = l
 relative Incremental base l = base +ℤ l
@@ -32,7 +32,7 @@ retract_of c s = relative c.distance (height_before c s) c.retract
 abbrev pub bottom_of : Cycle → Start → ℤ
 bottom_of c s = relative c.distance (retract_of c s) c.bottom
 
--- the height of the first traverse, and that to which each hole clears
+-- the height of the first traverse, and the height to which each hole clears
 abbrev pub top_of : Cycle → Start → ℤ
 top_of c s = greater (height_before c s) (retract_of c s)
 
@@ -55,7 +55,7 @@ repeat_place c s j = record {
   v = repeat_on_axis c.distance j (place_before c s).v c.v;
 }
 
--- where repeat j makes its hole
+-- the site of repeat j's hole
 abbrev pub site_of : Cycle → Start → ℕ → Site
 site_of c s j = record {
   plane = c.plane;
@@ -65,7 +65,7 @@ site_of c s j = record {
   clear = clear_of c s;
 }
 
--- L, or 1 where it is missing
+-- L, or 1 if it is missing
 abbrev pub repeats_of : Option ℤ → ℕ
 repeats_of None = 1
 repeats_of (Some v) = unsigned_abs v / MILLION

@@ -20,25 +20,26 @@ traverse_to s w = Traverse (at_height s.plane s.place w)
 abbrev pub feed_to : Site → ℤ → CycleMove
 feed_to s w = Feed (at_height s.plane s.place w)
 
--- n numbers from i on
+-- n numbers, from i on
 abbrev pub counting : ℕ → ℕ → List ℕ
 counting i zero = []
 counting i (suc n) = i ∷ counting (i + 1) n
 
--- the least number, at least 1, of pecks by q that go all the way
+-- the least number, at least 1, of pecks by q that cover the whole distance
 abbrev pub peck_count : ℤ → ℕ → ℕ
 peck_count way q = max 1 ((unsigned_abs way + (q - 1)) / q)
 
--- how deep peck i goes
+-- the height that peck i reaches
 abbrev pub peck_depth : Site → ℤ → ℕ → ℤ
 peck_depth s q i = greater s.bottom (s.retract -ℤ (pos i *ℤ q))
 
--- 254,000 nm (a hundredth of an inch) above the last depth, unless that is at or above R
+-- the traverse to 254,000 nm (a hundredth of an inch) above the last depth, unless that is at or
+-- above R
 abbrev pub back_down : Site → ℤ → List CycleMove
 back_down s depth =
     if int_lt (depth +ℤ pos 254000) s.retract then traverse_to s (depth +ℤ pos 254000) ∷ [] else []
 
--- peck i of m, and behind each but the last the way to R and back
+-- peck i of m, and after each but the last the moves to R and back
 abbrev pub peck : Site → ℤ → ℕ → ℕ → List CycleMove
 peck s q m i = let depth = peck_depth s q i in
     feed_to s depth ∷ (if nat_lt i m then traverse_to s s.retract ∷ back_down s depth else [])

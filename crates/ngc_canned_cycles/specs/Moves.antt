@@ -19,17 +19,17 @@ use Rattle.ngc_canned_cycles.specs.Heights.{top_of, clear_of, site_of}
 use Rattle.ngc_canned_cycles.specs.Holes.{traverse_to, hole_moves, peck_count}
 use Rattle.ngc_canned_cycles.specs.Refusals.{check}
 
--- once for the line, where the height before is below R
+-- the rise to R, once for the line, if the height before is below R
 abbrev pub first_rise : Cycle → Start → ℕ → List CycleMove
 first_rise c s j =
     if (j == 1) && int_lt (height_before c s) (retract_of c s)
     then Traverse (at_height c.plane (place_before c s) (retract_of c s)) ∷ [] else []
 
--- the height at which repeat j comes to its place
+-- the height at which repeat j reaches its place
 abbrev pub arrival : Cycle → Start → ℕ → ℤ
 arrival c s j = if j == 1 then top_of c s else clear_of c s
 
--- to the place of the hole at a height, and on to R unless that is there already
+-- the move to the place of the hole at a height, and the move to R unless the tool is there already
 abbrev pub approach : Site → ℤ → List CycleMove
 approach site w =
     traverse_to site w ∷ (if same w site.retract then [] else traverse_to site site.retract ∷ [])
@@ -42,7 +42,7 @@ repeat_moves c s j = let site = site_of c s j in
 abbrev pub expand : Cycle → Start → ℕ → Result (List CycleMove) CycleFault
 expand c s j = check c s >> Ok (repeat_moves c s j)
 
--- at most so many moves for a hole, and for a repeat
+-- the greatest number of moves for a hole, and for a repeat
 abbrev pub hole_limit : Hole → ℤ → ℕ
 hole_limit (Peck q) way = 3 * peck_count way (unsigned_abs q) + 1
 hole_limit Drill way = 5

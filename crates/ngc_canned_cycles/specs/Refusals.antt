@@ -1,4 +1,4 @@
--- Which cycles are refused, and whether what their words give is in range. Our own.
+-- The cycles that are refused, and the range of what their words give. Our own.
 use Rattle.std.specs.Prelude.{ℕ, ◌≤◌, ◌/◌, ◌%◌, ◌==◌, nat_le, nat_lt, ℤ, pos, ◌-ℤ◌, unsigned_abs}
 use Rattle.std.specs.Prelude.{int_le, int_lt, Option, Some, None, Result, Bool, true, false, not}
 use Rattle.std.specs.Prelude.{◌&&◌, ◌||◌}
@@ -30,7 +30,7 @@ bad_repeats (Some v) =
     is_negative v || not (unsigned_abs v % MILLION == 0) ||
     not (nat_le 1 (unsigned_abs v / MILLION) && nat_le (unsigned_abs v / MILLION) 9999)
 
--- a peck that is not above 0, or of which more than 10,000 go all the way
+-- a peck that is not above 0, or of which more than 10,000 are needed
 abbrev pub bad_peck : Hole → ℤ → Bool
 bad_peck (Peck q) way = int_le q (pos 0) || nat_lt 10000 (peck_count way (unsigned_abs q))
 bad_peck Drill way = false
@@ -69,7 +69,7 @@ check c s =
     refuse_if (needs_spindle c.hole && not s.turning) SpindleNotTurning >>
     refuse_if (is_inverse c.feed_mode) InverseTime
 
--- a coordinate where a word gives it, and any where none does
+-- a coordinate that a word gives is in range; without a word any coordinate is
 abbrev pub is_in_range_if_given : Option ℤ → ℤ → Bool
 is_in_range_if_given None c = true
 is_in_range_if_given (Some l) c = is_within COORDINATE_LIMIT c
@@ -79,8 +79,8 @@ is_repeat_in_range c s j =
     is_in_range_if_given c.u (repeat_place c s j).u
     && is_in_range_if_given c.v (repeat_place c s j).v
 
--- the coordinates that the words give: R, the bottom, and the places of the first and the last
--- repeat
+-- the coordinates that the words give are in range: R, the bottom, and the places of the first and
+-- the last repeat
 abbrev pub is_in_range : Cycle → Start → Bool
 is_in_range c s =
     is_within COORDINATE_LIMIT (retract_of c s) && is_within COORDINATE_LIMIT (bottom_of c s) &&

@@ -1,23 +1,24 @@
 use ngc_fixed_length::{Distance, FeedMode, Nm, Plane, Point2, Point3, ReturnMode, Value};
 
-/// What is done at a hole, with the dwell in seconds or the peck's depth.
+/// The kind of a hole: how it is drilled or bored, with the dwell in seconds or the depth of a
+/// peck.
 #[derive(Clone, Copy)]
 pub enum Hole {
-    /// G81: down by feed, up by traverse.
+    /// G81: feed down, traverse up.
     Drill,
-    /// G82: with a dwell at the bottom.
+    /// G82: as G81, with a dwell at the bottom.
     DrillWithDwell(Value),
     /// G83: in pecks of this depth.
     Peck(Nm),
-    /// G85: down and up by feed.
+    /// G85: feed down, feed up.
     Bore,
-    /// G86: with a dwell at the bottom, and the spindle stopped on the way up.
+    /// G86: as G82, with the spindle stopped on the way up.
     BoreWithStop(Value),
-    /// G89: down and up by feed, with a dwell at the bottom.
+    /// G89: feed down and up, with a dwell at the bottom.
     BoreWithDwell(Value),
 }
 
-/// A line's cycle, by its words and the modes in force.
+/// A line's cycle: its words, and the modes in force.
 #[derive(Clone, Copy)]
 pub struct Cycle {
     pub hole: Hole,
@@ -25,18 +26,18 @@ pub struct Cycle {
     pub distance: Distance,
     pub clear: ReturnMode,
     pub feed_mode: FeedMode,
-    /// The plane's words, where they stand.
+    /// The words on the plane's axes, if present.
     pub u: Option<Nm>,
     pub v: Option<Nm>,
-    /// The words R and, on the axis across the plane, the bottom.
+    /// The word R, and the word on the third axis: the bottom.
     pub retract: Nm,
     pub bottom: Nm,
-    /// The word L, where it stands.
+    /// The word L, if present.
     pub repeats: Option<Value>,
 }
 
-/// Where a cycle begins: the programmed place before the line, the programmed height before the
-/// series of cycles, and whether the spindle turns.
+/// The state in which a cycle begins: the programmed place before the line, the programmed height
+/// before the series of cycles, and whether the spindle turns.
 #[derive(Clone, Copy)]
 pub struct Start {
     pub place: Point3,
@@ -44,8 +45,8 @@ pub struct Start {
     pub turning: bool,
 }
 
-/// Where a hole is made, in programmed coordinates: its place in the plane, the heights of R and of
-/// the bottom, and the height to which the tool clears behind it.
+/// The site of a hole, in programmed coordinates: its place in the plane, the heights of R and of
+/// the bottom, and the height to which the tool clears after it.
 #[derive(Clone, Copy)]
 pub struct Site {
     pub plane: Plane,
@@ -60,10 +61,10 @@ pub struct Site {
 pub enum CycleMove {
     Traverse(Point3),
     Feed(Point3),
-    /// For so many seconds.
+    /// A dwell, in seconds.
     Dwell(Value),
     StopSpindle,
-    /// The way that it turned before.
+    /// Starts the spindle in the direction in which it turned before.
     StartSpindle,
 }
 

@@ -34,7 +34,7 @@ pub(crate) fn higher(a: Nm, b: Nm) -> Nm
     if is_below(a, b) { b } else { a }
 }
 
-/// A length so many times over, in nanometres.
+/// Returns `count` times a length, in nanometres.
 pub(crate) fn times(count: u64, length: Nm) -> i128
     ensures value { result ≡ pos count *ℤ length }
     ensures bound { unsigned_abs result ≤ 2000000000000000000000000000000 }
@@ -42,7 +42,7 @@ pub(crate) fn times(count: u64, length: Nm) -> i128
     i128::from(count) * i128::from(length.nanometres())
 }
 
-// A length as it stands after G90, and added to a height after G91.
+// Returns a length unchanged in G90, or added to the height `base` in G91.
 fn relative(distance: Distance, base: i128, length: Nm) -> i128
     requires { unsigned_abs base ≤ 200000000000 }
     ensures value { result ≡ relative_to distance base length }
@@ -55,8 +55,8 @@ fn relative(distance: Distance, base: i128, length: Nm) -> i128
     }
 }
 
-// The coordinate of a repeat on one axis of the plane: the word itself, or the word added once for
-// each repeat.
+// Returns the coordinate of a repeat on one axis of the plane: the word itself in G90, or the word
+// added once for each repeat in G91.
 fn repeat_on_axis(distance: Distance, repeat: u32, before: Nm, given: Option<Nm>) -> i128
     ensures value { result ≡ repeat_along distance repeat before given }
     ensures length { IsLength before }
@@ -72,7 +72,7 @@ fn repeat_on_axis(distance: Distance, repeat: u32, before: Nm, given: Option<Nm>
 }
 
 impl Cycle {
-    /// The height of R, in nanometres.
+    /// Returns the height of R, in nanometres.
     pub(crate) fn retract_height(&self, start: &Start) -> i128
         ensures value { result ≡ retract_of self.now start.now }
         ensures bound { unsigned_abs result ≤ 200000000000 }
@@ -81,7 +81,7 @@ impl Cycle {
         relative(self.distance, before, self.retract)
     }
 
-    /// The height of the bottom, in nanometres.
+    /// Returns the height of the bottom, in nanometres.
     pub(crate) fn bottom_height(&self, start: &Start) -> i128
         ensures value { result ≡ bottom_of self.now start.now }
         ensures bound { unsigned_abs result ≤ 300000000000 }
@@ -89,7 +89,7 @@ impl Cycle {
         relative(self.distance, self.retract_height(start), self.bottom)
     }
 
-    /// The coordinates of a repeat on the plane's axes, in nanometres.
+    /// Returns the coordinates of a repeat on the plane's axes, in nanometres.
     pub(crate) fn repeat_coordinates(&self, start: &Start, repeat: u32) -> (i128, i128)
         ensures u { result.0 ≡ (repeat_place self.now start.now repeat).u }
         ensures v { result.1 ≡ (repeat_place self.now start.now repeat).v }
@@ -103,7 +103,7 @@ impl Cycle {
         )
     }
 
-    /// Where a repeat, counted from 1, makes its hole. NISTIR 6556, 3.5.16.
+    /// Returns the site of a repeat's hole; repeats are counted from 1. NISTIR 6556, 3.5.16.
     pub fn site(&self, start: &Start, repeat: u16) -> Site
         requires { AreLengths self.now start.now repeat }
         ensures { result ≡ site_of self.now start.now repeat }

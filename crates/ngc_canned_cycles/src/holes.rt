@@ -15,7 +15,7 @@ use ngc_fixed_length::Nm;
 use smallvec::SmallVec;
 use std::alloc::Allocator;
 
-/// One move more, for which there is room.
+/// Adds one move, for which there must be space.
 pub(crate) fn add<A: Allocator>(moves: &mut SmallVec<CycleMove, 16, A>, move_on: CycleMove)
     requires { HasRoomFor moves.old 1 }
     ensures items { moves.new.items ≡ moves.old.items ++ move_on ∷ [] }
@@ -25,7 +25,7 @@ pub(crate) fn add<A: Allocator>(moves: &mut SmallVec<CycleMove, 16, A>, move_on:
     moves.push_reserved(move_on);
 }
 
-// The height to which the tool goes back down between pecks.
+// Returns the height to which the tool traverses back down between pecks.
 fn back_height(depth: Nm) -> i128
     ensures value { result ≡ depth +ℤ pos 254000 }
     ensures bound { unsigned_abs result ≤ LENGTH_LIMIT + 254000 }
@@ -46,7 +46,7 @@ impl Site {
         CycleMove::Feed(self.place.at_height(self.plane, height))
     }
 
-    // The height that so many pecks below R have.
+    // Returns the height of `index` pecks below R.
     fn height_of_peck(&self, peck: Nm, index: u64) -> i128
         requires { pos 0 <ℤ peck }
         ensures value { result ≡ self.now.retract -ℤ (pos index *ℤ peck) }
@@ -55,7 +55,7 @@ impl Site {
         i128::from(self.retract.nanometres()) - times(index, peck)
     }
 
-    // How deep a peck, counted from 1, goes.
+    // Returns the height that a peck reaches; pecks are counted from 1.
     fn peck_depth(&self, peck: Nm, index: u64) -> Nm
         requires { pos 0 <ℤ peck }
         ensures { result ≡ depth_of self.now peck index }
@@ -68,7 +68,7 @@ impl Site {
         }
     }
 
-    // Whether the tool goes back down by traverse before it feeds on.
+    // Returns whether the tool traverses back down before it feeds on.
     fn goes_back_down(&self, depth: Nm) -> bool
         ensures value { result ≡ int_lt (depth +ℤ pos 254000) self.now.retract }
         ensures length { IsLength self.now.retract }
@@ -76,7 +76,7 @@ impl Site {
         back_height(depth) < i128::from(self.retract.nanometres())
     }
 
-    // To 254,000 nm above the last depth, unless that is at or above R.
+    // Adds the traverse to 254,000 nm above the last depth, unless that is at or above R.
     fn add_way_down<A: Allocator>(&self, moves: &mut SmallVec<CycleMove, 16, A>, depth: Nm)
         requires { HasRoomFor moves.old 1 }
         ensures items { moves.new.items ≡ moves.old.items ++ back_down self.now depth }
@@ -89,7 +89,7 @@ impl Site {
         }
     }
 
-    // A peck, counted from 1, and behind each but the last the way to R and back.
+    // Adds a peck, counted from 1, and after each peck but the last the moves to R and back.
     fn add_peck<A: Allocator>(
         &self,
         moves: &mut SmallVec<CycleMove, 16, A>,
@@ -124,7 +124,7 @@ impl Site {
         }
     }
 
-    // How far it is from the bottom up to R, in nanometres.
+    // Returns the distance from the bottom up to R, in nanometres.
     fn way(&self) -> i128
         ensures value { result ≡ self.now.retract -ℤ self.now.bottom }
         ensures bound { unsigned_abs result ≤ 200000000000 }
@@ -132,7 +132,7 @@ impl Site {
         i128::from(self.retract.nanometres() - self.bottom.nanometres())
     }
 
-    // How many pecks reach the bottom.
+    // Returns the number of pecks that reach the bottom.
     fn peck_count(&self, peck: Nm) -> u64
         requires { bad_peck (Hole.Peck peck) (self.now.retract -ℤ self.now.bottom) ≡ false }
         ensures value { result ≡ pecks_over (self.now.retract -ℤ self.now.bottom)
@@ -143,7 +143,7 @@ impl Site {
         peck_count(self.way(), peck.nanometres().unsigned_abs())
     }
 
-    /// At most so many moves for a hole.
+    /// Returns the greatest number of moves for a hole.
     pub(crate) fn hole_limit(&self, hole: &Hole) -> usize
         requires { bad_peck hole.now (self.now.retract -ℤ self.now.bottom) ≡ false }
         ensures { result ≡ hole_limit hole.now (self.now.retract -ℤ self.now.bottom) }
@@ -154,7 +154,7 @@ impl Site {
         }
     }
 
-    /// The moves of a hole.
+    /// Adds the moves of a hole.
     pub(crate) fn add_hole<A: Allocator>(&self, moves: &mut SmallVec<CycleMove, 16, A>, hole: &Hole)
         requires peck { bad_peck hole.now (self.now.retract -ℤ self.now.bottom) ≡ false }
         requires room { HasRoomFor moves.old
@@ -195,7 +195,8 @@ impl Site {
         }
     }
 
-    /// To the place of the hole at a height, and on to R unless that is there already.
+    /// Adds the move to the place of the hole at the height `arrival`, and the move to R unless the
+    /// tool is there already.
     pub(crate) fn add_approach<A: Allocator>(
         &self,
         moves: &mut SmallVec<CycleMove, 16, A>,

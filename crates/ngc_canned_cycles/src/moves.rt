@@ -15,7 +15,8 @@ use smallvec::SmallVec;
 use std::alloc::Allocator;
 
 impl Cycle {
-    // Once for a line: up to R, where the height before is below it.
+    // Adds the rise to R, if the height before is below it. It belongs to the first repeat of a
+    // line.
     fn add_first_rise<A: Allocator>(
         &self,
         moves: &mut SmallVec<CycleMove, 16, A>,
@@ -38,7 +39,7 @@ impl Cycle {
         }
     }
 
-    // The height at which a repeat comes to its place.
+    // Returns the height at which a repeat reaches its place.
     fn arrival(&self, start: &Start, site: &Site, repeat: u16) -> Nm
         requires { site.now ≡ site_of self.now start.now repeat }
         ensures { result ≡ arrival_of self.now start.now repeat }
@@ -51,8 +52,8 @@ impl Cycle {
     }
 }
 
-/// The moves of a repeat, counted from 1; the first traverse to R belongs to repeat 1. Refused as
-/// by `Cycle::check`, or with `Memory`. NISTIR 6556, 3.5.16.
+/// Returns the moves of a repeat, counted from 1; the first traverse to R belongs to repeat 1.
+/// Returns the faults of `Cycle::check`, or `Memory`. NISTIR 6556, 3.5.16.
 pub fn expand<A: Allocator + Copy>(
     alloc: A,
     cycle: &Cycle,
@@ -69,8 +70,8 @@ pub fn expand<A: Allocator + Copy>(
     Ok(moves)
 }
 
-/// The same in room that is there already, for a caller that makes all repeats: the moves take the
-/// place of what `moves` held. After a refusal it may hold anything.
+/// Does the same as `expand` in space that exists already, for a caller that makes all repeats. The
+/// moves replace the contents of `moves`. After a refusal it may hold anything.
 pub fn fill<A: Allocator + Copy>(
     moves: &mut SmallVec<CycleMove, 16, A>,
     cycle: &Cycle,
@@ -85,7 +86,7 @@ pub fn fill<A: Allocator + Copy>(
     cycle.check(start)?;
     let site = cycle.site(start, repeat);
     moves.clear();
-    // The proof learns here that there is room inline.
+    // This call tells the proof that there is space inline.
     let _capacity = moves.capacity();
     if moves.reserve(3 + site.hole_limit(&cycle.hole)).is_err() {
         return Err(CycleFault::Memory);

@@ -15,7 +15,7 @@ use crate::fault::CycleFault;
 use ngc_fixed_length::{FeedMode, MILLIONTHS, Nm, Value};
 use ngc_offsets::COORDINATE;
 
-/// The least number, at least 1, of pecks that go all the way.
+/// Returns the least number of pecks, at least 1, that cover the whole distance.
 pub(crate) fn peck_count(way: i128, peck: u64) -> u64
     requires positive { 0 < peck }
     requires short { peck ≤ 100000000000 }
@@ -34,7 +34,7 @@ fn is_negative(seconds: Value) -> bool
 }
 
 impl Hole {
-    // Whether Q is not above 0, or takes more than 10,000 pecks.
+    // Returns whether Q is not above 0, or takes more than 10,000 pecks.
     fn has_bad_peck(&self, way: i128) -> bool
         requires { unsigned_abs way ≤ 500000000000 }
         ensures { result ≡ bad_peck self.now way }
@@ -81,7 +81,7 @@ fn is_coordinate(nanometres: i128) -> bool
 }
 
 impl Cycle {
-    // L as a whole number, or 1 where it is missing.
+    // Returns L as a whole number, or 1 if it is missing.
     fn repeat_count(&self) -> u32
         ensures { result ≡ repeats_of self.now.repeats }
     {
@@ -104,7 +104,7 @@ impl Cycle {
         }
     }
 
-    /// How often the cycle is repeated: L, or 1 where it is missing. NISTIR 6556, 3.5.16.
+    /// Returns the number of repeats: L, or 1 if it is missing. NISTIR 6556, 3.5.16.
     pub fn repeats(&self) -> u16
         requires { AreRepeats (repeats_of self.now.repeats) }
         ensures { result ≡ repeats_of self.now.repeats }
@@ -112,9 +112,9 @@ impl Cycle {
         self.repeat_count() as u16
     }
 
-    /// What refuses the cycle, once for a line: the first of `RetractBelowBottom`, `BadRepeats`,
-    /// `BadPeck`, `NegativeDwell`, `SpindleNotTurning` and `InverseTime` that stands. After `Ok`
-    /// there are from 1 to 9,999 repeats.
+    /// Checks the cycle, once for a line. Returns the first fault of `RetractBelowBottom`,
+    /// `BadRepeats`, `BadPeck`, `NegativeDwell`, `SpindleNotTurning` and `InverseTime` that it has.
+    /// After `Ok` there are from 1 to 9,999 repeats.
     pub fn check(&self, start: &Start) -> Result<(), CycleFault>
         ensures value { result ≡ check self.now start.now }
         ensures repeats { OnOk result (AreRepeats (repeats_of self.now.repeats)) }
@@ -168,8 +168,9 @@ impl Cycle {
             && last
     }
 
-    /// Whether the coordinates that the words give are at most 10^9 nm in size: R, the bottom, and
-    /// the places of the first and the last repeat. Then each repeat between them has its moves.
+    /// Returns whether the coordinates that the words give are at most 10^9 nm in size: R, the
+    /// bottom, and the places of the first and the last repeat. Then `fill` makes the moves of each
+    /// repeat between them, too.
     pub fn is_in_range(&self, start: &Start) -> bool
         ensures value { result ≡ is_in_range self.now start.now }
         ensures lengths { IsTrue result → (j : ℕ) → 1 ≤ j → j ≤ repeats_of self.now.repeats →

@@ -9,11 +9,11 @@ use Rattle.ngc_canned_cycles.proofs.heights.times.Goals as goal
 is_length : (c : goal.After-from-2) → IsLength c.args.length
 is_length c = rw (← c.nanometres.ensures.value) c.nanometres.ensures.bound
 
--- and the product fits 128 bits
+-- the product fits in 128 bits
 fits : (c : goal.After-from-2) → FitsSigned w128 (pos c.args.count *ℤ c.args.length)
 fits c = fits_signed_mul w128 (pos c.args.count) c.args.length 18446744073709551616 100000000000 (omega arith) (is_length c) (lit< tt)
 
--- both factors as they stand in 128 bits
+-- both factors are unchanged in 128 bits
 left : (c : goal.After-from-2) → to_z w128 (of_z w128 c.from.result) ≡ pos c.args.count
 left c = omega (arith, ints)
 

@@ -32,7 +32,7 @@ returns-in-BoreWithDwell g c =
     rw (c.in-BoreWithDwell.is, c.add-in-BoreWithDwell-3.ensures.items, c.add-in-BoreWithDwell-2.ensures.items, c.add-in-BoreWithDwell.ensures.items)
     (rw (c.feed-in-BoreWithDwell.ensures, c.feed-in-BoreWithDwell-2.ensures, append_assoc c.args.moves.now.items) (append_assoc c.args.moves.now.items _ _))
 
--- what there is room for
+-- there is enough space
 pub add-requires : goal.add-requires
 add-requires g c = let room = rw c.in-Drill.is at c.requires.room in omega (arith, room)
 
