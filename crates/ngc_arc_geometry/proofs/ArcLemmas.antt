@@ -1,4 +1,4 @@
--- What each arc keeps.
+-- Properties of every arc.
 use Rattle.std.proofs.Common.{◌*◌, ◌≤◌, ◌-ℤ◌, unsigned_abs, arith}
 use Rattle.std.proofs.lemmas.Int.{ints}
 use Rattle.ngc_arc_geometry.specs.Shape.{ArcShape, start_of}
@@ -6,7 +6,7 @@ use Rattle.ngc_arc_geometry.specs.Radii.{squared_distance, IsArc}
 use Rattle.ngc_arc_geometry.proofs.Squares.{first_within, second_within}
 use Rattle.ngc_arc_geometry.proofs.Planes.{u_near, v_near}
 
--- the centre lies no farther out than the start and a radius
+-- the centre's distance from zero is at most the start's plus a radius
 at_start : (a : ArcShape) → IsArc a → squared_distance a.centre (start_of a) ≤ 2000020000 * 2000020000
 at_start a arc = omega (arith, arc.radius)
 

@@ -1,4 +1,4 @@
--- How far the ends lie from a centre that is found by the chord's middle.
+-- The distances of the ends from a centre that is found from the chord's middle.
 use Rattle.std.proofs.Common.{◌≡◌, ℕ, suc, ◌+◌, ◌*◌, ◌≤◌, ◌<◌, min, max, ℤ, pos, negsuc, ◌+ℤ◌, ◌-ℤ◌, unsigned_abs, ◌⊎◌, inl, inr, arith}
 use Rattle.std.specs.Int.{int_div_euclid}
 use Rattle.std.proofs.lemmas.Bool.{cases_lt}
@@ -11,16 +11,16 @@ use Rattle.ngc_arc_geometry.specs.Radii.{squared_distance}
 use Rattle.ngc_arc_geometry.proofs.Squares.{square_sum}
 use Rattle.ngc_arc_geometry.proofs.ChordLemmas.{without_factor}
 
--- half a number, doubled, misses it by at most one
+-- twice the half of a number differs from it by at most one
 half_near : (z : ℤ) → unsigned_abs (z -ℤ (int_div_euclid z (pos 2) +ℤ int_div_euclid z (pos 2))) ≤ 1
 half_near (pos a) = omega (arith, ints)
 half_near (negsuc a) = omega (arith, ints)
 
--- it lies no farther out than both
+-- the middle's size is at most the greater of the two sizes
 pub halfway_within : (x y : ℤ) (n : ℕ) → unsigned_abs x ≤ n → unsigned_abs y ≤ n → unsigned_abs (halfway x y) ≤ n
 halfway_within x y n hx hy = let half = half_near (x +ℤ y) in omega (arith, ints, half)
 
--- the squares of two numbers by those of their sum and difference
+-- the squares of two numbers from those of their sum and difference
 same_sign : (p q s d : ℕ) → s ≡ p + q → (d + p ≡ q) ⊎ (d + q ≡ p) → 2 * (p * p + q * q) ≡ s * s + d * d
 same_sign p q s d whole (inl more) = rw (whole, ← more) (omega arith)
 same_sign p q s d whole (inr more) = rw (whole, ← more) (omega arith)
@@ -49,7 +49,7 @@ squares_of (negsuc a) (pos b) =
     (by_order (suc a) b (unsigned_abs (negsuc a +ℤ pos b)) (λ h. omega (arith, ints, h)) (λ h. omega (arith, ints, h))) in
     omega (arith, e)
 
--- on one axis: the ends' squared distances from a point at most h from their middle
+-- on one axis: the sum of the ends' squared distances from a point at most h from their middle
 axis_sum : (s e c : ℤ) (h : ℕ) → unsigned_abs (c -ℤ halfway s e) ≤ h →
     2 * (unsigned_abs (s -ℤ c) * unsigned_abs (s -ℤ c) + unsigned_abs (e -ℤ c) * unsigned_abs (e -ℤ c))
     ≤ (2 * h + 1) * (2 * h + 1) + unsigned_abs (e -ℤ s) * unsigned_abs (e -ℤ s)
@@ -73,10 +73,10 @@ plane_sum s e m c hu hv mu mv nu nv =
     let chord = square_sum (e.u -ℤ s.u) (e.v -ℤ s.v) in
     rw (at_start, at_end, chord) (omega (arith, u, v))
 
--- the squares of both ways aside, by the chord's squares a2 and b2
+-- the squares of both offsets from the middle, from the chord's squares a2 and b2
 pub aside_squares : (a2 b2 e ha hb : ℕ) → 0 < a2 + b2 → 4 * (a2 + b2) * (ha * ha) ≤ a2 * e → 4 * (a2 + b2) * (hb * hb) ≤ b2 * e → 4 * (ha * ha + hb * hb) ≤ e
 aside_squares a2 b2 e ha hb positive a b = without_factor (a2 + b2) (4 * (ha * ha + hb * hb)) e positive (omega arith)
 
--- the sum of two numbers by the lesser and the greater
+-- the sum of two numbers is that of the lesser and the greater
 pub min_max_sum : (x y : ℕ) → min x y + max x y ≡ x + y
 min_max_sum x y = omega arith

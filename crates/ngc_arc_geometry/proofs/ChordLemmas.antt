@@ -1,10 +1,10 @@
--- How far the centre lies from the chord, in radius format.
+-- The distance of the centre from the chord, in radius format.
 use Rattle.std.proofs.Common.{ℕ, ◌+◌, ◌-◌, ◌*◌, ◌/◌, ◌≤◌, ◌<◌, inl, inr, arith}
 use Rattle.std.proofs.lemmas.Bool.{cases_lt}
 use Rattle.std.proofs.lemmas.Nat.{mul-le, div-add-mod'}
 use Rattle.ngc_arc_geometry.proofs.Squares.{from_squares}
 
--- a factor above 0 may be left out
+-- a factor above 0 cancels
 pub without_factor : (d x y : ℕ) → 0 < d → d * x ≤ d * y → x ≤ y
 without_factor d x y positive h =
     elim (cases_lt y x) [
@@ -12,7 +12,7 @@ without_factor d x y positive h =
       | inr less ↦ less
     ]
 
--- a quotient that was rounded down, times the divisor
+-- a quotient that is rounded down, times the divisor
 times_divisor : (s n d : ℕ) → s ≤ n / d → d * s ≤ n
 times_divisor s n d h =
     let whole = div-add-mod' n d in
@@ -29,7 +29,7 @@ aside_bound k2 q d2 h positive reached limit part square =
     let quarter : 4 * (h * h) ≤ 4 * q - d2 = without_factor d2 (4 * (h * h)) (4 * q - d2) positive (omega arith) in
     from_squares h 2000000000 (omega arith)
 
--- a number no greater has the bound too
+-- the bound also holds for a lesser number
 pub aside_less : (k2 e d2 h s : ℕ) → s ≤ h → 4 * d2 * (h * h) ≤ k2 * e → 4 * d2 * (s * s) ≤ k2 * e
 aside_less k2 e d2 h s less square =
     let squares : s * s ≤ h * h = mul-le s s h h less less in

@@ -1,4 +1,4 @@
--- The law of cut arcs: some piece's box holds each point of band and sector.
+-- The law of cut arcs: each point of band and sector lies in the box of one of the pieces.
 use Rattle.std.proofs.Common.{◌≡◌, ℕ, zero, suc, ◌+◌, ◌-◌, ◌*◌, ◌<◌, ◌≤◌, inl, inr, ap, ap₂, arith, refl, subst, ℤ, pos, negsuc, ◌+ℤ◌, ◌-ℤ◌, ◌*ℤ◌, neg_ℤ, ◌≤ℤ◌}
 use Rattle.std.proofs.Common.{unsigned_abs, sym, ◌∙◌, ◌⊎◌, Bool, true, false, List, [], ◌∷◌}
 use Rattle.std.specs.Prelude.{IsTrue, ◌&&◌, ◌||◌, not, int_le, int_lt, if◌then◌else◌, Any}
@@ -35,7 +35,7 @@ le_of a b h = grind (arith, ints)
 lt_of : (a b : ℤ) → IsTrue (int_lt a b) → (a +ℤ pos 1) ≤ℤ b
 lt_of a b h = grind (arith, ints)
 
--- what a point keeps that is to be held
+-- what is known of a point that a box must contain
 record IsToHold (g : ℕ) (a : ArcShape) (p : StepPos) : Type 0 where
   arc : HasEvenRadii a
   some : 0 < g
@@ -47,7 +47,7 @@ record IsToHold (g : ℕ) (a : ArcShape) (p : StepPos) : Type 0 where
 margin_is : (g : ℕ) (a : ArcShape) → margin (pos g) a ≡ pos (2 * g + (outer_radius a - inner_radius a))
 margin_is g a = omega (arith, ints)
 
--- in the plane among the cut points, so in the box
+-- a point between the cut points in the plane lies in the box
 in_box : (g : ℕ) (a : ArcShape) (q r : Point2) (p : StepPos) → IsToHold g a p →
     AreAmong (2 * g + (outer_radius a - inner_radius a)) q r (seen (pos g) a p) → IsIn (cut_box (pos g) a q r) p
 in_box g a q r p h m =
@@ -61,7 +61,7 @@ in_box g a q r p h m =
       w_high = h.high;
     })
 
--- a piece that turns on, with both cut points in the band, holds what lies in its cone
+-- a piece that turns forward, with both cut points in the band, contains the points of its cone
 record IsPiece (g : ℕ) (a : ArcShape) (q r : Point2) : Type 0 where
   quadrant : AreAlike (from a.centre q) (from a.centre r)
   turns : pos 1 ≤ℤ turn_from a q r
@@ -93,7 +93,7 @@ backward_in a z q r p zq qr pz pq pr =
     (subst (λ t. pos 1 ≤ℤ t) (turn_faced a z q) zq) (subst (λ t. pos 1 ≤ℤ t) (turn_faced a q r) qr) (subst (λ t. pos 1 ≤ℤ t) (turn_faced a p z) pz)
     (subst (λ t. pos 1 ≤ℤ t) (turn_faced a p q) pq) (subst (λ t. pos 0 ≤ℤ t) (turn_faced a p r) pr))
 
--- either way round
+-- q is ahead of p, or p is ahead of q
 sides : (a : ArcShape) (p q : Point2) → (pos 0 ≤ℤ turn_from a p q) ⊎ (pos 1 ≤ℤ turn_from a q p)
 sides a p q = by (turn_from a p q) (turn_from a q p) opposite
   where
@@ -151,7 +151,8 @@ any_there P b bs h = (suc h.0, h.1, omega (arith, h.2), h.3, h.4)
 abbrev Held : ℕ → ArcShape → Point2 → List Point2 → StepPos → Type 0
 Held g a q cuts p = Any (λ b. IsIn b p) (cut_boxes (pos g) a q cuts)
 
--- p is behind z and q, which lies behind z: some piece from q on holds p, or p is behind the end too, and so is the end behind z
+-- p is after z and q, and q is after z: one of the pieces from q on contains p, or p is after the
+-- end too, and the end is after z
 go_on : (g : ℕ) (a : ArcShape) (z q : Point2) (cuts : List Point2) (p : StepPos) → IsToHold g a p → IsCutChain (pos g) a q cuts → IsInBand a g q →
     pos 0 ≤ℤ turn_from a z (seen (pos g) a p) → pos 1 ≤ℤ turn_from a z q → pos 1 ≤ℤ turn_from a q (seen (pos g) a p) →
     Held g a q cuts p ⊎ ((pos 1 ≤ℤ turn_from a z (end_of a)) × (pos 1 ≤ℤ turn_from a (end_of a) (seen (pos g) a p)))
@@ -198,7 +199,8 @@ go_from g a q (r ∷ s ∷ rs) p h c at qp =
       ])
     ]
 
--- p is before z and q, which lies behind z, and not behind the end: some piece from q on holds p, or the end lies behind z
+-- p is before z, q is after z, and p is not after the end: one of the pieces from q on contains p,
+-- or the end is after z
 come_up : (g : ℕ) (a : ArcShape) (z q : Point2) (cuts : List Point2) (p : StepPos) → IsToHold g a p → IsCutChain (pos g) a q cuts → IsInBand a g q →
     pos 1 ≤ℤ turn_from a (seen (pos g) a p) z → pos 1 ≤ℤ turn_from a z q → pos 1 ≤ℤ turn_from a (seen (pos g) a p) q →
     pos 0 ≤ℤ turn_from a (seen (pos g) a p) (end_of a) → Held g a q cuts p ⊎ (pos 1 ≤ℤ turn_from a z (end_of a))
@@ -287,7 +289,8 @@ by_end g a q (r ∷ s ∷ rs) p h c near = any_there (λ b. IsIn b p) (cut_box (
 
 -- ---- the closed sector
 
--- of a full circle the start's side of p is the end's: with n across b, (n x e)(b x p) = (n x b)(e x p) + (b x e)(n x p)
+-- on a full circle p is on the same side of the start as of the end: with n perpendicular to b, (n
+-- x e)(b x p) = (n x b)(e x p) + (b x e)(n x p)
 across : Point2 → Point2
 across b = record { u = neg_ℤ b.v; v = b.u }
 
@@ -346,7 +349,7 @@ full_before a x h before =
     subst (λ k. pos 0 ≤ℤ k) (sym (turn_faced a x e))
     (full_side (faced a b) (faced a e) (faced a x) (sym (turn_faced a b e) ∙ full_turn a h) d (subst (λ k. pos 1 ≤ℤ k) (turn_faced a x b) before))
 
--- what it is to lie in the closed sector
+-- the definition of the closed sector
 abbrev OneSector : Bool → Bool → Bool → Bool → Type 0
 OneSector full ahead first last = IsTrue full ⊎ ((IsTrue first × IsTrue last) ⊎ ((ahead ≡ false) × (IsTrue first ⊎ IsTrue last)))
 
@@ -418,7 +421,7 @@ covered g a cuts p h chain (inr (inr near)) = by_end g a (start_of a) cuts p h c
 narrow : (g : ℕ) (a : ArcShape) → 8 * g ≤ inner_radius a → leeway (pos g) a ≡ g
 narrow g a large = grind (arith, nat_tests)
 
--- each point of a path that follows the arc is one to hold
+-- a box must contain each point of a path that follows the arc
 to_hold : (g : ℕ) (a : ArcShape) (n : ℕ) (path : List StepPos) (k : ℕ) → 0 < g → HasEvenRadii a → 8 * g ≤ inner_radius a → IsArcOf (pos g) a n path → k ≤ n →
     IsToHold g a (point path k)
 to_hold g a n path k some arc large follows within =

@@ -1,4 +1,4 @@
--- From nanometres to grid points, and a cut arc's box as its plane sees it.
+-- From nanometres to grid points, and a cut arc's box in its plane's coordinates.
 use Rattle.std.proofs.Common.{◌≡◌, ℕ, zero, suc, ◌<◌, arith, refl, ℤ, pos, negsuc, ◌*ℤ◌, neg_ℤ, ◌≤ℤ◌}
 use Rattle.std.specs.Int.{int_div_euclid}
 use Rattle.std.proofs.lemmas.Int.{ints}
@@ -30,7 +30,7 @@ above_low y p l z h =
     let f = floor_above y (neg_ℤ p) (neg_ℤ l) z e in
     omega (arith, ints, f)
 
--- the three axes, as the plane names them
+-- the three axes, in the plane's names
 pub record IsPlaced (plane : Plane) (p : StepPos) (lu hu lv hv lw hw : ℤ) : Type 0 where
   pub u_low : lu ≤ℤ (in_plane plane (record { x = p.x; y = p.y; z = p.z })).u
   pub u_high : (in_plane plane (record { x = p.x; y = p.y; z = p.z })).u ≤ℤ hu
@@ -45,7 +45,7 @@ placed XY p lu hu lv hv lw hw h = record { x_low = h.u_low; x_high = h.u_high; y
 placed ZX p lu hu lv hv lw hw h = record { x_low = h.v_low; x_high = h.v_high; y_low = h.w_low; y_high = h.w_high; z_low = h.u_low; z_high = h.u_high }
 placed YZ p lu hu lv hv lw hw h = record { x_low = h.w_low; x_high = h.w_high; y_low = h.u_low; y_high = h.u_high; z_low = h.v_low; z_high = h.v_high }
 
--- the heights of a box, as the plane names them
+-- the heights of a box, in the plane's names
 pub heights : (plane : Plane) (p : StepPos) (lu hu lv hv lw hw : ℤ) → IsBetween (grid_at plane lu lv lw) (grid_at plane hu hv hw) p →
     (lw ≤ℤ height plane (record { x = p.x; y = p.y; z = p.z })) × (height plane (record { x = p.x; y = p.y; z = p.z }) ≤ℤ hw)
 heights XY p lu hu lv hv lw hw h = (h.z_low, h.z_high)

@@ -1,10 +1,10 @@
--- How far out along an axis what lies ahead can be.
+-- How far along an axis a point ahead can be.
 use Rattle.std.proofs.Common.{ℕ, ◌+◌, ◌*◌, ◌≤◌, inl, inr, arith}
 use Rattle.std.proofs.lemmas.Bool.{cases_lt}
 use Rattle.std.proofs.lemmas.Nat.{mul-le}
 use Rattle.ngc_arc_geometry.proofs.Squares.{from_squares}
 
--- with a, b no further ahead than x, y, and radii of at least p and at most p + m, x is at most a + m
+-- if (a, b) is not ahead of (x, y), and the radii are from p to p + m, x is at most a + m
 scaled_reach : (a b x y p m : ℕ) → p * p ≤ a * a + b * b → x * x + y * y ≤ (p + m) * (p + m) → b * x ≤ a * y → (p * x) * (p * x) ≤ (a * (p + m)) * (a * (p + m))
 scaled_reach a b x y p m inner outer turn =
     let l : (x * x) * (p * p) ≤ (x * x) * (a * a + b * b) = mul-le (x * x) (p * p) (x * x) (a * a + b * b) (omega arith) inner in

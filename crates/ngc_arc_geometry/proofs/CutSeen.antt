@@ -1,4 +1,4 @@
--- A cut arc as its sense of turning sees it: a clockwise one in the mirror.
+-- A cut arc in the direction of its turning: a clockwise one is mirrored.
 use Rattle.std.proofs.Common.{◌≡◌, ℕ, ◌+◌, ◌-◌, ◌*◌, ◌^◌, ◌<◌, ◌≤◌, arith, refl, ℤ, pos, ◌+ℤ◌, ◌-ℤ◌, ◌*ℤ◌, ◌≤ℤ◌, unsigned_abs, Bool, true, false}
 use Rattle.std.specs.Prelude.{IsTrue, ◌&&◌, nat_le}
 use Rattle.std.specs.Int.{int_min, int_max}
@@ -68,7 +68,8 @@ unfolding faced_by
 banded_by Counterclockwise i m d h k = let e = square_sum d.u d.v in record { inner = omega (arith, e, h); outer = omega (arith, e, k) }
 banded_by Clockwise i m d h k = let e = square_sum d.u d.v in record { inner = omega (arith, e, h); outer = omega (arith, e, k) }
 
--- what the radii are: the inner one isn't above the lesser distance, the outer one isn't below the greater
+-- properties of the radii: the inner one is at most the lesser distance, the outer one at least the
+-- greater
 pub record AreRadii (a : ArcShape) : Type 0 where
   pub inner : inner_radius a * inner_radius a ≤ lo a
   pub outer : hi a ≤ outer_radius a * outer_radius a
@@ -105,7 +106,7 @@ end_reached a w arc =
     let r = radii a arc in let i = wider (inner_radius a) w in let o = wider_out (outer_radius a) w in
     record { inner = omega (arith, r.inner, i); outer = omega (arith, r.outer, o) }
 
--- ---- from what is faced back to the plane's axes
+-- ---- from the direction back to the plane's axes
 
 shifted_low : (c q r p : ℤ) (m : ℕ) → (int_min (q -ℤ c) (r -ℤ c) -ℤ pos m) ≤ℤ (p -ℤ c) → (int_min q r -ℤ pos m) ≤ℤ p
 shifted_low c q r p m h = omega (arith, ints, clamps, h)
@@ -125,7 +126,7 @@ pub among_faced : (a : ArcShape) (q r p : Point2) (m : ℕ) → AreAmong m (face
 unfolding faced
 among_faced a q r p m h = among_by a.turn a.centre q r p m h
 
--- both coordinates of one sign
+-- both coordinates have the same sign
 pub record AreAlike (d e : Point2) : Type 0 where
   pub u : pos 0 ≤ℤ (d.u *ℤ e.u)
   pub v : pos 0 ≤ℤ (d.v *ℤ e.v)

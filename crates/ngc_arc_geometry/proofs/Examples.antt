@@ -1,4 +1,4 @@
--- Worked arcs, by computing the definitions.
+-- Worked arcs, by evaluating the definitions.
 use Rattle.std.proofs.Common.{◌≡◌, ℤ, pos, negsuc, Some, None, Ok, Err, true, refl}
 use Rattle.ngc_fixed_length.specs.Roots.{whole_root, whole_root_above}
 use Rattle.ngc_fixed_length.specs.declared.modes.Plane.{Plane}
@@ -46,7 +46,7 @@ half_high : swept_high (pos 10000) (arc_about (half (pos 10000000)) (place (pos 
 unfolding whole_root whole_root_above
 half_high = refl
 
--- an end that is 2 µm farther out is taken, one of 3 µm is not
+-- an end that is 2 µm farther from the centre is accepted, one that is 3 µm farther is not
 two_farther : centre_format Millimetres (half (pos 10002000)) (offsets (pos 5000000) (pos 0))
     ≡ Ok (arc_about (half (pos 10002000)) (place (pos 5000000) (pos 0)))
 two_farther = refl
@@ -57,7 +57,7 @@ three_farther = refl
 abbrev quarter : Ends
 quarter = ends XY Clockwise (point (pos 0) (pos 0) (pos 0)) (point (pos 10000000) (pos 10000000) (pos 0))
 
--- a radius above 0 takes the short way, one below 0 the long way
+-- a radius above 0 selects the short arc, one below 0 the long arc
 long_way : radius_format Millimetres quarter (negsuc 9999999) ≡ Ok (arc_about quarter (place (pos 0) (pos 10000000)))
 unfolding whole_root
 long_way = refl
@@ -70,7 +70,7 @@ short_way = refl
 too_small : radius_format Millimetres quarter (pos 7000000) ≡ Err RadiusTooSmall
 too_small = refl
 
--- a half circle whose radius is short of half the chord by no more than 2 µm
+-- a half circle whose radius is shorter than half the chord by at most 2 µm
 just_reached : radius_format Millimetres (half (pos 10000000)) (pos 4998000) ≡ Ok (arc_about (half (pos 10000000)) (place (pos 5000000) (pos 0)))
 just_reached = refl
 
@@ -92,7 +92,7 @@ widest_long = refl
 too_wide : radius_format Millimetres wide (pos 2000001000) ≡ Err RadiusOutOfRange
 too_wide = refl
 
--- in the plane ZX, seen from Y
+-- in the plane ZX, seen from positive Y
 abbrev sideways : Ends
 sideways = ends ZX Clockwise (point (pos 0) (pos 0) (pos 0)) (point (pos 0) (pos 0) (negsuc 9999999))
 

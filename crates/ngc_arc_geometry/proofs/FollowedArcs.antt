@@ -1,4 +1,4 @@
--- Worked paths along arcs, by computing the definitions; and paths that follow no arc.
+-- Worked paths along arcs, by evaluating the definitions; and paths that follow no arc.
 use Rattle.std.proofs.Common.{◌≡◌, ℕ, zero, suc, ◌+◌, ◌-◌, ◌*◌, ◌/◌, ◌≤◌, ℤ, pos, negsuc, refl, arith, List, [], ◌∷◌, length}
 use Rattle.std.specs.Prelude.{Bool, true, false, ◌&&◌, ◌||◌, if◌then◌else◌, nat_le, nat_lt, int_le, neg_ℤ, ◌+ℤ◌, ◌-ℤ◌, ◌*ℤ◌, unsigned_abs, not}
 use Rattle.ngc_fixed_length.specs.Roots.{whole_root, whole_root_above}
@@ -20,12 +20,12 @@ use Rattle.ngc_arc_geometry.specs.GridPlaces.{seen, height_of}
 use Rattle.ngc_arc_geometry.specs.ArcBand.{leeway, spread}
 use Rattle.ngc_arc_geometry.specs.ArcPath.{IsArcOf}
 
--- ---- the clauses as tests: a height that comes no farther from its end in any move doesn't turn back
+-- ---- the clauses as tests: a height whose distance from its end never grows does not turn back
 
 abbrev is_within : ℕ → Point2 → Point2 → Bool
 is_within d p q = nat_le (squared_distance p q) (d * d)
 
--- radii, leeway and the like, found once
+-- radii, leeway and the like, computed once
 record Sizes : Type 0 where
   s : ℕ
   w : ℕ
@@ -64,7 +64,7 @@ move_is_good z a g h p q =
     nat_le (distance (height_of a h) z.top) (distance (height_of a g) z.top) &&
     (int_le (pos 0) (turn_from a p q) || by_an_end a (4 * z.s + z.d) p || by_an_end a (4 * z.s + z.d) q)
 
--- at place k of n the height is at most a step from k parts in n of its way
+-- at point k of n the height is at most a step from its value at k/n of the line
 abbrev height_is_good : ℤ → ArcShape → ℕ → ℕ → ℤ → Bool
 height_is_good step a n k at =
     nat_le (distance (pos k *ℤ (height a.plane a.end -ℤ height a.plane a.start)) (pos n *ℤ ((at *ℤ step) -ℤ height a.plane a.start))) (n * unsigned_abs step)
@@ -77,7 +77,7 @@ abbrev no_more : List Point2 → Bool
 no_more [] = true
 no_more (q ∷ qs) = false
 
--- all points, moves and heights from place k on; one quadrant point after the other is met
+-- all points, moves and heights from point k on; the quadrant points are met in order
 all_good : Sizes → ℤ → ArcShape → ℕ → ℕ → List Point2 → List StepPos → Bool
 all_good z step a n k qs [] = false
 all_good z step a n k qs (g ∷ []) =
@@ -96,7 +96,8 @@ unfolding all_good
 follows step a [] = false
 follows step a (g ∷ gs) = same_pos g (grid step a.start) && all_good (sizes step a) step a (length gs) 0 (extremes a) (g ∷ gs) && is_short step a (length gs)
 
--- ---- paths to judge: round a centre on the grid from point to point, each by its quadrant and its places along the quadrant's axes
+-- ---- paths to judge: from point to point on the grid round a centre; each point has a quadrant
+-- and coordinates along the quadrant's axes
 
 record Spot : Type 0 where
   q : ℕ
@@ -121,7 +122,7 @@ about g turn cu cv w (suc (suc zero)) x y = record { x = cu -ℤ pos (x / g); y 
 about g turn cu cv w (suc (suc (suc zero))) x y = record { x = cu +ℤ pos (y / g); y = cv -ℤ turned turn (pos (x / g)); z = w }
 about g turn cu cv w (suc (suc (suc (suc q)))) x y = about g turn cu cv w q x y
 
--- n points from s on and the end; place k has the height h k
+-- n points from s on, and the end; point k has the height h k
 round_path : ℕ → ℕ → Turn → ℤ → ℤ → (ℕ → ℤ) → StepPos → ℕ → ℕ → Spot → List StepPos
 round_path g limit turn cu cv h end zero k s = end ∷ []
 round_path g limit turn cu cv h end (suc n) k s = about g turn cu cv (h k) s.q s.x s.y ∷ round_path g limit turn cu cv h end n (suc k) (next g limit s)
@@ -190,9 +191,9 @@ helix_follows : follows (pos 10000) helix (helix_path down) ≡ true
 unfolding whole_root whole_root_above all_good follows round_path
 helix_follows = refl
 
--- ---- what follows no arc
+-- ---- paths that do not follow the arc
 
--- the wrong way round
+-- in the wrong direction
 abbrev wrong_way : List StepPos
 wrong_way =
     round_path 10000 (5004000 * 5004000) Counterclockwise (pos 500) (pos 0) flat (at (pos 1000) (pos 0) (pos 0)) 1414 0 (record { q = 2; x = 5000000; y = 0 })
@@ -234,7 +235,7 @@ jump_fails : follows (pos 10000) small_circle (jump small_path) ≡ false
 unfolding whole_root whole_root_above all_good follows round_path jump
 jump_fails = refl
 
--- to and fro at the start
+-- back and forth at the start
 to_and_fro : ℕ → List StepPos → List StepPos
 to_and_fro zero ps = ps
 to_and_fro (suc n) ps = at (pos 0) (pos 0) (pos 0) ∷ at (pos 0) (pos 1) (pos 0) ∷ to_and_fro n ps
@@ -243,7 +244,7 @@ to_and_fro_fails : follows (pos 10000) small_circle (to_and_fro 40 small_path) �
 unfolding whole_root whole_root_above all_good follows round_path to_and_fro
 to_and_fro_fails = refl
 
--- a height that goes up again at one place, by so little that it stays near its way
+-- a height that rises again at one point, by so little that it stays near its line
 abbrev up_again : ℕ → ℤ
 up_again k = if nat_le k 9 && nat_le 9 k then pos 0 else down k
 
@@ -251,7 +252,7 @@ up_again_fails : follows (pos 10000) helix (helix_path up_again) ≡ false
 unfolding whole_root whole_root_above all_good follows round_path
 up_again_fails = refl
 
--- nothing at all, for a full circle
+-- no move at all, for a full circle
 nothing_fails : follows (pos 10000) small_circle (at (pos 0) (pos 0) (pos 0) ∷ []) ≡ false
 unfolding whole_root whole_root_above all_good follows
 nothing_fails = refl

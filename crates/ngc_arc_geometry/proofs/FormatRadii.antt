@@ -1,4 +1,4 @@
--- In both formats the radii of an arc fit their bounds, wherever its ends lie.
+-- In both formats the radii of an arc are within their bounds, wherever its ends lie.
 use Rattle.std.proofs.Common.{◌≡◌, ℕ, ◌-◌, ◌*◌, ◌/◌, ◌^◌, ◌≤◌, ◌<◌, ◌==◌, nat_le, nat_lt, ℤ, pos, negsuc, ◌+ℤ◌, ◌-ℤ◌, ◌*ℤ◌, neg_ℤ, unsigned_abs, Bool, true}
 use Rattle.std.proofs.Common.{false, not, Result, Ok, Err, refl, subst, lit≤, arith}
 use Rattle.std.specs.Int.{int_signum}
@@ -34,12 +34,12 @@ use Rattle.ngc_arc_geometry.proofs.Machine.{size_of_negative}
 
 -- ---- steps that did not refuse
 
--- what a step answered that another went before
+-- the result of a step after another
 last_of : {A : Type 0} (x : Result (Unit {0}) ArcFault) (r : Result A ArcFault) (a : A) → (x >> r) ≡ Ok a → r ≡ Ok a
 last_of (Ok u) r a h = h
 last_of (Err e) r a h = absurd (cc h)
 
--- the one before it didn't refuse
+-- the step before it did not refuse
 first_of : {A : Type 0} (x : Result (Unit {0}) ArcFault) (r : Result A ArcFault) (a : A) → (x >> r) ≡ Ok a → x ≡ Ok tt
 first_of (Ok u) r a h = refl
 first_of (Err e) r a h = absurd (cc h)
@@ -48,7 +48,7 @@ not_so : (b : Bool) (e : ArcFault) → refuse_if b e ≡ Ok tt → b ≡ false
 not_so true e h = absurd (cc h)
 not_so false e h = refl
 
--- what failed tests say
+-- the consequences of failed tests
 above_zero : (n : ℕ) → (n == 0) ≡ false → 0 < n
 above_zero n h = grind (arith, nat_tests)
 
@@ -92,9 +92,9 @@ radii_of_centre units e o a h =
     let limit = not_over SQUARE_LIMIT (hi s) (not_so _ _ (last_of _ _ tt (first_of _ found a h))) in
     even_where_equal (tolerance units) s a (tolerance_small units) (range_within s limit) (last_of _ found a h)
 
--- ---- radius format: the word R is in range, and the centre lies by the chord's middle
+-- ---- radius format: the word R is in range, and the centre is found from the chord's middle
 
--- the way aside on one axis, by its square
+-- the offset from the middle along one axis, from its square
 square_aside : (q d2 : ℕ) (k : ℤ) → 0 < d2 → d2 ≤ 4 * q → q ≤ 4000000000000000000 → unsigned_abs k * unsigned_abs k ≤ d2
     → 4 * d2 * (unsigned_abs (aside q d2 k) * unsigned_abs (aside q d2 k)) ≤ unsigned_abs k * unsigned_abs k * (4 * q - d2)
 square_aside q d2 k positive reached limit part =
@@ -104,7 +104,7 @@ square_aside q d2 k positive reached limit part =
     let small : n < 4 ^ 64 = div_below (k2 * (4 * q - d2)) (4 * d2) (4 ^ 64) (omega arith) (omega arith) in
     aside_square k2 (4 * q - d2) d2 (whole_root n) (whole_root-greatest n small).square
 
--- signs leave the size, or give 0
+-- a sign keeps the size, or gives 0
 signed_size : (s g z : ℤ) → unsigned_abs s ≤ 1 → unsigned_abs g ≤ 1 → unsigned_abs (s *ℤ g *ℤ z) ≤ unsigned_abs z
 signed_size s g z s_one g_one =
     let signs = mul-le (unsigned_abs s) (unsigned_abs g) 1 1 s_one g_one in
@@ -124,7 +124,7 @@ sign_size (negsuc n) = lit≤ tt
 moved_by : (x z : ℤ) (n : ℕ) → unsigned_abs z ≤ n → unsigned_abs ((x +ℤ z) -ℤ x) ≤ n
 moved_by x z n h = omega (arith, ints)
 
--- the centre lies aside where the radius reaches the middle
+-- the centre is beside the middle if the radius reaches it
 range_where_reached : (e : Ends) (q : ℕ) (is_long : Bool) → 0 < chord_square e → chord_square e ≤ 4 * q → q ≤ 4000000000000000000
     → HasRadiiInRange (arc_about e (shifted (middle e) (aside_point (side e.turn is_long) q (chord_square e) (chord e))))
 range_where_reached e q is_long positive reached limit =
@@ -149,11 +149,11 @@ range_where_reached e q is_long positive reached limit =
 same_centre : (p q : Point2) → (let x : Result Point2 ArcFault = Ok p in let y : Result Point2 ArcFault = Ok q in x ≡ y) → p ≡ q
 same_centre p q h = cc
 
--- what a test says that holds
+-- the consequence of a test that holds
 at_most : (n m : ℕ) → nat_le n m ≡ true → n ≤ m
 at_most n m h = grind (arith, nat_tests)
 
--- the same by how the tests went
+-- the same, for each result of the tests
 range_by_tests : (t : ℕ) (e : Ends) (r : ℤ) (centre : Point2) (is_reached is_near : Bool) → t ≤ 5080 → 0 < chord_square e →
     unsigned_abs r * unsigned_abs r ≤ 4000000000000000000
     → nat_le (chord_square e) (4 * (unsigned_abs r * unsigned_abs r)) ≡ is_reached → nat_le (chord_square e) (reach (unsigned_abs r) t) ≡ is_near

@@ -8,7 +8,7 @@ use borrow.Author.Differences.{neg_is}
 use Rattle.ngc_fixed_length.specs.Length.{IsStep}
 use Rattle.ngc_arc_geometry.proofs.Machine.{size_of_negative}
 
--- a natural quotient by a step
+-- a quotient of a natural number by a step
 size_of_quotient : (a n : ℕ) → 500 ≤ n → a ≤ 110000000000 → a / n ≤ 220000000
 size_of_quotient a n least bound =
     let whole = div-add-mod' a n in
@@ -20,7 +20,7 @@ quotient_bound (pos a) (pos n) step bound = let q = size_of_quotient a n (omega 
 quotient_bound (negsuc a) (pos n) step bound = let q = size_of_quotient a n (omega (arith, ints, step.least)) (omega arith) in omega arith
 quotient_bound z (negsuc n) step bound = absurd (omega (arith, ints, step.least))
 
--- the rest that it leaves is at most a step
+-- the remainder is at most a step
 pub quotient_near : (z s : ℤ) → IsStep s → (z -ℤ (int_div_euclid z s *ℤ s)) ≤ℤ s
 quotient_near (pos a) (pos n) step =
     let whole = div-add-mod' a n in
@@ -33,7 +33,7 @@ quotient_near (negsuc a) (pos n) step =
     omega (arith, ints)
 quotient_near z (negsuc n) step = absurd (omega (arith, ints, step.least))
 
--- what 64 bits make of the negative of a coordinate
+-- the negative of a coordinate fits in 64 bits
 pub turned : (z : ℤ) → unsigned_abs z ≤ 110000000000 → to_z w64 (of_z w64 (pos 0 -ℤ to_z w64 (of_z w64 z))) ≡ neg_ℤ z
 turned z small =
     let n = neg_is z in
@@ -42,7 +42,7 @@ turned z small =
     let size : unsigned_abs (neg_ℤ z) ≤ 110000000000 = rw (size_of_negative z) small in
     rw negative (omega (arith, ints, size))
 
--- what 32 bits make of a quotient, and of its negative
+-- a quotient, and its negative, fit in 32 bits
 pub kept : (q : ℤ) → unsigned_abs q ≤ 220000001 → to_z w32 (of_z w32 (to_z w64 (of_z w64 q))) ≡ q
 kept q small = let wide : to_z w64 (of_z w64 q) ≡ q = omega (arith, ints) in rw wide (omega (arith, ints))
 

@@ -1,30 +1,30 @@
--- Worked arcs, by computing the definitions.
+-- Worked arcs, by evaluating the definitions.
 mod Examples
--- Worked paths along arcs, by computing the definitions; and paths that follow no arc.
+-- Worked paths along arcs, by evaluating the definitions; and paths that follow no arc.
 mod FollowedArcs
 -- A path that follows an arc stays in its swept box.
 mod FollowedPaths
 -- Points with equal coordinates are equal.
 pub mod Points
--- Squares, and what they say of the numbers.
+-- Squares, and their consequences for the numbers.
 pub mod Squares
--- How large radii that are nearly equal can be, and by how much they differ.
+-- The size and the difference of radii that are nearly equal.
 pub mod RadiiLemmas
--- What a plane sees of a point that isn't far out.
+-- The plane's coordinates of a point that is in range.
 pub mod Planes
--- How far the centre lies from the chord, in radius format.
+-- The distance of the centre from the chord, in radius format.
 pub mod ChordLemmas
--- How far the ends lie from a centre that is found by the chord's middle.
+-- The distances of the ends from a centre that is found from the chord's middle.
 pub mod CentreLemmas
 -- In radius format the squared radii stay in range.
 pub mod CentreRange
--- In both formats the radii of an arc fit their bounds, wherever its ends lie.
+-- In both formats the radii of an arc are within their bounds, wherever its ends lie.
 pub mod FormatRadii
--- What 64 bits make of numbers that are small enough.
+-- Small numbers are unchanged in 64 bits.
 pub mod Machine
--- Where no step refuses, the answer is the last one's.
+-- If no step refuses, the result is the last step's.
 pub mod Steps
--- What each arc keeps.
+-- Properties of every arc.
 pub mod ArcLemmas
 -- Grid points next to a number of nanometres.
 pub mod GridLemmas
@@ -32,7 +32,7 @@ pub mod GridLemmas
 pub mod SpanLemmas
 -- The grid points of an arc's ends lie in its swept box.
 pub mod SweptEnds
--- How far out along an axis what lies ahead can be.
+-- How far along an axis a point ahead can be.
 pub mod CutLemmas
 -- Products of turns.
 pub mod CutInts
@@ -40,11 +40,11 @@ pub mod CutInts
 pub mod CutSigns
 -- A point of a cone within a quadrant lies in the grown box of two cut points.
 pub mod CutBetween
--- From nanometres to grid points, and a cut arc's box as its plane sees it.
+-- From nanometres to grid points, and a cut arc's box in its plane's coordinates.
 pub mod CutGrid
--- A cut arc as its sense of turning sees it: a clockwise one in the mirror.
+-- A cut arc in the direction of its turning: a clockwise one is mirrored.
 pub mod CutSeen
--- The law of cut arcs: some piece's box holds each point of band and sector.
+-- The law of cut arcs: each point of band and sector lies in the box of one of the pieces.
 pub mod CutChain
 -- The grid points of a cut arc's ends lie in the boxes of its first and last piece.
 pub mod CutEnds

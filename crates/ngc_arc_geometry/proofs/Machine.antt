@@ -1,4 +1,4 @@
--- What 64 bits make of numbers that are small enough.
+-- Small numbers are unchanged in 64 bits.
 use Rattle.std.proofs.Common.{◌≡◌, ◌≤◌, ◌*◌, ◌^◌, ℕ, ℤ, pos, negsuc, zero, suc, ◌+ℤ◌, ◌-ℤ◌, neg_ℤ, unsigned_abs, to_z, of_z, SFits, Fits, ◌+◌, arith, refl}
 use Rattle.std.specs.Int.{w64, w128}
 use Rattle.std.proofs.lemmas.Int.{ints, to_z-of_z}

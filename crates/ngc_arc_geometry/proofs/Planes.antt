@@ -1,4 +1,4 @@
--- What a plane sees of a point that isn't far out.
+-- The plane's coordinates of a point that is in range.
 use Rattle.std.proofs.Common.{◌≤◌, unsigned_abs}
 use Rattle.ngc_fixed_length.specs.declared.modes.Plane.{Plane}
 use Rattle.ngc_fixed_length.specs.declared.modes.Plane.TheVariants.{XY, ZX, YZ}

@@ -1,4 +1,4 @@
--- How large radii that are nearly equal can be, and by how much they differ.
+-- The size and the difference of radii that are nearly equal.
 use Rattle.std.proofs.Common.{◌≡◌, ℕ, ◌+◌, ◌-◌, ◌*◌, ◌≤◌, true, ◌⊎◌, inl, inr, arith}
 use Rattle.std.proofs.lemmas.Bool.{cases_lt}
 use Rattle.std.proofs.lemmas.Bool.Decides.{nat_tests}
@@ -8,11 +8,11 @@ use Rattle.ngc_fixed_length.proofs.RootLaws.{whole_root-greatest, whole_root_abo
 use Rattle.ngc_arc_geometry.specs.Radii.{roots_within}
 use Rattle.ngc_arc_geometry.proofs.Squares.{from_squares}
 
--- by how much hi is above lo + t*t
+-- how much hi exceeds lo + t*t
 excess : (lo t d : ℕ) → (d + 2 * lo) * (d + 2 * lo) ≤ 4 * lo * (d + lo + t * t) → d * d ≤ 4 * lo * (t * t)
 excess lo t d h = omega arith
 
--- where s isn't below the root of lo, hi is above lo + t*t by at most 2*s*t
+-- if s is at least the root of lo, hi exceeds lo + t*t by at most 2*s*t
 excess_by_root : (lo t d s : ℕ) → lo ≤ s * s → d * d ≤ 4 * lo * (t * t) → d ≤ 2 * s * t
 excess_by_root lo t d s root h =
     let both : lo * (t * t) ≤ (s * s) * (t * t) = mul-le lo (t * t) (s * s) (t * t) root (omega arith) in
@@ -21,7 +21,7 @@ excess_by_root lo t d s root h =
 tests : (t lo hi : ℕ) → roots_within t lo hi ≡ true → (lo + hi ≤ t * t) ⊎ ((lo + hi - t * t) * (lo + hi - t * t) ≤ 4 * lo * hi)
 tests t lo hi h = grind (arith, nat_tests)
 
--- where the test holds, the root of hi isn't above s + t
+-- if the test holds, the root of hi is at most s + t
 root_bound : (t lo hi s : ℕ) → lo ≤ s * s → roots_within t lo hi ≡ true → hi ≤ (s + t) * (s + t)
 root_bound t lo hi s root within =
     elim (tests t lo hi within) [
@@ -37,7 +37,7 @@ root_bound t lo hi s root within =
       ])
     ]
 
--- the greater radius is no more than the lesser and the tolerance
+-- the greater radius is at most the lesser plus the tolerance
 pub greater_bound : (t lo hi : ℕ) → t ≤ 5080 → lo ≤ hi → lo + hi ≤ 2 * (2000006000 * 2000006000) → roots_within t lo hi ≡ true → hi ≤ 2000020000 * 2000020000
 greater_bound t lo hi small order sum within =
     let root = root_bound t lo hi 2000006000 (omega arith) within in
@@ -45,7 +45,7 @@ greater_bound t lo hi small order sum within =
     mul-le (2000006000 + t) (2000006000 + t) 2000020000 2000020000 (omega arith) (omega arith) in
     omega arith
 
--- the whole roots differ by at most the tolerance and 1
+-- the rounded roots differ by at most the tolerance plus 1
 pub even_roots : (t lo hi : ℕ) → lo ≤ hi → hi ≤ 2000020000 * 2000020000 → roots_within t lo hi ≡ true → whole_root_above hi ≤ whole_root lo + t + 1
 even_roots t lo hi order small within =
     let floor = whole_root-greatest lo (omega arith) in

@@ -12,11 +12,11 @@ int_min_bound x y n hx hy = omega (arith, ints, clamps)
 pub int_max_bound : (x y : ℤ) (n : ℕ) → unsigned_abs x ≤ n → unsigned_abs y ≤ n → unsigned_abs (int_max x y) ≤ n
 int_max_bound x y n hx hy = omega (arith, ints, clamps)
 
--- what 64 bits make of a coordinate
+-- a coordinate is unchanged in 64 bits
 pub kept_coordinate : (z : ℤ) → unsigned_abs z ≤ 110000000000 → to_z w64 (of_z w64 z) ≡ z
 kept_coordinate z small = omega (arith, ints)
 
--- a factor above 0 may be left out
+-- a factor above 0 cancels
 int_without_factor : (a b : ℤ) (n : ℕ) → 0 < n → (a *ℤ pos n) ≤ℤ (b *ℤ pos n) → a ≤ℤ b
 int_without_factor (pos a) (pos b) n positive h =
     let p : n * a ≤ n * b = omega (arith, ints, h) in
@@ -34,13 +34,13 @@ int_without_factor (negsuc a) (negsuc b) n positive h =
     let q = without_factor n (suc b) (suc a) positive p in
     omega (arith, ints, q)
 
--- the first grid point isn't behind the last where the bounds lie two steps apart
+-- the first grid point is not after the last if the bounds are two steps apart
 pub ordered : (low high s first last : ℤ) → IsStep s → (low +ℤ s +ℤ s) ≤ℤ high → ((first *ℤ s) -ℤ low) ≤ℤ s → (high -ℤ (last *ℤ s)) ≤ℤ s → first ≤ℤ last
 ordered low high (pos n) first last step apart above below =
     int_without_factor first last n (omega (arith, ints, step.least)) (omega (arith, ints, apart, above, below))
 ordered low high (negsuc n) first last step apart above below = absurd (omega (arith, ints, step.least))
 
--- what 64 bits make of a coordinate less and more a margin
+-- a coordinate less a margin, and plus a margin, fit in 64 bits
 pub less_margin : (z m : ℤ) → unsigned_abs z ≤ 100000000000 → unsigned_abs m ≤ 2000120000 →
     to_z w64 (of_z w64 (to_z w64 (of_z w64 z) -ℤ to_z w64 (of_z w64 m))) ≡ z -ℤ m
 less_margin z m hz hm =

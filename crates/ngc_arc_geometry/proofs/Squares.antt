@@ -1,9 +1,9 @@
--- Squares, and what they say of the numbers.
+-- Squares, and their consequences for the numbers.
 use Rattle.std.proofs.Common.{◌≡◌, ℕ, ◌+◌, ◌*◌, ◌≤◌, ℤ, pos, negsuc, ◌+ℤ◌, ◌*ℤ◌, unsigned_abs, inl, inr, arith, refl}
 use Rattle.std.proofs.lemmas.Bool.{cases_lt}
 use Rattle.std.proofs.lemmas.Nat.{mul-le}
 
--- a square is no less than that of its size
+-- the sum of the squares is that of the sizes' squares
 pub square_sum : (x y : ℤ) → unsigned_abs ((x *ℤ x) +ℤ (y *ℤ y)) ≡ unsigned_abs x * unsigned_abs x + unsigned_abs y * unsigned_abs y
 square_sum (pos a) (pos b) = refl
 square_sum (pos a) (negsuc b) = refl
@@ -17,7 +17,7 @@ from_squares a b h =
       | inr less ↦ less
     ]
 
--- a way no longer than r goes no farther than r on an axis
+-- a vector of length at most r is at most r along each axis
 pub first_within : (x y : ℤ) (r : ℕ) → unsigned_abs ((x *ℤ x) +ℤ (y *ℤ y)) ≤ r * r → unsigned_abs x ≤ r
 first_within x y r h = let e = square_sum x y in from_squares (unsigned_abs x) r (omega arith)
 

@@ -1,4 +1,4 @@
--- Where no step refuses, the answer is the last one's.
+-- If no step refuses, the result is the last step's.
 use Rattle.std.proofs.Common.{◌≡◌, ℕ, ◌<◌, ◌≤◌, ◌==◌, nat_lt, Bool, false, Result, arith}
 use Rattle.std.proofs.lemmas.Bool.Decides.{nat_tests}
 use Rattle.ngc_arc_geometry.specs.declared.fault.ArcFault.{ArcFault}

@@ -40,7 +40,7 @@ greatest_first f p q ps = le_fold_max (f p) (map f (q ∷ ps))
 greatest_second : (f : Point2 → ℤ) (p q : Point2) (ps : List Point2) → f q ≤ℤ greatest f p (q ∷ ps)
 greatest_second f p q ps = let rest = le_fold_max (int_max (f p) (f q)) (map f ps) in omega (arith, ints, clamps, rest)
 
--- ---- the grid point of a length that lies two steps inside
+-- ---- the grid point of a length that is two steps inside the bounds
 
 near_step : (z s : ℤ) → IsStep s → unsigned_abs (z -ℤ (nearest z s *ℤ s)) ≤ unsigned_abs s
 near_step z (pos s) step = let near = nearest_near z s (omega (arith, ints, step.least)) in omega (arith, ints, near)
@@ -64,7 +64,7 @@ within_low s a f z step low = above_inside s (least f (start_of a) (other_points
 within_high : (s : ℤ) (a : ArcShape) (f : Point2 → ℤ) (z : ℤ) → IsStep s → z ≤ℤ greatest f (start_of a) (other_points a) → nearest z s ≤ℤ high_at s a f
 within_high s a f z step high = inside_below s z (greatest f (start_of a) (other_points a) +ℤ margin s a) step (omega (arith, ints, high))
 
--- ---- the three axes, as the plane names them
+-- ---- the three axes, in the plane's names
 
 pub place_between : (plane : Plane) (s : ℤ) (p : Point3) (u v w u' v' w' : ℤ) →
     u ≤ℤ nearest (in_plane plane p).u s → nearest (in_plane plane p).u s ≤ℤ u' →

@@ -1,4 +1,4 @@
--- Paths of unit moves that follow an arc (NISTIR 6556, 3.5.3). How nearly is our own.
+-- Paths of unit moves that follow an arc (NISTIR 6556, 3.5.3). The tolerances are our own.
 use Rattle.std.specs.Prelude.{ℕ, ◌+◌, ◌*◌, ◌<◌, ◌≤◌, ℤ, unsigned_abs, List}
 use Rattle.ngc_fixed_length.specs.declared.points.StepPos.{StepPos}
 use Rattle.ngc_fixed_length.specs.Grid.{distance}
@@ -14,27 +14,27 @@ use Rattle.ngc_arc_geometry.specs.ArcBand.{leeway, spread, IsInBand}
 use Rattle.ngc_arc_geometry.specs.ArcSides.{IsBetweenEnds}
 use Rattle.ngc_arc_geometry.specs.ArcOrder.{Passes, GoesOn}
 
--- a list of n moves from the grid point of the start to that of the end, in the swept box, that
--- follows the arc
+-- a list of n moves that follows the arc, from the grid point of the start to that of the end, in
+-- the swept box
 pub record IsArcOf (step : ℤ) (a : ArcShape) (n : ℕ) (path : List StepPos) : Type 0 where
   -- unit moves from end to end, inside the box
   pub weak : IsWeakArcOf step a n path
-  -- no point is far from the circles
+  -- each point is near the circles
   pub band : (k : ℕ) → k ≤ n → IsInBand a (leeway step a) (seen step a (point path k))
-  -- each is in the sector, or near an end
+  -- each point is in the sector, or near an end
   pub sector : (k : ℕ) → k ≤ n →
       IsBetweenEnds a (leeway step a + spread a) (seen step a (point path k))
-  -- the sector's quadrant points at the outer radius are passed in the arc's order
+  -- the path passes the sector's quadrant points at the outer radius, in the arc's order
   pub order : Passes (λ k. seen step a (point path k)) n
       (leeway step a + unsigned_abs step + spread a) 0 (extremes a)
   -- away from the ends no move turns back
   pub onward : (k : ℕ) → k < n →
       GoesOn a (4 * unsigned_abs step + spread a) (seen step a (point path k))
       (seen step a (point path (k + 1)))
-  -- the height follows its way as a straight line's axis does
+  -- the height follows a straight line from start to end, as an axis of a straight path does
   pub rises : FollowsLine step n (height a.plane a.start) (height a.plane a.end)
       (λ k. height_of a (point path k))
-  -- no more moves than the height and somewhat more than a circle take
+  -- the moves are at most what the height takes and somewhat more than a circle takes
   pub short : n * unsigned_abs step ≤
       distance (start_height step a) (end_height step a) * unsigned_abs step
       + 8 * outer_radius a + 32 * spread a + 64 * unsigned_abs step
@@ -42,7 +42,7 @@ pub record IsArcOf (step : ℤ) (a : ArcShape) (n : ℕ) (path : List StepPos) :
 abbrev pub IsArcPath : ℤ → ArcShape → List StepPos → Type 0
 IsArcPath step a path = (n : ℕ) × IsArcOf step a n path
 
--- a path that follows an arc is one that stays in the arc's swept box
+-- a path that follows an arc stays in the arc's swept box
 abbrev pub FollowingIsWeak : Type 0
 FollowingIsWeak = (step : ℤ) (a : ArcShape) (path : List StepPos) → IsArcPath step a path →
     IsWeakArcPath step a path

@@ -1,5 +1,4 @@
--- A path keeps to its arc's sector (NISTIR 6556, 3.5.3), but for its ends. How near to them is our
--- own.
+-- A path stays in its arc's sector (NISTIR 6556, 3.5.3), except near its ends. How near is our own.
 use Rattle.std.specs.Prelude.{◌≡◌, ◌⊎◌, ℕ, true}
 use Rattle.ngc_fixed_length.specs.declared.points.Point2.{Point2}
 use Rattle.ngc_arc_geometry.specs.Shape.{ArcShape, start_of, end_of}

@@ -1,5 +1,5 @@
--- The centre of an arc, by its two formats (NISTIR 6556, 3.5.3.1 and 3.5.3.2). How it is rounded is
--- our own.
+-- The centre of an arc in its two formats (NISTIR 6556, 3.5.3.1 and 3.5.3.2). Its rounding is our
+-- own.
 use Rattle.std.specs.Prelude.{ℕ, ◌+◌, ◌*◌, ◌==◌, nat_le, nat_lt, ℤ, pos, ◌*ℤ◌, neg_ℤ, unsigned_abs}
 use Rattle.std.specs.Prelude.{Result, Ok, Err, not, is_none, unwrap_or, ◌&&◌, if◌then◌else◌}
 use Rattle.std.specs.Int.{int_signum}
@@ -34,7 +34,7 @@ start_in e = in_plane e.plane e.start
 abbrev pub end_in : Ends → Point2
 end_in e = in_plane e.plane e.end
 
--- ---- centre format: the centre lies by the offsets from the start
+-- ---- centre format: the centre is the start plus the offsets
 
 abbrev pub offset_point : Offsets → Point2
 offset_point o = record { u = unwrap_or o.u (pos 0); v = unwrap_or o.v (pos 0) }
@@ -49,7 +49,7 @@ centre_format units e o =
     refuse_if (nat_lt SQUARE_LIMIT (hi (arc_about e (offset_centre e o)))) RadiusOutOfRange >>
     with_equal_radii (tolerance units) (arc_about e (offset_centre e o))
 
--- ---- radius format: a chord from start to end, by d, and the length r of the word R
+-- ---- radius format: the vector d from start to end, and the length r of the word R
 
 abbrev pub chord : Ends → Point2
 chord e = from (start_in e) (end_in e)
@@ -61,7 +61,7 @@ abbrev pub middle : Ends → Point2
 middle e =
     record { u = halfway (start_in e).u (end_in e).u; v = halfway (start_in e).v (end_in e).v }
 
--- from the middle, across the chord
+-- from the middle, perpendicular to the chord
 abbrev pub aside_point : ℤ → ℕ → ℕ → Point2 → Point2
 aside_point s square d2 d = record {
   u = neg_ℤ (s *ℤ int_signum d.v *ℤ aside square d2 d.v);
@@ -72,8 +72,8 @@ aside_point s square d2 d = record {
 abbrev pub reach : ℕ → ℕ → ℕ
 reach r t = 4 * (r + t) * (r + t)
 
--- across the chord where the radius reaches its middle; the middle where it is too short by no more
--- than t
+-- beside the middle if the radius reaches it; the middle itself if the radius is too short by at
+-- most t
 abbrev pub radius_centre : ℕ → Ends → ℤ → Result Point2 ArcFault
 radius_centre t e r =
     if nat_le (chord_square e) (4 * (unsigned_abs r * unsigned_abs r))

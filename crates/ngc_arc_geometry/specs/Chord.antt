@@ -1,5 +1,5 @@
--- Where the centre lies by the chord, in radius format (NISTIR 6556, 3.5.3.1). How it is rounded is
--- our own.
+-- The position of the centre relative to the chord, in radius format (NISTIR 6556, 3.5.3.1). Its
+-- rounding is our own.
 use Rattle.std.specs.Prelude.{ℕ, ◌-◌, ◌*◌, ◌/◌, ℤ, pos, negsuc, ◌+ℤ◌, unsigned_abs, Bool, true}
 use Rattle.std.specs.Prelude.{false}
 use Rattle.std.specs.Int.{int_div_euclid}
@@ -11,13 +11,13 @@ use Rattle.ngc_fixed_length.specs.declared.modes.Turn.TheVariants.{Clockwise, Co
 abbrev pub halfway : ℤ → ℤ → ℤ
 halfway x y = int_div_euclid (x +ℤ y) (pos 2)
 
--- how far the centre lies from the middle on one axis, by the chord's k on the other: the root of
--- k*k*(4*r*r - d2)/(4*d2)
+-- the distance of the centre from the middle along one axis: the root of k*k*(4*r*r - d2)/(4*d2),
+-- with k the chord's length along the other axis
 abbrev pub aside : ℕ → ℕ → ℤ → ℤ
 aside square d2 k =
     pos (whole_root (unsigned_abs k * unsigned_abs k * (4 * square - d2) / (4 * d2)))
 
--- the way with at most half a turn has its centre to the left of the chord if it turns
+-- an arc of at most half a turn has its centre to the left of the chord if it turns
 -- counterclockwise
 abbrev pub side : Turn → Bool → ℤ
 side Counterclockwise false = pos 1

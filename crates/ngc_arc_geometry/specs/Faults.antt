@@ -14,7 +14,7 @@ number_of RadiusTooSmall = 244
 number_of EndIsStart = 245
 number_of RadiusOutOfRange = 246
 
--- a step whose answer the next one takes, and one that goes before another
+-- a step whose result the next one takes, and a step before another
 infixl 10 ◌>>=◌
 abbrev pub ◌>>=◌ : {A B : Type 0} → Result A ArcFault → (A → Result B ArcFault) → Result B ArcFault
 (Ok x) >>= f = f x

@@ -14,7 +14,7 @@ pub record ArcOnGrid : Type 0 where
 abbrev pub arc_on_grid : Inside → ArcOnGrid
 arc_on_grid a = record { arc = a.arc; step = a.step }
 
--- what is kept beside is what the arc and the grid give
+-- the stored values are those of the arc and the grid
 pub record IsArcOnGrid (a : Inside) : Type 0 where
   pub step : IsStep a.step
   pub inner : a.inner ≡ inner_radius a.arc

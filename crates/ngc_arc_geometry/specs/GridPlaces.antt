@@ -1,4 +1,4 @@
--- Where a grid point lies, in nanometres, and how an arc's plane sees it. Our own.
+-- The position of a grid point in nanometres, and its coordinates in an arc's plane. Our own.
 use Rattle.std.specs.Prelude.{ℤ, ◌*ℤ◌}
 use Rattle.ngc_fixed_length.specs.Places.{in_plane, height}
 use Rattle.ngc_fixed_length.specs.declared.points.Point2.{Point2}
@@ -14,6 +14,6 @@ in_nanometres step p = record { x = p.x *ℤ step; y = p.y *ℤ step; z = p.z *�
 abbrev pub seen : ℤ → ArcShape → StepPos → Point2
 seen step a p = in_plane a.plane (in_nanometres step p)
 
--- how high it stands on the arc's plane, in steps
+-- its height above the arc's plane, in steps
 abbrev pub height_of : ArcShape → StepPos → ℤ
 height_of a p = height a.plane (record { x = p.x; y = p.y; z = p.z })

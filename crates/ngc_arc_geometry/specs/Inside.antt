@@ -1,4 +1,4 @@
--- What contracts see of an arc.
+-- The fields of an arc that contracts see.
 use Rattle.ngc_arc_geometry.specs.declared.arc.Arc.TheInside.{Inside}
 use Rattle.ngc_arc_geometry.specs.Shape.{ArcShape}
 

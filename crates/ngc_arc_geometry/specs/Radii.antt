@@ -1,5 +1,5 @@
--- The radii of an arc at its start and end. How far they may differ follows NISTIR 6556, 3.5.3.2;
--- the bounds are our own.
+-- The radii of an arc at its start and end. The tolerance of their difference follows NISTIR 6556,
+-- 3.5.3.2; the bounds are our own.
 use Rattle.std.specs.Prelude.{ℕ, ◌≤◌, ◌<◌, ◌+◌, ◌-◌, ◌*◌, ◌==◌, nat_le, min, max, unsigned_abs}
 use Rattle.std.specs.Prelude.{Result, Ok, Bool, not, ◌||◌}
 use Rattle.ngc_fixed_length.specs.Places.{from, dot}
@@ -21,8 +21,7 @@ lo a = min (squared_distance a.centre (start_of a)) (squared_distance a.centre (
 abbrev pub hi : ArcShape → ℕ
 hi a = max (squared_distance a.centre (start_of a)) (squared_distance a.centre (end_of a))
 
--- the radii as whole numbers: the greatest that isn't above the lesser, and the least that isn't
--- below the greater
+-- the radii as whole numbers: the lesser one rounded down, and the greater one rounded up
 abbrev pub inner_radius : ArcShape → ℕ
 inner_radius a = whole_root (lo a)
 
@@ -38,19 +37,20 @@ abbrev pub roots_within : ℕ → ℕ → ℕ → Bool
 roots_within t lo hi =
     nat_le (lo + hi) (t * t) || nat_le ((lo + hi - t * t) * (lo + hi - t * t)) (4 * lo * hi)
 
--- the arc, where its radii are in range and differ by at most t
+-- the arc, if its radii are in range and differ by at most t
 abbrev pub with_equal_radii : ℕ → ArcShape → Result ArcShape ArcFault
 with_equal_radii t a =
     refuse_if (lo a == 0) RadiusOutOfRange >>
     refuse_if (not (roots_within t (lo a) (hi a))) RadiiDiffer >>
     Ok a
 
--- the squared radii make at most twice the square of a radius that is a little over 2*10^9 nm
+-- the sum of the squared radii is at most twice the square of a radius a little over 2*10^9 nm
 abbrev pub HasRadiiInRange : ArcShape → Type 0
 HasRadiiInRange a = lo a + hi a ≤ 2 * (2000006000 * 2000006000)
 
--- what both formats give: the greater radius is at most 2*10^9 nm, but for the centre's rounding
--- and the tolerance, and it is above the lesser by at most the tolerance and what whole roots add
+-- the arcs of both formats: the greater radius is at most 2*10^9 nm, apart from the centre's
+-- rounding and the tolerance; it exceeds the lesser by at most the tolerance and the rounding of
+-- the roots
 pub record IsArc (a : ArcShape) : Type 0 where
   pub start : IsNear a.start
   pub end : IsNear a.end
@@ -58,8 +58,8 @@ pub record IsArc (a : ArcShape) : Type 0 where
   pub radius : hi a ≤ 2000020000 * 2000020000
   pub even : outer_radius a ≤ inner_radius a + 6000
 
--- what both formats give of the radii: the lesser above 0, the greater at most a little over 2*10^9
--- nm, and nearly equal
+-- the radii of both formats: the lesser is above 0, the greater is at most a little over 2*10^9 nm,
+-- and they are nearly equal
 pub record HasEvenRadii (a : ArcShape) : Type 0 where
   pub some_radius : 0 < lo a
   pub radius : hi a ≤ 2000020000 * 2000020000

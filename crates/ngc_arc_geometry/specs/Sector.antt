@@ -1,5 +1,5 @@
--- The sector of an arc, from its start to its end in its sense of turning, both included (NISTIR
--- 6556, 3.5.3).
+-- The sector of an arc, from its start to its end in its direction of turning, both included
+-- (NISTIR 6556, 3.5.3).
 use Rattle.std.specs.Prelude.{ℕ, ℤ, pos, ◌+ℤ◌, ◌-ℤ◌, neg_ℤ, int_le, int_lt, List, [], ◌∷◌, ◌++◌}
 use Rattle.std.specs.Prelude.{take, drop, filter, Bool, true, ◌&&◌, ◌||◌, if◌then◌else◌}
 use Rattle.ngc_fixed_length.specs.Places.{from, cross, dot}
@@ -10,7 +10,7 @@ use Rattle.ngc_fixed_length.specs.declared.points.Point2.{Point2}
 use Rattle.ngc_arc_geometry.specs.Shape.{ArcShape, start_of, end_of}
 use Rattle.ngc_arc_geometry.specs.Radii.{outer_radius}
 
--- the cross product about the centre, in the arc's sense
+-- the cross product about the centre, in the arc's direction
 abbrev pub turning : Turn → ℤ → ℤ
 turning Counterclockwise z = z
 turning Clockwise z = neg_ℤ z
@@ -22,7 +22,7 @@ turn_from a p q = turning a.turn (cross (from a.centre p) (from a.centre q))
 abbrev pub is_ahead : ArcShape → Point2 → Point2 → Bool
 is_ahead a p q = int_le (pos 0) (turn_from a p q)
 
--- both lie in one direction from the centre
+-- both lie in the same direction from the centre
 abbrev pub same_direction : ArcShape → Point2 → Point2 → Bool
 same_direction a p q =
     is_zero (turn_from a p q) && int_lt (pos 0) (dot (from a.centre p) (from a.centre q))
@@ -31,7 +31,8 @@ same_direction a p q =
 abbrev pub is_full : ArcShape → Bool
 is_full a = same_direction a (start_of a) (end_of a)
 
--- a sector of at most half a turn is what both half planes share, a larger one what either has
+-- a sector of at most half a turn is the intersection of two half planes; a larger one is their
+-- union
 abbrev pub in_sector : ArcShape → Point2 → Bool
 in_sector a p =
     if is_full a then true
@@ -41,7 +42,7 @@ in_sector a p =
 
 -- ---- quadrant points
 
--- the points at radius r on the plane's half axes, from u on in the sense of turning
+-- the points at radius r on the plane's half axes, from u on in the direction of turning
 abbrev pub quadrant_points : Turn → Point2 → ℤ → List Point2
 quadrant_points Counterclockwise c r =
     record { u = c.u +ℤ r; v = c.v } ∷
@@ -54,8 +55,8 @@ quadrant_points Clockwise c r =
     record { u = c.u -ℤ r; v = c.v } ∷
     record { u = c.u; v = c.v +ℤ r } ∷ []
 
--- of four half axes, from u on in the sense of turning, the first that a direction (u, v) meets; v
--- counts towards the second
+-- the first of four half axes that a direction (u, v) meets, from u on in the direction of turning;
+-- v points towards the second
 abbrev pub first_met : ℤ → ℤ → ℕ
 first_met u v =
     if int_lt (pos 0) v && int_le (pos 0) u then 1

@@ -1,4 +1,4 @@
--- Arcs (NISTIR 6556, 3.5.3): what one is, apart from how it was given.
+-- Arcs (NISTIR 6556, 3.5.3), independent of the format in which they are written.
 use Rattle.std.specs.Prelude.{ℕ, ◌≤◌, unsigned_abs}
 use Rattle.ngc_fixed_length.specs.declared.modes.Plane.{Plane}
 use Rattle.ngc_fixed_length.specs.declared.modes.Turn.{Turn}
@@ -6,7 +6,7 @@ use Rattle.ngc_fixed_length.specs.declared.points.Point2.{Point2}
 use Rattle.ngc_fixed_length.specs.declared.points.Point3.{Point3}
 use Rattle.ngc_fixed_length.specs.Places.{in_plane}
 
--- an arc in the plane about its centre; where the ends differ in height, a helix
+-- an arc in the plane about its centre; it is a helix if the ends differ in height
 pub record ArcShape : Type 0 where
   pub plane : Plane
   pub turn : Turn
@@ -21,8 +21,8 @@ start_of a = in_plane a.plane a.start
 abbrev pub end_of : ArcShape → Point2
 end_of a = in_plane a.plane a.end
 
--- how far out on each axis the ends may lie, 90 metres: ten less than lengths reach, so that all
--- points of an arc are lengths
+-- the greatest coordinate of an end on each axis, 90 metres: ten less than the limit of lengths, so
+-- that all points of an arc are lengths
 abbrev pub END_LIMIT : ℕ
 END_LIMIT = 90000000000
 

@@ -1,4 +1,4 @@
--- The box of grid points that holds all of an arc. Our own.
+-- The box of grid points that contains all of an arc. Our own.
 use Rattle.std.specs.Prelude.{◌-◌, ℤ, pos, ◌+ℤ◌, ◌-ℤ◌, ◌*ℤ◌, List, ◌∷◌, fold, map}
 use Rattle.std.specs.Int.{int_min, int_max}
 use Rattle.ngc_fixed_length.specs.Boxes.{grid_above, grid_below}
@@ -28,8 +28,8 @@ greatest f p ps = fold int_max (f p) (map f ps)
 abbrev pub other_points : ArcShape → List Point2
 other_points a = end_of a ∷ extremes a
 
--- along an axis of the plane: of the points' coordinates with the margin on both sides, the grid
--- points inside
+-- along an axis of the plane: the grid points inside the span of the points' coordinates, with the
+-- margin on both sides
 abbrev pub low_at : ℤ → ArcShape → (Point2 → ℤ) → ℤ
 low_at step a f = grid_above step (least f (start_of a) (other_points a) -ℤ margin step a)
 

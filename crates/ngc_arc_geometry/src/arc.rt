@@ -10,10 +10,10 @@ use std::marker::Model;
 /// The square of the greatest radius, 2*10^9 nm.
 const SQUARE_LIMIT: u128 = 4_000_000_000_000_000_000;
 
-/// An arc in a plane about its centre, or a helix where the heights of its ends differ.
+/// An arc in a plane about its centre. It is a helix if its ends differ in height.
 ///
-/// The radii at start and end are above 0, at most 2*10^9 nm but for the rounding of the centre,
-/// and nearly equal.
+/// The radii at start and end are above 0 and nearly equal. They are at most 2*10^9 nm, apart from
+/// the rounding of the centre.
 #[derive(Clone, Copy, PartialEq, Eq)]
 pub struct Arc {
     plane: Plane,
@@ -51,13 +51,13 @@ impl Arc {
     ghost use Rattle.ngc_arc_geometry.specs.Centre.{IsEnds, arc_about, centre_format};
     ghost use Rattle.ngc_arc_geometry.specs.Centre.{radius_format};
 
-    /// The arc in centre format: I, J and K lead from its start to its centre (NISTIR 6556,
-    /// 3.5.3.2). Where the end lies in the direction of the start from the centre it is a full
-    /// circle. Both ends lie within 90 metres of zero on each axis.
+    /// Returns the arc in centre format: I, J and K are the vector from its start to its centre
+    /// (NISTIR 6556, 3.5.3.2). It is a full circle if its end lies in the direction of its start,
+    /// as seen from the centre. Both ends lie within 90 metres of zero on each axis.
     ///
-    /// Of several faults the first in this order is answered: 241 without an axis word of the
-    /// plane, 242 without an offset, 246 for a radius of 0 or over 2*10^9 nm, 243 for radii that
-    /// differ by more than 2,000 nm, or 5,080 nm in inches.
+    /// Of several faults it returns the first in this order: 241 without an axis word of the plane,
+    /// 242 without an offset, 246 for a radius of 0 or over 2*10^9 nm, 243 for radii that differ by
+    /// more than 2,000 nm, or 5,080 nm in inches.
     pub fn centre_format(units: Units, ends: &Ends, offsets: &Offsets) -> Result<Arc, ArcFault>
         requires { IsEnds ends.now }
         ensures { result ≡ centre_format units ends.now offsets.now }
@@ -76,14 +76,14 @@ impl Arc {
         Arc::with_equal_radii(ends, centre.point(), tolerance(units))
     }
 
-    /// The arc in radius format (NISTIR 6556, 3.5.3.1): it turns through at most half a circle
-    /// where the radius is above 0, and through more where it is below, but for the rounding of the
-    /// centre to a nanometre. Both ends lie within 90 metres of zero on each axis.
+    /// Returns the arc in radius format (NISTIR 6556, 3.5.3.1). It turns through at most half a
+    /// circle if the radius is above 0, and through more if the radius is below 0, apart from the
+    /// rounding of the centre to a nanometre. Both ends lie within 90 metres of zero on each axis.
     ///
-    /// Of several faults the first in this order is answered: 241 without an axis word of the
-    /// plane, 245 where the end equals the start in the plane, 246 for a radius of 0 or over 2*10^9
-    /// nm, 244 where the radius falls short of half the way from start to end by more than 2,000
-    /// nm, or 5,080 nm in inches, 246 where the centre is rounded onto an end, 243.
+    /// Of several faults it returns the first in this order: 241 without an axis word of the plane,
+    /// 245 if the end equals the start in the plane, 246 for a radius of 0 or over 2*10^9 nm, 244
+    /// if the radius is shorter than half the distance from start to end by more than 2,000 nm, or
+    /// 5,080 nm in inches, 246 if the centre is rounded onto an end, 243.
     pub fn radius_format(units: Units, ends: &Ends, radius: Nm) -> Result<Arc, ArcFault>
         requires { IsEnds ends.now }
         ensures { result ≡ radius_format units ends.now radius }
@@ -105,7 +105,8 @@ impl Arc {
         Arc::with_equal_radii(ends, centre, tolerance(units))
     }
 
-    /// The arc about a centre, where its radii are above 0 and differ by at most the tolerance.
+    /// Returns the arc about a centre, if its radii are above 0 and differ by at most the
+    /// tolerance.
     fn with_equal_radii(ends: &Ends, centre: Point2, tolerance: u128) -> Result<Arc, ArcFault>
         requires ends { IsEnds ends.now }
         requires tolerance { tolerance ≤ 5080 }
@@ -132,21 +133,21 @@ impl Arc {
         })
     }
 
-    /// The plane that the arc lies in.
+    /// Returns the plane in which the arc lies.
     pub fn plane(&self) -> Plane
         ensures { result ≡ self.now.plane }
     {
         self.plane
     }
 
-    /// The sense of turning, as seen from the positive end of the third axis.
+    /// Returns the direction of turning, as seen from the positive end of the third axis.
     pub fn turn(&self) -> Turn
         ensures { result ≡ self.now.turn }
     {
         self.turn
     }
 
-    /// Where the arc starts.
+    /// Returns the start point.
     pub fn start(&self) -> Point3
         ensures value { result ≡ self.now.start }
         ensures near { IsNear result }
@@ -154,7 +155,7 @@ impl Arc {
         self.start
     }
 
-    /// Where the arc ends.
+    /// Returns the end point.
     pub fn end(&self) -> Point3
         ensures value { result ≡ self.now.end }
         ensures near { IsNear result }
@@ -162,7 +163,7 @@ impl Arc {
         self.end
     }
 
-    /// The centre, by the plane's axes: at most 93 metres from zero on each.
+    /// Returns the centre in the plane, at most 93 metres from zero on each axis.
     pub fn centre(&self) -> Point2
         ensures value { result ≡ self.now.centre }
         ensures u { unsigned_abs result.u ≤ 93 * 10 ^ 9 }
@@ -172,7 +173,7 @@ impl Arc {
         self.centre
     }
 
-    /// The squared distances of the ends from the centre.
+    /// Returns the squared distances of the ends from the centre.
     pub(crate) fn squared_radii(&self) -> SquaredRadii
         ensures lesser { result.lesser ≡ lo self.now }
         ensures greater { result.greater ≡ hi self.now }
@@ -193,7 +194,7 @@ impl Arc {
         )
     }
 
-    /// The lesser of the radii at start and end, rounded down to a nanometre.
+    /// Returns the lesser of the radii at start and end, rounded down to a nanometre.
     pub fn inner_radius(&self) -> u64
         ensures value { result ≡ inner_radius self.now }
         ensures bound { result ≤ 2000020000 }
@@ -201,7 +202,8 @@ impl Arc {
         root_floor(self.squared_radii().lesser)
     }
 
-    /// The greater of the radii at start and end, rounded up to a nanometre: at most 2,000,020,000.
+    /// Returns the greater of the radii at start and end, rounded up to a nanometre. It is at most
+    /// 2,000,020,000 nm.
     pub fn outer_radius(&self) -> u64
         ensures value { result ≡ outer_radius self.now }
         ensures bound { result ≤ 2000020000 }

@@ -15,14 +15,14 @@ impl Ends {
     ghost use Rattle.ngc_arc_geometry.specs.Centre.{IsEnds, arc_about, chord, chord_square, middle};
     ghost use Rattle.ngc_arc_geometry.specs.Centre.{aside_point, radius_centre};
 
-    /// The way from start to end in the plane.
+    /// Returns the vector from start to end in the plane.
     pub(crate) fn chord(&self) -> Way
         ensures { result ≡ chord self.now }
     {
         Way::between(&self.start_in_plane(), &self.end_in_plane())
     }
 
-    /// The middle of the chord, rounded down on each axis.
+    /// Returns the middle of the chord, rounded down on each axis.
     fn middle(&self) -> Point2
         ensures { result ≡ middle self.now }
     {
@@ -34,8 +34,8 @@ impl Ends {
         }
     }
 
-    /// The way from the chord's middle to the centre, where the radius, by its square, reaches that
-    /// far.
+    /// Returns the vector from the chord's middle to the centre. A circle of the radius, given by
+    /// its square, about an end must reach the middle.
     fn offset_from_middle(&self, square: u128, is_long: bool) -> Way
         requires chord { 0 < chord_square self.now }
         requires reached { chord_square self.now ≤ 4 * square }
@@ -52,7 +52,7 @@ impl Ends {
         Way::new(-u, v)
     }
 
-    /// The centre beside the chord's middle.
+    /// Returns the centre beside the chord's middle.
     fn centre_aside(&self, square: u128, is_long: bool) -> Point2
         requires ends { IsEnds self.now }
         requires chord { 0 < chord_square self.now }
@@ -71,7 +71,7 @@ impl Ends {
         }
     }
 
-    /// The centre in radius format, or 244.
+    /// Returns the centre in radius format, or fault 244.
     pub(crate) fn radius_centre(&self, radius: Nm, tolerance: u128) -> Result<Point2, ArcFault>
         requires ends { IsEnds self.now }
         requires chord { 0 < chord_square self.now }

@@ -4,7 +4,7 @@ ghost use Rattle.ngc_arc_geometry.specs.Chord.{aside as aside_of, side as side_o
 
 use ngc_fixed_length::{Turn, root_floor};
 
-/// On which side of the chord the centre lies: 1 on the left, -1 on the right.
+/// Returns the side of the chord on which the centre lies: 1 for the left, -1 for the right.
 pub(crate) fn side(turn: Turn, is_long: bool) -> i64
     ensures value { result ≡ side_of turn is_long }
     ensures bound { unsigned_abs result ≤ 1 }
@@ -16,8 +16,8 @@ pub(crate) fn side(turn: Turn, is_long: bool) -> i64
     }
 }
 
-/// How far the centre lies from the middle of the chord on one axis, by the chord's length on the
-/// other.
+/// Returns the distance from the middle of the chord to the centre along one axis. It depends on
+/// the chord's length `part` along the other axis.
 pub(crate) fn aside(square: u128, chord_square: u128, part: i64) -> i64
     requires chord { 0 < chord_square }
     requires reached { chord_square ≤ 4 * square }
@@ -32,7 +32,7 @@ pub(crate) fn aside(square: u128, chord_square: u128, part: i64) -> i64
     root_floor(size * size * (4 * square - chord_square) / (4 * chord_square)) as i64
 }
 
-/// That with the sign that leads to one side of the chord.
+/// Returns that distance with the sign of one side of the chord.
 pub(crate) fn signed_aside(side: i64, part: i64, aside: i64) -> i64
     requires side { unsigned_abs side ≤ 1 }
     requires aside { unsigned_abs aside ≤ 2 * 10 ^ 9 }

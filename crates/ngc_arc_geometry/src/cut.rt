@@ -13,7 +13,7 @@ use crate::way::Way;
 use ngc_fixed_length::{GridBox, Nm, Point2};
 use std::marker::Model;
 
-/// An arc on a grid, with what the pieces share that it is cut into.
+/// An arc on a grid, with the values that all pieces of a cut share.
 #[derive(Drop)]
 pub struct GridArc {
     arc: Arc,
@@ -37,7 +37,7 @@ impl Model for GridArc {
 }
 
 impl GridArc {
-    /// The arc on a grid whose step is 500 to 50,000 nm.
+    /// Returns the arc on a grid whose step is from 500 to 50,000 nm.
     pub fn new(arc: Arc, step: Nm) -> GridArc
         requires { IsStep step }
         ensures { result ≡ record { arc = arc; step = step } }
@@ -52,8 +52,8 @@ impl GridArc {
         }
     }
 
-    /// Whether a point of the plane is at most a step nearer to the centre than the inner radius,
-    /// and at most a step farther than the outer one.
+    /// Returns whether a point of the plane is at most a step nearer to the centre than the inner
+    /// radius, and at most a step farther than the outer one.
     fn is_in_band(&self, point: &Point2) -> bool
         ensures { result ≡ is_in_band self.now.arc (unsigned_abs self.now.step) point.now }
     {
@@ -64,8 +64,8 @@ impl GridArc {
         inner * inner <= square && square <= outer * outer
     }
 
-    /// Whether the way round from one point to another is more than none and at most a quarter,
-    /// within a closed quadrant.
+    /// Returns whether the turn from one point to another is above 0 and stays within one closed
+    /// quadrant, so is at most a quarter.
     fn turns_on(&self, from: &Point2, to: &Point2) -> bool
         ensures { result ≡ turns_on self.now.arc from.now to.now }
     {
@@ -74,8 +74,8 @@ impl GridArc {
         first.shares_quadrant(&second) && 0 < self.arc.turn_from(from, to)
     }
 
-    /// Whether the start's direction lies on the short way round from one point to another, the
-    /// first one left out.
+    /// Returns whether the start's direction lies on the short turn between the two points: after
+    /// `from`, and at `to` or before it.
     fn passes_start(&self, from: &Point2, to: &Point2) -> bool
         ensures { result ≡ passes_start self.now.arc from.now to.now }
     {
@@ -89,10 +89,10 @@ impl GridArc {
         self.is_in_band(to) && self.arc.in_sector(*to) && !self.passes_start(from, to)
     }
 
-    /// Whether, of an arc that is cut into several pieces, a piece may lead from one point to
-    /// another: it turns on in the arc's sense within a closed quadrant about the centre; the last
-    /// one ends at the arc's end, another one in the sector, within a step of the radii, and before
-    /// the start's direction comes again.
+    /// Returns whether a piece of an arc that is cut into several may lead from one point to
+    /// another. It must turn in the arc's direction within a closed quadrant about the centre. The
+    /// last piece must end at the arc's end. Any other piece must end in the sector, within a step
+    /// of the radii, and must not pass the start's direction again.
     pub fn cut_follows(&self, last: bool, from: &Point2, to: &Point2) -> bool
         ensures { result ≡ cut_follows self.now.step self.now.arc last from.now to.now }
     {
@@ -104,15 +104,15 @@ impl GridArc {
             })
     }
 
-    /// Whether the inner radius is at least eight steps. Where it is less, each piece needs the box
-    /// of the whole arc.
+    /// Returns whether the inner radius is at least eight steps. If it is less, each piece needs
+    /// the box of the whole arc.
     pub fn is_large(&self) -> bool
         ensures { result ≡ is_large self.now.step self.now.arc }
     {
         8 * self.step.nanometres().unsigned_abs() <= self.inner
     }
 
-    /// How far a piece's box reaches beyond its points, in nanometres.
+    /// Returns how far a piece's box extends beyond its points, in nanometres.
     fn margin(&self) -> i64
         ensures value { result ≡ margin self.now.step self.now.arc }
         ensures least { self.now.step ≤ℤ result }
@@ -121,8 +121,8 @@ impl GridArc {
         self.margin.nanometres()
     }
 
-    /// The grid points along an axis of the plane between two points, with the margin on both
-    /// sides.
+    /// Returns the grid points along an axis of the plane between two points, with the margin on
+    /// both sides.
     fn range_between(&self, axis: PlaneAxis, from: &Point2, to: &Point2) -> GridRange
         ensures low { result.low ≡ grid_above self.now.step
             (int_min (along axis from.now) (along axis to.now)
@@ -135,8 +135,9 @@ impl GridArc {
         GridRange::around(self.step, &span, self.margin())
     }
 
-    /// The box of a piece from one point of the plane to another: in the plane that of both points,
-    /// grown by the margin; on the third axis from one end's grid point to the other's.
+    /// Returns the box of a piece from one point of the plane to another. In the plane it is the
+    /// box of both points, grown by the margin; on the third axis it extends from the grid point of
+    /// one end to that of the other.
     pub fn cut_box(&self, from: &Point2, to: &Point2) -> GridBox
         ensures value { result ≡ cut_box self.now.step self.now.arc from.now to.now }
         ensures ordered { IsTrue (is_below result.low result.high) }

@@ -6,7 +6,7 @@ ghost use Rattle.ngc_fixed_length.specs.Length.{IsStep};
 
 use ngc_fixed_length::{GridBox, Nm, Plane, Point2, StepPos};
 
-/// From a least to a greatest coordinate, in nanometres.
+/// A span of coordinates from `low` to `high`, in nanometres.
 #[derive(Clone, Copy)]
 pub(crate) struct Span {
     pub(crate) low: i64,
@@ -15,7 +15,7 @@ pub(crate) struct Span {
 }
 
 impl Span {
-    /// From the lesser of two coordinates to the greater.
+    /// Returns the span from the lesser of two coordinates to the greater.
     pub(crate) fn between(first: i64, second: i64) -> Span
         ensures low { result.low ≡ int_min first second }
         ensures high { result.high ≡ int_max first second }
@@ -27,7 +27,7 @@ impl Span {
     }
 }
 
-/// From a first to a last grid point, both included, in steps.
+/// The grid points from `low` to `high`, both included, in steps.
 #[derive(Clone, Copy)]
 pub(crate) struct GridRange {
     pub(crate) low: i32,
@@ -36,7 +36,7 @@ pub(crate) struct GridRange {
 }
 
 impl GridRange {
-    /// The grid points between two numbers of nanometres that lie at least two steps apart.
+    /// Returns the grid points between two numbers of nanometres that are at least two steps apart.
     pub(crate) fn inside(step: Nm, low: i64, high: i64) -> GridRange
         requires step { IsStep step }
         requires low { unsigned_abs low ≤ 11 * 10 ^ 10 }
@@ -55,7 +55,8 @@ impl GridRange {
 impl GridRange {
     ghost use Rattle.ngc_arc_geometry.specs.Swept.{grid_at};
 
-    /// The grid points of a span that is grown on both sides by a margin of at least a step.
+    /// Returns the grid points of a span that is grown on both sides by a margin of at least a
+    /// step.
     pub(crate) fn around(step: Nm, span: &Span, margin: i64) -> GridRange
         requires step { IsStep step }
         requires low { unsigned_abs span.now.low ≤ 10 ^ 11 }
@@ -68,7 +69,8 @@ impl GridRange {
         GridRange::inside(step, span.low - margin, span.high + margin)
     }
 
-    /// The box of these ranges along the axes of a plane and the third axis.
+    /// Returns the box of three ranges: along the axes u and v of a plane, and along the third
+    /// axis.
     pub(crate) fn in_space(plane: Plane, u: &GridRange, v: &GridRange, w: &GridRange) -> GridBox
         ensures low { result.low ≡ grid_at plane u.now.low v.now.low w.now.low }
         ensures high { result.high ≡ grid_at plane u.now.high v.now.high w.now.high }
@@ -94,7 +96,7 @@ impl GridRange {
     }
 }
 
-/// An axis of the plane.
+/// An axis of a plane.
 #[derive(Clone, Copy)]
 pub(crate) enum PlaneAxis {
     U,
@@ -104,7 +106,7 @@ pub(crate) enum PlaneAxis {
 impl PlaneAxis {
     ghost use Rattle.ngc_arc_geometry.specs.Axes.{along};
 
-    /// A point's coordinate along this axis, in nanometres.
+    /// Returns a point's coordinate along this axis, in nanometres.
     pub(crate) fn along(self, point: &Point2) -> i64
         ensures value { result ≡ along self point.now }
         ensures bound { unsigned_abs result ≤ 10 ^ 11 }
@@ -115,7 +117,7 @@ impl PlaneAxis {
         }
     }
 
-    /// The least of a number and the points' coordinates.
+    /// Returns the least of `first` and the points' coordinates.
     pub(crate) fn least(self, first: i64, points: &[Point2]) -> i64
         requires { unsigned_abs first ≤ 10 ^ 11 }
         ensures value { result ≡ fold int_min first (map (along self) points.now) }
@@ -129,7 +131,7 @@ impl PlaneAxis {
         least
     }
 
-    /// The greatest of a number and the points' coordinates.
+    /// Returns the greatest of `first` and the points' coordinates.
     pub(crate) fn greatest(self, first: i64, points: &[Point2]) -> i64
         requires { unsigned_abs first ≤ 10 ^ 11 }
         ensures value { result ≡ fold int_max first (map (along self) points.now) }
@@ -144,7 +146,7 @@ impl PlaneAxis {
     }
 }
 
-/// The first grid point that isn't below a number of nanometres, in steps.
+/// Returns the first grid point that is not below a number of nanometres, in steps.
 fn first_grid_point(step: Nm, nanometres: i64) -> i32
     requires step { IsStep step }
     requires bound { unsigned_abs nanometres ≤ 11 * 10 ^ 10 }
@@ -154,7 +156,7 @@ fn first_grid_point(step: Nm, nanometres: i64) -> i32
     -(-nanometres).div_euclid(step.nanometres()) as i32
 }
 
-/// The last grid point that isn't above a number of nanometres, in steps.
+/// Returns the last grid point that is not above a number of nanometres, in steps.
 fn last_grid_point(step: Nm, nanometres: i64) -> i32
     requires step { IsStep step }
     requires bound { unsigned_abs nanometres ≤ 11 * 10 ^ 10 }

@@ -4,15 +4,15 @@ ghost use Rattle.ngc_arc_geometry.specs.Tolerance.{tolerance as tolerance_in};
 use crate::way::Way;
 use ngc_fixed_length::{Nm, Plane, Point2, Point3, Turn, Units};
 
-/// The lengths of I, J and K that belong to the plane, along its axes u and v.
+/// The lengths of the I, J and K words that belong to the plane, along its axes u and v.
 #[derive(Clone, Copy)]
 pub struct Offsets {
     pub u: Option<Nm>,
     pub v: Option<Nm>,
 }
 
-/// What both formats of an arc are given: plane, sense of turning, ends, and whether an axis word
-/// of the plane stands.
+/// The input that both formats of an arc share: plane, direction of turning, ends, and whether the
+/// line has an axis word of the plane.
 #[derive(Clone, Copy)]
 pub struct Ends {
     pub plane: Plane,
@@ -22,7 +22,7 @@ pub struct Ends {
     pub has_axis_word: bool,
 }
 
-/// By how much the radii at start and end may differ, in nanometres.
+/// Returns the greatest difference of the radii at start and end, in nanometres.
 pub(crate) fn tolerance(units: Units) -> u128
     ensures value { result ≡ tolerance_in units }
     ensures bound { result ≤ 5080 }
@@ -36,14 +36,14 @@ pub(crate) fn tolerance(units: Units) -> u128
 impl Ends {
     ghost use Rattle.ngc_arc_geometry.specs.Centre.{start_in, end_in};
 
-    /// The start in the plane.
+    /// Returns the start in the plane.
     pub(crate) fn start_in_plane(&self) -> Point2
         ensures { result ≡ start_in self.now }
     {
         self.start.in_plane(self.plane)
     }
 
-    /// The end in the plane.
+    /// Returns the end in the plane.
     pub(crate) fn end_in_plane(&self) -> Point2
         ensures { result ≡ end_in self.now }
     {
@@ -55,7 +55,7 @@ impl Offsets {
     ghost use Rattle.ngc_fixed_length.specs.Places.{shifted};
     ghost use Rattle.ngc_arc_geometry.specs.Centre.{offset_point};
 
-    /// The centre of an arc with this start; a missing offset is 0.
+    /// Returns the centre of an arc with this start; a missing offset is 0.
     pub(crate) fn centre(&self, start: &Point2) -> Way
         ensures value { result ≡ shifted start.now (offset_point self.now) }
         ensures u { unsigned_abs result.u ≤ 200000000000 }

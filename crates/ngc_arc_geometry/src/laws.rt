@@ -1,14 +1,13 @@
-//! Laws about the definitions alone.
+//! Laws about the definitions only.
 ghost use Rattle.ngc_arc_geometry.specs.ArcPath.{FollowingIsWeak};
 ghost use Rattle.ngc_arc_geometry.specs.CutArc.{CoveredByCuts};
 
-/// A path that follows an arc is one that stays in the arc's swept box.
+/// States that a path that follows an arc stays in the arc's swept box.
 pub fn weak_path()
     ensures { FollowingIsWeak }
 {}
 
-/// Each point of a path that follows an arc lies in the box of some piece of it, where the arc is
-/// cut.
+/// States that each point of a path that follows a cut arc lies in the box of one of its pieces.
 pub fn covered_by_cuts()
     ensures { CoveredByCuts }
 {}

@@ -12,7 +12,7 @@ pub fn halfway(x: Nm, y: Nm) -> Nm
     Nm::from_nanometres(i128::from(sum.div_euclid(2))).unwrap()
 }
 
-/// Returns a length and a number of nanometres more.
+/// Returns a length plus a number of nanometres.
 pub fn moved(length: Nm, by: i64) -> Nm
     requires { IsLength (length +ℤ by) }
     ensures { result ≡ length +ℤ by }

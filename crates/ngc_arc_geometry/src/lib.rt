@@ -1,4 +1,5 @@
-//! Circular arcs and helices: their centres, sectors and swept boxes, exactly, in whole numbers.
+//! Circular arcs and helices: their centres, sectors and swept boxes, computed exactly in whole
+//! numbers.
 #![tactic(auto)]
 
 mod arc;

@@ -13,7 +13,7 @@ pub(crate) struct SquaredRadii {
 impl SquaredRadii {
     ghost use Rattle.ngc_arc_geometry.specs.Radii.{squared_distance, roots_within};
 
-    /// Those of an arc from start to end about the centre.
+    /// Returns the squared radii of an arc from start to end about the centre.
     pub(crate) fn about(centre: &Way, start: &Point2, end: &Point2) -> SquaredRadii
         requires u { unsigned_abs centre.now.u ≤ 200000000000 }
         requires v { unsigned_abs centre.now.v ≤ 200000000000 }
@@ -30,7 +30,8 @@ impl SquaredRadii {
         }
     }
 
-    /// Whether the radii differ by at most the tolerance, in nanometres. It compares squares alone.
+    /// Returns whether the radii differ by at most the tolerance, in nanometres. It compares only
+    /// squares.
     pub(crate) fn are_within(&self, tolerance: u128) -> bool
         requires tolerance { tolerance ≤ 5080 }
         requires sum { self.now.lesser + self.now.greater ≤ 9 * 10 ^ 18 }

@@ -7,7 +7,8 @@ use crate::way::Way;
 use arrayvec::ArrayVec;
 use ngc_fixed_length::{Point2, Turn};
 
-/// A coordinate along v, as an arc of this sense sees it: a clockwise one is seen in the mirror.
+/// Returns a coordinate along v, mirrored for a clockwise arc, so that every arc turns
+/// counterclockwise.
 fn turning(turn: Turn, v: i64) -> i64
     requires { unsigned_abs v ≤ 400000000000 }
     ensures { result ≡ turning turn v }
@@ -18,7 +19,8 @@ fn turning(turn: Turn, v: i64) -> i64
     }
 }
 
-/// Of four half axes, from u on counterclockwise, the first that a direction meets.
+/// Returns the index of the first half axis that a direction meets. The four are counted
+/// counterclockwise from u on.
 fn first_met(u: i64, v: i64) -> usize
     ensures value { result ≡ first_met u v }
     ensures bound { result ≤ 3 }
@@ -40,21 +42,21 @@ impl Arc {
     ghost use Rattle.ngc_arc_geometry.specs.Sector.{turn_from, is_ahead, same_direction, is_full};
     ghost use Rattle.ngc_arc_geometry.specs.Sector.{in_sector};
 
-    /// The start, by the plane's axes.
+    /// Returns the start, in the plane's coordinates.
     pub(crate) fn start_in_plane(&self) -> Point2
         ensures { result ≡ start_of self.now }
     {
         self.start().in_plane(self.plane())
     }
 
-    /// The end, by the plane's axes.
+    /// Returns the end, in the plane's coordinates.
     pub(crate) fn end_in_plane(&self) -> Point2
         ensures { result ≡ end_of self.now }
     {
         self.end().in_plane(self.plane())
     }
 
-    /// Whether a point of the plane is the end.
+    /// Returns whether a point of the plane is the end.
     pub fn ends_at(&self, point: &Point2) -> bool
         ensures { result ≡ is_end self.now point.now }
     {
@@ -62,8 +64,8 @@ impl Arc {
         point.u.nanometres() == end.u.nanometres() && point.v.nanometres() == end.v.nanometres()
     }
 
-    /// Twice the area that two points span about the centre, above 0 where the arc's sense leads
-    /// from the first to the other.
+    /// Returns twice the area that two points span about the centre. It is above 0 if the arc's
+    /// direction leads from the first to the second.
     pub(crate) fn turn_from(&self, first: &Point2, second: &Point2) -> i128
         ensures { result ≡ turn_from self.now first.now second.now }
     {
@@ -75,14 +77,15 @@ impl Arc {
         }
     }
 
-    /// Whether the second point is ahead of the first by at most half a turn, or in its direction.
+    /// Returns whether the second point is ahead of the first by at most half a turn, or in its
+    /// direction.
     fn is_ahead(&self, first: &Point2, second: &Point2) -> bool
         ensures { result ≡ is_ahead self.now first.now second.now }
     {
         self.turn_from(first, second) >= 0
     }
 
-    /// Whether two points lie in one direction from the centre.
+    /// Returns whether two points lie in the same direction from the centre.
     fn same_direction(&self, first: &Point2, second: &Point2) -> bool
         ensures { result ≡ same_direction self.now first.now second.now }
     {
@@ -91,16 +94,16 @@ impl Arc {
         self.turn_from(first, second) == 0 && product > 0
     }
 
-    /// Whether the arc is a full circle: its end lies in the direction of its start from the
-    /// centre.
+    /// Returns whether the arc is a full circle: its end lies in the direction of its start from
+    /// the centre.
     pub fn is_full_circle(&self) -> bool
         ensures { result ≡ is_full self.now }
     {
         self.same_direction(&self.start_in_plane(), &self.end_in_plane())
     }
 
-    /// Whether a point of the plane lies in the arc's sector: from start to end in its sense of
-    /// turning, both included.
+    /// Returns whether a point of the plane lies in the arc's sector: from start to end in its
+    /// direction of turning, both included.
     pub fn in_sector(&self, point: Point2) -> bool
         ensures { result ≡ in_sector self.now point }
     {
@@ -122,7 +125,8 @@ impl Arc {
     ghost use Rattle.ngc_arc_geometry.specs.Sector.{quadrants_in_turn, extremes};
     ghost use Rattle.ngc_arc_geometry.specs.Radii.{outer_radius};
 
-    /// The points at the outer radius on the plane's half axes, from u on in the sense of turning.
+    /// Returns the points at the outer radius on the plane's half axes, from u on in the direction
+    /// of turning.
     fn quadrant_points(&self) -> [Point2; 4]
         ensures { result ≡ quadrant_points self.now.turn self.now.centre
             (pos (outer_radius self.now)) }
@@ -151,7 +155,7 @@ impl Arc {
         }
     }
 
-    /// How many of them come before the first that the arc meets.
+    /// Returns the number of quadrant points before the first one that the arc meets.
     fn first_quadrant(&self) -> usize
         ensures value { result ≡ first_quadrant self.now }
         ensures bound { result ≤ 3 }
@@ -160,7 +164,7 @@ impl Arc {
         first_met(start.u(), turning(self.turn(), start.v()))
     }
 
-    /// The quadrant points in the arc's order, from the first that it meets.
+    /// Returns the quadrant points in the arc's order, from the first that it meets.
     fn quadrants_in_turn(&self) -> [Point2; 4]
         ensures { result ≡ quadrants_in_turn self.now }
     {
@@ -169,8 +173,8 @@ impl Arc {
         points
     }
 
-    /// The quadrant points at the outer radius that lie in the sector, in the arc's order from its
-    /// start on.
+    /// Returns the quadrant points at the outer radius that lie in the sector, in the arc's order
+    /// from its start on.
     pub fn extremes(&self) -> ArrayVec<Point2, 4>
         ensures { result.items ≡ extremes self.now }
     {

@@ -14,7 +14,7 @@ impl Arc {
     ghost use Rattle.ngc_arc_geometry.specs.Swept.{margin, least, greatest, other_points, low_at};
     ghost use Rattle.ngc_arc_geometry.specs.Swept.{high_at, start_height, end_height, swept_box};
 
-    /// By how much the rounded radii at start and end differ, in nanometres.
+    /// Returns the difference of the rounded radii at start and end, in nanometres.
     fn radius_difference(&self) -> u64
         ensures value { result ≡ outer_radius self.now - inner_radius self.now }
         ensures bound { result ≤ 2000020000 }
@@ -23,10 +23,10 @@ impl Arc {
         root_ceil(radii.greater) - root_floor(radii.lesser)
     }
 
-    /// How far the box of the arc reaches beyond its points in the plane: two steps and the
+    /// Returns how far the arc's box extends beyond its points in the plane: two steps and the
     /// difference of the radii.
     ///
-    /// The step is 500 to 50,000 nm.
+    /// The step is from 500 to 50,000 nm.
     pub fn margin(&self, step: Nm) -> Nm
         requires { IsStep step }
         ensures value { result ≡ margin step self.now }
@@ -36,8 +36,8 @@ impl Arc {
         moved(step, step.nanometres() + self.radius_difference() as i64)
     }
 
-    /// From the least to the greatest coordinate of the ends and the quadrant points along an axis
-    /// of the plane.
+    /// Returns the span of the coordinates of the ends and the quadrant points along an axis of the
+    /// plane.
     fn span_along(&self, axis: PlaneAxis) -> Span
         ensures low { result.low ≡ least (along axis) (start_of self.now) (other_points self.now) }
         ensures high { result.high ≡ greatest (along axis) (start_of self.now)
@@ -54,7 +54,7 @@ impl Arc {
         }
     }
 
-    /// The grid points along an axis of the plane.
+    /// Returns the grid points along an axis of the plane.
     fn range_along(&self, axis: PlaneAxis, step: Nm) -> GridRange
         requires { IsStep step }
         ensures low { result.low ≡ low_at step self.now (along axis) }
@@ -64,7 +64,7 @@ impl Arc {
         GridRange::around(step, &span, self.margin(step).nanometres())
     }
 
-    /// The grid points along the third axis.
+    /// Returns the grid points along the third axis.
     pub(crate) fn height_range(&self, step: Nm) -> GridRange
         requires { IsStep step }
         ensures low { result.low ≡ int_min (start_height step self.now) (end_height step self.now) }
@@ -79,10 +79,11 @@ impl Arc {
         }
     }
 
-    /// The box of grid points that holds all of the arc: in the plane that of its ends and quadrant
-    /// points, grown by the margin; on the third axis from one end's grid point to the other's.
+    /// Returns the box of grid points that contains all of the arc. In the plane it is the box of
+    /// its ends and quadrant points, grown by the margin; on the third axis it extends from the
+    /// grid point of one end to that of the other.
     ///
-    /// The step is 500 to 50,000 nm.
+    /// The step is from 500 to 50,000 nm.
     pub fn swept_box(&self, step: Nm) -> GridBox
         requires { IsStep step }
         ensures { result ≡ swept_box step self.now }

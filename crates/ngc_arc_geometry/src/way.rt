@@ -3,7 +3,7 @@ ghost use Rattle.std.specs.Prelude.{◌≡◌, ◌^◌, ◌*◌, ◌≤◌, ◌*
 use ngc_fixed_length::{Nm, Point2};
 use std::marker::Model;
 
-/// A way in a plane, or a point of it that may lie farther out than lengths reach: at most 4*10^11
+/// A vector in a plane, or a point of it that may lie beyond the limit of lengths: at most 4*10^11
 /// nm on each axis.
 #[derive(Clone, Copy)]
 pub(crate) struct Way {
@@ -24,7 +24,7 @@ impl Model for Way {
     ghost inverse = { λ p. record { u = p.u; v = p.v } };
 }
 
-/// The product of two coordinates of ways.
+/// Returns the product of two coordinates of vectors.
 fn product(x: i64, y: i64) -> i128
     requires x { unsigned_abs x ≤ 400000000000 }
     requires y { unsigned_abs y ≤ 400000000000 }
@@ -37,7 +37,7 @@ fn product(x: i64, y: i64) -> i128
 impl Way {
     ghost use Rattle.ngc_fixed_length.specs.Places.{from, shifted, cross, dot};
 
-    /// So far along each axis.
+    /// Returns the vector with these coordinates.
     pub(crate) fn new(u: i64, v: i64) -> Way
         requires u { unsigned_abs u ≤ 400000000000 }
         requires v { unsigned_abs v ≤ 400000000000 }
@@ -46,7 +46,7 @@ impl Way {
         Way { u, v }
     }
 
-    /// The way from one point to another.
+    /// Returns the vector from one point to another.
     pub(crate) fn between(start: &Point2, end: &Point2) -> Way
         ensures { result ≡ from start.now end.now }
     {
@@ -56,7 +56,7 @@ impl Way {
         }
     }
 
-    /// A point as a way from the plane's zero.
+    /// Returns the vector from the plane's zero to a point.
     pub(crate) fn of(point: &Point2) -> Way
         ensures value { result ≡ point.now }
         ensures u { unsigned_abs result.u ≤ 100000000000 }
@@ -68,7 +68,7 @@ impl Way {
         }
     }
 
-    /// The point that lies so far from another along each axis.
+    /// Returns the point at the distances `u` and `v` from another.
     pub(crate) fn offset(start: &Point2, u: Nm, v: Nm) -> Way
         ensures value { result ≡ shifted start.now (record { u = u; v = v }) }
         ensures u { unsigned_abs result.u ≤ 200000000000 }
@@ -80,7 +80,7 @@ impl Way {
         }
     }
 
-    /// The point that this way leads to from the plane's zero.
+    /// Returns the point to which this vector leads from the plane's zero.
     pub(crate) fn point(&self) -> Point2
         requires u { unsigned_abs self.now.u ≤ 100000000000 }
         requires v { unsigned_abs self.now.v ≤ 100000000000 }
@@ -92,7 +92,7 @@ impl Way {
         }
     }
 
-    /// The way from this point to another.
+    /// Returns the vector from this point to another.
     pub(crate) fn to(&self, end: &Point2) -> Way
         requires u { unsigned_abs self.now.u ≤ 200000000000 }
         requires v { unsigned_abs self.now.v ≤ 200000000000 }
@@ -104,7 +104,7 @@ impl Way {
         }
     }
 
-    /// How far the way goes along u.
+    /// Returns the coordinate along u.
     pub(crate) fn u(&self) -> i64
         ensures value { result ≡ self.now.u }
         ensures bound { unsigned_abs result ≤ 400000000000 }
@@ -112,7 +112,7 @@ impl Way {
         self.u
     }
 
-    /// How far the way goes along v.
+    /// Returns the coordinate along v.
     pub(crate) fn v(&self) -> i64
         ensures value { result ≡ self.now.v }
         ensures bound { unsigned_abs result ≤ 400000000000 }
@@ -120,8 +120,8 @@ impl Way {
         self.v
     }
 
-    /// The product of two ways, which is above 0 where the angle between them is less than a right
-    /// one.
+    /// Returns the dot product of two vectors. It is above 0 if the angle between them is less than
+    /// a right one.
     pub(crate) fn dot(&self, other: &Way) -> i128
         ensures value { result ≡ dot self.now other.now }
         ensures bound { unsigned_abs result ≤ 4 * 10 ^ 23 }
@@ -129,8 +129,8 @@ impl Way {
         product(self.u, other.u) + product(self.v, other.v)
     }
 
-    /// Twice the area that two ways span, above 0 where the first turns towards the other
-    /// counterclockwise.
+    /// Returns twice the area that two vectors span. It is above 0 if the first turns towards the
+    /// other counterclockwise.
     pub(crate) fn cross(&self, other: &Way) -> i128
         ensures value { result ≡ cross self.now other.now }
         ensures bound { unsigned_abs result ≤ 4 * 10 ^ 23 }
@@ -138,7 +138,7 @@ impl Way {
         product(self.u, other.v) - product(self.v, other.u)
     }
 
-    /// Whether both ways lead into one closed quadrant.
+    /// Returns whether both vectors point into the same closed quadrant.
     pub(crate) fn shares_quadrant(&self, other: &Way) -> bool
         ensures { result
             ≡ (int_le (pos 0) (self.now.u *ℤ other.now.u)
@@ -147,7 +147,7 @@ impl Way {
         0 <= product(self.u, other.u) && 0 <= product(self.v, other.v)
     }
 
-    /// The square of the way's length.
+    /// Returns the square of the vector's length.
     pub(crate) fn square(&self) -> u128
         ensures { result ≡ unsigned_abs (dot self.now self.now) }
     {

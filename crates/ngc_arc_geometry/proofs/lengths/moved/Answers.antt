@@ -11,7 +11,7 @@ use Rattle.ngc_arc_geometry.proofs.lengths.moved.Goals as goal
 taken : (z : ℤ) → IsLength z → within LENGTH_LIMIT z ≡ Ok z
 taken z small = grind (arith, nat_tests)
 
--- what the test on a length answers
+-- the result of the test on a length
 answered : (r : Result ℤ NumberFault) (sum z : ℤ) → r ≡ within LENGTH_LIMIT sum → sum ≡ z → IsLength z → r ≡ Ok z
 answered r sum z test same small = test ∙ (rw same (taken z small))
 

@@ -12,7 +12,7 @@ use Rattle.ngc_arc_geometry.proofs.Points.{same_point}
 use Rattle.ngc_arc_geometry.proofs.given.Ends.offset_from_middle.Goals.{After-new, After-signed_aside-v}
 use Rattle.ngc_arc_geometry.proofs.given.Ends.offset_from_middle.Goals as goal
 
--- the parts of a chord are no longer than it
+-- the coordinates of a chord are at most its length
 of_v : (p : Point2) (z : ℤ) (n : ℕ) → z ≡ p.v → unsigned_abs z ≤ 400000000000 → n ≡ unsigned_abs (dot p p) →
     unsigned_abs (to_z w64 (of_z w64 z)) * unsigned_abs (to_z w64 (of_z w64 z)) ≤ n
 of_v p z n is bound square =
