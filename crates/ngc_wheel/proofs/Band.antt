@@ -1,4 +1,5 @@
--- What the bounds on a wheel's points say of the arc: for an end at the radius q + 1, between the arc's radii near and far.
+-- The bounds on a wheel's points, for the arc: with an end at the radius q + 1, between the arc's
+-- radii near and far.
 use Rattle.std.proofs.Common.{◌≡◌, ℕ, ◌+◌, ◌-◌, ◌*◌, ◌<◌, ◌≤◌, arith}
 use Rattle.std.proofs.Math.Nat.{mul-le-mul_left}
 use Rattle.ngc_wheel.specs.Wheel.{square}
@@ -30,8 +31,9 @@ not_too_near g q h k l v x y near r above small =
     let j = mul-le-mul_left g d in
     omega (arith, above, b, c, i, j)
 
--- ---- in its start's quadrant, behind the start's direction: a box round the start and the quadrant points ahead has the point.
--- The start is (bx, by), at the radius p + 1, and the band goes from low to p + 1 + wide.
+-- ---- in its start's quadrant, past the start's direction: a box round the start and the following
+-- quadrant points contains the point. The start is (bx, by), at the radius p + 1, and the band is
+-- from low to p + 1 + wide.
 pub beside_start : (x y bx by p wide : ℕ) → x * by ≤ y * bx → square x y ≤ (p + 1 + wide) * (p + 1 + wide) → p * p ≤ square bx by → bx ≤ p + 1 → wide + 2 ≤ p →
     x ≤ bx + wide + 1
 beside_start x y bx by p wide past near round small room = past_in x y bx by p wide past near round small room

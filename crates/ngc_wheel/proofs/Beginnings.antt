@@ -1,4 +1,5 @@
--- How far out a wheel begins: at the joint, or at the point that the entry leads to.
+-- The distance from the centre at which a wheel begins: at the joint, or at the point to which the
+-- entry leads.
 use Rattle.std.proofs.Common.{◌≡◌, ℕ, ◌+◌, ◌-◌, ◌*◌, ◌<◌, ◌≤◌, inl, inr, ap, arith}
 use Rattle.std.specs.Prelude.{Bool, true, false}
 use Rattle.std.proofs.Math.Nat.{mul-le-mul_left}
@@ -17,14 +18,15 @@ pub record IsBound (g high low : ℕ) (s : Spoke) : Type 0 where
   pub below : IsBelow g high s
   pub above : IsAbove g low s
 
--- the joint, near the circle of radius r; where the start is flat it is so, too, and where it is steep but for a step
+-- the joint is near the circle of radius r; if the start is flat, the joint is flat, and if the
+-- start is steep, the joint is steep to within a step
 pub record IsNearJoint (g r v : ℕ) (steep : Bool) (j : Spoke) : Type 0 where
   pub high : 12 * square j.x j.y ≤ 12 * (r * r) + 17 * (r * g) + 6 * (g * g)
   pub low : v * v ≤ square j.x j.y
   pub flat : steep ≡ false → g ≤ j.x → j.y ≤ j.x
   pub steep_but : steep ≡ true → g ≤ j.x → j.x ≤ j.y + g
 
--- ---- circles of two and a quarter steps and more: by 11/10 of a step out
+-- ---- circles of at least two and a quarter steps: within 11/10 of a step outward
 
 pub record IsSmallSize (g r h l m v : ℕ) : Type 0 where
   pub step : 500 ≤ g
@@ -37,7 +39,7 @@ pub record IsSmallSize (g r h l m v : ℕ) : Type 0 where
   pub m_high : 5 * m ≤ 4 * g
   pub inner : v + m ≡ r
 
--- what is a little farther out than the joint may be is within the bound
+-- a point a little farther out than the joint may be is within the bound
 pub within_small : (g r h l m v n : ℕ) → IsSmallSize g r h l m v → 12 * n ≤ 12 * (r * r) + 17 * (r * g) + 30 * (g * g) → n ≤ (r + l) * (r + l)
 within_small g r h l m v n s h' =
     let a = mul-le-mul_left r s.l_low in
@@ -134,7 +136,7 @@ small_enters g r h l m v steep j Inward s near entry =
     let high = within_small g r h l m v (square j.x j.y) s (omega (arith, near.high)) in
     by_all g ((r + l) * (r + l)) v (rolled g Inward j) (omega (arith, high, xx)) (inward_above g v t j.y (omega (arith, entry.2, less_limit g r h l m v s)))
 
--- ---- circles of eight steps and more: by four fifths of a step out and in
+-- ---- circles of at least eight steps: within four fifths of a step outward and inward
 
 within_large : (g q h k l v n : ℕ) → IsRim g q h k l v → 12 * n ≤ 12 * ((q + 1) * (q + 1)) + 17 * ((q + 1) * g) + 6 * (g * g) → n ≤ limit_of q l
 within_large g q h k l v n s h' =

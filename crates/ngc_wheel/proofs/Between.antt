@@ -1,11 +1,13 @@
--- A direction that comes after the start's and before the end's, by quadrants counted from the start on, is in the sector.
+-- A direction from the start's to the end's, in quadrants counted from the start on, is in the
+-- sector.
 use Rattle.std.proofs.Common.{ℕ, zero, suc, ◌+◌, ◌*◌, ◌<◌, ◌≤◌, ◌⊎◌, inl, inr, arith}
 use Rattle.std.proofs.lemmas.Bool.{cases_lt}
 use Rattle.std.proofs.lemmas.Nat.{mul-le}
 use Rattle.std.proofs.Math.Nat.{mul-le-mul_left, le_of_mul-le-mul_left}
 use Rattle.ngc_wheel.specs.Directions.{IsAhead, IsNoLater}
 
--- an end n quadrants on from its start leaves no full circle over: a fourth quadrant is the first again, up to the start
+-- an end n quadrants from its start leaves no more than a full circle: a fourth quadrant is the
+-- first again, up to the start
 abbrev pub IsWithinTurn : ℕ → ℕ → ℕ → ℕ → ℕ → Type 0
 IsWithinTurn zero x y z w = Unit {0}
 IsWithinTurn (suc zero) x y z w = Unit {0}
@@ -22,7 +24,7 @@ too_far (suc (suc (suc zero))) x y z w h turn = absurd (omega arith)
 too_far (suc (suc (suc (suc zero)))) x y z w h turn = absurd (omega arith)
 too_far (suc (suc (suc (suc (suc n))))) x y z w h turn = turn
 
--- slopes compare through a third
+-- two slopes compare through a third
 through : (x y z w s t : ℕ) → 0 < z → y * z ≤ x * w → w * s ≤ z * t → y * s ≤ x * t
 through x y z w s t some a b =
     let p = mul-le-mul_left s a in
@@ -30,7 +32,8 @@ through x y z w s t some a b =
     let r : z * (y * s) ≤ z * (x * t) = omega arith in
     le_of_mul-le-mul_left r some
 
--- In a sector of at most half a turn both hold: m quadrants from the start b to p, and n from p to the end e.
+-- In a sector of at most half a turn both conditions hold: m quadrants from the start b to p, and n
+-- from p to the end e.
 pub both_ahead : (m n bx by x y ex ey : ℕ) → 0 < bx → 0 < x → 0 < ex → IsNoLater m bx by x y → IsNoLater n x y ex ey →
     IsWithinTurn (m + n) bx by ex ey → IsAhead (m + n) bx by ex ey → IsAhead m bx by x y × IsAhead n x y ex ey
 both_ahead zero zero bx by x y ex ey b p e bp pe turn small = (bp, pe)
@@ -57,7 +60,7 @@ both_ahead (suc (suc (suc (suc zero)))) zero bx by x y ex ey b p e bp pe turn sm
 both_ahead (suc (suc (suc (suc zero)))) (suc n) bx by x y ex ey b p e bp pe turn small = absurd (too_far _ bx by ex ey (omega arith) turn)
 both_ahead (suc (suc (suc (suc (suc m))))) n bx by x y ex ey b p e bp pe turn small = absurd (too_far _ bx by ex ey (omega arith) turn)
 
--- In a larger one one of them does.
+-- In a larger sector one of them holds.
 pub one_ahead : (m n bx by x y ex ey : ℕ) → 0 < bx → 0 < x → 0 < ex → IsNoLater m bx by x y → IsNoLater n x y ex ey →
     IsWithinTurn (m + n) bx by ex ey → IsAhead m bx by x y ⊎ IsAhead n x y ex ey
 one_ahead zero n bx by x y ex ey b p e bp pe turn = inl bp

@@ -76,7 +76,7 @@ stays_near g r n at quadrant way k le =
     let e = one_less g r way.step way.large in
     subst (λ t. IsNearCircle t g (at k)) e (near_on g (r - 1) n at quadrant k (subst (λ t. GoesRound g t n at quadrant) (sym e) way) le)
 
--- ---- round
+-- ---- round the centre
 
 round_on : (g q n : ℕ) (at : ℕ → Spoke) (quadrant : ℕ → ℕ) (k m : ℕ) → GoesRound g (q + 1) n at quadrant → k ≤ n → quadrant k ≤ m →
     k * g ≤ 2 * (q + 1 + 4 * g / 5 + g) * (m + 1)

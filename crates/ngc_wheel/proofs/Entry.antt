@@ -1,5 +1,6 @@
--- Where a wheel begins: the joint (x, y), the grid point nearest to the start (bx, by) moved from its radius s = p + 1 to the radius r = q + 1,
--- or the point that one move leads to from there.
+-- The point at which a wheel begins. The joint (x, y) is the grid point nearest to the start (bx,
+-- by) moved from its radius s = p + 1 to the radius r = q + 1. The wheel begins there, or at the
+-- point to which one move leads from there.
 use Rattle.std.proofs.Common.{◌≡◌, ℕ, ◌+◌, ◌-◌, ◌*◌, ◌<◌, ◌≤◌, inl, inr, arith}
 use Rattle.std.proofs.lemmas.Bool.{cases_lt}
 use Rattle.std.proofs.Math.Nat.{mul-le-mul_left, le_of_mul-le-mul_left}
@@ -46,7 +47,7 @@ joint_above g p r l v x y bx by step low inner near jx jy round =
           absurd (omega arith))
     ]
 
--- ---- the point that a move from the joint leads to is between the bounds that a wheel keeps
+-- ---- the point to which a move from the joint leads is between the bounds of a wheel
 
 begins_outward : (g q h k l v x y : ℕ) → IsRim g q h k l v → g ≤ x → v * v ≤ square x y → square x (y + g) ≤ limit_of q h →
     (square x (y + g) ≤ limit_of q l) × (v * v ≤ square x (y + g))
@@ -55,7 +56,7 @@ begins_outward g q h k l v x y r inside above fits =
     let b = square_le (q + 1 + h) (q + 1 + l) a in
     (omega arith, omega arith)
 
--- diagonal, where outward is too far: the joint is flat, as the start is
+-- a diagonal move, if the limit does not allow outward: the joint is flat, as the start is
 pub begins_diagonal_flat : (g q h k l v x y t : ℕ) → IsRim g q h k l v → x ≡ t + g → y ≤ x →
     12 * square x y ≤ 12 * ((q + 1) * (q + 1)) + 17 * ((q + 1) * g) + 6 * (g * g) → square t (y + g) ≤ limit_of q l + g * g
 begins_diagonal_flat g q h k l v x y t r e flat below =
@@ -78,7 +79,7 @@ begins_inward g q h k l v x y t r e below refused =
     let c = square_le (v + g) (q + 1 + h) b in
     (omega arith, inward_above g v t y (omega arith))
 
--- diagonal, where the limit allows it: the joint is steep, but for the rounding
+-- a diagonal move, if the limit allows it: the joint is steep, to within the rounding
 pub begins_diagonal_steep : (g q h k l v x y t : ℕ) → IsRim g q h k l v → x ≡ t + g → x ≤ y + g → v * v ≤ square x y → square t (y + g) ≤ limit_of q h →
     (square t (y + g) ≤ limit_of q l) × (v * v ≤ square t (y + g))
 begins_diagonal_steep g q h k l v x y t r e steep above fits =
@@ -93,11 +94,11 @@ pub begins_over : (g q h k l v x y : ℕ) → IsRim g q h k l v → x < g → sq
     (square y (g - x) ≤ limit_of q l + g * g) × (v * v ≤ square y (g - x) + g * g)
 begins_over g q h k l v x y r less below above = (over_below g (limit_of q l) x y less below, over_above g v x y less above)
 
--- over the axis the start's ray is crossed: where the start is in the joint's quadrant
+-- a move over the axis crosses the start's ray: if the start is in the joint's quadrant
 pub over_enters : (g x y bx by : ℕ) → x ≤ g → by * x ≤ bx * y + by * g
 over_enters g x y bx by h = omega (arith, mul-le-mul_left by h)
 
--- and where it is in the next one, at (by, c) there
+-- and if it is in the next one, at (by, c) there
 pub over_enters_behind : (g s r x y by c : ℕ) → 0 < s → x < g → g ≤ x + y → 2 * (s * x) + 2 * (r * c) ≤ s * g → 2 * (s * y) ≤ 2 * (r * by) + s * g →
     r * (c * y) ≤ r * (by * (g - x))
 over_enters_behind g s r x y by c some less far jx jy =

@@ -10,8 +10,9 @@ use Rattle.ngc_wheel.specs.Wheel.{square, rolled, IsRoll}
 use Rattle.ngc_wheel.specs.Bounds.{IsBelow, IsAbove}
 use Rattle.ngc_wheel.proofs.Rays.{square_le, from_squares, past_in, before_out, inward_near, diagonal_near, outward_far, inward_far}
 
--- the sizes: h is two fifths of a step, k half a step, l four fifths of one, all rounded down. By choice no point is farther
--- out than q + 1 + h; no point is farther out than q + 1 + l, nor farther in than v, but for the square of a step.
+-- the sizes, rounded down: h is two fifths of a step, k half a step, l four fifths of one. The rule
+-- chooses no point farther out than q + 1 + h. No point is farther out than q + 1 + l, nor nearer
+-- than v, to within the square of a step.
 pub record IsRim (g q h k l v : ℕ) : Type 0 where
   pub step : 500 ≤ g
   pub far : 8 * g ≤ q + 1
@@ -35,7 +36,7 @@ pub record IsBeside (g a b : ℕ) : Type 0 where
   pub up : 2 * a < 2 * b + 3 * g
   pub down : 2 * b < 2 * a + 3 * g
 
--- a half step makes room for a square of a step
+-- half a step leaves enough for the square of a step
 half_room : (g q h k l v : ℕ) → IsRim g q h k l v → 2 * (g * g) ≤ k * (q + 1)
 half_room g q h k l v r =
     let b = mul-le-mul_left k r.far in
@@ -62,7 +63,7 @@ near_enough g q h k l v x y r below =
     let room = half_room g q h k l v r in
     omega arith
 
--- along x a point before the ray isn't far behind e, and along y not far beyond it
+-- along x a point before the ray is not far short of e, and along y not far beyond it
 pub not_behind : (g q h k l v x y ex ey : ℕ) → IsRim g q h k l v → IsRay q ex ey → v * v ≤ square x y + g * g → y * ex ≤ x * ey → 2 * ex < 2 * x + 3 * g
 not_behind g q h k l v x y ex ey r ray above before =
     let w = v - k in
@@ -83,14 +84,14 @@ not_beyond g q h k l v x y ex ey r ray below before =
     let c = past_in y x ey ex q (l + k) before a s u (omega (arith, r.far, r.l_high, r.k_high, r.step)) in
     omega (arith, c, r.l_high, r.k_high, r.step)
 
--- a point beyond the ray, within the limit, isn't far ahead of e along x
+-- a point past the ray, within the limit, is not far ahead of e along x
 pub not_ahead : (g q h k l v x y ex ey : ℕ) → IsRim g q h k l v → IsRay q ex ey → square x y ≤ limit_of q h → x * ey ≤ y * ex → x ≤ ex + h + 1
 not_ahead g q h k l v x y ex ey r ray fits past =
     let t : ex * ex ≤ (q + 1) * (q + 1) = omega (arith, ray.great) in
     let u = from_squares ex (q + 1) t in
     past_in x y ex ey q h past fits ray.small u (omega (arith, r.far, r.h_high, r.step))
 
--- the limit is past the circle through e by more than the squares of two steps
+-- the limit exceeds the circle through e by more than the squares of two steps
 pub limit_room : (g q h k l v ex ey : ℕ) → IsRim g q h k l v → IsRay q ex ey → 4 * (ex * ex + ey * ey) + 5 * (g * g) ≤ 4 * limit_of q h
 limit_room g q h k l v ex ey r ray =
     let a = mul-le-mul_left h r.far in

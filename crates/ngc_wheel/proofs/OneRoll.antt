@@ -1,4 +1,4 @@
--- The rule allows one move alone.
+-- The rule allows only one move.
 use Rattle.std.proofs.Common.{◌≡◌, ℕ, ◌+◌, ◌-◌, ◌<◌, inl, inr, subst, arith}
 use Rattle.std.proofs.lemmas.Bool.{cases_lt}
 use Rattle.ngc_wheel.specs.declared.spoke.Roll.{Roll}

@@ -1,4 +1,4 @@
--- Moves over an axis: the end close behind it, and the quadrant point on it.
+-- Moves over an axis: an end shortly past it, and the quadrant point on it.
 use Rattle.std.proofs.Common.{◌≡◌, ℕ, ◌+◌, ◌-◌, ◌*◌, ◌<◌, ◌≤◌, inl, inr, arith}
 use Rattle.std.proofs.lemmas.Bool.{cases_lt}
 use Rattle.std.proofs.Math.Nat.{mul-le-mul_left}
@@ -7,7 +7,7 @@ use Rattle.ngc_wheel.specs.Bounds.{IsBelow, IsAbove}
 use Rattle.ngc_wheel.proofs.Rays.{square_le, from_squares}
 use Rattle.ngc_wheel.proofs.NearEnd.{IsRim, IsRay, IsBeside, limit_of, far_enough}
 
--- before an axis a point lies at least w along it
+-- a point just before an axis is at least w along it
 far_along : (g q h k l v w : ℕ) (s : Spoke) → IsRim g q h k l v → w + k ≡ v → IsAbove g v s → s.x < g → w ≤ s.y
 far_along g q h k l v w s r e above less =
     let a = square_le s.x g (omega arith) in
@@ -49,7 +49,8 @@ not_short g q y ez ew step far close round high =
           absurd (omega arith))
     ]
 
--- an end (ez, ew) of the next quadrant that a move over the axis reaches or passes: it lies ew behind the axis
+-- an end (ez, ew) of the next quadrant that a move over the axis reaches or passes: it is ew past
+-- the axis
 pub next_near : (g q h k l v : ℕ) (s : Spoke) (ez ew : ℕ) → IsRim g q h k l v → IsRay q ez ew → IsBelow g (limit_of q l) s → IsAbove g v s →
     s.x < g → s.y * ew ≤ (g - s.x) * ez → (2 * (s.x + ew) < 3 * g) × IsBeside g s.y ez
 next_near g q h k l v s ez ew r ray below above less past =
@@ -68,7 +69,8 @@ next_near g q h k l v s ez ew r ray below above less past =
     let second = not_short g q s.y ez ew r.step r.far (omega (arith, first)) ray.small (omega (arith, high, r.l_high)) in
     (first, record { up = second; down = omega (arith, wide, along, de, small, r.step) })
 
--- a point less than a step beside a half axis, at most d farther in or out than big along it, is within d + g of the point at big on it
+-- a point less than a step from a half axis, whose distance from the centre differs from big by at
+-- most d, is within d + g of the point at big on the axis
 pub by_axis_point : (g a b d : ℕ) → a ≤ g → b ≤ d + g → a * a + b * b ≤ (d + 2 * g) * (d + 2 * g)
 by_axis_point g a b d ha hb =
     let p = square_le a g ha in

@@ -1,4 +1,4 @@
--- A wheel goes on: each move leads farther round.
+-- A wheel turns forward: each move leads further round.
 use Rattle.std.proofs.Common.{◌≡◌, ℕ, ◌+◌, ◌-◌, ◌*◌, ◌<◌, ◌≤◌, arith}
 use Rattle.std.proofs.Math.Nat.{mul-le-mul_left}
 use Rattle.ngc_wheel.specs.declared.spoke.Roll.{Roll}
@@ -10,7 +10,8 @@ use Rattle.ngc_wheel.specs.Bounds.{IsBelow, IsAbove}
 use Rattle.ngc_wheel.proofs.Rays.{square_le, from_squares}
 use Rattle.ngc_wheel.proofs.NearEnd.{IsRim, IsRay, IsBeside, limit_of, far_enough, not_behind, not_beyond}
 
--- ---- how far round: within a quadrant by how much y is above x, and twice the reach for each quadrant
+-- ---- a measure of progress: within a quadrant the excess of y over x, and twice the reach for
+-- each quadrant
 
 abbrev pub gone : ℕ → ℕ → Spoke → ℕ
 gone reach quadrants s = 2 * reach * quadrants + (reach - s.x) + s.y
@@ -22,7 +23,7 @@ goes_on g limit reach n s Diagonal hx hy roll = omega (arith, roll.0)
 goes_on g limit reach n s Inward hx hy roll = omega (arith, roll.0)
 goes_on g limit reach n s Over hx hy roll = omega (arith, roll)
 
--- ---- no turning back: in a quadrant the cross product of two neighbours is above 0, or 0
+-- ---- no turning back: in a quadrant the cross product of two successive points is at least 0
 pub turns_on : (g limit : ℕ) (s : Spoke) → (r : Roll) → g ≤ s.x → IsRoll g limit s r → s.y * (rolled g r s).x ≤ s.x * (rolled g r s).y
 turns_on g limit s Outward h roll = omega arith
 turns_on g limit s Diagonal h roll = let t = s.x - g in let e : t + g ≡ s.x = omega arith in let a = mul-le-mul_left s.y h in
@@ -32,11 +33,11 @@ turns_on g limit s Over h roll = absurd (omega (arith, roll))
 
 -- ---- over an axis
 
--- the point before an axis, and the one behind it, are near its quadrant point at the radius big
+-- the points before and after an axis are near its quadrant point at the radius big
 pub at_axis : (a y w big d : ℕ) → w * w ≤ y * y + a * a → y * y + a * a ≤ (big + d) * (big + d) → y ≤ big + d
 at_axis a y w big d low high = from_squares y (big + d) (omega arith)
 
--- what the last point is to an end in its own quadrant, where the next move goes over the axis
+-- the last point and an end in its own quadrant, if the next move goes over the axis
 pub over_near : (g q h k l v : ℕ) (s : Spoke) (ex ey : ℕ) → IsRim g q h k l v → IsRay q ex ey → IsBelow g (limit_of q l) s → IsAbove g v s →
     s.x < g → s.y * ex < s.x * ey → IsBeside g s.x ex × IsBeside g s.y ey
 over_near g q h k l v s ex ey r ray below above less before =

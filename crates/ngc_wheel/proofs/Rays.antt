@@ -25,11 +25,12 @@ squares_apart x y =
       | inr more ↦ (let e : y + (x - y) ≡ x = omega arith in omega (arith, rw e at (more_apart y (x - y))))
     ]
 
--- beyond the ray: x is at most the part in e of the distance from the centre
+-- past the ray: x is at most the share of e in the distance from the centre
 pub beyond : (x y ex ey : ℕ) → x * ey ≤ y * ex → x * x * (ex * ex + ey * ey) ≤ (x * x + y * y) * (ex * ex)
 beyond x y ex ey past = let p = square_le (x * ey) (y * ex) past in omega arith
 
--- beyond the ray and at most q + 1 + h from the centre, a point is at most h + 1 farther along x than e
+-- past the ray and at most q + 1 + h from the centre, a point is at most h + 1 farther along x than
+-- e
 pub past_in : (x y ex ey q h : ℕ) → x * ey ≤ y * ex → x * x + y * y ≤ (q + 1 + h) * (q + 1 + h) → q * q ≤ ex * ex + ey * ey → ex ≤ q + 1 → h + 2 ≤ q →
     x ≤ ex + h + 1
 past_in x y ex ey q h past near round small wide =
@@ -47,7 +48,8 @@ past_in x y ex ey q h past near round small wide =
       | inr less ↦ less
     ]
 
--- before the ray and at least w from the centre, a point is at most d less far along x than e, for a ray of at most w + d
+-- before the ray and at least w from the centre, a point is at most d less along x than e, for a
+-- ray of at most w + d
 pub before_out : (x y ex ey w d : ℕ) → y * ex ≤ x * ey → w * w ≤ x * x + y * y → ex * ex + ey * ey ≤ (w + d) * (w + d) → 0 < w → ex ≤ x + d
 before_out x y ex ey w d before far round some =
     let p = square_le (y * ex) (x * ey) before in
@@ -67,9 +69,9 @@ before_out x y ex ey w d before far round some =
       | inr less ↦ less
     ]
 
--- ---- how far e may be ahead of the last point before its ray, along y
+-- ---- how far e may be ahead along y of the last point before its ray
 
--- a move inward leads beyond the ray, since a diagonal one is too far out
+-- a move inward leads past the ray, because a diagonal one is too far out
 pub inward_near : (g t y ex ey limit : ℕ) → 0 < ey → t * ey ≤ y * ex → limit < t * t + (y + g) * (y + g) → ex * ex + ey * ey ≤ limit → 2 * ey < 2 * y + 3 * g
 inward_near g t y ex ey limit some past refused room =
     elim (cases_lt (2 * ey) (2 * y + 3 * g)) [
@@ -85,7 +87,7 @@ inward_near g t y ex ey limit some past refused room =
           absurd (omega arith))
     ]
 
--- a diagonal move leads beyond the ray, since one outward is too far out
+-- a diagonal move leads past the ray, because one outward is too far out
 diagonal_far : (g δ Y ex ey t limit : ℕ) → 0 < ey → t + g ≡ ex + δ → t * ey ≤ Y * ex → 2 * Y + g ≤ 2 * ey → 4 * limit < 4 * ((ex + δ) * (ex + δ) + Y * Y) →
     4 * (ex * ex + ey * ey) + 5 * (g * g) ≤ 4 * limit → ⊥
 diagonal_far g δ Y ex ey t limit some e past low refused room =
@@ -131,8 +133,9 @@ diagonal_near g t y ex ey limit some past refused room =
       ]
     ]
 
--- a move outward leads beyond the ray: the point before it would be too far in.
--- With d the product of point and e, and c their cross product, squares are shared: d*d + c*c is the product of both squared distances.
+-- a move outward leads past the ray: the point before it would be too near the centre. If d is the
+-- dot product of point and e, and c their cross product, d*d + c*c is the product of both squared
+-- distances.
 pub shared : (x y ex ey d c : ℕ) → x * ey ≡ y * ex + c → d ≡ x * ex + y * ey → d * d + c * c ≡ (x * x + y * y) * (ex * ex + ey * ey)
 shared x y ex ey d c cross dot =
     let a : (x * ey) * (x * ey) ≡ (y * ex + c) * (y * ex + c) = rw cross in
@@ -140,11 +143,12 @@ shared x y ex ey d c cross dot =
     let e : d * d ≡ (x * ex + y * ey) * (x * ex + y * ey) = rw dot in
     omega arith
 
--- so the product of two ways is at most that of their lengths
+-- so the dot product of two vectors is at most the product of their lengths
 pub cauchy : (x y ex ey : ℕ) → (x * ex + y * ey) * (x * ex + y * ey) ≤ (x * x + y * y) * (ex * ex + ey * ey)
 cauchy x y ex ey = let p = squares_apart (x * ey) (y * ex) in omega arith
 
--- a point that lies g or less before the ray across it, and 3g/2 or more short of e along y, is more than a step too far in
+-- a point at most g before the ray, measured across it, and at least 3g/2 short of e along y, is
+-- more than a step too near
 pub outward_far : (g x y ex ey q : ℕ) → 0 < ey → y * ex ≤ x * ey → x * ey ≤ (y + g) * ex → q * q ≤ ex * ex + ey * ey → 2 * y + 3 * g ≤ 2 * ey →
     25 * (x * x + y * y) + 70 * (g * q) ≤ 25 * (ex * ex + ey * ey) + 74 * (g * g)
 outward_far g x y ex ey q some before past small low =
@@ -172,7 +176,8 @@ outward_far g x y ex ey q some before past small low =
     let p11 : n * (25 * (x * x + y * y) + 70 * (g * q)) ≤ n * (25 * n + 74 * (g * g)) = omega arith in
     le_of_mul-le-mul_left p11 (omega (arith, square_le 1 ey some))
 
--- a point that a step inward leads beyond the ray, and 3g/2 or more ahead of e along x, is more than a step too far out
+-- a point from which a step inward leads past the ray, and at least 3g/2 ahead of e along x, is
+-- more than a step too far out
 pub inward_far : (g t x y ex ey q : ℕ) → 0 < ex → x ≡ t + g → t * ey ≤ y * ex → q * q ≤ ex * ex + ey * ey → 2 * ex + 3 * g ≤ 2 * x →
     25 * (ex * ex + ey * ey) + 70 * (g * q) ≤ 25 * (x * x + y * y)
 inward_far g t x y ex ey q some e past small high =

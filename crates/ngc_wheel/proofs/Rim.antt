@@ -1,4 +1,4 @@
--- How far from the centre a wheel's points are.
+-- The distance of a wheel's points from the centre.
 use Rattle.std.proofs.Common.{◌≡◌, ℕ, ◌+◌, ◌-◌, ◌*◌, ◌<◌, ◌≤◌, inl, inr, arith}
 use Rattle.std.proofs.lemmas.Bool.{cases_lt}
 use Rattle.std.proofs.Math.Nat.{mul-le-mul_left}
@@ -40,7 +40,7 @@ over_axis g limit x y h room less =
     let b = square_le y g (omega arith) in
     omega arith
 
--- for a bound that is no less than the limit: a wheel may begin somewhat farther out
+-- for a bound that is at least the limit: a wheel may begin somewhat farther out
 pub rolls_below : (g limit big : ℕ) (s : Spoke) (r : Roll) → limit ≤ big → 2 * (g * g) ≤ big → IsBelow g big s → IsRoll g limit s r →
     IsBelow g big (rolled g r s)
 rolls_below g limit big s Outward more room below roll = record { all = omega (arith, roll.1); by_axis = λ _. omega (arith, roll.1) }

@@ -1,4 +1,4 @@
--- A wheel's points, one after the other.
+-- The sequence of a wheel's points.
 use Rattle.std.proofs.Common.{◌≡◌, ℕ, zero, suc, ◌+◌, ◌*◌, ◌≤◌, subst, arith}
 use Rattle.std.proofs.Math.Nat.{mul-le-mul_left}
 use Rattle.ngc_wheel.specs.declared.spoke.Spoke.{Spoke}
@@ -26,14 +26,14 @@ all_above g v limit n at quadrant (suc k) way more room first le =
     let here = all_above g v limit n at quadrant k way more room first (omega arith) in
     subst (λ t. IsAbove g v (at t)) e (rw step.2 (rolls_above g v limit (at k) step.0 more room here step.1))
 
--- a point's coordinates are at most the limit's root and a step
+-- a point's coordinates are at most the limit's root plus a step
 pub within_reach : (g u : ℕ) (s : Spoke) → IsBelow g (u * u) s → (s.x ≤ u + g) × (s.y ≤ u + g)
 within_reach g u s below =
     let a : s.x * s.x ≤ (u + g) * (u + g) = omega (arith, below.all) in
     let b : s.y * s.y ≤ (u + g) * (u + g) = omega (arith, below.all) in
     (from_squares s.x (u + g) a, from_squares s.y (u + g) b)
 
--- k moves lead at least k steps on
+-- k moves lead at least k steps further
 pub far_on : (g u limit n : ℕ) (at : ℕ → Spoke) (quadrant : ℕ → ℕ) (k : ℕ) → IsRolling g limit n at quadrant → limit ≤ u * u → 2 * (g * g) ≤ u * u →
     IsBelow g (u * u) (at 0) → k ≤ n →
     gone (u + g) 0 (at 0) + k * g ≤ gone (u + g) (quadrant k) (at k)
@@ -48,7 +48,7 @@ far_on g u limit n at quadrant (suc k) way bound room first le =
     let after : gone (u + g) 0 (at 0) + (k + 1) * g ≤ gone (u + g) (quadrant (k + 1)) (at (k + 1)) = rw (step.2, step.3) (omega (arith, before, more)) in
     subst (λ t. gone (u + g) 0 (at 0) + t * g ≤ gone (u + g) (quadrant t) (at t)) e after
 
--- so the wheel is soon past any number of quadrants
+-- so the wheel soon passes any number of quadrants
 pub soon_past : (g u limit n : ℕ) (at : ℕ → Spoke) (quadrant : ℕ → ℕ) (k q : ℕ) → IsRolling g limit n at quadrant → limit ≤ u * u → 2 * (g * g) ≤ u * u →
     IsBelow g (u * u) (at 0) → k ≤ n → quadrant k ≤ q →
     k * g ≤ 2 * (u + g) * (q + 1)

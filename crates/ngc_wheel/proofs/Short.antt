@@ -7,7 +7,7 @@ use Rattle.ngc_wheel.proofs.Rim.{less_step}
 use Rattle.ngc_wheel.proofs.Rays.{square_le, from_squares, beyond, before_out}
 use Rattle.ngc_wheel.proofs.NearEnd.{IsRay}
 
--- along y, where the joint is steep but for the rounding and at least w from the centre
+-- along y, if the joint is steep to within the rounding and at least w from the centre
 pub short_steep : (g t x y ex ey w d : ℕ) → x ≡ t + g → x ≤ y + g → w * w ≤ square x y → t * ey ≤ (y + g) * ex → ex * ex + ey * ey ≤ (w + d) * (w + d) → 0 < w →
     ey ≤ y + g + d
 short_steep g t x y ex ey w d e steep far past round some =
@@ -16,7 +16,7 @@ short_steep g t x y ex ey w d e steep far past round some =
     let c = mul-le-mul_left g b in
     before_out (y + g) t ey ex w d past (omega arith) (omega arith) some
 
--- a point beyond the ray and 3g/4 or more ahead of e is far out
+-- a point past the ray and at least 3g/4 ahead of e is far out
 ahead_out : (g t Y ex ey δ : ℕ) → 0 < ex → t * ey ≤ Y * ex → 4 * ex + 3 * g ≤ 4 * t → square t Y ≤ ex * ex + ey * ey + δ →
     3 * (g * (ex * ex + ey * ey)) ≤ 2 * (δ * ex)
 ahead_out g t Y ex ey δ some past far near =
@@ -34,7 +34,7 @@ last_sum : (g q a b δ n : ℕ) → 3 * (g * n) ≤ 2 * a → 4 * a ≤ 3 * b �
     g * (q + 1) * (8 * g) ≤ g * (q + 1) * (q + 1) → (q + 1) * (q + 1) * 500 ≤ (q + 1) * (q + 1) * g → (q + 1) * (8 * g) ≤ (q + 1) * (q + 1) → ⊥
 last_sum g q a b δ n c f i m rg rr rf = omega arith
 
--- along x, where it is flat
+-- along x, if it is flat
 pub short_flat : (g q t x y ex ey : ℕ) → 500 ≤ g → 8 * g ≤ q + 1 → x ≡ t + g → y ≤ x →
     12 * square x y ≤ 12 * ((q + 1) * (q + 1)) + 17 * ((q + 1) * g) + 6 * (g * g) →
     t * ey ≤ (y + g) * ex → IsRay q ex ey → 0 < ex → 4 * x < 4 * ex + 7 * g

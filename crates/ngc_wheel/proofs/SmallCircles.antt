@@ -10,9 +10,9 @@ use Rattle.ngc_wheel.specs.Wheel.{square, IsRoll}
 use Rattle.ngc_wheel.proofs.NearEnd.{IsRay}
 use Rattle.ngc_wheel.proofs.Rays.{square_le, squares_apart, shared}
 
--- ---- where the point is farther out than the end, by m in squares; G is the square of a step
+-- ---- if the point is farther out than the end, by m in squares; G is the square of a step
 
--- d over the least m, where that is lo
+-- d over the least m, which is lo
 over_least : (G lo E d : ℕ) → 15 * G ≡ lo + 2 * E → d ≤ 4 * E → 52 * (G * E) + 30 * (G * (d + lo)) < (d + lo) * (d + lo) + 225 * (G * G) → ⊥
 over_least G lo E d e few near =
     let a : 15 * G * E ≡ (lo + 2 * E) * E = ap (λ t. t * E) e in
@@ -56,7 +56,7 @@ farther_out g r G t E m eG et small round far more near =
       ]
     ]
 
--- ---- where it is farther in, by m
+-- ---- if it is nearer, by m
 
 nearer : (g r G t E m : ℕ) → G ≡ g * g → t ≡ r * g → E ≤ r * r → 31 * (r * r) ≤ 31 * E + G → 15 * G + m < 2 * E → (7 * g ≤ 2 * r → m + G ≤ 3 * t) →
     52 * (G * E) < (m + 15 * G) * (m + 15 * G) → ⊥
@@ -91,7 +91,7 @@ pub record IsBeforeRay (g q A E p c : ℕ) : Type 0 where
   pub lagrange : c * c + p * p ≡ A * E
   pub beside : c * c ≤ 2 * (g * g * E)
 
--- the square of the way between both is at most fifteen of a step's
+-- the square of the distance between both is at most fifteen times a step's
 pub by_the_end : (g q A E p c D : ℕ) → IsBeforeRay g q A E p c → D + 2 * p ≡ A + E → D ≤ 15 * (g * g)
 by_the_end g q A E p c D r e =
     let G = g * g in
@@ -131,9 +131,10 @@ by_the_end g q A E p c D r e =
           ])
     ]
 
--- ---- for a roll that reaches or passes the ray
+-- ---- for a move that reaches or passes the ray
 
--- a point near the circle of radius q + 1, which has less than eight steps, and less than a step before an axis not near the centre
+-- a point near the circle of radius q + 1, which is less than eight steps; a point less than a step
+-- before an axis is not near the centre
 pub record IsSlim (g q x y : ℕ) : Type 0 where
   pub step : 500 ≤ g
   pub small : q + 1 ≤ 8 * g
@@ -158,7 +159,7 @@ square_apart x z =
       | inr more ↦ (let h = square_gap z x (x - z) (apart x z) (omega (arith, ints, more)) (omega (arith, more)) in omega (arith, h))
     ]
 
--- a roll from before a ray of its quadrant reaches or passes it
+-- a move from before a ray of its quadrant reaches or passes it
 abbrev pub Reaches : ℕ → Spoke → Roll → ℕ → ℕ → Type 0
 Reaches g s Over ex ey = Unit {0}
 Reaches g s Outward ex ey = s.x * ey ≤ (s.y + g) * ex
@@ -181,7 +182,7 @@ within_roll g limit s Inward ex ey roll past =
     let f : s.x * ey ≡ (t + g) * ey = ap (λ x. x * ey) e in
     omega (arith, f, past)
 
--- what that says of squares
+-- the consequence for squares
 from_bounds : (g q x y E p c : ℕ) → IsSlim g q x y → q * q ≤ E → E ≤ (q + 1) * (q + 1) → c * c + p * p ≡ square x y * E → c * c ≤ 2 * (g * g * E) →
     IsBeforeRay g q (square x y) E p c
 from_bounds g q x y E p c r low high lagrange beside = record {
@@ -197,7 +198,7 @@ from_bounds g q x y E p c r low high lagrange beside = record {
   beside = beside;
 }
 
--- the end in the point's quadrant
+-- the end is in the point's quadrant
 pub last_here : (g q limit : ℕ) (s : Spoke) (r : Roll) (ex ey : ℕ) → IsSlim g q s.x s.y → IsRay q ex ey → IsRoll g limit s r → s.y * ex ≤ s.x * ey →
     Reaches g s r ex ey →
     apart s.x ex * apart s.x ex + apart s.y ey * apart s.y ey ≤ 15 * (g * g)
@@ -217,7 +218,7 @@ last_here g q limit s r ex ey slim ray roll before past =
     (from_bounds g q x y (ex * ex + ey * ey) p c slim ray.small ray.great (omega (arith, m)) (omega (arith, a, b)))
     (omega (arith, f, h))
 
--- the end in the next quadrant, which the roll leads into; the way to it is x + ew along the one axis
+-- the end is in the next quadrant, into which the move leads; the distance along one axis is x + ew
 pub last_over : (g q : ℕ) (s : Spoke) (ez ew : ℕ) → IsSlim g q s.x s.y → IsRay q ez ew → s.x < g → s.y * ew ≤ (g - s.x) * ez →
     (s.x + ew) * (s.x + ew) + apart s.y ez * apart s.y ez ≤ 15 * (g * g)
 last_over g q s ez ew slim ray roll past =

@@ -34,7 +34,7 @@ cross_same Second x y z w = rw (neg_left y z, neg_right x w) (omega (arith, ints
 cross_same Third x y z w = rw (both_neg x w, both_neg y z) refl
 cross_same Fourth x y z w = rw (neg_right y z, neg_left x w) (omega (arith, ints, neg_is (pos (y * z)), neg_is (pos (x * w))))
 
--- a point, and one of the quadrant that comes next: it is ahead
+-- a point, and one of the next quadrant: it is ahead
 pub cross_next : (q : Quadrant) (x y z w : ℕ) → cross (around q x y) (around (following q) z w) ≡ pos (x * z + y * w)
 cross_next First x y z w = rw (neg_right y w) (omega (arith, ints, neg_is (pos (y * w))))
 cross_next Second x y z w = rw (both_neg y w, neg_right x z) (omega (arith, ints, neg_is (pos (x * z))))
@@ -47,21 +47,21 @@ square_around Second x y = rw (both_neg y y) (omega arith)
 square_around Third x y = rw (both_neg x x, both_neg y y) refl
 square_around Fourth x y = rw (both_neg x x) (omega arith)
 
--- a point, and one two quadrants on
+-- a point, and one two quadrants further
 pub cross_opposite : (q : Quadrant) (x y z w : ℕ) → cross (around q x y) (around (following (following q)) z w) ≡ pos (y * z) -ℤ pos (x * w)
 cross_opposite First x y z w = rw (neg_right x w, neg_right y z) (omega (arith, ints, neg_is (pos (x * w)), neg_is (pos (y * z))))
 cross_opposite Second x y z w = rw (both_neg y z) refl
 cross_opposite Third x y z w = rw (neg_left x w, neg_left y z) (omega (arith, ints, neg_is (pos (x * w)), neg_is (pos (y * z))))
 cross_opposite Fourth x y z w = rw (both_neg x w) refl
 
--- a point, and one three quadrants on: it is behind
+-- a point, and one three quadrants further: it is behind
 pub cross_behind : (q : Quadrant) (x y z w : ℕ) → cross (around q x y) (around (following (following (following q))) z w) ≡ neg_ℤ (pos (x * z + y * w))
 cross_behind First x y z w = rw (neg_right x z) (omega (arith, ints, neg_is (pos (x * z)), neg_is (pos (x * z + y * w))))
 cross_behind Second x y z w = rw (neg_left y w) (omega (arith, ints, neg_is (pos (y * w)), neg_is (pos (x * z + y * w))))
 cross_behind Third x y z w = rw (neg_left x z, both_neg y w) (omega (arith, ints, neg_is (pos (x * z)), neg_is (pos (x * z + y * w))))
 cross_behind Fourth x y z w = rw (neg_right y w, both_neg x z) (omega (arith, ints, neg_is (pos (y * w)), neg_is (pos (x * z + y * w))))
 
--- a move over an axis turns on
+-- a move over an axis turns forward
 pub over_turns : (q : Quadrant) (g x y : ℕ) → x ≤ g → cross (around q x y) (around (following q) y (g - x)) ≡ pos (y * g)
 over_turns q g x y h = let t = g - x in let e : t + x ≡ g = omega arith in let a : y * (t + x) ≡ y * g = rw e in
     rw (cross_next q x y y t) (omega (arith, ints, a))

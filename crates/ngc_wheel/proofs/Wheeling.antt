@@ -1,4 +1,4 @@
--- The points that the rule leads to, one after the other.
+-- The sequence of points to which the rule leads.
 use Rattle.std.proofs.Common.{◌≡◌, ℕ, suc, ◌+◌, refl, subst, arith}
 use Rattle.ngc_wheel.specs.declared.spoke.Spoke.{Spoke}
 use Rattle.ngc_wheel.specs.Wheel.{rolled, next_roll}

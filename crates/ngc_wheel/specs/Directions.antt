@@ -1,8 +1,8 @@
--- Directions from the centre, by quadrants counted on from one of them. Our own.
+-- Directions from the centre, by the number of quadrants from one of them. Our own.
 use Rattle.std.specs.Prelude.{ℕ, zero, suc, ◌+◌, ◌*◌, ◌≤◌}
 
--- Of a point (x, y) of some quadrant and a point (z, w) that lies n quadrants on: their cross
--- product is at least 0.
+-- The cross product of a point (x, y) of some quadrant and a point (z, w) n quadrants further on is
+-- at least 0.
 abbrev pub IsAhead : ℕ → ℕ → ℕ → ℕ → ℕ → Type 0
 IsAhead zero x y z w = y * z ≤ x * w
 IsAhead (suc zero) x y z w = Unit {0}
@@ -10,7 +10,7 @@ IsAhead (suc (suc zero)) x y z w = x * w ≤ y * z
 IsAhead (suc (suc (suc zero))) x y z w = x * z + y * w ≤ 0
 IsAhead (suc (suc (suc (suc n)))) x y z w = y * z ≤ x * w
 
--- the first direction comes no later than the second, n quadrants on
+-- the first direction is not after the second, which is n quadrants further on
 abbrev pub IsNoLater : ℕ → ℕ → ℕ → ℕ → ℕ → Type 0
 IsNoLater zero x y z w = y * z ≤ x * w
 IsNoLater (suc n) x y z w = Unit {0}

@@ -1,4 +1,4 @@
--- The quadrants about a centre, in the sense of turning. Our own.
+-- The quadrants about a centre, in the direction of turning. Our own.
 use Rattle.std.specs.Prelude.{ℕ, ◌+◌, ◌-◌, ◌%◌}
 use Rattle.ngc_wheel.specs.declared.spoke.Quadrant.{Quadrant}
 use Rattle.ngc_wheel.specs.declared.spoke.Quadrant.TheVariants.{First, Second, Third, Fourth}
@@ -9,7 +9,7 @@ following Second = Third
 following Third = Fourth
 following Fourth = First
 
--- quadrants by number, and how many on another one is
+-- the numbers of the quadrants, and the number of quadrants from one to another
 abbrev pub number : Quadrant → ℕ
 number First = 0
 number Second = 1

@@ -1,4 +1,4 @@
--- The points of a wheel one after the other, and what holds of all of them. Our own.
+-- The sequence of a wheel's points, and its properties. Our own.
 use Rattle.std.specs.Prelude.{◌≡◌, ℕ, zero, suc, ◌+◌, ◌-◌, ◌*◌, ◌/◌, ◌<◌, ◌≤◌, pos, ◌≤ℤ◌}
 use Rattle.ngc_fixed_length.specs.Places.{cross}
 use Rattle.ngc_wheel.specs.declared.spoke.Roll.{Roll}
@@ -7,20 +7,20 @@ use Rattle.ngc_wheel.specs.declared.spoke.Spoke.{Spoke}
 use Rattle.ngc_wheel.specs.Around.{way_to}
 use Rattle.ngc_wheel.specs.Wheel.{square, rolled, IsRoll, next_roll}
 
--- after a move from the quadrant that is n on
+-- the number of quadrants passed after a move from the n-th
 abbrev pub quadrants_of : ℕ → Roll → ℕ
 quadrants_of n Over = n + 1
 quadrants_of n Outward = n
 quadrants_of n Diagonal = n
 quadrants_of n Inward = n
 
--- points 0 to n of a wheel, and how many quadrants on each one is
+-- points 0 to n of a wheel, and the number of quadrants passed at each
 pub record IsRolling (g limit n : ℕ) (at : ℕ → Spoke) (quadrant : ℕ → ℕ) : Type 0 where
   pub starts : quadrant 0 ≡ 0
   pub rolls : (k : ℕ) → k < n → (r : Roll) × IsRoll g limit (at k) r ×
       (at (k + 1) ≡ rolled g r (at k)) × (quadrant (k + 1) ≡ quadrants_of (quadrant k) r)
 
--- the points that the rule leads to from s: the k-th, and how many quadrants on it is
+-- the points to which the rule leads from s: the k-th, and the number of quadrants passed there
 unfoldable pub spoke_at : ℕ → ℕ → Spoke → ℕ → Spoke
 spoke_at g limit s zero = s
 spoke_at g limit s (suc k) =
@@ -36,13 +36,13 @@ abbrev pub RollsFromAnywhere : Type 0
 RollsFromAnywhere = (g limit : ℕ) (s : Spoke) (n : ℕ) →
     IsRolling g limit n (spoke_at g limit s) (quadrant_at g limit s)
 
--- from the circle of radius r about the centre it is at most d, inward or outward
+-- the point is at most d from the circle of radius r about the centre, inward or outward
 pub record IsNearCircle (r d : ℕ) (s : Spoke) : Type 0 where
   pub inner : (r - d) * (r - d) ≤ square s.x s.y
   pub outer : square s.x s.y ≤ (r + d) * (r + d)
 
--- points 0 to n of a wheel whose limit is two fifths of a step beyond the circle of radius r, which
--- has at least eight steps, and which begins within four fifths of a step of it
+-- points 0 to n of a wheel whose limit is two fifths of a step beyond the circle of radius r. The
+-- radius is at least eight steps, and the wheel begins within four fifths of a step of the circle
 pub record GoesRound (g r n : ℕ) (at : ℕ → Spoke) (quadrant : ℕ → ℕ) : Type 0 where
   pub step : 500 ≤ g
   pub large : 8 * g ≤ r
@@ -54,12 +54,12 @@ abbrev pub StaysNear : Type 0
 StaysNear = (g r n : ℕ) (at : ℕ → Spoke) (quadrant : ℕ → ℕ) → GoesRound g r n at quadrant →
     (k : ℕ) → k ≤ n → IsNearCircle r g (at k)
 
--- it leaves m quadrants behind in at most 2*(m + 1)*(r + 2*g)/g moves
+-- it passes m quadrants in at most 2*(m + 1)*(r + 2*g)/g moves
 abbrev pub ComesRound : Type 0
 ComesRound = (g r n : ℕ) (at : ℕ → Spoke) (quadrant : ℕ → ℕ) → GoesRound g r n at quadrant →
     (k m : ℕ) → k ≤ n → quadrant k ≤ m → k * g ≤ 2 * (r + 2 * g) * (m + 1)
 
--- no wheel turns back: the cross product about the centre of a move's ends is at least 0
+-- no wheel turns back: the cross product of a move's ends about the centre is at least 0
 abbrev pub NeverTurnsBack : Type 0
 NeverTurnsBack = (g limit n : ℕ) (at : ℕ → Spoke) (quadrant : ℕ → ℕ) →
     IsRolling g limit n at quadrant → (k : ℕ) → k < n →

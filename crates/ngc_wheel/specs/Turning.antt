@@ -1,12 +1,12 @@
--- What the two wheels hold, and what contracts see of it. Our own.
+-- The state of the two wheels, and what contracts see of it. Our own.
 use Rattle.std.specs.Prelude.{◌≡◌, ℕ, ◌+◌, ◌*◌, ◌<◌, ◌≤◌}
 use Rattle.ngc_wheel.specs.declared.spoke.Spoke.{Spoke}
 use Rattle.ngc_wheel.specs.declared.square.SquareWheel.TheInside.{Inside as SquareInside}
 use Rattle.ngc_wheel.specs.declared.column.ColumnWheel.TheInside.{Inside as ColumnInside}
 use Rattle.ngc_wheel.specs.Wheel.{square}
 
--- where the point is, how long its moves are, and the greatest squared distance that a move may
--- lead to by choice
+-- the position of the point, the length of its moves, and the greatest squared distance at which
+-- the rule may choose the next point
 pub record Turning : Type 0 where
   pub place : Spoke
   pub pace : ℕ
@@ -20,8 +20,8 @@ pub record IsSquareWheel (w : SquareInside) : Type 0 where
   pub short_step : w.step ≤ 50000
   pub square : w.square ≡ square w.spoke.x w.spoke.y
 
--- at this coordinate along one axis, how far the limit reaches along the other: the whole root of
--- what it leaves
+-- how far the limit extends along one axis at this coordinate along the other: the whole root of
+-- the remaining square
 pub record IsColumn (limit at reach : ℕ) : Type 0 where
   pub inside : at * at ≤ limit
   pub reached : at * at + reach * reach ≤ limit

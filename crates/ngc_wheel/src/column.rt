@@ -3,15 +3,16 @@ use crate::wheel::Wheel;
 use ngc_fixed_length::root_floor;
 use std::marker::Model;
 
-/// At a coordinate along one axis, how far along the other the limit reaches.
+/// A column of points: the coordinate `at` along one axis, and how far the limit extends along the
+/// other axis there.
 #[derive(Clone, Copy)]
 struct Column {
     at: u64,
     reach: u64,
 }
 
-/// A wheel that finds how far the limit reaches in each column of the point's greater coordinate,
-/// by a root, and keeps that as long as the point stays in the column.
+/// A wheel that finds, with a root, how far the limit extends in the column of the point's greater
+/// coordinate. It keeps that value as long as the point stays in the column.
 #[derive(Drop)]
 pub struct ColumnWheel {
     spoke: Spoke,
@@ -37,7 +38,7 @@ impl Column {
     ghost use Rattle.ngc_wheel.specs.Wheel.{square};
     ghost use Rattle.ngc_wheel.specs.Turning.{IsColumn};
 
-    /// The column at a coordinate; takes a root.
+    /// Returns the column at a coordinate. It computes a root.
     fn of(at: u64, limit: u64) -> Column
         requires { at * at ≤ limit }
         ensures at { result.at ≡ at }
@@ -49,7 +50,8 @@ impl Column {
         }
     }
 
-    /// Whether a point lies within the limit; takes a root where the point is in another column.
+    /// Returns whether a point is within the limit. It computes a root if the point is in another
+    /// column.
     fn has(&mut self, x: u64, y: u64, limit: u64) -> bool
         requires column { IsColumn limit self.old.at self.old.reach }
         requires x { x ≤ 4000000000 }

@@ -1,28 +1,28 @@
-//! Laws about the definitions alone.
+//! Laws about the definitions only.
 ghost use Rattle.ngc_wheel.specs.Rolling.{RollsFromAnywhere, StaysNear, ComesRound, NeverTurnsBack};
 ghost use Rattle.ngc_wheel.specs.Wheel.{OneIsDue};
 
-/// At each point one move is due, and no other: both wheels make the same moves.
+/// States that the rule allows exactly one move at each point, so both wheels make the same moves.
 pub fn one_is_due()
     ensures { OneIsDue }
 {}
 
-/// From each point a wheel goes on for as many moves as one likes.
+/// States that a wheel can make any number of moves from each point.
 pub fn rolls_from_anywhere()
     ensures { RollsFromAnywhere }
 {}
 
-/// Round a circle of eight steps and more a wheel stays within a step of the circle.
+/// States that a wheel stays within a step of a circle whose radius is at least eight steps.
 pub fn stays_near()
     ensures { StaysNear }
 {}
 
-/// It leaves a number of quadrants behind in a bounded number of moves.
+/// States that a wheel passes a number of quadrants in a bounded number of moves.
 pub fn comes_round()
     ensures { ComesRound }
 {}
 
-/// No move of a wheel turns back.
+/// States that no move of a wheel turns back.
 pub fn never_turns_back()
     ensures { NeverTurnsBack }
 {}

@@ -1,5 +1,5 @@
-//! Points that go round a centre by unit moves, near a circle: one rule for the next move, and two
-//! ways to find it.
+//! Points that move round a centre by unit moves, near a circle: one rule for the next move, and
+//! two ways to find it.
 #![tactic(auto)]
 
 mod column;

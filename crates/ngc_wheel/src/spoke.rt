@@ -1,5 +1,5 @@
-/// A quadrant of the plane about a centre, from u on in the sense of turning. Each has the half
-/// axis that it begins with, and not the one that it ends with.
+/// A quadrant of the plane about a centre, numbered from u on in the direction of turning. Each
+/// includes the half axis on which it begins, and not the one on which it ends.
 #[derive(Clone, Copy)]
 pub enum Quadrant {
     First,
@@ -8,9 +8,9 @@ pub enum Quadrant {
     Fourth,
 }
 
-/// A point about a centre, by its quadrant: `x` along the half axis that the quadrant begins with,
-/// `y` along the next one, both in nanometres. So in each quadrant a point that goes round loses x
-/// and gains y.
+/// A point about a centre, in the coordinates of its quadrant: `x` along the half axis on which the
+/// quadrant begins, `y` along the next one, both in nanometres. So in each quadrant a point that
+/// moves round decreases x and increases y.
 #[derive(Clone, Copy)]
 pub struct Spoke {
     pub quadrant: Quadrant,
@@ -18,8 +18,9 @@ pub struct Spoke {
     pub y: u64,
 }
 
-/// A move of a point that goes round: along the second half axis away from the centre, along the
-/// first towards it, both at once, or over the second half axis into the next quadrant.
+/// A move of a point round the centre: outward (away from the centre along the second half axis),
+/// inward (towards the centre along the first one), both at once, or over the second half axis into
+/// the next quadrant.
 #[derive(Clone, Copy)]
 pub enum Roll {
     Outward,
@@ -34,7 +35,7 @@ ghost use Rattle.ngc_wheel.specs.Around.{around};
 impl Quadrant {
     ghost use Rattle.ngc_wheel.specs.Quadrants.{following};
 
-    /// The quadrant that comes next.
+    /// Returns the next quadrant.
     pub fn following(self) -> Quadrant
         ensures { result ≡ following self }
     {
@@ -50,7 +51,7 @@ impl Quadrant {
 impl Spoke {
     ghost use Rattle.ngc_wheel.specs.Wheel.{rolled, IsSmall, CanRoll};
 
-    /// The point that a move leads to.
+    /// Returns the point to which a move leads.
     pub fn rolled(&self, roll: Roll, step: u64) -> Spoke
         requires small { IsSmall self.now }
         requires short { step ≤ 50000 }
@@ -85,7 +86,7 @@ impl Spoke {
 impl Spoke {
     ghost use Rattle.ngc_wheel.specs.Wheel.{square, is_before, IsSmall};
 
-    /// The point that lies so far from the centre along u and along v.
+    /// Returns the point at the distances `u` and `v` from the centre.
     pub fn of(u: i64, v: i64) -> Spoke
         requires u { unsigned_abs u ≤ 3000000000 }
         requires v { unsigned_abs v ≤ 3000000000 }
@@ -122,7 +123,8 @@ impl Spoke {
         }
     }
 
-    /// Of two points of one quadrant, whether this one's direction comes before the other's.
+    /// Returns whether this point's direction is before that of the other point, which must be in
+    /// the same quadrant.
     pub fn is_before(&self, other: &Spoke) -> bool
         requires small { IsSmall self.now }
         requires other { IsSmall other.now }
@@ -131,7 +133,7 @@ impl Spoke {
         self.y * other.x < self.x * other.y
     }
 
-    /// The squared distance from the centre.
+    /// Returns the squared distance from the centre.
     pub fn square(&self) -> u64
         requires { IsSmall self.now }
         ensures { result ≡ square self.now.x self.now.y }
@@ -143,7 +145,8 @@ impl Spoke {
 impl Quadrant {
     ghost use Rattle.ngc_wheel.specs.Quadrants.{number, quadrants_to};
 
-    /// How many quadrants on another one is, from 0 to 3.
+    /// Returns the number of quadrants from this one to the other in the direction of turning, from
+    /// 0 to 3.
     pub fn quadrants_to(self, other: Quadrant) -> u32
         ensures value { result ≡ quadrants_to self other }
         ensures bound { result ≤ 3 }

@@ -4,7 +4,7 @@ use crate::spoke::{Roll, Spoke};
 use crate::wheel::Wheel;
 use std::marker::Model;
 
-/// A wheel that keeps the squared distance of its point from the centre by additions.
+/// A wheel that updates the squared distance of its point from the centre with additions only.
 #[derive(Drop)]
 pub struct SquareWheel {
     spoke: Spoke,
@@ -25,7 +25,7 @@ impl Model for SquareWheel {
     ghost invariant = { IsSquareWheel };
 }
 
-/// By how much the square of a coordinate grows in a step out.
+/// Returns how much the square of a coordinate grows in a step outward.
 fn growth(y: u64, step: u64) -> u64
     requires small { y ≤ 3000000000 }
     requires short { step ≤ 50000 }
@@ -35,7 +35,7 @@ fn growth(y: u64, step: u64) -> u64
     step * (2 * y + step)
 }
 
-/// By how much it falls in a step in.
+/// Returns how much the square of a coordinate shrinks in a step inward.
 fn fall(x: u64, step: u64) -> u64
     requires small { x ≤ 3000000000 }
     requires short { step ≤ 50000 }
@@ -45,7 +45,7 @@ fn fall(x: u64, step: u64) -> u64
     step * (2 * (x - step) + step)
 }
 
-/// The square of a coordinate.
+/// Returns the square of a coordinate.
 fn squared(x: u64) -> u64
     requires { x ≤ 3000000000 }
     ensures value { result ≡ x * x }
