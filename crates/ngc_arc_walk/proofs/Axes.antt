@@ -1,4 +1,4 @@
--- The quadrant points of an arc, by quadrants from its start.
+-- The quadrant points of an arc, in quadrants from its start.
 use Rattle.std.proofs.Common.{◌≡◌, ℕ, zero, suc, ◌+◌, ◌-◌, ◌<◌, ◌≤◌, min, ℤ, pos, negsuc, ◌+ℤ◌, ◌-ℤ◌, neg_ℤ, inl, inr, List, [], ◌∷◌, filter, refl, sym, ◌∙◌}
 use Rattle.std.proofs.Common.{ap, subst, arith}
 use Rattle.std.specs.Prelude.{Bool, true, false}
@@ -75,7 +75,7 @@ first_is a b h =
     ∙ ap (λ (w : Point2). first_met w.u (turning a.turn w.v)) (back a.centre (mirrored a.turn d))
     ∙ unturned a.turn d
 
--- they come in the order of their quadrants, from the first at or past the start
+-- they are in the order of their quadrants, from the first at or past the start
 in_turn_from : (a : ArcShape) (q : Quadrant) → first_quadrant a ≡ number q → quadrants_in_turn a ≡ four_from a.turn a.centre q (outer_radius a)
 in_turn_from a q h = ap (λ n. rotated n (quadrant_points a.turn a.centre (pos (outer_radius a)))) h ∙ sym (four_points a.turn a.centre q (outer_radius a))
 
@@ -135,7 +135,8 @@ kept_axes a b e whole (suc c) j r few first last =
           ∙ same_count a b (outer_radius a) j (suc (min c (whole + 1 - suc j))) (min (suc c) (whole + 1 - j)) more)
     ]
 
--- the quadrant points of an arc: those from the first at or past its start to the last that its end is past, four at most
+-- the quadrant points of an arc are those from the first at or past the start to the last before
+-- the end, at most four
 extremes_from : (a : ArcShape) (b e : Spoke) (whole y : ℕ) → IsRound a b e whole → b.y ≡ y →
     extremes a ≡ axis_points a b (outer_radius a) (first_axis y) (min 4 (whole + 1 - first_axis y))
 extremes_from a b e whole zero r h =

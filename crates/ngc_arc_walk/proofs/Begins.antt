@@ -1,4 +1,5 @@
--- Where a wheel begins: in the start's direction or ahead of it, less than a step past a half axis between.
+-- The point at which a wheel begins: at the start's direction or past it, and less than a step past
+-- a half axis in between.
 use Rattle.std.proofs.Common.{◌≡◌, ℕ, zero, suc, ◌+◌, ◌-◌, ◌*◌, ◌<◌, ◌≤◌, pos, ◌≤ℤ◌, ◌<ℤ◌, ◌-ℤ◌, neg_ℤ, inl, inr, refl, sym, ◌∙◌, ap, subst, arith}
 use Rattle.std.specs.Prelude.{Bool, true, false}
 use Rattle.std.proofs.lemmas.Bool.{cases_lt}
@@ -60,7 +61,7 @@ one : (y : ℕ) → 0 < y → 1 ≤ first_axis y
 one zero h = absurd (omega (arith, h))
 one (suc y) h = omega arith
 
--- where the start is on a half axis its point is less than half a step beside it
+-- if the start is on a half axis, its grid point is less than half a step from it
 beside_axis : (g s r y by : ℕ) → 0 < s → IsJoint g s r y by → by ≡ 0 → y ≤ g
 beside_axis g s r y by some j e =
     let z : r * by ≡ 0 = rw e (omega arith) in
@@ -68,7 +69,7 @@ beside_axis g s r y by some j e =
     let b = le_of_mul-le-mul_left a some in
     omega (arith, b)
 
--- only a start that is on no half axis has its point past the next one
+-- only the grid point of a start that is on no half axis can be past the next one
 past_axis : (g p r bx by y : ℕ) → 500 ≤ g → 2 * g < r → 0 < bx → p * p ≤ bx * bx + by * by → IsAcross g (p + 1) r bx y → 0 < by
 past_axis g p r bx zero y step far some round h =
     let long : p ≤ bx = elim (cases_lt bx p) [
@@ -86,7 +87,7 @@ small_across g s r b j some h =
     let a : s * (2 * j) ≤ s * g = omega (arith, h) in
     le_of_mul-le-mul_left a some
 
--- ---- where the joint is not behind the start's direction, the walk begins there
+-- ---- if the joint is not before the start's direction, the walk begins there
 
 pub stands : (g p r : ℕ) (b j : Spoke) → IsJoined g p r b j → pos 0 ≤ℤ cross (way_to b) (way_to j) → (begun : ℕ) × Begins g b j begun
 stands g p r b j h ahead = elim (four_ways b.quadrant j.quadrant) [
@@ -130,9 +131,9 @@ stands g p r b j h ahead = elim (four_ways b.quadrant j.quadrant) [
       absurd (omega (arith, ints, ahead, c, e, a, h.some)))
 ]
 
--- ---- where it is behind, one move leads into that direction or ahead of it
+-- ---- if it is before it, one move leads to that direction or past it
 
--- whether a direction is steep, told right
+-- whether a direction is steep, computed correctly
 abbrev pub IsSteep : Bool → ℕ → ℕ → Type 0
 IsSteep true bx by = bx ≤ by
 IsSteep false bx by = by ≤ bx

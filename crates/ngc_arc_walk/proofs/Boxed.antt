@@ -29,7 +29,8 @@ use Rattle.ngc_arc_walk.proofs.Axes.{extremes_are}
 use Rattle.ngc_arc_walk.proofs.Crosses.{four_on, same_axis}
 use Rattle.ngc_arc_walk.proofs.Passing.{at_most_one}
 
--- ---- past a ray b of its quadrant, a point isn't far beyond b along the first half axis, nor far behind it along the second
+-- ---- past a ray b of its quadrant, a point is not far beyond b along the first half axis, nor far
+-- short of it along the second
 
 abbrev by_zero : ℕ → ℕ → ℕ → ℕ → Type 0
 by_zero x y z w = y * z ≤ x * w
@@ -75,7 +76,7 @@ not_behind x y bx by (suc low) m past far round =
       ]
     ]
 
--- ---- the box round the ends and the quadrant points has each of these
+-- ---- the box round the ends and the quadrant points contains each of them
 
 pub record IsInHull (a : ArcShape) (p : Point2) : Type 0 where
   pub low : (f : Point2 → ℤ) → least f (start_of a) (other_points a) ≤ℤ f p
@@ -130,7 +131,7 @@ axis_high a b r n (suc c) (suc d) f x less =
 whole_turn : (b : Spoke) (r : ℕ) → axis_spoke b r 4 ≡ axis_spoke b r 0
 whole_turn b r = ap (λ (q : Quadrant). record { quadrant = q; x = r; y = 0 }) (four_on b.quadrant)
 
--- a half axis that lies between start and end
+-- a half axis between start and end
 pub axis_held : (a : ArcShape) (b e : Spoke) (whole i : ℕ) → IsRound a b e whole → first_axis b.y ≤ i → i ≤ whole → whole ≤ 4 →
     IsInHull a (placed a (axis_spoke b (outer_radius a) i))
 axis_held a b e whole i way from to few =
@@ -176,9 +177,10 @@ axis_held a b e whole i way from to few =
           })
     ]
 
--- ---- a point of a quadrant between two points of that quadrant that the box has, but for m
+-- ---- a point of a quadrant between two points of that quadrant that the box, grown by m, contains
 
--- of the first the point is at most m farther along the first half axis, and at most m behind along the second; of the second the other way round
+-- the point is at most m beyond the first one along the first half axis, and at most m short of it
+-- along the second; for the second one the other way round
 pub record IsBetweenBoth (x y x0 y0 x1 y1 m : ℕ) : Type 0 where
   pub far : x ≤ x0 + m
   pub above : y0 ≤ y + m
@@ -268,14 +270,14 @@ held_between a s x0 y0 x1 y1 m h p q =
 
 -- ---- a point that is between the rays of start and end
 
--- how far in and out it is, between the arc's two radii but for two steps
+-- its distance from the centre is between the arc's two radii, to within two steps
 pub record IsNearBand (a : ArcShape) (g r : ℕ) (s : Spoke) : Type 0 where
   pub inside : inner_radius a ≤ r
   pub outside : r ≤ outer_radius a
   pub below : s.x * s.x + s.y * s.y ≤ (r + 2 * g) * (r + 2 * g)
   pub above : (r - 2 * g) * (r - 2 * g) ≤ s.x * s.x + s.y * s.y
 
--- the end of a ray, between the two radii; its own radius is root, rounded down
+-- the end of a ray, between the two radii; root is its own radius, rounded down
 pub record IsEnd (a : ArcShape) (x y root : ℕ) : Type 0 where
   pub low : root * root ≤ x * x + y * y
   pub high : x * x + y * y < (root + 1) * (root + 1)
@@ -283,7 +285,8 @@ pub record IsEnd (a : ArcShape) (x y root : ℕ) : Type 0 where
   pub outer : x * x + y * y ≤ outer_radius a * outer_radius a
   pub some : 0 < root
 
--- along the first half axis a point past the ray b isn't far beyond b, and along the second it isn't far behind
+-- a point past the ray b is not far beyond b along the first half axis, and not far short of it
+-- along the second
 past_ray : (a : ArcShape) (g r : ℕ) (s : Spoke) (bx by root : ℕ) → IsNearBand a g r s → IsEnd a bx by root → by * s.x ≤ bx * s.y →
     (s.x ≤ bx + (2 * g + spread a)) × (by ≤ s.y + (2 * g + spread a))
 past_ray a g r s bx by root band end past =
@@ -295,7 +298,8 @@ past_ray a g r s bx by root band end past =
       not_behind s.x s.y bx by (r - 2 * g) m (omega (arith, past)) band.above (omega (arith, end.outer, near)),
     )
 
--- of a point that is so many quadrants on from the start's and before the end's: the half axis behind it, or the start
+-- for a point `here` quadrants from the start and before the end: the half axis before it, or the
+-- start
 behind_it : (a : ArcShape) (g r : ℕ) (b e s : Spoke) (whole here root : ℕ) → IsRound a b e whole → whole ≤ 4 → IsNearBand a g r s → IsEnd a b.x b.y root →
     s.quadrant ≡ turned_by here b.quadrant → here ≤ whole → IsNoLater here b.x b.y s.x s.y →
     (x0 : ℕ) × (y0 : ℕ) × (s.x ≤ x0 + (2 * g + spread a)) × (y0 ≤ s.y + (2 * g + spread a)) ×
@@ -325,7 +329,7 @@ behind_it a g r b e s whole here root way few band end at le past =
           ))
     ]
 
--- and the half axis ahead of it, or the end
+-- and the half axis after it, or the end
 ahead_of_it : (a : ArcShape) (g r : ℕ) (b e s : Spoke) (whole here root : ℕ) → IsRound a b e whole → whole ≤ 4 → IsNearBand a g r s → IsEnd a e.x e.y root →
     s.quadrant ≡ turned_by here b.quadrant → here ≤ whole → IsNoLater (whole - here) s.x s.y e.x e.y →
     (x1 : ℕ) × (y1 : ℕ) × (x1 ≤ s.x + (2 * g + spread a)) × (s.y ≤ y1 + (2 * g + spread a)) ×

@@ -1,4 +1,4 @@
--- A walk all round, by computing: a circle of radius eight steps, clockwise, 44 moves.
+-- A full walk, by evaluation: a circle of radius eight steps, clockwise, 44 moves.
 use Rattle.std.proofs.Common.{◌≡◌, pos, negsuc, [], ◌∷◌, inl, inr, refl, arith}
 use Rattle.ngc_fixed_length.specs.Roots.{whole_root, whole_root_above}
 use Rattle.ngc_fixed_length.specs.declared.modes.Plane.TheVariants.{XY}

@@ -1,4 +1,4 @@
--- A walk along a circle of eight steps and more.
+-- A walk along a circle of at least eight steps.
 use Rattle.std.proofs.Common.{◌≡◌, ℕ, ◌+◌, ◌-◌, ◌*◌, ◌<◌, ◌≤◌, ℤ, pos, ◌+ℤ◌, ◌-ℤ◌, ◌*ℤ◌, neg_ℤ, unsigned_abs, ◌⊎◌, inl, inr, refl, sym, ◌∙◌, ap, subst, arith}
 use Rattle.std.proofs.lemmas.Bool.{cases_lt}
 use Rattle.std.proofs.lemmas.Int.{ints}
@@ -29,7 +29,7 @@ use Rattle.ngc_arc_walk.proofs.Crosses.{same_axis}
 use Rattle.ngc_arc_walk.specs.ArcWalk.{IsWalk}
 use Rattle.ngc_arc_walk.proofs.Passing.{passes}
 
--- ---- how far apart two points of one quadrant are
+-- ---- the distance between two points of one quadrant
 
 abbrev pub gap : ℕ → ℕ → ℕ
 gap x z = unsigned_abs (pos z -ℤ pos x)
@@ -69,7 +69,8 @@ pub spokes_apart : (a : ArcShape) (s : Spoke) (z w : ℕ) → squared_distance (
     ≡ gap s.x z * gap s.x z + gap s.y w * gap s.y w
 spokes_apart a s z w = placed_apart a.turn a.centre (around s.quadrant s.x s.y) (around s.quadrant z w) ∙ around_apart s.quadrant s.x s.y z w
 
--- ---- near an axis a point is at most a step farther in or out than the radius of its wheel
+-- ---- near an axis a point's distance from the centre differs from the radius of its wheel by at
+-- most a step
 
 pub along_axis : (g q h k l v x y : ℕ) → IsRim g q h k l v → v * v ≤ x * x + y * y + g * g → x * x + y * y ≤ limit_of q l + g * g → y ≤ g →
     (q + 1 ≤ x + g) × (x ≤ q + 1 + g)
@@ -105,7 +106,7 @@ along_axis g q h k l v x y r above below near =
 
 -- ---- a walk near its circle
 
--- what the two bounds of a wheel ask of its limit
+-- what the two bounds of a wheel require of its limit
 pub limit_grows : (g q h k l v : ℕ) → IsRim g q h k l v → limit_of q h ≤ limit_of q l
 limit_grows g q h k l v r = square_le (q + 1 + h) (q + 1 + l) (omega (arith, r.h_high, r.l_low, r.step))
 
@@ -118,9 +119,10 @@ wide_limit g q h k l v r = let a = square_le (2 * g) (q + 1 + h) (omega (arith, 
 wide_inside : (g q h k l v : ℕ) → IsRim g q h k l v → 2 * (g * g) ≤ v * v
 wide_inside g q h k l v r = let a = square_le (2 * g) v (omega (arith, r.far, r.inner, r.l_high)) in omega (arith, a)
 
--- A walk whose first point lies near the circle of radius q + 1, which lies between the arc's two radii. A half axis that it begins
--- on or past, but that isn't behind the start, is less than a step behind its first point. It ends in the quadrant of the arc's end, or
--- where the next move leads over the axis into that one.
+-- A walk whose first point is near the circle of radius q + 1, which is between the arc's two
+-- radii. A half axis on which the walk begins, or past which it begins, and which is not before the
+-- start, is less than a step before its first point. The walk ends in the quadrant of the arc's
+-- end, or at a point from which the next move leads over the axis into that quadrant.
 pub record IsCircuit (a : ArcShape) (g q h k l v n : ℕ) (at : ℕ → Spoke) (quadrant : ℕ → ℕ) (b e : Spoke) (begun left : ℕ) : Type 0 where
   pub walk : IsWalk a g (limit_of q h) n at quadrant b e begun left
   pub rim : IsRim g q h k l v
@@ -146,7 +148,8 @@ above_on a g q h k l v n at quadrant b e begun left i c le =
 pub gap_up : (x z d : ℕ) → x ≤ z + d → z ≤ x + d → gap x z ≤ d
 gap_up x z d hx hz = omega (arith, ints, hx, hz)
 
--- a point at most a step behind an axis is near the axis' quadrant point, and one at most a step before it
+-- a point at most a step past an axis is near the axis' quadrant point, and so is one at most a
+-- step before it
 pub by_first : (a : ArcShape) (s : Spoke) (g q h k l v d : ℕ) → IsRim g q h k l v → IsBelow g (limit_of q l) s → IsAbove g v s → inner_radius a ≤ q + 1 →
     q + 1 ≤ outer_radius a →
     spread a + 2 * g ≤ d → s.y ≤ g → IsWithin d (placed a s) (placed a (record { quadrant = s.quadrant; x = outer_radius a; y = 0 }))
@@ -173,7 +176,7 @@ by_second a s g q h k l v d r below above inside outside wide near =
     subst (λ t. t ≤ d * d) (sym (spokes_apart a s 0 (outer_radius a))) (omega (arith, m, w)) in
     subst (λ (p : Point2). squared_distance (placed a s) (shifted a.centre (mirrored a.turn p)) ≤ d * d) (same_axis s.quadrant (outer_radius a)) far
 
--- so it comes by the quadrant points of its arc
+-- so it passes the quadrant points of its arc
 pub walk_passes : (a : ArcShape) (g q h k l v n : ℕ) (at : ℕ → Spoke) (quadrant : ℕ → ℕ) (b e : Spoke) (begun left d : ℕ) →
     IsCircuit a g q h k l v n at quadrant b e begun left →
     spread a + 2 * g ≤ d → Passes (λ k. placed a (at k)) n d 0 (extremes a)

@@ -1,4 +1,4 @@
--- Ends as spokes, and how many quadrants lie between them.
+-- Ends as spokes, and the number of quadrants between them.
 use Rattle.std.proofs.Common.{◌≡◌, ℕ, zero, suc, ◌+◌, ◌*◌, ◌<◌, ◌≤◌, ℤ, pos, negsuc, ◌+ℤ◌, ◌-ℤ◌, neg_ℤ, ◌≤ℤ◌, ◌⊎◌, inl, inr, refl, sym, ◌∙◌, ap, subst, arith}
 use Rattle.std.proofs.lemmas.Int.{ints}
 use Rattle.std.proofs.lemmas.Nat.{mul-le}
@@ -27,11 +27,12 @@ seen_twice Clockwise c p =
     same_point (c.u +ℤ (p.u -ℤ c.u)) (c.v +ℤ neg_ℤ (neg_ℤ (p.v -ℤ c.v))) p.u p.v (omega (arith, ints))
     (ap (λ z. c.v +ℤ z) (unmirrored (p.v -ℤ c.v)) ∙ omega (arith, ints))
 
--- the spoke of a point's way from the centre, seen in the mirror where the arc is clockwise, is placed at that point
+-- the spoke of the vector from the centre to a point, mirrored if the arc is clockwise, is placed
+-- at that point
 pub placed_at : (a : ArcShape) (p : Point2) (s : Spoke) → around s.quadrant s.x s.y ≡ mirrored a.turn (from a.centre p) → p ≡ placed a s
 placed_at a p s h = sym (ap (λ (d : Point2). shifted a.centre (mirrored a.turn d)) h ∙ seen_twice a.turn a.centre p)
 
--- the count of the code
+-- the number that the code computes
 pub quadrants_counted : (p q : Quadrant) → q ≡ turned_by (quadrants_to p q) p
 quadrants_counted First First = refl
 quadrants_counted First Second = refl
@@ -50,8 +51,10 @@ quadrants_counted Fourth Second = refl
 quadrants_counted Fourth Third = refl
 quadrants_counted Fourth Fourth = refl
 
--- By the course's rule the end e lies left quadrants on from the walk's first point: as many as are counted from 0 to 3, but four for
--- none where e is not ahead of the start b by less than half a turn; and no walk begins where e is and three are counted.
+-- By the path's rule the end e is `left` quadrants from the walk's first point. That is the number
+-- counted, from 0 to 3, with one exception: if none are counted and e is not ahead of the start b
+-- by less than half a turn, it is four. If three are counted and e is ahead in this way, no walk
+-- begins.
 abbrev pub IsCounted : ℕ → ℕ → ℤ → Type 0
 IsCounted zero left area = (((pos 1 ≤ℤ area) × (left ≡ 0)) ⊎ ((area ≤ℤ pos 0) × (left ≡ 4)))
 IsCounted (suc zero) left area = left ≡ 1
@@ -59,7 +62,8 @@ IsCounted (suc (suc zero)) left area = left ≡ 2
 IsCounted (suc (suc (suc zero))) left area = (left ≡ 3) × (area ≤ℤ pos 0)
 IsCounted (suc (suc (suc (suc n)))) left area = ⊥
 
--- so it is at most a turn from the start to the end, where the walk begins in the start's quadrant or in the next one
+-- so the turn from the start to the end is at most a full one, if the walk begins in the start's
+-- quadrant or in the next one
 pub counted_turn : (b e : Spoke) (begun n left : ℕ) → begun ≤ 1 → 0 < b.x → 0 < e.x → e.quadrant ≡ turned_by n (turned_by begun b.quadrant) →
     IsCounted n left (cross (around b.quadrant b.x b.y) (around e.quadrant e.x e.y)) → IsATurn (begun + left) b.x b.y e.x e.y
 counted_turn b e zero zero left few bx ex he h =

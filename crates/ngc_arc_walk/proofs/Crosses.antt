@@ -57,7 +57,7 @@ negs_times (negsuc a) (negsuc b) = refl
 pub back : (c : Point2) (d : Point2) → from c (shifted c d) ≡ d
 back c d = same_point _ _ _ _ (omega (arith, ints)) (omega (arith, ints))
 
--- the mirror turns the sense about
+-- the mirror reverses the direction
 turned_cross : (t : Turn) (d e : Point2) → turning t (cross (mirrored t d) (mirrored t e)) ≡ cross d e
 turned_cross Counterclockwise d e = refl
 turned_cross Clockwise d e =
@@ -90,7 +90,7 @@ dot_placed a s t =
     let n = mirrored a.turn e in
     ap (λ (p : Point2). dot p (from a.centre (shifted a.centre n))) (back a.centre m) ∙ ap (λ (p : Point2). dot m p) (back a.centre n) ∙ turned_dot a.turn d e
 
--- ---- a quadrant is itself again four quadrants on
+-- ---- four quadrants further on is the same quadrant
 
 pub four_on : (q : Quadrant) → following (following (following (following q))) ≡ q
 four_on First = refl
@@ -107,7 +107,8 @@ same_axis Fourth y = refl
 
 -- ---- ahead and behind
 
--- of a point (x, y) of some quadrant and a point (z, w) that lies n quadrants on: their cross product is below 0
+-- the cross product of a point (x, y) of some quadrant and a point (z, w) n quadrants further on is
+-- below 0
 abbrev pub IsBehind : ℕ → ℕ → ℕ → ℕ → ℕ → Type 0
 IsBehind zero x y z w = x * w < y * z
 IsBehind (suc zero) x y z w = ⊥

@@ -13,8 +13,8 @@ use Rattle.ngc_wheel.proofs.Progress.{over_near}
 use Rattle.ngc_wheel.proofs.SmallCircles.{IsSlim, apart, Reaches, last_here, last_over}
 use Rattle.ngc_arc_walk.specs.ArcWalk.{IsBeforeEnd}
 
--- where a walk's last point is, and what its next move would do: the end lies in its quadrant, or in the next one and the move leads over
--- the axis into that
+-- the position of a walk's last point, and its next move: the end is in its quadrant, or in the
+-- next one and the move leads over the axis into it
 pub record IsLast (g limit : ℕ) (s e : Spoke) (r : Roll) (here last : ℕ) : Type 0 where
   pub roll : IsRoll g limit s r
   pub before : IsBeforeEnd here last s e
@@ -61,7 +61,7 @@ last_is g limit s e r here last h = elim h.before [
   | inr same ↦ inl (same.0, record { roll = h.roll; before = same.1; past = reaches g limit s e r here last same.0 h.past })
 ]
 
--- ---- circles of eight steps and more: less than one and a half steps from the end on both axes
+-- ---- circles of at least eight steps: less than one and a half steps from the end on both axes
 
 large_one : (g q h k l v : ℕ) (s e : Spoke) (r : Roll) → IsRim g q h k l v → IsRay q e.x e.y → IsBelow g (limit_of q l) s → IsAbove g v s →
     IsInOne g (limit_of q h) s e r → IsBeside g s.x e.x × IsBeside g s.y e.y
@@ -81,7 +81,7 @@ large_last g q h k l v s e r here last z ray below above i = elim (last_is g (li
   | inr next ↦ inr (next.0, next_near g q h k l v s e.x e.y z ray below above next.1.less next.1.past)
 ]
 
--- ---- smaller ones: its square is at most fifteen of a step's
+-- ---- smaller ones: the squared distance is at most fifteen times a step's
 
 pub small_last : (g q limit : ℕ) (s e : Spoke) (r : Roll) (here last : ℕ) → IsSlim g q s.x s.y → IsRay q e.x e.y → IsLast g limit s e r here last →
     ((here ≡ last) × (apart s.x e.x * apart s.x e.x + apart s.y e.y * apart s.y e.y ≤ 15 * (g * g))) ⊎

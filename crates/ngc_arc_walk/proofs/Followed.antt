@@ -1,4 +1,5 @@
--- What a walk's points are for a path that follows the arc: in its box; and all clauses for both sizes of circles.
+-- A walk's points and a path that follows the arc: the points are in its box, and all clauses hold
+-- for both sizes of circles.
 use Rattle.std.proofs.Common.{◌≡◌, ℕ, zero, suc, ◌+◌, ◌-◌, ◌*◌, ◌<◌, ◌≤◌, pos, inl, sym, ◌∙◌, ap, subst, arith}
 use Rattle.std.proofs.Math.Nat.{mul-le-mul_left}
 use Rattle.ngc_wheel.specs.declared.spoke.Spoke.{Spoke}

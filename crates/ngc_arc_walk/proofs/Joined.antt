@@ -1,4 +1,5 @@
--- A point near the start's direction, as the grid has it, lies in the start's quadrant or beside it.
+-- A point near the start's direction, rounded to the grid, is in the start's quadrant or next to
+-- it.
 use Rattle.std.proofs.Common.{◌≡◌, ℕ, zero, suc, ◌+◌, ◌*◌, ◌<◌, ◌≤◌, ℤ, pos, negsuc, ◌-ℤ◌, ◌*ℤ◌, neg_ℤ, unsigned_abs, ◌⊎◌, inl, inr, refl, arith}
 use Rattle.std.proofs.lemmas.Bool.{cases_lt}
 use Rattle.std.proofs.lemmas.Int.{ints}
@@ -16,7 +17,7 @@ use Rattle.ngc_wheel.proofs.Turns.{neg_left}
 abbrev point_at : ℤ → ℤ → Point2
 point_at u v = record { u = u; v = v }
 
--- each way but none is a spoke's
+-- each vector but zero is a spoke's
 pub some_spoke : (u v : ℤ) → 0 < unsigned_abs u + unsigned_abs v → (b : Spoke) × (around b.quadrant b.x b.y ≡ point_at u v) × (0 < b.x)
 some_spoke (pos (suc m)) (pos n) h = (record { quadrant = First; x = suc m; y = n }, refl, omega arith)
 some_spoke (pos zero) (pos (suc n)) h = (record { quadrant = Second; x = suc n; y = 0 }, refl, omega arith)
@@ -27,7 +28,7 @@ some_spoke (negsuc m) (pos (suc n)) h = (record { quadrant = Second; x = suc n; 
 some_spoke (negsuc m) (pos zero) h = (record { quadrant = Third; x = suc m; y = 0 }, refl, omega arith)
 some_spoke (negsuc m) (negsuc n) h = (record { quadrant = Third; x = suc m; y = suc n }, refl, omega arith)
 
--- along an axis j is b moved from the radius s to the radius r, but for half a step
+-- along an axis j is b moved from the radius s to the radius r, to within half a step
 abbrev pub IsMovedTo : ℕ → ℕ → ℕ → ℤ → ℤ → Type 0
 IsMovedTo g s r b j = 2 * unsigned_abs ((b *ℤ pos r) -ℤ (j *ℤ pos s)) ≤ s * g
 
@@ -37,14 +38,14 @@ IsMovedPoint g s r b j = IsMovedTo g s r b.u j.u × IsMovedTo g s r b.v j.v
 same_side : (g s r b j : ℕ) → IsMovedTo g s r (pos b) (pos j) → IsJoint g s r j b
 same_side g s r b j h = record { up = omega (arith, ints, h); down = omega (arith, ints, h) }
 
--- the same of negative ones
+-- the same for negative ones
 negative_side : (g s r b j : ℕ) → IsMovedTo g s r (neg_ℤ (pos b)) (neg_ℤ (pos j)) → IsJoint g s r j b
 negative_side g s r b j h =
     let e = neg_left b r in let f = neg_left j s in
     let k = neg_is (pos (b * r)) in let m = neg_is (pos (j * s)) in
     record { up = omega (arith, ints, h, e, f, k, m); down = omega (arith, ints, h, e, f, k, m) }
 
--- of two on either side both are small
+-- if they are on opposite sides, both are small
 abbrev pub IsAcross : ℕ → ℕ → ℕ → ℕ → ℕ → Type 0
 IsAcross g s r b j = 2 * (s * j) + 2 * (r * b) ≤ s * g
 
@@ -101,7 +102,7 @@ four_ways Fourth Second = inr (inr (inl refl))
 four_ways Fourth Third = inr (inr (inr refl))
 four_ways Fourth Fourth = inl refl
 
--- the point is not on the other side of the centre
+-- the point is not on the opposite side of the centre
 pub not_opposite : (g p r bx by x y : ℕ) → 500 ≤ g → 2 * g < r → 0 < bx → p * p ≤ bx * bx + by * by → IsAcross g (p + 1) r bx x → IsAcross g (p + 1) r by y → ⊥
 not_opposite g p r bx by x y step far some round hx hy =
     let sum : r * (bx + by) ≤ (p + 1) * g = omega (arith, hx, hy) in

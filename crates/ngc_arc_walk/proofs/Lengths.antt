@@ -1,4 +1,4 @@
--- How many moves a walk of a wheel has: once round, four quadrants on, it ends no farther on than it began.
+-- The number of moves of a walk: after four quadrants it ends no further on than it began.
 use Rattle.std.proofs.Common.{◌≡◌, ℕ, ◌+◌, ◌-◌, ◌*◌, ◌<◌, ◌≤◌, inl, inr, subst, arith}
 use Rattle.std.proofs.lemmas.Bool.{cases_lt}
 use Rattle.std.proofs.Math.Nat.{mul-le-mul_left, le_of_mul-le-mul_left}
@@ -18,7 +18,7 @@ use Rattle.ngc_arc_walk.proofs.Followed.{at_most_four, large_near}
 use Rattle.ngc_arc_walk.proofs.SmallCircuit.{IsSmallCircuit, no_less, small_below, small_above}
 use Rattle.ngc_arc_walk.proofs.Walks.{few_on}
 
--- ---- the last point of a walk that goes on for four quadrants
+-- ---- the last point of a walk through four quadrants
 
 -- directions of one quadrant: s before e, e not past b, b not past f
 not_past : (sx sy ex ey bx by fx fy : ℕ) → 0 < ex → 0 < bx → sy * ex < sx * ey → bx * ey ≤ by * ex → by * fx ≤ bx * fy → fx * sy ≤ fy * sx
@@ -51,7 +51,7 @@ last_not_past a g limit n at quadrant b e begun left w none all le =
     not_past (at n).x (at n).y e.x e.y b.x b.y (at 0).x (at 0).y w.end_out w.start_out
     (before_there (quadrant n) left (at n) e (omega (arith, all, le)) w.before_end) turn past
 
--- ---- so its moves make at most four quadrants' way, and by how much the circle is wide
+-- ---- so its moves cover at most four quadrants, plus the width of the circle
 
 not_farther : (x y z w low m : ℕ) → x * w ≤ y * z → x * x + y * y ≤ (low + m) * (low + m) → low * low ≤ z * z + w * w → 0 < low → x ≤ z + m
 not_farther x y z w low m past near far some =
@@ -129,7 +129,7 @@ small_length a g o h l m v r n at quadrant b e begun left c =
     (omega (arith, e_low, z.least, z.step)) (between 0 (omega arith)) (between n (omega arith)) in
     omega (arith, all, z.l_high, near.1)
 
--- ---- so few that all counts of them fit
+-- ---- few enough that all counts of them fit
 
 pub few_moves : (n g r : ℕ) → 500 ≤ g → r ≤ 2000020000 → n * g ≤ 8 * r + 50 * g → n < 100000000
 few_moves n g r step bound length =

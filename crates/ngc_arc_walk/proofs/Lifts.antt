@@ -1,4 +1,4 @@
--- What the moves of a walk are for the definitions of an arc's path.
+-- The moves of a walk, for the definitions of an arc's path.
 use Rattle.std.proofs.Common.{◌≡◌, ℕ, ◌+◌, ◌-◌, ◌*◌, ◌<◌, ◌≤◌, pos, unsigned_abs, inl, List, [], ◌∷◌, sym, ◌∙◌, ap, subst, arith}
 use Rattle.std.specs.Prelude.{Bool, true, false, nat_le, if◌then◌else◌}
 use Rattle.ngc_fixed_length.specs.declared.points.Point2.{Point2}
@@ -60,7 +60,8 @@ circuit_passes a g q h k l v n at quadrant b e begun left w =
     let some = some_leeway g a in
     walk_passes a g q h k l v n at quadrant b e begun left (leeway (pos g) a + g + spread a) w (omega (arith, some))
 
--- ---- a longer path that has all these places in order, some perhaps more than once, passes the same points
+-- ---- a longer path that has all these points in order, some perhaps more than once, passes the
+-- same points
 
 pub passes_along : (f longer : ℕ → Point2) (place : ℕ → ℕ) (n m d i : ℕ) (qs : List Point2) →
     ((k : ℕ) → k ≤ n → longer (place k) ≡ f k) → ((j k : ℕ) → j ≤ k → place j ≤ place k) → place n ≤ m →
@@ -75,7 +76,7 @@ passes_along f longer place n m d i (q ∷ qs) same order room h =
       passes_along f longer place n m d h.0 qs same order room h.4,
     )
 
--- from an earlier place on
+-- from an earlier point on
 pub passes_from_before : (f : ℕ → Point2) (n d i j : ℕ) (qs : List Point2) → j ≤ i → Passes f n d i qs → Passes f n d j qs
 passes_from_before f n d i j [] le h = tt
 passes_from_before f n d i j (q ∷ qs) le h = let later = h.1 in (h.0, omega (arith, le, later), h.2, h.3, h.4)

@@ -1,4 +1,4 @@
--- An arc whose end's ray is reached before the wheel rolls: its joint is near its end.
+-- An arc whose end's ray is reached before the wheel moves: its joint is near its end.
 use Rattle.std.proofs.Common.{◌≡◌, ℕ, ◌+◌, ◌-◌, ◌*◌, ◌<◌, ◌≤◌, pos, ◌<ℤ◌, ◌⊎◌, inl, inr, sym, ap, arith}
 use Rattle.std.specs.Prelude.{Bool}
 use Rattle.std.proofs.lemmas.Bool.{cases_lt}
@@ -32,7 +32,7 @@ start_first p r bx by ex ey round great past =
     let c = mul-le-mul_left (bx * bx) great in
     from_squares (p * ex) (r * bx) (omega (arith, a, b, c))
 
--- along the first axis it isn't far ahead of the joint's x
+-- along the first axis it is not far ahead of the joint's x
 pub along_first : (g p r c x bx by ex ey : ℕ) → IsJoint g (p + 1) r x bx → p * p ≤ bx * bx + by * by → ex * ex + ey * ey ≤ r * r → by * ex ≤ bx * ey →
     r ≤ c * (p + 1) → 2 * ex ≤ 2 * x + g + 2 * c
 along_first g p r c x bx by ex ey j round great past near =
@@ -41,7 +41,7 @@ along_first g p r c x bx by ex ey j round great past near =
     let d : (p + 1) * (2 * ex) ≤ (p + 1) * (2 * x + g + 2 * c) = omega (arith, a, low, j.down, near) in
     le_of_mul-le-mul_left d (omega arith)
 
--- nor where the joint lies y beyond the half axis
+-- nor if the joint is y past the half axis
 pub along_across : (g p r c y bx by ex ey : ℕ) → IsAcross g (p + 1) r bx y → p * p ≤ bx * bx + by * by → ex * ex + ey * ey ≤ r * r → by * ex ≤ bx * ey →
     r ≤ c * (p + 1) → 2 * (ex + y) ≤ g + 2 * c
 along_across g p r c y bx by ex ey j round great past near =
@@ -50,7 +50,7 @@ along_across g p r c y bx by ex ey j round great past near =
     let d : (p + 1) * (2 * (ex + y)) ≤ (p + 1) * (g + 2 * c) = omega (arith, a, low, j, near) in
     le_of_mul-le-mul_left d (omega arith)
 
--- and along the second not far behind its y
+-- and along the second it is not far short of its y
 pub along_second : (g p q r d y bx by ex ey : ℕ) → IsJoint g (p + 1) r y by → bx * bx + by * by ≤ (p + 1) * (p + 1) → q * q ≤ ex * ex + ey * ey →
     by * ex ≤ bx * ey → r ≤ q + d → 2 * y ≤ 2 * ey + g + 2 * d
 along_second g p q r d y bx by ex ey j round small past near =
@@ -73,7 +73,7 @@ joint_far g p r y bx by j round =
     let d : (p + 1) * (2 * y) ≤ (p + 1) * (2 * r + g) = omega (arith, a, j.up) in
     le_of_mul-le-mul_left d (omega arith)
 
--- beyond a ray and farther along x, a point is no less far along y
+-- past a ray and farther along x, a point is at least as far along y
 pub not_both : (x y ex ey : ℕ) → x * ey ≤ y * ex → ex < x → ey ≤ y
 not_both x y ex ey past more =
     elim (cases_lt y ey) [
@@ -84,15 +84,15 @@ not_both x y ex ey past more =
           absurd (omega (arith, a, b, past, less)))
     ]
 
--- ---- circles of eight steps and more
+-- ---- circles of at least eight steps
 
--- ways along both axes of less than 37/20 of a step, one of them of 21/20 at most
+-- distances along both axes of less than 37/20 of a step, one of them at most 21/20
 pub record IsPair (g m n : ℕ) : Type 0 where
   pub first : 20 * m < 37 * g
   pub second : 20 * n < 37 * g
   pub one : (20 * m ≤ 21 * g) ⊎ (20 * n ≤ 21 * g)
 
--- the wheel's first point (fx, fy) is beyond the end's ray, and a move at most from the joint (x, y)
+-- the wheel's first point (fx, fy) is past the end's ray, and at most a move from the joint (x, y)
 pub here_pair : (g x y fx fy ex ey : ℕ) → 500 ≤ g → x ≤ fx + g → fy ≤ y + g → fx * ey ≤ fy * ex → 20 * x < 20 * ex + 37 * g → 20 * ey < 20 * y + 37 * g →
     2 * ex ≤ 2 * x + g + 40 → 2 * y ≤ 2 * ey + g + 2 → IsPair g (gap x ex) (gap y ey)
 here_pair g x y fx fy ex ey step back up past ahead_x ahead_y behind_x behind_y = record {
@@ -128,7 +128,7 @@ limits g q h k l v s = (
   square_le (v + g) (q + 1 + h) (omega (arith, s.inner, s.h_low, s.l_low, s.step)),
 )
 
--- joint, first point and end in the start's quadrant: the wheel begins at the joint
+-- joint, first point and end are in the start's quadrant: the wheel begins at the joint
 pub stands_here : (g q h k l v ex ey : ℕ) (steep : Bool) (j : Spoke) → IsRim g q h k l v → IsNearJoint g (q + 1) v steep j → IsRay q ex ey →
     j.x * ey ≤ j.y * ex →
     2 * ex ≤ 2 * j.x + g + 40 → 2 * j.y ≤ 2 * ey + g + 2 → IsPair g (gap j.x ex) (gap j.y ey)
@@ -138,7 +138,7 @@ stands_here g q h k l v ex ey steep j r near ray past first second =
     here_pair g j.x j.y j.x j.y ex ey r.step (omega arith) (omega arith) past (omega (arith, a, r.l_high, r.step))
     (omega (arith, b, r.l_high, r.step)) first second
 
--- or where a move leads to
+-- or at the point to which a move leads
 pub rolls_here : (g q h k l v ex ey : ℕ) (steep : Bool) (j : Spoke) (roll : Roll) → IsRim g q h k l v → IsNearJoint g (q + 1) v steep j → IsRay q ex ey →
     g ≤ j.x → 0 < ex → IsEntry g (limit_of q h) steep j roll →
     (rolled g roll j).x * ey ≤ (rolled g roll j).y * ex → 2 * ex ≤ 2 * j.x + g + 40 → 2 * j.y ≤ 2 * ey + g + 2 → IsPair g (gap j.x ex) (gap j.y ey)
@@ -179,7 +179,7 @@ rolls_here g q h k l v ex ey steep j Inward r near ray inside some entry past fi
 
 -- ---- beside a half axis
 
--- less than a step beside it a point is almost as far along it as from the centre
+-- less than a step from it, a point is almost as far along it as from the centre
 beside_far : (g q h k l v x y : ℕ) → IsRim g q h k l v → v * v ≤ square x y → x ≤ g → 10 * (q + 1) ≤ 10 * y + 9 * g
 beside_far g q h k l v x y r above few =
     elim (cases_lt (10 * y + 9 * g) (10 * (q + 1))) [
@@ -216,7 +216,8 @@ end_far g q z w step far round few =
           ])
     ]
 
--- the end's way off the half axis is hardly longer than that of a point before it, at u and y
+-- the end's distance from the half axis is hardly greater than that of a point before it, at u and
+-- y
 aside : (g q u y z w : ℕ) → 500 ≤ g → 8 * g ≤ q + 1 → u ≤ g → 10 * (q + 1) ≤ 10 * y + 9 * g → z ≤ q + 1 → y * w ≤ u * z → 5 * w ≤ 5 * u + g
 aside g q u y z w step far few along low past =
     elim (cases_lt (5 * u + g) (5 * w)) [
@@ -238,7 +239,7 @@ ray_low q z w ray = from_squares z (q + 1) (omega (arith, ray.great))
 ray_low_second : (q z w : ℕ) → IsRay q z w → w ≤ q + 1
 ray_low_second q z w ray = from_squares w (q + 1) (omega (arith, ray.great))
 
--- over the half axis, to an end in the quadrant that the joint (x, y) is left for
+-- over the half axis, to an end in the quadrant after the joint's, with the joint at (x, y)
 pub over_pair : (g q h k l v x y z w : ℕ) → IsRim g q h k l v → IsRay q z w → v * v ≤ square x y → x < g → y * w ≤ (g - x) * z → 2 * y ≤ 2 * (q + 1) + g →
     IsPair g (x + w) (gap y z)
 over_pair g q h k l v x y z w r ray above near past high =
@@ -254,7 +255,7 @@ over_pair g q h k l v x y z w r ray above near past high =
       one = inr (omega (arith, ints, along, low, far, high, r.step));
     }
 
--- to an end there it doesn't come short along the second axis
+-- the point does not fall short of an end there along the second axis
 pub over_behind : (g q h k l v x y z w : ℕ) → IsRim g q h k l v → IsRay q z w → v * v ≤ square x y → x < g → y * w ≤ (g - x) * z → 2 * y ≤ 2 * (q + 1) + g →
     4 * y ≤ 4 * z + 3 * g
 over_behind g q h k l v x y z w r ray above near past high =
@@ -264,7 +265,7 @@ over_behind g q h k l v x y z w r ray above near past high =
     let far = end_far g q z w r.step r.far ray.small (omega (arith, off, eu)) in
     omega (arith, far, high, r.step)
 
--- to an end before it
+-- to an end before the half axis
 pub over_here : (g q h k l v x y ex ey : ℕ) → IsRim g q h k l v → IsRay q ex ey → v * v ≤ square x y → x < g → 2 * ex ≤ 2 * x + g + 40 →
     2 * y ≤ 2 * ey + g + 2 → IsPair g (gap x ex) (gap y ey)
 over_here g q h k l v x y ex ey r ray above near first second =
@@ -276,7 +277,7 @@ over_here g q h k l v x y ex ey r ray above near first second =
       one = inl (omega (arith, ints, near, first, r.step));
     }
 
--- the joint (x, y) lies beyond the half axis and the end doesn't
+-- the joint (x, y) is past the half axis, and the end is not
 pub back_pair : (g q h k l v x y ex ey : ℕ) → IsRim g q h k l v → IsRay q ex ey → v * v ≤ square x y → 2 * y ≤ g → 2 * (ex + y) ≤ g + 40 →
     2 * x ≤ 2 * ey + g + 2 → IsPair g (ex + y) (gap ey x)
 back_pair g q h k l v x y ex ey r ray above near first second =
@@ -288,7 +289,7 @@ back_pair g q h k l v x y ex ey r ray above near first second =
       one = inl (omega (arith, first, r.step));
     }
 
--- both do
+-- both are
 pub beyond_pair : (g q h k l v x y z w : ℕ) → IsRim g q h k l v → IsRay q z w → v * v ≤ square x y → 2 * y ≤ g → x * w ≤ y * z → 2 * x ≤ 2 * (q + 1) + g →
     IsPair g (gap x z) (gap y w)
 beyond_pair g q h k l v x y z w r ray above near past high =
@@ -332,7 +333,8 @@ joint_before : (g p r : ℕ) (b j : Spoke) → IsPlacedJoint g p r b j → b.qua
 joint_before g p r b j h before =
     moved_before j.quadrant g (p + 1) r b.x b.y j.x j.y (from g p r b.quadrant j.quadrant (following j.quadrant) b.x b.y j.x j.y before h.joined.moved)
 
--- what the start's ray says of the joint and the end, by quadrants, where the end is at most d nearer to the centre than r
+-- the consequences of the start's ray for the joint and the end, by quadrants, if the end is at
+-- most d nearer to the centre than r
 pub record IsBehind (g r d : ℕ) (b j e : Spoke) : Type 0 where
   pub first : j.quadrant ≡ b.quadrant → b.y * e.x < b.x * e.y → 2 * e.x ≤ 2 * j.x + g + 40
   pub second : j.quadrant ≡ b.quadrant → b.y * e.x < b.x * e.y → 2 * j.y ≤ 2 * e.y + g + 2 * d
@@ -376,7 +378,7 @@ large_stands_way g q h k l v p begun whole steep b j e r placed near ray reach =
       beyond = λ next past. beyond_pair g q h k l v j.x j.y e.x e.y r ray near.low (w.small_next next) past (w.high_next next);
     })
 
--- and where one move leads to its first point
+-- and one whose first point is a move away
 pub large_enters_way : (g q h k l v p begun whole : ℕ) (steep : Bool) (b j e : Spoke) (roll : Roll) → IsRim g q h k l v → IsPlacedJoint g p (q + 1) b j →
     IsNearJoint g (q + 1) v steep j → IsRay q e.x e.y → 0 < e.x →
     cross (way_to b) (way_to j) <ℤ pos 0 → IsEntry g (limit_of q h) steep j roll → IsReached b (rolled g roll j) e begun whole → SomeWay (IsPair g) j e

@@ -1,4 +1,4 @@
--- The same round circles of less than eight steps: the joint is less than four steps from the end.
+-- The same for circles of less than eight steps: the joint is less than four steps from the end.
 use Rattle.std.proofs.Common.{◌≡◌, ℕ, ◌+◌, ◌-◌, ◌*◌, ◌<◌, ◌≤◌, pos, ◌<ℤ◌, inl, inr, ap, arith}
 use Rattle.std.specs.Prelude.{Bool}
 use Rattle.std.proofs.lemmas.Bool.{cases_lt}
@@ -18,13 +18,13 @@ use Rattle.ngc_arc_walk.proofs.Circuit.{gap}
 use Rattle.ngc_arc_walk.proofs.Nearly.{IsPlacedJoint, IsBehind, behind_joint, not_both}
 use Rattle.ngc_arc_walk.proofs.Reached.{IsReached, SomeWay, settled_stands, settled_enters}
 
--- the end is no farther out than the circle, and a step nearer at most
+-- the end is no farther out than the circle, and at most a step nearer
 pub record IsSmallRay (g q r : ℕ) : Type 0 where
   pub out : q + 1 ≤ r
   pub near : r ≤ q + 1 + g
   pub small : q + 1 ≤ 8 * g
 
--- the squared way is at most fifteen squares of a step
+-- the squared distance is at most fifteen squares of a step
 abbrev pub IsFew : ℕ → ℕ → ℕ → Type 0
 IsFew g m n = m * m + n * n ≤ 15 * (g * g)
 
@@ -41,7 +41,7 @@ past_far x y ex ey q h past near round small wide some =
     let d : q * x ≤ q * (ex + h + 4) = omega (arith, r, n, wide) in
     le_of_mul-le-mul_left d some
 
--- a little farther than the bound, for the square of a step
+-- a little farther than the bound, by the square of a step
 bound_out : (g r h l m v n : ℕ) → IsSmallSize g r h l m v → n ≤ (r + l) * (r + l) + g * g → n ≤ (r + l + h) * (r + l + h)
 bound_out g r h l m v n s below =
     let a : 6 * g ≤ 2 * (r + l) = omega (arith, s.least, s.l_low, s.step) in
@@ -98,7 +98,7 @@ small_here g q r h l m v x y ex ey f s z ray bound back up past first second =
 axes_long : (v x y : ℕ) → v * v ≤ square x y → v ≤ x + y
 axes_long v x y h = from_squares v (x + y) (omega (arith, h))
 
--- an end that isn't steep is far along the first axis
+-- an end that is not steep is far along the first axis
 flat_far : (q z w : ℕ) → q * q ≤ z * z + w * w → 29 * w ≤ 20 * z → 4 * q ≤ 5 * z
 flat_far q z w round flat =
     elim (cases_lt (5 * z) (4 * q)) [
@@ -109,7 +109,7 @@ flat_far q z w round flat =
           absurd (omega (arith, a, b, round)))
     ]
 
--- the end before the half axis that a move over it leads past
+-- the end before the half axis, which a move over it leads past
 pub small_over_here : (g q r h l m v x y ex ey : ℕ) → IsSmallSize g r h l m v → IsSmallRay g q r → IsRay q ex ey → v * v ≤ square x y → x < g →
     2 * ex ≤ 2 * x + g + 40 → 2 * y ≤ 2 * ey + g + 2 * (g + 1) →
     IsFew g (gap x ex) (gap y ey)
@@ -158,7 +158,7 @@ small_over g q r h l m v x y z w s k ray above near past high =
     few_squares g (x + w) (gap y z) 200 320 (omega (arith, aside))
     (omega (arith, ints, far, high, long, low, near, k.out, k.near, k.small, s.inner, s.m_high, s.step)) (omega arith)
 
--- the joint (x, y) beyond the half axis, the end before it
+-- the joint (x, y) past the half axis, the end before it
 pub small_back : (g q r h l m v x y ex ey : ℕ) → IsSmallSize g r h l m v → IsSmallRay g q r → IsRay q ex ey → v * v ≤ square x y → 2 * y ≤ g →
     2 * (ex + y) ≤ g + 40 → 2 * x ≤ 2 * ey + g + 2 * (g + 1) →
     IsFew g (ex + y) (gap ey x)
@@ -168,7 +168,7 @@ small_back g q r h l m v x y ex ey s z ray above near first second =
     few_squares g (ex + y) (gap ey x) 100 225 (omega (arith, first, s.step)) (omega (arith, ints, long, low, near, second, z.out, s.inner, s.m_high, s.step))
     (omega arith)
 
--- both beyond it
+-- both past it
 beyond_across : (g r x y z w m v : ℕ) → 0 < g → v + m ≡ r → 9 * g ≤ 4 * r → 5 * m ≤ 4 * g → v ≤ x + y → 2 * y ≤ g → z ≤ r → x * w ≤ y * z → w ≤ 2 * g
 beyond_across g r x y z w m v some er wide few long near low past =
     elim (cases_lt (2 * g) w) [
@@ -213,7 +213,7 @@ small_stands_way g q r h l m v p begun whole steep b j e s z placed near ray rea
       beyond = λ next past. small_beyond g q r h l m v j.x j.y e.x e.y s z ray near.low (w.small_next next) past (w.high_next next);
     })
 
--- in its quadrant a move is at most a step long along each axis
+-- within its quadrant a move is at most a step along each axis
 move_back : (g limit : ℕ) (steep : Bool) (j : Spoke) (roll : Roll) → IsEntry g limit steep j roll → g ≤ j.x →
     (j.x ≤ (rolled g roll j).x + g) × ((rolled g roll j).y ≤ j.y + g)
 move_back g limit steep j Over entry inside = absurd (omega (arith, entry, inside))

@@ -33,7 +33,8 @@ passes_at_one a b e s whole d round few near =
     subst (λ ps. Passes (λ k. placed a s) 0 d 0 ps) (sym (extremes_are a b e whole round))
     (one_point a b s d (first_axis b.y) (min 4 (whole + 1 - first_axis b.y)) (omega (arith, few)) (λ some. near (omega (arith, some))))
 
--- where the wheel's first point is less than a step past a half axis, the joint is at most a step before or behind it
+-- if the wheel's first point is less than a step past a half axis, the joint is at most a step
+-- before or past it
 pub stood_by_axis : (g : ℕ) (b j : Spoke) (begun : ℕ) → Begins g b j begun → first_axis b.y ≤ begun → IsByAxis g (turned_by begun b.quadrant) j
 stood_by_axis g b j begun at few = inl (at.begins, at.beside few)
 

@@ -1,4 +1,5 @@
--- The way from the joint to the end, as the start's quadrant sees it: along the first of its half axes and along the second.
+-- The vector from the joint to the end, in the coordinates of the start's quadrant: along its first
+-- half axis and along its second.
 use Rattle.std.proofs.Common.{◌≡◌, ℕ, ◌+◌, ◌*◌, ◌<◌, ◌≤◌, ℤ, pos, ◌<ℤ◌, ◌≤ℤ◌, ◌+ℤ◌, ◌-ℤ◌, ◌*ℤ◌, neg_ℤ, unsigned_abs, ◌⊎◌, inl, inr, refl, sym, ◌∙◌, subst}
 use Rattle.std.proofs.Common.{arith}
 use Rattle.std.specs.Prelude.{Bool}
@@ -21,7 +22,7 @@ use Rattle.ngc_arc_walk.proofs.Nearly.{IsPair, IsPlacedJoint, large_behind, stan
 use Rattle.ngc_arc_walk.proofs.Nearly.{beyond_behind}
 use Rattle.ngc_arc_walk.proofs.Reached.{IsReached, by_stands, by_enters}
 
--- from p to q it is m along the quadrant's first half axis and n along its second
+-- the vector from p to q is m along the quadrant's first half axis and n along its second
 abbrev pub IsTurned : Quadrant → Point2 → Point2 → ℤ → ℤ → Type 0
 IsTurned First p q m n = ((q.u -ℤ p.u) ≡ m) × ((q.v -ℤ p.v) ≡ n)
 IsTurned Second p q m n = ((q.v -ℤ p.v) ≡ m) × ((p.u -ℤ q.u) ≡ n)
@@ -45,7 +46,7 @@ turned_next Second x y z w =
 turned_next Third x y z w = let h = neg_is (pos x) in let i = neg_is (pos z) in (refl, omega (arith, ints, h.0, h.1, i.0, i.1))
 turned_next Fourth x y z w = (refl, refl)
 
--- the second one there
+-- the second one in the next quadrant
 turned_on : (c : Quadrant) (x y z w : ℕ) → IsTurned c (around c x y) (around (following c) z w) (neg_ℤ (pos (x + w))) (pos z -ℤ pos y)
 turned_on First x y z w = let g = neg_is (pos w) in let s = neg_is (pos (x + w)) in (omega (arith, ints, g.0, g.1, s.0, s.1), refl)
 turned_on Second x y z w =
@@ -56,7 +57,7 @@ turned_on Third x y z w =
     (omega (arith, ints, h.0, h.1, s.0, s.1), omega (arith, ints, f.0, f.1, i.0, i.1))
 turned_on Fourth x y z w = let h = neg_is (pos x) in let s = neg_is (pos (x + w)) in (omega (arith, ints, h.0, h.1, s.0, s.1), refl)
 
--- the first one there
+-- the first one in the next quadrant
 turned_back : (c : Quadrant) (x y z w : ℕ) → IsTurned c (around (following c) x y) (around c z w) (pos (z + y)) (pos w -ℤ pos x)
 turned_back First x y z w = let f = neg_is (pos y) in (omega (arith, ints, f.0, f.1), refl)
 turned_back Second x y z w =
@@ -78,7 +79,8 @@ turned_before Third x y z w =
     (omega (arith, ints, f.0, f.1, i.0, i.1), omega (arith, ints, h.0, h.1))
 turned_before Fourth x y z w = let h = neg_is (pos x) in (refl, omega (arith, ints, h.0, h.1))
 
--- m along the first half axis, on which turning on leads back, and n along the second, on which it leads on
+-- m along the first half axis, on which a turn leads back, and n along the second, on which it
+-- leads forward
 pub record IsOnward (g : ℕ) (m n : ℤ) : Type 0 where
   pub first_ahead : (pos 2 *ℤ m) ≤ℤ pos (g + 40)
   pub first_behind : pos 0 <ℤ ((pos 20 *ℤ m) +ℤ pos (37 * g))
@@ -96,7 +98,7 @@ from_pair g m n pair first second = record {
   one = elim pair.one [ inl a ↦ inl (omega (arith, ints, a)) | inr b ↦ inr (omega (arith, ints, b)) ];
 }
 
--- by the start's quadrant
+-- in the start's quadrant
 abbrev pub GoesOnward : ℕ → Spoke → Spoke → Spoke → Type 0
 GoesOnward g b j e = (m : ℤ) × (n : ℤ) × IsTurned b.quadrant (way_to j) (way_to e) m n × IsOnward g m n
 
@@ -147,7 +149,7 @@ large_stands_onward g q h k l v p begun whole steep b j e r placed near ray reac
           (omega (arith, ints, w.small_next next)) (omega (arith, ints, second))));
     })
 
--- and where one move leads to its first point
+-- and one whose first point is a move away
 pub large_enters_onward : (g q h k l v p begun whole : ℕ) (steep : Bool) (b j e : Spoke) (roll : Roll) → IsRim g q h k l v → IsPlacedJoint g p (q + 1) b j →
     IsNearJoint g (q + 1) v steep j → IsRay q e.x e.y → 0 < e.x →
     cross (way_to b) (way_to j) <ℤ pos 0 → IsEntry g (limit_of q h) steep j roll → IsReached b (rolled g roll j) e begun whole → GoesOnward g b j e

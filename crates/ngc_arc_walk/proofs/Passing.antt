@@ -1,4 +1,4 @@
--- A walk comes by the quadrant points of its arc, one after the other.
+-- A walk passes the quadrant points of its arc, in order.
 use Rattle.std.proofs.Common.{◌≡◌, ℕ, zero, suc, ◌+◌, ◌-◌, ◌<◌, ◌≤◌, min, ◌⊎◌, inl, inr, sym, ◌∙◌, ap, subst, arith}
 use Rattle.std.proofs.lemmas.Bool.{cases_lt}
 use Rattle.ngc_wheel.specs.declared.spoke.Quadrant.{Quadrant}
@@ -20,9 +20,10 @@ use Rattle.ngc_arc_walk.specs.ArcWalk.{IsWalk}
 use Rattle.ngc_arc_walk.proofs.Axes.{extremes_are}
 use Rattle.ngc_arc_walk.specs.Round.{IsRound}
 
--- A walk that comes within d of a half axis' quadrant point where it is at most a step before or behind that axis. A half axis that it
--- begins on or past, but that isn't behind the start, is less than a step behind its first point. It ends in the quadrant of the arc's
--- end, or where the next move leads over the axis into that one.
+-- A walk whose points at most a step before or past a half axis are within d of that axis' quadrant
+-- point. A half axis on which the walk begins, or past which it begins, and which is not before the
+-- start, is less than a step before its first point. The walk ends in the quadrant of the arc's
+-- end, or at a point from which the next move leads over the axis into that quadrant.
 pub record IsPassing (a : ArcShape) (g limit d n : ℕ) (at : ℕ → Spoke) (quadrant : ℕ → ℕ) (b e : Spoke) (begun left : ℕ) : Type 0 where
   pub walk : IsWalk a g limit n at quadrant b e begun left
   pub behind : (i : ℕ) → i ≤ n → (at i).y ≤ g → IsWithin d (placed a (at i)) (placed a (record { quadrant = (at i).quadrant; x = outer_radius a; y = 0 }))
@@ -63,7 +64,7 @@ in_order g limit n at quadrant i k way le less =
           absurd (omega (arith, up', less)))
     ]
 
--- the move into a quadrant begins it less than a step from its axis
+-- the move into a quadrant ends less than a step from the axis on which it begins
 enters : (g limit : ℕ) (s : Spoke) (r : Roll) (here j : ℕ) → IsRoll g limit s r → here < j → j ≤ quadrants_of here r →
     (quadrants_of here r ≡ j) × ((rolled g r s).y ≤ g)
 enters g limit s Outward here j roll less more = absurd (omega (arith, less, more))
@@ -71,7 +72,7 @@ enters g limit s Diagonal here j roll less more = absurd (omega (arith, less, mo
 enters g limit s Inward here j roll less more = absurd (omega (arith, less, more))
 enters g limit s Over here j roll less more = (omega (arith, less, more), omega arith)
 
--- so there is a first place of each quadrant
+-- so each quadrant has a first point
 first_place : (g limit n : ℕ) (at : ℕ → Spoke) (quadrant : ℕ → ℕ) (m j : ℕ) → IsRolling g limit n at quadrant → m ≤ n → 0 < j → j ≤ quadrant m →
     (k : ℕ) × (k ≤ n) × (quadrant k ≡ j) × ((at k).y ≤ g)
 first_place g limit n at quadrant zero j way le some more = absurd (omega (arith, way.starts, some, more))
@@ -88,7 +89,7 @@ first_place g limit n at quadrant (suc m) j way le some more =
 
 -- ---- the quadrant points
 
--- from place i on, which lies before the j-th axis
+-- from point i on, which is before the j-th axis
 passes_from : (a : ArcShape) (g limit d n : ℕ) (at : ℕ → Spoke) (quadrant : ℕ → ℕ) (b e : Spoke) (begun left : ℕ) →
     IsPassing a g limit d n at quadrant b e begun left →
     (c j i : ℕ) → i ≤ n → begun + quadrant i < j → j + c ≤ begun + left + 1 →
@@ -130,7 +131,7 @@ passes_from a g limit d n at quadrant b e begun left w (suc c) j i le before few
       ]
     ]
 
--- from the start, with the axis that it begins on or past
+-- from the start, with the axis on which it begins, or past which it begins
 passes_all : (a : ArcShape) (g limit d n : ℕ) (at : ℕ → Spoke) (quadrant : ℕ → ℕ) (b e : Spoke) (begun left : ℕ) →
     IsPassing a g limit d n at quadrant b e begun left →
     (c : ℕ) → first_axis b.y + c ≤ begun + left + 1 → Passes (λ k. placed a (at k)) n d 0 (axis_points a b (outer_radius a) (first_axis b.y) c)
@@ -169,7 +170,7 @@ round_of a g limit d n at quadrant b e begun left w = record {
   some_radius = w.some_radius;
 }
 
--- Such a walk comes within d of each quadrant point of its arc, one after the other.
+-- Such a walk passes within d of each quadrant point of its arc, in order.
 pub passes : (a : ArcShape) (g limit d n : ℕ) (at : ℕ → Spoke) (quadrant : ℕ → ℕ) (b e : Spoke) (begun left : ℕ) →
     IsPassing a g limit d n at quadrant b e begun left →
     Passes (λ k. placed a (at k)) n d 0 (extremes a)

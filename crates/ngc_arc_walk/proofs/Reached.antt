@@ -1,4 +1,5 @@
--- Where a wheel's first point has reached the end's ray: the cases by quadrants, each with its way from the joint to the end.
+-- Arcs whose end's ray the wheel's first point has reached: the cases by quadrants, each with the
+-- vector from the joint to the end.
 use Rattle.std.proofs.Common.{◌≡◌, ℕ, zero, suc, ◌+◌, ◌-◌, ◌*◌, ◌<◌, ◌≤◌, ℤ, pos, ◌<ℤ◌, ◌⊎◌, inl, inr, refl, sym, ◌∙◌, ap, subst, arith}
 use Rattle.std.specs.Prelude.{Bool}
 use Rattle.std.proofs.lemmas.Bool.{cases_lt}
@@ -22,7 +23,7 @@ use Rattle.ngc_arc_walk.proofs.Begins.{Begins}
 use Rattle.ngc_arc_walk.proofs.Circuit.{gap}
 use Rattle.ngc_arc_walk.proofs.Crosses.{four_on}
 
--- ---- two points of the plane, so far apart along its axes, the one or the other
+-- ---- the distances of two points of the plane along its axes, in either order
 
 abbrev pub IsApart : Point2 → Point2 → ℕ → ℕ → Type 0
 IsApart p q m n = ((distance p.u q.u ≡ m) × (distance p.v q.v ≡ n)) ⊎ ((distance p.u q.u ≡ n) × (distance p.v q.v ≡ m))
@@ -56,7 +57,7 @@ apart_back q x y z w = elim (apart_on q z w x y) [
   | inr h ↦ inr (flipped (around q z w).u (around (following q) x y).u (gap w x) h.0, flipped (around q z w).v (around (following q) x y).v (z + y) h.1)
 ]
 
--- a way of which something holds
+-- the distances have a property P
 abbrev pub SomeWay : (ℕ → ℕ → Type 0) → Spoke → Spoke → Type 0
 SomeWay P j e = (m : ℕ) × (n : ℕ) × IsApart (way_to j) (way_to e) m n × P m n
 
@@ -89,7 +90,8 @@ way_back P q j e hj he p = (
 
 -- ---- the cases
 
--- a wheel that begins at f has reached the ray of e, which is so many quadrants on from b and past its ray
+-- a wheel that begins at f has reached the ray of e, which is `whole` quadrants from b and past its
+-- ray
 pub record IsReached (b f e : Spoke) (begun whole : ℕ) : Type 0 where
   pub few : begun ≤ 1
   pub begins : f.quadrant ≡ turned_by begun b.quadrant
@@ -101,7 +103,7 @@ at_most_one : (y : ℕ) → first_axis y ≤ 1
 at_most_one zero = omega arith
 at_most_one (suc y) = omega arith
 
--- as the walk's beginning and the search for its end say
+-- the same from the beginning of the walk and the search for its end
 pub reached : (g : ℕ) (b f e : Spoke) (begun whole : ℕ) → Begins g b f begun → e.quadrant ≡ turned_by whole b.quadrant → IsATurn whole b.x b.y e.x e.y →
     whole ≤ begun → (whole ≡ begun → f.x * e.y ≤ f.y * e.x) →
     IsReached b f e begun whole
@@ -116,7 +118,7 @@ reached g b f e begun whole h to turn few past = record {
   ];
 }
 
--- whether it begins at the joint, in three cases
+-- a wheel that begins at the joint: three cases
 pub record StandsCases (R : Type 0) (b j e : Spoke) : Type 0 where
   pub here : j.quadrant ≡ b.quadrant → e.quadrant ≡ b.quadrant → b.y * e.x < b.x * e.y → j.x * e.y ≤ j.y * e.x → R
   pub back : j.quadrant ≡ following b.quadrant → e.quadrant ≡ b.quadrant → b.y * e.x < b.x * e.y → R
@@ -142,7 +144,7 @@ by_stands R b j e (suc zero) (suc (suc n)) r s = elim r.past [
 ]
 by_stands R b j e (suc (suc m)) n r s = absurd (omega (arith, r.few))
 
--- or where one move leads to, in four
+-- or one whose first point is a move away: four cases
 pub record EntersCases (R : Type 0) (g : ℕ) (b j e : Spoke) (roll : Roll) : Type 0 where
   pub here : j.quadrant ≡ b.quadrant → e.quadrant ≡ b.quadrant → g ≤ j.x → b.y * e.x < b.x * e.y → (rolled g roll j).x * e.y ≤ (rolled g roll j).y * e.x → R
   pub over_here : j.quadrant ≡ b.quadrant → e.quadrant ≡ b.quadrant → j.x < g → b.y * e.x < b.x * e.y → R
@@ -201,7 +203,7 @@ by_enters R g limit steep b j e Outward begun whole r behind entry s = enters_in
 by_enters R g limit steep b j e Diagonal begun whole r behind entry s = enters_in R g b j e Diagonal begun whole r behind entry.0 refl s
 by_enters R g limit steep b j e Inward begun whole r behind entry s = enters_in R g b j e Inward begun whole r behind entry.1 refl s
 
--- ---- what holds of the way in each case
+-- ---- a property of the distances in each case
 
 pub record StandsSettled (P : ℕ → ℕ → Type 0) (b j e : Spoke) : Type 0 where
   pub here : j.quadrant ≡ b.quadrant → b.y * e.x < b.x * e.y → j.x * e.y ≤ j.y * e.x → P (gap j.x e.x) (gap j.y e.y)

@@ -1,4 +1,4 @@
--- Which spokes the sector of an arc has, and which it has not.
+-- The spokes that the sector of an arc contains, and those that it does not contain.
 use Rattle.std.proofs.Common.{◌≡◌, ℕ, zero, suc, ◌+◌, ◌-◌, ◌*◌, ◌<◌, ◌≤◌, ℤ, pos, ◌-ℤ◌, negsuc, neg_ℤ, ◌≤ℤ◌, unsigned_abs, ◌⊎◌, inl, inr, refl, sym, ◌∙◌, ap}
 use Rattle.std.proofs.Common.{subst, arith}
 use Rattle.std.specs.Prelude.{Bool, true, false, int_lt, ◌&&◌, ◌||◌, if◌then◌else◌}
@@ -23,7 +23,7 @@ use Rattle.ngc_arc_walk.specs.Placed.{mirrored, placed, turned_by, axis_spoke, I
 use Rattle.ngc_arc_walk.proofs.Crosses.{times_neg, neg_times, negs_times, turn_placed, dot_placed, four_on, same_axis, IsBehind, ahead_or_behind, is_ahead_true}
 use Rattle.ngc_arc_walk.proofs.Crosses.{is_ahead_false}
 
--- the test of the definition, with start and end by name
+-- the test of the definition, with start and end as parameters
 abbrev pub between : ArcShape → Point2 → Point2 → Point2 → Bool
 between a b e p =
     if same_direction a b e then true
@@ -78,7 +78,7 @@ same_ray a s t e hs ht h =
     dot_placed a s t ∙ (rw e (dot_same s.quadrant s.x s.y t.x t.y)) in
     both _ _ (nothing _ c) (positive _ (s.x * t.x + s.y * t.y) d (omega (arith, mul-le 1 1 s.x t.x hs ht)))
 
--- ---- what lies between
+-- ---- the points between
 
 within_or_full : (n x y z w : ℕ) → IsATurn n x y z w → IsWithinTurn n x y z w ⊎ ((n ≡ 4) × (x * w ≡ y * z))
 within_or_full zero x y z w h = inl tt
@@ -100,7 +100,7 @@ pub turned_sum : (m n : ℕ) (q : Quadrant) → turned_by n (turned_by m q) ≡ 
 turned_sum m zero q = let e : m + 0 ≡ m = omega arith in rw e refl
 turned_sum m (suc n) q = let e : m + suc n ≡ suc (m + n) = omega arith in rw e (ap following (turned_sum m n q))
 
--- a point m quadrants on from the start b and n before the end e, with neither behind its own ray
+-- a point m quadrants after the start b and n before the end e, with neither before its ray
 between_ahead : (a : ArcShape) (b p e : Spoke) (m n : ℕ) → p.quadrant ≡ turned_by m b.quadrant → e.quadrant ≡ turned_by n p.quadrant →
     0 < b.x → 0 < p.x → 0 < e.x → IsNoLater m b.x b.y p.x p.y → IsNoLater n p.x p.y e.x e.y → IsATurn (m + n) b.x b.y e.x e.y →
     between a (placed a b) (placed a e) (placed a p) ≡ true
@@ -137,7 +137,7 @@ pub beside : (n y z w : ℕ) → IsNoLater n y 0 z w
 beside zero y z w = omega arith
 beside (suc n) y z w = tt
 
--- so too where the point lies on the axis at its quadrant's end
+-- the same for a point on the axis at its quadrant's end
 between_somewhere : (a : ArcShape) (b p e : Spoke) (m n : ℕ) → p.quadrant ≡ turned_by m b.quadrant → e.quadrant ≡ turned_by n p.quadrant →
     0 < b.x → 0 < p.x + p.y → 0 < e.x → IsNoLater m b.x b.y p.x p.y → IsNoLater n p.x p.y e.x e.y → IsATurn (m + n) b.x b.y e.x e.y →
     between a (placed a b) (placed a e) (placed a p) ≡ true
@@ -166,7 +166,8 @@ between_somewhere a b p e m (suc n) hp he bx some ex bp pe turn =
           (between_ahead a b q e (suc m) n (ap following hp) hq bx y ex tt last turn'))
     ]
 
--- A point m quadrants on from the start b and n before the end e, with neither behind its own ray, lies in the sector.
+-- A point m quadrants after the start b and n before the end e, with neither before its ray, is in
+-- the sector.
 pub in_round : (a : ArcShape) (b p e : Spoke) (m n : ℕ) → start_of a ≡ placed a b → end_of a ≡ placed a e →
     p.quadrant ≡ turned_by m b.quadrant → e.quadrant ≡ turned_by n p.quadrant →
     0 < b.x → 0 < p.x + p.y → 0 < e.x → IsNoLater m b.x b.y p.x p.y → IsNoLater n p.x p.y e.x e.y → IsATurn (m + n) b.x b.y e.x e.y →
@@ -174,7 +175,7 @@ pub in_round : (a : ArcShape) (b p e : Spoke) (m n : ℕ) → start_of a ≡ pla
 in_round a b p e m n hb hend hp he bx some ex bp pe turn =
     in_sector_is a (placed a b) (placed a e) (placed a p) hb hend ∙ between_somewhere a b p e m n hp he bx some ex bp pe turn
 
--- ---- quadrant points beyond the end
+-- ---- quadrant points past the end
 
 dot_opposite : (q : Quadrant) (x y z w : ℕ) → dot (around q x y) (around (following (following q)) z w) ≡ neg_ℤ (pos (x * z + y * w))
 dot_opposite First x y z w = let f = neg_is (pos (x * z)) in let g = neg_is (pos (y * w)) in let h = neg_is (pos (x * z + y * w)) in
@@ -226,7 +227,7 @@ rays_apart a b e (suc (suc (suc zero))) few h bx ex turn =
     some_turn a b e (subst (λ z. 0 < unsigned_abs z) (sym c) (omega (arith, ints, i.0, i.1, mul-le 1 1 b.x e.x bx ex)))
 rays_apart a b e (suc (suc (suc (suc n)))) few h bx ex turn = absurd (omega (arith, few))
 
--- the half axis j quadrants on lies beyond the end, n quadrants on
+-- the half axis j quadrants further on is past the end, which is n quadrants further on
 one_behind : (j n bx by ex ey r : ℕ) → n < j → j ≤ 4 → (j ≡ 4 → 0 < by) → 0 < bx → 0 < ex → 0 < r → IsATurn n bx by ex ey →
     IsBehind j bx by r 0 ⊎ IsBehind (n + 4 - j) r 0 ex ey
 one_behind zero n bx by ex ey r less few last b e some turn = absurd (omega (arith, less))

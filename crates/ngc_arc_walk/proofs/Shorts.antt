@@ -1,4 +1,5 @@
--- Arcs whose end's ray is reached before the wheel rolls: they have one quadrant point at most, by the joint.
+-- Arcs whose end's ray is reached before the wheel moves: they have at most one quadrant point,
+-- near the joint.
 use Rattle.std.proofs.Common.{◌≡◌, ℕ, zero, suc, ◌+◌, ◌-◌, ◌*◌, ◌<◌, ◌≤◌, min, pos, ◌-ℤ◌, neg_ℤ, ◌≤ℤ◌, ◌⊎◌, inl, inr, sym, ◌∙◌, ap, subst, arith}
 use Rattle.std.proofs.lemmas.Int.{ints}
 use borrow.Author.Differences.{neg_is}
@@ -21,7 +22,8 @@ use Rattle.ngc_arc_walk.proofs.Axes.{extremes_are}
 use Rattle.ngc_arc_walk.specs.Round.{IsRound}
 use Rattle.ngc_arc_walk.proofs.Circuit.{by_first, by_second}
 
--- where no walk begins, by the course's rule, the end lies in the start's quadrant or the next, and no farther than the walk's first point would
+-- if no walk begins, by the path's rule, the end is in the start's quadrant or the next one, and no
+-- further on than the walk's first point would be
 pub none_begun : (b e : Spoke) (begun n : ℕ) → begun ≤ 1 → (n ≡ 0) ⊎ (n ≡ 3) → e.quadrant ≡ turned_by n (turned_by begun b.quadrant) →
     pos 1 ≤ℤ cross (around b.quadrant b.x b.y) (around e.quadrant e.x e.y) →
     (whole : ℕ) × (whole ≤ begun) × (e.quadrant ≡ turned_by whole b.quadrant) × IsATurn whole b.x b.y e.x e.y
@@ -47,7 +49,7 @@ none_begun b e (suc zero) n few (inr three) he area =
     (0, omega arith, same, omega (arith, ints, sign))
 none_begun b e (suc (suc m)) n few h he area = absurd (omega (arith, few))
 
--- a point at most a step behind the half axis at which this quadrant begins, or before it
+-- a point at most a step past the half axis on which this quadrant begins, or before it
 abbrev pub IsByAxis : ℕ → Quadrant → Spoke → Type 0
 IsByAxis g z s = ((s.quadrant ≡ z) × (s.y ≤ g)) ⊎ ((following s.quadrant ≡ z) × (s.x ≤ g))
 

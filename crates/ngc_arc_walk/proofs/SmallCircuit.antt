@@ -23,7 +23,8 @@ use Rattle.ngc_arc_walk.proofs.Crosses.{same_axis}
 use Rattle.ngc_arc_walk.proofs.Lifts.{square_placed}
 use Rattle.ngc_arc_walk.proofs.Passing.{passes}
 
--- the circle is that of the arc's end, at the radius r; where that has less than two and a quarter steps, a circle of so many
+-- the circle is that of the arc's end, at the radius r; if that is less than two and a quarter
+-- steps, it is a circle of two and a quarter steps
 pub record IsSmallCircuit (a : ArcShape) (g o h l m v r n : ℕ) (at : ℕ → Spoke) (quadrant : ℕ → ℕ) (b e : Spoke) (begun left : ℕ) : Type 0 where
   pub walk : IsWalk a g ((o + h) * (o + h)) n at quadrant b e begun left
   pub size : IsSmallSize g o h l m v
@@ -54,7 +55,7 @@ small_above a g o h l m v r n at quadrant b e begun left i c le =
 
 -- ---- sizes
 
--- between the circles two steps in and two steps out
+-- between the circles two steps inside and two steps outside
 out_of_wheel : (g o h l m v r n : ℕ) → IsSmallSize g o h l m v → (o ≡ r) ⊎ ((r ≤ o) × (4 * o ≤ 9 * g + 4) × (3 * g ≤ 2 * r)) → n ≤ (o + l) * (o + l) + g * g →
     n ≤ (r + 2 * g) * (r + 2 * g)
 out_of_wheel g o h l m v r n z (inl e) below =

@@ -1,4 +1,5 @@
--- From the joint straight to the end's grid place: two moves at most, by way of a place within a step of the end.
+-- From the joint straight to the end's grid point: at most two moves, through a point within a step
+-- of the end.
 use Rattle.std.proofs.Common.{◌≡◌, ℕ, zero, suc, ◌+◌, ◌*◌, ◌<◌, ◌≤◌, ℤ, pos, ◌+ℤ◌, ◌-ℤ◌, ◌⊎◌, inl, inr, refl, sym, ap, subst, arith}
 use Rattle.std.proofs.lemmas.Bool.{cases_lt}
 use Rattle.std.proofs.lemmas.Int.{ints}
@@ -20,7 +21,7 @@ use Rattle.ngc_arc_walk.proofs.Nearly.{IsPair}
 use Rattle.ngc_arc_walk.proofs.NearlySmall.{IsFew}
 use Rattle.ngc_arc_walk.proofs.Reached.{IsApart, SomeWay}
 
--- ---- in the arc's plane two points are as far apart as their ways from the centre
+-- ---- the distance of two points in the arc's plane is that of their vectors from the centre
 
 apart_there : (t : Turn) (c p q : Point2) (m n : ℕ) → IsApart p q m n → IsApart (shifted c (mirrored t p)) (shifted c (mirrored t q)) m n
 apart_there Counterclockwise c p q m n (inl h) = inl (omega (arith, ints, h.0), omega (arith, ints, h.1))
@@ -33,13 +34,13 @@ apart_there Clockwise c p q m n (inr h) = let f = neg_is p.v in let g = neg_is q
 pub apart_placed : (a : ArcShape) (j e : Spoke) (m n : ℕ) → IsApart (way_to j) (way_to e) m n → IsApart (placed a j) (placed a e) m n
 apart_placed a j e m n h = apart_there a.turn a.centre (way_to j) (way_to e) m n h
 
--- ---- along one axis, from j to z by way of m
+-- ---- along one axis, from j to z through m
 
--- so many steps apart
+-- k steps apart
 abbrev pub IsSteps : ℕ → ℤ → ℤ → Type 0
 IsSteps g j z = (k : ℕ) × (distance j z ≡ k * g)
 
--- where a move from j leads that goes on to z until it is there: to z itself, or halfway
+-- the point m to which a move from j towards z leads: z itself, or halfway
 abbrev pub IsMiddle : ℕ → ℤ → ℤ → ℤ → Type 0
 IsMiddle g j m z = ((m ≡ z) × (distance j z ≤ g)) ⊎ (((m ≡ j +ℤ pos g) × (z ≡ m +ℤ pos g)) ⊎ ((j ≡ m +ℤ pos g) × (m ≡ z +ℤ pos g)))
 
@@ -56,7 +57,7 @@ by_steps g j z (suc (suc (suc k))) h near = absurd (omega (arith, h, near))
 pub two_at_most : (g : ℕ) (j z e : ℤ) → 20 * distance j e < 37 * g → 2 * distance z e ≤ g → IsSteps g j z → (m : ℤ) × IsMiddle g j m z
 two_at_most g j z e near close steps = by_steps g j z steps.0 steps.1 (omega (arith, ints, near, close))
 
--- less than half a step from e it is, or farther where two moves lead to z
+-- it is at most half a step from e, or farther if two moves lead to z
 axis_near : (g : ℕ) (j m z e : ℤ) → 500 ≤ g → 20 * distance j e < 37 * g → 2 * distance z e ≤ g → IsMiddle g j m z →
     (2 * distance m e ≤ g) ⊎ ((20 * distance m e < 17 * g) × (21 * g < 20 * distance j e))
 axis_near g j m z e step near close (inl h) = inl (omega (arith, ints, close, h.0))
@@ -65,7 +66,7 @@ axis_near g j m z e step near close (inr (inr h)) = inr (omega (arith, ints, ste
 
 -- ---- along both
 
--- less than 37/20 of a step on each axis, and 21/20 at most on one of them
+-- less than 37/20 of a step on each axis, and at most 21/20 on one of them
 pub record IsCloseBy (g : ℕ) (p q : Point2) : Type 0 where
   pub u : 20 * distance p.u q.u < 37 * g
   pub v : 20 * distance p.v q.v < 37 * g
@@ -93,12 +94,12 @@ half_half g a b ha hb = let p = square_le (2 * a) g ha in let q = square_le (2 *
 half_more : (g a b : ℕ) → 2 * a ≤ g → 20 * b ≤ 17 * g → a * a + b * b ≤ g * g
 half_more g a b ha hb = let p = square_le (2 * a) g ha in let q = square_le (20 * b) (17 * g) hb in omega (arith, p, q)
 
--- the grid place z is nearest to e on each axis
+-- the grid point z is nearest to e on each axis
 pub record IsNearest (g : ℕ) (z e : Point2) : Type 0 where
   pub u : 2 * distance z.u e.u ≤ g
   pub v : 2 * distance z.v e.v ≤ g
 
--- each place between p and z is within a step of e
+-- each point between p and z is within a step of e
 pub middle_near : (g : ℕ) (p m z e : Point2) → 500 ≤ g → IsCloseBy g p e → IsNearest g z e → IsMiddle g p.u m.u z.u → IsMiddle g p.v m.v z.v →
     distance m.u e.u * distance m.u e.u + distance m.v e.v * distance m.v e.v ≤ g * g
 middle_near g p m z e step close nearest mu mv = elim (axis_near g p.u m.u z.u e.u step close.u nearest.u mu) [
@@ -112,7 +113,7 @@ middle_near g p m z e step close nearest mu mv = elim (axis_near g p.u m.u z.u e
   ]
 ]
 
--- two moves at most lead from p to z
+-- at most two moves lead from p to z
 pub goes_straight : (g : ℕ) (p z e : Point2) → IsCloseBy g p e → IsNearest g z e → IsSteps g p.u z.u → IsSteps g p.v z.v →
     (m : Point2) × IsMiddle g p.u m.u z.u × IsMiddle g p.v m.v z.v
 goes_straight g p z e close nearest su sv =

@@ -38,11 +38,11 @@ stays_out g limit s Inward some room out roll =
     ]
 stays_out g limit s Over some room out roll = omega (arith, roll)
 
--- in a quadrant a point that is at or past a ray stays there
+-- a point at or past a ray in its quadrant stays so
 stays_past : (bx by x y x' y' : ℕ) → x' ≤ x → y ≤ y' → by * x ≤ bx * y → by * x' ≤ bx * y'
 stays_past bx by x y x' y' hx hy h = let p = mul-le-mul_left by hx in let q = mul-le-mul_left bx hy in omega (arith, h, p, q)
 
--- in a later quadrant it is past the ray
+-- a point in a later quadrant is past the ray
 later : (m x y z w : ℕ) → 0 < m → IsNoLater m x y z w
 later zero x y z w h = absurd (omega (arith, h))
 later (suc m) x y z w h = tt
@@ -72,7 +72,7 @@ quadrant_rolled g m q s Over h = let e : suc m ≡ m + 1 = omega arith in ap fol
 fewer : (x' y' x y ex ey : ℕ) → x' ≤ x → y ≤ y' → y' * ex < x' * ey → y * ex < x * ey
 fewer x' y' x y ex ey hx hy h = let p = mul-le-mul_left ey hx in let q = mul-le-mul_left ex hy in omega (arith, h, p, q)
 
--- one that is before the end's ray after a move was so before it
+-- a point that is before the end's ray after a move was before it earlier
 was_before : (g limit : ℕ) (s e : Spoke) (r : Roll) (here last : ℕ) → IsRoll g limit s r → IsBeforeEnd (quadrants_of here r) last (rolled g r s) e →
     IsBeforeEnd here last s e
 was_before g limit s e Outward here last roll (inl less) = inl less
@@ -190,7 +190,8 @@ walk_goes_on a g limit n at quadrant k way le =
     let step = way.rolls k le in
     subst (λ (s : Spoke). pos 0 ≤ℤ turn_from a (placed a (at k)) (placed a s)) (sym step.2) (turns a g limit (at k) step.0 step.1)
 
--- the last point before the end's ray lies in the end's quadrant, or less than a step before it
+-- the last point before the end's ray is in the end's quadrant, or less than a step before that
+-- quadrant
 pub ends_there : (g limit : ℕ) (s e : Spoke) (r : Roll) (here last : ℕ) → IsRoll g limit s r → IsBeforeEnd here last s e →
     (IsBeforeEnd (quadrants_of here r) last (rolled g r s) e → ⊥) →
     (here ≡ last) ⊎ ((here + 1 ≡ last) × (s.x < g))

@@ -1,5 +1,5 @@
--- Walks of a wheel round an arc's centre, from its start's ray to its end's, and how they follow
--- the arc. Our own.
+-- Walks of a wheel round an arc's centre, from the ray of its start to the ray of its end, and how
+-- they follow the arc. Our own.
 use Rattle.std.specs.Prelude.{◌≡◌, ◌⊎◌, ℕ, ◌+◌, ◌-◌, ◌*◌, ◌/◌, ◌<◌, ◌≤◌, pos, ◌≤ℤ◌, true}
 use Rattle.ngc_wheel.specs.declared.spoke.Spoke.{Spoke}
 use Rattle.ngc_wheel.specs.Bounds.{IsBelow, IsAbove}
@@ -12,14 +12,14 @@ use Rattle.ngc_arc_geometry.specs.ArcBand.{spread, IsInBand}
 use Rattle.ngc_arc_geometry.specs.ArcOrder.{Passes}
 use Rattle.ngc_arc_walk.specs.Placed.{placed, turned_by, first_axis, IsATurn}
 
--- a place so many quadrants on has not reached the ray of the end e, which lies so many quadrants
--- on
+-- the point s, `here` quadrants from the start, has not reached the ray of the end e, `last`
+-- quadrants from the start
 abbrev pub IsBeforeEnd : ℕ → ℕ → Spoke → Spoke → Type 0
 IsBeforeEnd here last s e = (here < last) ⊎ ((here ≡ last) × (s.y * e.x < s.x * e.y))
 
--- Moves of a wheel about the centre of an arc from b to e. Point 0 lies in the quadrant that is
--- begun quadrants on from that of b, and at or past the ray of b; e lies left quadrants on from
--- there; point n lies before the ray of e.
+-- The moves of a wheel about the centre of an arc from b to e. Point 0 is `begun` quadrants from b,
+-- at or past the ray of b. The end e is `left` quadrants from there. Point n is before the ray of
+-- e.
 pub record IsWalk (a : ArcShape) (g limit n : ℕ) (at : ℕ → Spoke) (quadrant : ℕ → ℕ) (b e : Spoke)
     (begun left : ℕ) : Type 0 where
   pub start : start_of a ≡ placed a b
@@ -36,10 +36,10 @@ pub record IsWalk (a : ArcShape) (g limit n : ℕ) (at : ℕ → Spoke) (quadran
   pub turn : IsATurn (begun + left) b.x b.y e.x e.y
   pub before_end : IsBeforeEnd (quadrant n) left (at n) e
 
--- A walk along the circle of radius r, which has eight steps and more and lies between the arc's
--- two radii. Where the start is on a half axis or the walk begins past the next one, it begins less
--- than a step behind that. It ends in the quadrant of the arc's end, or less than a step before
--- that.
+-- A walk along a circle of radius r, which is at least eight steps and between the arc's two radii.
+-- If the start is on a half axis, or the walk begins past the next one, it begins less than a step
+-- past that axis. It ends in the quadrant of the arc's end, or less than a step before that
+-- quadrant.
 pub record IsArcWalk (a : ArcShape) (g r n : ℕ) (at : ℕ → Spoke) (quadrant : ℕ → ℕ) (b e : Spoke)
     (begun left : ℕ) : Type 0 where
   pub step : 500 ≤ g
@@ -53,9 +53,9 @@ pub record IsArcWalk (a : ArcShape) (g r n : ℕ) (at : ℕ → Spoke) (quadrant
   pub beside : first_axis b.y ≤ begun → (at 0).y ≤ g
   pub ends : (quadrant n ≡ left) ⊎ ((quadrant n + 1 ≡ left) × ((at n).x < g))
 
--- points 0 to n follow the arc: within a step of its circles, in its sector, with no move that
--- turns back, and by each of its quadrant points in turn, within two steps and the difference of
--- its radii
+-- points 0 to n follow the arc: they are within a step of its circles and in its sector, no move
+-- turns back, and they pass each of its quadrant points in order, within two steps and the
+-- difference of its radii
 pub record Follows (a : ArcShape) (g n : ℕ) (at : ℕ → Spoke) : Type 0 where
   pub band : (k : ℕ) → k ≤ n → IsInBand a g (placed a (at k))
   pub sector : (k : ℕ) → k ≤ n → in_sector a (placed a (at k)) ≡ true

@@ -10,7 +10,7 @@ first_of p = p.u
 abbrev pub second_of : Point2 → ℤ
 second_of p = p.v
 
--- a point of the plane in that box, but for m on each side
+-- a point of the plane in that box, grown by m on each side
 pub record IsNearHull (a : ArcShape) (m : ℕ) (p : Point2) : Type 0 where
   pub low_u : (least first_of (start_of a) (other_points a) -ℤ pos m) ≤ℤ p.u
   pub high_u : p.u ≤ℤ (greatest first_of (start_of a) (other_points a) +ℤ pos m)

@@ -1,4 +1,4 @@
--- Where a wheel's points about an arc's centre lie in the arc's plane. Our own.
+-- The position of a wheel's points in the plane of the arc about whose centre it turns. Our own.
 use Rattle.std.specs.Prelude.{ℕ, zero, suc, ◌*◌, ◌<◌, ◌≤◌, neg_ℤ, List, [], ◌∷◌}
 use Rattle.ngc_fixed_length.specs.Places.{shifted}
 use Rattle.ngc_fixed_length.specs.declared.modes.Turn.{Turn}
@@ -10,7 +10,7 @@ use Rattle.ngc_wheel.specs.Quadrants.{following}
 use Rattle.ngc_wheel.specs.Around.{around}
 use Rattle.ngc_arc_geometry.specs.Shape.{ArcShape}
 
--- a clockwise arc is seen in the mirror
+-- a clockwise arc is mirrored
 abbrev pub mirrored : Turn → Point2 → Point2
 mirrored Counterclockwise d = d
 mirrored Clockwise d = record { u = d.u; v = neg_ℤ d.v }
@@ -19,13 +19,13 @@ mirrored Clockwise d = record { u = d.u; v = neg_ℤ d.v }
 abbrev pub placed : ArcShape → Spoke → Point2
 placed a s = shifted a.centre (mirrored a.turn (around s.quadrant s.x s.y))
 
--- n quadrants on
+-- the quadrant n further on
 abbrev pub turned_by : ℕ → Quadrant → Quadrant
 turned_by zero q = q
 turned_by (suc n) q = following (turned_by n q)
 
--- from (x, y) of some quadrant on to (z, w), n quadrants on, it is more than nothing and at most a
--- whole turn
+-- from (x, y) of some quadrant to (z, w), n quadrants further on, is more than nothing and at most
+-- a full turn
 abbrev pub IsATurn : ℕ → ℕ → ℕ → ℕ → ℕ → Type 0
 IsATurn zero x y z w = y * z < x * w
 IsATurn (suc zero) x y z w = Unit {0}
@@ -34,17 +34,17 @@ IsATurn (suc (suc (suc zero))) x y z w = Unit {0}
 IsATurn (suc (suc (suc (suc zero)))) x y z w = x * w ≤ y * z
 IsATurn (suc (suc (suc (suc (suc n))))) x y z w = ⊥
 
--- the point at radius r on the half axis where the quadrant n quadrants on begins
+-- the point at radius r on the half axis on which the quadrant n further on begins
 abbrev pub axis_spoke : Spoke → ℕ → ℕ → Spoke
 axis_spoke b r n = record { quadrant = turned_by n b.quadrant; x = r; y = 0 }
 
--- so many of these points, from the n-th on
+-- c of these points, from the n-th on
 abbrev pub axis_points : ArcShape → Spoke → ℕ → ℕ → ℕ → List Point2
 axis_points a b r n zero = []
 axis_points a b r n (suc c) = placed a (axis_spoke b r n) ∷ axis_points a b r (suc n) c
 
--- the first of the half axes that are at or past a point at y of its quadrant, counted from the one
--- that its quadrant begins with
+-- the first half axis at or past a point at y of its quadrant, counted from the one on which its
+-- quadrant begins
 abbrev pub first_axis : ℕ → ℕ
 first_axis zero = 0
 first_axis (suc y) = 1

@@ -1,4 +1,4 @@
--- The quadrant points of an arc, by the quadrants that it goes through. Our own.
+-- The quadrant points of an arc, from the quadrants through which it passes. Our own.
 use Rattle.std.specs.Prelude.{◌≡◌, ℕ, ◌+◌, ◌-◌, ◌<◌, min}
 use Rattle.ngc_wheel.specs.declared.spoke.Spoke.{Spoke}
 use Rattle.ngc_arc_geometry.specs.Shape.{ArcShape, start_of, end_of}
@@ -6,7 +6,7 @@ use Rattle.ngc_arc_geometry.specs.Radii.{outer_radius}
 use Rattle.ngc_arc_geometry.specs.Sector.{extremes}
 use Rattle.ngc_arc_walk.specs.Placed.{placed, turned_by, axis_points, first_axis, IsATurn}
 
--- an arc from b to e, so many quadrants on
+-- an arc from b to e, which is `whole` quadrants further on
 pub record IsRound (a : ArcShape) (b e : Spoke) (whole : ℕ) : Type 0 where
   pub start : start_of a ≡ placed a b
   pub end : end_of a ≡ placed a e
@@ -16,8 +16,8 @@ pub record IsRound (a : ArcShape) (b e : Spoke) (whole : ℕ) : Type 0 where
   pub turn : IsATurn whole b.x b.y e.x e.y
   pub some_radius : 0 < outer_radius a
 
--- its quadrant points are those from the first at or past its start to the last that its end is at
--- or past, four at most
+-- its quadrant points are those from the first at or past its start to the last at or before its
+-- end, at most four
 abbrev pub QuadrantPointsAre : Type 0
 QuadrantPointsAre = (a : ArcShape) (b e : Spoke) (whole : ℕ) → IsRound a b e whole →
     extremes a ≡ axis_points a b (outer_radius a) (first_axis b.y)

@@ -1,4 +1,4 @@
-//! How the walks of a wheel follow an arc.
+//! Laws about how the walks of a wheel follow an arc.
 #![tactic(auto)]
 
 pub mod laws;
