@@ -1,4 +1,4 @@
--- The way round an arc's centre: what its parts ask for.
+-- The path round an arc's centre: what its parts require.
 use Rattle.std.proofs.Common.{◌≡◌, ℕ, zero, suc, ◌+◌, ◌*◌, ◌/◌, ◌<◌, ◌≤◌, ℤ, pos, ◌+ℤ◌, ◌-ℤ◌, ◌*ℤ◌, unsigned_abs, inl, inr, refl, sym, ◌∙◌, ap, arith}
 use Rattle.std.specs.Prelude.{Bool, true, false, Option, Some, None}
 use Rattle.std.proofs.lemmas.Int.{ints}
@@ -36,7 +36,7 @@ joint_of g s r n c b p some round same mu mv hr hg =
     let way = is_way (way_from g c p) (way_from g c p) r g refl near hr hg in
     record { near = near; reach = record { u = way.u; v = way.v } }
 
--- what all points of a wheel keep that begins within two steps of the end's circle
+-- properties of all points of a wheel that begins within two steps of the end's circle
 pub record IsBegun (g r limit : ℕ) (c : Way) (p : Spot) (s : Spoke) : Type 0 where
   pub least : 500 ≤ g
   pub most : g ≤ 50000
@@ -77,7 +77,7 @@ begun_spots g r limit c p s b cu cv k =
     spots_on g limit (r + 2 * g) (place_of c) s p k b.least cu cv (limit_within g r limit c p s b) (room_within g r) (begun_below g r limit c p s b)
     (omega (arith, b.radius, b.most)) b.about
 
--- few moves lie between such a point and another that is within reach
+-- few moves are between such a point and another within reach
 from_there : (a c : ℤ) → a ≡ c +ℤ (a -ℤ c)
 from_there a c = omega (arith, ints)
 
@@ -107,7 +107,7 @@ reach_begun g r limit c p q s b reach =
     let v = axis_apart g q.v p.v c.v ((q.v *ℤ pos g) -ℤ c.v) (around s.quadrant s.x s.y).v b.least (from_there (q.v *ℤ pos g) c.v) b.about.v reach.v a.1 in
     omega (arith, u, v)
 
--- ---- how many quadrants are left
+-- ---- the number of remaining quadrants
 
 abbrev pub amount : Option ℕ → ℕ
 amount None = 0

@@ -1,4 +1,4 @@
--- A short arc, where no walk begins: by the joint straight to the end.
+-- A short arc, where no walk begins: through the joint straight to the end.
 use Rattle.std.proofs.Common.{◌≡◌, ℕ, zero, suc, ◌*◌, ◌<◌, ◌≤◌, ℤ, pos, ◌+ℤ◌, ◌-ℤ◌, ◌*ℤ◌, ◌≤ℤ◌, ◌⊎◌, inl, inr, refl, sym, ◌∙◌, ap, subst, arith}
 use Rattle.std.specs.Prelude.{Bool, true, false, Some, None, int_lt}
 use Rattle.std.proofs.lemmas.Int.{ints}
@@ -30,7 +30,7 @@ use Rattle.ngc_step_kernel.proofs.PlaneApart.{end_apart}
 use Rattle.ngc_step_kernel.proofs.RollsLemmas.{told_past}
 use Rattle.ngc_step_kernel.proofs.RoundWalk.{amount_of, few_quadrants, told_ahead}
 
--- ---- what it is that no walk begins
+-- ---- the conditions under which no walk begins
 
 none_of : (n : ℕ) (short before : Bool) → n ≤ 3 → quadrants_left n short before ≡ None → (short ≡ true) × (((n ≡ 0) × (before ≡ false)) ⊎ (n ≡ 3))
 none_of zero true true few h = absurd (omega (arith, amount_of (Some 0) None h))
@@ -75,7 +75,7 @@ is_reached a g begun b f e at few c none =
     let w = none_begun b e begun n few (either n (is_before f e) h.1) there ahead in
     (w.0, reached g b f e begun w.0 at w.2 w.3 w.1 (λ same. past_first f e n refl (w.2 ∙ ap (λ m. turned_by m b.quadrant) same ∙ sym at.begins) h.1))
 
--- ---- from ways to spots
+-- ---- from vectors to grid points
 
 way_apart : (c w j p : ℤ) (m : ℕ) → distance j w ≡ m → j ≡ p -ℤ c → distance (c +ℤ w) p ≡ m
 way_apart c w j p m h e = omega (arith, ints, h, e)

@@ -1,4 +1,4 @@
--- The same of what is known where the course is planned.
+-- The same, from what is known where the course is planned.
 use Rattle.std.proofs.Common.{◌≡◌, ℕ, ◌+◌, ◌-◌, ◌*◌, ◌/◌, ◌<◌, ◌≤◌, max, pos, inl, inr, sym, subst, arith}
 use Rattle.std.specs.Prelude.{None, int_lt}
 use Rattle.std.proofs.lemmas.Bool.{cases_lt}

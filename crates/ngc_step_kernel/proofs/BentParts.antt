@@ -1,4 +1,4 @@
--- A course by the joint straight to the end follows a short arc.
+-- A course through the joint straight to the end follows a short arc.
 use Rattle.std.proofs.Common.{◌≡◌, ℕ, ◌+◌, ◌-◌, ◌*◌, ◌/◌, ◌<◌, ◌≤◌, pos, ◌<ℤ◌, inl, inr, refl, sym, ◌∙◌, ap, subst, arith}
 use Rattle.std.specs.Prelude.{Bool, true, false, None, int_lt}
 use Rattle.std.proofs.lemmas.Bool.{cases_lt}
@@ -53,7 +53,7 @@ use Rattle.ngc_step_kernel.proofs.StraightParts.{last_by_end}
 use Rattle.ngc_step_kernel.proofs.TinyPoints.{small_leeway}
 use Rattle.ngc_step_kernel.proofs.Together.{together}
 
--- ---- the parts of the course, where the last one is by the end
+-- ---- the parts of the course, if the last one is near the end
 
 pub record HasTail (a : ArcShape) (g : ℕ) (joint to : Spot) : Type 0 where
   pub last : (k : ℕ) → IsByArc a g (leeway (pos g) a) (laid g a.turn (straight_at joint to k))
@@ -99,14 +99,14 @@ bent_follows a g from joint to p plan s part tail =
     (passes_along (λ k. laid g a.turn joint) (λ k. laid g a.turn (course_at p k)) (λ k. p.joined) 0 p.moves d 0 (extremes a)
     (λ k le. ap (λ (q : Spot). laid g a.turn q) here) (λ j k le. omega arith) (omega (arith, plan.moves, plan.rolled, plan.entered)) tail.order))
 
--- ---- the way from the joint to the end, where no walk begins
+-- ---- the vector from the joint to the end, if no walk begins
 
 pub record IsBentSetting (a : ArcShape) (g p r o : ℕ) (from to joint entry : Spot) (first last : Spoke) : Type 0 where
   pub setting : IsSetting a g p r o from to joint entry first last
   pub none : quadrants_left (quadrants_to first.quadrant last.quadrant) (int_lt (pos 0) (way_cross (view_of a).start (view_of a).end))
       (is_before first last) ≡ None
 
--- what the wheel's first point says of the joint
+-- the wheel's first point, and what follows for the joint
 pub record HasReached (a : ArcShape) (g p o v : ℕ) (joint : Spot) (b j first last : Spoke) : Type 0 where
   pub joint_is : HasJoint a g p o v joint b j
   pub begun : ℕ
@@ -159,7 +159,7 @@ free_joint g o v j high low =
     let t = some_slope j.x j.y in
     (t.0, record { high = high; low = low; flat = λ h wide. t.1.0 h; steep_but = λ h wide. (let k = t.1.1 h in omega (arith, k)) })
 
--- the quadrant point that the arc may have is beside the joint
+-- the quadrant point of the arc, if it has one, is near the joint
 joint_by_axis : (a : ArcShape) (g p o v limit : ℕ) (joint : Spot) (b j first last : Spoke) (h : HasReached a g p o v joint b j first last) →
     IsEnteredFrom g limit (view_of a).start (way_from g (view_of a).centre joint) j first →
     first_axis b.y ≤ h.whole → IsByAxis g (turned_by (first_axis b.y) b.quadrant) j
@@ -196,7 +196,7 @@ tail_order a g p o v limit joint b j first last h from end_way end_out some near
     (λ few. near (joint_by_axis a g p o v limit joint b j first last h from few)) in
     subst (λ (q : Point2). Passes (λ k. q) 0 d 0 (extremes a)) (sym same) at
 
--- ---- circles of eight steps and more
+-- ---- circles of at least eight steps
 
 large_way : (a : ArcShape) (g p q : ℕ) (joint : Spot) (b j first last : Spoke) (h : HasReached a g p (q + 1) (q + 1 - 4 * g / 5) joint b j first last) →
     500 ≤ g → 8 * g ≤ q + 1 →

@@ -101,7 +101,7 @@ straight_count from to p plan s =
     let e : straight_moves (last_of p) p.end ≡ straight_moves from to = rw (last, s.ends) refl in
     omega (arith, plan.moves, s.rolled, e)
 
--- the same points at other names
+-- the same points under other names
 pub follows_same : (a : ArcShape) (g m n : ℕ) (f h : ℕ → Point2) → m ≡ n → ((k : ℕ) → h k ≡ f k) → FollowsInPlane a g m f → FollowsInPlane a g n h
 follows_same a g m n f h count same z = subst (λ t. FollowsInPlane a g t h) count (record {
   near = λ k le. subst (λ (q : Point2). IsByArc a g (leeway (pos g) a) q) (sym (same k)) (z.near k le);
@@ -141,11 +141,11 @@ wide_told a g m t e told lacks =
 pub root_told : (n m r : ℕ) → n ≡ m → n ≤ r * r → ((t : ℕ) → n ≤ t * t → r ≤ t) → IsRootCeil m r
 root_told n m r e square least = record { square = omega (arith, e, square); least = λ t h. least t (omega (arith, e, h)) }
 
--- the radius of the start is some number and one
+-- the radius of the start is a number plus 1
 pub some_more : (s n : ℕ) → 0 < n → n ≤ s * s → s - 1 + 1 ≡ s
 some_more s n some h = let k = some_root n s some h in omega (arith, k)
 
--- the same of a view that is the arc's
+-- the same for the view of the arc
 pub record IsRoundGiven (a : ArcShape) (g s r o limit left : ℕ) (v : View) (from to joint entry : Spot) (first last : Spoke) (p : Plan) : Type 0 where
   pub arc : IsArc a
   pub least : 500 ≤ g

@@ -1,4 +1,4 @@
--- Where a course leads, place by place.
+-- The points of a course.
 use Rattle.std.proofs.Common.{◌≡◌, ℕ, suc, ◌+◌, ◌-◌, ◌<◌, ◌≤◌, min, inl, inr, ◌∙◌, ap, sym, arith, ℤ, pos, ◌+ℤ◌, ◌-ℤ◌, unsigned_abs, refl, to_z, of_z, w32}
 use Rattle.std.proofs.lemmas.Int.{ints, by_lt_z}
 use Rattle.std.proofs.lemmas.Bool.{cases_lt}
@@ -112,7 +112,7 @@ to_end p k s from = elim (cases_lt p.rolled k) [
       to_last p k s (omega (arith, s.rolled)) (omega arith) ∙ rw w (rw z (sym (straight_starts (last_of p) p.end))))
 ]
 
--- ---- first and last point, and how far out all are
+-- ---- the first and the last point, and the range of all points
 
 pub course_starts : (p : Plan) → course_at p 0 ≡ p.start
 course_starts p = to_joint p 0 (omega arith) ∙ straight_starts p.start p.joint
@@ -136,7 +136,7 @@ course_small p k s = elim (cases_lt k p.joined) [
   ]
 ]
 
--- ---- one move on
+-- ---- one more move
 
 pub on_to_joint : (p : Plan) (k : ℕ) → k < p.joined → course_at p (k + 1) ≡ spot_moved (course_at p k) (spot_towards (course_at p k) p.joint)
 on_to_joint p k h = rw (to_joint p k (omega arith), to_joint p (k + 1) (omega arith)) (straight_on p.start p.joint k)
@@ -158,7 +158,7 @@ on_to_end p k s from =
     let e : k + 1 - p.rolled ≡ k - p.rolled + 1 = omega arith in
     rw (to_end p k s from, to_end p (k + 1) s (omega arith), e) (straight_on (last_of p) p.end (k - p.rolled))
 
--- ---- what a course holds
+-- ---- the state of a course
 
 pub course_begins : (p : Plan) (w : Spoke) (pace rim : ℕ) → IsPlan p → w ≡ p.first → pace ≡ p.step → rim ≡ p.limit → IsCourseAt p 0 p.start w pace rim
 course_begins p w pace rim s first paces rims = record {

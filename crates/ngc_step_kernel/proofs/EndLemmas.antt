@@ -1,4 +1,4 @@
--- The ends of an arc on the grid, as the arc's plane sees them.
+-- The ends of an arc on the grid, in the arc's plane.
 use Rattle.std.proofs.Common.{◌≡◌, ℕ, ◌*◌, ◌<◌, ◌≤◌, ℤ, pos, negsuc, ◌+ℤ◌, ◌-ℤ◌, ◌*ℤ◌, neg_ℤ, unsigned_abs, refl, ap, subst, List, arith}
 use Rattle.std.proofs.lemmas.Int.{ints}
 use borrow.Author.Differences.{neg_is}
@@ -45,7 +45,7 @@ pub end_seen : (s : ℤ) (plane : Plane) (t : Turn) (c : Point2) (p : Point3) �
 end_seen (pos g) plane t c p step = nearest_seen g plane t c p (omega (arith, ints, step.least))
 end_seen (negsuc n) plane t c p step = absurd (omega (arith, ints, step.least))
 
--- it lies within reach of the centre
+-- it is within reach of the centre
 axis_reach : (c w p : ℤ) (g r : ℕ) → 2 * unsigned_abs ((c +ℤ w) -ℤ (p *ℤ pos g)) ≤ g → unsigned_abs w ≤ 2000020000 → g ≤ 50000 →
     unsigned_abs ((p *ℤ pos g) -ℤ c) ≤ 3000000000
 axis_reach c w p g r near small short = omega (arith, ints, near, small, short)
@@ -56,7 +56,7 @@ nearest_reach g c w p radius near short = record {
   v = axis_reach c.v w.v p.v g 0 near.v (second_side w 2000020000 radius.bound) short;
 }
 
--- seen from the plane and put back into space
+-- to the plane's coordinates and back
 turned_twice : (t : Turn) (z : ℤ) → turned t (turned t z) ≡ z
 turned_twice Counterclockwise z = refl
 turned_twice Clockwise z = let e = neg_is z in let f = neg_is (neg_ℤ z) in omega (arith, ints, e, f)

@@ -1,4 +1,4 @@
--- Where the wheel begins: about the centre, and how far out.
+-- The point at which the wheel begins: about the centre, and its distance from it.
 use Rattle.std.proofs.Common.{◌≡◌, ℕ, ◌+◌, ◌-◌, ◌*◌, ◌<◌, ◌≤◌, ℤ, pos, ◌+ℤ◌, ◌-ℤ◌, ◌*ℤ◌, ◌≤ℤ◌, ◌<ℤ◌, unsigned_abs, inl, inr, refl, arith, ap, sym, subst, ◌∙◌}
 use Rattle.std.specs.Prelude.{Bool}
 use Rattle.std.proofs.lemmas.Int.{ints}
@@ -36,7 +36,7 @@ about_joint g c p w s e h =
     let wv : w.v ≡ (p.v *ℤ pos g) -ℤ c.v = ap (λ (x : Way). x.v) e in
     record { u = omega (arith, ints, hu, wu); v = omega (arith, ints, hv, wv) }
 
--- a spoke's square is its way's
+-- a spoke's square is its vector's
 pub square_of_way : (w : Way) (s : Spoke) → around s.quadrant s.x s.y ≡ place_of w → square s.x s.y ≡ squared w
 square_of_way w s h = sym (square_around s.quadrant s.x s.y) ∙ ap (λ (q : Point2). unsigned_abs (dot q q)) h ∙ square_sum w.u w.v
 
@@ -46,7 +46,7 @@ near_joint n r g h = omega (arith, h)
 pub near_way : (w v : Way) (r g : ℕ) → w ≡ v → 12 * squared v ≤ 12 * (r * r) + 17 * (r * g) + 6 * (g * g) → squared w ≤ (r + g) * (r + g)
 near_way w v r g e h = rw e (near_joint (squared v) r g h)
 
--- the first point, and the place that it has about the centre
+-- the first point, and its position about the centre
 pub record IsJoined (g r : ℕ) (c : Way) (p : Spot) (w : Way) (s : Spoke) : Type 0 where
   pub about : IsAbout g (place_of c) p s
   pub near : square s.x s.y ≤ (r + g) * (r + g)
@@ -87,14 +87,14 @@ rolled_near g r s Over can near =
     let x = square_le (g - s.x) g (omega arith) in
     omega (arith, near, x)
 
--- the move that leads into the start's direction can be made
+-- the move to the start's direction is possible
 pub can_enter : (g limit : ℕ) (steep : Bool) (s : Spoke) (roll : Roll) → IsEntry g limit steep s roll → CanRoll g s roll
 can_enter g limit steep s Outward h = tt
 can_enter g limit steep s Diagonal h = h.0
 can_enter g limit steep s Inward h = h.1
 can_enter g limit steep s Over h = omega (arith, h)
 
--- and leads one step on
+-- and leads one step further
 one_on : (p : ℤ) (m : AxisMove) → distance p (p +ℤ steps_of m) ≤ 1
 one_on p Back = omega (arith, ints)
 one_on p Stay = omega (arith, ints)

@@ -1,4 +1,5 @@
--- What can always be found: a spoke for a way, an entry, the last place before an end, a moved grid place, a root.
+-- What always exists: a spoke for a vector, an entry, the last point before an end, a moved grid
+-- point, a root.
 use Rattle.std.proofs.Common.{◌≡◌, ◌⊎◌, ℕ, zero, suc, ◌+◌, ◌-◌, ◌*◌, ◌<◌, ◌≤◌, ℤ, pos, negsuc, ◌+ℤ◌, ◌*ℤ◌, unsigned_abs, inl, inr, refl, ap, arith}
 use Rattle.std.specs.Prelude.{Bool, true, false}
 use Rattle.std.proofs.lemmas.Bool.{cases_lt}
@@ -21,7 +22,7 @@ use Rattle.ngc_arc_walk.specs.ArcWalk.{IsBeforeEnd}
 use Rattle.ngc_step_kernel.specs.View.{IsMoved}
 use Rattle.ngc_step_kernel.proofs.ViewLemmas.{IsMovedSum, moved_sum, moved_small}
 
--- ---- the spoke of a way
+-- ---- the spoke of a vector
 
 abbrev spoke_of : Quadrant → ℕ → ℕ → Spoke
 spoke_of q x y = record { quadrant = q; x = x; y = y }
@@ -35,7 +36,7 @@ some_spoke (negsuc a) (pos zero) = (spoke_of Third (suc a) 0, refl, λ _. omega 
 some_spoke (negsuc a) (pos (suc b)) = (spoke_of Second (suc b) (suc a), refl, λ _. omega arith)
 some_spoke (negsuc a) (negsuc b) = (spoke_of Third (suc a) (suc b), refl, λ _. omega arith)
 
--- its coordinates are no larger than the way's
+-- its coordinates are at most the vector's
 sizes_of : (q : Quadrant) (x y : ℕ) (u v : ℤ) (n : ℕ) → around q x y ≡ record { u = u; v = v } →
     unsigned_abs u ≤ n → unsigned_abs v ≤ n → (x ≤ n) × (y ≤ n)
 sizes_of First x y u v n h hu hv =
@@ -81,7 +82,7 @@ some_entry g limit false first =
       ]
     ]
 
--- ---- the last place before the end
+-- ---- the last point before the end
 
 not_before : (here last : ℕ) (s e : Spoke) → (last < here) ⊎ ((here ≡ last) × (s.x * e.y ≤ s.y * e.x)) → IsBeforeEnd here last s e → ⊥
 not_before here last s e (inl past) (inl less) = omega (arith, past, less)
@@ -105,7 +106,8 @@ before_or_not here last s e =
 abbrev IsBeforeAt : ℕ → ℕ → ℕ → Spoke → Spoke → ℕ → Type 0
 IsBeforeAt g limit quadrants first e k = IsBeforeEnd (quadrant_at g limit first k) quadrants (spoke_at g limit first k) e
 
--- of the places 0 to n of a walk the last one, or the last one before a place that is not before the end
+-- among the points 0 to n of a walk, the last one, or the last one before a point that is not
+-- before the end
 record IsLastBefore (g limit quadrants : ℕ) (first e : Spoke) (n m : ℕ) : Type 0 where
   within : m ≤ n
   before : IsBeforeAt g limit quadrants first e m
@@ -137,7 +139,7 @@ some_rolls g limit quadrants first e begins n =
     let found = last_before g limit quadrants first e begins n in
     (found.0, found.1.within, found.1.before, found.1.after)
 
--- ---- the grid place nearest to where a way leads
+-- ---- the grid point nearest to the end of a vector
 
 pub some_moved : (g r o : ℕ) (c w : ℤ) → unsigned_abs c ≤ 93000000000 → unsigned_abs w ≤ r → 0 < r →
     r ≤ 2000020000 → o ≤ 2000020000 → 500 ≤ g → g ≤ 50000 → (p : ℤ) × IsMoved g r o c w p × (unsigned_abs p ≤ 200000000)
@@ -152,7 +154,7 @@ some_moved g r o c w centre way some radius other least most =
     let near : IsMoved g r o c w p = nearest_near x (r * g) (omega (arith, whole)) in
     (p, near, moved_small g r o c w x p some least most sum near)
 
--- ---- the least number whose square is not below another
+-- ---- the least number whose square is at least another number
 
 root_on : (x r : ℕ) → x ≤ r * r → ((s : ℕ) → x ≤ s * s → r ≤ s) → (q : ℕ) × (suc x ≤ q * q) × ((s : ℕ) → suc x ≤ s * s → q ≤ s)
 root_on x r above least =

@@ -1,5 +1,6 @@
--- The first straight part of an arc's course, from the grid point nearest to the arc's start to the joint, which is nearest to the start
--- moved along its ray from its radius s to the radius r: it keeps near the start, and near the circles.
+-- The first straight part of an arc's course leads from the grid point nearest to the arc's start
+-- to the joint. The joint is nearest to the start moved along its ray from its radius s to the
+-- radius r. This part stays near the start, and near the circles.
 use Rattle.std.proofs.Common.{◌≡◌, ℕ, suc, ◌+◌, ◌*◌, ◌<◌, ◌≤◌, ◌⊎◌, inl, inr, ℤ, pos, negsuc, ◌+ℤ◌, ◌-ℤ◌, ◌*ℤ◌, ◌≤ℤ◌, unsigned_abs, arith, ap, sym, ◌∙◌}
 use Rattle.std.proofs.lemmas.Int.{ints, unsigned_abs-mul}
 use Rattle.std.proofs.Math.Nat.{mul-le-mul_left}
@@ -10,7 +11,8 @@ use Rattle.ngc_step_kernel.proofs.JointLemmas.{scaled_place}
 use Rattle.ngc_step_kernel.proofs.LineLemmas.{scale-sum}
 use Rattle.ngc_step_kernel.proofs.StraightAxis.{IsOnWay, scaled_by, on_way}
 
--- ---- along one axis, all times s: S is the first place's way from the centre, J the joint's, X that of a place between them
+-- ---- along one axis, everything times s: S is the distance of the first point from the centre, J
+-- the joint's, X that of a point between them
 
 abbrev IsBetween : ℤ → ℤ → ℤ → Type 0
 IsBetween p q r = ((p ≤ℤ q) × (q ≤ℤ r)) ⊎ ((r ≤ℤ q) × (q ≤ℤ p))
@@ -39,7 +41,7 @@ not_away s r h g (pos n) S J X hr hh hs hj (inr w) = omega (arith, ints, mul-le-
 not_away s r h g (negsuc n) S J X hr hh hs hj (inl w) = omega (arith, ints, mul-le-mul_left (suc n) hr, mul-le-mul_left (suc n) hh, hs, hj, w.0, w.1)
 not_away s r h g (negsuc n) S J X hr hh hs hj (inr w) = omega (arith, ints, mul-le-mul_left (suc n) hr, mul-le-mul_left (suc n) hh, hs, hj, w.0, w.1)
 
--- ---- what that says of the places
+-- ---- the consequences for the points
 
 nearest_off : (g s : ℕ) (c b p : ℤ) → 2 * unsigned_abs ((c +ℤ b) -ℤ (p *ℤ pos g)) ≤ g →
     2 * unsigned_abs ((b *ℤ pos s) -ℤ (((p *ℤ pos g) -ℤ c) *ℤ pos s)) ≤ s * g
@@ -71,8 +73,9 @@ from_order : (s : ℕ) (c p q r : ℤ) → IsBetween p q r → IsBetween ((p -�
 from_order s c p q r (inl w) = inl (scaled_le s (p -ℤ c) (q -ℤ c) (omega (arith, ints, w.0)), scaled_le s (q -ℤ c) (r -ℤ c) (omega (arith, ints, w.1)))
 from_order s c p q r (inr w) = inr (scaled_le s (r -ℤ c) (q -ℤ c) (omega (arith, ints, w.0)), scaled_le s (q -ℤ c) (p -ℤ c) (omega (arith, ints, w.1)))
 
--- along one axis: x is how far a place of the first part is from the centre, b how far the start is, and y how far the place is from the
--- start; the radii s and r are between m and o, and differ by at most h
+-- along one axis: x is the distance from the centre to a point of the first part, b that to the
+-- start, and y the distance from the start to the point; the radii s and r are between m and o, and
+-- differ by at most h
 pub record IsFirstAxis (g s m o h x b y : ℕ) : Type 0 where
   pub up : 2 * (s * x) ≤ 2 * (o * b) + s * g
   pub down : 2 * (m * b) ≤ 2 * (s * x) + s * g

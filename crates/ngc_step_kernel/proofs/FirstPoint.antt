@@ -1,4 +1,4 @@
--- The wheel's first point: in the start's direction or ahead of it, and near the circle.
+-- The wheel's first point: at the start's direction or past it, and near the circle.
 use Rattle.std.proofs.Common.{ℕ, ◌+◌, ◌*◌, ◌≤◌, inl, inr, sym, subst, arith}
 use Rattle.std.proofs.lemmas.Int.{ints}
 use Rattle.ngc_wheel.specs.declared.spoke.Spoke.{Spoke}

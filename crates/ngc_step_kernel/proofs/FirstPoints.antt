@@ -1,4 +1,5 @@
--- The points of the first straight part of an arc's course: how near they are to the arc's start, and to its circles.
+-- The points of the first straight part of an arc's course: their distances from the arc's start,
+-- and from its circles.
 use Rattle.std.proofs.Common.{◌≡◌, ℕ, ◌+◌, ◌-◌, ◌*◌, ◌<◌, ◌≤◌, inl, inr, pos, ◌+ℤ◌, ◌-ℤ◌, ◌*ℤ◌, unsigned_abs, arith, ap, subst}
 use Rattle.std.proofs.lemmas.Bool.{cases_lt}
 use Rattle.std.proofs.Math.Nat.{mul-le-mul_left, le_of_mul-le-mul_left}
@@ -27,7 +28,8 @@ some_square s some = let a = square_le 1 s some in omega (arith, a)
 twice_square : (k : ℕ) → k * k + k * k ≤ (2 * k) * (2 * k)
 twice_square k = omega arith
 
--- sizes on both axes that are at most the part o/s of bu and bv, and half a step, add up to at most o and a step
+-- if the sizes on both axes are at most o/s times bu and bv, plus half a step, their length is at
+-- most o plus a step
 both_axes : (g s o bu bv yu yv : ℕ) → 0 < s → bu * bu + bv * bv ≤ s * s → 2 * (s * yu) ≤ 2 * (o * bu) + s * g → 2 * (s * yv) ≤ 2 * (o * bv) + s * g →
     yu * yu + yv * yv ≤ (o + g) * (o + g)
 both_axes g s o bu bv yu yv some round hu hv =
@@ -38,7 +40,8 @@ both_axes g s o bu bv yu yv some round hu hv =
     let d : ((2 * s) * (2 * s)) * (yu * yu + yv * yv) ≤ ((2 * s) * (2 * s)) * ((o + g) * (o + g)) = omega (arith, c) in
     le_of_mul-le-mul_left d (some_square s some)
 
--- sizes on both axes that are no less than the part (t + g)/(p + 1) of bu and bv, but for half a step, add up to at least t
+-- if the sizes on both axes are at least (t + g)/(p + 1) times bu and bv, less half a step, their
+-- length is at least t
 both_axes_far : (g p t bu bv xu xv : ℕ) → 4 ≤ g → t + g ≤ p + 1 → p * p ≤ bu * bu + bv * bv → 2 * ((t + g) * bu) ≤ 2 * ((p + 1) * xu) + (p + 1) * g →
     2 * ((t + g) * bv) ≤ 2 * ((p + 1) * xv) + (p + 1) * g →
     t * t ≤ xu * xu + xv * xv
@@ -82,8 +85,8 @@ ceil_low n s q root e =
       | inl less ↦ (let a = root.least q (omega (arith, less)) in absurd (omega (arith, a, e)))
     ]
 
--- p is the grid point nearest to the start, s the start's radius, rounded up, and j the joint at the radius r; both radii are between m and o,
--- and differ by at most h
+-- p is the grid point nearest to the start, s the start's radius, rounded up, and j the joint at
+-- the radius r; both radii are between m and o, and differ by at most h
 pub record IsFirstPart (a : ArcShape) (g s r m o h : ℕ) (p j : Spot) : Type 0 where
   pub step : 500 ≤ g
   pub radii : AreRadii s r m o h
@@ -102,7 +105,7 @@ along_v : (a : ArcShape) (g s r m o h : ℕ) (p j : Spot) (k : ℕ) → IsFirstP
     (distance ((view_of a).centre.v +ℤ (view_of a).start.v) (straight_place p.v j.v k *ℤ pos g))
 along_v a g s r m o h p j k f = first_axis_near g s r m o h (view_of a).centre.v (view_of a).start.v p.v j.v k f.radii f.nearest.v f.moved_v
 
--- each point is at most h and a step from the start
+-- each point is at most h plus a step from the start
 pub start_within : (a : ArcShape) (g s r m o h : ℕ) (p j : Spot) (k : ℕ) → IsFirstPart a g s r m o h p j →
     IsWithin (h + g) (start_of a) (laid g a.turn (straight_at p j k))
 start_within a g s r m o h p j k f =
@@ -113,7 +116,7 @@ start_within a g s r m o h p j k f =
     (distance ((view_of a).centre.v +ℤ (view_of a).start.v) (straight_place p.v j.v k *ℤ pos g)) f.radii.some f.root.square u.near v.near in
     omega (arith, n, start_apart a g (straight_at p j k))
 
--- no farther from the centre than o and a step
+-- at most o plus a step from the centre
 pub first_above : (a : ArcShape) (g s r m o h : ℕ) (p j : Spot) (k : ℕ) → IsFirstPart a g s r m o h p j →
     squared_distance a.centre (laid g a.turn (straight_at p j k)) ≤ (o + g) * (o + g)
 first_above a g s r m o h p j k f =
@@ -124,7 +127,7 @@ first_above a g s r m o h p j k f =
     (unsigned_abs ((straight_place p.v j.v k *ℤ pos g) -ℤ (view_of a).centre.v)) f.radii.some f.root.square u.up v.up in
     omega (arith, n, centre_apart a g (straight_at p j k))
 
--- and no nearer to it than m less a step
+-- and at least m less a step from it
 pub first_below : (a : ArcShape) (g s r m o h : ℕ) (p j : Spot) (k : ℕ) → IsFirstPart a g s r m o h p j →
     (m - g) * (m - g) ≤ squared_distance a.centre (laid g a.turn (straight_at p j k))
 first_below a g s r m o h p j k f =
@@ -138,7 +141,7 @@ first_below a g s r m o h p j k f =
     (unsigned_abs ((straight_place p.v j.v k *ℤ pos g) -ℤ (view_of a).centre.v)) (omega (arith, f.step)) e f.radii.m_s low u.down v.down in
     omega (arith, n, centre_apart a g (straight_at p j k))
 
--- ---- for an arc: the joint's radius r is between the arc's two, but for d
+-- ---- for an arc: the joint's radius r is between the arc's two, to within d
 
 pub first_part : (a : ArcShape) (g s r d : ℕ) (p j : Spot) → IsArc a → 500 ≤ g → IsRootCeil (squared (view_of a).start) s → inner_radius a ≤ r →
     r ≤ outer_radius a + d →
@@ -166,7 +169,7 @@ first_part a g s r d p j arc step root inside outside nearest moved_u moved_v =
       moved_v = moved_v;
     }
 
--- each point of the first part is by the start
+-- each point of the first part is near the start
 pub first_by_end : (a : ArcShape) (g s r d : ℕ) (p j : Spot) (k : ℕ) → IsFirstPart a g s r (inner_radius a) (outer_radius a + d) (spread a + d) p j →
     IsByAnEnd a (g + spread a + d) (laid g a.turn (straight_at p j k))
 first_by_end a g s r d p j k f =

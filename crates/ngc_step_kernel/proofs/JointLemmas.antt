@@ -1,4 +1,5 @@
--- The joint: how near it is to the circle of the end, and how few moves lie between points near the centre.
+-- The joint: its distance from the circle of the end, and the number of moves between points near
+-- the centre.
 use Rattle.std.proofs.Common.{◌≡◌, ℕ, suc, negsuc, neg_ℤ, ◌+◌, ◌*◌, ◌<◌, ◌≤◌, ℤ, pos, ◌+ℤ◌, ◌-ℤ◌, ◌*ℤ◌, unsigned_abs, arith, ap, sym, ◌∙◌}
 use Rattle.std.proofs.lemmas.Int.{ints, unsigned_abs-mul}
 use borrow.Author.Differences.{neg_is}

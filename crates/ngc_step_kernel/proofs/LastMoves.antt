@@ -24,7 +24,8 @@ use Rattle.ngc_step_kernel.proofs.StraightAxis.{scaled_by}
 use Rattle.ngc_step_kernel.proofs.StraightHull.{by_end_in_hull}
 use Rattle.ngc_step_kernel.proofs.StraightParts.{by_end_in_band}
 
--- ---- along one axis: after the first move a place is the last one, or at least a step from both ends
+-- ---- along one axis: after the first move a point is the last one, or at least a step from both
+-- ends
 
 abbrev IsInside : ℕ → ℤ → ℤ → ℤ → Type 0
 IsInside g p q r = (q ≡ r) ⊎ ((((p +ℤ pos g) ≤ℤ q) × ((q +ℤ pos g) ≤ℤ r)) ⊎ (((q +ℤ pos g) ≤ℤ p) × ((r +ℤ pos g) ≤ℤ q)))
@@ -66,13 +67,14 @@ inside_two g p q r e hp hr (inr (inr w)) = omega (arith, ints, hp, hr, w.0, w.1)
 
 -- ---- in the plane
 
--- less than 37/20 steps from where a way leads from the centre on both axes, and on one of them less than 3/2
+-- less than 37/20 steps from the end of a vector from the centre on both axes, and less than 3/2 on
+-- one of them
 pub record IsShortOf (g : ℕ) (c w : Way) (p : Spot) : Type 0 where
   pub u : 20 * distance (c.u +ℤ w.u) (p.u *ℤ pos g) < 37 * g
   pub v : 20 * distance (c.v +ℤ w.v) (p.v *ℤ pos g) < 37 * g
   pub one : (2 * distance (c.u +ℤ w.u) (p.u *ℤ pos g) < 3 * g) ⊎ (2 * distance (c.v +ℤ w.v) (p.v *ℤ pos g) < 3 * g)
 
--- so is each point less than 3/2 steps from there on both axes
+-- this holds for each point less than 3/2 steps from there on both axes
 pub beside_short : (g : ℕ) (c w : Way) (p : Spot) → 2 * distance (c.u +ℤ w.u) (p.u *ℤ pos g) < 3 * g → 2 * distance (c.v +ℤ w.v) (p.v *ℤ pos g) < 3 * g →
     IsShortOf g c w p
 beside_short g c w p hu hv = record { u = omega (arith, hu); v = omega (arith, hv); one = inl hu }
@@ -80,7 +82,8 @@ beside_short g c w p hu hv = record { u = omega (arith, hu); v = omega (arith, h
 under_a_step : (x y g : ℕ) → 20 * x ≤ 17 * g → 2 * y ≤ g → x * x + y * y ≤ g * g
 under_a_step x y g hx hy = let a = square_le (20 * x) (17 * g) hx in let b = square_le (2 * y) g hy in omega (arith, a, b)
 
--- after the first move from such a point l to the grid point e nearest to the end each point is at most a step from the end
+-- after the first move from such a point l to the grid point e nearest to the end, each point is at
+-- most a step from the end
 pub short_within : (a : ArcShape) (g : ℕ) (l e : Spot) (k : ℕ) → IsNearestSpot g (view_of a).centre (view_of a).end e →
     IsShortOf g (view_of a).centre (view_of a).end l →
     IsWithin g (end_of a) (laid g a.turn (straight_at l e (suc k)))
@@ -107,7 +110,7 @@ short_within a g l e k near short =
     ] in
     omega (arith, h, end_apart a g (straight_at l e (suc k)))
 
--- a point at most a step from an end is by the arc
+-- a point at most a step from an end is near the arc
 pub by_end_by_arc : (a : ArcShape) (g w : ℕ) (p : Spot) → IsArc a → g ≤ w → IsByAnEnd a g (laid g a.turn p) → IsByArc a g w (laid g a.turn p)
 by_end_by_arc a g w p arc wide by =
     let at = laid g a.turn p in
@@ -117,7 +120,7 @@ by_end_by_arc a g w p arc wide by =
       box = by_end_in_hull a (2 * g + spread a) at (by_end_more a g (2 * g + spread a) at (omega arith) by);
     }
 
--- where l is by the arc, all points are
+-- if l is near the arc, all points are
 pub short_by_arc : (a : ArcShape) (g w : ℕ) (l e : Spot) (k : ℕ) → IsArc a → g ≤ w → IsNearestSpot g (view_of a).centre (view_of a).end e →
     IsShortOf g (view_of a).centre (view_of a).end l → IsByArc a g w (laid g a.turn l) →
     IsByArc a g w (laid g a.turn (straight_at l e k))

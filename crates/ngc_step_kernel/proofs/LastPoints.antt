@@ -1,4 +1,5 @@
--- How far a grid point that a wheel comes to is from the arc's end: what their spokes about the centre say of the ways along the axes.
+-- The distance of a wheel's point on the grid from the arc's end, along each axis, from their
+-- spokes about the centre.
 use Rattle.std.proofs.Common.{◌≡◌, ℕ, suc, ◌+◌, ◌*◌, ◌<◌, ◌≤◌, ◌⊎◌, inl, inr, ℤ, pos, ◌+ℤ◌, ◌-ℤ◌, ◌*ℤ◌, neg_ℤ, unsigned_abs, arith, ap, sym, subst, ◌∙◌}
 use Rattle.std.proofs.lemmas.Int.{ints}
 use borrow.Author.Differences.{neg_is}
@@ -24,7 +25,8 @@ use Rattle.ngc_step_kernel.specs.View.{view_of, place_of}
 use Rattle.ngc_step_kernel.proofs.LastMoves.{IsShortOf, beside_short}
 use Rattle.ngc_step_kernel.proofs.PlaneApart.{end_apart}
 
--- ---- along the axes, from where a way leads from the centre to a grid point: m and n, in one order or the other
+-- ---- along the axes, from the end of a vector from the centre to a grid point: m and n, in either
+-- order
 
 abbrev pub IsOff : ℕ → Way → Way → Spot → ℕ → ℕ → Type 0
 IsOff g c w p m n =
@@ -34,14 +36,14 @@ IsOff g c w p m n =
 off_along : (c w z a : ℤ) (m : ℕ) → z ≡ c +ℤ a → unsigned_abs (a -ℤ w) ≡ m → distance (c +ℤ w) z ≡ m
 off_along c w z a m e h = omega (arith, ints, e, h)
 
--- ways that point the same way along an axis
+-- vectors in the same direction along an axis
 ahead_off : (x z : ℕ) → unsigned_abs (pos x -ℤ pos z) ≡ apart x z
 ahead_off x z = omega (arith, ints)
 
 back_off : (x z : ℕ) → unsigned_abs (neg_ℤ (pos x) -ℤ neg_ℤ (pos z)) ≡ apart x z
 back_off x z = omega (arith, ints, neg_is (pos x), neg_is (pos z))
 
--- and ways that point away from each other
+-- and vectors in opposite directions
 ahead_across : (x z : ℕ) → unsigned_abs (pos x -ℤ neg_ℤ (pos z)) ≡ x + z
 ahead_across x z = omega (arith, ints, neg_is (pos z))
 
@@ -96,7 +98,7 @@ next_off g c w p s e about end next =
     off_of g c w p s (around (following s.quadrant) e.x e.y) (s.x + e.y) (apart s.y e.x) about (ap (λ (q : Quadrant). around q e.x e.y) (sym next) ∙ end)
     (around_next s.quadrant s.x s.y e.x e.y)
 
--- ---- less than one and a half steps off on both axes, or fifteen squares of a step
+-- ---- less than one and a half steps on both axes, or fifteen squares of a step
 
 pub off_short : (g : ℕ) (c w : Way) (p : Spot) (m n : ℕ) → IsOff g c w p m n → 2 * m < 3 * g → 2 * n < 3 * g → IsShortOf g c w p
 off_short g c w p m n (inl off) hm hn = beside_short g c w p (omega (arith, off.0, hm)) (omega (arith, off.1, hn))

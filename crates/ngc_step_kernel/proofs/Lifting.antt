@@ -1,4 +1,4 @@
--- A course that follows an arc in its plane gives, lifted to three axes, a path that follows the arc.
+-- A course that follows an arc in its plane, lifted to three axes, is a path that follows the arc.
 use Rattle.std.proofs.Common.{◌≡◌, ℕ, zero, suc, ◌+◌, ◌-◌, ◌*◌, ◌/◌, ◌%◌, ◌<◌, ◌≤◌, max, ◌⊎◌, inl, inr, refl, sym, ◌∙◌, ap, subst, arith, ℤ, pos, negsuc, ◌*ℤ◌}
 use Rattle.std.proofs.Common.{◌≤ℤ◌, unsigned_abs, List}
 use Rattle.std.proofs.lemmas.Bool.{cases_lt}
@@ -41,7 +41,7 @@ use Rattle.ngc_step_kernel.proofs.RoundLemmas.{point-round}
 use Rattle.ngc_step_kernel.proofs.Sharing.{steps, steps-zero, steps-next, steps-within}
 use Rattle.ngc_step_kernel.proofs.UnitMoves.{stay_or_go}
 
--- ---- where a point is seen, and how high it is
+-- ---- a point's coordinates in the plane, and its height
 
 seen_in : (plane : Plane) (t : Turn) (g : ℕ) (q : Spot) (h : ℤ) → in_plane plane (in_nanometres (pos g) (in_space plane t q h)) ≡ laid g t q
 seen_in XY t g q h = ap (λ (v : ℤ). record { u = q.u *ℤ pos g; v = v }) (turned_times t q.v g)
@@ -54,7 +54,7 @@ high_in XY t q h = refl
 high_in ZX t q h = refl
 high_in YZ t q h = refl
 
--- the course's place after k of n moves, in nanometres
+-- the course's point j, in nanometres
 abbrev laid_at : ℕ → Turn → Plan → ℕ → Point2
 laid_at g t p j = laid g t (course_at p j)
 
@@ -70,7 +70,7 @@ high_round a p n low high k le =
     ap (λ (q : StepPos). height_of a q) (point-round a.plane a.turn p n low high k le)
     ∙ high_in a.plane a.turn (course_at p (course_place n p k)) (line_place n k low high)
 
--- ---- no move of the path turns back where none of the course does
+-- ---- no move of the path turns back if none of the course does
 
 cross_self : (d : Point2) → cross d d ≡ pos 0
 cross_self d = omega (arith, ints, *ℤ_comm d.u d.v)
@@ -89,7 +89,7 @@ goes_on a d n f i j on room (inr next) = rw next (on i (omega (arith, next, room
 
 -- ---- the quadrant points are passed in the same order
 
--- the first place of the path at which the course is at place j
+-- the first point of the path at which the course is at point j
 abbrev first_place : ℕ → ℕ → ℕ → ℕ
 first_place n m j = (2 * (j * n) + 2 * m - (n + 1)) / (2 * m)
 

@@ -1,4 +1,4 @@
--- The wheel's points on the grid: where they are about the centre, and how far out.
+-- The wheel's points on the grid: their positions about the centre, and their distances from it.
 use Rattle.std.proofs.Common.{◌≡◌, ℕ, zero, suc, ◌+◌, ◌*◌, ◌≤◌, arith, ℤ, pos, negsuc, ◌+ℤ◌, ◌-ℤ◌, ◌*ℤ◌, neg_ℤ, unsigned_abs}
 use Rattle.std.proofs.lemmas.Int.{ints}
 use Rattle.std.proofs.Math.Nat.{mul-le-mul_left}
@@ -38,7 +38,7 @@ small_on g limit u s k more room first far =
     let near = within_reach g u (spoke_at g limit s k) (below_on g limit u s k more room first) in
     record { x = omega (arith, near.0); y = omega (arith, near.1) }
 
--- ---- where the grid point of each is
+-- ---- the grid point of each
 
 abbrev scaled : AxisMove → ℕ → ℤ
 scaled Back g = neg_ℤ (pos g)
@@ -105,7 +105,7 @@ about_on g limit c s p (suc k) first =
     about_rolls g c (round_at g limit s p k) w.quadrant w.x w.y (next_roll g limit w) (about_on g limit c s p k first)
     (can_of g limit w (next_roll g limit w) (next_is_due g limit w))
 
--- ---- and how far out
+-- ---- its distance from the centre
 
 place_small : (a : ℤ) (g b : ℕ) → 500 ≤ g → unsigned_abs (a *ℤ pos g) ≤ b → 500 * unsigned_abs a ≤ b
 place_small (pos n) g b h e = omega (arith, ints, mul-le-mul_left n h, e)
@@ -134,7 +134,7 @@ pub spots_on : (g limit u : ℕ) (c : Point2) (s : Spoke) (p : Spot) (k : ℕ) �
 spots_on g limit u c s p k step cu cv more room first far about =
     about_small g c (round_at g limit s p k) (spoke_at g limit s k) step cu cv (about_on g limit c s p k about) (small_on g limit u s k more room first far)
 
--- ---- how many moves there are between two of them
+-- ---- the number of moves between two of them
 
 pub axis_apart : (g : ℕ) (p q c a b : ℤ) → 500 ≤ g → (p *ℤ pos g) ≡ c +ℤ a → (q *ℤ pos g) ≡ c +ℤ b → unsigned_abs a ≤ 3000000000 → unsigned_abs b ≤ 3000000000 →
     distance p q ≤ 12000000

@@ -1,4 +1,5 @@
--- The quadrant points of an arc are at its outer radius, so that a path with a place near to all that is there passes them in order.
+-- The quadrant points of an arc are at its outer radius, so a path with a point near everything
+-- there passes them in order.
 use Rattle.std.proofs.Common.{◌≡◌, ℕ, zero, suc, ◌+◌, ◌*◌, ◌≤◌, Bool, true, false, cond, filter, take, drop, ◌++◌, List, [], ◌∷◌, ℤ, pos, ◌+ℤ◌, ◌-ℤ◌}
 use Rattle.std.proofs.Common.{unsigned_abs, arith, refl}
 use Rattle.std.proofs.lemmas.Int.{ints}
@@ -77,7 +78,7 @@ inside_quadrants Clockwise c r = (
   ),
 )
 
--- the quadrant points of an arc are no farther out than its outer radius
+-- the quadrant points of an arc are at most its outer radius from the centre
 pub extremes_inside : (a : ArcShape) → AreInside a.centre (outer_radius a) (extremes a)
 extremes_inside a =
     let ps = quadrant_points a.turn a.centre (pos (outer_radius a)) in
@@ -87,7 +88,7 @@ extremes_inside a =
     (inside_both a.centre (outer_radius a) (drop n ps) (take n ps) (inside_dropped a.centre (outer_radius a) n ps all)
     (inside_taken a.centre (outer_radius a) n ps all))
 
--- a path with a place near to all points inside passes them
+-- a path with a point near all points inside passes them
 pub passes_at : (at : ℕ → Point2) (n d i k : ℕ) (c : Point2) (r : ℕ) (qs : List Point2) → i ≤ k → k ≤ n →
     ((x : Point2) → squared_distance c x ≤ r * r → IsWithin d (at k) x) → AreInside c r qs → Passes at n d i qs
 passes_at at n d i k c r [] from to near all = tt

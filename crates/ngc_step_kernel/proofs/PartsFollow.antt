@@ -34,7 +34,7 @@ pub by_end_more : (a : ArcShape) (d m : ℕ) (p : Point2) → d ≤ m → IsByAn
 by_end_more a d m p le (inl near) = inl (within_more d m (start_of a) p le near)
 by_end_more a d m p le (inr near) = inr (within_more d m (end_of a) p le near)
 
--- ---- how many moves a straight part has
+-- ---- the number of moves of a straight part
 
 gap_scaled : (g : ℕ) (a b : ℤ) → distance a b * g ≡ unsigned_abs ((b *ℤ pos g) -ℤ (a *ℤ pos g))
 gap_scaled g a b =
@@ -75,13 +75,13 @@ first_by_arc a g s r d w p j k f less wide =
       box = by_end_in_hull a (2 * g + spread a) at (by_end_more a (g + spread a + d) (2 * g + spread a) at (omega (arith, less)) by);
     }
 
--- no move from a point of it turns back, as that is by the start
+-- no move from one of its points turns back, because the point is near the start
 pub first_goes_on : (a : ArcShape) (g s r d : ℕ) (p j : Spot) (k : ℕ) (q : Point2) →
     IsFirstPart a g s r (inner_radius a) (outer_radius a + d) (spread a + d) p j → d ≤ g → GoesOn a (4 * g + spread a) (laid g a.turn (straight_at p j k)) q
 first_goes_on a g s r d p j k q f less =
     inr (inl (by_end_more a (g + spread a + d) (4 * g + spread a) (laid g a.turn (straight_at p j k)) (omega (arith, less)) (first_by_end a g s r d p j k f)))
 
--- its moves make at most two steps, the difference of the radii and d
+-- its moves cover at most two steps, the difference of the radii and d
 pub first_short : (a : ArcShape) (g s r d : ℕ) (p j : Spot) → IsFirstPart a g s r (inner_radius a) (outer_radius a + d) (spread a + d) p j →
     straight_moves p j * g ≤ 2 * g + spread a + d
 first_short a g s r d p j f =
@@ -116,7 +116,7 @@ pub last_goes_on : (a : ArcShape) (g : ℕ) (l e : Spot) (k : ℕ) (q : Point2) 
     squared_distance (end_of a) (laid g a.turn l) ≤ 15 * (g * g) → GoesOn a (4 * g + spread a) (laid g a.turn (straight_at l e k)) q
 last_goes_on a g l e k q near first = inr (inl (last_by_end a g l e k near first))
 
--- its moves make at most five steps
+-- its moves cover at most five steps
 pub last_short : (a : ArcShape) (g : ℕ) (l e : Spot) → IsNearestSpot g (view_of a).centre (view_of a).end e →
     squared_distance (end_of a) (laid g a.turn l) ≤ 15 * (g * g) → straight_moves l e * g ≤ 5 * g
 last_short a g l e near first =

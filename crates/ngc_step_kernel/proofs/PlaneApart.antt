@@ -1,4 +1,5 @@
--- How far points of an arc's plane are apart, also as the arc's view has them, and the triangle's inequality in squares.
+-- The distances between points of an arc's plane, also in the arc's view, and the triangle
+-- inequality in squares.
 use Rattle.std.proofs.Common.{◌≡◌, ℕ, ◌+◌, ◌-◌, ◌*◌, ◌≤◌, inl, inr, ℤ, pos, ◌+ℤ◌, ◌-ℤ◌, ◌*ℤ◌, unsigned_abs, arith, ap, refl, ◌∙◌}
 use Rattle.std.proofs.lemmas.Bool.{cases_lt}
 use Rattle.std.proofs.lemmas.Int.{ints}
@@ -18,7 +19,7 @@ use Rattle.ngc_step_kernel.specs.PlaneCourse.{laid}
 use Rattle.ngc_step_kernel.specs.Round.{turned}
 use Rattle.ngc_step_kernel.specs.View.{squared, view_of, way_between, way_from}
 
--- the squared distance of a grid place from where a way leads from the centre
+-- the squared distance from the end of a vector from the centre to a grid point
 abbrev pub apart_squared : ℕ → Way → Way → Spot → ℕ
 apart_squared g c w p =
     distance (c.u +ℤ w.u) (p.u *ℤ pos g) * distance (c.u +ℤ w.u) (p.u *ℤ pos g) + distance (c.v +ℤ w.v) (p.v *ℤ pos g) * distance (c.v +ℤ w.v) (p.v *ℤ pos g)
@@ -45,7 +46,7 @@ point_apart g t c q p =
     two_squares (x -ℤ q.u) (turned t y -ℤ q.v) (distance (c.u +ℤ (q.u -ℤ c.u)) x) (distance (turned t c.v +ℤ turned t (q.v -ℤ c.v)) y) (straight_off c.u q.u x)
     (turned_off t c.v q.v y)
 
--- from the arc's start to a grid place, from its end, and from its centre
+-- from the arc's start to a grid point, from its end, and from its centre
 pub start_apart : (a : ArcShape) (g : ℕ) (p : Spot) → squared_distance (start_of a) (laid g a.turn p) ≡ apart_squared g (view_of a).centre (view_of a).start p
 start_apart a g p = point_apart g a.turn a.centre (start_of a) p
 
@@ -59,7 +60,7 @@ centre_apart a g p =
     two_squares (x -ℤ a.centre.u) (turned a.turn y -ℤ a.centre.v) (unsigned_abs (x -ℤ a.centre.u)) (unsigned_abs (y -ℤ turned a.turn a.centre.v)) refl
     (turned_from a.turn a.centre.v y)
 
--- ---- the triangle's inequality, for numbers
+-- ---- the triangle inequality, for numbers
 
 crossed : (p q x y m d : ℕ) → p * p + q * q ≤ m * m → x * x + y * y ≤ d * d → p * x + q * y ≤ m * d
 crossed p q x y m d hm hd =
@@ -67,7 +68,8 @@ crossed p q x y m d hm hd =
     let b = mul-le (p * p + q * q) (x * x + y * y) (m * m) (d * d) hm hd in
     from_squares (p * x + q * y) (m * d) (omega (arith, a, b))
 
--- a way that is no longer on each axis than two together is no longer than they are
+-- a vector that is at most the sum of two others on each axis is at most as long as the two
+-- together
 pub sides_above : (p q x y u v m d : ℕ) → u ≤ p + x → v ≤ q + y → p * p + q * q ≤ m * m → x * x + y * y ≤ d * d → u * u + v * v ≤ (m + d) * (m + d)
 sides_above p q x y u v m d hu hv hm hd =
     let a = square_le u (p + x) hu in
@@ -75,7 +77,8 @@ sides_above p q x y u v m d hu hv hm hd =
     let c = crossed p q x y m d hm hd in
     omega (arith, a, b, c, hm, hd)
 
--- and one that together with another is no shorter on each axis than a third is at least as long as their difference
+-- if a vector plus another is at least a third on each axis, it is at least as long as the
+-- difference of their lengths
 pub sides_below : (p q x y u v m d : ℕ) → p ≤ u + x → q ≤ v + y → m * m ≤ p * p + q * q → x * x + y * y ≤ d * d → (m - d) * (m - d) ≤ u * u + v * v
 sides_below p q x y u v m d hp hq hm hd =
     elim (cases_lt (u * u + v * v) ((m - d) * (m - d))) [

@@ -1,4 +1,4 @@
--- A walk that stops where the end's direction is reached.
+-- A walk that stops when it reaches the end's direction.
 use Rattle.std.proofs.Common.{◌≡◌, ℕ, suc, ◌+◌, ◌-◌, ◌*◌, ◌<◌, ◌≤◌, inl, inr, sym, ◌∙◌, ap, subst, arith}
 use Rattle.std.specs.Prelude.{true, false, Some, None}
 use Rattle.std.proofs.lemmas.Bool.{cases_lt}
@@ -12,7 +12,8 @@ use Rattle.ngc_wheel.proofs.Wheeling.{next_quadrant, first_quadrant, first_spoke
 use Rattle.ngc_arc_walk.specs.ArcWalk.{IsBeforeEnd}
 use Rattle.ngc_step_kernel.specs.Left.{IsLeftAfter}
 
--- what is known of a walk's place: how many quadrants are left, and that it is before the end
+-- what is known of a point of a walk: the number of remaining quadrants, and that it is before the
+-- end
 pub record IsBefore (g limit : ℕ) (s e : Spoke) (quadrants left k : ℕ) : Type 0 where
   pub count : left + quadrant_at g limit s k ≡ quadrants
   pub before : IsBeforeEnd (quadrant_at g limit s k) quadrants (spoke_at g limit s k) e
@@ -59,7 +60,7 @@ told_past s e h = elim (cases_lt (s.y * e.x) (s.x * e.y)) [
   | inl less ↦ absurd (grind (arith, h, less))
 ]
 
--- one move on
+-- one more move
 pub before_on : (g limit : ℕ) (s e w v : Spoke) (r : Roll) (quadrants left m k pace rim : ℕ) → IsBefore g limit s e quadrants left k → pace ≡ g → rim ≡ limit →
     w ≡ spoke_at g limit s k → IsRoll pace rim w r →
     v ≡ spoke_at g limit s (k + 1) → IsLeftAfter left r v e (Some m) → IsBefore g limit s e quadrants m (k + 1)

@@ -1,4 +1,4 @@
--- A course that goes round with a wheel follows its arc.
+-- A course that turns with a wheel follows its arc.
 use Rattle.std.proofs.Common.{◌≡◌, ℕ, ◌+◌, ◌-◌, ◌*◌, ◌≤◌, pos, sym, ◌∙◌, ap, subst, arith}
 use Rattle.std.proofs.Math.Nat.{mul-le-mul_left}
 use Rattle.ngc_fixed_length.specs.declared.points.Point2.{Point2}
@@ -28,7 +28,7 @@ use Rattle.ngc_step_kernel.proofs.RoundParts.{laid_placed}
 use Rattle.ngc_step_kernel.proofs.Settings.{IsSetting, sizes}
 use Rattle.ngc_step_kernel.proofs.Together.{HasParts, passes_round}
 
--- the wheel's points in the plane are the spokes' places
+-- the wheel's points in the plane are the spokes' positions
 pub rounded_is : (g limit left : ℕ) (from joint entry to : Spot) (first last : Spoke) (p : Plan) (k : ℕ) →
     IsRoundPlan from joint entry to first last left g limit p → rounded p k ≡ round_at g limit first entry k
 rounded_is g limit left from joint entry to first last p k h =
@@ -61,7 +61,7 @@ has_first a g p r o d from to joint entry first last s out small wide =
       short = (let h = first_short a g (p + 1) o d from joint part in omega (arith, h, small));
     }
 
--- ---- all parts, where the wheel's keep to the arc and the last is by the end
+-- ---- all parts, if the wheel's follow the arc and the last is near the end
 
 pub record HasRest (a : ArcShape) (g limit m left : ℕ) (to : Spot) (first : Spoke) (p : Plan) : Type 0 where
   pub keeps : Keeps a g m (spoke_at g limit first)

@@ -1,4 +1,4 @@
--- The wheel's part of a course keeps to the arc.
+-- The wheel's part of a course follows the arc.
 use Rattle.std.proofs.Common.{◌≡◌, ℕ, suc, ◌+◌, ◌-◌, ◌*◌, ◌/◌, ◌<◌, ◌≤◌, ℤ, pos, ◌+ℤ◌, ◌*ℤ◌, inl, inr, sym, ◌∙◌, ap, subst, arith}
 use Rattle.std.specs.Prelude.{Some, int_lt}
 use Rattle.std.proofs.lemmas.Bool.{cases_lt}
@@ -47,7 +47,7 @@ use Rattle.ngc_step_kernel.proofs.StraightParts.{inner_root, outer_root}
 use Rattle.ngc_step_kernel.proofs.ViewLemmas.{squared_is}
 use Rattle.ngc_arc_walk.proofs.Passing.{at_most_one}
 
--- ---- where a wheel's point lies in the plane
+-- ---- the position of a wheel's point in the plane
 
 laid_turned : (t : Turn) (c : Point2) (p : Spot) (g : ℕ) (d : Point2) → p.v *ℤ pos g ≡ turned t c.v +ℤ d.v → turned t (p.v *ℤ pos g) ≡ c.v +ℤ (mirrored t d).v
 laid_turned Counterclockwise c p g d h = h
@@ -90,7 +90,7 @@ few_of a g u limit m at quadrant b e begun left w step bound room first small =
     let k = mul-le-mul_left m step in
     omega (arith, h, k, small)
 
--- its last point, and the move that is due there
+-- its last point, and the move that follows there
 pub last_roll : (g limit m left : ℕ) (first last : Spoke) → IsBeforeEnd (quadrant_at g limit first m) left (spoke_at g limit first m) last →
     (IsBeforeEnd (quadrant_at g limit first (m + 1)) left (spoke_at g limit first (m + 1)) last → ⊥) →
     IsLast g limit (spoke_at g limit first m) last (next_roll g limit (spoke_at g limit first m)) (quadrant_at g limit first m) left
@@ -158,7 +158,7 @@ end_of_ray a x y n root same ceil low high some =
 
 -- ---- the clauses
 
--- the walk round, with its start b and how many quadrants on it begins
+-- the walk round the centre, with its start b and the number of quadrants at which it begins
 pub record IsRoundWalk (a : ArcShape) (g limit begun left m : ℕ) (b first last : Spoke) : Type 0 where
   pub walk : IsWalk a g limit m (spoke_at g limit first) (quadrant_at g limit first) b last begun left
   pub soon : begun ≤ first_axis b.y

@@ -1,4 +1,4 @@
--- The wheel's way round with an arc is a walk from the start's ray to the end's.
+-- The wheel's part of an arc's course is a walk from the start's ray to the end's.
 use Rattle.std.proofs.Common.{◌≡◌, ℕ, zero, suc, ◌+◌, ◌*◌, ◌<◌, ◌≤◌, ℤ, pos, ◌≤ℤ◌, inl, inr, refl, sym, ◌∙◌, ap, subst, arith}
 use Rattle.std.specs.Prelude.{Bool, true, false, Option, Some, None, int_lt}
 use Rattle.std.proofs.lemmas.Int.{ints}
@@ -25,7 +25,7 @@ use Rattle.ngc_step_kernel.specs.View.{view_of, way_between, place_of, quadrants
 use Rattle.ngc_step_kernel.proofs.AroundLemmas.{amount}
 use Rattle.ngc_step_kernel.proofs.Settings.{cross_told}
 
--- ---- the end's place by the count of the code
+-- ---- the end's position from the number that the code computes
 
 pub told_ahead : (z : ℤ) → true ≡ int_lt (pos 0) z → pos 1 ≤ℤ z
 told_ahead z h = grind (arith, ints, h)

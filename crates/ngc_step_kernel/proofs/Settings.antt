@@ -1,4 +1,4 @@
--- Where a wheel begins that goes round with an arc.
+-- The point at which the wheel of an arc begins.
 use Rattle.std.proofs.Common.{◌≡◌, ℕ, ◌+◌, ◌*◌, ◌/◌, ◌<◌, ◌≤◌, max, ℤ, pos, ◌+ℤ◌, ◌-ℤ◌, ◌*ℤ◌, ◌<ℤ◌, neg_ℤ, unsigned_abs, inl, inr, refl, sym, ◌∙◌, ap, arith}
 use Rattle.std.specs.Prelude.{Bool, true, false, nat_lt}
 use Rattle.std.proofs.lemmas.Bool.{cases_lt}
@@ -34,8 +34,8 @@ use Rattle.ngc_step_kernel.proofs.LineLemmas.{scale-sum}
 use Rattle.ngc_step_kernel.proofs.StraightParts.{start_between, end_between}
 use Rattle.ngc_step_kernel.proofs.ViewLemmas.{squared_is}
 
--- an arc that is no tiny one, the radii of its start and end, p + 1 and r, and of the wheel's circle, o; the grid points of start, end
--- and joint, and the wheel's first point
+-- an arc that is not tiny, the radii of its start and end, p + 1 and r, and of the wheel's circle,
+-- o; the grid points of start, end and joint, and the wheel's first point
 pub record IsSetting (a : ArcShape) (g p r o : ℕ) (from to joint entry : Spot) (first last : Spoke) : Type 0 where
   pub least : 500 ≤ g
   pub most : g ≤ 50000
@@ -102,14 +102,14 @@ moved_to g s r c b p near =
     let e : p *ℤ pos (s * g) ≡ (j *ℤ pos s) +ℤ (c *ℤ pos s) = scaled_place g s p ∙ sym (ap (λ z. z *ℤ pos s) whole) ∙ scale-sum s j c in
     omega (arith, ints, near, e)
 
--- the start's way as a spoke, rounded
+-- the start's vector as a spoke, rounded
 root_below : (n p : ℕ) → IsRootCeil n (p + 1) → p * p ≤ n
 root_below n p root = elim (cases_lt n (p * p)) [
   | inr fine ↦ fine
   | inl less ↦ (let h = root.least p (omega (arith, less)) in absurd (omega (arith, h)))
 ]
 
--- the joint's point about the centre, near the circle; the start's way is b's
+-- the joint's point about the centre, near the circle; the start's vector is b's
 pub record HasJoint (a : ArcShape) (g p o v : ℕ) (joint : Spot) (b j : Spoke) : Type 0 where
   pub start_way : way_to b ≡ place_of (view_of a).start
   pub joint_way : way_to j ≡ place_of (way_from g (view_of a).centre joint)
@@ -117,7 +117,7 @@ pub record HasJoint (a : ArcShape) (g p o v : ℕ) (joint : Spot) (b j : Spoke) 
   pub high : 12 * square j.x j.y ≤ 12 * (o * o) + 17 * (o * g) + 6 * (g * g)
   pub low : v * v ≤ square j.x j.y
 
--- by how much the wheel's lower bound is less than the circle's radius
+-- the difference between the circle's radius and the wheel's lower bound
 pub record IsInside (g o m v : ℕ) : Type 0 where
   pub low : 4 * g ≤ 5 * m + 4
   pub high : 5 * m ≤ 4 * g
@@ -209,7 +209,8 @@ steep_told b j w at same = told_steep (is_steep j.quadrant w) b.x b.y (ap (λ (q
 pub cross_told : (b j : Spoke) (s w : Way) → way_to b ≡ place_of s → way_to j ≡ place_of w → cross (way_to b) (way_to j) ≡ way_cross s w
 cross_told b j s w hb hj = ap (λ (q : Point2). cross q (way_to j)) hb ∙ ap (λ (q : Point2). cross (place_of s) q) hj
 
--- where the joint is behind, it is no less flat or steep than the start but for a step
+-- if the joint is before the start's direction, it is as flat or steep as the start, to within a
+-- step
 pub near_joint : (a : ArcShape) (g p o v : ℕ) (joint : Spot) (b j : Spoke) → HasJoint a g p o v joint b j → cross (way_to b) (way_to j) <ℤ pos 0 →
     IsNearJoint g o v (is_steep j.quadrant (view_of a).start) j
 near_joint a g p o v joint b j h behind =

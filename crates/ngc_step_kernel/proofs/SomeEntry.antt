@@ -1,4 +1,4 @@
--- A joint for an arc's start and an entry beside it can always be found.
+-- A joint for an arc's start and an entry next to it always exist.
 use Rattle.std.proofs.Common.{◌≡◌, ℕ, ◌+◌, ◌*◌, ◌/◌, ◌<◌, ◌≤◌, max, ℤ, pos, ◌≤ℤ◌, ◌<ℤ◌, unsigned_abs, refl, arith}
 use Rattle.std.proofs.lemmas.Int.{by_lt_z}
 use Rattle.ngc_fixed_length.specs.Roots.{IsRootCeil}
@@ -26,7 +26,7 @@ radius_root x bound =
     let found = some_root x in
     (found.0, record { square = found.1; least = found.2 }, found.2 2000020000 bound)
 
--- the roots of the squared radii, the circle that a wheel rolls on and its limit
+-- the roots of the squared radii, the circle on which a wheel moves, and its limit
 pub record IsCircle (g s r o limit : ℕ) (v : View) : Type 0 where
   pub start_root : IsRootCeil (squared v.start) s
   pub start_bound : s ≤ 2000020000

@@ -1,4 +1,5 @@
--- A path that follows an arc can always be found: the steps by which a course is planned, over definitions alone.
+-- A path that follows an arc always exists: the steps by which a course is planned, on definitions
+-- only.
 use Rattle.std.proofs.Common.{◌≡◌, ◌⊎◌, ℕ, ◌+◌, ◌-◌, ◌*◌, ◌/◌, ◌<◌, ◌≤◌, min, max, ℤ, pos, negsuc, unsigned_abs, inl, inr, refl, sym, subst, List, arith}
 use Rattle.std.specs.Prelude.{Bool, true, false, nat_lt, int_lt, Option, Some, None}
 use Rattle.std.proofs.lemmas.Bool.{cases_Bool}
@@ -77,14 +78,14 @@ spot_within XY t p h = record { u = h.x; v = turned_within t p.y 200000000 h.y }
 spot_within ZX t p h = record { u = h.z; v = turned_within t p.x 200000000 h.x }
 spot_within YZ t p h = record { u = h.y; v = turned_within t p.z 200000000 h.z }
 
--- where its ends lie on the grid
+-- the grid points of its ends
 abbrev start_spot : ℤ → ArcShape → Spot
 start_spot s a = seen_spot a.plane a.turn (grid s a.start)
 
 abbrev end_spot : ℤ → ArcShape → Spot
 end_spot s a = seen_spot a.plane a.turn (grid s a.end)
 
--- an arc, what it is about its centre, and where its ends lie on the grid
+-- an arc, its view about its centre, and the grid points of its ends
 record IsSeen (a : ArcShape) (g : ℕ) (v : View) (from to : Spot) : Type 0 where
   arc : IsArc a
   seen : v ≡ view_of a
@@ -96,7 +97,7 @@ record IsSeen (a : ArcShape) (g : ℕ) (v : View) (from to : Spot) : Type 0 wher
   start_at : IsNearestSpot g v.centre v.start from
   end_at : IsNearestSpot g v.centre v.end to
 
--- what is to be found: a plan whose course follows the arc
+-- the goal: a plan whose course follows the arc
 record IsCourse (a : ArcShape) (g : ℕ) (from to : Spot) (p : Plan) : Type 0 where
   plan : IsPlan p
   starts : p.start ≡ from
@@ -119,7 +120,7 @@ seen_of s a step arc = record {
 
 -- ---- the plans
 
--- the spoke of a wheel that does not roll
+-- the spoke of a wheel that does not move
 abbrev still : Spoke
 still = record { quadrant = First; x = 1; y = 0 }
 
@@ -156,7 +157,7 @@ bent_of g from joint to = record {
   limit = 1;
 }
 
--- m rolls from the entry
+-- m of the wheel's moves from the entry
 abbrev round_of : ℕ → ℕ → Spot → Spot → Spot → Spot → Spoke → ℕ → Plan
 round_of g limit from joint entry to first m = record {
   start = from;
@@ -195,9 +196,9 @@ straight_course a g v from to z tiny =
           (record { starts = refl; joins = refl; enters = refl; ends = refl; joined = refl; entered = refl; rolled = refl });
     }
 
--- ---- what is found before the wheel rolls
+-- ---- what is found before the wheel moves
 
--- how many quadrants on the end lies from the wheel's first point
+-- the number of quadrants from the wheel's first point to the end
 abbrev left_of : View → Spoke → Spoke → Option ℕ
 left_of v first last = quadrants_left (quadrants_to first.quadrant last.quadrant) (int_lt (pos 0) (way_cross v.start v.end)) (is_before first last)
 
@@ -273,7 +274,7 @@ bent_course a g s r o limit v from to joint entry first last z none =
 
 -- ---- with the wheel
 
--- m rolls are all before the end's direction, or as many as are allowed
+-- m of the wheel's moves are all before the end's direction, or the limit is reached
 record IsLastRoll (g limit left n : ℕ) (first last : Spoke) (m : ℕ) : Type 0 where
   few : m ≤ n
   before : IsBeforeEnd (quadrant_at g limit first m) left (spoke_at g limit first m) last

@@ -1,4 +1,5 @@
--- A straight part of a course along one axis: its places lie between its two ends, a whole number of steps apart.
+-- A straight part of a course along one axis: its points are between its two ends, a whole number
+-- of steps apart.
 use Rattle.std.proofs.Common.{◌≡◌, ℕ, zero, suc, ◌-◌, ◌*◌, ◌≤◌, ◌⊎◌, inl, inr, min, max, ℤ, pos, ◌+ℤ◌, ◌-ℤ◌, ◌*ℤ◌, ◌≤ℤ◌, unsigned_abs, arith, ap, ◌∙◌}
 use Rattle.std.proofs.lemmas.Int.{ints, by_lt_z}
 use Rattle.ngc_fixed_length.specs.Grid.{distance}
@@ -7,7 +8,7 @@ use Rattle.ngc_step_kernel.specs.Line.{toward}
 use Rattle.ngc_step_kernel.specs.Spots.{straight_place}
 use Rattle.ngc_step_kernel.proofs.LineLemmas.{scale-sum}
 
--- q lies between p and r, and is p or at least g away from it
+-- q is between p and r, and is p or at least g from it
 abbrev pub IsOnWay : ℕ → ℤ → ℤ → ℤ → Type 0
 IsOnWay g p q r = (((q ≡ p) ⊎ ((p +ℤ pos g) ≤ℤ q)) × (q ≤ℤ r)) ⊎ (((q ≡ p) ⊎ ((q +ℤ pos g) ≤ℤ p)) × (r ≤ℤ q))
 
@@ -33,7 +34,7 @@ on_way g a b k =
     (λ down. let e : toward a b m ≡ a -ℤ pos m = grind (arith, ints) in
     down_way g m (d - m) a (toward a b m) b (omega (arith, ints, e)) (omega (arith, ints, e, le, down)))
 
--- a place of the way is between its ends
+-- a point of the part is between its ends
 pub place_between : (a b : ℤ) (k : ℕ) → ((a ≤ℤ straight_place a b k) × (straight_place a b k ≤ℤ b)) ⊎
     ((b ≤ℤ straight_place a b k) × (straight_place a b k ≤ℤ a))
 place_between a b k =
@@ -44,13 +45,14 @@ place_between a b k =
     (λ up. let e : toward a b m ≡ a +ℤ pos m = grind (arith, ints) in inl (omega (arith, ints, e), omega (arith, ints, e, le, up)))
     (λ down. let e : toward a b m ≡ a -ℤ pos m = grind (arith, ints) in inr (omega (arith, ints, e, le, down), omega (arith, ints, e)))
 
--- ---- no place is farther from e than the first, where the last is nearest to e
+-- ---- no point is farther from e than the first, if the last is nearest to e
 
 way_no_farther : (g : ℕ) (p q r e : ℤ) → 2 * unsigned_abs (e -ℤ r) ≤ g → IsOnWay g p q r → distance e q ≤ distance e p
 way_no_farther g p q r e near (inl w) = omega (arith, ints, no_farther_up g p q r e near w.0 w.1)
 way_no_farther g p q r e near (inr w) = omega (arith, ints, no_farther_down g p q r e near w.0 w.1)
 
--- on the way to the grid place nearest to e no place is farther from e than the first one
+-- on the part that ends at the grid point nearest to e, no point is farther from e than the first
+-- one
 pub place_no_farther : (g : ℕ) (a b e : ℤ) (k : ℕ) → 2 * unsigned_abs (e -ℤ (b *ℤ pos g)) ≤ g →
     distance e (straight_place a b k *ℤ pos g) ≤ distance e (a *ℤ pos g)
 place_no_farther g a b e k near = way_no_farther g (a *ℤ pos g) (straight_place a b k *ℤ pos g) (b *ℤ pos g) e near (on_way g a b k)
@@ -63,11 +65,12 @@ way_within g p q r s d hp hr (inl (inr e, w)) = omega (arith, ints, hp, hr, e, w
 way_within g p q r s d hp hr (inr (inl e, w)) = omega (arith, ints, hp, e)
 way_within g p q r s d hp hr (inr (inr e, w)) = omega (arith, ints, hp, hr, e, w)
 
--- where both ends are at most d from s, all places are
+-- if both ends are at most d from s, all points are
 pub place_within : (g : ℕ) (a b s : ℤ) (k d : ℕ) → distance s (a *ℤ pos g) ≤ d → distance s (b *ℤ pos g) ≤ d → distance s (straight_place a b k *ℤ pos g) ≤ d
 place_within g a b s k d ha hb = way_within g (a *ℤ pos g) (straight_place a b k *ℤ pos g) (b *ℤ pos g) s d ha hb (on_way g a b k)
 
--- on the way from the grid place nearest to s no place is farther from s than half a step, or than the last one
+-- on the part that begins at the grid point nearest to s, no point is farther from s than half a
+-- step, or than the last one
 pub place_from_nearest : (g : ℕ) (a b s : ℤ) (k : ℕ) → 2 * unsigned_abs (s -ℤ (a *ℤ pos g)) ≤ g →
     2 * distance s (straight_place a b k *ℤ pos g) ≤ max g (2 * distance s (b *ℤ pos g))
 place_from_nearest g a b s k near =

@@ -1,4 +1,5 @@
--- The straight parts of an arc's course are in the box round the arc's ends and quadrant points, but for a margin.
+-- The straight parts of an arc's course are in the box round the arc's ends and quadrant points, to
+-- within a margin.
 use Rattle.std.proofs.Common.{ℕ, ◌≤◌, inl, inr, ℤ, pos, ◌+ℤ◌, ◌-ℤ◌, ◌*ℤ◌, ◌≤ℤ◌, neg_ℤ, unsigned_abs, arith}
 use Rattle.std.proofs.lemmas.Int.{ints}
 use borrow.Author.Differences.{neg_is}
@@ -35,12 +36,12 @@ near_held a m q p held near =
       high_v = above_by (greatest second_of (start_of a) (other_points a)) q.v p.v m (held.high second_of) v;
     }
 
--- a point at most m from an end is in the box, but for m
+-- a point at most m from an end is in the box, to within m
 pub by_end_in_hull : (a : ArcShape) (m : ℕ) (p : Point2) → IsByAnEnd a m p → IsNearHull a m p
 by_end_in_hull a m p (inl near) = near_held a m (start_of a) p (start_held a) near
 by_end_in_hull a m p (inr near) = near_held a m (end_of a) p (end_held a) near
 
--- ---- a straight part whose ends are in the box, but for a margin
+-- ---- a straight part whose ends are in the box, to within a margin
 
 way_low : (g : ℕ) (p q r l : ℤ) → IsOnWay g p q r → l ≤ℤ p → l ≤ℤ r → l ≤ℤ q
 way_low g p q r l (inl (inl e, w)) hp hr = omega (arith, ints, e, hp)
@@ -66,7 +67,7 @@ turned_high Clockwise g p q r h w hp hr =
     let l = way_low g p q r (neg_ℤ h) w (omega (arith, ints, e, neg_is p, hp)) (omega (arith, ints, e, neg_is r, hr)) in
     omega (arith, ints, e, neg_is q, l)
 
--- all of it is
+-- all of it is in the box, to within that margin
 pub straight_in_hull : (a : ArcShape) (g m : ℕ) (p q : Spot) (k : ℕ) → IsNearHull a m (laid g a.turn p) → IsNearHull a m (laid g a.turn q) →
     IsNearHull a m (laid g a.turn (straight_at p q k))
 straight_in_hull a g m p q k hp hq =

@@ -1,4 +1,4 @@
--- The last straight part of an arc's course keeps near the arc's end, and near its circles.
+-- The last straight part of an arc's course stays near the arc's end, and near its circles.
 use Rattle.std.proofs.Common.{ℕ, ◌+◌, ◌*◌, ◌≤◌, inl, inr, ◌+ℤ◌, arith}
 use Rattle.ngc_fixed_length.specs.Roots.{IsRootFloor, IsRootCeil}
 use Rattle.ngc_fixed_length.specs.declared.points.Point2.{Point2}
@@ -34,7 +34,7 @@ inner_below a arc =
 root_within : (n i o s : ℕ) → i * i ≤ n → n ≤ o * o → IsRootCeil n s → (i ≤ s) × (s ≤ o)
 root_within n i o s hi ho root = (from_squares i s (omega (arith, hi, root.square)), root.least o ho)
 
--- the radius of the start, rounded up, is between the arc's two, and that of the end
+-- the radius of the start, rounded up, is between the arc's two, and so is that of the end
 pub start_between : (a : ArcShape) (s : ℕ) → IsArc a → IsRootCeil (squared (view_of a).start) s → (inner_radius a ≤ s) × (s ≤ outer_radius a)
 start_between a s arc root =
     let e = squared_is a.turn a.centre (start_of a) in
@@ -49,7 +49,7 @@ end_between a r arc root =
     let o = (outer_root a arc).square in
     root_within (squared (view_of a).end) (inner_radius a) (outer_radius a) r (omega (arith, e, i)) (omega (arith, e, o)) root
 
--- ---- a point by an end is near the circles
+-- ---- a point near an end is near the circles
 
 near_circles : (a : ArcShape) (q p : Point2) (d : ℕ) → IsArc a → lo a ≤ squared_distance a.centre q → squared_distance a.centre q ≤ hi a → IsWithin d q p →
     IsInBand a d p
@@ -84,13 +84,14 @@ last_no_farther a g l e k near =
     let h = straight_no_farther g (view_of a).centre (view_of a).end l e k near in
     omega (arith, h, end_apart a g l, end_apart a g (straight_at l e k))
 
--- so it is within d of the end where its first one is
+-- so it is within d of the end if its first one is
 pub last_within : (a : ArcShape) (g d : ℕ) (l e : Spot) (k : ℕ) → IsNearestSpot g (view_of a).centre (view_of a).end e →
     IsWithin d (end_of a) (laid g a.turn l) →
     IsWithin d (end_of a) (laid g a.turn (straight_at l e k))
 last_within a g d l e k near first = let h = last_no_farther a g l e k near in omega (arith, h, first)
 
--- where the square of the first one's distance is at most 15*g*g, each point is within four steps of the end, and so by it and in the band
+-- if the square of the first one's distance is at most 15*g*g, each point is within four steps of
+-- the end, and so near it and in the band
 pub last_near : (a : ArcShape) (g : ℕ) (l e : Spot) (k : ℕ) → IsNearestSpot g (view_of a).centre (view_of a).end e →
     squared_distance (end_of a) (laid g a.turn l) ≤ 15 * (g * g) →
     IsWithin (4 * g) (end_of a) (laid g a.turn (straight_at l e k))

@@ -26,11 +26,11 @@ use Rattle.ngc_step_kernel.proofs.ViewLemmas.{squared_is}
 abbrev pub IsTiny : ArcShape → ℕ → Type 0
 IsTiny a g = 4 * lo a < 9 * (g * g)
 
--- as its view has it
+-- the same in its view
 pub tiny_seen : (a : ArcShape) (g : ℕ) → 4 * min (squared (view_of a).start) (squared (view_of a).end) < 9 * (g * g) → IsTiny a g
 tiny_seen a g h = omega (arith, h, squared_is a.turn a.centre (start_of a), squared_is a.turn a.centre (end_of a))
 
--- ---- how near its ends are
+-- ---- the distance between its ends
 
 below_root : (n m : ℕ) → 4 * (n * n) < 9 * (m * m) → 2 * n < 3 * m
 below_root n m h =
@@ -72,9 +72,9 @@ tiny_ends a g arc tiny =
       | inr more ↦ (let h = two_ends a.centre (start_of a) (end_of a) o i (omega (arith, r.high, more)) (omega (arith, r.low, more)) in omega (arith, h, w'))
     ]
 
--- ---- the way between the grid points p and e nearest to them
+-- ---- the part between the grid points p and e nearest to them
 
--- along one axis, from the place nearest to s to the one nearest to t
+-- along one axis, from the point nearest to s to the one nearest to t
 from_first : (g : ℕ) (a b s t : ℤ) (k : ℕ) → 2 * unsigned_abs (s -ℤ (a *ℤ pos g)) ≤ g → 2 * unsigned_abs (t -ℤ (b *ℤ pos g)) ≤ g →
     2 * distance s (straight_place a b k *ℤ pos g) ≤ 2 * distance s t + g
 from_first g a b s t k hs ht =

@@ -1,4 +1,5 @@
--- The course of an arc whose lesser radius is below one and a half steps: it is in the arc's band, and comes near to all that is at the outer radius.
+-- The course of an arc whose lesser radius is below one and a half steps: it is in the arc's band,
+-- and passes near every point at the outer radius.
 use Rattle.std.proofs.Common.{◌≡◌, ℕ, ◌+◌, ◌-◌, ◌*◌, ◌<◌, ◌≤◌, inl, inr, max, ℤ, pos, ◌+ℤ◌, ◌-ℤ◌, ◌*ℤ◌, unsigned_abs, arith, ap, subst, sym}
 use Rattle.std.proofs.lemmas.Bool.{cases_lt}
 use Rattle.std.proofs.lemmas.Bool.Decides.{nat_tests}
@@ -37,13 +38,14 @@ start_spot_near a g p near = let h = nearest_apart g (view_of a).centre (view_of
 pub end_spot_near : (a : ArcShape) (g : ℕ) (p : Spot) → IsNearestSpot g (view_of a).centre (view_of a).end p → IsWithin g (end_of a) (laid g a.turn p)
 end_spot_near a g p near = let h = nearest_apart g (view_of a).centre (view_of a).end p near in omega (arith, h, end_apart a g p)
 
--- ---- what is at the outer radius
+-- ---- the points at the outer radius
 
 three_ways : (c p q x : Point2) (g i o : ℕ) → squared_distance p q ≤ g * g → squared_distance c p ≤ i * i → squared_distance c x ≤ o * o →
     squared_distance q x ≤ (g + (i + o)) * (g + (i + o))
 three_ways c p q x g i o hq hp hx = plane_above q p x g (i + o) (omega (arith, hq, apart_back q p)) (two_ends c p x i o hp hx)
 
--- some point of the way is within five steps and the difference of the radii of each point that is no farther out than the outer radius
+-- some point of the course is within five steps and the difference of the radii of each point that
+-- is no farther out than the outer radius
 pub tiny_place : (a : ArcShape) (g : ℕ) (p e : Spot) → IsArc a → IsTiny a g → IsNearestSpot g (view_of a).centre (view_of a).start p →
     IsNearestSpot g (view_of a).centre (view_of a).end e →
     (k : ℕ) × (k ≤ straight_moves p e) ×
@@ -84,7 +86,7 @@ axis_between : (g : ℕ) (a b c : ℤ) (k : ℕ) → unsigned_abs ((straight_pla
     ≤ max (unsigned_abs ((a *ℤ pos g) -ℤ c)) (unsigned_abs ((b *ℤ pos g) -ℤ c))
 axis_between g a b c k = place_within g a b c k (max (unsigned_abs ((a *ℤ pos g) -ℤ c)) (unsigned_abs ((b *ℤ pos g) -ℤ c))) (omega arith) (omega arith)
 
--- the square of each point's distance is at most those of the first and the last point together
+-- the square of each point's distance is at most the sum of those of the first and the last point
 pub straight_square : (g : ℕ) (c : Way) (p e : Spot) (k : ℕ) → squared (way_from g c (straight_at p e k)) ≤ squared (way_from g c p) + squared (way_from g c e)
 straight_square g c p e k =
     let u = one_of_two (unsigned_abs (way_from g c (straight_at p e k)).u) (unsigned_abs (way_from g c p).u) (unsigned_abs (way_from g c e).u)

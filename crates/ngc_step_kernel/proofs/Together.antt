@@ -1,4 +1,4 @@
--- A course whose parts keep by an arc follows the arc.
+-- A course whose parts stay near an arc follows the arc.
 use Rattle.std.proofs.Common.{◌≡◌, ℕ, ◌+◌, ◌-◌, ◌*◌, ◌<◌, ◌≤◌, inl, inr, ◌∙◌, ap, arith, pos, List, [], ◌∷◌}
 use Rattle.std.specs.List.{All}
 use Rattle.std.proofs.lemmas.Bool.{cases_lt}
@@ -78,7 +78,7 @@ together a g p s order = record {
   short = s.short;
 }
 
--- ---- the quadrant points, by the wheel's points alone
+-- ---- the quadrant points, from the wheel's points alone
 
 pub passes_round : (a : ArcShape) (g d : ℕ) (p : Plan) (qs : List Point2) → IsPlan p →
     Passes (λ k. laid g a.turn (rounded p k)) (p.rolled - p.entered) d 0 qs → Passes (λ k. laid g a.turn (course_at p k)) p.moves d 0 qs
@@ -89,7 +89,7 @@ passes_round a g d p qs s h =
     ap (λ (q : Spot). laid g a.turn q) (to_last p (p.entered + k) s (omega arith) (omega (arith, le, s.rolled)) ∙ ap (rounded p) e)))
     (λ j k le. omega (arith, le)) (omega (arith, s.rolled, s.moves)) h)
 
--- ---- the quadrant points, by one place that is near all of them
+-- ---- the quadrant points, from one point near all of them
 
 pub passes_at : (at : ℕ → Point2) (n d i j : ℕ) (qs : List Point2) → i ≤ j → j ≤ n → All (IsWithin d (at j)) qs → Passes at n d i qs
 passes_at at n d i j [] from to near = tt

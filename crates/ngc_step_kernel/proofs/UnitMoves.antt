@@ -1,4 +1,4 @@
--- A course, and the path that lifts it, goes by unit moves from its start to its end.
+-- A course, and the path that lifts it, lead by unit moves from start to end.
 use Rattle.std.proofs.Common.{◌≡◌, ℕ, ◌+◌, ◌-◌, ◌<◌, ◌≤◌, min, max, ◌⊎◌, inl, inr, ◌∙◌, ap, arith, refl, ℤ, ◌+ℤ◌, unsigned_abs}
 use Rattle.std.proofs.lemmas.Int.{ints}
 use Rattle.std.proofs.lemmas.Bool.{cases_lt}
@@ -31,14 +31,14 @@ use Rattle.ngc_step_kernel.proofs.Sharing.{steps, steps-zero, steps-all, steps-n
 
 -- ---- in the plane
 
--- the steps of a move, on both axes together
+-- the number of steps of a move, on both axes together
 abbrev goes : PlaneMove → ℕ
 goes m = unsigned_abs (steps_of m.u) + unsigned_abs (steps_of m.v)
 
 at_place : (a b : ℤ) → a ≡ b +ℤ steps_of Stay → a ≡ b
 at_place a b e = omega (arith, ints, e)
 
--- where two neighbours of a straight way differ the step between them is one
+-- if two successive points of a straight part differ, they are one step apart
 axis_goes : (a b : ℤ) (k : ℕ) → k < distance a b → 1 ≤ unsigned_abs (steps_of (axis_towards (straight_place a b k) b))
 axis_goes a b k h =
     let on = place_on a b k in
@@ -96,7 +96,7 @@ course_goes p k s h = elim (cases_lt k p.joined) [
   ]
 ]
 
--- how far apart two points are, by a move between them
+-- the distance between two points from the move between them
 step_apart : (a : ℤ) (m : AxisMove) → distance a (a +ℤ steps_of m) ≡ unsigned_abs (steps_of m)
 step_apart a m = omega (arith, ints)
 
@@ -167,7 +167,8 @@ space_unit YZ t r s g h near high apart = let e = turned_apart t r.v s.v in reco
       ));
 }
 
--- the plane's part of a move of the path: one move or none, and one where the plane has as many as the path
+-- the plane's part of a move of the path: one move or none, and one if the plane has as many as the
+-- path
 plane_part : (p : Plan) (i j : ℕ) → IsPlan p → j ≤ p.moves → (j ≡ i) ⊎ (j ≡ i + 1) →
     AreNear (course_at p i) (course_at p j) × (j ≡ i + 1 → 1 ≤ distance (course_at p i).u (course_at p j).u + distance (course_at p i).v (course_at p j).v)
 plane_part p i j s h (inl same) = (same_near _ _ (ap (course_at p) same), λ e. absurd (omega (arith, same, e)))

@@ -1,4 +1,4 @@
--- An arc seen about its centre: coordinates, and the grid place that its start is moved to.
+-- An arc relative to its centre: coordinates, and the grid point to which its start is moved.
 use Rattle.std.proofs.Common.{◌≡◌, ℕ, ◌+◌, ◌*◌, ◌<◌, ◌≤◌, ℤ, pos, ◌+ℤ◌, ◌-ℤ◌, ◌*ℤ◌, unsigned_abs, to_z, of_z, arith, refl, sym, ◌∙◌, ap}
 use Rattle.std.specs.Int.{w128}
 use Rattle.std.proofs.lemmas.Int.{ints, unsigned_abs-mul}
@@ -45,7 +45,7 @@ end_radius a arc =
     let e = squared_is a.turn a.centre (end_of a) in
     record { some = omega (arith, e, arc.some_radius); bound = omega (arith, e, arc.radius) }
 
--- ---- the place that the start is moved to
+-- ---- the point to which the start is moved
 
 kept : (a b : ℤ) → unsigned_abs a ≤ 200000000000000000000 → unsigned_abs b ≤ 5000000000000000000 →
     to_z w128 (of_z w128 (to_z w128 (of_z w128 a) +ℤ to_z w128 (of_z w128 b))) ≡ a +ℤ b

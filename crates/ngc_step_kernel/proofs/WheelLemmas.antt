@@ -1,4 +1,4 @@
--- A wheel's points as a recursion.
+-- The sequence of a wheel's points, by recursion.
 use Rattle.std.proofs.Common.{◌≡◌, ℕ, suc, ◌+◌, arith, subst}
 use Rattle.ngc_wheel.specs.declared.spoke.Spoke.{Spoke}
 use Rattle.ngc_wheel.specs.Wheel.{next_roll, rolled}

@@ -1,5 +1,5 @@
--- The course of an arc over the grid of its plane: straight to the joint, to the entry, round with
--- the wheel, and straight to the end.
+-- The path of an arc over the grid of its plane (its course): straight to the joint, to the entry,
+-- round with the wheel, and straight to the end.
 use Rattle.std.specs.Prelude.{◌≡◌, ℕ, zero, suc, ◌+◌, ◌-◌, ◌<◌, ◌≤◌, nat_le, if◌then◌else◌}
 use Rattle.ngc_wheel.specs.declared.spoke.Spoke.{Spoke}
 use Rattle.ngc_wheel.specs.Wheel.{next_roll, IsSmall}
@@ -11,12 +11,12 @@ use Rattle.ngc_step_kernel.specs.Spots.{IsSpot, roll_move, spot_moved, straight_
 
 -- ---- the wheel
 
--- what roll k is in the plane
+-- the wheel's move k, in the plane
 abbrev pub wheel_move : ℕ → ℕ → Spoke → ℕ → PlaneMove
 wheel_move g limit s k =
     roll_move (next_roll g limit (spoke_at g limit s k)) (spoke_at g limit s k).quadrant
 
--- the grid point that k rolls lead to from p
+-- the grid point to which k of the wheel's moves lead from p
 unfoldable pub round_at : ℕ → ℕ → Spoke → Spot → ℕ → Spot
 round_at g limit s p zero = p
 round_at g limit s p (suc k) = spot_moved (round_at g limit s p k) (wheel_move g limit s k)
@@ -26,7 +26,7 @@ round_at g limit s p (suc k) = spot_moved (round_at g limit s p k) (wheel_move g
 abbrev pub rounded : Plan → ℕ → Spot
 rounded p k = round_at p.step p.limit p.first p.entry k
 
--- where the wheel leaves off
+-- the wheel's last point
 abbrev pub last_of : Plan → Spot
 last_of p = rounded p (p.rolled - p.entered)
 
@@ -53,7 +53,7 @@ pub record IsPlan (p : Plan) : Type 0 where
   pub round : (k : ℕ) → k ≤ p.rolled - p.entered → IsSpot (rounded p k)
   pub small : (k : ℕ) → k ≤ p.rolled - p.entered → IsSmall (spoke_at p.step p.limit p.first k)
 
--- what a course holds at its place: its point, and as long as the wheel rolls the wheel's
+-- the state of a course at point k: the point, and the wheel's point while the wheel moves
 pub record IsCourseAt (p : Plan) (k : ℕ) (at : Spot) (wheel : Spoke) (pace rim : ℕ) : Type 0 where
   pub plan : IsPlan p
   pub done : k ≤ p.moves

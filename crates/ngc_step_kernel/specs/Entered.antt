@@ -1,5 +1,5 @@
--- Where a wheel begins: at the joint, or a move on from it where the joint lies behind the start's
--- direction. Our own.
+-- The point at which a wheel begins: the joint, or a move after it if the joint is before the
+-- start's direction. Our own.
 use Rattle.std.specs.Prelude.{◌≡◌, ◌⊎◌, ℕ, ◌+◌, ◌<◌, nat_lt, Bool, ℤ, pos, ◌-ℤ◌, ◌*ℤ◌, ◌≤ℤ◌, ◌<ℤ◌}
 use Rattle.std.specs.Prelude.{unsigned_abs}
 use Rattle.ngc_wheel.specs.Around.{way_to}
@@ -12,14 +12,14 @@ use Rattle.ngc_wheel.specs.declared.spoke.Spoke.{Spoke}
 use Rattle.ngc_step_kernel.specs.declared.round.Way.{Way}
 use Rattle.ngc_step_kernel.specs.View.{place_of}
 
--- a way is nearer to the half axes beside a quadrant than to those along it
+-- a vector is nearer to the half axes beside a quadrant than to those along it
 abbrev pub is_steep : Quadrant → Way → Bool
 is_steep First w = nat_lt (unsigned_abs w.u) (unsigned_abs w.v)
 is_steep Second w = nat_lt (unsigned_abs w.v) (unsigned_abs w.u)
 is_steep Third w = nat_lt (unsigned_abs w.u) (unsigned_abs w.v)
 is_steep Fourth w = nat_lt (unsigned_abs w.v) (unsigned_abs w.u)
 
--- above 0 where a turn of less than half a circle leads from b to w
+-- above 0 if a turn of less than half a circle leads from b to w
 abbrev pub way_cross : Way → Way → ℤ
 way_cross b w = (b.u *ℤ w.v) -ℤ (b.v *ℤ w.u)
 
@@ -31,7 +31,7 @@ IsEnteredFrom g limit b w first s =
     ((roll : Roll) × IsEntry g limit (is_steep first.quadrant b) first roll ×
     (s ≡ rolled g roll first)))
 
--- for the start's way b and the joint's way w
+-- for the start's vector b and the joint's vector w
 abbrev pub IsEntered : ℕ → ℕ → Way → Way → Spoke → Type 0
 IsEntered g limit b w s = (first : Spoke) × (way_to first ≡ place_of w) ×
     (0 < unsigned_abs w.u + unsigned_abs w.v → 0 < first.x) × IsEnteredFrom g limit b w first s

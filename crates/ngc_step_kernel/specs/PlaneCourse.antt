@@ -12,11 +12,11 @@ use Rattle.ngc_arc_walk.specs.Hull.{IsNearHull}
 use Rattle.ngc_step_kernel.specs.declared.spot.Spot.{Spot}
 use Rattle.ngc_step_kernel.specs.Round.{turned}
 
--- where a grid place lies, in nanometres, as the arc's plane has it
+-- a grid point in nanometres, in the coordinates of the arc's plane
 abbrev pub laid : ℕ → Turn → Spot → Point2
 laid g t p = record { u = p.u *ℤ pos g; v = turned t (p.v *ℤ pos g) }
 
--- in the arc's band, in its sector or by an end, and in its box
+-- in the arc's band, in its sector or near an end, and in its box
 pub record IsByArc (a : ArcShape) (g w : ℕ) (p : Point2) : Type 0 where
   pub band : IsInBand a w p
   pub sector : IsBetweenEnds a (w + spread a) p

@@ -1,4 +1,4 @@
--- What the three ways to plan a course give. Our own.
+-- The results of the three ways to plan a course. Our own.
 use Rattle.std.specs.Prelude.{◌≡◌, ℕ, ◌+◌, ◌-◌, ◌<◌, ◌≤◌}
 use Rattle.ngc_wheel.specs.declared.spoke.Spoke.{Spoke}
 use Rattle.ngc_wheel.specs.Rolling.{spoke_at, quadrant_at}
@@ -16,7 +16,7 @@ pub record IsStraightPlan (start end : Spot) (p : Plan) : Type 0 where
   pub entered : p.entered ≡ 0
   pub rolled : p.rolled ≡ 0
 
--- by a joint
+-- through a joint
 pub record IsBentPlan (start joint end : Spot) (p : Plan) : Type 0 where
   pub starts : p.start ≡ start
   pub joins : p.joint ≡ joint
@@ -25,7 +25,8 @@ pub record IsBentPlan (start joint end : Spot) (p : Plan) : Type 0 where
   pub entered : p.entered ≡ p.joined
   pub rolled : p.rolled ≡ p.joined
 
--- round with a wheel: up to its last point before the end's direction, unless it is cut off
+-- round with a wheel, up to its last point before the end's direction, unless the number of moves
+-- reaches its limit
 pub record IsRoundPlan (start joint entry end : Spot) (first last : Spoke)
     (quadrants step limit : ℕ) (p : Plan) : Type 0 where
   pub starts : p.start ≡ start

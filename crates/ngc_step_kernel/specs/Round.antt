@@ -1,5 +1,5 @@
 -- An arc's course, lifted to three axes: the moves of its plane and the steps of its height are
--- each spread over all moves.
+-- each distributed over all moves.
 use Rattle.std.specs.Prelude.{◌≡◌, ℕ, ◌+◌, ◌*◌, ◌≤◌, ℤ, pos, neg_ℤ, List}
 use Rattle.ngc_fixed_length.specs.declared.modes.Plane.{Plane}
 use Rattle.ngc_fixed_length.specs.declared.modes.Plane.TheVariants.{XY, ZX, YZ}
@@ -20,7 +20,7 @@ use Rattle.ngc_step_kernel.specs.LineState.{IsAxisAt}
 use Rattle.ngc_step_kernel.specs.Spots.{opposite}
 use Rattle.ngc_step_kernel.specs.Walk.{RootedWalk, listed}
 
--- a number along v, as an arc of this sense sees it: a clockwise one is seen in the mirror
+-- a number along v in the direction of the arc: it is negated for a clockwise one
 abbrev pub turned : Turn → ℤ → ℤ
 turned Counterclockwise v = v
 turned Clockwise v = neg_ℤ v
@@ -29,7 +29,7 @@ abbrev pub turned_move : Turn → AxisMove → AxisMove
 turned_move Counterclockwise m = m
 turned_move Clockwise m = opposite m
 
--- the grid point at this place of the plane, so high
+-- the grid point at this point of the plane and the height h
 abbrev pub in_space : Plane → Turn → Spot → ℤ → StepPos
 in_space XY t s h = record { x = s.u; y = turned t s.v; z = h }
 in_space ZX t s h = record { x = turned t s.v; y = h; z = s.u }
@@ -40,7 +40,7 @@ move_in_space XY t m h = record { x = m.u; y = turned_move t m.v; z = h }
 move_in_space ZX t m h = record { x = turned_move t m.v; y = h; z = m.u }
 move_in_space YZ t m h = record { x = h; y = m.u; z = turned_move t m.v }
 
--- the same point seen from above the plane
+-- the same point, in the plane's coordinates
 abbrev pub seen_spot : Plane → Turn → StepPos → Spot
 seen_spot XY t p = record { u = p.x; v = turned t p.y }
 seen_spot ZX t p = record { u = p.z; v = turned t p.x }
@@ -51,7 +51,7 @@ seen_height XY p = p.z
 seen_height ZX p = p.y
 seen_height YZ p = p.x
 
--- the place in the course after k of n moves
+-- the number of moves of the course after k of n moves
 abbrev pub course_place : ℕ → Plan → ℕ → ℕ
 course_place n p k = nearest_size (k * p.moves) n
 
@@ -71,13 +71,13 @@ round_walk plane turn p n height k roots =
       roots = roots;
     }
 
--- how far the course is after a move of the axis that shares it out
+-- the number of moves of the course after a move of the axis that distributes them
 abbrev pub followed : AxisMove → ℕ → ℕ
 followed Back k = k
 followed Stay k = k
 followed Forward k = k + 1
 
--- what a path that follows a course holds: after k of n moves, j moves of the plane
+-- the state of a path that follows a course: after k of n moves, j moves of the plane are made
 pub record IsSpread (p : Plan) (j n k : ℕ) (a b : Axis) : Type 0 where
   pub done : k ≤ n
   pub few : n ≤ 400000000

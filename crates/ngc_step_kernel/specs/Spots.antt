@@ -12,7 +12,7 @@ use Rattle.ngc_step_kernel.specs.declared.spot.Spot.{Spot}
 use Rattle.ngc_step_kernel.specs.Line.{toward}
 use Rattle.ngc_step_kernel.specs.Move.{steps_of}
 
--- no farther out than lengths reach
+-- within the range of lengths
 pub record IsSpot (p : Spot) : Type 0 where
   pub u : unsigned_abs p.u ≤ 200000000
   pub v : unsigned_abs p.v ≤ 200000000
@@ -22,7 +22,7 @@ opposite Back = Forward
 opposite Stay = Stay
 opposite Forward = Back
 
--- one step from a towards b, none where they are the same
+-- one step from a towards b, none if they are equal
 abbrev pub axis_towards : ℤ → ℤ → AxisMove
 axis_towards a b = if int_lt a b then Forward else (if int_lt b a then Back else Stay)
 
@@ -32,7 +32,7 @@ spot_towards p q = record { u = axis_towards p.u q.u; v = axis_towards p.v q.v }
 abbrev pub spot_moved : Spot → PlaneMove → Spot
 spot_moved p m = record { u = p.u +ℤ steps_of m.u; v = p.v +ℤ steps_of m.v }
 
--- what a roll is along the half axis that its quadrant begins with, and along the next one
+-- a wheel's move along the half axis on which its quadrant begins, and along the next one
 abbrev pub along : Roll → AxisMove
 along Outward = Stay
 along Diagonal = Back
@@ -51,8 +51,8 @@ roll_move r Second = record { u = opposite (across r); v = along r }
 roll_move r Third = record { u = opposite (along r); v = opposite (across r) }
 roll_move r Fourth = record { u = across r; v = opposite (along r) }
 
--- how many moves straight from p to q there are, and where k of them lead: diagonal first, then
--- along one axis
+-- the number of moves straight from p to q, and the point to which k of them lead: diagonal first,
+-- then along one axis
 abbrev pub straight_moves : Spot → Spot → ℕ
 straight_moves p q = max (distance p.u q.u) (distance p.v q.v)
 

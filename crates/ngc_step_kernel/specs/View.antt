@@ -1,4 +1,4 @@
--- An arc seen about its centre as one that turns from u towards v: a clockwise one in the mirror.
+-- An arc relative to its centre, so that it turns from u towards v: a clockwise one is mirrored.
 use Rattle.std.specs.Prelude.{ℕ, zero, suc, Bool, true, false, if◌then◌else◌, Option, Some, None}
 use Rattle.std.specs.Prelude.{◌+◌, ◌*◌, ◌<◌, ◌≤◌, ℤ, pos, ◌+ℤ◌, ◌-ℤ◌, ◌*ℤ◌, unsigned_abs}
 use Rattle.ngc_fixed_length.specs.declared.modes.Turn.{Turn}
@@ -19,11 +19,11 @@ view_of a = record {
   end = way_between a.turn a.centre (end_of a);
 }
 
--- the square of a way's length
+-- the square of a vector's length
 abbrev pub squared : Way → ℕ
 squared w = unsigned_abs w.u * unsigned_abs w.u + unsigned_abs w.v * unsigned_abs w.v
 
--- a way from an arc's centre to one of its ends
+-- a vector from an arc's centre to one of its ends
 pub record IsRadius (w : Way) : Type 0 where
   pub some : 0 < squared w
   pub bound : squared w ≤ 2000020000 * 2000020000
@@ -34,13 +34,13 @@ pub record IsView (a : View) : Type 0 where
   pub start : IsRadius a.start
   pub end : IsRadius a.end
 
--- along an axis p steps of length g is the grid place nearest to where the way b from c leads once
--- it is moved from radius s to r
+-- along an axis, p steps of length g is the grid point nearest to the end of the vector b from c,
+-- moved from radius s to r
 abbrev pub IsMoved : ℕ → ℕ → ℕ → ℤ → ℤ → ℤ → Type 0
 IsMoved g s r c b p =
     2 * unsigned_abs (((c *ℤ pos s) +ℤ (b *ℤ pos r)) -ℤ (p *ℤ pos (s * g))) ≤ s * g
 
--- the grid point nearest to where a way leads from the centre
+-- the grid point nearest to the end of a vector from the centre
 pub record IsNearestSpot (g : ℕ) (c w : Way) (p : Spot) : Type 0 where
   pub u : 2 * unsigned_abs ((c.u +ℤ w.u) -ℤ (p.u *ℤ pos g)) ≤ g
   pub v : 2 * unsigned_abs ((c.v +ℤ w.v) -ℤ (p.v *ℤ pos g)) ≤ g
@@ -50,12 +50,12 @@ pub record IsInReach (g : ℕ) (c : Way) (p : Spot) : Type 0 where
   pub u : unsigned_abs ((p.u *ℤ pos g) -ℤ c.u) ≤ 3000000000
   pub v : unsigned_abs ((p.v *ℤ pos g) -ℤ c.v) ≤ 3000000000
 
--- the way from the centre to a grid point
+-- the vector from the centre to a grid point
 abbrev pub way_from : ℕ → Way → Spot → Way
 way_from g c p = record { u = (p.u *ℤ pos g) -ℤ c.u; v = (p.v *ℤ pos g) -ℤ c.v }
 
--- how many quadrants on the end lies from a wheel's first point, so many counted from 0 to 3; none
--- where it is reached before the wheel
+-- the number of quadrants from a wheel's first point to the end; it is counted from 0 to 3, and
+-- `None` if the end is reached before the wheel moves
 abbrev pub quadrants_left : ℕ → Bool → Bool → Option ℕ
 quadrants_left zero true before = if before then Some 0 else None
 quadrants_left zero false before = Some 4

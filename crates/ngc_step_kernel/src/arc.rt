@@ -18,12 +18,12 @@ pub struct RoundPath<W: Wheel + Drop> {
     plane: Plane,
     turn: Turn,
     course: Course<W>,
-    /// The plane's moves that are done, and the height, each spread over all moves.
+    /// The progress of the plane's moves, and the height, each distributed over all moves.
     progress: Axis,
     height: Axis,
     moves: u32,
     done: u32,
-    /// The roots that the plan took.
+    /// The number of roots that the plan took.
     roots: u64,
 }
 
@@ -41,10 +41,10 @@ impl<W: Wheel + Drop> Model for RoundPath<W> {
         (W.pace r.course.wheel) (W.rim r.course.wheel) };
 }
 
-/// A path that follows an arc by squares that it keeps by additions, without a root on the way.
+/// A path that follows an arc. It updates squares with additions, without a root on the way.
 pub type ArcPath = RoundPath<SquareWheel>;
 
-/// A path that follows an arc by a root for each column.
+/// A path that follows an arc, with one root for each column.
 pub type ColumnPath = RoundPath<ColumnWheel>;
 
 ghost use Rattle.std.specs.Prelude.{◌≡◌, ◌≤◌, ◌<◌, ◌+◌, max, unsigned_abs, length};
@@ -58,7 +58,7 @@ ghost use Rattle.ngc_step_kernel.specs.Round.{in_space, move_in_space, seen_spot
 ghost use Rattle.ngc_step_kernel.specs.Round.{round_points};
 ghost use Rattle.ngc_step_kernel.specs.Spots.{IsSpot};
 
-/// The grid point at a place of the plane, so high.
+/// Returns the grid point at a point `at` of the plane and the height `w`.
 fn in_space(plane: Plane, turn: Turn, at: Spot, w: i32) -> StepPos
     requires { IsSpot at }
     ensures { result ≡ in_space plane turn at w }
@@ -75,7 +75,7 @@ fn in_space(plane: Plane, turn: Turn, at: Spot, w: i32) -> StepPos
     }
 }
 
-/// A move in the plane and one of the height, as one.
+/// Returns the move that combines a move in the plane and one of the height.
 fn move_in_space(plane: Plane, turn: Turn, m: PlaneMove, w: AxisMove) -> Move
     ensures { result ≡ move_in_space plane turn m w }
 {
@@ -91,7 +91,7 @@ fn move_in_space(plane: Plane, turn: Turn, m: PlaneMove, w: AxisMove) -> Move
     }
 }
 
-/// How an arc's plane sees a grid point.
+/// Returns a grid point's coordinates in an arc's plane.
 fn spot(plane: Plane, turn: Turn, p: &StepPos) -> Spot
     requires { IsInRange p.now }
     ensures value { result ≡ seen_spot plane turn p.now }
@@ -120,7 +120,8 @@ fn height(plane: Plane, p: &StepPos) -> i32
     }
 }
 
-/// The moves of a path: as many as its plane or its height needs.
+/// Returns the number of moves of a path: the number that its plane needs, or its height if that is
+/// more.
 fn moves_of(plane_moves: u32, low: i32, high: i32) -> u32
     ensures { result ≡ max plane_moves (distance low high) }
 {
@@ -130,7 +131,7 @@ fn moves_of(plane_moves: u32, low: i32, high: i32) -> u32
 impl<W: Wheel + Drop> RoundPath<W> {
     ghost use Rattle.ngc_step_kernel.specs.UnitPath.{IsUnitPath};
 
-    /// The path along a plan, from one height to another.
+    /// Returns the path along a plan, from one height to another.
     fn along(plane: Plane, turn: Turn, plan: Plan, low: i32, high: i32, roots: u64) -> RoundPath<W>
         requires plan { IsPlan plan }
         requires low { unsigned_abs low ≤ 200000000 }
@@ -207,8 +208,8 @@ impl<W: Wheel + Drop> ArcKernel for RoundPath<W> {
 }
 
 impl RoundPath<SquareWheel> {
-    /// How many square roots were taken for the path: at most 16 once it is made, and no more on
-    /// the way.
+    /// Returns the number of square roots computed for the path: at most 16 when it is made, and no
+    /// more on the way.
     pub fn roots(&self) -> u64
         ensures { result ≡ self.now.roots }
     {

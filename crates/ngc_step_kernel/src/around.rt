@@ -20,14 +20,14 @@ use crate::spot::{PlaneMove, Spot};
 use crate::view::View;
 use ngc_wheel::{Quadrant, Spoke, Wheel};
 
-/// Where a wheel begins: a grid point, and the same about the centre.
+/// The point at which a wheel begins: on the grid, and about the centre.
 #[derive(Clone, Copy)]
 struct Entry {
     spot: Spot,
     spoke: Spoke,
 }
 
-/// Whether a way is nearer to the half axes beside a quadrant than to those along it.
+/// Returns whether a vector is nearer to the half axes beside a quadrant than to those along it.
 fn is_steep(way: &Way, quadrant: Quadrant) -> bool
     ensures { result ≡ is_steep quadrant way.now }
 {
@@ -40,7 +40,8 @@ fn is_steep(way: &Way, quadrant: Quadrant) -> bool
 }
 
 impl Entry {
-    /// At the joint, or a move on from it where the joint lies behind the start's direction.
+    /// Returns the joint, or the point a move after it if the joint is before the start's
+    /// direction.
     fn of(view: &View, joint: Spot, step: u64, radius: u64, limit: u64) -> Entry
         requires view { IsView view.now }
         requires joint { IsSpot joint }
@@ -73,8 +74,8 @@ impl Entry {
     }
 }
 
-/// How many quadrants on the end lies from a wheel's first point, or none where its direction is
-/// reached before the wheel.
+/// Returns the number of quadrants from a wheel's first point to the end, or `None` if the end's
+/// direction is reached before the wheel moves.
 fn quadrants_left(view: &View, first: &Spoke, end: &Spoke) -> Option<u32>
     requires start { IsWay view.now.start }
     requires end { IsWay view.now.end }
@@ -95,7 +96,7 @@ fn quadrants_left(view: &View, first: &Spoke, end: &Spoke) -> Option<u32>
     }
 }
 
-/// Whether the lesser radius is below one and a half steps.
+/// Returns whether the lesser radius is below one and a half steps.
 fn is_tiny(view: &View, step: u64) -> bool
     requires start { IsWay view.now.start }
     requires end { IsWay view.now.end }
@@ -107,8 +108,8 @@ fn is_tiny(view: &View, step: u64) -> bool
     4 * lesser < 9 * u128::from(step * step)
 }
 
-/// The radius of the circle that a wheel rolls on: the end's, or two and a quarter steps where that
-/// is less.
+/// Returns the radius of the circle on which a wheel moves: the end's radius, or two and a quarter
+/// steps if that is more.
 fn circle_of(radius: u64, step: u64) -> u64
     requires radius { radius ≤ 2000020000 }
     requires short { step ≤ 50000 }
@@ -119,11 +120,11 @@ fn circle_of(radius: u64, step: u64) -> u64
 }
 
 impl Plan {
-    /// From an arc's start to its end, round its centre: straight where it is tiny; else by the
-    /// joint, the entry and a wheel, but without the wheel where the end's direction is reached
-    /// before it.
+    /// Plans the path from an arc's start to its end, round its centre. A tiny arc is straight. Any
+    /// other passes the joint, the entry and a wheel; the wheel is left out if the end's direction
+    /// is reached before it.
     ///
-    /// It takes two roots, or none.
+    /// It computes two roots, or none.
     pub(crate) fn around<W: Wheel + Drop>(
         view: &View,
         start: Spot,

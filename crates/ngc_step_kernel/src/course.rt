@@ -3,7 +3,7 @@ use crate::plan::Plan;
 use crate::spot::{PlaneMove, Spot};
 use ngc_wheel::Wheel;
 
-/// A place on an arc's way over the grid of its plane.
+/// A position on an arc's path over the grid of its plane.
 #[derive(Drop)]
 pub(crate) struct Course<W> {
     pub plan: Plan,
@@ -19,7 +19,7 @@ impl<W: Wheel + Drop> Course<W> {
     ghost use Rattle.ngc_step_kernel.specs.Round.{followed};
     ghost use Rattle.ngc_step_kernel.specs.declared.moves.AxisMove.TheVariants.{Forward};
 
-    /// The beginning of a way.
+    /// Returns the position at the beginning of a plan.
     pub(crate) fn new(plan: Plan) -> Course<W>
         requires { IsPlan plan }
         ensures plan { result.plan ≡ plan }
@@ -60,7 +60,7 @@ impl<W: Wheel + Drop> Course<W> {
         step
     }
 
-    /// Goes one move on where one is due.
+    /// Makes one move if one is due.
     pub(crate) fn follow(&mut self, due: AxisMove) -> PlaneMove
         requires state { IsCourseAt self.old.plan self.old.done self.old.at (W.place self.old.wheel)
             (W.pace self.old.wheel) (W.rim self.old.wheel) }

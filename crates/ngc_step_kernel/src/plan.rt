@@ -2,21 +2,20 @@ use crate::rolls::rolls;
 use crate::spot::Spot;
 use ngc_wheel::{Spoke, Wheel};
 
-/// An arc's way over the grid of its plane: straight to a joint at the radius of its end, onto the
-/// wheel, round with it, and straight to the end.
+/// A plan of an arc's path over the grid of its plane: straight to a joint at the radius of its
+/// end, onto the wheel, round with it, and straight to the end.
 #[derive(Clone, Copy)]
 pub(crate) struct Plan {
     pub start: Spot,
     pub joint: Spot,
     pub entry: Spot,
     pub end: Spot,
-    /// The moves to the joint, those to the entry, those to the wheel's last point, and all of
-    /// them.
+    /// The numbers of moves to the joint, to the entry, to the wheel's last point, and in all.
     pub joined: u32,
     pub entered: u32,
     pub rolled: u32,
     pub moves: u32,
-    /// The wheel's first point about the centre, the length of its moves and its limit.
+    /// The wheel's first point about the centre, the length of its moves, and its limit.
     pub first: Spoke,
     pub step: u64,
     pub limit: u64,
@@ -31,7 +30,7 @@ impl Plan {
     ghost use Rattle.ngc_step_kernel.specs.Plans.{IsRoundPlan, IsBentPlan, IsStraightPlan};
     ghost use Rattle.ngc_step_kernel.specs.Spots.{IsSpot, straight_moves};
 
-    /// Straight from start to end.
+    /// Returns the straight plan from start to end.
     pub(crate) fn straight(start: Spot, end: Spot, step: u64) -> Plan
         requires start { IsSpot start }
         requires end { IsSpot end }
@@ -58,7 +57,7 @@ impl Plan {
         }
     }
 
-    /// Straight to a joint, and straight from there to the end.
+    /// Returns the plan straight to a joint, and straight from there to the end.
     pub(crate) fn by_joint(start: Spot, joint: Spot, end: Spot, step: u64) -> Plan
         requires start { IsSpot start }
         requires joint { IsSpot joint }
@@ -88,8 +87,8 @@ impl Plan {
         }
     }
 
-    /// By a joint and an entry, and round from there with a wheel until the end's direction, so
-    /// many quadrants on, is reached.
+    /// Returns the plan that passes a joint and an entry, and turns from there with a wheel until
+    /// it reaches the end's direction, `quadrants` further on.
     pub(crate) fn round<W: Wheel + Drop>(
         start: Spot,
         joint: Spot,

@@ -9,7 +9,8 @@ ghost use Rattle.ngc_step_kernel.specs.Spots.{IsSpot};
 use crate::spot::{PlaneMove, Spot};
 use ngc_wheel::{Roll, Spoke, Wheel};
 
-/// How many quadrants on the end lies after a move, or none where its direction is reached.
+/// Returns the number of quadrants to the end after a move, or `None` if the end's direction is
+/// reached.
 fn left_after(left: u32, roll: Roll, at: &Spoke, end: &Spoke) -> Option<u32>
     requires at { IsSmall at.now }
     requires end { IsSmall end.now }
@@ -26,8 +27,8 @@ fn left_after(left: u32, roll: Roll, at: &Spoke, end: &Spoke) -> Option<u32>
     Some(left)
 }
 
-/// The moves round the centre before the end's direction, so many quadrants on, is reached, and
-/// where they lead from the entry.
+/// Returns the number of moves round the centre before the end's direction, `quadrants` further on,
+/// and the point to which they lead from the entry.
 pub(crate) fn rolls<W: Wheel + Drop>(
     entry: Spot,
     first: Spoke,

@@ -2,14 +2,14 @@ ghost use Rattle.std.specs.Prelude.{◌≡◌, ℕ, ◌+◌, ◌*◌, ◌^◌, �
 
 use ngc_fixed_length::root_ceil;
 
-/// Takes all roots that the way round an arc needs, and counts them.
+/// Computes all roots that the path round an arc needs, and counts them.
 #[derive(Drop)]
 pub(crate) struct Roots {
     pub taken: u64,
 }
 
 impl Roots {
-    /// The least whole number whose square is at least `x`.
+    /// Returns the least whole number whose square is at least `x`.
     pub(crate) fn ceil(&mut self, x: u128) -> u64
         requires small { x ≤ 10 ^ 38 }
         requires few { self.old.taken < 16 }

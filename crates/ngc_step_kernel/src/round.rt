@@ -5,14 +5,14 @@ ghost use Rattle.ngc_wheel.specs.Wheel.{IsSmall};
 
 use ngc_wheel::{Roll, Spoke};
 
-/// A way in a plane, in nanometres.
+/// A vector in a plane, in nanometres.
 #[derive(Clone, Copy)]
 pub(crate) struct Way {
     pub u: i64,
     pub v: i64,
 }
 
-/// The product of two coordinates of ways.
+/// Returns the product of two coordinates of vectors.
 fn product(x: i64, y: i64) -> i128
     requires x { unsigned_abs x ≤ 3000000000 }
     requires y { unsigned_abs y ≤ 3000000000 }
@@ -25,7 +25,8 @@ fn product(x: i64, y: i64) -> i128
 impl Way {
     ghost use Rattle.ngc_step_kernel.specs.Ways.{IsWay};
 
-    /// Above 0 where a turn of less than half a circle leads from this way to the other.
+    /// Returns the cross product. It is above 0 if a turn of less than half a circle leads from
+    /// this vector to the other.
     pub(crate) fn cross(&self, other: &Way) -> i128
         requires here { IsWay self.now }
         requires other { IsWay other.now }
@@ -34,7 +35,7 @@ impl Way {
         product(self.u, other.v) - product(self.v, other.u)
     }
 
-    /// The square of its length.
+    /// Returns the square of the vector's length.
     pub(crate) fn square(&self) -> u128
         requires { IsWay self.now }
         ensures { result ≡ unsigned_abs self.now.u * unsigned_abs self.now.u
@@ -56,7 +57,7 @@ impl Way {
     }
 }
 
-/// The greatest squared distance that a wheel about a centre chooses.
+/// Returns the greatest squared distance at which a wheel about a centre chooses a point.
 pub(crate) fn limit_of(radius: u64, step: u64) -> u64
     requires radius { radius ≤ 2000100000 }
     requires short { step ≤ 50000 }
@@ -67,8 +68,9 @@ pub(crate) fn limit_of(radius: u64, step: u64) -> u64
     reach * reach
 }
 
-/// The move that leads from a joint behind the start's direction to a point in it or ahead of it:
-/// along the lesser axis, and along the greater one too where the limit asks for it.
+/// Returns the move that leads from a joint before the start's direction to a point at that
+/// direction or past it. It moves along the lesser axis, and along the greater one too if the limit
+/// requires it.
 pub(crate) fn entering(joint: Spoke, is_steep: bool, step: u64, limit: u64) -> Roll
     requires x { joint.x ≤ 2900000000 }
     requires y { joint.y ≤ 2900000000 }

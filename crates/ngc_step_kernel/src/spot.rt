@@ -19,7 +19,7 @@ pub(crate) struct PlaneMove {
     pub v: AxisMove,
 }
 
-/// One step towards a place, or none at it.
+/// Returns one step towards a coordinate, or none if the axis is there.
 fn towards(at: i32, place: i32) -> AxisMove
     ensures { result ≡ axis_towards at place }
 {
@@ -47,7 +47,7 @@ impl AxisMove {
 }
 
 impl PlaneMove {
-    /// What a roll is, from a point in this quadrant.
+    /// Returns a wheel's move as a move in the plane, from a point in this quadrant.
     pub(crate) fn of(roll: Roll, quadrant: Quadrant) -> PlaneMove
         ensures { result ≡ roll_move roll quadrant }
     {
@@ -94,7 +94,7 @@ impl Spot {
         }
     }
 
-    /// How many moves straight towards a place lead there.
+    /// Returns the number of moves straight to another point.
     pub(crate) fn moves_to(&self, place: &Spot) -> u32
         ensures { result ≡ straight_moves self.now place.now }
     {

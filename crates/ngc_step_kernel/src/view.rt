@@ -10,8 +10,9 @@ use crate::spot::Spot;
 use ngc_arc_geometry::Arc;
 use ngc_fixed_length::{Point2, Turn, rounded_quotient};
 
-/// An arc about its centre, as one that turns from u towards v: a clockwise one is seen in the
-/// mirror. Where its centre lies, and the ways from there to its start and its end, in nanometres.
+/// An arc relative to its centre, so that it turns from u towards v: a clockwise one is mirrored.
+/// It holds the position of the centre and the vectors from there to the start and the end, in
+/// nanometres.
 #[derive(Clone, Copy)]
 pub(crate) struct View {
     pub centre: Way,
@@ -19,7 +20,7 @@ pub(crate) struct View {
     pub end: Way,
 }
 
-/// A length along v, as an arc of this sense sees it.
+/// Returns a length along v in the direction of the arc: it is negated for a clockwise one.
 fn turned(turn: Turn, v: i64) -> i64
     requires { unsigned_abs v ≤ 200000000000 }
     ensures value { result ≡ turned turn v }
@@ -31,7 +32,7 @@ fn turned(turn: Turn, v: i64) -> i64
     }
 }
 
-/// The way from one point to another, as an arc of this sense sees it.
+/// Returns the vector from one point to another, mirrored for a clockwise arc.
 fn way_between(turn: Turn, from: &Point2, to: &Point2) -> Way
     ensures { result ≡ way_between turn from.now to.now }
 {
@@ -41,7 +42,7 @@ fn way_between(turn: Turn, from: &Point2, to: &Point2) -> Way
     }
 }
 
-/// A coordinate times a radius.
+/// Returns a coordinate times a radius.
 fn scaled(x: i64, radius: u64) -> i128
     requires x { unsigned_abs x ≤ 100000000000 }
     requires radius { radius ≤ 3000000000 }
@@ -51,7 +52,7 @@ fn scaled(x: i64, radius: u64) -> i128
     i128::from(x) * i128::from(radius)
 }
 
-/// Along an axis, how far a grid place lies from the centre.
+/// Returns the distance of a grid point from the centre along an axis.
 fn from_centre(at: i32, step: u64, centre: i64) -> i64
     requires at { unsigned_abs at ≤ 200000000 }
     requires greatest { step ≤ 50000 }
@@ -61,7 +62,8 @@ fn from_centre(at: i32, step: u64, centre: i64) -> i64
     scaled(i64::from(at), step) as i64 - centre
 }
 
-/// Along an axis, the grid place nearest to where a way from the centre leads at another radius.
+/// Returns, along an axis, the grid point nearest to the end of a vector from the centre that is
+/// moved from its radius to another.
 fn moved_place(centre: i64, way: i64, radius: u64, other: u64, step: u64) -> i32
     requires centre { unsigned_abs centre ≤ 93000000000 }
     requires way { unsigned_abs way ≤ radius }
@@ -78,7 +80,7 @@ fn moved_place(centre: i64, way: i64, radius: u64, other: u64, step: u64) -> i32
 }
 
 impl View {
-    /// An arc seen about its centre.
+    /// Returns an arc relative to its centre.
     pub(crate) fn of(arc: &Arc) -> View
         ensures value { result ≡ view_of arc.now }
         ensures range { IsView result }
@@ -99,8 +101,8 @@ impl View {
         }
     }
 
-    /// The grid point nearest to where the start lies once it is moved along its ray from its
-    /// radius to another.
+    /// Returns the joint: the grid point nearest to the start, moved along its ray from its radius
+    /// to another.
     pub(crate) fn joint(&self, radius: u64, other: u64, step: u64) -> Spot
         requires view { IsView self.now }
         requires some { 0 < radius }
@@ -119,7 +121,7 @@ impl View {
         }
     }
 
-    /// The way from the centre to a grid point.
+    /// Returns the vector from the centre to a grid point.
     pub(crate) fn way_to(&self, at: &Spot, step: u64) -> Way
         requires view { IsView self.now }
         requires at { IsSpot at.now }
