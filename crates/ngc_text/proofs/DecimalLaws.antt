@@ -1,4 +1,5 @@
--- A number's decimal spelling says it, and what says a number is its spelling.
+-- A number's decimal text reads as the number, and a text that reads as a number is its decimal
+-- text.
 use Rattle.std.proofs.Common.{◌≡◌, ◌⊎◌, inl, inr, ℕ, zero, suc, ◌<◌, ◌^◌, ap, subst, Bool, true, false, Some, None, List, [], ◌∷◌, length, get_or, refl, sym}
 use Rattle.std.proofs.Common.{◌∙◌, arith}
 use Rattle.std.specs.Prelude.{decimal, ◌==◌, ◌&&◌, ◌||◌, not, if◌then◌else◌}

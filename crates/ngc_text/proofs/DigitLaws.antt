@@ -37,7 +37,7 @@ digit_of d h = grind (arith, nat_tests)
 limited_step : (v d : ℕ) → min (10 * min v 10000000000 + d) 10000000000 ≡ min (v * 10 + d) 10000000000
 limited_step v d = omega arith
 
--- one digit more
+-- one more digit
 pub size_more : (ds : List ℕ) (i size d next : ℕ) → i < length ds → size ≡ limited (digits_value 10 (take i ds)) → is_ascii_digit (get_or ds i 0) ≡ true
     → d ≡ get_or ds i 0 - 48 → next ≡ min (10 * size + d) 10000000000 → next ≡ limited (digits_value 10 (take (i + 1) ds))
 size_more ds i size d next h e digit is_d is_next =

@@ -5,7 +5,7 @@ use Rattle.std.proofs.lemmas.List.{take_all}
 pub enough : (n m : ℕ) → (n ≤ m) ⊎ (m ≤ n)
 enough n m = grind (arith)
 
--- of a list's length the lesser is meant first
+-- the lesser of a length and n takes the same elements as n
 pub taken : {X : Type 0} (n k : ℕ) (xs : List X) → k ≡ min (length xs) n → take k xs ≡ take n xs
 taken n k xs is = elim (enough n (length xs)) [
   | inl h ↦ ap (λ i. take i xs) (omega arith)

@@ -1,14 +1,15 @@
 -- A text that is written in pieces.
 pub mod Appended
--- What a source lost in all.
+-- The total that a source lost.
 pub mod Consumed
--- A number's decimal spelling says it, and what says a number is its spelling.
+-- A number's decimal text reads as the number, and a text that reads as a number is its decimal
+-- text.
 pub mod DecimalLaws
 -- Sizes of digits as they are read, up to a bound.
 pub mod DigitLaws
--- Texts that a byte parts.
+-- Texts that a byte separates.
 pub mod Splits
 -- The first elements of a list, where there may be fewer.
 pub mod Firsts
--- A number's text that is added with more bytes behind it than count.
+-- A number's text that is added with unused bytes after it.
 pub mod Spelled

@@ -1,4 +1,4 @@
--- A number's text that is added with more bytes behind it than count.
+-- A number's text that is added with unused bytes after it.
 use Rattle.std.proofs.Common.{◌≡◌, ◌+◌, ◌-◌, ◌≤◌, ◌++◌, ℕ, List, length, take, drop}
 use Rattle.std.proofs.Common.{refl, sym, ap, ◌∙◌, arith, take-take, length-drop, length-take-le}
 use Rattle.std.proofs.Math.Seq.{take-append-add}

@@ -1,11 +1,11 @@
--- Texts that a byte parts.
+-- Texts that a byte separates.
 use Rattle.std.proofs.Common.{◌≡◌, ℕ, ap, Bool, true, false, List, [], ◌∷◌, ◌++◌, refl, ◌∙◌, arith}
 use Rattle.std.specs.Prelude.{◌==◌, not}
 use Rattle.std.specs.List.{list_all, slice_split, join_with_byte}
 use Rattle.std.proofs.lemmas.Bool.{and_parts}
 use Rattle.std.proofs.lemmas.Bool.Decides.{nat_tests}
 
--- a byte doesn't stand in a text
+-- a byte is not in a text
 abbrev pub lacks : ℕ → List ℕ → Bool
 lacks s bytes = list_all (λ b. not (b == s)) bytes
 
@@ -27,7 +27,7 @@ split_last s (x ∷ xs) h =
     let parts = and_parts (not (x == s)) (lacks s xs) h in
     rw (other_byte x s parts.0, split_last s xs parts.1) refl
 
--- joined parts fall apart again
+-- joined parts split into the same parts
 pub split_joined : (s : ℕ) (x : List ℕ) (xs : List (List ℕ)) → list_all (lacks s) (x ∷ xs) ≡ true →
     slice_split (λ b. b == s) (join_with_byte s (x ∷ xs)) ≡ x ∷ xs
 split_joined s x [] h = split_last s x (and_parts (lacks s x) true h).0

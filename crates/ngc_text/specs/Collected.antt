@@ -2,17 +2,17 @@
 use Rattle.std.specs.Prelude.{◌≡◌, ℕ, ◌+◌, ◌≤◌, List, ◌++◌, length, Option}
 use Rattle.std.specs.Io.KnownBytes.{Appends}
 
--- how many bytes are collected at most
+-- the greatest number of collected bytes
 abbrev pub CHUNK_SIZE : ℕ
 CHUNK_SIZE = 16384
 
--- how many a line may have
+-- the greatest number of bytes of a line
 abbrev pub LINE_ROOM : ℕ
 LINE_ROOM = 512
 
 pub record HasLineRoom (chunk : List ℕ) : Type 0 where
   pub room : length chunk + LINE_ROOM ≤ CHUNK_SIZE
 
--- a beginning of what was collected is written, and the rest of it is still collected
+-- a prefix of the collected text is written, and the rest of it is still collected
 abbrev pub WritesFront : Option (List ℕ) → Option (List ℕ) → List ℕ → List ℕ → Type 0
 WritesFront old new before after = (bs : List ℕ) × Appends old new bs × (before ≡ bs ++ after)

@@ -1,4 +1,4 @@
--- What a contract reads of a device.
+-- The fields of a device that contracts see.
 use Rattle.std.specs.Prelude.{ℕ}
 use Rattle.ngc_text.specs.declared.device.Device.{Device}
 
@@ -6,6 +6,6 @@ use Rattle.ngc_text.specs.declared.device.Device.{Device}
 abbrev pub inner_of : {T : Type 0} → Device T → T
 inner_of d = d.inner
 
--- how often it answered a fault
+-- how many times it returned a fault
 abbrev pub failures_of : {T : Type 0} → Device T → ℕ
 failures_of d = d.failures

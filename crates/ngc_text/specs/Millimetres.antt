@@ -2,13 +2,13 @@
 use Rattle.std.specs.Prelude.{ℕ, ◌+◌, ◌/◌, ◌%◌, ◌==◌, ℤ, pos, negsuc, unsigned_abs, List, [], ◌∷◌}
 use Rattle.std.specs.Prelude.{◌++◌, take, codes, decimal, if◌then◌else◌}
 
--- a point and six digits; 48 is the code of 0
+-- a point and six digits; 48 is the code of the digit 0
 abbrev pub decimals : ℕ → List ℕ
 decimals n =
     46 ∷ (48 + n / 100000) ∷ (48 + n / 10000 % 10) ∷ (48 + n / 1000 % 10) ∷ (48 + n / 100 % 10)
     ∷ (48 + n / 10 % 10) ∷ (48 + n % 10) ∷ []
 
--- how many of these are written: no noughts at the end, and no point alone
+-- how many of these bytes are written: no zeros at the end, and no point without digits
 abbrev pub kept : ℕ → ℕ
 kept n =
     if n == 0 then 0

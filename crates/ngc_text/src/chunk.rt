@@ -15,13 +15,12 @@ const MOST_BEFORE_A_LINE: usize = MOST_TEXT - 512;
 // The length of the longest number's text.
 const MOST_DIGITS: usize = 40;
 
-/// Text that is collected until a large piece of it is written: a system call a line would be too
-/// dear.
+/// Collects text and writes it in large pieces: one system call for each line would be too slow.
 ///
-/// It holds at most 16,384 bytes, and `make_room` leaves 512 of them free, enough for a line.
+/// It holds at most 16,384 bytes. `make_room` leaves 512 of them free, enough for a line.
 #[derive(Drop)]
 pub struct Chunk {
-    // An array and a length, not an `ArrayVec`, which wipes what it lets go of.
+    // An array and a length, because an `ArrayVec` overwrites what is removed from it.
     bytes: [u8; MOST_TEXT],
     len: usize,
 }
@@ -34,7 +33,7 @@ impl Model for Chunk {
     ghost invariant = { λ c. c.len ≤ 16384 };
 }
 
-// Spells a number so that its text ends with the room, and answers where it begins.
+// Formats a number so that its text ends at the end of `room`, and returns where it begins.
 fn spell_at_end<I: Integer>(number: I, room: &mut [u8; MOST_DIGITS]) -> usize
     ensures text { drop result room.new ≡ I.text number }
     ensures length { length room.new ≡ 40 }
@@ -43,7 +42,7 @@ fn spell_at_end<I: Integer>(number: I, room: &mut [u8; MOST_DIGITS]) -> usize
     number.write(room)
 }
 
-// Spells a number so that its text ends in the middle of the room, and answers where it begins.
+// Formats a number so that its text ends in the middle of `room`, and returns where it begins.
 fn spell<I: Integer>(number: I, room: &mut [u8; 2 * MOST_DIGITS]) -> usize
     ensures text { take (40 - result) (drop result room.new) ≡ I.text number }
     ensures within { result ≤ 40 }
@@ -55,7 +54,7 @@ fn spell<I: Integer>(number: I, room: &mut [u8; 2 * MOST_DIGITS]) -> usize
 }
 
 impl Chunk {
-    /// No text.
+    /// Returns an empty chunk.
     pub fn new() -> Chunk
         ensures { result ≡ [] }
     {
@@ -65,7 +64,7 @@ impl Chunk {
         }
     }
 
-    /// Adds a text, for which there must be room.
+    /// Adds a text, for which there must be space.
     pub fn add_text(&mut self, text: &[u8])
         requires { length self.old + length text.now ≤ CHUNK_SIZE }
         ensures { self.new ≡ self.old ++ text.now }
@@ -75,8 +74,8 @@ impl Chunk {
         self.len = end;
     }
 
-    /// Adds a number's decimal digits, behind a minus sign below zero. Room for 40 bytes must be
-    /// there.
+    /// Adds a number's decimal digits, after a minus sign if it is below zero. Space for 40 bytes
+    /// must be free.
     pub fn add_number<I: Integer>(&mut self, number: I)
         requires { length self.old + 40 ≤ CHUNK_SIZE }
         ensures text { self.new ≡ self.old ++ I.text number }
@@ -85,13 +84,14 @@ impl Chunk {
         let mut digits = [0; 2 * MOST_DIGITS];
         let start = spell(number, &mut digits);
         let end = self.len + MOST_DIGITS;
-        // A copy of a known size is a few instructions; what it adds behind the text doesn't count.
+        // A copy of a known size takes a few instructions. The bytes that it adds after the text do
+        // not count.
         self.bytes[self.len..end].copy_from_slice(&digits[start..start + MOST_DIGITS]);
         self.len = end - start;
     }
 
-    /// Adds three numbers as `add_number` does, with a space between each and the next. Room for
-    /// 122 bytes must be there.
+    /// Adds three numbers as `add_number` does, separated by spaces. Space for 122 bytes must be
+    /// free.
     pub fn add_three<I: Integer>(&mut self, first: I, second: I, third: I)
         requires { length self.old + 122 ≤ CHUNK_SIZE }
         ensures text { self.new ≡ self.old ++ I.text first ++ codes " " ++ I.text second
@@ -105,8 +105,8 @@ impl Chunk {
         self.add_number(third);
     }
 
-    /// Writes what is collected. After a fault a beginning of it is written, and the sink has
-    /// counted the failure.
+    /// Writes the collected text. After a fault a prefix of it is written, and the sink has counted
+    /// the failure.
     pub fn write_out<W: Sink>(&mut self, sink: &mut W) -> Result<(), WriteFault>
         ensures ok { OnOk result (Appends (W.written sink.old) (W.written sink.new) self.old) }
         ensures empty { OnOk result (self.new ≡ []) }
@@ -123,9 +123,9 @@ impl Chunk {
         }
     }
 
-    /// Makes room for a line of 512 bytes, where need be by writing what is collected.
+    /// Frees space for a line of 512 bytes, by writing the collected text if necessary.
     ///
-    /// After a fault a beginning of it is written, and the sink has counted the failure.
+    /// After a fault a prefix of it is written, and the sink has counted the failure.
     pub fn make_room<W: Sink>(&mut self, sink: &mut W) -> Result<(), WriteFault>
         ensures room { OnOk result (HasLineRoom self.new) }
         ensures ok { OnOk result

@@ -3,10 +3,10 @@ ghost use Rattle.std.specs.Option.{option_map};
 ghost use Rattle.ngc_text.specs.Decimals.{decimal_in as decimal_said, limited, digits_size};
 ghost use Rattle.ngc_text.specs.Decimals.{has_lead};
 
-// Greater numbers are taken for this one.
+// A greater number is replaced with this one.
 const GREATEST: u64 = 10_000_000_000;
 
-// Some digits, and no zero in front of others.
+// Returns whether there are digits, without leading zeros.
 fn begins_number(digits: &[u8]) -> bool
     ensures { result ≡ has_lead digits.now }
 {
@@ -16,7 +16,7 @@ fn begins_number(digits: &[u8]) -> bool
     }
 }
 
-// The number that digits give, or `GREATEST`.
+// Returns the number that digits write, at most `GREATEST`.
 fn digits_size(digits: &[u8]) -> Option<u64>
     ensures value { result ≡ digits_size digits.now }
     ensures bound { IfSome result (λ n. n ≤ 10000000000) }
@@ -31,10 +31,10 @@ fn digits_size(digits: &[u8]) -> Option<u64>
     Some(size)
 }
 
-/// The number whose decimal spelling a text is: digits, with no zero in front of others and no
-/// sign.
+/// Returns the number that a text writes in decimal: digits only, without a sign and without
+/// leading zeros.
 ///
-/// Any number greater than 10,000,000,000 is answered as 10,000,000,000.
+/// For a number greater than 10,000,000,000 it returns 10,000,000,000.
 pub fn decimal_in(text: &[u8]) -> Option<u64>
     ensures value { result ≡ option_map limited (decimal_said text.now) }
     ensures bound { IfSome result (λ n. n ≤ 10000000000) }

@@ -5,34 +5,34 @@ ghost use Rattle.ngc_text.specs.Failures.{CountsFailure};
 
 use std::io::{Read, Write};
 
-/// A device answered a fault, or took nothing of some bytes.
+/// A device returned a fault, or accepted none of some bytes.
 #[derive(Clone, Copy)]
 pub struct DeviceFault;
 
-/// What gives bytes.
+/// A source of bytes.
 pub trait Source {
-    // The bytes still to come, where they are known.
+    // The remaining bytes, if they are known.
     ghost remaining: { Self → Option (List ℕ) };
 
-    // How often a pull answered a fault so far.
+    // How many pulls have returned a fault so far.
     ghost failures: { Self → ℕ };
 
-    /// Fills a beginning of `buf`. Into a buffer with room, 0 bytes are the end.
+    /// Fills a prefix of `buf` and returns its length. If `buf` is not empty, 0 bytes mean the end.
     fn pull(&mut self, buf: &mut [u8]) -> Result<usize, DeviceFault>
         ensures bound { IfOk result (λ n. n ≤ length buf.new) }
         ensures bytes { ReadConsumes (remaining self.old) (remaining self.new) result buf.new }
         ensures counts { CountsFailure (failures self.old) (failures self.new) result };
 }
 
-/// What takes bytes.
+/// A sink that accepts bytes.
 pub trait Sink {
-    // The bytes that were taken so far, where they are known.
+    // The bytes accepted so far, if they are known.
     ghost written: { Self → Option (List ℕ) };
 
-    // How often a push answered a fault so far.
+    // How many pushes have returned a fault so far.
     ghost failures: { Self → ℕ };
 
-    /// Takes a beginning of `buf`: at least a byte of some bytes.
+    /// Accepts a prefix of `buf` and returns its length: at least one byte if there are any.
     fn push(&mut self, buf: &[u8]) -> Result<usize, DeviceFault>
         ensures bound { IfOk result (λ n. n ≤ length buf.now) }
         ensures takes { IfOk result (λ n. 0 < length buf.now → 0 < n) }
@@ -40,7 +40,7 @@ pub trait Sink {
         ensures counts { CountsFailure (failures self.old) (failures self.new) result };
 }
 
-/// A reader or writer of std with its count of failures.
+/// A reader or writer of std, with its count of failures.
 #[derive(Drop)]
 pub struct Device<T> {
     inner: T,

@@ -2,16 +2,16 @@ ghost use Rattle.std.specs.Prelude.{◌≡◌};
 
 use thiserror::Error;
 
-/// Why a file was not read.
+/// The reasons why a file is not read.
 #[derive(Clone, Copy, Debug, PartialEq, Eq, Error)]
 pub enum InputFault {
-    /// There was no memory for its bytes.
+    /// There is no memory for its bytes.
     #[error("out of memory")]
     Memory,
     /// The source failed.
     #[error("read failed")]
     Device,
-    /// It has more bytes than are read.
+    /// The file has more bytes than the limit.
     #[error("file too long")]
     TooLong,
 }
@@ -19,7 +19,7 @@ pub enum InputFault {
 impl InputFault {
     ghost use Rattle.ngc_text.specs.Input.{number_of};
 
-    /// The fault's number.
+    /// Returns the fault's number.
     pub fn number(&self) -> u16
         ensures { result ≡ number_of self.now }
     {

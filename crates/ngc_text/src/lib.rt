@@ -1,5 +1,5 @@
-//! Text on its way in and out: sources and sinks that count their failures, whole files up to a
-//! limit, text in large pieces, decimal spellings, millimetres, and lines as a terminal shows them.
+//! Text input and output: sources and sinks that count their failures, whole files up to a limit,
+//! output in large pieces, decimal numbers, millimetres, and lines as a terminal shows them.
 #![tactic(auto)]
 
 mod chunk;

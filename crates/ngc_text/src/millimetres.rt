@@ -42,8 +42,8 @@ fn kept(millionths: u32) -> usize
 }
 
 impl Chunk {
-    /// Adds a whole number and millionths, of which there are less than a million, with as many
-    /// decimals as they need. Room for 47 bytes must be there.
+    /// Adds a whole number and its millionths, with as many decimals as they need. There are less
+    /// than a million millionths. Space for 47 bytes must be free.
     #[tactic(auto, unfolding(crate::specs::Millimetres::number_text))]
     pub fn add_millionths(&mut self, whole: u128, millionths: u32)
         requires room { length self.old + 47 ≤ CHUNK_SIZE }
@@ -55,8 +55,8 @@ impl Chunk {
         self.add_text(&decimals(millionths)[..kept(millionths)]);
     }
 
-    /// Adds a size in nanometres as millimetres, exactly and without the unit. Room for 47 bytes
-    /// must be there.
+    /// Adds a size in nanometres as millimetres, exactly and without the unit. Space for 47 bytes
+    /// must be free.
     pub fn add_size(&mut self, nanometres: u128)
         requires { length self.old + 47 ≤ CHUNK_SIZE }
         ensures text { self.new ≡ self.old ++ size_text nanometres }
@@ -65,7 +65,7 @@ impl Chunk {
         self.add_millionths(nanometres / 1_000_000, (nanometres % 1_000_000) as u32);
     }
 
-    /// Adds a minus sign below zero, and else nothing. Room for a byte must be there.
+    /// Adds a minus sign if the number is below zero. Space for a byte must be free.
     pub fn add_sign(&mut self, number: i128)
         requires { length self.old + 1 ≤ CHUNK_SIZE }
         ensures text { self.new ≡ self.old ++ sign_text number }
@@ -74,8 +74,8 @@ impl Chunk {
         self.add_text(if number < 0 { b"-" } else { b"" });
     }
 
-    /// Adds a length in nanometres as millimetres, as `add_size` does, behind a minus sign below
-    /// zero. Room for 48 bytes must be there.
+    /// Adds a length in nanometres as millimetres, as `add_size` does, after a minus sign if it is
+    /// below zero. Space for 48 bytes must be free.
     #[tactic(auto, unfolding(crate::specs::Millimetres::length_text))]
     pub fn add_length(&mut self, nanometres: i128)
         requires { length self.old + 48 ≤ CHUNK_SIZE }
@@ -86,7 +86,7 @@ impl Chunk {
         self.add_size(nanometres.unsigned_abs());
     }
 
-    /// Adds a length in nanometres as millimetres, and ` mm`. Room for 51 bytes must be there.
+    /// Adds a length in nanometres as millimetres, and ` mm`. Space for 51 bytes must be free.
     #[tactic(auto, unfolding(crate::specs::Millimetres::mm_text))]
     pub fn add_millimetres(&mut self, nanometres: i128)
         requires { length self.old + 51 ≤ CHUNK_SIZE }

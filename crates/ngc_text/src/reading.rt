@@ -6,25 +6,25 @@ use crate::Source;
 use crate::input_fault::InputFault;
 use std::alloc::Allocator;
 
-/// How many bytes are pulled from a source at once.
+/// The number of bytes that one pull requests from a source.
 pub const PULL_SIZE: usize = 16_384;
 
-/// All the bytes that a source still has, if they are at most `limit`.
+/// Returns all remaining bytes of a source, if they are at most `limit`.
 pub fn read_whole<A: Allocator, R: Source>(
     alloc: A,
     source: &mut R,
     limit: usize,
 ) -> Result<Vec<u8, A>, InputFault>
-    // All bytes up to the end of the source, where they are known.
+    // All bytes up to the end of the source, if they are known.
     ensures whole { IfOk result (λ v. IfSome (R.remaining source.old) (λ bytes. v.items ≡ bytes)) }
     ensures end { OnOk result (IsAtEnd (R.remaining source.new)) }
     ensures within { IfOk result (λ v. vec_len v ≤ limit) }
-    // Only a source that had more is too long.
+    // Only a source with more bytes is too long.
     ensures long { result ≡ Err InputFault.TooLong →
         IfSome (R.remaining source.old) (λ bytes. limit < length bytes) }
-    // The source failed just where the answer says so.
+    // The source failed if and only if the result says so.
     ensures device { FailsByDevice (R.failures source.old) (R.failures source.new) result }
-    // Whatever the answer, the source lost at most the limit and a chunk.
+    // In every case the source lost at most the limit and a chunk.
     ensures taken { ConsumesAtMost (R.remaining source.old) (R.remaining source.new)
         (limit + PULL_SIZE) }
 {

@@ -15,8 +15,8 @@ fn shown(byte: u8) -> u8
     }
 }
 
-/// The first 256 bytes of a text, as a terminal shows them: what it doesn't print as `?`, and tabs
-/// and carriage returns as spaces.
+/// Returns the first 256 bytes of a text, as a terminal shows them: tabs and carriage returns as
+/// spaces, and other bytes that do not print as `?`.
 pub fn shown_bytes(bytes: &[u8]) -> ArrayVec<u8, 256>
     ensures text { result.items ≡ shown_text bytes.now }
     ensures few { length result.items ≤ 256 }
@@ -29,9 +29,8 @@ pub fn shown_bytes(bytes: &[u8]) -> ArrayVec<u8, 256>
 }
 
 impl Chunk {
-    /// Adds a line behind its number, as `Line 3: G0 X400` and a line feed, of which `shown_bytes`
-    /// are shown. Room for 310 bytes
-    /// must be there.
+    /// Adds a line after its number, as `Line 3: G0 X400` and a line feed. It shows the
+    /// `shown_bytes` of the line. Space for 310 bytes must be free.
     pub fn add_line(&mut self, number: usize, line: &[u8])
         requires { length self.old + 310 ≤ CHUNK_SIZE }
         ensures text { self.new ≡ self.old ++ shown_line number line.now }

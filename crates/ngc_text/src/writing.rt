@@ -6,13 +6,13 @@ ghost use Rattle.ngc_text.specs.Written.{AppendsBeginning};
 use crate::device::Sink;
 use thiserror::Error;
 
-/// A write failed: 902.
+/// Fault 902: a write failed.
 #[derive(Clone, Copy, Debug, PartialEq, Eq, Error)]
 #[error("the output was not written")]
 pub struct WriteFault;
 
 impl WriteFault {
-    /// The fault's number.
+    /// Returns the fault's number.
     pub fn number(&self) -> u16
         ensures { result ≡ 902 }
     {
@@ -20,7 +20,7 @@ impl WriteFault {
     }
 }
 
-/// Writes the whole text. After a fault a beginning of it is written, and the sink has counted the
+/// Writes the whole text. After a fault a prefix of it is written, and the sink has counted the
 /// failure.
 pub fn write_all<W: Sink>(sink: &mut W, text: &[u8]) -> Result<(), WriteFault>
     ensures ok { OnOk result (Appends (W.written sink.old) (W.written sink.new) text.now) }

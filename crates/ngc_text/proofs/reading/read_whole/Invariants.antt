@@ -1,4 +1,4 @@
--- What is read so far is what the source lost, and within the limit.
+-- The bytes read so far are those that the source lost, and within the limit.
 use Rattle.std.proofs.Common.{◌≡◌, ◌+◌, ◌-◌, ◌≤◌, vec_len}
 use Rattle.std.specs.Io.KnownBytes.{Consumes}
 use Rattle.ngc_text.proofs.reading.read_whole.Given as goal

@@ -1,4 +1,4 @@
--- So many bytes are shown.
+-- The number of bytes shown.
 use Rattle.std.proofs.Common.{◌≡◌, take, map}
 use Rattle.ngc_text.specs.Shown.{shown}
 use Rattle.ngc_text.proofs.shown.shown_bytes.Given as goal
