@@ -1,4 +1,4 @@
--- White space in front changes no text, so that a line is blank or a percent line is seen from its bytes.
+-- Leading white space changes no text, so the bytes tell whether a line is blank or a percent line.
 use Rattle.std.proofs.Common.{◌≡◌, ◌≢◌, ℕ, ap, Bool, true, false, List, [], ◌∷◌, length, refl, ◌∙◌, arith}
 use Rattle.std.specs.Prelude.{◌==◌, ◌&&◌, nat_le}
 use Rattle.std.proofs.lemmas.Bool.Decides.{nat_tests}
@@ -14,7 +14,7 @@ abbrev pub percent_bytes : List ℕ → Bool
 percent_bytes [] = false
 percent_bytes (b ∷ rest) = (b == 37) && is_blank_text (text rest)
 
--- a byte that isn't blank is a percent sign in its text only if it is one
+-- a byte that is not blank is a percent sign in the text only if it is one
 upper_percent : (b : ℕ) → (upper b == 37) ≡ (b == 37)
 upper_percent b = by_test (nat_le 97 b && nat_le b 122) refl where
   by_test : (x : Bool) → (nat_le 97 b && nat_le b 122) ≡ x → (upper b == 37) ≡ (b == 37)
@@ -31,7 +31,7 @@ text_space b rest e = let p = plain b 32 e (omega arith) (omega arith) in rw (e,
 text_tab : (b : ℕ) (rest : List ℕ) → (b == 32) ≡ false → (b == 9) ≡ true → text (b ∷ rest) ≡ text rest
 text_tab b rest e f = let p = plain b 9 f (omega arith) (omega arith) in rw (e, f, p.0, p.1) refl
 
--- what a line that begins with no blank has as its text
+-- the text of a line that begins with no blank
 record Begins (b : ℕ) (rest : List ℕ) : Type 0 where
   blank : is_blank_text (text (b ∷ rest)) ≡ ((b == 13) && (length rest == 0))
   percent : is_percent_text (text (b ∷ rest)) ≡ ((b == 37) && is_blank_text (text rest))
@@ -59,7 +59,7 @@ begins_with : (b : ℕ) (rest : List ℕ) (x : Bool) → (b == 32) ≡ false →
 begins_with b rest true e f g = begins_return b rest e f g
 begins_with b rest false e f g = begins_other b rest (b == 37) e f g refl
 
--- what is behind the blanks in front says whether a line is blank or has a percent sign alone
+-- the bytes after the leading blanks tell whether a line is blank or has only a percent sign
 record IsSeen (l : List ℕ) : Type 0 where
   blank : is_blank_text (text l) ≡ blank_bytes (after_blanks l)
   percent : is_percent_text (text l) ≡ percent_bytes (after_blanks l)

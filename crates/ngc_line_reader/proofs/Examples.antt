@@ -1,4 +1,4 @@
--- Texts, readings and faults of lines: worked examples, computed.
+-- Texts, readings and faults of lines: worked examples, evaluated.
 use Rattle.std.proofs.Common.{◌≡◌, ℕ, List, [], ◌∷◌, ◌++◌, Some, None, true, false, Err, refl, lit<}
 use Rattle.std.specs.Prelude.{codes}
 use Rattle.ngc_line_reader.specs.declared.token.Operator.TheVariants.{Add, Subtract, Multiply, Divide}

@@ -1,4 +1,4 @@
--- Lines that bytes make, and the first line feed among them.
+-- The lines of some bytes, and the first line feed among them.
 use Rattle.std.proofs.Common.{◌≡◌, ◌≢◌, ℕ, zero, suc, ◌<◌, ◌≤◌, ap, Bool, true, false, Some, None, List, [], ◌∷◌, ◌++◌, length, take, drop, refl, sym, ◌∙◌}
 use Rattle.std.proofs.Common.{append_assoc, length-append, arith}
 use Rattle.std.specs.Prelude.{◌==◌, nat_le, slice_index}
@@ -18,7 +18,7 @@ other_byte b h e = h (grind (arith, nat_tests))
 feed_byte : (b : ℕ) → (b == 10) ≡ true → b ≡ 10
 feed_byte b h = grind (arith, nat_tests)
 
--- where no byte up to an index is a line feed, there is none in front of it
+-- if no byte up to an index is a line feed, there is none before it
 feedless_front : (bytes : List ℕ) (n : ℕ) → n ≤ length bytes → ((k : ℕ) → k < n → (slice_index bytes k == 10) ≡ true → ⊥) → NoFeed (take n bytes)
 feedless_front bytes zero h none = tt
 feedless_front [] (suc n) h none = absurd (omega (arith, h))
@@ -62,7 +62,7 @@ first_line : (b : ℕ) (ls : List (List ℕ)) → (more : List ℕ) × (lines : 
 first_line b [] = ([], [], refl)
 first_line b (l ∷ ls) = (l, ls, refl)
 
--- a line that goes on
+-- a line that continues
 split_on : (b : ℕ) (cur rest : List ℕ) → NoFeed (b ∷ cur) → GoesOn split_lines (b ∷ cur) rest
 split_on b [] rest h = let f = first_line b (split_lines rest) in record { more = f.0; behind = f.1; split = rw (not_feed b h.0) f.2 }
 split_on b (c ∷ cur) rest h =
@@ -76,7 +76,7 @@ split_long (b ∷ line) rest h long = split_on b line rest h
 pub split_parts : PartsLines split_lines
 split_parts = record { ends = split_here; long = split_long }
 
--- the lines that stand, behind more bytes of a line
+-- the lines that are certain, after more bytes of a line
 firm_on : (begun line rest : List ℕ) → NoFeed line → firm_behind begun (line ++ rest) ≡ firm_behind (begun ++ line) rest
 firm_on begun [] rest h = ap (λ (l : List ℕ). firm_behind l rest) (sym (append-nil begun))
 firm_on begun (b ∷ line) rest h =
@@ -85,7 +85,7 @@ firm_on begun (b ∷ line) rest h =
 firm_here : (line rest : List ℕ) → NoFeed line → firm_lines (line ++ (10 ∷ rest)) ≡ line ∷ firm_lines rest
 firm_here line rest h = firm_on [] line (10 ∷ rest) h
 
--- a line that is too long stands
+-- a line that is too long is certain
 record Stands (line rest : List ℕ) : Type 0 where
   more : List ℕ
   behind : List (List ℕ)
@@ -111,7 +111,7 @@ firm_long line rest h long =
 pub firm_parts : PartsLines firm_lines
 firm_parts = record { ends = firm_here; long = firm_long }
 
--- a line that has begun, and isn't too long yet, does not stand
+-- a line that has begun, and is not too long yet, is not certain
 pub firm_begun : (line : List ℕ) → NoFeed line → length line ≤ 256 → firm_lines line ≡ []
 firm_begun line h short =
     let e : nat_le (length line) 256 ≡ true = grind (arith, nat_tests) in

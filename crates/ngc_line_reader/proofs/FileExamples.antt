@@ -1,4 +1,4 @@
--- Worked examples of files, computed.
+-- Worked examples of files, evaluated.
 use Rattle.std.proofs.Common.{◌≡◌, ℕ, List, [], ◌∷◌, map, true, false, refl}
 use Rattle.std.specs.Prelude.{codes}
 use Rattle.ngc_line_reader.specs.Program.{lines_of, read_lines, lacks_end}

@@ -1,4 +1,4 @@
--- What is kept of lines: what a push does to it, and what it says.
+-- The stored contents of lines: the effect of a push, and their meaning.
 use Rattle.std.proofs.Common.{◌≡◌, ℕ, zero, suc, ◌<◌, ap, subst, Bool, true, false, Option, Some, None, List, [], ◌∷◌, ◌++◌, length, map, get_or, slice_get}
 use Rattle.std.proofs.Common.{Result, Ok, Err, refl, sym, ◌∙◌, arith}
 use Rattle.std.specs.Option.{option_map}
@@ -31,7 +31,7 @@ map-push : {X Y : Type 0} (f : X → Y) (xs : List X) (x : X) → map f (xs ++ (
 map-push f [] x = refl
 map-push f (y ∷ xs) x = ap (λ l. f y ∷ l) (map-push f xs x)
 
--- what lies within stays within
+-- positions within the contents stay within them
 pub within_stays : (old new : AllKept) (ends : List LineEnd) → Keeps old new → AreWithin old ends → AreWithin new ends
 within_stays old new [] keeps w = tt
 within_stays old new (e ∷ ends) keeps w = ((keeps e.parts.kept w.0).0, within_stays old new ends keeps w.1)
@@ -51,12 +51,12 @@ same_kept old new (e ∷ ends) keeps w =
     ap (λ (p : LineKept). Some (e.parts.deleted, p) ∷ map (line_kept new) ends) (keeps e.parts.kept w.0).1
     ∙ ap (λ l. line_kept old e ∷ l) (same_kept old new ends keeps w.1)
 
--- what is kept of the lines stays
+-- the stored contents of the lines stay unchanged
 pub kept_stays : (old new : AllKept) (lines : List Line) (ends : List LineEnd) → Keeps old new → AreWithin old ends → AreKept old lines ends →
     AreKept new lines ends
 kept_stays old new lines ends keeps w h = h ∙ sym (same_kept old new ends keeps w)
 
--- and one more is kept
+-- and one more line is stored
 pub kept_after : (all : AllKept) (lines after : List Line) (ends behind : List LineEnd) (line : Line) (e : LineEnd) → after ≡ lines ++ (line ∷ []) →
     behind ≡ ends ++ (e ∷ []) → AreKept all lines ends
     → line_said line ≡ line_kept all e → AreKept all after behind
@@ -68,7 +68,7 @@ kept_after all lines after ends behind line e a b h same =
     ∙ sym (map-push (line_kept all) ends e)
     ∙ sym (ap (map (line_kept all)) b)
 
--- a line that was read is kept
+-- a line that was read is stored
 pub reading_kept : (all : AllKept) (number : ℕ) (bytes : List ℕ) (reading : HeldLine) (e : LineEnd) → line_read bytes ≡ Ok (said_of reading) →
     parts_at all e.parts.kept ≡ kept_of (parts_of reading) → e.parts.deleted ≡ reading.deleted
     → line_said (line_of number bytes) ≡ line_kept all e
@@ -80,12 +80,12 @@ within_at all [] i e w is = absurd (cc is)
 within_at all (x ∷ ends) zero e w is = subst (λ (y : LineEnd). LiesWithin all y.parts.kept) (same_Some _ _ is) w.0
 within_at all (x ∷ ends) (suc i) e w is = within_at all ends i e w.1 is
 
--- what is kept of the line of an index lies within
+-- the stored contents of the line at an index are within all contents
 pub kept_within : (all : AllKept) (ends : List LineEnd) (i : ℕ) (e : LineEnd) → AreWithin all ends → i < length ends → e ≡ get_or ends i e →
     LiesWithin all e.parts.kept
 kept_within all ends i e w h is = within_at all ends i e w (slice_get_read ends (length ends) i e refl h is)
 
--- the line of an index says what is kept of it
+-- the line at an index has these stored contents
 said_at : (all : AllKept) (lines : List Line) (ends : List LineEnd) (i : ℕ) (l : Line) (e : LineEnd) → AreKept all lines ends → slice_get lines i ≡ Some l →
     slice_get ends i ≡ Some e
     → line_said l ≡ line_kept all e
@@ -96,7 +96,7 @@ said_at all lines ends i l e kept at end =
     ∙ slice_get-map (line_kept all) ends i
     ∙ ap (option_map (line_kept all)) end)
 
--- a line that is kept by symbols has words or settings with other values than numbers
+-- a line that is stored as symbols has words with other values than numbers, or settings
 by_test : (b : Bool) (ws : List Word) (k kept : SymbolsKept) → (if b then by_numbers ws else by_symbols k) ≡ by_symbols kept → (b ≡ false) × (k ≡ kept)
 by_test true ws k kept is = absurd (cc is)
 by_test false ws k kept is = (refl, cc is)
@@ -104,7 +104,7 @@ by_test false ws k kept is = (refl, cc is)
 symbols_are : (said : Parts) (kept : SymbolsKept) → kept_of said ≡ by_symbols kept → (is_numbered said ≡ false) × (symbols_kept_of said ≡ kept)
 symbols_are said kept is = by_test (is_numbered said) (numbered_words said.words said.tokens) (symbols_kept_of said) kept is
 
--- and one that is kept by numbers has none
+-- and one that is stored as numbers has none
 by_other_test : (b : Bool) (ws kept : List Word) (k : SymbolsKept) → (if b then by_numbers ws else by_symbols k) ≡ by_numbers kept → (b ≡ true) × (ws ≡ kept)
 by_other_test true ws kept k is = (refl, cc is)
 by_other_test false ws kept k is = absurd (cc is)
@@ -112,7 +112,7 @@ by_other_test false ws kept k is = absurd (cc is)
 numbers_are : (said : Parts) (kept : List Word) → kept_of said ≡ by_numbers kept → (is_numbered said ≡ true) × (numbered_words said.words said.tokens ≡ kept)
 numbers_are said kept is = by_other_test (is_numbered said) (numbered_words said.words said.tokens) kept (symbols_kept_of said) is
 
--- what is loaded is what a reading says
+-- the loaded contents are those of a reading
 items_are : (said : Parts) (kept : SymbolsKept) (parts : Parts) → kept_of said ≡ by_symbols kept → parts.words ≡ kept.words → parts.settings ≡ kept.settings →
     symbols parts.tokens ≡ symbols_from kept.kinds kept.numbers → items_of parts ≡ items_of said
 items_are said kept parts is words settings marks =
@@ -123,7 +123,7 @@ items_are said kept parts is words settings marks =
     ∙ loads_back (symbols said.tokens) in
     λ i. record { words = w i; settings = s i; symbols = m i }
 
--- what is said where something is kept
+-- the contents of a line that is stored
 record SaysKept (bytes : List ℕ) (d : Bool) (kept : LineKept) : Type 0 where
   said : Said
   takes : TakesText (place_in (columns bytes)) (text bytes) said
@@ -163,7 +163,7 @@ shown_line bytes kept d deleted parts same out words settings marks =
       };
     }
 
--- whether block delete takes a line out is kept
+-- whether block delete skips a line is stored
 pub deleted_line : (bytes : List ℕ) (d : Bool) (kept : LineKept) → said_in (line_read bytes) ≡ Some (d, kept) → SaysDeleted bytes d
 deleted_line bytes d kept same =
     let k = says_kept bytes (nat_le 257 (length bytes)) d kept refl same in
@@ -183,7 +183,7 @@ same_true m n h = grind (arith, nat_tests)
 true_same : (m n : ℕ) → m ≡ n → (m == n) ≡ true
 true_same m n h = grind (arith, nat_tests)
 
--- words that are kept with their numbers are a line's words
+-- words that are stored with their numbers are a line's words
 pub numbered_line : (bytes : List ℕ) (d : Bool) (ws : List Word) → said_in (line_read bytes) ≡ Some (d, by_numbers ws) → SaysNumbers bytes (Some (pairs_of ws))
 numbered_line bytes d ws same =
     let k = says_kept bytes (nat_le 257 (length bytes)) d (by_numbers ws) refl same in
@@ -203,7 +203,7 @@ numbered_line bytes d ws same =
       says = sym (are ∙ ap (λ (p : Parts). Some (pairs_of (numbered_words p.words p.tokens))) (sym parts) ∙ ap (λ (l : List Word). Some (pairs_of l)) n.1);
     }
 
--- a line that is kept by its symbols has other values than numbers
+-- a line that is stored as symbols has other values than numbers
 pub symbols_line : (bytes : List ℕ) (d : Bool) (kept : SymbolsKept) → said_in (line_read bytes) ≡ Some (d, by_symbols kept) → SaysNumbers bytes None
 symbols_line bytes d kept same =
     let k = says_kept bytes (nat_le 257 (length bytes)) d (by_symbols kept) refl same in

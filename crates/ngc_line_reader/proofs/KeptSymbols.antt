@@ -1,4 +1,4 @@
--- Symbols that are kept as their kinds and their numbers.
+-- Symbols that are stored as their kinds and their numbers.
 use Rattle.std.proofs.Common.{◌≡◌, ℤ, List, [], ◌∷◌, ◌++◌, map, ap, refl, sym, ◌∙◌, append_assoc, length, ◌≤◌, arith, length-append}
 use Rattle.std.proofs.lemmas.List.{append-nil}
 use Rattle.ngc_line_reader.specs.declared.token.Token.{Token}
@@ -8,7 +8,7 @@ use Rattle.ngc_line_reader.specs.declared.program.parts.Kind.{Kind}
 use Rattle.ngc_line_reader.specs.Tokens.{symbols}
 use Rattle.ngc_line_reader.specs.Symbols.{kind_of, number_of, numbers_of, first_symbol, symbols_from}
 
--- the kinds of tokens, one after another
+-- the kinds of tokens, in order
 abbrev pub kinds_after : List Kind → List Token → List Kind
 kinds_after found [] = found
 kinds_after found (t ∷ ts) = kinds_after (found ++ (kind_of t.symbol ∷ [])) ts
@@ -17,7 +17,7 @@ pub all_kinds : (found : List Kind) (ts : List Token) → kinds_after found ts �
 all_kinds found [] = sym (append-nil found)
 all_kinds found (t ∷ ts) = all_kinds (found ++ (kind_of t.symbol ∷ [])) ts ∙ append_assoc found (kind_of t.symbol ∷ []) (map kind_of (symbols ts))
 
--- a symbol's number behind those found
+-- a symbol's number after those found
 abbrev pub with_number : List ℤ → Symbol → List ℤ
 with_number found (marks.Number x) = found ++ (x ∷ [])
 with_number found marks.Parameter = found
@@ -25,7 +25,7 @@ with_number found marks.Open = found
 with_number found marks.Close = found
 with_number found (marks.Operator o) = found
 
--- the numbers of tokens, one after another
+-- the numbers of tokens, in order
 abbrev pub numbers_after : List ℤ → List Token → List ℤ
 numbers_after found [] = found
 numbers_after found (t ∷ ts) = numbers_after (with_number found t.symbol) ts
@@ -44,7 +44,7 @@ all_numbers found (t ∷ ts) =
     ∙ all_numbers (found ++ number_of t.symbol) ts
     ∙ append_assoc found (number_of t.symbol) (numbers_of (symbols ts))
 
--- the symbols of kinds and numbers, one after another
+-- the symbols of kinds and numbers, in order
 abbrev pub loaded_after : List Symbol → List Kind → List ℤ → List Symbol
 loaded_after found [] xs = found
 loaded_after found (k ∷ ks) xs = loaded_after (found ++ ((first_symbol k xs).0 ∷ [])) ks (first_symbol k xs).1
@@ -55,7 +55,7 @@ all_loaded found (k ∷ ks) xs =
     all_loaded (found ++ ((first_symbol k xs).0 ∷ [])) ks (first_symbol k xs).1
     ∙ append_assoc found ((first_symbol k xs).0 ∷ []) (symbols_from ks (first_symbol k xs).1)
 
--- what was kept is what is loaded
+-- the loaded symbols are the stored ones
 pub loads_back : (ss : List Symbol) → symbols_from (map kind_of ss) (numbers_of ss) ≡ ss
 loads_back [] = refl
 loads_back (marks.Number x ∷ ss) = ap (λ (l : List Symbol). marks.Number x ∷ l) (loads_back ss)
@@ -71,7 +71,7 @@ few_number marks.Open = omega arith
 few_number marks.Close = omega arith
 few_number (marks.Operator o) = omega arith
 
--- no more numbers than tokens
+-- there are no more numbers than tokens
 pub few_numbers : (ts : List Token) → length (numbers_of (symbols ts)) ≤ length ts
 few_numbers [] = omega arith
 few_numbers (t ∷ ts) = omega (arith, few_number t.symbol, few_numbers ts, length-append (number_of t.symbol) (numbers_of (symbols ts)))

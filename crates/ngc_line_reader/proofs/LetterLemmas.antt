@@ -1,4 +1,4 @@
--- Bytes and the letters that they spell.
+-- Bytes and their letters.
 use Rattle.std.proofs.Common.{◌≡◌, ◌≢◌, ℕ, ◌≤◌, ◌<◌, Bool, true, false, cond, List, [], ◌∷◌, Some, refl, ap, sym, ◌∙◌, arith}
 use Rattle.std.specs.Prelude.{find, ◌==◌}
 use Rattle.std.specs.Char.{is_ascii_digit}
@@ -7,7 +7,7 @@ use Rattle.ngc_line_reader.specs.declared.letter.Letter.{Letter}
 use Rattle.ngc_line_reader.specs.declared.letter.Letter.TheVariants as letters
 use Rattle.ngc_line_reader.specs.Letter.{letter_byte, all_letters, letter_of}
 
--- a letter is spelled by its own byte alone
+-- only a letter's own byte is read as it
 pub letter_again : (l : Letter) → letter_of (letter_byte l) ≡ Some l
 unfolding letter_of
 letter_again letters.A = refl
@@ -93,7 +93,7 @@ letter_no_digit letters.X = refl
 letter_no_digit letters.Y = refl
 letter_no_digit letters.Z = refl
 
--- no letter is spelled so
+-- no letter has this byte
 abbrev pub NoLetter : ℕ → Type 0
 NoLetter c = (l : Letter) → letter_byte l ≢ c
 

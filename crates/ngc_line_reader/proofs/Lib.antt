@@ -1,50 +1,50 @@
 -- Tokens without their columns.
 pub mod TokenLemmas
--- Bytes and the letters that they spell.
+-- Bytes and their letters.
 pub mod LetterLemmas
 -- No text has two readings.
 pub mod Unique
 -- No text has two readings: items, and the whole line.
 pub mod UniqueLine
--- How many digits stand in front.
+-- The number of leading digits.
 pub mod Digits
--- One step of the readers, where there is room.
+-- One step of the readers, if the bound allows it.
 pub mod Scanning
--- What is spelled so is read.
+-- A text that is written for a value is read as that value.
 pub mod ReadsBack
--- What is read is spelled so.
+-- A value that is read is written as the text.
 pub mod Takes
 -- A number's digits, rounded to millionths.
 pub mod Rounded
 -- One byte of a line's text.
 pub mod TextBytes
--- One item of a line, where there is room.
+-- One item of a line, if the bound allows it.
 pub mod LineItems
 -- Reading lines, in both directions.
 pub mod ReadLines
 -- Why a line is refused for one of its limits.
 pub mod RefusedLines
--- Texts, readings and faults of lines: worked examples, computed.
+-- Texts, readings and faults of lines: worked examples, evaluated.
 mod Examples
--- Worked examples of files, computed.
+-- Worked examples of files, evaluated.
 mod FileExamples
--- White space in front changes no text, so that a line is blank or a percent line is seen from its bytes.
+-- Leading white space changes no text, so the bytes tell whether a line is blank or a percent line.
 pub mod Blanks
--- A line that is read has a reading within the limits, and so have the lines that are stored.
+-- A line that was read has a reading within the limits, and so have the stored lines.
 pub mod Readings
--- Stored lines: what a push does to them, and where one lies.
+-- Stored lines: the effect of a push, and the position of a line.
 pub mod LinesInStore
--- Symbols that are kept as their kinds and their numbers.
+-- Symbols that are stored as their kinds and their numbers.
 pub mod KeptSymbols
 -- Words whose values are numbers: those of a line without settings that has a token for each word.
 pub mod NumberWords
--- What is kept of lines: what a push does to it, and what it says.
+-- The stored contents of lines: the effect of a push, and their meaning.
 pub mod KeptLines
--- Lines that bytes make, and the first line feed among them.
+-- The lines of some bytes, and the first line feed among them.
 pub mod Feeds
--- The lines of a file, one by one, and what the whole file says.
+-- The lines of a file, one by one, and the result of the whole file.
 pub mod Walk
--- What taking a line or a piece of one comes to.
+-- The result of reading a line or a piece of one.
 pub mod TakenPieces
--- What a piece does to a reader.
+-- The effect of a piece on a reader.
 pub mod Pieces

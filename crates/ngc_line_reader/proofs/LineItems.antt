@@ -1,4 +1,4 @@
--- One item of a line, where there is room.
+-- One item of a line, if the bound allows it.
 use Rattle.std.proofs.Common.{◌≡◌, ◌≢◌, ℕ, zero, suc, ◌-◌, ◌<◌, ℤ, Bool, true, false, List, [], ◌∷◌, ◌++◌, length, drop, Some, Ok, refl, ◌∙◌, arith}
 use Rattle.std.proofs.Common.{slice_index}
 use Rattle.std.specs.Prelude.{if◌then◌else◌, ◌==◌}
@@ -20,7 +20,7 @@ unfolding items_at
 items_step place zero found s h = absurd (omega arith)
 items_step place (suc room) found s h = let e : suc room - 1 ≡ room = omega arith in rw e refl
 
--- no parameter and no bracket begins a number
+-- a parameter or a bracket does not begin a number
 no_parameter : (t : List ℕ) (z : ℤ) (r : List ℕ) → number_at (35 ∷ t) ≡ Ok (z, r) → ⊥
 no_parameter t z r e = let w = number_was (35 ∷ t) z r e in omega (arith, w.0)
 

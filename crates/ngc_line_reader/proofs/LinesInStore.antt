@@ -1,4 +1,4 @@
--- Stored lines: what a push does to them, and where one lies.
+-- Stored lines: the effect of a push, and the position of a line.
 use Rattle.std.proofs.Common.{◌≡◌, ℕ, zero, suc, ◌+◌, ◌-◌, ◌*◌, ◌<◌, ◌≤◌, ap, subst, Bool, true, false, Some, List, [], ◌∷◌, ◌++◌, length, take, drop, get_or}
 use Rattle.std.proofs.Common.{slice_get, slice_range, refl, sym, ◌∙◌, length-append, arith}
 use Rattle.std.specs.Prelude.{◌==◌, ◌&&◌, nat_le, IsOk}
@@ -43,7 +43,7 @@ joined : (a b : Bool) → a ≡ true → b ≡ true → (a && b) ≡ true
 joined true b e f = f
 joined false b e f = absurd (cc e)
 
--- the ends stand in the bytes
+-- the ends are within the bytes
 ends_within : (start total : ℕ) (ends : List LineEnd) → are_ends start total ends ≡ true → start ≤ total
 ends_within start total [] h = omega (arith, same_true start total h)
 ends_within start total (e ∷ ends) h =
@@ -95,7 +95,7 @@ parts_of bytes ends h =
     let v : (length bytes ≤ 256 * length ends) × (list_all is_read (lines_from bytes 0 ends) ≡ true) = at_most (length bytes) (256 * length ends) _ w.1 in
     record { ordered = w.0; few = v.0; read = v.1 }
 
--- a line more
+-- one more line
 pub lines_pushed : (number : ℕ) (parts : LineParts) (bytes new : List ℕ) (ends : List LineEnd) → is_stored bytes ends ≡ true
     → lines_from (bytes ++ new) 0 (ends ++ (end_of number parts bytes new ∷ [])) ≡ lines_from bytes 0 ends ++ (line_of number new ∷ [])
 lines_pushed number parts bytes new ends h = push_from number parts bytes new 0 ends (parts_of bytes ends h).ordered
@@ -128,7 +128,7 @@ stored_size bytes ends h = (parts_of bytes ends h).few
 pub stored_readings : (bytes : List ℕ) (ends : List LineEnd) → is_stored bytes ends ≡ true → HaveReadings (lines_from bytes 0 ends)
 stored_readings bytes ends h = have_readings (lines_from bytes 0 ends) (parts_of bytes ends h).read
 
--- the line of an index
+-- the line at an index
 line_at : (bytes : List ℕ) (start : ℕ) (ends : List LineEnd) (i : ℕ) (e : LineEnd) → i < length ends → e ≡ get_or ends i e
     → slice_get (lines_from bytes start ends) i ≡ Some (line_of e.number (slice_range bytes (start_from start ends i) e.end))
 line_at bytes start [] i e h is = absurd (omega (arith, h))
@@ -186,7 +186,7 @@ pub stored_read : (bytes : List ℕ) (ends : List LineEnd) (i : ℕ) (e : LineEn
 stored_read bytes ends i e s h is =
     read_at (lines_from bytes 0 ends) i _ (parts_of bytes ends s).read (stored_line bytes ends i e h is)
 
--- what a push leaves
+-- the effect of a push
 pub record Pushes (number end : ℕ) (parts : LineParts) (bytes new after : List ℕ) (ends behind : List LineEnd) : Type 0 where
   pub bytes_are : after ≡ bytes ++ new
   pub end_is : end ≡ length after

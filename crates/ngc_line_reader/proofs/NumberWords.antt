@@ -24,7 +24,7 @@ two_of_parameter index = omega (arith, some_symbol index)
 two_of_bracket : (first : Real) (rest : Rest) → 2 ≤ length (symbols_of (bracket first rest))
 two_of_bracket first rest = omega (arith, some_symbol first, length-append (symbols_of first) (rest_symbols rest))
 
--- behind a word's tokens stand those of the items behind it
+-- after a word's tokens come those of the following items
 behind_word : (place : ℕ → ℕ) (letter : Letter) (value : Real) (items : List Item) (end : List ℕ)
     → length (all_tokens place (word letter value ∷ items) end) ≡ length (symbols_of value) + length (all_tokens place items end)
 behind_word place letter value items end =
@@ -69,7 +69,7 @@ numbered_are place first (word letter (bracket v rest) ∷ items) end none same 
 numbered_are place first (setting index value ∷ items) end none same = absurd (omega (arith, none))
 numbered_are place first (comment bytes ∷ items) end none same = numbered_are place first items end none same
 
--- behind a number the rest decides
+-- after a number the rest decides
 by_rest : {A : Type 0} (letter : Letter) (n : Numeral) (x : Option (List (Letter × ℤ))) (ws : List (Letter × ℤ)) → ((xs : List (Letter × ℤ)) → x ≡ Some xs → A)
     → with_number letter (number n) x ≡ Some ws → A
 by_rest letter n None ws further none = absurd (cc none)
@@ -86,7 +86,7 @@ are_numbered place first (word letter (bracket v rest) ∷ items) end ws is = ab
 are_numbered place first (setting index value ∷ items) end ws is = absurd (cc is)
 are_numbered place first (comment bytes ∷ items) end ws is = are_numbered place first items end ws is
 
--- words with their numbers, one after another
+-- words with their numbers, in order
 abbrev pub numbered_after : List Word → List RawWord → List Token → List Word
 numbered_after found [] ts = found
 numbered_after found (w ∷ ws) [] = found
@@ -108,7 +108,7 @@ whole : {X : Type 0} (xs : List X) → take (length xs) xs ≡ xs
 whole [] = refl
 whole (x ∷ xs) = ap (λ l. x ∷ l) (whole xs)
 
--- what stands behind all others, by its place
+-- the last entries, by their position
 pub range_behind : {X : Type 0} (old new : List X) (first count : ℕ) → first ≡ length old → count ≡ length new → slice_range (old ++ new) first (first + count) ≡ new
 range_behind old new first count at few =
     let same : first + count - first ≡ length new = omega arith in

@@ -1,4 +1,4 @@
--- What a piece does to a reader.
+-- The effect of a piece on a reader.
 use Rattle.std.proofs.Common.{◌≡◌, ℕ, ap, subst, true, Some, None, List, [], ◌++◌, Result, Ok, Err, refl, sym, ◌∙◌}
 use Rattle.std.proofs.lemmas.List.{append-nil}
 use Rattle.ngc_line_reader.specs.declared.program.fault.ReadFault.{ReadFault}
@@ -35,7 +35,7 @@ answer_self faults.TooManyLines = refl
 answer_self faults.Memory = tt
 answer_self faults.Device = refl
 
--- a fault of lines stands
+-- a fault of lines is certain
 stands_as : (fault : ReadFault) (o : Outcome) → IsOfLines fault → FaultIs fault o → AnswerIs (Err fault) (standing o)
 stands_as (faults.Line n f) o h is = ap standing is
 stands_as faults.NoEnd o h is = absurd (h.0 refl)
@@ -49,7 +49,7 @@ none_at_end Marked found = refl
 none_at_end Unmarked found = refl
 
 module _ {A : Type 0} where
-  -- while a line that isn't too long has begun, no fault stands
+  -- while a line has begun and is not too long, no fault is certain
   nothing_stands : (l : Loader A) → IsLoading l → standing (resumed firm_lines l []) ≡ None
   nothing_stands l loading =
       let none : firm_lines (l.cut.items ++ []) ≡ [] = ap firm_lines (append-nil l.cut.items) ∙ firm_begun l.cut.items loading.feedless loading.short in
@@ -72,7 +72,7 @@ module _ {A : Type 0} where
   alone : (l : Loader A) (piece : List ℕ) → resumed firm_lines l (piece ++ []) ≡ resumed firm_lines l piece
   alone l piece = ap (λ (bytes : List ℕ). resumed firm_lines l bytes) (append-nil piece)
 
-  -- where the text goes on
+  -- if the text continues
   module _ (state : State) (old new : Loader A) (piece : List ℕ) (result : Result Step ReadFault) (x : Step) (going : state ≡ Going)
       (leads : Leads old new piece result) (is : result ≡ Ok x) (more : x ≡ More) where
     pub more_answer : IsLoading new → fault_by state old piece ≡ None
@@ -90,7 +90,7 @@ module _ {A : Type 0} where
         let step = at_step old new piece result (Ok More) leads (is ∙ ap Ok more) split_lines split_parts rest in
         ap (λ (s : State). outcome_by s old (piece ++ rest)) going ∙ step ∙ ap (λ (s : State). outcome_by s new rest) (sym going)
 
-  -- where it ends
+  -- if it ends
   module _ (state : State) (old new : Loader A) (piece : List ℕ) (result : Result Step ReadFault) (x : Step) (going : state ≡ Going)
       (leads : Leads old new piece result) (is : result ≡ Ok x) (end : x ≡ End) where
     pub end_firm : (rest : List ℕ) → fault_by state old (piece ++ rest) ≡ None
@@ -106,7 +106,7 @@ module _ {A : Type 0} where
         let step = at_step old new piece result (Ok End) leads (is ∙ ap Ok end) split_lines split_parts rest in
         ap (λ (s : State). outcome_by s old (piece ++ rest)) going ∙ step
 
-  -- where it is refused
+  -- if it is refused
   module _ (state : State) (old new : Loader A) (piece : List ℕ) (result : Result Step ReadFault) (fault : ReadFault) (going : state ≡ Going)
       (leads : Leads old new piece result) (is : result ≡ Err fault) where
     pub fault_answer : IsOfLines fault → AnswerIs (Err fault) (fault_by state old piece)
@@ -121,7 +121,7 @@ module _ {A : Type 0} where
         let step = at_step old new piece result (Err fault) leads is split_lines split_parts rest in
         subst (λ (s : State). FaultIs fault (outcome_by s old (piece ++ rest))) (sym going) step
 
-  -- once the text has ended, what follows changes nothing
+  -- after the end of the text, the following bytes change nothing
   pub ended_for_all : (state : State) (l : Loader A) (a b : List ℕ) → has_ended_by state ≡ true → outcome_by state l a ≡ outcome_by state l b
   ended_for_all Going l a b e = absurd (cc e)
   ended_for_all Ended l a b e = refl

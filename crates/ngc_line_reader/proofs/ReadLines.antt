@@ -62,7 +62,7 @@ added-none : (place : ℕ → ℕ) (found : Parts) (end : List ℕ) → found �
 added-none place found end = same_parts found.words (found.words ++ []) found.settings (found.settings ++ []) found.tokens (found.tokens ++ [])
     (sym (append-nil found.words)) (sym (append-nil found.settings)) (sym (append-nil found.tokens))
 
--- how many tokens there are with a value's
+-- the number of tokens with a value's
 longer_by : (place : ℕ → ℕ) (ts : List Token) (v : Real) (end : List ℕ) → length (ts ++ tokens_of place v end) ≡ length ts + length (symbols_of v)
 longer_by place ts v end = length-append ts (tokens_of place v end) ∙ ap (λ (n : ℕ). length ts + n) (length-tokens_of place v end)
 
@@ -109,7 +109,7 @@ added-step place found (setting index value) items end =
     ∙ ap (λ (w : List Token). found.tokens ++ w) (sym (append_assoc ts us (all_tokens place items end))))
 added-step place found (comment bytes) items end = refl
 
--- what is spelled so is read
+-- a text that is written for a value is read as that value
 
 below_64 : (n : ℕ) → n + 1 ≤ 64 → (n == 64) ≡ false
 below_64 n h = grind (arith, nat_tests)
@@ -255,7 +255,7 @@ text_again place r h limits =
     let rest = items_again r.items r.remark place (length (spelling r) + 1) no_parts h.1 limits.0 (omega (arith, limits.1)) (omega (arith, longer, more)) in
     rw (slashes.0, slashes.1, first, rest) refl
 
--- what is read is spelled so
+-- a value that is read is written as the text
 
 pub record TakesItem (place : ℕ → ℕ) (found : Parts) (s : List ℕ) (x : Parts × List ℕ) : Type 0 where
   pub i : Item
@@ -558,7 +558,7 @@ gives_reading bytes t cs line (Ok u) is at g =
       };
     }
 
--- and where there is a reading within the limits, it is found
+-- a reading within the limits is found, if there is one
 pub finds_reading : (bytes t cs : List ℕ) (line : Line) (result : Result Unit LineFault) → t ≡ text bytes →
     Gives (λ _. said_of line) result (text_at (place_in cs) t)
     → (r : Reading) → Reads bytes r → WithinLimits r → IsOk result
@@ -568,7 +568,7 @@ finds_reading bytes t cs line (Err e) is g r reads limits =
     let other : text_at (place_in cs) (spelling r) ≡ Err e = ap (λ (s : List ℕ). text_at (place_in cs) s) (reads.1 ∙ sym is) ∙ g in
     absurd (cc (found, other))
 
--- an empty line holds what no bytes say
+-- an empty line is a reading of no bytes
 pub holds_nothing : (line : Line) → line.deleted ≡ false → line.number ≡ None → line.words.items ≡ [] → line.settings.items ≡ [] → line.tokens.items ≡ [] →
     HoldsReading [] line
 holds_nothing line deleted number words settings tokens = record {

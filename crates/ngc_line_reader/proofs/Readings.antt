@@ -1,4 +1,4 @@
--- A line that is read has a reading within the limits, and so have the lines that are stored.
+-- A line that was read has a reading within the limits, and so have the stored lines.
 use Rattle.std.proofs.Common.{◌≡◌, ℕ, zero, suc, ◌+◌, ◌≤◌, ap, subst, Bool, true, false, Option, None, Some, List, [], ◌∷◌, length, drop, Result, Ok, Err, refl}
 use Rattle.std.proofs.Common.{sym, ◌∙◌, length-append, arith, inl, inr}
 use Rattle.std.specs.Prelude.{◌==◌, ◌&&◌, nat_le, is_ok, slice_index}
@@ -22,7 +22,7 @@ use Rattle.ngc_line_reader.specs.Stored.{is_read}
 use Rattle.ngc_line_reader.proofs.Takes.{bind_ok, chosen, done, ok_is}
 use Rattle.ngc_line_reader.proofs.ReadLines.{located_ok, text_takes}
 
--- behind an item there are at most 64 words
+-- after an item there are at most 64 words
 
 one_more : (n : ℕ) → (n == 64) ≡ false → n ≤ 64 → n + 1 ≤ 64
 one_more n e few = grind (arith, nat_tests)
@@ -122,7 +122,7 @@ words_counted place first (setting index value ∷ items) end = let e = words_co
     omega (arith, e)
 words_counted place first (comment bytes ∷ items) end = let e = words_counted place first items end in omega (arith, e)
 
--- a line that is read has a reading within the limits
+-- a line that was read has a reading within the limits
 has_reading : (line : Line) (x : Said) → line_read line.bytes ≡ Ok x → HasReading line
 has_reading line x e =
     elim (chosen (nat_le 257 (length line.bytes)) (Err (fault_at LineTooLong 257)) _ (told x) e) [

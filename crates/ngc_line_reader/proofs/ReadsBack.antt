@@ -1,4 +1,4 @@
--- What is spelled so is read.
+-- A text that is written for a value is read as that value.
 use Rattle.std.proofs.Common.{◌≡◌, ◌≢◌, ℕ, ◌+◌, ◌-◌, ◌<◌, ℤ, ap, Bool, true, false, Option, Some, None, List, [], ◌∷◌, ◌++◌, length, Result, Ok, refl, ◌∙◌}
 use Rattle.std.proofs.Common.{append_assoc, length-append, arith}
 use Rattle.std.specs.Prelude.{◌==◌, ◌&&◌, unsigned_abs, nat_le}
@@ -22,7 +22,7 @@ use Rattle.ngc_line_reader.specs.Scan.{value_fits, number_at, operator_at, real_
 use Rattle.ngc_line_reader.proofs.Unique.{NoDigit, NoDigit-Stops, NoDigit-behind, body, body_not, numeral_not, heads, rest_stops}
 use Rattle.ngc_line_reader.proofs.Scanning.{real_step, rest_step}
 
--- digits are read up to what is none
+-- digits are read up to the first other byte
 prefix_digits : (ds r : List ℕ) → IsDigits ds → NoDigit r → prefix_len is_ascii_digit (ds ++ r) ≡ length ds
 prefix_digits [] [] h n = refl
 prefix_digits [] (b ∷ r) h n = rw n refl
@@ -41,7 +41,7 @@ begins_stops r h = begins_not 46 r (λ t e. stops r t h e) where
   stops [] t h e = cc
   stops (b ∷ r) t h e = h.1 (heads b 46 _ _ e)
 
--- the sign is taken off
+-- the sign is removed
 sign_again : (sign : Sign) (n : Numeral) (r : List ℕ) → IsNumeral n →
     (after_sign ((sign_text sign ++ body n) ++ r) ≡ body n ++ r) × (begins 45 ((sign_text sign ++ body n) ++ r) ≡ is_negative sign)
 sign_again bare n r h =
@@ -62,7 +62,7 @@ is_limited z h = let e : nat_le (unsigned_abs z) VALUE_LIMIT ≡ true = le-leb _
 some_digits : (m n : ℕ) → 0 < m + n → (m == 0) && (n == 0) ≡ false
 some_digits m n h = grind (arith, nat_tests)
 
--- a number is read by what its parts are
+-- a number is read from its parts
 by_parts : (s ds es r : List ℕ) (negative : Bool) → whole_at s ≡ ds → fraction_at s ≡ es → after_number s ≡ r → begins 45 s ≡ negative
     → (length ds == 0) && (length es == 0) ≡ false → begins 46 r ≡ false →
     value_fits (limited (written_value negative ds es)) ≡ Ok (written_value negative ds es)
@@ -102,7 +102,7 @@ Read = Result (List Token × List ℕ) Refusal
 abbrev read : List Token → List ℕ → Read
 read ts r = Ok (ts, r)
 
--- what a real value is spelled as is read as its tokens
+-- the text of a real value is read as its tokens
 mutual
   pub real_again : (place : ℕ → ℕ) (v : Real) (r : List ℕ) (room : ℕ) (found : List Token) → IsReal v → IsWithinLimit v → Stops r →
       length (real_text v ++ r) < room

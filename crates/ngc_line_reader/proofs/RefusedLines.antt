@@ -55,7 +55,7 @@ failed k = Err (OfItem k)
 kind_is : {A : Type 0} (j k : FaultKind) → failed {A = A} j ≡ failed {A = A} k → j ≡ k
 kind_is j k e = cc
 
--- a refusal for an item's own sake has the kind that was asked for
+-- a refusal for an item's own fault has that fault's kind
 refusal_is : {A : Type 0} (j k : FaultKind) (s : List ℕ) → err {A = A} (refusal j s) ≡ failed {A = A} k → j ≡ k
 refusal_is {A = A} j k s e = by_test (begins_unknown s) e where
   by_test : (x : Bool) → err {A = A} (cond x (AtByte (length s)) (OfItem j)) ≡ failed {A = A} k → j ≡ k
@@ -110,7 +110,7 @@ real_same k s t e h = subst (λ (u : List ℕ). RealWhy k u) (sym e) h
 of_kind : (j k : FaultKind) (s : List ℕ) → j ≡ k → RealWhy j s → RealWhy k s
 of_kind j k s e h = subst (λ (i : FaultKind). RealWhy i s) e h
 
--- no digit follows digits, and no part of a number a number
+-- no digit follows digits, and no part of a number follows a number
 no_digit_after : (t : List ℕ) → NoDigit (after_digits t)
 no_digit_after [] = tt
 no_digit_after (b ∷ t) = by_test (is_ascii_digit b) refl (no_digit_after t) where
@@ -212,14 +212,14 @@ operator_why s k e =
       ]
     ]
 
--- what is refused behind a byte that begins s, and a value behind it
+-- the refusals after a byte that begins s, and a value after it
 behind_value : (k : FaultKind) (c : ℕ) (v : Real) (s r : List ℕ) → s ≡ c ∷ drop 1 s → drop 1 s ≡ real_text v ++ r → RealWhy k r → RealWhy k s
 behind_value k c v s r e f h = real_same k s ((c ∷ real_text v) ++ r) (e ∙ ap (λ (t : List ℕ). c ∷ t) f) (real_further k (c ∷ real_text v) r h)
 
 mutual
   unfolding real_at rest_at
 
-  -- a real value behind a byte c
+  -- a real value after a byte c
   real_why : (place : ℕ → ℕ) (room c : ℕ) (found : List Token) (s : List ℕ) (k : FaultKind) → Stops (c ∷ []) → real_at place room found s ≡ failed k →
       RealWhy k (c ∷ s)
   real_why place zero c found s k parted e = of_kind Bracket k (c ∷ s) (kind_is Bracket k e) tt
@@ -374,7 +374,7 @@ item_why place room found s k e = by_first (letter_of (slice_index s 0)) (λ l. 
   by_first None first e = other_item_why place room found s k e
   by_first (Some letter) first e = word_why place room found letter s k (first letter refl) e
 
--- items whose words, with so many before them, are 64, and a word behind them
+-- items whose words, with n before them, are 64, and a word after them
 record Many (n : ℕ) (s : List ℕ) : Type 0 where
   items : List Item
   letter : Letter
@@ -408,7 +408,7 @@ items_of_item CommentNested found s h = tt
 items_of_item Bracket found s h = tt
 items_of_item TooManyWords found s h = record { items = []; letter = h.1.0; end = drop 1 s; are = tt; count = omega (arith, h.0); written = h.1.1 }
 
--- behind one item more
+-- after one more item
 items_further : (k : FaultKind) (found next : Parts) (i : Item) (s r : List ℕ) → IsItem i → length next.words ≡ length found.words + item_words i →
     s ≡ item_text i ++ r → ItemsWhy k next r → ItemsWhy k found s
 items_further TooLarge found next i s r is count e h = same_text s (item_text i ++ r) e (further (item_text i) r h)
@@ -547,14 +547,14 @@ of_large f s h e = subst (λ (k : FaultKind). TextWhy k s) e h
 of_many : (f : LineFault) (s : List ℕ) → TextWhy f.kind s → f.kind ≡ TooManyWords → HasWords 64 s
 of_many f s h e = subst (λ (k : FaultKind). TextWhy k s) e h
 
--- a number is refused as too large where one stands in the line
+-- a number is refused as too large only if the line contains one
 pub large_is_written : (bytes t cs : List ℕ) (line : Line) (result : Result Unit LineFault) → t ≡ text bytes →
     Gives (λ _. said_of line) result (text_at (place_in cs) t)
     → IfErr result (λ f. f.kind ≡ TooLarge → WritesTooLarge bytes)
 large_is_written bytes t cs line (Ok u) is g = tt
 large_is_written bytes t cs line (Err f) is g = λ e. of_large f (text bytes) (in_line bytes t f is (text_why (place_in cs) t f g)) e
 
--- and a word as one too many behind 64 of them
+-- and a word as one too many only after 64 of them
 pub many_are_written : (bytes t cs : List ℕ) (line : Line) (result : Result Unit LineFault) → t ≡ text bytes →
     Gives (λ _. said_of line) result (text_at (place_in cs) t)
     → IfErr result (λ f. f.kind ≡ TooManyWords → WritesManyWords bytes)

@@ -54,7 +54,7 @@ positive : (k : ℕ) → 0 < 10 ^ k
 positive zero = omega arith
 positive (suc k) = omega (arith, positive k, power k)
 
--- whole units pass through rounding
+-- rounding keeps whole units
 pub nearest-whole : (w p v : ℕ) → 0 < p → nearest_size ((w * p + v) * MILLION) p ≡ w * MILLION + nearest_size (v * MILLION) p
 nearest-whole w p v h =
     let x = 2 * (v * MILLION) + p in
@@ -65,7 +65,7 @@ nearest-whole w p v h =
     let e : 2 * ((w * p + v) * MILLION) + p ≡ (w * MILLION + q) * (2 * p) + m = omega (arith, parts) in
     ap (λ (n : ℕ). n / (2 * p)) e ∙ div-mul-add (w * MILLION + q) (2 * p) m below
 
--- of many decimals the seventh rounds
+-- of many decimals the seventh decides the rounding
 pub nearest-seventh : (a b p : ℕ) → b < p → nearest_size ((a * p + b) * MILLION) (10000000 * p) ≡ (a + 5) / 10
 nearest-seventh a b p h =
     let q = (a + 5) / 10 in
@@ -80,13 +80,13 @@ nearest-seventh a b p h =
       times : (p r k : ℕ) → r ≤ k → r * p ≤ k * p
       times p r k h = grind arith
 
--- a value too large stays so
+-- a value that is too large stays so
 pub limited-signed : (negative : Bool) (n : ℕ) → limited (signed negative n) ≡ (if nat_le n VALUE_LIMIT then Ok (signed negative n) else Err TooLarge)
 limited-signed true zero = refl
 limited-signed true (suc n) = refl
 limited-signed false n = refl
 
--- up to six decimals nothing is lost
+-- up to six decimals are exact
 pub nearest-short : (n k : ℕ) → k ≤ 6 → nearest_size (n * MILLION) (10 ^ k) ≡ n * 10 ^ (6 - k)
 nearest-short n zero h = omega arith
 nearest-short n (suc zero) h = omega arith
@@ -146,21 +146,21 @@ long_millionths ds u h lt e =
       bound = omega (arith, same, below);
     }
 
--- the same of what was counted
+-- the same for the number that was counted
 pub long_counted : (ds : List ℕ) (u : ℕ) → IsDigits ds → 6 < length ds → u ≡ min (digits_value (digits_at (take 7 ds))) 10000000000 →
     IsMillionths ds ((u + 5) / 10)
 long_counted ds u h lt e =
     let digits : IsDigits (take 7 ds) × IsDigits (drop 7 ds) = IsDigits-parts (take 7 ds) (drop 7 ds) (rw (take-append-drop 7 ds) h) in
     long_millionths ds u h lt (e ∙ ap (λ (t : List ℕ). min (digits_value t) 10000000000) (digits_at-all (take 7 ds) digits.0))
 
--- few digits give a number that fits
+-- the number that a few digits write fits
 pub few_units : (ds : List ℕ) (u : ℕ) → IsDigits ds → length ds ≤ 5 → u ≡ min (digits_value ds) 10000000000 → (u ≡ digits_value ds) × (u < 100000)
 few_units ds u h short e =
     let below = digits_value-below ds h in
     let bound : 10 ^ length ds ≤ 100000 = pow-le-pow_right {n = 10} (lit< tt) short in
     (omega (arith, e, below, bound), omega (arith, e, below, bound))
 
--- units, bounded, and millionths make the written value, or both are too large
+-- bounded units and millionths give the written value, or both are too large
 pub sized : (negative : Bool) (ws ds : List ℕ) (u m n : ℕ) → u ≡ min (digits_value ws) 10000000000 → IsMillionths ds m → n ≡ u * 1000000 + m
     → limited (signed negative n) ≡ limited (written_value negative ws ds)
 sized negative ws ds u m n e f g =

@@ -1,4 +1,4 @@
--- One step of the readers, where there is room.
+-- One step of the readers, if the bound allows it.
 use Rattle.std.proofs.Common.{◌≡◌, ℕ, zero, suc, ◌+◌, ◌-◌, ◌<◌, ◌≤◌, ap, Bool, true, false, cond, Some, None, List, [], ◌∷◌, ◌++◌, length, ℤ, drop, Result, Ok}
 use Rattle.std.proofs.Common.{Err, refl, sym, arith}
 use Rattle.std.specs.Prelude.{if◌then◌else◌, ◌==◌, ◌&&◌}
@@ -73,7 +73,7 @@ inner p q e = cc
 behind_of : (y z : ℤ) (q r : List ℕ) → read y q ≡ read z r → q ≡ r
 behind_of y z q r e = let pair : made y q ≡ made z r = inner (made y q) (made z r) e in ap (λ (p : ℤ × List ℕ). p.1) pair
 
--- what was read, by the tests that passed
+-- the number that was read, by the tests that passed
 pub number_was : (s : List ℕ) (z : ℤ) (r : List ℕ) → number_at s ≡ Ok (z, r) → (0 < length (whole_at s) + length (fraction_at s)) × (r ≡ after_number s)
 unfolding number_at
 number_was s z r e = by_tests ((length (whole_at s) == 0) && (length (fraction_at s) == 0)) (begins 46 (after_number s))

@@ -1,4 +1,4 @@
--- What taking a line or a piece of one comes to.
+-- The result of reading a line or a piece of one.
 use Rattle.std.proofs.Common.{◌≡◌, ◌≢◌, ◌⊎◌, inl, inr, ℕ, ◌+◌, ◌<◌, ◌≤◌, ap, subst, Bool, true, false, List, [], ◌∷◌, ◌++◌, length, Result, Ok, Err, refl, sym}
 use Rattle.std.proofs.Common.{◌∙◌, append_assoc, length-append, arith}
 use Rattle.std.specs.Prelude.{◌==◌, nat_le, ◌&&◌, OnOk}
@@ -27,7 +27,7 @@ use Rattle.ngc_line_reader.proofs.LinesInStore.{length-lines_from}
 use Rattle.ngc_line_reader.proofs.Walk.{walk_line, walk_refused, walk_percent, walk_program, walk_firm}
 use Rattle.ngc_line_reader.proofs.Feeds.{split_last, feedless_both}
 
--- a line of more than 256 bytes is refused as such
+-- a line of more than 256 bytes is refused for that reason
 pub long_read : (bytes : List ℕ) → 256 < length bytes → line_read bytes ≡ Err (fault_at LineTooLong 257)
 long_read bytes h = let e : nat_le 257 (length bytes) ≡ true = grind (arith, nat_tests) in rw e refl
 
@@ -51,7 +51,7 @@ ends_at Start done found b ls e p = absurd (e refl)
 ends_at Marked done found b ls e p = walk_percent Marked done found b ls p
 ends_at Unmarked done found b ls e p = walk_percent Unmarked done found b ls p
 
--- a step from and to equal outcomes
+-- a step between equal outcomes
 step_is : (result : Result Step ReadFault) (a b c d : Outcome) (t : ProgramText) → a ≡ b → (result ≡ Ok More → c ≡ d) → StepGives result b d t →
     StepGives result a c t
 step_is (Ok More) a b c d t e f h = e ∙ h ∙ sym (f refl)
@@ -80,7 +80,7 @@ pub no_room : (n : ℕ) → (n ≤ 256 → ⊥) → 256 < n
 no_room n h = omega arith
 
 module _ {A : Type 0} where
-  -- the lines go on behind a line that was taken
+  -- the lines continue after a line that was accepted
   pub took_line : (old new : LinesSoFar A) (bytes : List ℕ) (ls : List (List ℕ)) → is_percent bytes ≡ false → TakesLine old new bytes →
       walked old (bytes ∷ ls) ≡ walked new ls
   took_line old new bytes ls p t =
@@ -103,16 +103,16 @@ module _ {A : Type 0} where
       let phase : phase_room new.phase ≡ phase_room (phase_after old.phase bytes) = ap phase_room t.phase in
       omega (arith, count, phase, phase_room_falls old.phase bytes (is_blank bytes) refl, t.few, t.short)
 
-  -- so few lines are stored that there is room for one more
+  -- the stored lines leave space for one more
   pub line_room : (l : LinesSoFar A) → 257 ≤ room_behind l
   line_room l = omega (arith, length-lines_from l.lines.bytes.items 0 l.lines.ends.items, l.lines.few)
 
-  -- a % line in front
+  -- the first % line
   pub marking_line : (old : LinesSoFar A) (bytes : List ℕ) (ls : List (List ℕ)) → is_percent bytes ≡ true → old.phase ≡ Start
       → walked old (bytes ∷ ls) ≡ walk Marked (length (lines_in old.lines)) (lines_in old.lines) ls
   marking_line old bytes ls p e = marks old.phase (length (lines_in old.lines)) (lines_in old.lines) bytes ls e p
 
-  -- a later one
+  -- a later % line
   pub ending_line : (old : LinesSoFar A) (bytes : List ℕ) (ls : List (List ℕ)) → is_percent bytes ≡ true → old.phase ≢ Start →
       walked old (bytes ∷ ls) ≡ Ok (ended old)
   ending_line old bytes ls p e = ends_at old.phase (length (lines_in old.lines)) (lines_in old.lines) bytes ls e p
@@ -137,7 +137,7 @@ module _ {A : Type 0} where
   emptied lines (Ok x) l rest h e = ap (λ (c : List ℕ). walked l.found (lines (c ++ rest))) h
   emptied lines (Err fault) l rest h e = absurd (cc e)
 
-  -- a line that lies whole in a chunk
+  -- a line that is whole in a chunk
   pub whole_line : (lines : List ℕ → List (List ℕ)) (old new : Loader A) (result : Result Step ReadFault) (piece rest : List ℕ) → PartsLines lines →
       old.cut.items ≡ [] → new.cut.items ≡ [] → NoFeed piece
       → ((ls : List (List ℕ)) → StepGives result (walked old.found (piece ∷ ls)) (walked new.found ls) (ended new.found))
@@ -161,7 +161,7 @@ module _ {A : Type 0} where
       (emptied lines result new rest empty)
       (step (lines rest))
 
-  -- the last line, that no line feed ends
+  -- the last line, without a line feed
   pub last_line : (l : Loader A) → NoFeed l.cut.items → 0 < length l.cut.items → resumed split_lines l [] ≡ walked l.found (l.cut.items ∷ [])
   last_line l h some = ap (λ (ls : List (List ℕ)). walked l.found ls) (last_of l.cut.items h some)
 
@@ -169,7 +169,7 @@ module _ {A : Type 0} where
   outcome_after (Ok p) a b e h = e ∙ h
   outcome_after (Err fault) a b e h = subst (λ (o : Outcome). FaultIs fault o) (sym e) h
 
-  -- nothing is read yet
+  -- nothing has been read yet
   begun : (lines : List ℕ → List (List ℕ)) (l : Loader A) (bytes : List ℕ) → lines_in l.found.lines ≡ [] → l.found.phase ≡ Start → l.cut.items ≡ []
       → walk Start 0 [] (lines bytes) ≡ resumed lines l bytes
   begun lines l bytes e f g = cc (e, f, g)
@@ -182,7 +182,7 @@ module _ {A : Type 0} where
       fault_so_far bytes ≡ standing (resumed firm_lines l bytes)
   begun_firm l bytes e f g = walk_firm bytes ∙ ap standing (begun firm_lines l bytes e f g)
 
-  -- the step that the last line makes
+  -- the step of the last line
   abbrev pub LastStep : Loader A → Loader A → Result Step ReadFault → Type 0
   LastStep old new result = (ls : List (List ℕ)) → StepGives result (walked old.found (old.cut.items ∷ ls)) (walked new.found ls) (ended new.found)
 

@@ -1,4 +1,4 @@
--- What is read is spelled so.
+-- A value that is read is written as the text.
 use Rattle.std.proofs.Common.{◌≡◌, ℕ, zero, suc, ◌+◌, ◌<◌, ℤ, ap, subst, Bool, true, false, cond, List, [], ◌∷◌, ◌++◌, length, drop, Result, Ok, Err, refl, sym}
 use Rattle.std.proofs.Common.{◌∙◌, append_assoc, arith, ◌⊎◌, inl, inr}
 use Rattle.std.specs.Prelude.{◌==◌, ◌&&◌, unsigned_abs, nat_le}
@@ -51,7 +51,7 @@ IsDigits-at : (s : List ℕ) → IsDigits (digits_at s)
 IsDigits-at [] = tt
 IsDigits-at (b ∷ s) = IsDigits-cons b s (is_ascii_digit b) refl (IsDigits-at s)
 
--- the digits in front are digits
+-- the leading digits are digits
 pub digits_are : (ds s : List ℕ) → ds ≡ digits_at s → IsDigits ds
 digits_are ds s e = subst (λ (x : List ℕ). IsDigits x) (sym e) (IsDigits-at s)
 
@@ -137,7 +137,7 @@ number_takes s x e =
       ]
     ]
 
--- what real_at reads is a real value's spelling, and its tokens
+-- the text that real_at reads is a real value's, and these are its tokens
 pub record TakesReal (place : ℕ → ℕ) (found ts : List Token) (s r : List ℕ) : Type 0 where
   pub v : Real
   pub is : IsReal v
@@ -187,7 +187,7 @@ number_token_takes place found s x e =
     } in
     subst (λ (p : Pair). TakesReal place found p.0 s p.1) (ok_is pair x b.2) made
 
--- one token, and those of a value behind it
+-- one token, and those of the following value
 first_token : (place : ℕ → ℕ) (symbol : Symbol) (found ts more : List Token) (s t : List ℕ) → ts ≡ (found ++ (token_at place symbol s ∷ [])) ++ more → s ≡ t
     → ts ≡ found ++ (token_at place symbol t ∷ more)
 first_token place symbol found ts more s t e f =

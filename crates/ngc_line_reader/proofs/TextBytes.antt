@@ -9,7 +9,7 @@ use Rattle.ngc_line_reader.specs.declared.text.Place.{Place}
 use Rattle.ngc_line_reader.specs.declared.text.Place.TheVariants.{Outside, InComment, InRemark}
 use Rattle.ngc_line_reader.specs.Text.{kept, place_after, text_from, columns_from}
 
--- a byte from '*' to '`' but ';'
+-- a byte from '*' to '`' except ';'
 plain_place : (place : Place) (b : ℕ) → 42 ≤ b → b ≤ 96 → b ≢ 59 → place_after place b ≡ place
 plain_place Outside b low high other = grind (arith, nat_tests)
 plain_place InComment b low high other = grind (arith, nat_tests)
@@ -20,7 +20,7 @@ plain_kept Outside b last low high other = grind (arith, nat_tests)
 plain_kept InComment b last low high other = refl
 plain_kept InRemark b last low high other = refl
 
--- a byte that isn't kept
+-- a byte that is not kept
 blank_place : (place : Place) (b : ℕ) (last : Bool) → kept place b last ≡ None → place_after place b ≡ place
 blank_place Outside b true none = grind (arith, nat_tests)
 blank_place Outside b false none = grind (arith, nat_tests)

@@ -6,7 +6,7 @@ use Rattle.ngc_line_reader.specs.declared.token.Operator.TheVariants.{Add, Subtr
 use Rattle.ngc_line_reader.specs.Grammar.{Sign, bare, plus, minus, Numeral, Real, number, parameter, bracket, Rest, close, next, sign_text, behind}
 use Rattle.ngc_line_reader.specs.Grammar.{numeral_text, operator_byte, real_text, rest_text, IsDigits, digits_of, IsNumeral, IsReal, IsRest, Stops}
 
--- what stands after a number doesn't go on with it
+-- the text after a number does not continue it
 abbrev pub NoDigit : List ℕ → Type 0
 NoDigit [] = Unit {0}
 NoDigit (b ∷ bs) = is_ascii_digit b ≡ false
@@ -137,7 +137,7 @@ pub rest_stops : (rest : Rest) (r : List ℕ) → Stops (rest_text rest ++ r)
 rest_stops close r = (refl, λ h. omega arith)
 rest_stops (next operator value rest) r = operator_stops operator
 
--- two real values in front of bytes that no number goes on with are one
+-- two real values before bytes that continue no number are equal
 mutual
   pub real_unique : (v w : Real) (r s : List ℕ) → IsReal v → IsReal w → Stops r → Stops s → real_text v ++ r ≡ real_text w ++ s → (v ≡ w) × (r ≡ s)
   real_unique (number m) (number n) r s p q j k e = let same = numeral_unique m n r s p q j k e in (ap number same.0, same.1)

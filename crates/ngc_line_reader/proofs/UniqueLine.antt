@@ -48,11 +48,11 @@ item_unique (comment xs) (comment ys) r s p q j k e =
     (sym (append_assoc xs (41 ∷ []) r) ∙ tails 40 40 _ _ e ∙ append_assoc ys (41 ∷ []) s) in
     (ap comment same.0, same.1)
 
--- items, and what stands after a semicolon
+-- items, and the text after a semicolon
 abbrev pub end_text : List Item → Option (List ℕ) → List ℕ
 end_text items remark = items_text items ++ behind 59 remark
 
--- what an item may begin with
+-- the bytes with which an item may begin
 pub item_not : (c : ℕ) (i : Item) (r s : List ℕ) → NoLetter c → c ≢ 35 → c ≢ 40 → IsItem i → item_text i ++ r ≡ c ∷ s → ⊥
 item_not c (word a v) r s letter hash paren h e = letter a (heads (letter_byte a) c _ _ e)
 item_not c (setting i v) r s letter hash paren h e = hash (sym (heads 35 c _ _ e))
@@ -98,7 +98,7 @@ end_unique (i ∷ xs) (j ∷ ys) m n p q e =
     let second = end_unique xs ys m n p.1 q.1 first.1 in
     (cc (first.0, second.0), second.1)
 
--- a line number, and what follows it
+-- a line number, and the rest
 number_unique : (a b : Option (List ℕ)) (xs ys : List Item) (m n : Option (List ℕ)) → IsLineNumber a → IsLineNumber b → AllByRecursion IsItem xs →
     AllByRecursion IsItem ys
     → behind 78 a ++ end_text xs m ≡ behind 78 b ++ end_text ys n → (a ≡ b) × (end_text xs m ≡ end_text ys n)

@@ -1,4 +1,4 @@
--- The lines of a file, one by one, and what the whole file says.
+-- The lines of a file, one by one, and the result of the whole file.
 use Rattle.std.proofs.Common.{◌≡◌, ℕ, suc, ◌+◌, ap, subst, Bool, true, false, Option, Some, None, List, [], ◌∷◌, ◌++◌, length, take, Result, Ok, Err, refl, sym}
 use Rattle.std.proofs.Common.{◌∙◌, append_assoc, arith}
 use Rattle.std.specs.Prelude.{if◌then◌else◌, ◌&&◌, nat_le, not, take_while}
@@ -41,7 +41,7 @@ pub walk_refused : (phase : Phase) (done : ℕ) (found : List Line) (b : List �
 unfolding walk
 walk_refused phase done found b ls fault e f = rw (e, f) refl
 
--- what comes of lines that are read behind others: the first fault, or a missing end, or all of them
+-- the result of lines that are read after others: the first fault, or a missing end, or all of them
 abbrev pub concluded : ℕ → List Line → List Line → Bool → Bool → Outcome
 concluded done found read lacks marked =
     fault_or (first_fault done read) (if lacks then Err faults.NoEnd else Ok (record { lines = found ++ read; marked = marked }))
@@ -49,7 +49,7 @@ concluded done found read lacks marked =
 abbrev pub to_percent : List Line → List Line
 to_percent lines = take_while (λ line. not (is_percent_line line)) lines
 
--- a line more in front
+-- one more line in front
 conclude_line : (done : ℕ) (found read : List Line) (line : Line) (lacks marked : Bool) → fault_of done line ≡ None
     → concluded (done + 1) (with_line found line) read lacks marked ≡ concluded done found (line ∷ read) lacks marked
 conclude_line done found read line lacks marked e =
@@ -73,7 +73,7 @@ any_line : (line : Line) (lines : List Line) (x : Bool) → is_percent_line line
 any_line line lines true e = rw e refl
 any_line line lines false e = rw e refl
 
--- in a file that isn't marked the lines up to the first percent line are read
+-- in a file that is not marked, the lines up to the first percent line are read
 abbrev pub Unmarks : ℕ → List Line → List (List ℕ) → Type 0
 Unmarks done found ls = walk Unmarked done found ls ≡ concluded done found (to_percent (numbered (done + 1) ls)) false false
 
@@ -95,7 +95,7 @@ unmarked_walk (b ∷ ls) done found =
     unmarked_step b ls done found (is_percent b) (fault_of done (line_of (done + 1) b)) refl refl
     (unmarked_walk ls (done + 1) (with_line found (line_of (done + 1) b)))
 
--- in a marked file those up to the second one, which must stand
+-- in a marked file, those up to the second one, which must be present
 abbrev pub Marks : ℕ → ℕ → List Line → List (List ℕ) → Type 0
 Marks n done found ls =
     walk Marked done found ls ≡ concluded done found (to_percent (numbered n ls)) (not (list_any is_percent_line (numbered n ls))) true
@@ -126,7 +126,7 @@ marked_walk (b ∷ ls) n done found e =
     (marked_walk ls (done + 2 + 1) (done + 1) (with_line found (line_of (done + 2) b)) (omega arith)) in
     subst (λ (k : ℕ). Marks k done found (b ∷ ls)) (sym e) at
 
--- what the lines come to as long as those in front are blank
+-- the result of the lines as long as the leading ones are blank
 abbrev pub Starts : ℕ → List Line → List (List ℕ) → Type 0
 Starts done found ls =
     walk Start done found ls ≡ concluded done found (read_lines (numbered (done + 1) ls)) (lacks_end (numbered (done + 1) ls))
@@ -174,15 +174,15 @@ start_walk (b ∷ ls) done found =
     start_step b ls done found (is_percent b) (is_blank b) (fault_of done (line_of (done + 1) b)) refl refl refl
     (start_walk ls (done + 1) (with_line found (line_of (done + 1) b)))
 
--- the walk over lines gives the first fault of those that are read, or what they say
+-- the walk over lines returns the first fault of those that are read, or their text
 pub walk_lines : (ls : List (List ℕ)) → walk Start 0 [] ls ≡ fault_or (first_fault 0 (read_lines (numbered 1 ls))) (text_of_lines (numbered 1 ls))
 walk_lines ls = start_walk ls 0 []
 
--- over all lines of a file it is what the file says
+-- over all lines of a file, the walk returns the result of the file
 pub walk_program : (bytes : List ℕ) → walk Start 0 [] (split_lines bytes) ≡ program_of bytes
 walk_program bytes = walk_lines (split_lines bytes)
 
--- the fault that stands is the first one
+-- the certain fault is the first one
 standing_first : (done : ℕ) (lines : List Line) (o : Outcome) → standing o ≡ None → standing (fault_or (first_fault done lines) o) ≡ first_fault done lines
 standing_first done [] o h = h
 standing_first done (line ∷ lines) o h = by_line (nat_le 100000 done) (line_read line.bytes) (standing_first (done + 1) lines o h) where
@@ -199,7 +199,7 @@ standing_text lines = by_end (lacks_end lines) where
   by_end true = refl
   by_end false = refl
 
--- the fault that stands in the firm lines
+-- the certain fault of the certain lines
 pub walk_firm : (bytes : List ℕ) → fault_so_far bytes ≡ standing (walk Start 0 [] (firm_lines bytes))
 walk_firm bytes =
     let lines = numbered 1 (firm_lines bytes) in

@@ -1,8 +1,8 @@
--- What a line may say, and how it is spelled (NISTIR 6556, 3.3, "Format of a line"). A line is, in
--- order, an optional '/' (block delete), an optional line number, and words, parameter settings and
--- comments in any number and order; here each is a tree, and its spelling a text without white
--- space, letters in upper case. Our own: the remark behind ';', and that a sign stands before
--- digits alone, so that -#1 and -[..] have no spelling.
+-- The contents of a line, and how they are written (NISTIR 6556, 3.3, "Format of a line"). A line
+-- is, in order, an optional '/' (block delete), an optional line number, and words, parameter
+-- settings and comments in any number and order. Here each is a tree, and its text has no white
+-- space and has letters in upper case. Our own: the remark after ';', and that a sign is allowed
+-- only before digits, so that -#1 and -[..] cannot be written.
 use Rattle.std.specs.Prelude.{ℕ, ◌≡◌, ◌≢◌, ◌≤◌, ◌<◌, List, [], ◌∷◌, ◌++◌, length, Option, Some}
 use Rattle.std.specs.Prelude.{None, Bool, false, IsTrue, if◌then◌else◌, ◌+◌}
 use Rattle.std.specs.Char.{is_ascii_digit}
@@ -19,7 +19,7 @@ pub data Sign : Type 0 where
   plus : Sign
   minus : Sign
 
--- a number as it is written (3.3.2.1): a sign or none, digits, and further ones where there is a
+-- a number as it is written (3.3.2.1): an optional sign, digits, and further digits if there is a
 -- point
 pub record Numeral : Type 0 where
   pub sign : Sign
@@ -27,7 +27,7 @@ pub record Numeral : Type 0 where
   pub decimals : Option (List ℕ)
 
 -- A real value: a number; a parameter's value, by its index (3.3.2.2); an expression in brackets
--- (3.3.2.3), as its first value and what follows that there: the bracket's end, or an operator, a
+-- (3.3.2.3), as its first value and what follows it there: the bracket's end, or an operator, a
 -- value and what follows that.
 mutual
   pub data Real : Type 0 where
@@ -46,15 +46,15 @@ pub data Item : Type 0 where
   setting : Real → Real → Item
   comment : List ℕ → Item
 
--- a line: whether it begins with '/', its number's digits (3.3.1), its items, and what stands after
--- a semicolon
+-- a line: whether it begins with '/', its number's digits (3.3.1), its items, and the text after a
+-- semicolon
 pub record Reading : Type 0 where
   pub deleted : Bool
   pub number : Option (List ℕ)
   pub items : List Item
   pub remark : Option (List ℕ)
 
--- spelling
+-- the text of each part
 
 abbrev pub sign_text : Sign → List ℕ
 sign_text bare = []
@@ -123,7 +123,7 @@ abbrev mutual
   IsRest close = Unit {0}
   IsRest (next operator value rest) = IsReal value × IsRest rest
 
--- a comment holds any bytes but parentheses, so none is nested
+-- a comment contains any bytes except parentheses, so comments do not nest
 abbrev pub IsItem : Item → Type 0
 IsItem (word letter value) = IsReal value
 IsItem (setting index value) = IsReal index × IsReal value
@@ -137,7 +137,7 @@ IsLineNumber (Some ds) = IsDigits ds × (0 < length ds) × (length ds ≤ 5)
 abbrev pub IsReading : Reading → Type 0
 IsReading r = IsLineNumber r.number × AllByRecursion IsItem r.items
 
--- The line has this reading: the reading's spelling is the line's text.
+-- The line has this reading: the reading's text is the line's text.
 abbrev pub Reads : List ℕ → Reading → Type 0
 Reads line r = IsReading r × (spelling r ≡ text line)
 
@@ -145,7 +145,7 @@ Reads line r = IsReading r × (spelling r ≡ text line)
 abbrev pub OneReading : Type 0
 OneReading = (line : List ℕ) (r s : Reading) → Reads line r → Reads line s → r ≡ s
 
--- a text with which no number goes on
+-- a text that does not continue a number
 abbrev pub Stops : List ℕ → Type 0
 Stops [] = Unit {0}
 Stops (b ∷ bs) = (is_ascii_digit b ≡ false) × (b ≢ 46)

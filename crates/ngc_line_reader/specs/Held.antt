@@ -1,6 +1,6 @@
--- How a Line holds a reading: words and settings in the order in which they are written (NISTIR
--- 6556, 3.3.6), with their columns, and the tokens of all values in one list. The limits are our
--- own.
+-- The representation of a reading in a Line: words and settings in the order in which they are
+-- written (NISTIR 6556, 3.3.6), with their columns, and the tokens of all values in one list. The
+-- limits are our own.
 use Rattle.std.specs.Prelude.{ℕ, ◌+◌, ◌≤◌, ◌≡◌, List, [], ◌∷◌, ◌++◌, length}
 use Rattle.std.specs.Option.{option_map}
 use Rattle.ngc_line_reader.specs.declared.token.Token.{Token}
@@ -13,7 +13,7 @@ use Rattle.ngc_line_reader.specs.Grammar.{real_text, items_text}
 use Rattle.ngc_line_reader.specs.Numbers.{digits_value}
 use Rattle.ngc_line_reader.specs.Tokens.{symbols_of, tokens_of, IsWithinLimit}
 
--- the tokens of an item's values, and of all items' values; end is the text behind
+-- the tokens of an item's values, and of all items' values; end is the text after them
 abbrev pub item_tokens : (ℕ → ℕ) → Item → List ℕ → List Token
 item_tokens place (word letter value) end = tokens_of place value end
 item_tokens place (setting index value) end =
@@ -25,14 +25,14 @@ all_tokens place [] end = []
 all_tokens place (item ∷ items) end =
     item_tokens place item (items_text items ++ end) ++ all_tokens place items end
 
--- how many tokens an item has
+-- the number of tokens of an item
 abbrev pub token_count : Item → ℕ
 token_count (word letter value) = length (symbols_of value)
 token_count (setting index value) = length (symbols_of index) + length (symbols_of value)
 token_count (comment bytes) = 0
 
--- The words, with their columns and the places where their tokens begin. The first item's tokens
--- begin at first, end is the text behind the items, and place gives the column of a byte by the
+-- The words, with their columns and the indexes at which their tokens begin. The first item's
+-- tokens begin at first; end is the text after the items; place gives the column of a byte from the
 -- number of bytes from it on.
 abbrev pub words_from : (ℕ → ℕ) → ℕ → List Item → List ℕ → List RawWord
 words_from place first [] end = []
@@ -46,7 +46,7 @@ words_from place first (setting index value ∷ items) end =
     words_from place (first + token_count (setting index value)) items end
 words_from place first (comment bytes ∷ items) end = words_from place first items end
 
--- the settings likewise
+-- the same for settings
 abbrev pub settings_from : (ℕ → ℕ) → ℕ → List Item → List ℕ → List RawSetting
 settings_from place first [] end = []
 settings_from place first (word letter value ∷ items) end =
@@ -80,7 +80,7 @@ abbrev pub AllWithinLimit : List Item → Type 0
 AllWithinLimit [] = Unit {0}
 AllWithinLimit (item ∷ items) = IsItemWithinLimit item × AllWithinLimit items
 
--- how many words there are
+-- the number of words
 abbrev pub item_words : Item → ℕ
 item_words (word letter value) = 1
 item_words (setting index value) = 0
@@ -90,7 +90,7 @@ abbrev pub word_count : List Item → ℕ
 word_count [] = 0
 word_count (item ∷ items) = item_words item + word_count items
 
--- numbers in range, and no more words than a line may have
+-- numbers in range, and at most as many words as a line may have
 abbrev pub WithinLimits : Reading → Type 0
 WithinLimits r = AllWithinLimit r.items × (word_count r.items ≤ 64)
 

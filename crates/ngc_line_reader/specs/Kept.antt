@@ -1,5 +1,5 @@
--- How the words, settings and tokens of lines are kept: one line's behind the other's, and for each
--- line where its own lie.
+-- The storage of the words, settings and tokens of lines: in order, with the positions of each
+-- line's own.
 use Rattle.std.specs.Prelude.{ℕ, ℤ, pos, ◌+◌, ◌≤◌, ◌≡◌, List, [], ◌∷◌, length, slice_range, map, Bool}
 use Rattle.std.specs.Prelude.{◌==◌, ◌&&◌, if◌then◌else◌, Option, Some, None, Result, Ok, Err}
 use Rattle.std.specs.List.{AllByRecursion}
@@ -22,15 +22,16 @@ use Rattle.ngc_line_reader.specs.Program.{Line}
 use Rattle.ngc_line_reader.specs.ReadLine.{line_read}
 use Rattle.ngc_line_reader.specs.ScanLine.{Parts, Said}
 
--- what is kept of a line whose words have other values than numbers, or that has settings: words,
--- settings, the kinds of symbols, and numbers
+-- the stored contents of a line whose words have other values than numbers, or that has settings:
+-- words, settings, the kinds of symbols, and numbers
 pub record SymbolsKept : Type 0 where
   pub words : List RawWord
   pub settings : List RawSetting
   pub kinds : List Kind
   pub numbers : List ℤ
 
--- what is kept of a line: its words with the numbers that are their values, or the symbols of these
+-- the stored contents of a line: its words with the numbers that are their values, or with the
+-- symbols of their values
 pub data LineKept : Type 0 where
   by_numbers : List Word → LineKept
   by_symbols : SymbolsKept → LineKept
@@ -43,14 +44,14 @@ number_in marks.Open = pos 0
 number_in marks.Close = pos 0
 number_in (marks.Operator o) = pos 0
 
--- words with the numbers of as many tokens
+-- words with the numbers of the same number of tokens
 abbrev pub numbered_words : List RawWord → List Token → List Word
 numbered_words [] ts = []
 numbered_words (w ∷ ws) [] = []
 numbered_words (w ∷ ws) (t ∷ ts) =
     record { letter = w.letter; value = number_in t.symbol } ∷ numbered_words ws ts
 
--- there is no setting, and each word has one token, which then is a number
+-- there is no setting, and each word has one token, which is then a number
 abbrev pub is_numbered : Parts → Bool
 is_numbered p = (length p.settings == 0) && (length p.tokens == length p.words)
 
@@ -62,12 +63,12 @@ symbols_kept_of p = record {
   numbers = numbers_of (marks_of p.tokens);
 }
 
--- what is kept of words, settings and tokens
+-- the stored contents for words, settings and tokens
 abbrev pub kept_of : Parts → LineKept
 kept_of p = if is_numbered p then by_numbers (numbered_words p.words p.tokens)
     else by_symbols (symbols_kept_of p)
 
--- what is kept of all lines
+-- the stored contents of all lines
 pub record AllKept : Type 0 where
   pub numbered : List Word
   pub words : List RawWord
@@ -95,13 +96,13 @@ symbols_at all p = record {
   numbers = slice_range all.numbers p.numbers (p.numbers + p.number_count);
 }
 
--- what lies there
+-- the contents at a position
 abbrev pub parts_at : AllKept → Kept → LineKept
 parts_at all (places.Numbers first count) =
     by_numbers (slice_range all.numbered first (first + count))
 parts_at all (places.Symbols p) = by_symbols (symbols_at all p)
 
--- it lies within what is kept, and is no more than a line's
+-- the positions are within the stored contents, and there are no more than a line may have
 pub record IsWithin (all : AllKept) (p : SymbolParts) : Type 0 where
   pub words : p.words + p.word_count ≤ length all.words
   pub settings : p.settings + p.setting_count ≤ length all.settings
@@ -111,7 +112,7 @@ pub record IsWithin (all : AllKept) (p : SymbolParts) : Type 0 where
   pub few_settings : p.setting_count ≤ 64
   pub few_kinds : p.kind_count ≤ 256
 
--- where numbered words end, and where symbols lie, if there are any
+-- the end of numbered words, and the position of symbols, if there are any
 abbrev pub numbered_end : Kept → ℕ
 numbered_end (places.Numbers first count) = first + count
 numbered_end (places.Symbols p) = 0
@@ -132,7 +133,7 @@ symbol_parts (places.Symbols p) = p
 abbrev pub LiesWithin : AllKept → Kept → Type 0
 LiesWithin all k = (numbered_end k ≤ length all.numbered) × IsWithin all (symbol_parts k)
 
--- what was kept stays
+-- stored contents stay unchanged
 abbrev pub Keeps : AllKept → AllKept → Type 0
 Keeps old new =
     (k : Kept) → LiesWithin old k → LiesWithin new k × (parts_at new k ≡ parts_at old k)
@@ -140,7 +141,7 @@ Keeps old new =
 abbrev pub AreWithin : AllKept → List LineEnd → Type 0
 AreWithin all ends = AllByRecursion (λ e. LiesWithin all e.parts.kept) ends
 
--- whether block delete takes a line out, and what is kept of it
+-- whether block delete skips a line, and its stored contents
 abbrev pub said_in : Result Said LineFault → Option (Bool × LineKept)
 said_in (Ok said) = Some (said.deleted, kept_of said.parts)
 said_in (Err fault) = None
@@ -148,10 +149,10 @@ said_in (Err fault) = None
 abbrev pub line_said : Line → Option (Bool × LineKept)
 line_said line = said_in (line_read line.bytes)
 
--- what is kept of a line
+-- the stored contents of a line
 abbrev pub line_kept : AllKept → LineEnd → Option (Bool × LineKept)
 line_kept all e = Some (e.parts.deleted, parts_at all e.parts.kept)
 
--- of each line what it says is kept
+-- the contents of each line are stored
 abbrev pub AreKept : AllKept → List Line → List LineEnd → Type 0
 AreKept all lines ends = map line_said lines ≡ map (line_kept all) ends

@@ -1,10 +1,10 @@
--- The letters that begin words (NISTIR 6556, 3.3.2 and its table of letters). All of that table's
--- letters can be written; N is the line number's.
+-- The letters that begin words (NISTIR 6556, 3.3.2 and its table of letters). All letters of that
+-- table can be written; N is the line number's.
 use Rattle.std.specs.Prelude.{ℕ, ◌==◌, List, [], ◌∷◌, Option, find}
 use Rattle.ngc_line_reader.specs.declared.letter.Letter.{Letter}
 use Rattle.ngc_line_reader.specs.declared.letter.Letter.TheVariants as letters
 
--- the byte that spells a letter, in upper case
+-- the byte of a letter, in upper case
 abbrev pub letter_byte : Letter → ℕ
 letter_byte letters.A = 65
 letter_byte letters.B = 66
@@ -34,6 +34,6 @@ all_letters =
     ∷ letters.M ∷ letters.P ∷ letters.Q ∷ letters.R ∷ letters.S ∷ letters.T ∷ letters.X ∷ letters.Y
     ∷ letters.Z ∷ []
 
--- the letter that a byte spells
+-- the letter of a byte
 unfoldable pub letter_of : ℕ → Option Letter
 letter_of b = find (λ l. letter_byte l == b) all_letters

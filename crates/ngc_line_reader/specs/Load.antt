@@ -1,4 +1,4 @@
--- How a program is read piece by piece: a state, and what is still to come.
+-- Reading a program in pieces: a state, and the remaining text.
 use Rattle.std.specs.Prelude.{◌≡◌, ◌≢◌, ℕ, ◌+◌, ◌-◌, ◌*◌, ◌≤◌, ◌<◌, nat_le, ◌==◌, ◌&&◌, ◌||◌, List}
 use Rattle.std.specs.Prelude.{[], ◌∷◌, ◌++◌, length, Bool, true, false, Option, Some, None, Result}
 use Rattle.std.specs.Prelude.{Ok, Err, if◌then◌else◌}
@@ -23,13 +23,12 @@ is_percent bytes = nat_le (length bytes) 256 && is_percent_text (text bytes)
 abbrev pub is_blank : List ℕ → Bool
 is_blank bytes = is_blank_text (text bytes)
 
--- the bytes behind the spaces and tabs in front
+-- the bytes after the leading spaces and tabs
 abbrev pub after_blanks : List ℕ → List ℕ
 after_blanks [] = []
 after_blanks (b ∷ rest) = if (b == 32) || (b == 9) then after_blanks rest else b ∷ rest
 
--- the number of the line after so many that are read: in a marked file the first % line stands
--- before it
+-- the number of the line after `done` lines: in a marked file the first % line is in front of it
 abbrev pub number_in : Phase → ℕ → ℕ
 number_in Start done = done + 1
 number_in Marked done = done + 2
@@ -48,13 +47,13 @@ is_marking Unmarked = false
 abbrev pub ended_in : Phase → List Line → ProgramText
 ended_in phase found = record { lines = found; marked = is_marking phase }
 
--- the file's end: in a marked file a second % is missing
+-- at the file's end: a marked file lacks the second %
 abbrev pub at_end : Phase → List Line → Outcome
 at_end Start found = Ok (ended_in Start found)
 at_end Marked found = Err faults.NoEnd
 at_end Unmarked found = Ok (ended_in Unmarked found)
 
--- a % line: in front it marks the file, and later it ends the text
+-- a % line: the first one marks the file, and a later one ends the text
 abbrev pub at_percent : Phase → List Line → Outcome → Outcome
 at_percent Start found more = more
 at_percent Marked found more = Ok (ended_in Marked found)
@@ -63,7 +62,7 @@ at_percent Unmarked found more = Ok (ended_in Unmarked found)
 abbrev pub with_line : List Line → Line → List Line
 with_line found line = found ++ (line ∷ [])
 
--- what the lines of a file come to behind so many that were found
+-- the result of the lines of a file after `done` lines that were found
 unfoldable pub walk : Phase → ℕ → List Line → List (List ℕ) → Outcome
 walk phase done found [] = at_end phase found
 walk phase done found (bytes ∷ lines) =
@@ -72,19 +71,19 @@ walk phase done found (bytes ∷ lines) =
     (walk (phase_after phase bytes) (done + 1)
     (with_line found (line_of (number_in phase done) bytes)) lines)
 
--- what the lines so far are, if the text ends here
+-- the result of the lines so far, if the text ends here
 abbrev pub ended : {A : Type 0} → LinesSoFar A → ProgramText
 ended l = ended_in l.phase (lines_in l.lines)
 
--- what comes of these lines behind those so far
+-- the result of these lines after those so far
 abbrev pub walked : {A : Type 0} → LinesSoFar A → List (List ℕ) → Outcome
 walked l lines = walk l.phase (length (lines_in l.lines)) (lines_in l.lines) lines
 
--- the line that comes next
+-- the next line
 abbrev pub next_line : {A : Type 0} → LinesSoFar A → List ℕ → Line
 next_line l bytes = line_of (number_in l.phase (length (lines_in l.lines))) bytes
 
--- the next line was taken
+-- the next line is accepted
 pub record TakesLine {A : Type 0} (old new : LinesSoFar A) (bytes : List ℕ) : Type 0 where
   pub sound : fault_of (length (lines_in old.lines)) (next_line old bytes) ≡ None
   pub few : length (lines_in old.lines) < 100000
@@ -92,7 +91,7 @@ pub record TakesLine {A : Type 0} (old new : LinesSoFar A) (bytes : List ℕ) : 
   pub lines : lines_in new.lines ≡ with_line (lines_in old.lines) (next_line old bytes)
   pub phase : new.phase ≡ phase_after old.phase bytes
 
--- a fault, but for want of memory, is the line's
+-- a fault is the line's, unless it is lack of memory
 abbrev pub RefusedBy : Option ReadFault → ReadFault → Type 0
 RefusedBy why (faults.Line n f) = why ≡ Some (faults.Line n f)
 RefusedBy why faults.TooManyLines = why ≡ Some faults.TooManyLines
@@ -100,27 +99,27 @@ RefusedBy why faults.NoEnd = ⊥
 RefusedBy why faults.Memory = Unit {0}
 RefusedBy why faults.Device = ⊥
 
--- no byte ends a line
+-- no byte is a line feed
 abbrev pub NoFeed : List ℕ → Type 0
 NoFeed bytes = AllByRecursion (λ b. b ≢ 10) bytes
 
--- the first line of some bytes begins so
+-- the first line of some bytes begins in this way
 pub record GoesOn (lines : List ℕ → List (List ℕ)) (line rest : List ℕ) : Type 0 where
   pub more : List ℕ
   pub behind : List (List ℕ)
   pub split : lines (line ++ rest) ≡ (line ++ more) ∷ behind
 
--- A way to part bytes into lines: a line feed ends one, and one that is too long already goes on
--- whatever follows.
+-- A way to split bytes into lines: a line feed ends one, and one that is already too long continues
+-- with whatever follows.
 pub record PartsLines (lines : List ℕ → List (List ℕ)) : Type 0 where
   pub ends : (line rest : List ℕ) → NoFeed line → lines (line ++ (10 ∷ rest)) ≡ line ∷ lines rest
   pub long : (line rest : List ℕ) → NoFeed line → 256 < length line → GoesOn lines line rest
 
--- what comes of these bytes, parted into lines in this way, behind those so far
+-- the result of these bytes after those so far, split into lines in this way
 abbrev pub resumed : {A : Type 0} → (List ℕ → List (List ℕ)) → Loader A → List ℕ → Outcome
 resumed lines l bytes = walked l.found (lines (l.cut.items ++ bytes))
 
--- a fault that stands whatever follows
+-- a fault that stays whatever follows
 abbrev pub standing : Outcome → Option ReadFault
 standing (Ok text) = None
 standing (Err (faults.Line n f)) = Some (faults.Line n f)
@@ -129,11 +128,11 @@ standing (Err faults.TooManyLines) = Some faults.TooManyLines
 standing (Err faults.Memory) = None
 standing (Err faults.Device) = None
 
--- a fault of the lines so far, or want of memory
+-- a fault of the lines so far, or lack of memory
 abbrev pub IsOfLines : ReadFault → Type 0
 IsOfLines fault = (fault ≢ faults.NoEnd) × (fault ≢ faults.Device)
 
--- bytes that a line feed parts
+-- bytes that a line feed splits
 pub record IsSplit (bytes line behind : List ℕ) : Type 0 where
   pub feedless : NoFeed line
   pub parts : bytes ≡ line ++ (10 ∷ behind)
@@ -147,14 +146,14 @@ phase_room Start = 257
 phase_room Marked = 0
 phase_room Unmarked = 0
 
--- how many bytes more can be taken at most
+-- the greatest number of further bytes
 abbrev pub room_behind : {A : Type 0} → LinesSoFar A → ℕ
 room_behind l = 257 * (100001 - length (lines_in l.lines)) + phase_room l.phase
 
 abbrev pub room_of : {A : Type 0} → Loader A → ℕ
 room_of l = room_behind l.found - length l.cut.items
 
--- after a step: what came of the text is still to come, or is there
+-- after a step the result of the text is still open, or certain
 abbrev pub StepGives : Result Step ReadFault → Outcome → Outcome → ProgramText → Type 0
 StepGives (Ok More) before after now = before ≡ after
 StepGives (Ok End) before after now = before ≡ Ok now

@@ -1,12 +1,12 @@
--- Which lines of a file are read, and the number that each has in the file.
+-- The lines of a file that are read, and the number of each in the file.
 --
 -- From NISTIR 6556 come the lines themselves (section 3.3, "Format of a line") and the files that
--- are demarcated with percents: if the first line that isn't blank has nothing but a percent sign
--- and white space, a second such line must follow, and what stands behind it is ignored.
+-- are demarcated with percents: if the first line that is not blank has only a percent sign and
+-- white space, a second such line must follow, and the text after it is ignored.
 --
--- Our own are: a line ends at a line feed, and the last may lack it; a line of more than 256 bytes
--- is no percent line; in a file that isn't marked a percent line ends the text too; and the blank
--- lines in front of the first percent line are read.
+-- Our own: a line ends at a line feed, and the last may lack it; a line of more than 256 bytes is
+-- no percent line; a percent line also ends the text of a file that is not marked; and the blank
+-- lines before the first percent line are read.
 use Rattle.std.specs.Prelude.{ℕ, ◌+◌, ◌==◌, ◌&&◌, nat_le, List, [], ◌∷◌, length, take_while, Bool}
 use Rattle.std.specs.Prelude.{true, false, not, if◌then◌else◌}
 use Rattle.std.specs.List.{list_any}
@@ -37,7 +37,7 @@ numbered n (bytes ∷ lines) = record { number = n; bytes = bytes } ∷ numbered
 abbrev pub lines_of : List ℕ → List Line
 lines_of bytes = numbered 1 (split_lines bytes)
 
--- a line that has nothing but white space
+-- a line with only white space
 abbrev pub is_blank_text : List ℕ → Bool
 is_blank_text [] = true
 is_blank_text (b ∷ rest) = false
@@ -45,7 +45,7 @@ is_blank_text (b ∷ rest) = false
 abbrev pub is_blank_line : Line → Bool
 is_blank_line line = is_blank_text (text line.bytes)
 
--- a line that has nothing but a percent sign and white space, and at most 256 bytes
+-- a line with only a percent sign and white space, and at most 256 bytes
 abbrev pub is_percent_text : List ℕ → Bool
 is_percent_text [] = false
 is_percent_text (b ∷ rest) = (b == 37) && is_blank_text rest

@@ -1,8 +1,8 @@
--- What a file says: its text, or why it is refused; and the readings of its lines.
+-- The result of reading a file: its text, or why it is refused; and the readings of its lines.
 --
--- The lines and their readings follow NISTIR 6556, section 3.3, "Format of a line". Our own are the
--- limit of 100,000 lines, and which fault is answered: that of the first line at fault, and a
--- missing second percent line only where no line is at fault.
+-- The lines and their readings follow NISTIR 6556, section 3.3, "Format of a line". Our own: the
+-- limit of 100,000 lines, and the choice of the fault: that of the first line at fault, and a
+-- missing second percent line only if no line is at fault.
 use Rattle.std.specs.Prelude.{ℕ, ◌+◌, nat_le, List, [], ◌∷◌, Bool, Option, Some, None, Result, Ok}
 use Rattle.std.specs.Prelude.{Err, if◌then◌else◌}
 use Rattle.std.specs.Option.{option_or}
@@ -23,34 +23,33 @@ pub record ProgramText : Type 0 where
 abbrev pub Outcome : Type 0
 Outcome = Result ProgramText ReadFault
 
--- why a line of this number is refused
+-- why a line with this number is refused
 abbrev pub refusal_in : ℕ → Result Said LineFault → Option ReadFault
 refusal_in number (Ok said) = None
 refusal_in number (Err fault) = Some (faults.Line number fault)
 
--- why a line is refused that stands behind so many others that are read: it is one too many, or has
--- no reading
+-- why a line after `before` other lines is refused: it is one too many, or has no reading
 abbrev pub fault_of : ℕ → Line → Option ReadFault
 fault_of before line = if nat_le 100000 before then Some faults.TooManyLines
     else refusal_in line.number (line_read line.bytes)
 
--- the first fault of these lines, that stand behind so many others that are read
+-- the first fault of these lines, which are after `before` other lines
 abbrev pub first_fault : ℕ → List Line → Option ReadFault
 first_fault before [] = None
 first_fault before (line ∷ lines) =
     option_or (fault_of before line) (first_fault (before + 1) lines)
 
--- the fault, or else what comes with none
+-- the fault, or else the outcome
 abbrev pub fault_or : Option ReadFault → Outcome → Outcome
 fault_or None outcome = outcome
 fault_or (Some fault) outcome = Err fault
 
--- what lines say that have no fault
+-- the text of lines that have no fault
 abbrev pub text_of_lines : List Line → Outcome
 text_of_lines lines = if lacks_end lines then Err faults.NoEnd
     else Ok (record { lines = read_lines lines; marked = is_marked lines })
 
--- What a file's bytes say: the first fault of the lines that are read; or else that the second
+-- The result of a file's bytes: the first fault of the lines that are read; or else that the second
 -- percent line is missing; or else these lines, in order, and the mark.
 abbrev pub program_of : List ℕ → Outcome
 program_of bytes =
@@ -62,7 +61,7 @@ pub record HasReading (line : Line) : Type 0 where
   pub reads : Reads line.bytes reading
   pub limits : WithinLimits reading
 
--- these readings are the lines', one for each, in order, and within the limits
+-- these are the readings of the lines, one for each, in order, and within the limits
 abbrev pub AreReadings : List Line → List Reading → Type 0
 AreReadings [] [] = Unit {0}
 AreReadings [] (r ∷ rs) = ⊥

@@ -6,7 +6,7 @@ use Rattle.ngc_line_reader.specs.declared.program.fault.ReadFault.TheVariants.{T
 use Rattle.ngc_line_reader.specs.declared.program.fault.ReadFault.TheVariants.{Device}
 use Rattle.ngc_line_reader.specs.Fault.{number_of as line_fault_number}
 
--- the number of a fault: a line's has that of its kind
+-- the number of a fault: a line's fault has the number of its kind
 abbrev pub number_of : ReadFault → ℕ
 number_of (Line line fault) = line_fault_number fault.kind
 number_of NoEnd = 121

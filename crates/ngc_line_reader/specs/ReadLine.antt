@@ -1,4 +1,4 @@
--- Reading a whole line, with the first fault that is met. A line of more than 256 bytes is refused
+-- Reading a whole line, with the first fault that it has. A line of more than 256 bytes is refused
 -- at column 257 before any other fault (our own).
 use Rattle.std.specs.Prelude.{ℕ, List, length, nat_le, Result, Err, if◌then◌else◌}
 use Rattle.ngc_line_reader.specs.declared.fault.FaultKind.TheVariants.{LineTooLong}

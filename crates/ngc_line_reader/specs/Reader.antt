@@ -1,4 +1,4 @@
--- What a reader of pieces will answer, by its state.
+-- The future results of a reader of pieces, from its state.
 use Rattle.std.specs.Prelude.{ℕ, List, Bool, true, false, Option, Some, None, Ok, Err}
 use Rattle.ngc_line_reader.specs.declared.program.fault.ReadFault.{ReadFault}
 use Rattle.ngc_line_reader.specs.declared.program.loader.Loader.{Loader}
@@ -9,19 +9,19 @@ use Rattle.ngc_line_reader.specs.ProgramText.{Outcome}
 use Rattle.ngc_line_reader.specs.Pieces.{firm_lines}
 use Rattle.ngc_line_reader.specs.Load.{ended, resumed, standing}
 
--- what the text comes to if these bytes follow and no more
+-- the result of the text if these bytes follow and no more
 abbrev pub outcome_by : {A : Type 0} → State → Loader A → List ℕ → Outcome
 outcome_by Going l rest = resumed split_lines l rest
 outcome_by Ended l rest = Ok (ended l.found)
 outcome_by (Refused fault) l rest = Err fault
 
--- the fault that stands once these bytes follow
+-- the fault that is certain once these bytes follow
 abbrev pub fault_by : {A : Type 0} → State → Loader A → List ℕ → Option ReadFault
 fault_by Going l rest = standing (resumed firm_lines l rest)
 fault_by Ended l rest = None
 fault_by (Refused fault) l rest = Some fault
 
--- the fault that was answered
+-- the fault that was returned
 abbrev pub refusal_by : State → Option ReadFault
 refusal_by Going = None
 refusal_by Ended = None

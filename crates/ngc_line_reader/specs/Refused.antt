@@ -1,4 +1,4 @@
--- What stands in a line that is refused for one of its limits (our own).
+-- The text of a line that is refused for one of its limits (our own).
 use Rattle.std.specs.Prelude.{ℕ, ◌≡◌, List, [], ◌∷◌, ◌++◌}
 use Rattle.std.specs.List.{AllByRecursion}
 use Rattle.ngc_fixed_length.specs.Limits.{IsValue}
@@ -10,8 +10,8 @@ use Rattle.ngc_line_reader.specs.Grammar.{items_text, Stops}
 use Rattle.ngc_line_reader.specs.Numbers.{numeral_value}
 use Rattle.ngc_line_reader.specs.Held.{word_count}
 
--- a whole number that is no value stands in it: behind a byte and before a text that are no parts
--- of a number
+-- the line contains a whole number that is too large: the byte before it and the text after it are
+-- no parts of a number
 pub record HasTooLarge (s : List ℕ) : Type 0 where
   pub front : List ℕ
   pub mark : ℕ
@@ -23,7 +23,7 @@ pub record HasTooLarge (s : List ℕ) : Type 0 where
   pub whole : Stops end
   pub written : s ≡ front ++ (mark ∷ (numeral_text number ++ end))
 
--- behind a front, items with so many words stand in it, and then a further word's letter
+-- after a front, the line contains items with n words, and then another word's letter
 pub record HasWords (n : ℕ) (s : List ℕ) : Type 0 where
   pub front : List ℕ
   pub items : List Item

@@ -1,6 +1,6 @@
--- Reading a real value from left to right, with the first fault that is met (our own: the manual
--- names no faults). The definitions on lines stand on Grammar; these say only which fault is
--- answered, and what was read up to it.
+-- Reading a real value from left to right, with the first fault that it has (our own: the manual
+-- names no faults). The definitions on lines use Grammar; these define only which fault is
+-- returned, and what was read before it.
 use Rattle.std.specs.Prelude.{ℕ, zero, suc, ◌≡◌, ◌==◌, ◌&&◌, ◌||◌, nat_le, not, ℤ, List, [], ◌∷◌}
 use Rattle.std.specs.Prelude.{◌++◌, length, drop, Option, Some, None, Bool, false, Result, Ok, Err}
 use Rattle.std.specs.Prelude.{if◌then◌else◌}
@@ -25,7 +25,7 @@ abbrev pub ◌>>=◌ : {A B E : Type 0} → Result A E → (A → Result B E) �
 (Ok x) >>= f = f x
 (Err e) >>= f = Err e
 
--- What a function returned, seen by view, is what reading gives.
+-- A function's result, seen by view, is that of the reading.
 abbrev pub Gives : {X Y E : Type 0} → (X → Y) → Result X E → Result Y E → Type 0
 Gives view (Ok x) read = read ≡ Ok (view x)
 Gives view (Err e) read = read ≡ Err e
@@ -34,8 +34,8 @@ abbrev pub begins : ℕ → List ℕ → Bool
 begins b [] = false
 begins b (c ∷ s) = c == b
 
--- the characters that stand somewhere outside comments: digits, letters and # % ( ) * + - . / ; = [
--- ]
+-- the characters that are allowed somewhere outside comments: digits, letters and # % ( ) * + - . /
+-- ; = [ ]
 abbrev pub is_known : ℕ → Bool
 is_known c = (nat_le 65 c && nat_le c 91) || (nat_le 45 c && nat_le c 57)
     || (nat_le 40 c && nat_le c 43) || (c == 35) || (c == 37) || (c == 59) || (c == 61) || (c == 93)
@@ -44,7 +44,7 @@ abbrev pub begins_unknown : List ℕ → Bool
 begins_unknown [] = false
 begins_unknown (c ∷ s) = not (is_known c)
 
--- an item that can't go on at s: for a fault of its own, or for an unknown character there
+-- an item that can't continue at s: for its own fault, or for an unknown character there
 abbrev pub refusal : FaultKind → List ℕ → Refusal
 refusal kind s = if begins_unknown s then AtByte (length s) else OfItem kind
 
@@ -60,7 +60,7 @@ digits_at s = take_while is_ascii_digit s
 abbrev pub after_digits : List ℕ → List ℕ
 after_digits s = drop (prefix_len is_ascii_digit s) s
 
--- the digits behind a point, if there is one
+-- the digits after a point, if there is one
 abbrev pub decimals_at : List ℕ → Option (List ℕ)
 decimals_at s = if begins 46 s then Some (digits_at (drop 1 s)) else None
 
@@ -81,7 +81,7 @@ fraction_at s = digits_of (decimals_at (after_digits (after_sign s)))
 abbrev pub after_number : List ℕ → List ℕ
 after_number s = after_decimals (after_digits (after_sign s))
 
--- a number's value, and what follows it
+-- a number's value, and the rest
 unfoldable pub number_at : List ℕ → Result (ℤ × List ℕ) Refusal
 number_at s =
     if (length (whole_at s) == 0) && (length (fraction_at s) == 0)
@@ -100,7 +100,7 @@ operator_at s = if begins 43 s then Ok operators.Add
     else (if begins 42 s then Ok operators.Multiply
     else (if begins 47 s then Ok operators.Divide else Err (refusal Bracket s))))
 
--- a real value's tokens behind those so far, and what follows it; room is above the number of bytes
+-- a real value's tokens, after those so far, and the rest; room is greater than the number of bytes
 unfoldable mutual
   pub real_at : (ℕ → ℕ) → ℕ → List Token → List ℕ → Result (List Token × List ℕ) Refusal
   real_at place zero found s = Err (OfItem Bracket)

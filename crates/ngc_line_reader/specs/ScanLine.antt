@@ -1,4 +1,4 @@
--- Reading the items of a line from left to right, with the first fault that is met (our own: the
+-- Reading the items of a line from left to right, with the first fault that they have (our own: the
 -- manual names no faults).
 use Rattle.std.specs.Prelude.{ℕ, zero, suc, ◌+◌, ◌==◌, ◌&&◌, ◌||◌, nat_le, not, List, [], ◌∷◌, ◌++◌}
 use Rattle.std.specs.Prelude.{length, drop, slice_index, Option, Some, None, Bool, Result, Ok, Err}
@@ -23,7 +23,7 @@ use Rattle.ngc_line_reader.specs.Letter.{letter_of}
 use Rattle.ngc_line_reader.specs.Numbers.{digits_value}
 use Rattle.ngc_line_reader.specs.Scan.{◌>>=◌, begins, refusal, digits_at, after_digits, real_at}
 
--- what was read so far
+-- the contents read so far
 pub record Parts : Type 0 where
   pub words : List RawWord
   pub settings : List RawSetting
@@ -68,7 +68,7 @@ word_at place room found letter s =
     real_at place room found.tokens (drop 1 s) >>= λ x.
     Ok (with_word place found letter s x.0, x.1))
 
--- a setting's value, behind its index
+-- a setting's value, after its index
 unfoldable pub value_behind : (ℕ → ℕ) → ℕ → Parts → List ℕ → List Token → List ℕ →
     Result (Parts × List ℕ) Refusal
 value_behind place room found s index r =
@@ -86,7 +86,7 @@ is_comment_byte b = not (b == 40) && not (b == 41)
 abbrev pub after_comment : List ℕ → List ℕ
 after_comment s = drop (prefix_len is_comment_byte s) s
 
--- what follows a comment
+-- the text after a comment
 abbrev pub comment_at : List ℕ → Result (List ℕ) Refusal
 comment_at s =
     if begins 41 (after_comment (drop 1 s)) then Ok (drop 1 (after_comment (drop 1 s))) else (
@@ -100,12 +100,12 @@ start_fault b =
     if is_ascii_digit b || (b == 43) || (b == 45) || (b == 46) then BadNumber else (
     if (b == 91) || (b == 93) then Bracket else UnknownCharacter))
 
--- what a letter begins, or else another item
+-- the result for a letter, or else for another item
 abbrev pub by_letter : {A : Type 0} → Option Letter → (Letter → A) → A → A
 by_letter None word other = other
 by_letter (Some letter) word other = word letter
 
--- an item that no letter begins
+-- an item that begins with no letter
 unfoldable pub other_item_at : (ℕ → ℕ) → ℕ → Parts → List ℕ → Result (Parts × List ℕ) Refusal
 other_item_at place room found s =
     if begins 35 s then setting_at place room found s else (
@@ -119,7 +119,7 @@ item_at place room found s = by_letter (letter_of (slice_index s 0))
 abbrev pub fault_at : FaultKind → ℕ → LineFault
 fault_at kind column = record { kind = kind; column = column }
 
--- a refusal with its column: that of the item that begins s, or of the unknown character
+-- a refusal with its column: that of the item at s, or of the unknown character
 abbrev pub refused_at : (ℕ → ℕ) → List ℕ → Refusal → LineFault
 refused_at place s (OfItem kind) = fault_at kind (place (length s))
 refused_at place s (AtByte left) = fault_at UnknownCharacter (place left)
@@ -135,7 +135,7 @@ items_at place (suc room) found s =
     if begins 59 s then Ok found else (
     located place s (item_at place room found s) >>= λ x. items_at place room x.0 x.1))
 
--- a line number's digits, and what follows them
+-- a line number's digits, and the rest
 abbrev pub numbered : List ℕ → List ℕ → Result (Option ℕ × List ℕ) Refusal
 numbered ds r =
     if length ds == 0 then Err (refusal BadLineNumber r) else (
@@ -146,7 +146,7 @@ unfoldable pub line_number_at : List ℕ → Result (Option ℕ × List ℕ) Ref
 line_number_at s =
     if begins 78 s then numbered (digits_at (drop 1 s)) (after_digits (drop 1 s)) else Ok (None, s)
 
--- what a line says
+-- the contents of a line
 pub record Said : Type 0 where
   pub deleted : Bool
   pub number : Option ℕ

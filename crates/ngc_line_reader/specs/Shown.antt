@@ -1,5 +1,5 @@
--- What a line says in words, settings and tokens, where it lies (NISTIR 6556, 3.3.6); how lines are
--- kept is our own.
+-- The contents of a line in words, settings and tokens (NISTIR 6556, 3.3.6). How lines are stored
+-- is our own.
 use Rattle.std.specs.Prelude.{ℕ, ◌≡◌, List, Bool}
 use Rattle.ngc_line_reader.specs.declared.line.LineView.{LineView}
 use Rattle.ngc_line_reader.specs.declared.line.RawWord.{RawWord}
@@ -21,7 +21,7 @@ pub record Items : Type 0 where
   pub settings : List RawSetting
   pub symbols : List Symbol
 
--- what words, settings and tokens say but for the tokens' columns
+-- the contents of words, settings and tokens, without the tokens' columns
 abbrev pub items_of : Parts → Items
 items_of p = record { words = p.words; settings = p.settings; symbols = symbols p.tokens }
 
@@ -33,12 +33,12 @@ items_said bytes r = record {
   symbols = symbols (all_tokens (place_in (columns bytes)) r.items (behind 59 r.remark));
 }
 
--- this is what a reading of these bytes says
+-- these are the contents of a reading of these bytes
 pub record Shows (bytes : List ℕ) (deleted : Bool) (parts : Parts) (r : Reading) : Type 0 where
   pub deletes : deleted ≡ r.deleted
   pub says : items_of parts ≡ items_said bytes r
 
--- The bytes have a reading, its numbers are in range, and this is what it says.
+-- The bytes have a reading, its numbers are in range, and these are its contents.
 pub record ShowsReading (bytes : List ℕ) (deleted : Bool) (parts : Parts) : Type 0 where
   pub reading : Reading
   pub reads : Reads bytes reading

@@ -1,5 +1,4 @@
--- How lines are stored: their bytes one behind the other, and for each line its number and where it
--- ends.
+-- The storage of lines: their bytes in order, and for each line its number and its end.
 use Rattle.std.specs.Prelude.{ℕ, zero, suc, ◌*◌, ◌==◌, ◌&&◌, nat_le, is_ok, List, [], ◌∷◌, length}
 use Rattle.std.specs.Prelude.{slice_range, Bool}
 use Rattle.std.specs.List.{list_all}
@@ -10,13 +9,13 @@ use Rattle.ngc_line_reader.specs.ReadLine.{line_read}
 abbrev pub line_of : ℕ → List ℕ → Line
 line_of number bytes = record { number = number; bytes = bytes }
 
--- the lines that end so, the first of which begins at start
+-- the lines with these ends, the first of which begins at start
 abbrev pub lines_from : List ℕ → ℕ → List LineEnd → List Line
 lines_from bytes start [] = []
 lines_from bytes start (e ∷ ends) =
     line_of e.number (slice_range bytes start e.end) ∷ lines_from bytes e.end ends
 
--- where the line of this index begins
+-- the start of the line with this index
 abbrev pub start_from : ℕ → List LineEnd → ℕ → ℕ
 start_from start [] i = start
 start_from start (e ∷ ends) zero = start
@@ -27,7 +26,7 @@ abbrev pub are_ends : ℕ → ℕ → List LineEnd → Bool
 are_ends start total [] = start == total
 are_ends start total (e ∷ ends) = nat_le start e.end && are_ends e.end total ends
 
--- a line that is read without a fault
+-- a line that was read without a fault
 abbrev pub is_read : Line → Bool
 is_read line = is_ok (line_read line.bytes)
 

@@ -1,4 +1,4 @@
--- How symbols are kept: their kinds, and the numbers among them apart. Our own.
+-- The storage of symbols: their kinds, and their numbers separately. Our own.
 use Rattle.std.specs.Prelude.{ℤ, List, [], ◌∷◌, ◌++◌}
 use Rattle.ngc_line_reader.specs.declared.token.Symbol.{Symbol}
 use Rattle.ngc_line_reader.specs.declared.token.Symbol.TheVariants as symbols
@@ -23,7 +23,7 @@ abbrev pub numbers_of : List Symbol → List ℤ
 numbers_of [] = []
 numbers_of (s ∷ ss) = number_of s ++ numbers_of ss
 
--- the symbol of a kind, and the numbers behind it
+-- the symbol of a kind, and the remaining numbers
 abbrev pub first_symbol : Kind → List ℤ → Symbol × List ℤ
 first_symbol kinds.Number [] = (symbols.Close, [])
 first_symbol kinds.Number (x ∷ xs) = (symbols.Number x, xs)

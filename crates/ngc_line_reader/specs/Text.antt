@@ -1,14 +1,14 @@
--- The text of a line: what white space and the case of letters don't change (NISTIR 6556, 3.3:
--- spaces and tabs stand anywhere but in comments, inside numbers too, and letters are read without
--- regard to case there). Our own: a carriage return is white space where it is the line's last
--- byte, and ';' outside parentheses begins a comment up to the line's end.
+-- The text of a line: it does not depend on white space and the case of letters (NISTIR 6556, 3.3:
+-- spaces and tabs are allowed anywhere except in comments, also inside numbers, and the case of
+-- letters outside comments does not matter). Our own: a carriage return is white space if it is the
+-- line's last byte, and ';' outside parentheses begins a comment up to the line's end.
 use Rattle.std.specs.Prelude.{ℕ, ◌-◌, ◌+◌, List, [], ◌∷◌, ◌++◌, length, Option, Some, None, Bool}
 use Rattle.std.specs.Prelude.{◌==◌, ◌&&◌, ◌||◌, nat_le, slice_index, if◌then◌else◌}
 use Rattle.std.specs.Option.{option_to_list, option_map}
 use Rattle.ngc_line_reader.specs.declared.text.Place.{Place}
 use Rattle.ngc_line_reader.specs.declared.text.Place.TheVariants.{Outside, InComment, InRemark}
 
--- where the byte after b stands: '(' opens a comment, ')' closes it, ';' begins a remark, which
+-- the place of the byte after b: '(' opens a comment, ')' closes it, ';' begins a remark, which
 -- nothing closes
 abbrev pub place_after : Place → ℕ → Place
 place_after Outside b = if b == 40 then InComment else (if b == 59 then InRemark else Outside)
@@ -22,8 +22,8 @@ is_blank b last = (b == 32) || ((b == 9) || ((b == 13) && last))
 abbrev pub upper : ℕ → ℕ
 upper b = if nat_le 97 b && nat_le b 122 then b - 32 else b
 
--- what the text has of a byte: outside comments nothing of a blank, and letters in upper case;
--- inside every byte as it is
+-- the byte's part in the text: outside comments nothing for a blank, and letters in upper case;
+-- inside comments every byte unchanged
 abbrev pub kept : Place → ℕ → Bool → Option ℕ
 kept Outside b last = if is_blank b last then None else Some (upper b)
 kept InComment b last = Some b
@@ -34,7 +34,7 @@ text_from place [] = []
 text_from place (b ∷ rest) =
     option_to_list (kept place b (length rest == 0)) ++ text_from (place_after place b) rest
 
--- the text of a line, whose bytes have no line feed behind them
+-- the text of a line, given without its line feed
 abbrev pub text : List ℕ → List ℕ
 text line = text_from Outside line
 
@@ -49,6 +49,6 @@ columns_from place column (b ∷ rest) = option_to_list
 abbrev pub columns : List ℕ → List ℕ
 columns line = columns_from Outside 1 line
 
--- the column of the byte of the text that has so many bytes from it on
+-- the column of the byte of the text with `left` bytes from it on
 abbrev pub place_in : List ℕ → ℕ → ℕ
 place_in columns left = slice_index columns (length columns - left)

@@ -24,12 +24,12 @@ abbrev mutual
 abbrev pub symbols : List Token → List Symbol
 symbols tokens = map (λ t. t.symbol) tokens
 
--- a symbol that is the first of a text; place gives the column of a byte by the number of bytes
--- from it on
+-- a symbol at the front of a text; place gives the column of a byte from the number of bytes from
+-- it on
 abbrev pub token_at : (ℕ → ℕ) → Symbol → List ℕ → Token
 token_at place symbol text = record { symbol = symbol; column = place (length text) }
 
--- the tokens of a real value with the text end behind it
+-- the tokens of a real value with the text end after it
 abbrev mutual
   pub tokens_of : (ℕ → ℕ) → Real → List ℕ → List Token
   tokens_of place (number n) end =

@@ -1,5 +1,5 @@
--- Words whose values are numbers (NISTIR 6556, 3.3.2.1), for which no parameter and no expression has
--- to be looked at.
+-- Words whose values are numbers (NISTIR 6556, 3.3.2.1), which need no parameters and no
+-- expressions.
 use Rattle.std.specs.Prelude.{ℕ, ◌≡◌, ℤ, List, [], ◌∷◌, map, Option, Some, None, Bool}
 use Rattle.std.specs.Option.{option_map}
 use Rattle.ngc_line_reader.specs.declared.letter.Letter.{Letter}
@@ -16,20 +16,20 @@ pair_of w = (w.letter, w.value)
 abbrev pub pairs_of : List Word → List (Letter × ℤ)
 pairs_of ws = map pair_of ws
 
--- a value that is a number, in front of others
+-- a value that is a number, before others
 abbrev pub with_number : Letter → Real → Option (List (Letter × ℤ)) → Option (List (Letter × ℤ))
 with_number letter (number n) rest = option_map (λ ws. (letter, numeral_value n) ∷ ws) rest
 with_number letter (parameter index) rest = None
 with_number letter (bracket first more) rest = None
 
--- the letters and values of words, where each value is a number and nothing is set
+-- the letters and values of words, if each value is a number and nothing is set
 abbrev pub number_words : List Item → Option (List (Letter × ℤ))
 number_words [] = Some []
 number_words (word letter value ∷ items) = with_number letter value (number_words items)
 number_words (setting index value ∷ items) = None
 number_words (comment bytes ∷ items) = number_words items
 
--- The bytes have a reading, its numbers are in range, and these are its words, where all its values
+-- The bytes have a reading, its numbers are in range, and these are its words, if all its values
 -- are numbers.
 pub record SaysNumbers (bytes : List ℕ) (words : Option (List (Letter × ℤ))) : Type 0 where
   pub reading : Reading
@@ -37,7 +37,7 @@ pub record SaysNumbers (bytes : List ℕ) (words : Option (List (Letter × ℤ))
   pub limit : AllWithinLimit reading.items
   pub says : words ≡ number_words reading.items
 
--- The bytes have a reading, and this is whether block delete takes it out.
+-- The bytes have a reading, and this is whether block delete skips it.
 pub record SaysDeleted (bytes : List ℕ) (deleted : Bool) : Type 0 where
   pub reading : Reading
   pub reads : Reads bytes reading

@@ -2,7 +2,7 @@ ghost use Rattle.std.specs.Prelude.{◌≡◌};
 
 use thiserror::Error;
 
-/// Why a line is refused.
+/// The reasons why a line is refused.
 #[derive(Clone, Copy, Debug, PartialEq, Eq, Error)]
 pub enum FaultKind {
     /// A number is over 1,000,000,000 in size.
@@ -28,8 +28,8 @@ pub enum FaultKind {
     TooManyWords,
 }
 
-/// Why a line is refused, and the column, from 1, of the first byte of the item that it is refused
-/// for.
+/// A refusal of a line: why it is refused, and the column, from 1, of the first byte of the item at
+/// fault.
 #[derive(Clone, Copy, Debug, PartialEq, Eq, Error)]
 #[error("{kind}, column {column}")]
 pub struct LineFault {
@@ -40,7 +40,7 @@ pub struct LineFault {
 impl LineFault {
     ghost use Rattle.ngc_line_reader.specs.Fault.{number_of};
 
-    /// The fault's number, by which listings and machinists name it.
+    /// Returns the fault's number, which listings and messages print.
     pub fn number(&self) -> u16
         ensures { result ≡ number_of self.now.kind }
     {
@@ -59,7 +59,8 @@ impl LineFault {
     }
 }
 
-/// Why an item is refused: for itself, or for an unknown character with so many bytes left.
+/// A refusal of an item: for the item itself, or for an unknown character, with the number of bytes
+/// from it on.
 #[derive(Clone, Copy)]
 pub enum Refusal {
     OfItem(FaultKind),

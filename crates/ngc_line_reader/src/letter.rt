@@ -36,7 +36,7 @@ impl Default for Letter {
     }
 }
 
-// The letter that a byte spells.
+// Returns the letter that a byte writes.
 #[tactic(auto, unfolding(crate::specs::Letter::letter_of))]
 #[inline]
 pub(crate) fn letter_of(byte: u8) -> Option<Letter>

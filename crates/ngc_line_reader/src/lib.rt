@@ -1,5 +1,5 @@
-//! Reads the text of RS274/NGC part programs (NISTIR 6556), line by line: `Program::read` pulls it
-//! from a source, and a `ProgramReader` is fed it in pieces of any size.
+//! Reads the text of RS274/NGC part programs (NISTIR 6556), line by line. `Program::read` pulls the
+//! text from a source; a `ProgramReader` accepts it in pieces of any size.
 #![tactic(auto)]
 
 mod fault;

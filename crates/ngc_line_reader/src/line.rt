@@ -4,7 +4,8 @@ use crate::letter::Letter;
 use crate::token::Token;
 use arrayvec::ArrayVec;
 
-/// A word: its letter, its column, from 1, and where in the line's tokens those of its value begin.
+/// A word: its letter, its column, from 1, and the index in the line's tokens at which those of its
+/// value begin.
 #[derive(Clone, Copy, Default)]
 pub struct RawWord {
     pub letter: Letter,
@@ -12,8 +13,8 @@ pub struct RawWord {
     pub first: u16,
 }
 
-/// A setting: its column, from 1, and where in the line's tokens those of its index and of its
-/// value begin.
+/// A setting: its column, from 1, and the indexes in the line's tokens at which those of its index
+/// and of its value begin.
 #[derive(Clone, Copy, Default)]
 pub struct RawSetting {
     pub column: u16,
@@ -21,7 +22,7 @@ pub struct RawSetting {
     pub value: u16,
 }
 
-/// What a line says: whether block delete takes it out, its number, and its words, settings and
+/// The contents of a line: whether block delete skips it, its number, and its words, settings and
 /// tokens in the order in which they are written.
 #[derive(Drop)]
 pub struct Line {
@@ -32,7 +33,7 @@ pub struct Line {
     pub tokens: ArrayVec<Token, 256>,
 }
 
-/// What a line says, but for its number, where it lies: at most 64 words, 64 settings and 256
+/// The contents of a line without its number, as slices: at most 64 words, 64 settings and 256
 /// tokens.
 #[derive(Clone, Copy)]
 pub struct LineView<'a> {
@@ -49,7 +50,7 @@ impl Line {
     ghost use Rattle.ngc_line_reader.specs.ScanLine.{parts_of};
     ghost use Rattle.ngc_line_reader.specs.Shown.{view_parts};
 
-    /// What it says, but for its number.
+    /// Returns the line's contents without its number.
     pub fn view(&self) -> LineView<'_>
         ensures deleted { result.deleted ≡ self.now.deleted }
         ensures parts { view_parts result ≡ parts_of self.now }

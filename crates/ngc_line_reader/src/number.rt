@@ -16,17 +16,17 @@ ghost use Rattle.ngc_line_reader.specs.Scan.{◌>>=◌ as and_then, value_fits};
 use crate::fault::{FaultKind, Refusal};
 use ngc_fixed_length::{NumberFault, Value};
 
-/// Digits, and the number that they give, or `UNITS` where that is less.
+/// Digits, and the number that they write, at most `UNITS`.
 #[derive(Clone, Copy)]
 pub struct Digits<'a> {
     pub bytes: &'a [u8],
     pub units: u64,
 }
 
-// More than any value has: with so many units or more a number is too large.
+// More than any value: a number of this many units or more is too large.
 const UNITS: u64 = 10_000_000_000;
 
-// How many digits stand in front, and the number that they give, or `UNITS`.
+// Returns the number of leading digits, and the number that they write, at most `UNITS`.
 #[tactic(auto, using(crate::proofs::Digits::digits_counted))]
 #[inline]
 fn count_digits(s: &[u8]) -> (usize, u64)
@@ -44,7 +44,7 @@ fn count_digits(s: &[u8]) -> (usize, u64)
     (s.len(), units)
 }
 
-// The digits in front, and what follows them.
+// Returns the leading digits, and the rest.
 #[inline]
 pub(crate) fn split_digits(s: &[u8]) -> (Digits<'_>, &[u8])
     ensures front { result.0.bytes.now ≡ digits_at s.now }
@@ -72,7 +72,7 @@ fn begins_unknown(s: &[u8]) -> bool
     }
 }
 
-// Why an item can't go on at `s`.
+// Returns why an item can't continue at `s`.
 pub(crate) fn refusal(kind: FaultKind, s: &[u8]) -> Refusal
     ensures value { result ≡ refused kind s.now }
     ensures not_long { kind ≢ FaultKind.LineTooLong →
@@ -96,7 +96,7 @@ pub(crate) fn begins(byte: u8, s: &[u8]) -> bool
     }
 }
 
-// The bytes after the first.
+// Returns the bytes after the first.
 #[inline]
 pub(crate) fn tail(s: &[u8]) -> &[u8]
     requires { 0 < length s.now }
@@ -116,7 +116,7 @@ fn split_sign(s: &[u8]) -> &[u8]
     }
 }
 
-// The digits behind a point, and what follows them.
+// Returns the digits after a point, and the rest.
 #[inline]
 fn split_decimals(s: &[u8]) -> (Digits<'_>, &[u8])
     ensures front { result.0.bytes.now ≡ digits_of (decimals_at s.now) }
@@ -135,7 +135,7 @@ fn split_decimals(s: &[u8]) -> (Digits<'_>, &[u8])
     }
 }
 
-// A value, if it is not too large, with what follows it.
+// Returns a value, if it is not too large, with the rest.
 #[inline]
 fn with_rest(value: Result<Value, NumberFault>, rest: &[u8]) -> Result<(Value, &[u8]), Refusal>
     ensures reads { Gives (λ x. (x.0, x.1.now)) result
@@ -148,7 +148,7 @@ fn with_rest(value: Result<Value, NumberFault>, rest: &[u8]) -> Result<(Value, &
     }
 }
 
-// A number's value, and what follows it.
+// Returns a number's value, and the rest.
 #[tactic(auto, unfolding(crate::specs::Scan::number_at))]
 #[inline(always)]
 pub(crate) fn number_at(s: &[u8]) -> Result<(Value, &[u8]), Refusal>
@@ -169,7 +169,7 @@ pub(crate) fn number_at(s: &[u8]) -> Result<(Value, &[u8]), Refusal>
     with_rest(value_of(begins(b'-', s), whole, decimals), rest)
 }
 
-// The millionths that the last of so many decimals counts.
+// Returns the number of millionths that the last of `decimals` decimals counts.
 #[inline]
 fn last_place(decimals: usize) -> u64
     requires { decimals ≤ 6 }
@@ -186,7 +186,7 @@ fn last_place(decimals: usize) -> u64
     }
 }
 
-// The decimals in millionths, rounded.
+// Returns the decimals in millionths, rounded.
 #[inline]
 fn millionths_of(decimals: Digits<'_>) -> u64
     requires digits { IsDigits decimals.bytes.now }
@@ -196,7 +196,7 @@ fn millionths_of(decimals: Digits<'_>) -> u64
     ensures bound { result ≤ 1000000 }
 {
     if decimals.bytes.len() > 6 {
-        // The seventh decimal rounds.
+        // The seventh decimal decides the rounding.
         (count_digits(&decimals.bytes[..7]).1 + 5) / 10
     } else {
         decimals.units * last_place(decimals.bytes.len())
@@ -215,7 +215,7 @@ fn signed_value(negative: bool, size: u64) -> Result<Value, NumberFault>
     }
 }
 
-// A value without decimals.
+// Returns a value without decimals.
 #[inline]
 fn whole_value(negative: bool, whole: Digits<'_>) -> Result<Value, NumberFault>
     requires { whole.units ≡ min (digits_value whole.bytes.now) 10000000000 }

@@ -26,7 +26,7 @@ mod stored;
 pub use fault::ReadFault;
 pub use reader::ProgramReader;
 
-/// A part program: the lines that are read.
+/// A part program: the lines that are executed.
 #[derive(Drop)]
 pub struct Program<A: Allocator> {
     lines: StoredLines<A>,
@@ -34,7 +34,7 @@ pub struct Program<A: Allocator> {
 }
 
 impl<A: Allocator> Program<A> {
-    /// How many lines are read: at most 100,000.
+    /// Returns the number of lines: at most 100,000.
     pub fn len(&self) -> usize
         ensures value { result ≡ length (text_in self.now).lines }
         ensures few { result ≤ 100000 }
@@ -42,21 +42,21 @@ impl<A: Allocator> Program<A> {
         self.lines.len()
     }
 
-    /// Whether no line is read.
+    /// Returns whether there are no lines.
     pub fn is_empty(&self) -> bool
         ensures { result ≡ (length (text_in self.now).lines == 0) }
     {
         self.lines.len() == 0
     }
 
-    /// Whether `%` lines mark the file.
+    /// Returns whether `%` lines mark the file.
     pub fn is_marked(&self) -> bool
         ensures { result ≡ (text_in self.now).marked }
     {
         self.marked
     }
 
-    /// The number in the file, from 1, of a line that is read.
+    /// Returns a line's number in the file, from 1.
     pub fn number(&self, index: usize) -> u32
         requires { index < length (text_in self.now).lines }
         ensures { option_map (λ l. l.number) (slice_get (text_in self.now).lines index)
@@ -65,8 +65,7 @@ impl<A: Allocator> Program<A> {
         self.lines.number(index)
     }
 
-    /// The bytes of a line that is read, without its line feed. Reading them again answers no
-    /// fault.
+    /// Returns the bytes of a line, without its line feed. Reading them again returns no fault.
     pub fn bytes(&self, index: usize) -> &[u8]
         requires { index < length (text_in self.now).lines }
         ensures value { option_map (λ l. l.bytes) (slice_get (text_in self.now).lines index)
@@ -76,7 +75,7 @@ impl<A: Allocator> Program<A> {
         self.lines.bytes(index)
     }
 
-    /// Whether a line that is read begins with `/`, so that block delete takes it out.
+    /// Returns whether a line begins with `/`, so that block delete skips it.
     pub fn is_deleted(&self, index: usize) -> bool
         requires { index < length (text_in self.now).lines }
         ensures { (bytes : List ℕ) →
@@ -86,8 +85,8 @@ impl<A: Allocator> Program<A> {
         self.lines.is_deleted(index)
     }
 
-    /// The words of a line that is read, with their values, where each value is a number and the
-    /// line sets no parameter; else `None`.
+    /// Returns the words of a line with their values, if each value is a number and the line sets
+    /// no parameter; otherwise `None`.
     pub fn numbers(&self, index: usize) -> Option<&[Word]>
         requires { index < length (text_in self.now).lines }
         ensures { (bytes : List ℕ) →
@@ -97,10 +96,9 @@ impl<A: Allocator> Program<A> {
         self.lines.numbers(index)
     }
 
-    /// What a line that is read says, in place of what `line` holds, as `Line::read` finds it in
-    /// the line's bytes: whether block delete takes it out, its words, its settings, and the
-    /// symbols of its values. The columns of its tokens and the number behind `N` are unspecified
-    /// then.
+    /// Loads the contents of a line into `line`, as `Line::read` finds them in the line's bytes:
+    /// whether block delete skips it, its words, its settings, and the symbols of its values. The
+    /// columns of its tokens and the number after `N` are then unspecified.
     pub fn load(&self, index: usize, line: &mut Line)
         requires { index < length (text_in self.now).lines }
         ensures { (bytes : List ℕ) →
@@ -118,18 +116,18 @@ impl<A: Allocator> Program<A> {
         Program { lines, marked }
     }
 
-    /// The lines of a file up to the end of its text, or the first fault. No more is pulled once
-    /// the text has ended or a fault stands.
+    /// Reads the lines of a file up to the end of its text, or returns the first fault. It stops
+    /// pulling after the end of the text or after a fault.
     pub fn read<R: Source>(alloc: A, source: &mut R) -> Result<Program<A>, ReadFault>
     where
         A: Copy,
-        // Where the source's bytes are known, the answer is what they say, but for want of memory
-        // and the source's failure.
+        // If the source's bytes are known, the result is the one that they define, except for lack
+        // of memory and a failure of the source.
         ensures text { IfSome (R.remaining source.old)
             (λ bytes. OutcomeIs result (program_of bytes)) }
         // Each line has a reading.
         ensures readings { IfOk result (λ p. HaveReadings (text_in p).lines) }
-        // Only a source that failed is said to have failed.
+        // `Device` is returned only if the source failed.
         ensures device { result ≡ Err Device →
             Rises (R.failures source.old) (R.failures source.new) }
     {

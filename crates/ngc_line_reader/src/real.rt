@@ -13,7 +13,7 @@ use crate::text::column_of;
 use crate::token::{Operator, Symbol, Token};
 use arrayvec::ArrayVec;
 
-// A symbol that begins `s` is read.
+// Adds the symbol that begins `s`.
 #[inline]
 pub(crate) fn push_symbol(
     columns: &[u16],
@@ -30,7 +30,7 @@ pub(crate) fn push_symbol(
     tokens.push(Token { symbol, column });
 }
 
-// A number, and what follows it. (It stands outside the cycle of calls.)
+// Reads a number, and returns the rest. (It is outside the cycle of calls.)
 #[inline]
 #[tactic(auto, using(crate::proofs::Scanning::number_shorter))]
 fn number_token<'a>(
@@ -56,7 +56,7 @@ fn number_token<'a>(
     }
 }
 
-// The tokens of a real value, and what follows it.
+// Reads the tokens of a real value, and returns the rest.
 #[cycle(real)]
 #[tactic(auto, using(crate::proofs::Scanning::real_step))]
 pub(crate) fn real_at<'a>(
@@ -87,7 +87,7 @@ pub(crate) fn real_at<'a>(
     number_token(columns, s, tokens)
 }
 
-// What follows the first value in brackets.
+// Returns the text after the first value in brackets.
 #[cycle(real)]
 #[tactic(auto, using(crate::proofs::Scanning::rest_step))]
 fn rest_at<'a>(

@@ -2,7 +2,7 @@ ghost use Rattle.std.specs.Prelude.{◌≡◌, ◌≢◌, ◌≤◌, length, tak
 ghost use Rattle.ngc_line_reader.specs.Text.{place_after as next_place, is_blank as blank, upper};
 ghost use Rattle.ngc_line_reader.specs.Text.{kept, text, columns as columns_in, place_in};
 
-/// Where a byte of a line stands.
+/// The position of a byte of a line: outside comments, or in one of the two kinds.
 #[derive(Clone, Copy)]
 pub enum Place {
     Outside,
@@ -10,7 +10,7 @@ pub enum Place {
     InRemark,
 }
 
-/// Room for a line's text and its columns while the line is read, whatever stands in it.
+/// A buffer for a line's text and its columns while the line is read. Its contents do not matter.
 #[derive(Drop)]
 pub(crate) struct Scratch {
     pub(crate) bytes: [u8; 256],
@@ -26,7 +26,8 @@ impl Scratch {
     }
 }
 
-// Most bytes: such a byte is kept as it is wherever it stands, and the next stands there too.
+// Returns true for most bytes: such a byte is kept unchanged in every place, and the next byte is
+// in the same place.
 #[inline]
 fn is_kept_anywhere(byte: u8) -> bool
     ensures low { IsTrue result → 42 ≤ byte }
@@ -95,7 +96,7 @@ fn kept_byte(place: Place, byte: u8, last: bool) -> Option<u8>
     }
 }
 
-// The column of the byte with so many bytes left.
+// Returns the column of the byte with `left` bytes from it on.
 #[inline]
 pub(crate) fn column_of(columns: &[u16], left: usize) -> u16
     ensures { result ≡ place_in columns.now left }
@@ -108,8 +109,8 @@ pub(crate) fn column_of(columns: &[u16], left: usize) -> u16
     }
 }
 
-/// The text of a line, into `bytes`, and the column of each of its bytes, into `columns`: so many
-/// of either.
+/// Writes the text of a line into `bytes`, and the column of each of its bytes into `columns`.
+/// Returns the number of bytes in each.
 #[tactic(auto, using(crate::proofs::TextBytes::one_byte))]
 pub(crate) fn fill_text(line: &[u8], bytes: &mut [u8; 256], columns: &mut [u16; 256]) -> usize
     requires { length line.now ≤ 256 }

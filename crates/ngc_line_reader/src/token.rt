@@ -2,7 +2,7 @@ ghost use Rattle.std.specs.Prelude.{◌≡◌};
 
 use ngc_fixed_length::Value;
 
-/// What stands between two values in brackets.
+/// An operator between two values in brackets.
 #[derive(Clone, Copy)]
 pub enum Operator {
     Add,
@@ -15,7 +15,7 @@ pub enum Operator {
 #[derive(Clone, Copy)]
 pub enum Symbol {
     Number(Value),
-    /// `#`: the real value behind it is a parameter's index.
+    /// `#`: the real value after it is a parameter's index.
     Parameter,
     Open,
     Close,

@@ -21,7 +21,7 @@ use crate::real::{push_symbol, real_at};
 use crate::text::column_of;
 use crate::token::Symbol;
 
-// A word, and what follows it.
+// Reads a word, and returns the rest.
 #[tactic(auto, unfolding(crate::specs::ScanLine::word_at))]
 fn word_at<'a>(
     columns: &[u16],
@@ -56,7 +56,8 @@ fn word_at<'a>(
     Ok(rest)
 }
 
-// What follows a word whose value is a number, as most items are; of another item nothing.
+// Reads a word whose value is a number, as in most items, and returns the rest. It returns `None`
+// for any other item.
 #[inline(always)]
 #[tactic(auto, using(crate::proofs::Scanning::number_shorter))]
 pub(crate) fn short_word<'a>(
@@ -98,7 +99,7 @@ pub(crate) fn short_word<'a>(
     }
 }
 
-// A setting, and what follows it.
+// Reads a setting, and returns the rest.
 #[tactic(auto, unfolding(crate::specs::ScanLine::setting_at, crate::specs::ScanLine::value_behind))]
 fn setting_at<'a>(
     columns: &[u16],
@@ -158,7 +159,7 @@ fn after_comment(s: &[u8]) -> &[u8]
     s.split_at(comment_count(s)).1
 }
 
-// What follows a comment.
+// Returns the text after a comment.
 fn comment_at(s: &[u8]) -> Result<&[u8], Refusal>
     requires some { 0 < length s.now }
     ensures reads { Gives (λ rest. rest.now) result (comment_found s.now) }
@@ -175,7 +176,7 @@ fn comment_at(s: &[u8]) -> Result<&[u8], Refusal>
     }
 }
 
-// Why no item begins with this byte.
+// Returns why no item begins with this byte.
 fn start_fault(byte: u8) -> FaultKind
     ensures value { result ≡ fault_of_start byte }
     ensures not_long { result ≢ FaultKind.LineTooLong }
@@ -188,7 +189,7 @@ fn start_fault(byte: u8) -> FaultKind
     }
 }
 
-// An item that no letter begins, and what follows it.
+// Reads an item that begins with no letter, and returns the rest.
 #[tactic(auto, unfolding(crate::specs::ScanLine::other_item_at))]
 fn other_item_at<'a>(
     columns: &[u16],
@@ -220,7 +221,8 @@ fn other_item_at<'a>(
     Err(Refusal::OfItem(start_fault(s[0])))
 }
 
-// An item, and what follows it. (Most are short words, which come here only if they are refused.)
+// Reads an item, and returns the rest. (Most items are short words, which get here only if they are
+// refused.)
 #[inline(never)]
 #[tactic(auto, unfolding(crate::specs::ScanLine::item_at))]
 pub(crate) fn item_at<'a>(

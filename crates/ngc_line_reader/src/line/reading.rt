@@ -20,10 +20,10 @@ use crate::number::{begins, refusal, split_digits, tail};
 use crate::text::{Scratch, column_of, fill_text};
 use arrayvec::ArrayVec;
 
-/// The most bytes that a line may have, its line feed not counted.
+/// The greatest number of bytes of a line, without its line feed.
 const LINE_LENGTH: usize = 256;
 
-// A refusal with its column.
+// Returns a refusal with its column.
 fn refused_at(columns: &[u16], left: usize, why: Refusal) -> LineFault
     ensures value { (s : List ℕ) → length s ≡ left →
         result ≡ refused_in (place_in columns.now) s why }
@@ -42,7 +42,7 @@ fn refused_at(columns: &[u16], left: usize, why: Refusal) -> LineFault
     }
 }
 
-// The items of a text, behind those that `line` holds.
+// Reads the items of a text and adds them to those in `line`.
 #[tactic(auto, using(crate::proofs::LineItems::items_step))]
 fn items_at(columns: &[u16], room: usize, text: &[u8], line: &mut Line) -> Result<(), LineFault>
     requires room { length text.now < room }
@@ -68,7 +68,7 @@ fn items_at(columns: &[u16], room: usize, text: &[u8], line: &mut Line) -> Resul
     Ok(())
 }
 
-// A line's number, and what follows it.
+// Reads a line's number, and returns the rest.
 #[tactic(auto, unfolding(crate::specs::ScanLine::line_number_at))]
 fn line_number_at(s: &[u8]) -> Result<(Option<u32>, &[u8]), Refusal>
     ensures reads { Gives (λ x. (x.0, x.1.now)) result (line_number_found s.now) }
@@ -98,7 +98,7 @@ fn after_slash(s: &[u8]) -> &[u8]
     if begins(b'/', s) { tail(s) } else { s }
 }
 
-// What a text says, in place of what `line` holds.
+// Reads a text into `line`, in place of its contents.
 #[tactic(auto, unfolding(crate::specs::ScanLine::text_at))]
 fn text_at(columns: &[u16], text: &[u8], line: &mut Line) -> Result<(), LineFault>
     requires { length text.now ≤ 256 }
@@ -124,7 +124,7 @@ fn text_at(columns: &[u16], text: &[u8], line: &mut Line) -> Result<(), LineFaul
 }
 
 impl Line {
-    /// A line that says nothing.
+    /// Returns an empty line.
     pub fn empty() -> Line
         ensures { HoldsReading [] result }
     {
@@ -137,30 +137,30 @@ impl Line {
         }
     }
 
-    /// Reads a line's bytes, its line feed not among them, in place of what it holds: what they say
-    /// (NISTIR 6556, 3.3), or the first fault from the left with the column of its item. After a
-    /// fault what it holds is unspecified.
+    /// Reads a line's bytes, without its line feed (NISTIR 6556, 3.3). The new contents replace the
+    /// old ones. Returns the first fault from the left, with the column of its item; the contents
+    /// are then unspecified.
     pub fn read(&mut self, bytes: &[u8]) -> Result<(), LineFault>
-        // What it holds then is a reading of the line.
+        // The line then holds a reading of the bytes.
         ensures found { OnOk result (HoldsReading bytes.now self.new) }
         // A line that has a reading within the limits is not refused.
         ensures only { (r : Reading) → Reads bytes.now r → WithinLimits r → length bytes.now ≤ 256 →
             IsOk result }
-        // Which fault comes: a line that is too long is refused as such, another by the first fault
-        // from the left.
+        // A line that is too long is refused for that reason. Any other line is refused for the
+        // first fault from the left.
         ensures first { Gives (λ _. said_of self.new) result (line_read bytes.now) }
         // Only a line of more than 256 bytes is refused as too long.
         ensures long { IfErr result (λ f. f.kind ≡ FaultKind.LineTooLong → 256 < length bytes.now) }
-        // A number is refused as too large only where such a number is written,
+        // A number is refused as too large only if such a number is written,
         ensures large { IfErr result (λ f. f.kind ≡ FaultKind.TooLarge → WritesTooLarge bytes.now) }
-        // and a word as one too many only behind 64 words.
+        // and a word as one too many only after 64 words.
         ensures many { IfErr result (λ f. f.kind ≡ FaultKind.TooManyWords →
             WritesManyWords bytes.now) }
     {
         self.read_into(bytes, &mut Scratch::new())
     }
 
-    /// `read`, with room for the text that the caller keeps from line to line.
+    /// Does the same as `read`, with a text buffer that the caller keeps from line to line.
     pub(crate) fn read_into(&mut self, bytes: &[u8], scratch: &mut Scratch) -> Result<(), LineFault>
         ensures found { OnOk result (HoldsReading bytes.now self.new) }
         ensures only { (r : Reading) → Reads bytes.now r → WithinLimits r → length bytes.now ≤ 256 →
@@ -182,22 +182,22 @@ impl Line {
     }
 }
 
-/// What a line says, or the first fault from the left with the column of its item. `Line::read`
-/// does the same in place, and is faster where many lines are read.
+/// Returns the contents of a line, or the first fault from the left with the column of its item.
+/// `Line::read` does the same in place, and is faster for many lines.
 pub fn read_line(line: &[u8]) -> Result<Line, LineFault>
-    // What is answered is a reading of the line.
+    // The result holds a reading of the line.
     ensures found { IfOk result (λ answer. HoldsReading line.now answer) }
     // A line that has a reading within the limits is not refused.
     ensures only { (r : Reading) → Reads line.now r → WithinLimits r → length line.now ≤ 256 →
         IsOk result }
-    // Which fault comes: a line that is too long is refused as such, another by the first fault
-    // from the left.
+    // A line that is too long is refused for that reason. Any other line is refused for the first
+    // fault from the left.
     ensures first { Gives said_of result (line_read line.now) }
     // Only a line of more than 256 bytes is refused as too long.
     ensures long { IfErr result (λ f. f.kind ≡ FaultKind.LineTooLong → 256 < length line.now) }
-    // A number is refused as too large only where such a number is written,
+    // A number is refused as too large only if such a number is written,
     ensures large { IfErr result (λ f. f.kind ≡ FaultKind.TooLarge → WritesTooLarge line.now) }
-    // and a word as one too many only behind 64 words.
+    // and a word as one too many only after 64 words.
     ensures many { IfErr result (λ f. f.kind ≡ FaultKind.TooManyWords → WritesManyWords line.now) }
 {
     let mut answer = Line::empty();

@@ -3,19 +3,19 @@ ghost use Rattle.std.specs.Prelude.{◌≡◌};
 use crate::fault::LineFault;
 use thiserror::Error;
 
-/// Why a program is not read.
+/// The reasons why a program is not read.
 #[derive(Clone, Copy, Debug, PartialEq, Eq, Error)]
 pub enum ReadFault {
-    /// A line that is refused: its number in the file, from 1, and why.
+    /// A line is refused: its number in the file, from 1, and why.
     #[error("line {0}: {1}")]
     Line(u32, LineFault),
-    /// A file that is marked by a `%` line lacks the second one.
+    /// A file that begins with a `%` line lacks the second one.
     #[error("second percent line missing")]
     NoEnd,
-    /// More than 100,000 lines would be read.
+    /// The file has more than 100,000 lines to read.
     #[error("too many lines")]
     TooManyLines,
-    /// There was no memory for the lines.
+    /// There is no memory for the lines.
     #[error("out of memory")]
     Memory,
     /// The source failed.
@@ -26,7 +26,7 @@ pub enum ReadFault {
 impl ReadFault {
     ghost use Rattle.ngc_line_reader.specs.ReadFaults.{number_of};
 
-    /// The fault's number in listings.
+    /// Returns the fault's number, as listings print it.
     pub fn number(&self) -> u16
         ensures { result ≡ number_of self.now }
     {

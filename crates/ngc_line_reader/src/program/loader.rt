@@ -25,7 +25,7 @@ use std::alloc::Allocator;
 
 const LINES: usize = 100_000;
 
-/// The line that is read, and room for its text: made once for all lines.
+/// The line that was read, and a buffer for its text: made once for all lines.
 #[derive(Drop)]
 pub(crate) struct LineRoom {
     pub(crate) line: Line,
@@ -41,28 +41,28 @@ impl LineRoom {
     }
 }
 
-// Whether the text goes on.
+// Whether the text continues.
 #[derive(Clone, Copy)]
 pub enum Step {
     More,
     End,
 }
 
-/// The lines so far.
+/// The lines read so far.
 #[derive(Drop)]
 pub struct LinesSoFar<A: Allocator> {
     lines: StoredLines<A>,
     phase: Phase,
 }
 
-/// The lines so far, and the beginning of a line that a piece's end cut.
+/// The lines read so far, and the beginning of a line that the end of a piece cut.
 #[derive(Drop)]
 pub struct Loader<A: Allocator> {
     found: LinesSoFar<A>,
     cut: ArrayVec<u8, 256>,
 }
 
-// The first line of some bytes, and what stands behind its line feed.
+// Returns the first line of some bytes, and the bytes after its line feed.
 fn split_line(bytes: &[u8]) -> Option<(&[u8], &[u8])>
     ensures { MatchOption result (NoFeed bytes.now) (λ p. IsSplit bytes.now p.0.now p.1.now) }
 {
@@ -71,7 +71,7 @@ fn split_line(bytes: &[u8]) -> Option<(&[u8], &[u8])>
     Some((line, &rest[1..]))
 }
 
-// The number of a line that may be stored.
+// Returns the number of a line, if it may be stored.
 fn check_line(
     phase: Phase,
     done: usize,
@@ -109,7 +109,7 @@ impl<A: Allocator> LinesSoFar<A> {
         }
     }
 
-    // The next line, which is no `%` line.
+    // Reads the next line, which is no `%` line.
     fn read_line(&mut self, bytes: &[u8], room: &mut LineRoom) -> Result<(), ReadFault>
         ensures taken { OnOk result (TakesLine self.old self.new bytes.now) }
         ensures refused { IfErr result
@@ -128,7 +128,7 @@ impl<A: Allocator> LinesSoFar<A> {
         }
     }
 
-    // A `%` line marks the file in front, and ends its text later.
+    // Handles a `%` line: the first one marks the file, a later one ends its text.
     fn take_percent(&mut self) -> Step
         ensures step { (ls : List (List ℕ)) (bytes : List ℕ) → is_percent_line bytes ≡ true →
             StepGives (Ok result) (walked self.old (bytes ∷ ls)) (walked self.new ls)
@@ -144,7 +144,7 @@ impl<A: Allocator> LinesSoFar<A> {
         }
     }
 
-    // The next line.
+    // Reads the next line.
     fn take_line(&mut self, bytes: &[u8], room: &mut LineRoom) -> Result<Step, ReadFault>
         ensures step { (ls : List (List ℕ)) →
             StepGives result (walked self.old (bytes.now ∷ ls)) (walked self.new ls)
@@ -162,7 +162,7 @@ impl<A: Allocator> LinesSoFar<A> {
         }
     }
 
-    // Why a line of more than 256 bytes is refused.
+    // Returns why a line of more than 256 bytes is refused.
     fn long_line(&self) -> ReadFault
         ensures value { (bytes : List ℕ) → 256 < length bytes →
             RefusedBy (fault_of (length (lines_in self.now.lines)) (next_line self.now bytes))
@@ -187,7 +187,7 @@ impl<A: Allocator> LinesSoFar<A> {
         Program::new(lines, phase == Phase::Marked)
     }
 
-    // No line comes any more.
+    // Returns the program after the last line.
     #[tactic(auto, using(crate::proofs::Walk::walk_end))]
     fn finish(self) -> Result<Program<A>, ReadFault>
         ensures text { OutcomeIs result (walked self []) }
@@ -216,7 +216,7 @@ impl<A: Allocator> Loader<A> {
         }
     }
 
-    // More of the line that is cut.
+    // Adds a piece to the line that is cut.
     fn keep(&mut self, piece: &[u8]) -> Result<(), ReadFault>
         requires loading { IsLoading self.old }
         requires feedless { NoFeed piece.now }
@@ -234,7 +234,7 @@ impl<A: Allocator> Loader<A> {
         }
     }
 
-    // The line that is cut ends here.
+    // Reads the line that is cut, which ends here.
     fn end_cut(&mut self, room: &mut LineRoom) -> Result<Step, ReadFault>
         requires { IsLoading self.old }
         ensures step { (ls : List (List ℕ)) →
@@ -253,7 +253,7 @@ impl<A: Allocator> Loader<A> {
         }
     }
 
-    // A piece that a line feed ends.
+    // Reads a line that ends with this piece and a line feed.
     fn end_line(&mut self, piece: &[u8], room: &mut LineRoom) -> Result<Step, ReadFault>
         requires loading { IsLoading self.old }
         requires feedless { NoFeed piece.now }
@@ -274,7 +274,7 @@ impl<A: Allocator> Loader<A> {
         }
     }
 
-    /// More bytes of the file.
+    /// Reads more bytes of the file.
     pub(crate) fn feed(&mut self, chunk: &[u8], room: &mut LineRoom) -> Result<Step, ReadFault>
         requires { IsLoading self.old }
         ensures step { (lines : List ℕ → List (List ℕ)) → PartsLines lines → (rest : List ℕ) →
@@ -299,7 +299,7 @@ impl<A: Allocator> Loader<A> {
         }
     }
 
-    /// The program, where the text has ended.
+    /// Returns the program, after the end of the text.
     pub(crate) fn into_program(self) -> Program<A>
         ensures text { text_in result ≡ ended self.found }
         ensures readings { HaveReadings (text_in result).lines }
@@ -308,7 +308,7 @@ impl<A: Allocator> Loader<A> {
         found.into_program()
     }
 
-    /// The program, where no byte comes any more.
+    /// Returns the program, after the last byte.
     pub(crate) fn finish(mut self, room: &mut LineRoom) -> Result<Program<A>, ReadFault>
         requires { IsLoading self }
         ensures text { OutcomeIs result (resumed split_lines self []) }

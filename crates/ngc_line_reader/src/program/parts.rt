@@ -22,7 +22,7 @@ pub enum Kind {
     Operator(Operator),
 }
 
-/// Where the words, settings, symbols and numbers of a line lie.
+/// The positions and counts of a line's words, settings, symbols and numbers.
 #[derive(Clone, Copy)]
 pub struct SymbolParts {
     pub words: u32,
@@ -35,24 +35,24 @@ pub struct SymbolParts {
     pub setting_count: u8,
 }
 
-/// Where what a line says lies.
+/// The position of a line's contents.
 #[derive(Clone, Copy)]
 pub enum Kept {
-    /// A number is the value of each of its words, and it has no setting: so many words lie behind
-    /// so many of other lines.
+    /// The value of each of its words is a number, and it has no setting. Its `count` words begin
+    /// at index `first`.
     Numbers { first: u32, count: u8 },
     Symbols(SymbolParts),
 }
 
-/// Whether block delete takes a line out, and where what it says lies.
+/// Whether block delete skips a line, and the position of its contents.
 #[derive(Clone, Copy)]
 pub struct LineParts {
     pub deleted: bool,
     pub kept: Kept,
 }
 
-/// What lines say, one line's behind the other's: words with numbers for their values, and of lines
-/// that have other values their words, settings, symbols and numbers.
+/// The contents of all lines, in order: words whose values are numbers, and for lines with other
+/// values their words, settings, symbols and numbers.
 #[derive(Drop)]
 pub struct PartLists<A: Allocator> {
     numbered: Vec<Word, A>,
@@ -62,7 +62,7 @@ pub struct PartLists<A: Allocator> {
     numbers: Vec<Value, A>,
 }
 
-// The place behind so many.
+// Returns the position after `count` entries.
 fn place_behind(count: usize) -> Result<u32, AllocError>
     ensures { IfOk result (λ place. place ≡ count) }
 {
@@ -84,7 +84,7 @@ fn kind_in(symbol: Symbol) -> Kind
     }
 }
 
-// The kinds of tokens, behind what is kept.
+// Adds the kinds of tokens.
 fn keep_kinds<A: Allocator>(kinds: &mut Vec<Kind, A>, tokens: &[Token]) -> Result<(), AllocError>
     ensures { OnOk result (kinds.new.items ≡ kinds.old.items ++ map kind_of (symbols tokens.now)) }
 {
@@ -96,7 +96,7 @@ fn keep_kinds<A: Allocator>(kinds: &mut Vec<Kind, A>, tokens: &[Token]) -> Resul
     Ok(())
 }
 
-// The numbers of tokens, behind what is kept.
+// Adds the numbers of tokens.
 fn keep_numbers<A: Allocator>(
     numbers: &mut Vec<Value, A>,
     tokens: &[Token],
@@ -114,7 +114,7 @@ fn keep_numbers<A: Allocator>(
     Ok(())
 }
 
-// The symbol of a kind, and the numbers behind it.
+// Returns the symbol of a kind, and the remaining numbers.
 fn take_symbol<'a>(kind: Kind, numbers: &'a [Value]) -> (Symbol, &'a [Value])
     ensures { (result.0, result.1.now) ≡ first_symbol kind numbers.now }
 {
@@ -130,7 +130,7 @@ fn take_symbol<'a>(kind: Kind, numbers: &'a [Value]) -> (Symbol, &'a [Value])
     }
 }
 
-// The tokens of these kinds and numbers, in place of what is there; their columns are not kept.
+// Replaces `tokens` with the tokens of these kinds and numbers; their columns are not stored.
 #[tactic(auto, using(crate::proofs::KeptSymbols::pushed_symbols))]
 fn load_tokens(kinds: &[Kind], numbers: &[Value], tokens: &mut ArrayVec<Token, 256>)
     requires { length kinds.now ≤ 256 }
@@ -145,7 +145,7 @@ fn load_tokens(kinds: &[Kind], numbers: &[Value], tokens: &mut ArrayVec<Token, 2
     }
 }
 
-// The number of a symbol, or 0.
+// Returns the number of a symbol, or 0.
 fn number_in(symbol: Symbol) -> Value
     ensures { result ≡ number_of_symbol symbol }
 {
@@ -155,7 +155,7 @@ fn number_in(symbol: Symbol) -> Value
     }
 }
 
-// Words with the numbers that are their values, behind what is kept.
+// Adds words with the numbers that are their values.
 fn keep_numbered<A: Allocator>(
     numbered: &mut Vec<Word, A>,
     words: &[RawWord],
@@ -197,7 +197,7 @@ impl<A: Allocator> PartLists<A> {
         }
     }
 
-    // What a line says by numbers alone, behind what is kept.
+    // Adds the contents of a line whose values are all numbers.
     fn push_numbered(&mut self, line: &Line) -> Result<Kept, AllocError>
         requires { length line.now.tokens.items ≡ length line.now.words.items }
         ensures kept { OnOk result (Keeps (parts_in self.old) (parts_in self.new)) }
@@ -214,7 +214,7 @@ impl<A: Allocator> PartLists<A> {
         })
     }
 
-    // What a line says by symbols, behind what is kept.
+    // Adds the contents of a line as symbols.
     fn push_symbols(&mut self, line: &Line) -> Result<Kept, AllocError>
         ensures kept { OnOk result (Keeps (parts_in self.old) (parts_in self.new)) }
         ensures within { IfOk result (λ k. LiesWithin (parts_in self.new) k) }
@@ -242,7 +242,7 @@ impl<A: Allocator> PartLists<A> {
         }))
     }
 
-    // What a line says, behind what is kept.
+    // Adds the contents of a line.
     pub(crate) fn push(&mut self, line: &Line) -> Result<Kept, AllocError>
         ensures kept { OnOk result (Keeps (parts_in self.old) (parts_in self.new)) }
         ensures within { IfOk result (λ k. LiesWithin (parts_in self.new) k) }
@@ -256,7 +256,7 @@ impl<A: Allocator> PartLists<A> {
         }
     }
 
-    // Words with the numbers that are their values.
+    // Returns words with the numbers that are their values.
     pub(crate) fn numbered(&self, first: u32, count: u8) -> &[Word]
         requires { LiesWithin (parts_in self.now) (places.Numbers first count) }
         ensures { parts_at (parts_in self.now) (places.Numbers first count) ≡ by_numbers result.now }
@@ -265,8 +265,8 @@ impl<A: Allocator> PartLists<A> {
         &self.numbered[first..first + count as usize]
     }
 
-    // What a line says by symbols, in place of what `line` holds but for its number and for whether
-    // block delete takes it out; the columns of its tokens are not kept.
+    // Loads the contents of a line from its symbols into `line`, except its number and whether
+    // block delete skips it; the columns of its tokens are not stored.
     pub(crate) fn load(&self, parts: SymbolParts, line: &mut Line)
         requires { IsWithin (parts_in self.now) parts }
         ensures words { line.new.words.items ≡ (symbols_at (parts_in self.now) parts).words }

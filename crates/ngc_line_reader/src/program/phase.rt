@@ -3,7 +3,8 @@ ghost use Rattle.ngc_line_reader.specs.Load.{is_blank as is_blank_line};
 ghost use Rattle.ngc_line_reader.specs.Load.{is_percent as is_percent_line, phase_after, number_in};
 ghost use Rattle.ngc_line_reader.specs.Load.{after_blanks};
 
-/// Whether the lines so far are blank; else whether the first other one was a `%`.
+/// The phase of reading a file: only blank lines so far, or else whether the first other line was a
+/// `%`.
 #[derive(Clone, Copy)]
 pub enum Phase {
     Start,
@@ -11,7 +12,7 @@ pub enum Phase {
     Unmarked,
 }
 
-// The bytes behind the blanks in front.
+// Returns the bytes after the leading blanks.
 fn skip_blanks(bytes: &[u8]) -> &[u8]
     ensures { result.now ≡ after_blanks bytes.now }
 {
@@ -32,7 +33,7 @@ fn is_blank(bytes: &[u8]) -> bool
     matches!(skip_blanks(bytes), [] | [b'\r'])
 }
 
-// A percent sign and white space, in at most 256 bytes.
+// Returns whether a line is a percent sign and white space, in at most 256 bytes.
 #[tactic(auto, using(crate::proofs::Blanks::percent_by_bytes))]
 pub(crate) fn is_percent(bytes: &[u8]) -> bool
     ensures { result ≡ is_percent_line bytes.now }
@@ -44,7 +45,7 @@ pub(crate) fn is_percent(bytes: &[u8]) -> bool
 }
 
 impl Phase {
-    // The phase behind a line that is read.
+    // Returns the phase after a line that was read.
     pub(crate) fn after(self, bytes: &[u8]) -> Phase
         ensures { result ≡ phase_after self bytes.now }
     {
@@ -54,7 +55,7 @@ impl Phase {
         self
     }
 
-    // The number in the file of the line behind so many that are read.
+    // Returns the number in the file of the line after `done` lines.
     pub(crate) fn number(self, done: usize) -> u32
         requires { done ≤ 100000 }
         ensures { result ≡ number_in self done }

@@ -9,7 +9,7 @@ use crate::program::fault::ReadFault;
 use crate::program::loader::{LineRoom, Loader, Step};
 use std::alloc::Allocator;
 
-/// Whether the text goes on, has ended, or is refused.
+/// Whether the text continues, has ended, or is refused.
 #[derive(Clone, Copy)]
 pub enum State {
     Going,
@@ -17,7 +17,7 @@ pub enum State {
     Refused(ReadFault),
 }
 
-/// A part program that comes in pieces of any size.
+/// A reader for a part program that arrives in pieces of any size.
 ///
 /// ```text
 /// let mut reader = ProgramReader::new(alloc);
@@ -27,8 +27,8 @@ pub enum State {
 /// ```
 ///
 /// The program is the one that `Program::read` reads from all pieces joined: here it has the line
-/// `G0 X15`. A line may be cut anywhere, and a piece may have no bytes. After a fault, want of
-/// memory among them, each later call answers it again.
+/// `G0 X15`. A line may be cut anywhere, and a piece may be empty. After a fault, including lack of
+/// memory, each later call returns the same fault.
 #[derive(Drop)]
 pub struct ProgramReader<A: Allocator> {
     loader: Loader<A>,
@@ -48,7 +48,7 @@ impl<A: Allocator> ProgramReader<A> {
     ghost use Rattle.ngc_line_reader.specs.ReaderView.{outcome_in, fault_in, refusal_in};
     ghost use Rattle.ngc_line_reader.specs.ReaderView.{has_ended_in, room_in, AnswerIs};
 
-    /// A reader that was fed nothing yet.
+    /// Returns a reader that has received no bytes.
     pub fn new(alloc: A) -> ProgramReader<A>
     where
         A: Copy,
@@ -63,25 +63,25 @@ impl<A: Allocator> ProgramReader<A> {
         }
     }
 
-    /// Takes the next bytes of the file, any number of them. A fault is answered as soon as it
-    /// stands: by the piece with the line feed that ends its line, or with the 257th byte of a line
-    /// that is too long. Once the text has ended, no byte is judged.
+    /// Reads the next bytes of the file, any number of them. It returns a fault as soon as it is
+    /// certain: with the line feed that ends its line, or with the 257th byte of a line that is too
+    /// long. After the end of the text it ignores all bytes.
     pub fn feed(&mut self, piece: &[u8]) -> Result<(), ReadFault>
-        // The fault is that of the lines so far, and where none stands, none is answered.
+        // The fault is that of the lines so far. If they have none, it returns none.
         ensures answer { AnswerIs result (fault_in self.old piece.now) }
         ensures firm { OnOk result ((rest : List ℕ) →
             fault_in self.old (piece.now ++ rest) ≡ fault_in self.new rest) }
-        // Whatever follows, the text comes to the same as if this piece stood in front of it: a
+        // Whatever follows, the text has the same result as if this piece were in front of it: a
         // fault stays.
         ensures text { (rest : List ℕ) →
             MatchResult result
             (λ _. outcome_in self.old (piece.now ++ rest) ≡ outcome_in self.new rest)
             (λ fault. FaultIs fault (outcome_in self.old (piece.now ++ rest))) }
-        // A fault is kept, also want of memory, and answered again.
+        // A fault is stored, including lack of memory, and returned again.
         ensures refusal { refusal_in self.new ≡ result_err result }
         ensures again { IfSome (refusal_in self.old) (λ fault. result ≡ Err fault) }
         ensures device { result ≢ Err Device }
-        // A text is no longer than its lines may be.
+        // A text is no longer than the limits of its lines allow.
         ensures room { OnOk result (has_ended_in self.new ≡ false →
             room_in self.new + length piece.now ≤ room_in self.old) }
     {
@@ -102,17 +102,17 @@ impl<A: Allocator> ProgramReader<A> {
         }
     }
 
-    // Whether the text has ended, so that what follows changes nothing.
+    // Returns whether the text has ended, so that the following bytes change nothing.
     pub(crate) fn has_ended(&self) -> bool
         ensures { result ≡ has_ended_in self.now }
     {
         matches!(self.state, State::Ended)
     }
 
-    /// The program, where no byte comes any more; else the fault that was answered, or that of the
-    /// last line or of a missing end.
+    /// Returns the program, after the last byte. Otherwise it returns the fault that was returned
+    /// before, or that of the last line or of a missing end.
     pub fn finish(self) -> Result<Program<A>, ReadFault>
-        // The answer is what the pieces say together, but for want of memory.
+        // The result is the one that all pieces together define, except for lack of memory.
         ensures text { OutcomeIs result (outcome_in self []) }
         // Each line has a reading.
         ensures readings { IfOk result (λ p. HaveReadings (text_in p).lines) }

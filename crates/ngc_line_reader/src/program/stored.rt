@@ -15,7 +15,7 @@ use crate::program::parts::{Kept, LineParts, PartLists};
 use crate::word::Word;
 use std::alloc::{AllocError, Allocator};
 
-/// The number of a line, where its bytes end, and where what it says lies.
+/// The number of a line, the end of its bytes, and the position of its contents.
 #[derive(Clone, Copy)]
 pub struct LineEnd {
     pub number: u32,
@@ -23,7 +23,7 @@ pub struct LineEnd {
     pub parts: LineParts,
 }
 
-/// Lines that are read without a fault, one behind the other.
+/// Lines that were read without a fault, in order.
 #[derive(Drop)]
 pub struct StoredLines<A: Allocator> {
     bytes: Vec<u8, A>,
@@ -66,7 +66,7 @@ impl<A: Allocator> StoredLines<A> {
         self.ends[index].number
     }
 
-    // Where a line's bytes begin.
+    // Returns the start of a line's bytes.
     #[tactic(auto, using(crate::proofs::LinesInStore::counting_lines, crate::proofs::LinesInStore::start_first))]
     fn start(&self, index: usize) -> usize
         requires { index < length (lines_in self.now) }
@@ -78,7 +78,7 @@ impl<A: Allocator> StoredLines<A> {
         }
     }
 
-    // Where a line's bytes begin and end.
+    // Returns the start and the end of a line's bytes.
     #[tactic(auto, using(crate::proofs::LinesInStore::counting_lines))]
     fn bounds(&self, index: usize) -> (usize, usize)
         requires { index < length (lines_in self.now) }
@@ -101,7 +101,7 @@ impl<A: Allocator> StoredLines<A> {
         &self.bytes[start..end]
     }
 
-    // Whether block delete takes a line out.
+    // Returns whether block delete skips a line.
     #[tactic(auto, using(crate::proofs::LinesInStore::counting_lines))]
     pub(crate) fn is_deleted(&self, index: usize) -> bool
         requires { index < length (lines_in self.now) }
@@ -111,7 +111,7 @@ impl<A: Allocator> StoredLines<A> {
         self.ends[index].parts.deleted
     }
 
-    // The words of a line, where their values are numbers and nothing is set.
+    // Returns the words of a line, if their values are numbers and it sets no parameter.
     #[tactic(auto, using(crate::proofs::LinesInStore::counting_lines))]
     pub(crate) fn numbers(&self, index: usize) -> Option<&[Word]>
         requires { index < length (lines_in self.now) }
@@ -124,7 +124,7 @@ impl<A: Allocator> StoredLines<A> {
         }
     }
 
-    // What a line says, in place of what `line` holds.
+    // Loads the contents of a line into `line`.
     #[tactic(auto, using(crate::proofs::LinesInStore::counting_lines))]
     pub(crate) fn load(&self, index: usize, line: &mut Line)
         requires { index < length (lines_in self.now) }
@@ -134,7 +134,7 @@ impl<A: Allocator> StoredLines<A> {
         let LineParts { deleted, kept } = self.ends[index].parts;
         match kept {
             Kept::Numbers { .. } => {
-                // Its bytes say it still.
+                // The bytes have the same contents as before.
                 let _ = line.read(self.bytes(index));
             }
             Kept::Symbols(parts) => {
@@ -144,7 +144,8 @@ impl<A: Allocator> StoredLines<A> {
         }
     }
 
-    // What a line says, behind what is kept. Where memory is wanting, no line is left.
+    // Stores the contents of a line. If there is no memory, it returns a fault and all lines are
+    // lost.
     fn keep(&mut self, reading: &Line) -> Result<LineParts, AllocError>
         ensures bytes { OnOk result (self.new.bytes ≡ self.old.bytes) }
         ensures ends { OnOk result (self.new.ends ≡ self.old.ends) }
@@ -166,7 +167,7 @@ impl<A: Allocator> StoredLines<A> {
         }
     }
 
-    // A line, and its reading. Where memory is wanting, what is left is unspecified.
+    // Stores a line and its contents. If there is no memory, the remaining state is unspecified.
     pub(crate) fn push(
         &mut self,
         number: u32,

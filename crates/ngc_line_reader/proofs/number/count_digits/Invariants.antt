@@ -1,4 +1,4 @@
--- The digits so far stand in front, and units is the number that they give, or the bound.
+-- The digits so far are leading digits, and units is the number that they write, or the bound.
 use Rattle.std.proofs.Common.{◌≡◌, ◌+◌, take, drop, min}
 use Rattle.std.specs.Char.{is_ascii_digit}
 use Rattle.std.specs.List.{prefix_len}

@@ -1,4 +1,4 @@
--- The text so far, and that of what is left; the same of the columns.
+-- The text so far, and that of the rest; the same for the columns.
 use Rattle.std.proofs.Common.{◌≡◌, ◌≤◌, ◌+◌, ◌++◌, take, drop}
 use Rattle.ngc_line_reader.specs.Text.{text, text_from, columns, columns_from}
 use Rattle.ngc_line_reader.proofs.text.fill_text.Given as goal

@@ -1,4 +1,4 @@
--- What is left reads to what the whole text does.
+-- The rest of the text has the same reading as the whole.
 use Rattle.std.proofs.Common.{◌≡◌, ◌+◌, ◌*◌, ◌≤◌, ◌<◌, length}
 use Rattle.arrayvec.specs.ArrayVec.{array_vec_len}
 use Rattle.ngc_line_reader.specs.Text.{place_in}

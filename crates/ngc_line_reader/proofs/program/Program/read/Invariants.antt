@@ -1,4 +1,4 @@
--- What is left of the source comes to what all of it does.
+-- The rest of the source has the same result as the whole.
 use Rattle.std.proofs.Common.{◌≡◌}
 use Rattle.ngc_line_reader.specs.ReaderView.{room_in, Follows}
 use Rattle.ngc_line_reader.proofs.program.Program.read.Given as goal

@@ -1,4 +1,4 @@
--- The kinds left come to what all of them do.
+-- The remaining kinds have the same result as all of them.
 use Rattle.std.proofs.Common.{◌≡◌, drop}
 use Rattle.ngc_line_reader.proofs.KeptSymbols.{kinds_after}
 use Rattle.ngc_line_reader.proofs.program.parts.keep_kinds.Given as goal

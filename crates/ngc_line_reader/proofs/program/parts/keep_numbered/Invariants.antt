@@ -1,4 +1,4 @@
--- The words left come to what all of them do.
+-- The remaining words have the same result as all of them.
 use Rattle.std.proofs.Common.{◌≡◌, drop}
 use Rattle.ngc_line_reader.proofs.NumberWords.{numbered_after}
 use Rattle.ngc_line_reader.proofs.program.parts.keep_numbered.Given as goal

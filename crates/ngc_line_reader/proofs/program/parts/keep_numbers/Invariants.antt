@@ -1,4 +1,4 @@
--- The numbers left come to what all of them do.
+-- The remaining numbers have the same result as all of them.
 use Rattle.std.proofs.Common.{◌≡◌, drop}
 use Rattle.ngc_line_reader.proofs.KeptSymbols.{numbers_after}
 use Rattle.ngc_line_reader.proofs.program.parts.keep_numbers.Given as goal

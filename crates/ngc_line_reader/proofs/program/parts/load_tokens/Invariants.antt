@@ -1,4 +1,4 @@
--- The symbols left come to what all of them do.
+-- The remaining symbols have the same result as all of them.
 use Rattle.std.proofs.Common.{◌≡◌, ◌≤◌, [], drop, length}
 use Rattle.ngc_line_reader.specs.Tokens.{symbols}
 use Rattle.ngc_line_reader.proofs.KeptSymbols.{loaded_after}

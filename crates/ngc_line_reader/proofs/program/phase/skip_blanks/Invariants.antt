@@ -1,4 +1,4 @@
--- What is left has the same bytes behind its blanks.
+-- The rest has the same bytes after its blanks.
 use Rattle.std.proofs.Common.{◌≡◌, length}
 use Rattle.ngc_line_reader.specs.Load.{after_blanks}
 use Rattle.ngc_line_reader.proofs.program.phase.skip_blanks.Given as goal

@@ -8,7 +8,7 @@ use Rattle.ngc_line_reader.specs.Stored.{lines_from}
 use Rattle.ngc_line_reader.proofs.LinesInStore.{length-lines_from, stored_line, stored_bounds, stored_read}
 use Rattle.ngc_line_reader.proofs.program.stored.StoredLines.bounds.Goals as goal
 
--- an index of a line is one of its end
+-- an index of a line is the index of its end
 within : (bytes : List ℕ) (ends : List LineEnd) (i : ℕ) → i < length (lines_from bytes 0 ends) → i < length ends
 within bytes ends i h = omega (arith, length-lines_from bytes 0 ends)
 
