@@ -11,7 +11,7 @@ use Rattle.ngc_parameters.specs.declared.fault.EvalFault.TheVariants.{TooDeep}
 use Rattle.ngc_parameters.specs.Meaning.{◌>>=◌, Parameters, apply, Before, nothing, left, joined}
 use Rattle.ngc_parameters.specs.Evaluate.{Found, parameter_value, symbol_value, symbols_with}
 
--- a value's first token, and those behind it
+-- a value's first token, and the following ones
 abbrev pub by_first : ℕ → ℕ → Parameters → List Symbol → Found
 by_first steps room p [] = Err TooDeep
 by_first steps room p (mark.Number z ∷ s) = Ok (z, s)

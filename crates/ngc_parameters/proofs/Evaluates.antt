@@ -25,13 +25,13 @@ indexed p r (Ok i) = found (index_of i) where
   found (Ok n) = refl
   found (Err e) = refl
 
--- reading on after a value
+-- reading continues after a value
 on : (r s : List Symbol) (value : Result ℤ EvalFault) (go : ℤ → List Symbol → Found) (all : ℤ → Result ℤ EvalFault) → ((z : ℤ) → go z s ≡ with_rest r (all z))
     → (with_rest s value >>= λ x. go x.0 x.1) ≡ with_rest r (value >>= all)
 on r s (Ok z) go all h = h z
 on r s (Err e) go all h = refl
 
--- the same, behind another value
+-- the same after another value
 behind : (r : List Symbol) (value : Result ℤ EvalFault) (go : ℤ → Found) (all : ℤ → Result ℤ EvalFault) → ((z : ℤ) → go z ≡ with_rest r (all z)) →
     (value >>= go) ≡ with_rest r (value >>= all)
 behind r (Ok z) go all h = h z

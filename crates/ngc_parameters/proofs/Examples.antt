@@ -1,4 +1,4 @@
--- Worked examples, computed.
+-- Worked examples, evaluated.
 use Rattle.std.proofs.Common.{◌≡◌, ℕ, zero, suc, ℤ, pos, negsuc, List, [], ◌∷◌, Some, None, Result, Ok, Err, refl, eqb, cond}
 use Rattle.std.specs.Prelude.{codes}
 use Rattle.ngc_fixed_length.specs.declared.fault.NumberFault.TheVariants.{DivisionByZero, TooLarge}

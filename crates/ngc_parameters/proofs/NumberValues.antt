@@ -1,4 +1,4 @@
--- Words whose values are numbers have these values, whatever the parameters hold.
+-- Words whose values are numbers have these values, whatever the parameters are.
 use Rattle.std.proofs.Common.{◌≡◌, ℤ, ap, List, [], ◌∷◌, Option, Some, None, Ok, refl}
 use Rattle.std.proofs.lemmas.Option.{same_Some}
 use Rattle.ngc_fixed_length.specs.Limits.{IsValue}

@@ -22,7 +22,7 @@ use Rattle.ngc_parameters.specs.EvaluateView.{with_rest}
 use Rattle.ngc_parameters.specs.Stored.{tokens_from, value_from, words_after, words_on, change_from, settings_after, settings_on, values_on, line_values}
 use Rattle.ngc_parameters.proofs.Evaluates.{evaluates}
 
--- tokens on hand: from first on they are these
+-- the tokens from first on are these
 pub record At (tokens : List Token) (first : ℕ) (rest : List Token) : Type 0 where
   pub within : first ≤ length tokens
   pub are : drop first tokens ≡ rest
@@ -57,7 +57,7 @@ value_is p tokens first place v end rest limit h =
     ap (λ (ss : List Symbol). symbol_value (length ts + 1) 16 p ss >>= λ x. Ok x.0) split
     ∙ ap (λ (f : Result (ℤ × List Symbol) EvalFault). f >>= λ x. Ok x.0) law ∙ value_only (symbols rest) (value_of p v)
 
--- what follows a value's tokens
+-- the tokens after a value's
 after_value : (tokens : List Token) (first : ℕ) (place : ℕ → ℕ) (v : Real) (end : List ℕ) (rest : List Token) →
     At tokens first (tokens_of place v end ++ rest) → At tokens (first + length (symbols_of v)) rest
 after_value tokens first place v end rest h = after tokens first (length (symbols_of v)) (tokens_of place v end) rest (sym (length-tokens_of place v end)) h
@@ -65,7 +65,7 @@ after_value tokens first place v end rest h = after tokens first (length (symbol
 abbrev Pairs : Type 0 → Type 0
 Pairs K = List (K × ℤ)
 
--- more pairs behind those found
+-- more pairs after those found
 abbrev behind_found : {K : Type 0} → Pairs K → Result (Pairs K) EvalFault → Result (Pairs K) EvalFault
 behind_found found more = more >>= λ xs. Ok (found ++ xs)
 
@@ -151,9 +151,9 @@ all_found : {K : Type 0} (more : Result (Pairs K) EvalFault) → behind_found []
 all_found (Ok xs) = refl
 all_found (Err e) = refl
 
--- ---- the columns of tokens count for nothing
+-- ---- the columns of tokens do not matter
 
--- the value whose symbols begin at a place
+-- the value whose symbols begin at an index
 abbrev value_on : Parameters → List Symbol → ℕ → Result ℤ EvalFault
 value_on p ss first = symbol_value (length (drop (min first (length ss)) ss) + 1) 16 p (drop (min first (length ss)) ss) >>= λ x. Ok x.0
 
@@ -170,7 +170,7 @@ value_by_symbols p tokens first =
 same_value : (p : Parameters) (ts us : List Token) (first : ℕ) → symbols ts ≡ symbols us → value_from p ts first ≡ value_from p us first
 same_value p ts us first e = value_by_symbols p ts first ∙ ap (λ (ss : List Symbol). value_on p ss first) e ∙ sym (value_by_symbols p us first)
 
--- the same behind each value
+-- the same after each value
 same_behind : {X Y : Type 0} (r : Result X EvalFault) (f g : X → Result Y EvalFault) → ((x : X) → f x ≡ g x) → (r >>= f) ≡ (r >>= g)
 same_behind (Ok x) f g h = h x
 same_behind (Err e) f g h = refl
@@ -192,7 +192,7 @@ same_settings p ts us found (s ∷ ss) e =
     ap (λ (r : Result (ℕ × ℤ) EvalFault). r >>= λ c. settings_after p ts (found ++ (c ∷ [])) ss) (same_change p ts us s.index s.value e)
     ∙ same_behind (change_from p us s.index s.value) _ _ (λ c. same_settings p ts us (found ++ (c ∷ [])) ss e)
 
--- ---- what is said
+-- ---- the contents
 
 -- the tokens of a reading of these bytes
 abbrev tokens_said : List ℕ → Reading → List Token
@@ -221,7 +221,7 @@ line_found : (p : Parameters) (bytes : List ℕ) (parts : Parts) (r : Reading) �
     values_on p parts ≡ line_values p r.items
 line_found p bytes parts r h limit = rw (line_words p bytes parts r h limit, line_settings p bytes parts r h limit) refl
 
--- what was computed is what the line's reading says
+-- the computed values are those of the line's reading
 pub line_is : {X : Type 0} (p : Parameters) (parts : Parts) (view : X → List (Letter × ℤ) × List (ℕ × ℤ)) (result : Result X EvalFault) →
     Gives view result (values_on p parts)
     → (bytes : List ℕ) (r : Reading) → items_of parts ≡ items_said bytes r → AllWithinLimit r.items → Gives view result (line_values p r.items)

@@ -1,4 +1,4 @@
--- One word or setting more.
+-- One more word or setting.
 use Rattle.std.proofs.Common.{◌≡◌, ℕ, ℤ, pos, ◌+◌, ◌<◌, ◌≤◌, suc, Bool, true, false, List, [], ◌∷◌, ◌++◌, length, map, drop, get_or, ap, refl, sym, ◌∙◌, arith}
 use Rattle.std.specs.Prelude.{if◌then◌else◌, ◌==◌}
 use Rattle.std.proofs.Math.ListN.{set}
@@ -23,7 +23,7 @@ pub after_at : (cs : List (ℕ × ℤ)) (p q : Parameters) (k : ℕ) → p k ≡
 after_at [] p q k e = e
 after_at ((i, x) ∷ cs) p q k e = after_at cs _ _ k (ap (λ (y : ℤ). if k == i then x else y) e)
 
--- the change at a place of the list is made
+-- the change at an index of the list is made
 pub change_made : (cs : List Change) (i : ℕ) (x : Change) (p q : Parameters) (k : ℕ) → i < length cs → x ≡ get_or cs i x →
     q k ≡ (if k == x.index then x.value else p k)
     → after_settings (change_pairs (drop (i + 1) cs)) q k ≡ after_settings (change_pairs (drop i cs)) p k

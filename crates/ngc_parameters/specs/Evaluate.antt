@@ -1,4 +1,4 @@
--- Values over symbols, from left to right, for contracts of private functions: Meaning has the
+-- Values over symbols, from left to right, for contracts of private functions: Meaning defines the
 -- values of trees. steps bounds the number of symbols, room the nesting.
 use Rattle.std.specs.Prelude.{ℕ, zero, suc, ◌-◌, ◌==◌, ℤ, List, [], ◌∷◌, Result, Ok, Err}
 use Rattle.std.specs.Prelude.{if◌then◌else◌}
@@ -11,11 +11,11 @@ use Rattle.ngc_parameters.specs.declared.fault.EvalFault.TheVariants.{TooDeep}
 use Rattle.ngc_parameters.specs.Meaning.{◌>>=◌, Parameters, index_of, apply, Before, nothing, left}
 use Rattle.ngc_parameters.specs.Meaning.{joined}
 
--- a value, and the symbols behind it
+-- a value, and the remaining symbols
 abbrev pub Found : Type 0
 Found = Result (ℤ × List Symbol) EvalFault
 
--- what a parameter's index gives
+-- the value of a parameter's index
 abbrev pub parameter_value : Parameters → Found → Found
 parameter_value parameters found = found >>= λ x. index_of x.0 >>= λ k. Ok (parameters k, x.1)
 

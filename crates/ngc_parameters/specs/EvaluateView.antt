@@ -1,4 +1,4 @@
--- What the functions on tokens have, as the definitions on symbols see it.
+-- The arguments and results of the functions on tokens, as the definitions on symbols see them.
 use Rattle.std.specs.Prelude.{◌≡◌, ℤ, pos, List, Option, Some, None, Result, Ok, Err}
 use Rattle.std.specs.Prelude.{slice_index_or}
 use Rattle.std.specs.Borrow.{Bor}
@@ -10,7 +10,7 @@ use Rattle.ngc_parameters.specs.declared.fault.EvalFault.{EvalFault}
 use Rattle.ngc_parameters.specs.Meaning.{◌>>=◌, Parameters, Before, nothing, left}
 use Rattle.ngc_parameters.specs.Evaluate.{Found}
 
--- what a slice holds
+-- the contents of a slice
 abbrev pub held : List ℤ → Parameters
 held values k = slice_index_or values k (pos 0)
 
@@ -22,6 +22,6 @@ abbrev pub GivesValue : Result (ℤ × Bor (List Token)) EvalFault → Found →
 GivesValue (Ok x) found = found ≡ Ok (x.0, symbols x.1.now)
 GivesValue (Err e) found = found ≡ Err e
 
--- a value, with the symbols behind it
+-- a value, with the remaining symbols
 abbrev pub with_rest : List Symbol → Result ℤ EvalFault → Found
 with_rest r value = value >>= λ z. Ok (z, r)

@@ -1,8 +1,8 @@
--- The value of a real value, from what the parameters hold (NISTIR 6556, 3.3.2.1 to 3.3.2.3, and
+-- The value of a real value, from the current parameters (NISTIR 6556, 3.3.2.1 to 3.3.2.3, and
 -- 3.3.3 for settings): * and / bind tighter than + and -, equal ones go from left to right, and all
--- values of a line are found before its settings are made. Our own: values are whole millionths,
--- rounded to the nearest; an index is exactly whole; at most 16 brackets and # stand in one
--- another; of several faults the first from left to right counts.
+-- values of a line are computed before its settings are made. Our own: values are whole millionths,
+-- rounded to the nearest; an index is exactly whole; brackets and # nest at most 16 deep; of
+-- several faults the first from left to right counts.
 use Rattle.std.specs.Prelude.{ℕ, zero, suc, ◌/◌, ◌%◌, ◌==◌, nat_le, ◌&&◌, ℤ, pos, negsuc}
 use Rattle.std.specs.Prelude.{unsigned_abs, List, [], ◌∷◌, Result, Ok, Err, if◌then◌else◌}
 use Rattle.ngc_fixed_length.specs.declared.fault.NumberFault.{NumberFault}
@@ -28,7 +28,7 @@ abbrev pub from_number : Result ℤ NumberFault → Result ℤ EvalFault
 from_number (Ok x) = Ok x
 from_number (Err e) = Err (Number e)
 
--- what the parameters hold, in millionths
+-- the values of the parameters, in millionths
 abbrev pub Parameters : Type 0
 Parameters = ℕ → ℤ
 
@@ -47,20 +47,18 @@ apply Subtract x y = from_number (difference x y)
 apply Multiply x y = from_number (product x y)
 apply Divide x y = from_number (quotient x y)
 
--- what stands in brackets before the term that is being read: nothing, or a sum and the sign after
--- it
+-- the text in brackets before the term that is read: nothing, or a sum and the sign after it
 pub data Before : Type 0 where
   nothing : Before
   left : ℤ → Operator → Before
 
--- the sum up to a term and with it
+-- the sum with a term
 abbrev pub joined : Before → ℤ → Result ℤ EvalFault
 joined nothing term = Ok term
 joined (left total operator) term = apply operator total term
 
--- In brackets and behind # the nesting grows by one, and there is room for so much of it. * and /
--- work on the term at once; + and - end it. So these bind less, and equal ones go from left to
--- right.
+-- In brackets and after # the nesting grows by one, and room is the remaining depth. * and / apply
+-- to the term at once; + and - end it. So + and - bind less, and equal ones go from left to right.
 unfoldable mutual
   pub value_within : ℕ → Parameters → Real → Result ℤ EvalFault
   value_within room parameters (number n) = from_number (limited (numeral_value n))
@@ -118,7 +116,8 @@ settings_of parameters (setting index value ∷ items) = do
   Ok ((k, x) ∷ xs)
 settings_of parameters (comment bytes ∷ items) = settings_of parameters items
 
--- the parameters after settings, made from left to right, so that the last of one parameter counts
+-- the parameters after settings, made from left to right, so that the last setting of a parameter
+-- counts
 abbrev pub after_settings : List (ℕ × ℤ) → Parameters → Parameters
 after_settings [] parameters k = parameters k
 after_settings ((i, x) ∷ settings) parameters k =

@@ -1,4 +1,4 @@
--- What a line's words and settings come to, from its tokens.
+-- The values of a line's words and settings, from its tokens.
 use Rattle.std.specs.Prelude.{ℕ, ◌≡◌, ◌+◌, ℤ, List, [], ◌∷◌, ◌++◌, length, drop, map, min, Result}
 use Rattle.std.specs.Prelude.{Ok, Err}
 use Rattle.ngc_line_reader.specs.declared.token.Token.{Token}
@@ -18,7 +18,7 @@ use Rattle.ngc_parameters.specs.Meaning.{◌>>=◌, Parameters, index_of, words_
 use Rattle.ngc_parameters.specs.Evaluate.{symbol_value}
 use Rattle.ngc_parameters.specs.EvaluateView.{held}
 
--- what the parameters hold
+-- the values of the parameters
 abbrev pub parameters_of : {A : Type 0} → Store A → Parameters
 parameters_of s = held s.values.items
 
@@ -32,11 +32,11 @@ change_pairs cs = map change_pair cs
 abbrev pub changes_of : Changes → List (ℕ × ℤ)
 changes_of changes = change_pairs changes.settings.items
 
--- the tokens from a place on
+-- the tokens from an index on
 abbrev pub tokens_from : List Token → ℕ → List Token
 tokens_from tokens first = drop (min first (length tokens)) tokens
 
--- the value whose tokens begin at a place
+-- the value whose tokens begin at an index
 abbrev pub value_from : Parameters → List Token → ℕ → Result ℤ EvalFault
 value_from p tokens first = symbol_value (length (tokens_from tokens first) + 1) 16 p
     (symbols (tokens_from tokens first)) >>= λ x. Ok x.0
@@ -63,13 +63,13 @@ settings_after p tokens found (s ∷ ss) =
 abbrev pub settings_on : Parameters → List Token → List RawSetting → Result (List (ℕ × ℤ)) EvalFault
 settings_on p tokens ss = settings_after p tokens [] ss
 
--- what a line's tokens come to
+-- the values of a line's tokens
 abbrev pub values_on : Parameters → Parts → Result (List (Letter × ℤ) × List (ℕ × ℤ)) EvalFault
 values_on p line = words_on p line.tokens line.words >>= λ ws.
     settings_on p line.tokens line.settings >>= λ ss. Ok (ws, ss)
 
--- words' letters and values, and settings' indices and values; all values are found from the same
--- parameters
+-- words' letters and values, and settings' indices and values; all values are computed from the
+-- same parameters
 abbrev pub line_values : Parameters → List Item →
     Result (List (Letter × ℤ) × List (ℕ × ℤ)) EvalFault
 line_values p items = words_of p items >>= λ ws. settings_of p items >>= λ ss. Ok (ws, ss)

@@ -52,7 +52,7 @@ fn apply(operator: Operator, x: Value, y: Value) -> Result<Value, EvalFault>
     }
 }
 
-// What stands before a term, and the term.
+// Returns the term, joined to the value before it by the operator between them, if there is one.
 fn join(before: Option<(Value, Operator)>, term: Value) -> Result<Value, EvalFault>
     ensures value { result ≡ joined_with (before_of before) term }
     ensures not_memory { IfErr result (λ e. e ≢ EvalFault.Memory) }
@@ -164,7 +164,7 @@ fn value_with<'a>(
     }
 }
 
-/// The value of a real value whose tokens stand in front, and the tokens behind it.
+/// Returns the value of the real value at the front of some tokens, and the remaining tokens.
 pub fn evaluate<'a>(parameters: &[Value], s: &'a [Token]) -> Result<(Value, &'a [Token]), EvalFault>
     requires all { length parameters.now ≡ 5161 }
     requires short { length s.now ≤ 256 }

@@ -3,7 +3,7 @@ ghost use Rattle.std.specs.Prelude.{◌≡◌};
 use ngc_fixed_length::NumberFault;
 use thiserror::Error;
 
-/// Why a word has no value, or the store no room.
+/// The reasons why a word has no value, or the store no memory.
 #[derive(Clone, Copy, Debug, PartialEq, Eq, Error)]
 pub enum EvalFault {
     #[error(transparent)]
@@ -21,7 +21,7 @@ pub enum EvalFault {
 impl EvalFault {
     ghost use Rattle.ngc_parameters.specs.Fault.{number_of};
 
-    /// The fault's number, by which listings and machinists name it.
+    /// Returns the fault's number, which listings and messages print.
     pub fn number(&self) -> u16
         ensures { result ≡ number_of self.now }
     {

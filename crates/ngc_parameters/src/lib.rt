@@ -1,4 +1,4 @@
-//! What parameters hold, and the values of a line's words.
+//! The parameters, and the values of a line's words.
 #![tactic(auto)]
 
 mod change;

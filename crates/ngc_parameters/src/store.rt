@@ -22,20 +22,20 @@ use std::alloc::Allocator;
 
 const COUNT: usize = 5161;
 
-/// What a line's settings do, from left to right.
+/// The changes of a line's settings, from left to right.
 #[derive(Drop)]
 pub struct Changes {
     settings: ArrayVec<Change, 64>,
 }
 
-/// The values of a line's words, and what its settings do.
+/// The values of a line's words, and the changes of its settings.
 #[derive(Drop)]
 pub struct LineValues {
     pub words: ArrayVec<Word, 64>,
     pub changes: Changes,
 }
 
-// The value whose tokens begin there.
+// Returns the value whose tokens begin at `first`.
 fn value_at(parameters: &[Value], tokens: &[Token], first: u16) -> Result<Value, EvalFault>
     requires all { length parameters.now ≡ 5161 }
     requires short { length tokens.now ≤ 256 }
@@ -49,7 +49,7 @@ fn value_at(parameters: &[Value], tokens: &[Token], first: u16) -> Result<Value,
     }
 }
 
-// The values of the words.
+// Computes the values of the words.
 #[tactic(auto, using(crate::proofs::StoredSteps::mapped))]
 fn words_of(
     parameters: &[Value],
@@ -99,7 +99,7 @@ fn change_of(
     }
 }
 
-// What the settings do.
+// Computes the changes of the settings.
 #[tactic(auto, using(crate::proofs::StoredSteps::mapped))]
 fn changes_of_line(
     parameters: &[Value],
@@ -121,7 +121,7 @@ fn changes_of_line(
     Ok(())
 }
 
-// What words and settings come to.
+// Computes the values of words and the changes of settings.
 fn line_of(
     parameters: &[Value],
     line: LineView<'_>,
@@ -139,7 +139,7 @@ fn line_of(
 }
 
 impl LineValues {
-    /// The values of no line yet.
+    /// Returns the values of an empty line.
     pub fn empty() -> LineValues
         ensures { values_in result ≡ ([], []) }
     {
@@ -153,7 +153,7 @@ impl LineValues {
 }
 
 impl<A: Allocator> Store<A> {
-    /// Room for all parameters, each 0.
+    /// Returns a store of all parameters, each 0.
     pub fn new(alloc: A) -> Result<Store<A>, EvalFault>
         ensures zero { IfOk result (λ s. (k : ℕ) → parameters_of s k ≡ pos 0) }
         ensures refused { IfErr result (λ e. e ≡ EvalFault.Memory) }
@@ -170,9 +170,9 @@ impl<A: Allocator> Store<A> {
         Ok(Store { values })
     }
 
-    /// The values of a line's words, and what its settings do, in place of what `values` holds. All
-    /// are found from what the parameters hold now. After a fault what `values` holds is
-    /// unspecified.
+    /// Computes the values of a line's words and the changes of its settings, and puts them in
+    /// `values`. All are computed from the current parameters. After a fault the contents of
+    /// `values` are unspecified.
     pub fn read(&self, line: LineView<'_>, values: &mut LineValues) -> Result<(), EvalFault>
         ensures value { (bytes : List ℕ) (r : Reading) →
             items_of (view_parts line.entry) ≡ items_said bytes r → AllWithinLimit r.items →
@@ -183,8 +183,8 @@ impl<A: Allocator> Store<A> {
         line_of(self.values.as_slice(), line, values)
     }
 
-    /// The values of a line's words, and what its settings do. All are found from what the
-    /// parameters hold now.
+    /// Returns the values of a line's words and the changes of its settings. All are computed from
+    /// the current parameters.
     pub fn words(&self, line: &Line) -> Result<(ArrayVec<Word, 64>, Changes), EvalFault>
         ensures value { (bytes : List ℕ) (r : Reading) → Holds bytes line.now r →
             AllWithinLimit r.items →
@@ -210,7 +210,7 @@ impl<A: Allocator> Store<A> {
         self.values[change.index] = change.value;
     }
 
-    /// Makes the changes, from left to right, so that the last of one parameter counts.
+    /// Makes the changes, from left to right, so that the last change of a parameter counts.
     pub fn make(&mut self, changes: &Changes)
         ensures { (k : ℕ) → parameters_of self.new k
             ≡ after_settings (changes_of changes.now) (parameters_of self.old) k }
@@ -220,7 +220,7 @@ impl<A: Allocator> Store<A> {
         }
     }
 
-    /// Makes the changes, from left to right, so that the last of one parameter counts.
+    /// Makes the changes, from left to right, so that the last change of a parameter counts.
     pub fn apply(&mut self, changes: Changes)
         ensures { (k : ℕ) → parameters_of self.new k
             ≡ after_settings (changes_of changes) (parameters_of self.old) k }

@@ -1,4 +1,4 @@
--- The settings left come to what all of them do.
+-- The remaining settings have the same result as all of them.
 use Rattle.std.proofs.Common.{◌≡◌, ◌≤◌, length, drop}
 use Rattle.ngc_parameters.specs.EvaluateView.{held}
 use Rattle.ngc_parameters.specs.Stored.{change_pairs, settings_after, settings_on}

@@ -1,4 +1,4 @@
--- The changes left, after those made, come to what all of them do.
+-- The remaining changes, after those made, have the same result as all of them.
 use Rattle.std.proofs.Common.{◌≡◌, ℕ, drop}
 use Rattle.ngc_parameters.specs.Meaning.{after_settings}
 use Rattle.ngc_parameters.specs.Stored.{change_pairs, parameters_of}
