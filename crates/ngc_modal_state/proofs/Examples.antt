@@ -1,4 +1,4 @@
--- Lines, computed: a definition that says another thing fails here.
+-- Lines, evaluated: if a definition changes its meaning, a test here fails.
 use Rattle.std.proofs.Common.{◌≡◌, ℤ, pos, List, [], ◌∷◌, Some, None, Result, Ok, Err, false, refl}
 use Rattle.ngc_fixed_length.specs.declared.units.Units.TheVariants.{Inches}
 use Rattle.ngc_line_reader.specs.declared.letter.Letter.{Letter}
@@ -16,7 +16,7 @@ use Rattle.ngc_modal_state.specs.Effects.{first_effects, mode_effects, last_effe
 use Rattle.ngc_modal_state.specs.Start.{start_modes}
 use Rattle.ngc_modal_state.specs.Faults.{◌>>=◌}
 
--- what a line does at a program's start
+-- a line's effects at a program's start
 abbrev line : List (Letter × ℤ) → Result (List Effect) ModalFault
 line words = block_of words >>= λ block. effects start_modes block
 

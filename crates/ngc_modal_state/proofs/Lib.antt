@@ -1,12 +1,12 @@
--- Look-up in two tables, one after the other.
+-- Look-up in two tables, in order.
 pub mod TableLaws
 -- A line that is at most a plain move breaks no rule on the use of words.
 pub mod Plain
 -- Words by letter and value.
 pub mod Words
--- A list that grows by what stands.
+-- A list that grows by the effects that are present.
 pub mod Standing
--- A line's effects come in order of their ranks, and are few.
+-- A line's effects are in order of their ranks, and are few.
 pub mod Ranks
--- Lines, computed: a definition that says another thing fails here.
+-- Lines, evaluated: if a definition changes its meaning, a test here fails.
 mod Examples

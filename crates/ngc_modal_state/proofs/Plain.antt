@@ -12,7 +12,7 @@ use Rattle.ngc_modal_state.specs.declared.block.Block.{Block}
 use Rattle.ngc_modal_state.specs.Kinds.{is_straight, is_arc, is_cycle, is_cancel, is_inverse, begins_cycle}
 use Rattle.ngc_modal_state.specs.Use.{has_axes, has_arc_words, has_offsets, in_force, plane_of, feed_mode_of, lacks_straight, claimed_twice, idle_letter, missing_word}
 
--- a word that doesn't stand
+-- a word that is not present
 pub absent : {A : Type 0} (word : Option A) → is_some word ≡ false → word ≡ None
 absent None e = refl
 absent (Some x) e = search rules

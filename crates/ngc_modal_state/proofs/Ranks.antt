@@ -1,4 +1,4 @@
--- A line's effects come in order of their ranks, and are few.
+-- A line's effects are in order of their ranks, and are few.
 use Rattle.std.proofs.Common.{◌≡◌, ℕ, ◌≤◌, List, [], ◌∷◌, ◌++◌, length, Option, Some, None, Bool, true, false, subst, arith, refl, lit≤, length-append}
 use Rattle.std.specs.Prelude.{ℤ, option_map, option_to_list}
 use Rattle.ngc_fixed_length.specs.declared.modes.FeedMode.{FeedMode}
@@ -18,7 +18,7 @@ use Rattle.ngc_modal_state.specs.Use.{user, feed_mode_of, whole}
 use Rattle.ngc_modal_state.specs.Effects.{rank, mark, feed_effect, inverse_feed, dwell_effect, length_effect, system_at, frame_effect, move_effect, standing}
 use Rattle.ngc_modal_state.specs.Effects.{first_effects, mode_effects, last_effects, in_order, RanksFrom, IsOrdered, IsShort}
 
--- an effect of rank r, where it stands
+-- an effect of rank r, if it is present
 pub record HasRank (r : ℕ) (effect : Option Effect) : Type 0 where
   pub ahead : (low : ℕ) (rest : List Effect) → low ≤ r → RanksFrom r rest → RanksFrom low (option_to_list effect ++ rest)
 
@@ -116,7 +116,7 @@ module _ (m : Modes) (b : Block) where
 pub is_ordered : IsOrdered
 is_ordered m b = ordered m b
 
--- at most as many stand as there are places for
+-- at most as many effects are present as the list has entries
 length-option_to_list : (o : Option Effect) → length (option_to_list o) ≤ 1
 length-option_to_list None = lit≤ tt
 length-option_to_list (Some effect) = lit≤ tt

@@ -1,4 +1,4 @@
--- A list that grows by what stands.
+-- A list that grows by the effects that are present.
 use Rattle.std.proofs.Common.{◌≡◌, List, [], ◌∷◌, ◌++◌, Option, Some, None, false, refl, ap, append_assoc}
 use Rattle.std.proofs.lemmas.List.{append-nil}
 use Rattle.std.proofs.lemmas.Grind.{flat_map-append}
@@ -21,18 +21,18 @@ pub adds : (old mid new : List Effect) (o p : Option Effect) (rest : List (Optio
 unfolding standing
 adds old mid new o p rest same first after = rw (after, first, same) (rw append_assoc refl)
 
--- nothing is left to add
+-- nothing remains to be added
 pub ends : (list : List Effect) → list ≡ list ++ standing []
 unfolding standing
 ends list = rw append-nil refl
 
--- the parts of a line, one after the other
+-- the parts of a line, in order
 pub in_parts : (none first second last : List Effect) (a b c : List (Option Effect)) → none ≡ [] → first ≡ none ++ standing a → second ≡ first ++ standing b →
     last ≡ second ++ standing c → last ≡ standing (a ++ (b ++ c))
 unfolding standing
 in_parts none first second last a b c d e f g = simp (g, f, e, d, flat_map-append, append_assoc)
 
--- what `map` answered, by what its function gives
+-- the result of `map`, from that of its function
 pub mapped : {X Y : Type 0} (o : Option X) (r : Option Y) (f : X → Y) (P : X → Y → Type 0) → ((x : X) (y : Y) → P x y → y ≡ f x) →
     MatchOption o (r ≡ None) (λ x. IsSomeAnd r (P x)) → r ≡ option_map f o
 mapped None r f P gives cases = cases
@@ -62,7 +62,7 @@ no_modes b few list =
       absent b.return_mode return_mode,
     ) (rw append-nil refl)
 
--- nothing stands behind F
+-- there is nothing after F
 pub feed_alone : (m : Modes) (b : Block) → (is_some b.s || is_some b.t || b.change_tool || is_some b.spindle || b.mist || b.flood || b.coolant_off ||
     is_some b.overrides || is_some b.once) ≡ false →
     standing (first_effects m b) ≡ standing (option_map acts.FeedMode b.feed_mode ∷ feed_effect (feed_mode_of m b) m b ∷ [])
@@ -82,7 +82,7 @@ no_feed : (mode : FeedMode) (m : Modes) (b : Block) → b.f ≡ None → feed_ef
 no_feed PerMinute m b f = rw f refl
 no_feed InverseTime m b f = refl
 
--- nothing stands up to the dwell
+-- there is nothing up to the dwell
 pub nothing_first : (m : Modes) (b : Block) → (is_some b.feed_mode || is_some b.f || (is_some b.s || is_some b.t || b.change_tool || is_some b.spindle ||
     b.mist || b.flood || b.coolant_off || is_some b.overrides || is_some b.once)) ≡ false → (list : List Effect) → list ≡ list ++ standing (first_effects m b)
 unfolding standing

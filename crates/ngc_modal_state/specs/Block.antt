@@ -1,5 +1,5 @@
--- A line's block: of each modal group the one code, of each letter the one value (NISTIR 6556, 3.4
--- and 3.3.5).
+-- A line's block: the one code of each modal group, and the one value of each letter (NISTIR 6556,
+-- 3.4 and 3.3.5).
 use Rattle.std.specs.Prelude.{ℤ, nat_lt, List, [], ◌∷◌, Option, Some, None, Result, Ok, Err, Bool}
 use Rattle.std.specs.Prelude.{true, false, count_by, is_some, if◌then◌else◌, ◌||◌}
 use Rattle.ngc_line_reader.specs.declared.letter.Letter.{Letter}
@@ -52,7 +52,7 @@ no_words = record {
   t = None;
 }
 
--- whether the block has a code of a code's group already; M7 and M8 may stand together, and neither
+-- whether the block already has a code of a code's group; M7 and M8 may be together, and neither
 -- with M9
 abbrev pub has_group : Code → Block → Bool
 has_group (codes.Motion c) b = is_some b.motion
@@ -74,7 +74,7 @@ has_group (codes.Coolant Flood) b = b.coolant_off || b.flood
 has_group (codes.Coolant Off) b = b.coolant_off || b.mist || b.flood
 has_group (codes.Override c) b = is_some b.overrides
 
--- the block with a code
+-- the block with one more code
 abbrev pub put_code : Code → Block → Block
 put_code (codes.Motion c) b = record b { motion = Some c }
 put_code (codes.Plane c) b = record b { plane = Some c }
@@ -95,11 +95,11 @@ put_code (codes.Coolant Flood) b = record b { flood = true }
 put_code (codes.Coolant Off) b = record b { coolant_off = true }
 put_code (codes.Override c) b = record b { overrides = Some c }
 
--- a block with one more code, where its group had none yet
+-- the same, if its group has no code yet
 abbrev pub with_code : Code → Block → Result Block ModalFault
 with_code code b = if has_group code b then Err GroupTwice else Ok (put_code code b)
 
--- the block, where the letter had no value yet
+-- the block, if the letter has no value yet
 abbrev pub once_a_line : Option ℤ → Block → Result Block ModalFault
 once_a_line had b = if is_some had then Err LetterRepeated else Ok b
 

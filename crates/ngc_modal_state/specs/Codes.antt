@@ -1,5 +1,6 @@
--- Which code a G or M word's value is (NISTIR 6556, 3.5 and 3.6). A code is written in tenths: 592
--- is G59.2. A value must be a code exactly: our own rule, as the manual allows a small difference.
+-- The code of a G or M word's value (NISTIR 6556, 3.5 and 3.6). A code is written in tenths: 592 is
+-- G59.2. A value must be a code exactly. This is our own rule: the manual allows a small
+-- difference.
 use Rattle.std.specs.Prelude.{ℕ, ◌/◌, ◌%◌, ◌==◌, ℤ, pos, negsuc, List, [], ◌∷◌, ◌++◌, Option, Some}
 use Rattle.std.specs.Prelude.{None, Result, Ok, Err, Bool, true, false, if◌then◌else◌}
 use Rattle.ngc_fixed_length.specs.declared.units.Units.TheVariants.{Millimetres, Inches}
@@ -56,7 +57,7 @@ mode_codes =
     (591, System Seventh) ∷ (592, System Eighth) ∷ (593, System Ninth) ∷
     (610, Path ExactPath) ∷ (611, Path ExactStop) ∷ (640, Path Continuous) ∷ []
 
--- those that hold for their line alone
+-- the nonmodal codes
 unfoldable pub once_codes : List (ℕ × Code)
 once_codes =
     (40, Once once.Dwell) ∷ (100, Once once.SetOrigin) ∷
@@ -81,7 +82,7 @@ m_codes =
 abbrev pub left_out_codes : List ℕ
 left_out_codes = 382 ∷ 410 ∷ 420 ∷ 840 ∷ 870 ∷ 880 ∷ []
 
--- a value in tenths, where it is a whole number of them
+-- a value in tenths, if it is a whole number of them
 abbrev pub tenths : ℤ → Option ℕ
 tenths (pos n) = if n % 100000 == 0 then Some (n / 100000) else None
 tenths (negsuc n) = None
@@ -96,7 +97,7 @@ abbrev pub code_at : List (ℕ × Code) → Option ℕ → Option Code
 code_at codes None = None
 code_at codes (Some n) = at_number n codes
 
--- the code, or else which word is no code
+-- the code, or else the word that is no code
 abbrev pub known : Letter → ℤ → Option Code → Result Code ModalFault
 known letter value (Some code) = Ok code
 known letter value None = Err (UnknownCode letter value)

@@ -1,4 +1,4 @@
--- What a line does, in order of execution (NISTIR 6556, 3.8).
+-- A line's effects, in order of execution (NISTIR 6556, 3.8).
 use Rattle.std.specs.Prelude.{ℕ, ◌≤◌, ℤ, List, [], ◌∷◌, ◌++◌, Option, Some, None, Result, Ok}
 use Rattle.std.specs.Prelude.{option_map, option_to_list, flat_map, length, unwrap_or, Bool, ◌||◌}
 use Rattle.std.specs.Prelude.{if◌then◌else◌}
@@ -60,7 +60,7 @@ rank (acts.Arc turn axes words f) = 20
 rank (acts.Cycle hole axes words) = 20
 rank (acts.Stopping code) = 21
 
--- F sets the feed of feed per minute, converted by the units that the line leaves in force
+-- F sets the feed in feed per minute, converted by the units that the line leaves in force
 abbrev pub feed_effect : FeedMode → Modes → Block → Option Effect
 feed_effect PerMinute m b = option_map (λ v. acts.Feed v (unwrap_or b.units m.units)) b.f
 feed_effect InverseTime m b = None
@@ -106,11 +106,11 @@ arc_words b = record { i = b.i; j = b.j; k = b.k; r = b.r }
 abbrev pub cycle_words : Block → CycleWords
 cycle_words b = record { l = b.l; p = b.p; q = b.q; r = b.r }
 
--- an effect, where the test holds
+-- an effect, if it is present
 abbrev pub mark : Effect → Bool → Option Effect
 mark effect stands = if stands then Some effect else None
 
--- the line's motion, where it moves; an arc without axis words is refused when it is made
+-- the line's motion, if it moves; an arc without axis words is refused when it is made
 abbrev pub move_effect : MotionMode → Option ℤ → Block → Option Effect
 move_effect motions.Traverse f b =
     mark (acts.Traverse (is_machine_place b.once) b.axes) (has_axes b)
@@ -121,7 +121,7 @@ move_effect (motions.Arc turn) f b =
 move_effect motions.Cancel f b = None
 move_effect (motions.Cycle hole) f b = Some (acts.Cycle hole b.axes (cycle_words b))
 
--- what the words of a line do, in the order of the table of ranks: up to the dwell
+-- the effects of a line's words, in the order of the table of ranks: up to the dwell
 unfoldable pub first_effects : Modes → Block → List (Option Effect)
 first_effects m b =
     option_map acts.FeedMode b.feed_mode ∷
@@ -148,7 +148,7 @@ mode_effects b =
     option_map acts.Distance b.distance ∷
     option_map acts.Return b.return_mode ∷ []
 
--- and what moves
+-- and the motions
 unfoldable pub last_effects : Modes → Block → List (Option Effect)
 last_effects m b =
     frame_effect b.once b ∷
@@ -156,25 +156,25 @@ last_effects m b =
     move_effect (user m b) (inverse_feed (feed_mode_of m b) b.f) b ∷
     option_map acts.Stopping b.stopping ∷ []
 
--- those that stand on the line
+-- those that are present
 unfoldable pub standing : List (Option Effect) → List Effect
 standing effects = flat_map option_to_list effects
 
 abbrev pub in_order : Modes → Block → List Effect
 in_order m b = standing (first_effects m b ++ (mode_effects b ++ last_effects m b))
 
--- the effects of a block, where each of its words has one use and none is missing
+-- the effects of a block, if each of its words has one use and none is missing
 abbrev pub effects : Modes → Block → Result (List Effect) ModalFault
 effects m b = check m b >> Ok (in_order m b)
 
 -- ---- laws
 
--- ranks from low on, which never fall
+-- ranks that begin at least at low and never fall
 abbrev pub RanksFrom : ℕ → List Effect → Type 0
 RanksFrom low [] = Unit {0}
 RanksFrom low (effect ∷ effects) = (low ≤ rank effect) × RanksFrom (rank effect) effects
 
--- the effects of a line come in order of their ranks, and there are at most 24
+-- the effects of a line are in order of their ranks, and there are at most 24
 abbrev pub IsOrdered : Type 0
 IsOrdered = (m : Modes) (b : Block) → RanksFrom 0 (in_order m b)
 

@@ -19,11 +19,11 @@ abbrev pub ◌>>◌ : {A B : Type 0} → Result A ModalFault → Result B ModalF
 (Ok x) >> r = r
 (Err e) >> r = Err e
 
--- refused where the test holds
+-- refused if the test holds
 abbrev pub refuse_if : Bool → ModalFault → Result (Unit {0}) ModalFault
 refuse_if b e = if b then Err e else Ok tt
 
--- refused where there is a word to name
+-- refused if there is a word to name
 abbrev pub refuse_of : {A : Type 0} → (A → ModalFault) → Option A → Result (Unit {0}) ModalFault
 refuse_of fault None = Ok tt
 refuse_of fault (Some word) = Err (fault word)
@@ -40,12 +40,12 @@ number (WordMissing word) = 208
 number OutOfRange = 209
 number WithoutStraightMotion = 210
 
--- what a function returned, seen by view, is what the definition says
+-- a function's result, seen by view, is the definition's
 abbrev pub Gives : {X Y E : Type 0} → (X → Y) → Result X E → Result Y E → Type 0
 Gives view (Ok x) says = says ≡ Ok (view x)
 Gives view (Err e) says = says ≡ Err e
 
--- after a step that may be refused, what it changes is what the definition gives
+-- after a step that may be refused, the changed value is the definition's
 abbrev pub Becomes : {X : Type 0} → Result (Unit {0}) ModalFault → X → Result X ModalFault → Type 0
 Becomes (Ok u) new says = says ≡ Ok new
 Becomes (Err e) new says = says ≡ Err e

@@ -63,7 +63,7 @@ hole_number Bore = 85
 hole_number BoreWithStop = 86
 hole_number BoreWithDwell = 89
 
--- the second is a cycle of another code than the first
+-- the second is a cycle with another code than the first
 abbrev pub begins_cycle : MotionMode → MotionMode → Bool
 begins_cycle (Cycle before) (Cycle hole) = not (hole_number before == hole_number hole)
 begins_cycle _ (Cycle hole) = true

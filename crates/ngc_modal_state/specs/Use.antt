@@ -1,5 +1,5 @@
--- Which code uses which letter, and what is missing (NISTIR 6556, 3.5 and 3.7; which words are
--- refused is our own rule).
+-- The codes that use each letter, and the words that are missing (NISTIR 6556, 3.5 and 3.7; which
+-- words are refused is our own rule).
 use Rattle.std.specs.Prelude.{ℕ, ◌/◌, ◌%◌, ◌==◌, nat_le, ℤ, [], ◌∷◌, unsigned_abs, Option, Some}
 use Rattle.std.specs.Prelude.{None, Result, Bool, false, not, is_some, is_none, unwrap_or, ◌&&◌}
 use Rattle.std.specs.Prelude.{◌||◌, if◌then◌else◌}
@@ -29,7 +29,7 @@ use Rattle.ngc_modal_state.specs.declared.fault.MissingWord.TheVariants as missi
 use Rattle.ngc_modal_state.specs.Faults.{◌>>◌, refuse_if, refuse_of}
 use Rattle.ngc_modal_state.specs.Tables.{first_where}
 
--- ---- what a line has
+-- ---- the words of a line
 
 abbrev pub has_axes : Block → Bool
 has_axes b = is_some b.axes.x || is_some b.axes.y || is_some b.axes.z
@@ -47,13 +47,13 @@ plane_of m b = unwrap_or b.plane m.plane
 abbrev pub feed_mode_of : Modes → Block → FeedMode
 feed_mode_of m b = unwrap_or b.feed_mode m.feed_mode
 
--- the motion code that is in force on the line: one that is kept is suspended by G10, G28, G30 and
--- G92
+-- the motion code in force on the line: G10, G28, G30 and G92 suspend one that is kept from an
+-- earlier line
 abbrev pub in_force : Modes → Block → MotionMode
 in_force m b = unwrap_or b.motion (if takes_axes b.once then Cancel else m.motion)
 
--- the motion code that uses the line's letters: a kept one does so only with axis words, or as an
--- arc
+-- the motion code that uses the line's letters: one that is kept from an earlier line does so only
+-- with axis words, or as an arc
 abbrev pub user : Modes → Block → MotionMode
 user m b = unwrap_or b.motion (if has_axes b || is_arc (in_force m b) then in_force m b else Cancel)
 
@@ -98,12 +98,12 @@ uses_p code motion = is_dwell code || sets_origin code || dwells motion
 abbrev pub uses_l : Option Once → MotionMode → Bool
 uses_l code motion = sets_origin code || is_cycle motion
 
--- the word stands there and nothing uses it
+-- the word is present and nothing uses it
 abbrev pub idle : Option ℤ → Bool → Bool
 idle word used = is_some word && not used
 
--- The letter of a word that stands there and that nothing uses: of several the first in this order.
--- F, S and T may always stand.
+-- The letter of a word that is present and that nothing uses: of several the first in this order.
+-- F, S and T are always allowed.
 unfoldable pub idle_letter : Modes → Block → Option Letter
 idle_letter m b = first_where (
     (idle b.axes.x (uses_axes m b), X) ∷
@@ -120,7 +120,7 @@ idle_letter m b = first_where (
 
 -- ---- 208: a word that is missing
 
--- the word of the axis that stands on the plane, and its letter
+-- the word of the axis perpendicular to the plane, and its letter
 abbrev pub depth_word : Plane → AxisWords → Option ℤ
 depth_word XY axes = axes.z
 depth_word ZX axes = axes.y
@@ -144,11 +144,11 @@ lacks_axes b =
 abbrev pub needs_feed : Modes → Block → Bool
 needs_feed m b = is_inverse (feed_mode_of m b) && has_axes b && feeds (user m b)
 
--- A cycle code's first line needs R and the bottom, and P or Q where its hole takes them.
+-- A cycle code's first line needs R and the bottom, and P or Q if its hole takes them.
 abbrev pub begins : Modes → Block → Bool
 begins m b = begins_cycle m.motion (user m b)
 
--- The word that a code needs and that doesn't stand there: of several the first in this order.
+-- The word that a code needs and that is missing: of several the first in this order.
 unfoldable pub missing_word : Modes → Block → Option MissingWord
 missing_word m b = first_where (
     (lacks (is_dwell b.once) b.p, missing.Letter P) ∷
@@ -176,7 +176,7 @@ abbrev pub negative : Option ℤ → Bool
 negative None = false
 negative (Some v) = is_negative v
 
--- there, and not a whole number from low to high
+-- present, and not a whole number from low to high
 abbrev pub not_whole_from : ℕ → ℕ → Option ℤ → Bool
 not_whole_from low high None = false
 not_whole_from low high (Some v) =

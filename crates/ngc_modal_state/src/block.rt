@@ -18,7 +18,7 @@ pub struct AxisWords {
     pub z: Option<Value>,
 }
 
-/// A line's words: of each modal group its code, of each letter its value.
+/// A line's words: the code of each modal group, and the value of each letter.
 #[derive(Clone, Copy)]
 pub struct Block {
     pub motion: Option<MotionMode>,
@@ -26,7 +26,7 @@ pub struct Block {
     pub distance: Option<Distance>,
     pub feed_mode: Option<FeedMode>,
     pub units: Option<Units>,
-    /// Whether G40 stands.
+    /// Whether G40 is present.
     pub radius_off: bool,
     pub tool_length: Option<LengthCode>,
     pub return_mode: Option<ReturnMode>,
@@ -34,14 +34,14 @@ pub struct Block {
     pub path: Option<PathControl>,
     pub once: Option<Once>,
     pub stopping: Option<Stopping>,
-    /// Whether M6 stands.
+    /// Whether M6 is present.
     pub change_tool: bool,
     pub spindle: Option<Spindle>,
-    /// Whether M7 stands.
+    /// Whether M7 is present.
     pub mist: bool,
-    /// Whether M8 stands.
+    /// Whether M8 is present.
     pub flood: bool,
-    /// Whether M9 stands.
+    /// Whether M9 is present.
     pub coolant_off: bool,
     /// Whether overrides are switched on (M48) or off (M49).
     pub overrides: Option<bool>,
@@ -65,7 +65,7 @@ impl Block {
     ghost use Rattle.ngc_line_reader.specs.declared.letter.Letter.TheVariants as letters;
     ghost use Rattle.ngc_modal_state.specs.Faults.{Becomes};
 
-    // No words.
+    // Returns a block without words.
     fn empty() -> Block
         ensures { result ≡ no_words }
     {
@@ -108,8 +108,8 @@ impl Block {
         }
     }
 
-    // Whether there is a code of the same group already: M7 and M8 may stand together, and neither
-    // with M9.
+    // Returns whether there is already a code of the same group. M7 and M8 may be together, and
+    // neither with M9.
     fn has_group(&self, code: Code) -> bool
         ensures { result ≡ has_group code self.now }
     {
@@ -209,8 +209,8 @@ impl Block {
         Ok(())
     }
 
-    /// The block of a line's words. Where they make none: more than four M words (202), or else
-    /// what is wrong with the first word from the left that doesn't fit (201, 203 to 205).
+    /// Returns the block of a line's words. It returns a fault if there are more than four M words
+    /// (202), or else for the first word from the left that doesn't fit (201, 203 to 205).
     pub fn new(words: &[Word]) -> Result<Block, ModalFault>
         ensures { result ≡ block_of (pairs_of words.now) }
     {
@@ -234,7 +234,7 @@ fn is_m(letter: Letter) -> bool
     matches!(letter, Letter::M)
 }
 
-// How many M words there are.
+// Returns the number of M words.
 #[tactic(auto, using(crate::proofs::Words::counted))]
 fn m_words(words: &[Word]) -> usize
     ensures { result ≡ count_by (λ (word : Letter × ℤ). is_m_word word.0) (pairs_of words.now) }
@@ -242,7 +242,7 @@ fn m_words(words: &[Word]) -> usize
     words.iter().filter(|word| is_m(word.letter)).count()
 }
 
-// A letter's value, where it had none yet.
+// Returns a letter's value, if it has none yet.
 fn once_a_line(had: Option<Value>, value: Value) -> Result<Option<Value>, ModalFault>
     ensures { result ≡ first_value had value }
 {

@@ -11,7 +11,7 @@ use crate::used::{uses_i, uses_j, uses_k, uses_r};
 use ngc_fixed_length::{FeedMode, Plane, Value};
 use ngc_line_reader::Letter;
 
-// Of rows of a test and an answer, the answer of the first whose test holds.
+// Returns the answer of the first row whose test holds.
 fn first_where<T: Copy>(rows: &[(bool, T)]) -> Option<T>
     ensures { result ≡ first_in rows.now }
 {
@@ -23,21 +23,21 @@ fn first_where<T: Copy>(rows: &[(bool, T)]) -> Option<T>
     None
 }
 
-// Whether the word stands and isn't used.
+// Returns whether the word is present and isn't used.
 fn is_idle(word: Option<Value>, used: bool) -> bool
     ensures { result ≡ idle word used }
 {
     word.is_some() && !used
 }
 
-// Whether the word is needed and doesn't stand.
+// Returns whether the word is needed and isn't present.
 fn is_lacking(needed: bool, word: Option<Value>) -> bool
     ensures { result ≡ lacks needed word }
 {
     needed && word.is_none()
 }
 
-// The letter of the axis that stands on the plane.
+// Returns the letter of the axis perpendicular to the plane.
 fn depth_letter(plane: Plane) -> Letter
     ensures { result ≡ letter_of_depth plane }
 {
@@ -51,7 +51,7 @@ fn depth_letter(plane: Plane) -> Letter
 impl AxisWords {
     ghost use Rattle.ngc_modal_state.specs.Use.{depth_word};
 
-    // The word of the axis that stands on the plane.
+    // Returns the word of the axis perpendicular to the plane.
     fn depth(&self, plane: Plane) -> Option<Value>
         ensures { result ≡ depth_word plane self.now }
     {
@@ -68,7 +68,7 @@ impl Block {
     ghost use Rattle.ngc_modal_state.specs.Use.{missing_word, out_of_range, lacks_straight};
     ghost use Rattle.ngc_modal_state.specs.Use.{check as check_of, has_offsets};
 
-    // Whether two codes use the axis words, or P, or R stands together with I, J or K.
+    // Returns whether two codes use the axis words, or P, or R is present together with I, J or K.
     #[tactic(auto, unfolding(crate::specs::Use::claimed_twice))]
     fn is_claimed_twice(&self, modes: &Modes) -> bool
         ensures { result ≡ claimed_twice modes.now self.now }
@@ -80,7 +80,7 @@ impl Block {
             || (user.is_arc() && self.r.is_some() && self.has_offsets())
     }
 
-    // The letter of a word that stands and that nothing uses, the first in this order.
+    // Returns the letter of a word that nothing uses, the first in this order.
     #[tactic(auto, unfolding(crate::specs::Use::idle_letter))]
     fn idle_letter(&self, modes: &Modes) -> Option<Letter>
         ensures { result ≡ idle_letter modes.now self.now }
@@ -103,7 +103,7 @@ impl Block {
         ])
     }
 
-    // G92, G53 or a cycle code on the line, without an axis word.
+    // Returns whether G92, G53 or a cycle code is on the line without an axis word.
     fn lacks_axes(&self) -> bool
         ensures { result ≡ lacks_axes self.now }
     {
@@ -113,7 +113,7 @@ impl Block {
         needed && !self.has_axes()
     }
 
-    // Whether there is a motion at a feed in inverse time.
+    // Returns whether there is a motion at a feed in inverse time.
     fn needs_feed(&self, modes: &Modes) -> bool
         ensures { result ≡ needs_feed modes.now self.now }
     {
@@ -121,7 +121,7 @@ impl Block {
         inverse && self.has_axes() && self.user(modes).feeds()
     }
 
-    // The word that a code needs and that doesn't stand, the first in this order.
+    // Returns the word that a code needs and that is missing, the first in this order.
     #[tactic(auto, unfolding(crate::specs::Use::missing_word))]
     fn missing_word(&self, modes: &Modes) -> Option<MissingWord>
         ensures { result ≡ missing_word modes.now self.now }
@@ -168,7 +168,7 @@ impl Block {
         ])
     }
 
-    // Whether a word's value is out of its range; a value has at most 10^9 units.
+    // Returns whether a word's value is out of its range. A value has at most 10^9 units.
     #[tactic(auto, unfolding(crate::specs::Use::out_of_range))]
     fn has_word_out_of_range(&self) -> bool
         ensures { result ≡ out_of_range self.now }
@@ -182,7 +182,7 @@ impl Block {
             || (self.sets_origin() && origin)
     }
 
-    // G53 without G0 or G1 in force.
+    // Returns whether G53 is present without G0 or G1 in force.
     #[tactic(auto, unfolding(crate::specs::Use::lacks_straight))]
     fn lacks_straight(&self, modes: &Modes) -> bool
         ensures { result ≡ lacks_straight modes.now self.now }
@@ -190,8 +190,8 @@ impl Block {
         self.is_machine_place() && !self.motion_in_force(modes).is_straight()
     }
 
-    // Whether a code that holds for its line alone stands, G43 or G49, or a letter that neither a
-    // straight move nor an arc in the plane XY takes.
+    // Returns whether there is a nonmodal code, G43 or G49, or a letter that neither a straight
+    // move nor an arc in the plane XY uses.
     fn has_rare_words(&self) -> bool
         ensures { result ≡ (is_some self.now.once || is_some self.now.tool_length
             || is_some self.now.k || is_some self.now.p || is_some self.now.l || is_some self.now.q
@@ -206,15 +206,15 @@ impl Block {
             || self.h.is_some()
     }
 
-    // Whether R stands together with I, J or K.
+    // Returns whether R is present together with I, J or K.
     fn has_two_centres(&self) -> bool
         ensures { result ≡ (is_some self.now.r && has_offsets self.now) }
     {
         self.r.is_some() && self.has_offsets()
     }
 
-    // Whether few tests show that the line breaks no rule on the use of words: so it is with most
-    // lines, at most a straight move, or an arc in the plane XY.
+    // Returns whether a few tests show that the line breaks no rule on the use of words. This is
+    // true of most lines: at most a straight move, or an arc in the plane XY.
     fn is_plain(&self, modes: &Modes) -> bool
         ensures straight { result ≡ true → lacks_straight modes.now self.now ≡ false }
         ensures one_use { result ≡ true → claimed_twice modes.now self.now ≡ false }
@@ -235,7 +235,7 @@ impl Block {
         }
     }
 
-    // 210, or else the first of 206 to 209.
+    // Returns fault 210, or else the first of 206 to 209.
     pub(crate) fn check(&self, modes: &Modes) -> Result<(), ModalFault>
         ensures { result ≡ check_of modes.now self.now }
     {

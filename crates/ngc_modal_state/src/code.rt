@@ -1,6 +1,6 @@
 use ngc_fixed_length::{Distance, FeedMode, Plane, ReturnMode, System, Turn, Units};
 
-/// The code of a canned cycle: what it does at its hole.
+/// The code of a canned cycle: the kind of hole that it makes.
 #[derive(Clone, Copy)]
 pub enum CycleCode {
     /// G81
@@ -20,15 +20,15 @@ pub enum CycleCode {
 /// The motion mode: what axis words do.
 #[derive(Clone, Copy)]
 pub enum MotionMode {
-    /// A motion in a straight line at the greatest rate: G0.
+    /// G0: a straight motion at the greatest rate.
     Traverse,
-    /// A motion in a straight line at the feed: G1.
+    /// G1: a straight motion at the feed.
     Straight,
-    /// A motion along an arc or a helix at the feed: G2 clockwise, G3 counterclockwise.
+    /// G2 (clockwise), G3 (counterclockwise): a motion along an arc or a helix at the feed.
     Arc(Turn),
-    /// Nothing: no motion code is in force (G80).
+    /// G80: no motion code is in force.
     Cancel,
-    /// A canned cycle: G81 to G83, G85, G86, G89.
+    /// G81 to G83, G85, G86, G89: a canned cycle.
     Cycle(CycleCode),
 }
 
@@ -41,7 +41,7 @@ pub enum LengthCode {
     Cancel,
 }
 
-/// How a path is followed where two motions meet.
+/// How the path is followed where two motions meet.
 #[derive(Clone, Copy)]
 pub enum PathControl {
     /// G61
@@ -52,7 +52,7 @@ pub enum PathControl {
     Continuous,
 }
 
-/// The codes that hold for their line alone.
+/// The nonmodal codes, which hold only for their line.
 #[derive(Clone, Copy)]
 pub enum Once {
     /// G4
@@ -75,7 +75,7 @@ pub enum Once {
     RestoreOffset,
 }
 
-/// What stops a program.
+/// A code that stops a program.
 #[derive(Clone, Copy)]
 pub enum Stopping {
     /// M0, M60
@@ -86,7 +86,7 @@ pub enum Stopping {
     End,
 }
 
-/// What the spindle does.
+/// The command to the spindle.
 #[derive(Clone, Copy)]
 pub enum Spindle {
     /// M3 clockwise, M4 counterclockwise.
@@ -95,7 +95,7 @@ pub enum Spindle {
     Stop,
 }
 
-/// What the coolant does.
+/// The command to the coolant.
 #[derive(Clone, Copy)]
 pub enum Coolant {
     /// M7
@@ -106,7 +106,7 @@ pub enum Coolant {
     Off,
 }
 
-/// A G or M code. Those of one variant are a modal group.
+/// A G or M code. The codes of one variant are a modal group.
 #[derive(Clone, Copy)]
 pub enum Code {
     Motion(MotionMode),

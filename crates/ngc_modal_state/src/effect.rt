@@ -2,7 +2,7 @@ use crate::block::AxisWords;
 use crate::code::{Coolant, CycleCode, MotionMode, PathControl, Spindle, Stopping};
 use ngc_fixed_length::{Distance, FeedMode, Plane, ReturnMode, System, Turn, Units, Value};
 
-/// The two home positions of a machine: G28, G30.
+/// The two home positions of a machine: G28 and G30.
 #[derive(Clone, Copy)]
 pub enum Home {
     First,
@@ -18,7 +18,7 @@ pub struct ArcWords {
     pub r: Option<Value>,
 }
 
-/// The words of a canned cycle beside X, Y and Z.
+/// The words of a canned cycle apart from X, Y and Z.
 #[derive(Clone, Copy)]
 pub struct CycleWords {
     pub l: Option<Value>,
@@ -27,7 +27,7 @@ pub struct CycleWords {
     pub r: Option<Value>,
 }
 
-/// One thing that a line does. What needs a word of the line carries it.
+/// One effect of a line. An effect that needs a word of the line carries it.
 #[derive(Clone, Copy)]
 pub enum Effect {
     FeedMode(FeedMode),
@@ -44,7 +44,7 @@ pub enum Effect {
     ChangeTool,
     Spindle(Spindle),
     Coolant(Coolant),
-    /// Whether overrides count from here on: M48, M49.
+    /// Whether overrides are on from here on: M48, M49.
     Override(bool),
     /// G4, in seconds.
     Dwell(Value),
@@ -58,7 +58,7 @@ pub enum Effect {
     Path(PathControl),
     Distance(Distance),
     Return(ReturnMode),
-    /// G28, G30, by way of the point that the axis words give.
+    /// G28, G30: through the point that the axis words give.
     GoHome {
         home: Home,
         axes: AxisWords,
@@ -76,14 +76,14 @@ pub enum Effect {
     SuspendOffset,
     /// G92.3
     RestoreOffset,
-    /// A motion code that stands on the line.
+    /// A motion code on the line.
     Motion(MotionMode),
-    /// G0; in machine coordinates where G53 stands.
+    /// G0; in machine coordinates if G53 is present.
     Traverse {
         machine: bool,
         axes: AxisWords,
     },
-    /// G1; in machine coordinates where G53 stands, and in inverse time with the line's F.
+    /// G1; in machine coordinates if G53 is present, and in inverse time with the line's F.
     Straight {
         machine: bool,
         axes: AxisWords,

@@ -4,49 +4,49 @@ use ngc_line_reader::Letter;
 use std::fmt;
 use thiserror::Error;
 
-/// A word that a code on the line, or in force, needs and that doesn't stand there.
+/// A word that is missing, and that a code on the line, or in force, needs.
 #[derive(Clone, Copy, PartialEq, Eq)]
 pub enum MissingWord {
-    /// X, Y or Z: any of them will do.
+    /// X, Y or Z: one of them is enough.
     Axis,
     /// The word of this letter.
     Letter(Letter),
 }
 
-/// Why a line's words make no block, 201 to 205, or a block has no effects, 206 to 210.
+/// The reasons why a line's words are no block, 201 to 205, or a block has no effects, 206 to 210.
 #[derive(Clone, Copy, PartialEq, Eq, Error)]
 pub enum ModalFault {
-    /// 201
+    /// Fault 201.
     #[error("two codes of one modal group")]
     GroupTwice,
-    /// 202
+    /// Fault 202.
     #[error("more than four M words")]
     TooManyMWords,
-    /// 203
+    /// Fault 203.
     #[error("a letter that may stand once is repeated")]
     LetterRepeated,
-    /// 204: the word's letter, G or M, and its value in millionths. It is the first from the left
-    /// that doesn't fit.
+    /// Fault 204: the word's letter, G or M, and its value in millionths. It is the first word from
+    /// the left that doesn't fit.
     #[error("the {} code is unknown", spelled(*.letter))]
     UnknownCode { letter: Letter, millionths: i64 },
-    /// 205: A, B, C, D, G38.2, G41, G42, G84, G87, G88.
+    /// Fault 205: A, B, C, D, G38.2, G41, G42, G84, G87, G88.
     #[error("the code or letter is left out of this language profile")]
     LeftOut,
-    /// 206
+    /// Fault 206.
     #[error("two codes on the line use the same word")]
     ClaimedTwice,
-    /// 207: the letter of a word that nothing uses, of several the first of X, Y, Z, I, J, K, R, P,
-    /// L, Q, H (our own).
+    /// Fault 207: the letter of a word that nothing uses. Of several it is the first of X, Y, Z, I,
+    /// J, K, R, P, L, Q, H (our own).
     #[error("no code on the line uses the word {}", spelled(*.0))]
     WithoutUse(Letter),
-    /// 208: of several words the first of P of G4, L and P of G10, H of G43, an axis word, F in
-    /// inverse time, and on a cycle's first line R, the bottom, P, Q (our own).
+    /// Fault 208: of several words the first of P of G4, L and P of G10, H of G43, an axis word, F
+    /// in inverse time, and on a cycle's first line R, the bottom, P, Q (our own).
     #[error("{0}, which a code on the line needs, is missing")]
     WordMissing(MissingWord),
-    /// 209
+    /// Fault 209.
     #[error("a word's value is out of its range")]
     OutOfRange,
-    /// 210
+    /// Fault 210.
     #[error("G53 stands without G0 or G1 in force")]
     WithoutStraightMotion,
 }
@@ -60,7 +60,7 @@ impl fmt::Display for MissingWord {
     }
 }
 
-// A letter is shown as in the fault's text.
+// Shows a letter as in the fault's text.
 impl fmt::Debug for ModalFault {
     fn fmt<W: fmt::Write>(&self, f: &mut fmt::Formatter<W>) -> fmt::Result {
         write!(f, "{self}")
@@ -70,7 +70,7 @@ impl fmt::Debug for ModalFault {
 impl ModalFault {
     ghost use Rattle.ngc_modal_state.specs.Faults.{number as number_of};
 
-    /// The fault's number.
+    /// Returns the fault's number.
     pub fn number(&self) -> u16
         ensures { result ≡ number_of self.now }
     {

@@ -6,7 +6,7 @@ use crate::code::{CycleCode, LengthCode, MotionMode, Once};
 impl CycleCode {
     ghost use Rattle.ngc_modal_state.specs.Kinds.{hole_dwells, hole_pecks, hole_number};
 
-    // Whether the hole takes P.
+    // Returns whether the hole takes P.
     fn dwells(self) -> bool
         ensures { result ≡ hole_dwells self }
     {
@@ -16,14 +16,14 @@ impl CycleCode {
         )
     }
 
-    // Whether the hole takes Q.
+    // Returns whether the hole takes Q.
     fn pecks(self) -> bool
         ensures { result ≡ hole_pecks self }
     {
         matches!(self, CycleCode::Peck)
     }
 
-    // The number of the hole's G code.
+    // Returns the number of the hole's G code.
     fn number(self) -> u8
         ensures { result ≡ hole_number self }
     {
@@ -97,7 +97,7 @@ impl MotionMode {
         }
     }
 
-    // Whether it is a cycle of another code than the motion mode before it.
+    // Returns whether it is a cycle of another code than the motion mode before it.
     pub(crate) fn begins_cycle(self, before: MotionMode) -> bool
         ensures { result ≡ begins_cycle before self }
     {

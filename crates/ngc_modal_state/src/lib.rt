@@ -1,4 +1,4 @@
-//! A line's words by modal groups, which code uses which letter, and what the line does in order of
+//! A line's words by modal groups, the codes that use them, and the line's effects in order of
 //! execution.
 #![tactic(auto)]
 

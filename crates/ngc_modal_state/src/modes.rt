@@ -3,7 +3,7 @@ ghost use Rattle.std.specs.Prelude.{◌≡◌};
 use crate::code::{MotionMode, PathControl};
 use ngc_fixed_length::{Distance, FeedMode, Plane, ReturnMode, Units};
 
-/// The modes in force that say what a line's words mean.
+/// The modes in force on which the meaning of a line's words depends.
 #[derive(Clone, Copy)]
 pub struct Modes {
     pub motion: MotionMode,
@@ -18,7 +18,7 @@ pub struct Modes {
 impl Modes {
     ghost use Rattle.ngc_modal_state.specs.Start.{start_modes};
 
-    /// The modes at a program's start: G80 G17 G21 G90 G94 G98 G64.
+    /// Returns the modes at a program's start: G80 G17 G21 G90 G94 G98 G64.
     pub fn start() -> Modes
         ensures { result ≡ start_modes }
     {

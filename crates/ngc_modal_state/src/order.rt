@@ -12,7 +12,7 @@ use crate::range::whole;
 use arrayvec::ArrayVec;
 use ngc_fixed_length::{FeedMode, System, Value};
 
-// Adds an item, where there is one.
+// Adds an item, if there is one.
 fn add<T: Copy>(list: &mut ArrayVec<T, 24>, item: Option<T>)
     requires { array_vec_len list.old < 24 }
     ensures items { list.new.items ≡ list.old.items ++ option_to_list item }
@@ -23,14 +23,14 @@ fn add<T: Copy>(list: &mut ArrayVec<T, 24>, item: Option<T>)
     }
 }
 
-// The effect, where the test holds.
+// Returns the effect, if it is present.
 fn mark(effect: Effect, stands: bool) -> Option<Effect>
     ensures { result ≡ marked effect stands }
 {
     if stands { Some(effect) } else { None }
 }
 
-// The coordinate system of a P word of G10.
+// Returns the coordinate system of a P word of G10.
 fn system_at(word: Option<Value>) -> Option<System>
     ensures { result ≡ system_by word }
 {
@@ -58,7 +58,7 @@ impl Block {
     ghost use Rattle.ngc_modal_state.specs.Use.{feed_mode_of, whole as whole_part};
     ghost use Rattle.ngc_modal_state.specs.declared.effect.Effect.TheVariants as acts;
 
-    // F in feed per minute, in the units that the line leaves in force.
+    // Returns the effect of F in feed per minute, in the units that the line leaves in force.
     fn feed_effect(&self, modes: &Modes) -> Option<Effect>
         ensures { result ≡ feed_effect (feed_mode_of modes.now self.now) modes.now self.now }
     {
@@ -71,7 +71,7 @@ impl Block {
         }
     }
 
-    // F of a motion in inverse time.
+    // Returns F of a motion in inverse time.
     fn inverse_feed(&self, modes: &Modes) -> Option<Value>
         ensures { result ≡ inverse_feed (feed_mode_of modes.now self.now) self.now.f }
     {
@@ -158,8 +158,8 @@ impl Block {
         }
     }
 
-    // The line's motion by a motion code, where it moves. What is added is written once, in its
-    // place: an effect is large.
+    // Adds the line's motion, if it moves. Each effect is written once, in its place, because an
+    // effect is large.
     fn add_move(
         &self,
         motion: MotionMode,
@@ -199,7 +199,7 @@ impl Block {
         }
     }
 
-    // Whether something stands that `add_first` adds behind F.
+    // Returns whether there is something that `add_first` adds after F.
     fn has_machine_words(&self) -> bool
         ensures { result ≡ (is_some self.now.s || is_some self.now.t || self.now.change_tool
             || is_some self.now.spindle || self.now.mist || self.now.flood || self.now.coolant_off
@@ -216,7 +216,7 @@ impl Block {
             || self.once.is_some()
     }
 
-    // Whether something stands that `add_first` adds.
+    // Returns whether there is something that `add_first` adds.
     fn has_first_words(&self) -> bool
         ensures { result ≡ (is_some self.now.feed_mode || is_some self.now.f
             || (is_some self.now.s || is_some self.now.t || self.now.change_tool
@@ -226,7 +226,7 @@ impl Block {
         self.feed_mode.is_some() || self.f.is_some() || self.has_machine_words()
     }
 
-    // Whether a code stands that `add_modes` adds.
+    // Returns whether there is a code that `add_modes` adds.
     fn has_modes(&self) -> bool
         ensures { result ≡ (is_some self.now.plane || is_some self.now.units || self.now.radius_off
             || is_some self.now.tool_length || is_some self.now.system || is_some self.now.path
@@ -242,7 +242,8 @@ impl Block {
             || self.return_mode.is_some()
     }
 
-    // Feed mode, F, S, T, M6, spindle, coolant, overrides and dwell, of which most lines have none.
+    // Adds feed mode, F, S, T, M6, spindle, coolant, overrides and dwell; most lines have none of
+    // them.
     fn add_first(&self, modes: &Modes, effects: &mut ArrayVec<Effect, 24>)
         requires { array_vec_len effects.old ≤ 13 }
         ensures items { effects.new.items ≡ effects.old.items
@@ -281,8 +282,8 @@ impl Block {
         add(effects, self.dwell_effect());
     }
 
-    // Plane, units, radius compensation, tool length, coordinate system, path control, distance and
-    // return mode.
+    // Adds plane, units, radius compensation, tool length, coordinate system, path control,
+    // distance and return mode.
     #[tactic(auto, unfolding(crate::specs::Effects::mode_effects))]
     fn add_modes(&self, effects: &mut ArrayVec<Effect, 24>)
         requires { array_vec_len effects.old ≤ 16 }
@@ -302,7 +303,7 @@ impl Block {
         add(effects, self.return_mode.map(Effect::Return));
     }
 
-    // What sets frames, the motion, and what stops.
+    // Adds what sets frames, the motion, and what stops.
     #[tactic(auto, unfolding(crate::specs::Effects::last_effects))]
     fn add_last(&self, modes: &Modes, effects: &mut ArrayVec<Effect, 24>)
         requires { array_vec_len effects.old ≤ 20 }
@@ -316,9 +317,9 @@ impl Block {
         add(effects, self.stopping.map(Effect::Stopping));
     }
 
-    /// What the line does, in order of execution, in place of what `effects` holds. Refused, by 210
-    /// or else the first of 206 to 209 that applies, where a word is claimed twice, without use,
-    /// missing or out of its range. After a fault what `effects` holds is unspecified.
+    /// Puts the line's effects in `effects`, in order of execution. It returns fault 210, or else
+    /// the first of 206 to 209 that applies: a word is claimed twice, without use, missing or out
+    /// of its range. After a fault the contents of `effects` are unspecified.
     #[tactic(auto, using(crate::proofs::Standing::in_parts))]
     pub fn effects(
         &self,

@@ -4,7 +4,7 @@ ghost use Rattle.ngc_modal_state.specs.Use.{negative, not_whole_from};
 
 use ngc_fixed_length::{MILLIONTHS, Value};
 
-// The whole number of units in a value's size.
+// Returns the whole number of units in a value's size.
 pub(crate) fn whole(value: Value) -> u32
     ensures { result ≡ whole_part value }
 {
@@ -17,7 +17,7 @@ fn is_whole(value: Value) -> bool
     value.millionths().unsigned_abs() % MILLIONTHS == 0
 }
 
-// Whether the word stands and its value is below 0.
+// Returns whether the word is present and its value is below 0.
 pub(crate) fn is_negative(word: Option<Value>) -> bool
     ensures { result ≡ negative word }
 {
@@ -27,7 +27,7 @@ pub(crate) fn is_negative(word: Option<Value>) -> bool
     }
 }
 
-// Whether the word stands and its value is no whole number from `low` to `high`.
+// Returns whether the word is present and its value is no whole number from `low` to `high`.
 pub(crate) fn is_not_whole_from(low: u32, high: u32, word: Option<Value>) -> bool
     ensures { result ≡ not_whole_from low high word }
 {

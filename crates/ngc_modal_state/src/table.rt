@@ -12,7 +12,7 @@ use crate::fault::ModalFault;
 use ngc_fixed_length::{Distance, FeedMode, Plane, ReturnMode, System, Turn, Units, Value};
 use ngc_line_reader::Letter;
 
-// A value in tenths, where it is a whole number of them.
+// Returns a value in tenths, if it is a whole number of them.
 fn tenths(value: Value) -> Option<u64>
     ensures { result ≡ tenths_of value }
 {
@@ -25,7 +25,7 @@ fn tenths(value: Value) -> Option<u64>
 }
 
 #[tactic(auto, unfolding(crate::specs::Codes::motion_codes))]
-// The motion code of a G word in tenths.
+// Returns the motion code of a G word in tenths.
 fn motion_code(tenths: u64) -> Option<Code>
     ensures { result ≡ at_number tenths motion_codes }
 {
@@ -47,7 +47,7 @@ fn motion_code(tenths: u64) -> Option<Code>
 }
 
 #[tactic(auto, unfolding(crate::specs::Codes::mode_codes))]
-// The code of a G word in tenths that sets another mode.
+// Returns the code of a G word in tenths that sets another mode.
 fn mode_code(tenths: u64) -> Option<Code>
     ensures { result ≡ at_number tenths mode_codes }
 {
@@ -84,7 +84,7 @@ fn mode_code(tenths: u64) -> Option<Code>
 }
 
 #[tactic(auto, unfolding(crate::specs::Codes::once_codes))]
-// The code of a G word in tenths that holds for its line alone.
+// Returns the nonmodal code of a G word in tenths.
 fn once_code(tenths: u64) -> Option<Code>
     ensures { result ≡ at_number tenths once_codes }
 {
@@ -103,7 +103,7 @@ fn once_code(tenths: u64) -> Option<Code>
     Some(Code::Once(once))
 }
 
-// The code of a G word in tenths.
+// Returns the code of a G word in tenths.
 #[tactic(auto, using(crate::proofs::TableLaws::found_in_turn))]
 fn g_code_at(tenths: u64) -> Option<Code>
     ensures { result ≡ at_number tenths g_codes }
@@ -117,7 +117,8 @@ fn g_code_at(tenths: u64) -> Option<Code>
     }
 }
 
-/// The code of a G word. Codes that are left out by name are told from unknown ones.
+/// Returns the code of a G word. It distinguishes codes that the language leaves out by name from
+/// unknown ones.
 #[tactic(auto, unfolding(crate::specs::Codes::g_code))]
 pub(crate) fn g_code(value: Value) -> Result<Code, ModalFault>
     ensures { result ≡ g_code_of value }
@@ -133,7 +134,8 @@ pub(crate) fn g_code(value: Value) -> Result<Code, ModalFault>
     }
 }
 
-/// The motion code of a G word, where it is one of the four of most lines: they need no look-up.
+/// Returns the motion code of a G word, if it is one of the four of most lines: they need no
+/// look-up.
 #[tactic(auto, unfolding(crate::specs::Codes::g_code, crate::specs::Codes::motion_codes))]
 pub(crate) fn common_motion(value: Value) -> Option<MotionMode>
     ensures { IfSome result (λ motion. g_code_of value ≡ Ok (codes.Motion motion)) }
@@ -148,7 +150,7 @@ pub(crate) fn common_motion(value: Value) -> Option<MotionMode>
 }
 
 #[tactic(auto, unfolding(crate::specs::Codes::m_codes))]
-// The code of an M word in tenths.
+// Returns the code of an M word in tenths.
 fn m_code_at(tenths: u64) -> Option<Code>
     ensures { result ≡ at_number tenths m_codes }
 {
@@ -171,7 +173,7 @@ fn m_code_at(tenths: u64) -> Option<Code>
 }
 
 #[tactic(auto, unfolding(crate::specs::Codes::m_code))]
-/// The code of an M word.
+/// Returns the code of an M word.
 pub(crate) fn m_code(value: Value) -> Result<Code, ModalFault>
     ensures { result ≡ m_code_of value }
 {

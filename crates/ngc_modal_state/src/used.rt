@@ -7,7 +7,7 @@ use crate::code::MotionMode;
 use crate::modes::Modes;
 use ngc_fixed_length::{FeedMode, Plane};
 
-// I, J and K of an arc are those of its plane.
+// Returns whether an arc uses I. An arc uses those of I, J and K that belong to its plane.
 pub(crate) fn uses_i(motion: MotionMode, plane: Plane) -> bool
     ensures { result ≡ i_used motion plane }
 {
@@ -37,43 +37,43 @@ impl Block {
     ghost use Rattle.ngc_modal_state.specs.Use.{feed_mode_of, in_force, user, uses_axes, uses_p};
     ghost use Rattle.ngc_modal_state.specs.Use.{uses_l};
 
-    // X, Y or Z.
+    // Returns whether X, Y or Z is present.
     pub(crate) fn has_axes(&self) -> bool
         ensures { result ≡ has_axes self.now }
     {
         self.axes.x.is_some() || self.axes.y.is_some() || self.axes.z.is_some()
     }
 
-    // I, J or K.
+    // Returns whether I, J or K is present.
     pub(crate) fn has_offsets(&self) -> bool
         ensures { result ≡ has_offsets self.now }
     {
         self.i.is_some() || self.j.is_some() || self.k.is_some()
     }
 
-    // I, J, K or R.
+    // Returns whether I, J, K or R is present.
     pub(crate) fn has_arc_words(&self) -> bool
         ensures { result ≡ has_arc_words self.now }
     {
         self.has_offsets() || self.r.is_some()
     }
 
-    // The plane that the line leaves in force.
+    // Returns the plane that the line leaves in force.
     pub(crate) fn plane_in_force(&self, modes: &Modes) -> Plane
         ensures { result ≡ plane_of modes.now self.now }
     {
         self.plane.unwrap_or(modes.plane)
     }
 
-    // The feed mode that the line leaves in force.
+    // Returns the feed mode that the line leaves in force.
     pub(crate) fn feed_mode_in_force(&self, modes: &Modes) -> FeedMode
         ensures { result ≡ feed_mode_of modes.now self.now }
     {
         self.feed_mode.unwrap_or(modes.feed_mode)
     }
 
-    // The motion code that is in force on the line: one that is kept is suspended by G10, G28, G30
-    // and G92.
+    // Returns the motion code in force on the line. G10, G28, G30 and G92 suspend one that is kept
+    // from an earlier line.
     pub(crate) fn motion_in_force(&self, modes: &Modes) -> MotionMode
         ensures { result ≡ in_force modes.now self.now }
     {
@@ -84,8 +84,8 @@ impl Block {
         }
     }
 
-    // The motion code that uses the line's letters: a kept one does so only with axis words, or as
-    // an arc.
+    // Returns the motion code that uses the line's letters. One that is kept from an earlier line
+    // does so only with axis words, or as an arc.
     pub(crate) fn user(&self, modes: &Modes) -> MotionMode
         ensures { result ≡ user modes.now self.now }
     {
@@ -97,7 +97,7 @@ impl Block {
         }
     }
 
-    // Whether a code takes the axis words, or moves by them.
+    // Returns whether a code takes the axis words, or moves by them.
     pub(crate) fn uses_axes(&self, modes: &Modes) -> bool
         ensures { result ≡ uses_axes modes.now self.now }
     {

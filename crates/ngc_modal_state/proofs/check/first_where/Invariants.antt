@@ -1,4 +1,4 @@
--- The rows left answer as all of them do.
+-- The remaining rows have the same answer as all of them.
 use Rattle.std.proofs.Common.{◌≡◌, drop}
 use Rattle.ngc_modal_state.specs.Tables.{first_where}
 use Rattle.ngc_modal_state.proofs.check.first_where.Given as goal

@@ -1,4 +1,4 @@
--- Each effect in its turn.
+-- Each effect in order.
 use Rattle.std.proofs.Common.{rules}
 use Rattle.ngc_modal_state.specs.Effects.{last_effects}
 use Rattle.ngc_modal_state.proofs.Standing.{adds, ends, mapped}

@@ -1,4 +1,4 @@
--- The words left make of the block what all of them make of none.
+-- The remaining words, added to the block, have the same result as all words added to none.
 use Rattle.std.proofs.Common.{◌≡◌, drop}
 use Rattle.ngc_line_reader.specs.Words.{pairs_of}
 use Rattle.ngc_modal_state.specs.Block.{with_words, no_words}
