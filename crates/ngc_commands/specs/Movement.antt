@@ -29,7 +29,7 @@ motion_indices i [] = []
 motion_indices i (Move m ∷ rest) = i ∷ motion_indices (i + 1) rest
 motion_indices i (_ ∷ rest) = motion_indices (i + 1) rest
 
--- each way begins where the one before it ends, the first at p
+-- each path begins at the end of the one before it, the first at p
 abbrev pub AreJoined : Point3 → List Way → Type 0
 AreJoined p [] = Unit {0}
 AreJoined p (w ∷ ws) = (start_of w ≡ p) × AreJoined (end_of w) ws

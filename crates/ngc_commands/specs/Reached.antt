@@ -1,4 +1,4 @@
--- The tool that is mounted and the place that is reached, between two commands. Our own.
+-- The mounted tool and the position of the axes, between two commands. Our own.
 use Rattle.std.specs.Prelude.{Bool, true, false, List, fold, None}
 use Rattle.ngc_machine.specs.Machine.{MachineFile}
 use Rattle.ngc_commands.specs.declared.command.Action.{Action}
@@ -22,6 +22,6 @@ after r (Move m) = record { tool = r.tool; place = end_of m.way }
 after r (Mount tool) = record { tool = tool; place = r.place }
 after r _ = r
 
--- and behind some more commands
+-- after some more commands
 abbrev pub after_all : Reached → List Command → Reached
 after_all r commands = fold after r (actions_of commands)

@@ -1,4 +1,4 @@
--- What holds of the commands of every program. Our own.
+-- Properties of the commands of every program. Our own.
 use Rattle.std.specs.Prelude.{◌≡◌, ℕ, List, [], ◌∷◌, ◌++◌}
 use Rattle.ngc_arc_geometry.specs.Radii.{HasEvenRadii}
 use Rattle.ngc_commands.specs.declared.command.Action.{Action}
@@ -11,8 +11,8 @@ use Rattle.ngc_commands.specs.declared.movement.Way.TheVariants.{Line, Arc}
 abbrev pub COMMAND_LIMIT : ℕ
 COMMAND_LIMIT = 1000000
 
--- an arc has some radius, at most a little over two metres, and the same at both ends but for a few
--- micrometres
+-- an arc's radius is above 0, at most a little over two metres, and the same at both ends to within
+-- a few micrometres
 abbrev pub IsEvenIfArc : Way → Type 0
 IsEvenIfArc (Line start end) = Unit {0}
 IsEvenIfArc (Arc arc) = HasEvenRadii arc

@@ -4,14 +4,14 @@ use crate::movement::Motion;
 use ngc_fixed_length::Turn;
 use ngc_machine::Tool;
 
-/// What the spindle does, with its speed in millionths of a turn a minute.
+/// The state of the spindle, with its speed in millionths of a turn per minute.
 #[derive(Clone, Copy)]
 pub enum SpindleState {
     Off,
     Turning(Turn, u64),
 }
 
-/// Which coolants flow.
+/// The coolants that are on.
 #[derive(Clone, Copy)]
 pub enum CoolantState {
     Off,
@@ -20,27 +20,27 @@ pub enum CoolantState {
     Both,
 }
 
-/// What a command does.
+/// The effect of a command.
 #[derive(Clone, Copy)]
 pub enum Action {
-    /// The axes move: G0 to G3, G28, G30.
+    /// G0 to G3, G28, G30: the axes move.
     Move(Motion),
-    /// Another tool is mounted, or none, and the spindle is off: M6.
+    /// M6: another tool is mounted, or none, and the spindle is off.
     Mount(Option<Tool>),
-    /// A wait of so many millionths of a second: G4.
+    /// G4: a dwell, in millionths of a second.
     Dwell(u64),
-    /// The spindle turns from now on, or stops: M3, M4, M5, S.
+    /// M3, M4, M5, S: from now on the spindle turns, or stops.
     Spindle(SpindleState),
-    /// These coolants flow from now on: M7, M8, M9.
+    /// M7, M8, M9: from now on these coolants are on.
     Coolant(CoolantState),
-    /// The panel's override counts from now on, or doesn't: M48, M49.
+    /// M48, M49: from now on the panel's override is on, or off.
     Override(bool),
-    /// A stop until the panel starts again: M0, M60.
+    /// M0, M60: a stop until the panel starts again.
     Stop,
-    /// A stop where the panel's stop switch is on: M1.
+    /// M1: a stop if the panel's optional stop switch is on.
     OptionalStop,
-    /// The program's end, with spindle and coolant off: M2, M30, or the second `%` of a marked
-    /// file.
+    /// M2, M30, or the second `%` of a marked file: the program's end, with spindle and coolant
+    /// off.
     End,
 }
 
@@ -55,7 +55,7 @@ impl Action {
     }
 }
 
-/// A command of the machine: what it does, with the line of the program that gives it, from 1.
+/// A command of the machine: its effect, and the program's line that it comes from, counted from 1.
 #[derive(Clone, Copy)]
 pub struct Command {
     pub line: u32,

@@ -3,42 +3,42 @@ ghost use Rattle.std.specs.Prelude.{◌≡◌};
 use ngc_arc_geometry::Arc;
 use ngc_fixed_length::Point3;
 
-/// The feed of a motion: nanometres a minute, or in inverse time how often a minute the motion
-/// could be made, in millionths.
+/// The feed of a motion: in nanometres per minute, or in inverse time as the number of times per
+/// minute that the motion could be made, in millionths.
 #[derive(Clone, Copy)]
 pub enum Feed {
     PerMinute(u64),
     Inverse(u64),
 }
 
-/// How fast a motion goes: at the greatest rate (G0, G28, G30), or at a feed (G1, G2, G3).
+/// The speed of a motion: the greatest rate (G0, G28, G30), or a feed (G1, G2, G3).
 #[derive(Clone, Copy)]
 pub enum Pace {
     Rapid,
     Feed(Feed),
 }
 
-/// The way of the axes, in nanometres of the machine before they are rounded to the grid: straight
-/// from start to end, or along an arc or a helix.
+/// The path of the axes, in nanometres of the machine before rounding to the grid: straight from
+/// start to end, or along an arc or a helix.
 #[derive(Clone, Copy, PartialEq, Eq)]
 pub enum Way {
     Line { start: Point3, end: Point3 },
     Arc(Arc),
 }
 
-/// A motion: the way of the axes, its pace, and whether the axes stop at its end.
+/// A motion: the path of the axes, its pace, and whether the axes stop at its end.
 #[derive(Clone, Copy)]
 pub struct Motion {
     pub way: Way,
     pub pace: Pace,
-    /// Under G61.1.
+    /// True under G61.1.
     pub stop: bool,
 }
 
 impl Way {
     ghost use Rattle.ngc_commands.specs.Movement.{end_of};
 
-    /// Where the way ends.
+    /// Returns the end of the path.
     pub fn end(&self) -> Point3
         ensures { result ≡ end_of self.now }
     {

@@ -7,7 +7,7 @@ use ngc_fixed_length::Point3;
 use ngc_machine::{Machine, Tool};
 use std::alloc::Allocator;
 
-/// The tool that is mounted and the place that the axes have reached, between two commands.
+/// The mounted tool and the position of the axes, between two commands.
 #[derive(Clone, Copy)]
 pub struct Reached {
     pub tool: Option<Tool>,
@@ -16,7 +16,7 @@ pub struct Reached {
 }
 
 impl Reached {
-    /// Returns what holds before the first command: at the machine's start, with no tool mounted.
+    /// Returns the state before the first command: at the machine's start, with no tool mounted.
     pub fn at_start<A: Allocator>(machine: &Machine<A>) -> Reached
         ensures { result ≡ at_start (file_of machine.now) }
     {
@@ -26,7 +26,7 @@ impl Reached {
         }
     }
 
-    /// Returns what holds after an action.
+    /// Returns the state after an action.
     pub fn after(self, action: &Action) -> Reached
         ensures { result ≡ after self action.now }
     {
@@ -43,7 +43,7 @@ impl Reached {
         }
     }
 
-    /// Returns what holds after some more commands.
+    /// Returns the state after some more commands.
     pub fn after_all(self, commands: &[Command]) -> Reached
         ensures { result ≡ after_all self commands.now }
     {
