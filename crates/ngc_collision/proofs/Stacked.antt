@@ -11,7 +11,7 @@ one_more : (solids : List Solid) (s : Solid) (rest : List bodies.Solid) → map 
 one_more [] s rest = refl
 one_more (t ∷ ts) s rest = ap (λ l. solid_of t ∷ l) (one_more ts s rest)
 
--- one more part is stacked
+-- one more part on top
 pub stacked-more : (whole : List bodies.Solid) (parts : List Part) (i : ℕ) (part : Part) (foot top : ℤ) (b : bodies.Solid) (solids more : List Solid)
     (s : Solid) →
     i < length parts → part ≡ get_or parts i part → top ≡ foot +ℤ part.length → solid_of s ≡ filled part foot b → more ≡ solids ++ s ∷ [] →

@@ -1,4 +1,4 @@
--- Places and boxes as the crate keeps them. Our own.
+-- Positions and boxes in the crate's own form. Our own.
 use Rattle.std.specs.Prelude.{ℕ, ◌≤◌, unsigned_abs}
 use Rattle.ngc_fixed_length.specs.declared.points.Point3.{Point3}
 use Rattle.ngc_collision.specs.Body as bodies
@@ -11,11 +11,11 @@ place_of p = record { x = p.x; y = p.y; z = p.z }
 abbrev pub solid_of : Solid → bodies.Solid
 solid_of s = record { low = place_of s.low; high = place_of s.high }
 
--- how far out 32 bits of steps reach, in nanometres
+-- the range of 32-bit numbers of steps, in nanometres
 abbrev pub REACH : ℕ
 REACH = 107374182400000
 
--- how far from the controlled point a part may begin
+-- the greatest distance from the controlled point to a part's foot
 abbrev pub FOOT_REACH : ℕ
 FOOT_REACH = 1000000000000
 

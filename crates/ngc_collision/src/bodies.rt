@@ -7,9 +7,9 @@ use ngc_fixed_length::GridBox;
 use ngc_machine::{Machine, Tool};
 use std::alloc::Allocator;
 
-/// The lowest fixture, counted from 0, that any part of the tool meets while its controlled point
-/// goes all over a box of grid points, and `None` where each part clears them all. Without a tool
-/// the controlled point itself is tested. A part may touch a fixture.
+/// Returns the lowest number of a fixture, counted from 0, that any part of the tool meets while
+/// its controlled point moves over a box of grid points. Returns `None` if each part clears all
+/// fixtures. Without a tool it tests the controlled point itself. A part may touch a fixture.
 pub fn first_met<A: Allocator>(
     machine: &Machine<A>,
     tool: Option<Tool>,

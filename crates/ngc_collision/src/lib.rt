@@ -1,4 +1,4 @@
-//! Bodies of tools, fixtures and travel limits: where a machine may stand.
+//! Bodies of tools, fixtures and travel limits: the positions that are safe for a machine.
 #![tactic(auto)]
 
 mod bodies;

@@ -10,7 +10,7 @@ use arrayvec::ArrayVec;
 use ngc_fixed_length::{GridBox, Nm, Point3, StepPos, nanometres_at};
 use ngc_machine::{Fixture, Part, Tool};
 
-/// A place of the machine, in nanometres.
+/// A position of the machine, in nanometres.
 #[derive(Clone, Copy, Default)]
 pub struct Place {
     pub x: i64,
@@ -25,7 +25,7 @@ pub struct Solid {
     pub high: Place,
 }
 
-/// A coordinate so much lower.
+/// Returns a coordinate lowered by `by`.
 fn lowered(coordinate: i64, by: Nm) -> i64
     requires { unsigned_abs coordinate ≤ REACH }
     ensures { result ≡ coordinate -ℤ by }
@@ -33,7 +33,7 @@ fn lowered(coordinate: i64, by: Nm) -> i64
     coordinate - by.nanometres()
 }
 
-/// A coordinate so much higher.
+/// Returns a coordinate raised by `by`.
 fn raised(coordinate: i64, by: Nm) -> i64
     requires { unsigned_abs coordinate ≤ 2 * REACH }
     ensures { result ≡ coordinate +ℤ by }
@@ -41,7 +41,7 @@ fn raised(coordinate: i64, by: Nm) -> i64
     coordinate + by.nanometres()
 }
 
-/// Where the foot of a part stands whose height above the controlled point is this.
+/// Returns the coordinate of a part's foot, from its height above the controlled point.
 fn foot_at(coordinate: i64, foot: i64) -> i64
     requires coordinate { unsigned_abs coordinate ≤ REACH }
     requires foot { unsigned_abs foot ≤ FOOT_REACH }
@@ -51,7 +51,7 @@ fn foot_at(coordinate: i64, foot: i64) -> i64
     coordinate + foot
 }
 
-/// Where the part on top of this one begins.
+/// Returns the foot of the part on top of this one.
 fn top_of(part: &Part, foot: i64) -> i64
     requires { unsigned_abs foot ≤ FOOT_REACH }
     ensures value { result ≡ foot +ℤ part.now.length }
@@ -61,7 +61,7 @@ fn top_of(part: &Part, foot: i64) -> i64
 }
 
 impl Place {
-    /// Where a grid point lies.
+    /// Returns the position of a grid point.
     pub(crate) fn of(step: Nm, point: &StepPos) -> Place
         requires { IsStep step }
         ensures value { place_of result ≡ nanometres_of step point.now }
@@ -74,7 +74,7 @@ impl Place {
         }
     }
 
-    /// A point as a place.
+    /// Returns a point as a position.
     pub fn at(point: &Point3) -> Place
         ensures { place_of result ≡ point.now }
     {
@@ -85,8 +85,8 @@ impl Place {
         }
     }
 
-    /// The lowest corner of a part whose foot stands so far above the controlled point, which is
-    /// here.
+    /// Returns the lowest corner of a part, with the controlled point here and the part's foot at
+    /// the height `foot` above it.
     fn lowest_filled(&self, part: &Part, foot: i64) -> Place
         requires here { IsReached self.now }
         requires foot { unsigned_abs foot ≤ FOOT_REACH }
@@ -101,8 +101,8 @@ impl Place {
         }
     }
 
-    /// The highest corner of a part whose foot stands so far above the controlled point, which is
-    /// here.
+    /// Returns the highest corner of a part, with the controlled point here and the part's foot at
+    /// the height `foot` above it.
     fn highest_filled(&self, part: &Part, foot: i64) -> Place
         requires here { IsReached self.now }
         requires foot { unsigned_abs foot ≤ FOOT_REACH }
@@ -117,7 +117,7 @@ impl Place {
         }
     }
 
-    /// On each axis this place is at most the other.
+    /// Returns whether this position is at most the other on each axis.
     pub(crate) fn is_below(&self, other: &Place) -> bool
         ensures { result ≡ is_below (place_of self.now) (place_of other.now) }
     {
@@ -126,7 +126,7 @@ impl Place {
 }
 
 impl Solid {
-    /// The box that a box of grid points spans.
+    /// Returns the box that a box of grid points spans.
     fn spanned(step: Nm, bounds: &GridBox) -> Solid
         requires { IsStep step }
         ensures value { solid_of result ≡ span step bounds.now }
@@ -139,8 +139,9 @@ impl Solid {
         }
     }
 
-    /// The box that a part fills, its foot so far above the controlled point, while that point goes
-    /// all over this box: the radius to each side, the length above the foot.
+    /// Returns the box that a part fills while the controlled point moves over this box. The part's
+    /// foot is at the height `foot` above that point. The box extends by the radius to each side,
+    /// and by the length above the foot.
     fn filled(&self, part: &Part, foot: i64) -> Solid
         requires low { IsReached self.now.low }
         requires high { IsReached self.now.high }
@@ -153,8 +154,8 @@ impl Solid {
         }
     }
 
-    /// The boxes that the parts of a tool fill while its controlled point goes all over this one:
-    /// each part stands on the one before.
+    /// Returns the boxes that the parts of a tool fill while its controlled point moves over this
+    /// one. Each part is on top of the one before.
     fn stacked(&self, tool: &Tool) -> ArrayVec<Solid, 4>
         requires low { IsReached self.now.low }
         requires high { IsReached self.now.high }
@@ -170,8 +171,8 @@ impl Solid {
         solids
     }
 
-    /// The boxes that the parts of a tool, or the controlled point alone, fill while that point
-    /// goes all over a box of grid points.
+    /// Returns the boxes that the parts of a tool fill while its controlled point moves over a box
+    /// of grid points. Without a tool it is the box of the controlled point.
     pub fn swept(step: Nm, tool: Option<Tool>, bounds: &GridBox) -> ArrayVec<Solid, 4>
         requires { IsStep step }
         ensures { bodies tool (span step bounds.now) ≡ map solid_of result.items }
@@ -187,7 +188,7 @@ impl Solid {
         }
     }
 
-    /// The box of a fixture.
+    /// Returns the box of a fixture.
     fn of_fixture(fixture: &Fixture) -> Solid
         ensures low { place_of result.low ≡ fixture.now.low }
         ensures high { place_of result.high ≡ fixture.now.high }
@@ -198,7 +199,7 @@ impl Solid {
         }
     }
 
-    /// On the X axis one lies beyond the other; they may touch.
+    /// Returns whether the boxes are apart along the X axis; they may touch.
     fn is_left_or_right(&self, other: &Solid) -> bool
         ensures { result
             ≡ (int_le self.now.high.x other.now.low.x || int_le other.now.high.x self.now.low.x) }
@@ -206,7 +207,7 @@ impl Solid {
         self.high.x <= other.low.x || other.high.x <= self.low.x
     }
 
-    /// On the Y axis one lies beyond the other; they may touch.
+    /// Returns whether the boxes are apart along the Y axis; they may touch.
     fn is_before_or_behind(&self, other: &Solid) -> bool
         ensures { result
             ≡ (int_le self.now.high.y other.now.low.y || int_le other.now.high.y self.now.low.y) }
@@ -214,7 +215,7 @@ impl Solid {
         self.high.y <= other.low.y || other.high.y <= self.low.y
     }
 
-    /// On the Z axis one lies beyond the other; they may touch.
+    /// Returns whether the boxes are apart along the Z axis; they may touch.
     fn is_above_or_below(&self, other: &Solid) -> bool
         ensures { result
             ≡ (int_le self.now.high.z other.now.low.z || int_le other.now.high.z self.now.low.z) }
@@ -222,7 +223,7 @@ impl Solid {
         self.high.z <= other.low.z || other.high.z <= self.low.z
     }
 
-    /// On some axis one lies beyond the other; they may touch.
+    /// Returns whether the box and the fixture are apart along some axis; they may touch.
     fn is_apart(&self, fixture: &Fixture) -> bool
         ensures { result ≡ are_apart fixture.now (solid_of self.now) }
     {
@@ -233,7 +234,7 @@ impl Solid {
     }
 }
 
-/// Each of these boxes lies beyond the fixture on some axis; they may touch.
+/// Returns whether each of these boxes and the fixture are apart along some axis; they may touch.
 pub(crate) fn are_apart(solids: &[Solid], fixture: &Fixture) -> bool
     ensures { result ≡ list_all (are_apart fixture.now) (map solid_of solids.now) }
 {

@@ -7,7 +7,7 @@ use ngc_fixed_length::GridBox;
 use ngc_machine::Machine;
 use std::alloc::Allocator;
 
-/// Whether a box of grid points lies within the travel limits, the limits included.
+/// Returns whether a box of grid points is within the travel limits, the limits included.
 pub fn is_in_travel<A: Allocator>(machine: &Machine<A>, bounds: &GridBox) -> bool
     ensures { result ≡ is_in_travel (file_of machine.now) bounds.now }
 {
