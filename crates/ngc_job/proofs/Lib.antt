@@ -1,2 +1,2 @@
--- What is kept of a program is its job.
+-- The stored values are the program's job.
 pub mod JobLaws

@@ -1,5 +1,5 @@
--- A program as it will run on a machine: its commands with block delete off, and on where that may
--- differ. Our own.
+-- A program that is ready to run on a machine: its commands with block delete off, and with block
+-- delete on if these may differ. Our own.
 use Rattle.std.specs.Prelude.{◌≡◌, ◌≤◌, List, length, Option, Some, None, is_some, Result, Ok, Err}
 use Rattle.std.specs.Prelude.{Bool, true, false}
 use Rattle.ngc_fixed_length.specs.declared.points.Point3.{Point3}
@@ -24,7 +24,7 @@ pub record JobData : Type 0 where
   pub off : List Command
   pub on : Option (List Command)
 
--- where nothing is kept for block delete on, the commands are those for off
+-- if nothing is stored for block delete on, the commands are those for off
 abbrev pub on_or : List Command → Option (List Command) → List Command
 on_or off None = off
 on_or off (Some on) = on
@@ -33,8 +33,8 @@ abbrev pub commands_in : Bool → JobData → List Command
 commands_in false j = j.off
 commands_in true j = on_or j.off j.on
 
--- a setting's commands: there are few enough, each motion begins where the one before it ends, each
--- arc has even radii, the last one is the end, and nothing comes after an end
+-- the commands of a setting: there are few enough, each motion begins at the end of the one before
+-- it, each arc has even radii, the last command is the end, and nothing comes after an end
 pub record AreCommands (start : Point3) (commands : List Command) : Type 0 where
   pub count : length commands ≤ COMMAND_LIMIT
   pub joined : AreJoined start (ways_of (actions_of commands))
@@ -42,7 +42,7 @@ pub record AreCommands (start : Point3) (commands : List Command) : Type 0 where
   pub ended : EndIsLast commands
   pub has_end : HasEnd commands
 
--- what holds of every job
+-- properties of every job
 pub record IsJob (j : JobData) : Type 0 where
   pub machine : IsMachine j.machine
   pub off_commands : AreCommands j.machine.start j.off
@@ -50,8 +50,8 @@ pub record IsJob (j : JobData) : Type 0 where
 
 -- ---- the job of a program
 
--- it keeps what it was given, its commands are what the program means, and those with block delete
--- on are kept apart exactly where a line begins with `/`
+-- it stores its inputs; its commands are the program's meaning; those with block delete on are
+-- stored separately if and only if a line begins with `/`
 pub record IsJobOf (program : Program) (setup : Setup) (j : JobData) : Type 0 where
   pub machine : j.machine ≡ setup.machine
   pub tools : j.tools ≡ setup.tools
@@ -59,15 +59,15 @@ pub record IsJobOf (program : Program) (setup : Setup) (j : JobData) : Type 0 wh
   pub on : meaning program setup true ≡ Ok (commands_in true j)
   pub apart : is_some j.on ≡ has_deleted program.lines
 
--- the program is refused at a setting, and at `On` only where it isn't at `Off`; that memory ran
--- out says nothing
+-- the program is refused at a setting, and at `On` only if it isn't refused at `Off`; nothing is
+-- stated if memory ran out
 abbrev pub IsRefusedAt : Program → Setup → Setting → ProgramFault → Type 0
 IsRefusedAt program setup s Memory = Unit {0}
 IsRefusedAt program setup Off (At line e) = meaning program setup false ≡ Err (At line e)
 IsRefusedAt program setup On (At line e) = (off : List Command) ×
     (meaning program setup false ≡ Ok off) × (meaning program setup true ≡ Err (At line e))
 
--- exactly: the job of the program, or why it has none
+-- the result is the job of the program, or why it has none
 abbrev pub GivesJob : {X : Type 0} → (X → JobData) → Program → Setup → Result X JobFault → Type 0
 GivesJob view program setup (Ok x) = IsJobOf program setup (view x)
 GivesJob view program setup (Err refusal) =

@@ -1,2 +1,2 @@
--- What a job is.
+-- The definition of a job.
 pub mod Job

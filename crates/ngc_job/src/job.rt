@@ -17,17 +17,18 @@ use std::alloc::Allocator;
 use std::marker::Model;
 use thiserror::Error;
 
-/// Why a program has no job: its fault, or want of memory, at a setting of block delete.
+/// The reason why a program has no job: its fault, or lack of memory, and the setting of block
+/// delete.
 #[derive(Clone, Copy, Debug, Error)]
 #[error("the program is refused: {fault}")]
 pub struct JobFault {
-    /// The setting at which it is refused: `On` only where it isn't refused at `Off`.
+    /// The setting at which it is refused: `On` only if it isn't refused at `Off`.
     pub setting: Setting,
     pub fault: ProgramFault,
 }
 
-/// A program as it will run on a machine with its tools: the machine, the tools, and the commands
-/// at both settings of block delete, which are kept twice only where a line begins with `/`.
+/// A program that is ready to run on a machine: the machine, its tools, and the commands at both
+/// settings of block delete. They are stored twice only if a line begins with `/`.
 #[derive(Drop)]
 pub struct Job<A: Allocator> {
     machine: Machine<A>,
@@ -60,10 +61,10 @@ impl<A: Allocator> Model for Job<A> {
 }
 
 impl<A: Allocator> Job<A> {
-    /// Executes a program on a machine with its tools: with block delete off, and then, where a
-    /// line begins with `/`, with block delete on. The first fault is answered, that of a program
-    /// that is refused (101, 102, 120, 131 to 133, 201 to 252) or want of memory (900); machine and
-    /// tools are dropped then.
+    /// Executes a program on a machine with its tools: with block delete off, and then, if a line
+    /// begins with `/`, with block delete on. It returns the first fault: a refusal of the program
+    /// (101, 102, 120, 131 to 133, 201 to 252), or lack of memory (900). It then drops machine and
+    /// tools.
     pub fn new(
         alloc: A,
         program: &Program<A>,
@@ -72,7 +73,7 @@ impl<A: Allocator> Job<A> {
     ) -> Result<Job<A>, JobFault>
     where
         A: Copy,
-        // Whatever the lines' readings are: each line has one, and only one.
+        // This holds for all readings of the lines: each line has exactly one.
         ensures { (rs : List Reading) → AreReadings (text_in program.now).lines rs →
             GivesJob (λ j. j) (program_said (text_in program.now) rs) (setup_of machine tools)
             result }
@@ -107,7 +108,7 @@ impl<A: Allocator> Job<A> {
         })
     }
 
-    /// The commands at a setting of block delete, in the order in which they are executed.
+    /// Returns the commands at a setting of block delete, in order of execution.
     pub fn commands(&self, block_delete: bool) -> &[Command]
         ensures { result.now ≡ commands_in block_delete self.now }
     {
@@ -117,24 +118,24 @@ impl<A: Allocator> Job<A> {
         }
     }
 
-    /// Whether a line of the program begins with `/`. Where none does, both settings of block
-    /// delete have the same commands.
+    /// Returns whether a line of the program begins with `/`. If none does, the commands are the
+    /// same at both settings of block delete.
     pub fn has_deleted_lines(&self) -> bool
         ensures { result ≡ is_some self.now.on }
     {
         self.on.is_some()
     }
 
-    /// The machine.
+    /// Returns the machine.
     pub fn machine(&self) -> &Machine<A>
         ensures value { file_of result.now ≡ self.now.machine }
-        // What holds of every job.
+        // This holds for every job.
         ensures job { IsJob self.now }
     {
         &self.machine
     }
 
-    /// The tools.
+    /// Returns the tools.
     pub fn tools(&self) -> &Tools<A>
         ensures { tools_of result.now ≡ self.now.tools }
     {

@@ -1,4 +1,5 @@
-//! Programs as they will run on a machine: executed once, and kept with the machine and its tools.
+//! Programs that are ready to run on a machine: executed once, and stored with the machine and its
+//! tools.
 #![tactic(auto)]
 
 mod job;
