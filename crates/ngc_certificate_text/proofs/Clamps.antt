@@ -1,4 +1,4 @@
--- Numbers that are read up to a bound, and where a field ends.
+-- Numbers that are read up to a bound, and the end of a field.
 use Rattle.std.proofs.Common.{◌≡◌, ℕ, zero, suc, ◌+◌, ◌<◌, ◌≤◌, min, ap, Bool, true, false, Option, Some, None, List, [], ◌∷◌, length, take, drop, get_or, refl}
 use Rattle.std.proofs.Common.{sym, ◌∙◌, arith}
 use Rattle.std.specs.Prelude.{◌==◌, pos, negsuc, position, nat_lt, if◌then◌else◌}

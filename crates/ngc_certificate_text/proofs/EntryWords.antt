@@ -1,4 +1,4 @@
--- What a line of version 2 says by its first word.
+-- The content of a line of version 2, by its first word.
 use Rattle.std.proofs.Common.{◌≡◌, ℕ, ◌<◌, ◌≤◌, ap, Bool, true, false, Option, Some, None, Result, Ok, Err, List, [], ◌∷◌, length, get_or, refl, sym, ◌∙◌}
 use Rattle.std.proofs.Common.{arith}
 use Rattle.std.specs.Prelude.{ℤ, pos, unsigned_abs, codes, map, ◌&&◌, nat_le, if◌then◌else◌}
@@ -80,7 +80,7 @@ entry_none : (c d f : Bool) (x y z w : Result EntryLine LineFlaw) → c ≡ fals
     w ≡ (if c then x else if d then y else if f then z else w)
 entry_none c d f x y z w e g h = rw (e, g, h) refl
 
--- a word's test, by what the two calls answered
+-- the test of a word, from the results of the two calls
 tested : (word name : List ℕ) (may m b c : Bool) → m ≡ may → b ≡ (bytes_eq word name && m) → b ≡ c → (bytes_eq word name && may) ≡ c
 tested word name may m b c e is h = ap (λ (x : Bool). bytes_eq word name && x) (sym e) ∙ sym is ∙ h
 

@@ -1,4 +1,4 @@
--- What small texts say.
+-- The contents of small texts.
 use Rattle.std.proofs.Common.{◌≡◌, ℕ, [], ◌∷◌, Ok, Err, refl}
 use Rattle.std.specs.Prelude.{pos, negsuc, codes}
 use Rattle.ngc_fixed_length.specs.declared.points.GridBox.{GridBox}
@@ -53,12 +53,12 @@ no_line_feed : certificate_said (codes "ngc-certificate 1\nsetting off 0\nsettin
 unfolding certificate_said form_said version_said settings_at setting_at line_at several end_said setting_said numbers_in number_in
 no_line_feed = refl
 
--- a byte behind the end
+-- a byte after the end
 more : certificate_said (codes "ngc-certificate 1\nsetting off 0\nsetting on 0\nend\n\n") ≡ Err (BadLine 5)
 unfolding certificate_said form_said version_said settings_at setting_at line_at several end_said setting_said numbers_in number_in
 more = refl
 
--- a count below zero is a number out of range, and a zero in front is spelled wrong
+-- a count below zero is a number out of range, and a leading zero is written wrong
 below_zero : certificate_said (codes "ngc-certificate 1\nsetting off -3\n") ≡ Err (OutOfRange 2)
 unfolding certificate_said form_said version_said settings_at setting_at line_at several setting_said numbers_in number_in
 below_zero = refl
@@ -67,12 +67,12 @@ zero_in_front : certificate_said (codes "ngc-certificate 1\nsetting off 03\n") �
 unfolding certificate_said form_said version_said settings_at setting_at line_at several setting_said numbers_in number_in
 zero_in_front = refl
 
--- within a line the spelling goes before the range
+-- within a line a wrong text takes precedence over a wrong range
 out_and_wrong : certificate_said (codes "ngc-certificate 1\nsetting off 1\nmotion 1000000 -0\n") ≡ Err (BadLine 3)
 unfolding certificate_said form_said version_said settings_at setting_at line_at several entry_at setting_said motion_said numbers_in number_in
 out_and_wrong = refl
 
--- a box that is inside out
+-- a box whose low corner is above its high corner
 inside_out : certificate_said (codes "ngc-certificate 1\nsetting off 1\nmotion 0 1\narc 0 0 1 0 0 0 0 0\n") ≡ Err (OutOfRange 4)
 unfolding certificate_said form_said version_said settings_at setting_at line_at several entry_at setting_said motion_said piece_said numbers_in number_in
 inside_out = refl
@@ -124,22 +124,22 @@ one_short : form_said
 unfolding form_said version_said joined_at line_at several items_at item_at counts_said entry_said piece_said end_said numbers_in number_in
 one_short = refl
 
--- a motion more than announced
+-- one motion more than declared
 one_more : form_said (codes "ngc-certificate 2\nmotions 0 1\noff 0 1\nline 65536 0 0 0 3 0 0\n") ≡ Err (BadLine 3)
 unfolding form_said version_said joined_at line_at several items_at item_at counts_said entry_said piece_said numbers_in number_in
 one_more = refl
 
--- an entry of `off` alone directly behind one of `on` alone
+-- an entry of `off` alone directly after one of `on` alone
 off_behind_on : form_said (codes "ngc-certificate 2\nmotions 2 2\non 0 1\nline 65536 0 0 0 3 0 0\noff 0 1\nline 65536 0 0 0 3 0 0\n") ≡ Err (BadLine 5)
 unfolding form_said version_said joined_at line_at several items_at item_at counts_said entry_said piece_said numbers_in number_in
 off_behind_on = refl
 
--- so too after the last motion of `on`
+-- the same after the last motion of `on`
 last_on_first : form_said (codes "ngc-certificate 2\nmotions 1 1\non 0 1\nline 65536 0 0 0 3 0 0\noff 0 1\nline 65536 0 0 0 3 0 0\nend\n") ≡ Err (BadLine 5)
 unfolding form_said version_said joined_at line_at several items_at item_at counts_said entry_said piece_said numbers_in number_in
 last_on_first = refl
 
--- what is wrong before it decides
+-- an earlier fault takes precedence
 out_before : form_said (codes "ngc-certificate 2\nmotions 1 1\non 0 1\nline 70000 0 0 0 3 0 0\noff 0 1\n") ≡ Err (OutOfRange 4)
 unfolding form_said version_said joined_at line_at several items_at item_at counts_said entry_said piece_said numbers_in number_in
 out_before = refl
@@ -158,7 +158,7 @@ counts_out : form_said (codes "ngc-certificate 2\nmotions 0 1000001\n") ≡ Err 
 unfolding form_said version_said joined_at line_at counts_said numbers_in number_in
 counts_out = refl
 
--- within a line the spelling goes before the range
+-- within a line a wrong text takes precedence over a wrong range
 out_and_used_up : form_said (codes "ngc-certificate 2\nmotions 0 1\nboth 0 1000000 1\n") ≡ Err (BadLine 3)
 unfolding form_said version_said joined_at line_at several items_at item_at counts_said entry_said numbers_in number_in
 out_and_used_up = refl

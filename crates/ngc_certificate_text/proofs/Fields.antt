@@ -20,7 +20,7 @@ joined_split s text = join_with_byte-slice_split s text
 
 -- ---- numbers in fields
 
--- how far numbers reach that are spelled
+-- the range of numbers that are written
 abbrev pub AreSmall : List ℤ → Type 0
 AreSmall [] = Unit {0}
 AreSmall (z ∷ zs) = (mag z < 2 ^ 63) × AreSmall zs
@@ -30,7 +30,7 @@ unfolding numbers_in
 numbers_in-signed [] h = refl
 numbers_in-signed (z ∷ zs) h = rw (number_in-signed z h.0, numbers_in-signed zs h.1) refl
 
--- the first number, and those behind it
+-- the first number, and those after it
 pub record FirstNumber (f : List ℕ) (fs : List (List ℕ)) (zs : List ℤ) : Type 0 where
   pub first : ℤ
   pub rest : List ℤ
@@ -65,7 +65,7 @@ pub numbers_lack : (s : ℕ) (zs : List ℤ) → s < 45 → AreSmall zs → list
 numbers_lack s [] low h = refl
 numbers_lack s (z ∷ zs) low h = rw (signed_lacks s z low h.0, numbers_lack s zs low h.1) refl
 
--- ---- words in front of numbers
+-- ---- words before numbers
 
 pub same_bytes : (xs : List ℕ) → bytes_eq xs xs ≡ true
 same_bytes xs = (bytes_eq-Decides xs xs).1 refl
@@ -81,7 +81,7 @@ word_first : (c : Bool) (o : Option (List ℤ)) (zs : List ℤ) → (if c then o
 word_first true o zs h = (refl, h)
 word_first false o zs h = absurd (cc h)
 
--- the fields behind the words
+-- the fields after the words
 pub record WordsFirst (ws fs : List (List ℕ)) (zs : List ℤ) : Type 0 where
   pub rest : List (List ℕ)
   pub is : fs ≡ ws ++ rest
@@ -95,7 +95,7 @@ words_first (w ∷ ws) (f ∷ fs) zs h =
     let more = words_first ws fs zs first.1 in
     record { rest = more.rest; is = ap (λ (x : List ℕ). x ∷ fs) (bytes_same f w first.0) ∙ ap (λ (l : List (List ℕ)). w ∷ l) more.is; numbers = more.numbers }
 
--- ---- whole lines: words, and numbers behind them
+-- ---- whole lines: words, and numbers after them
 
 -- a line of words and numbers
 abbrev pub line_text : List ℕ → List (List ℕ) → List ℤ → List ℕ
@@ -109,13 +109,13 @@ line_fields w ws zs words small =
     list_all-append (lacks 32) ws (map signed_decimal zs) ∙ and_from _ _ parts.1 (numbers_lack 32 zs (omega arith) small) in
     split_joined 32 w (ws ++ map signed_decimal zs) (and_from _ _ parts.0 behind)
 
--- the numbers of a line that is spelled so
+-- the numbers of a line with this text
 pub line_numbers : (w : List ℕ) (ws : List (List ℕ)) (zs : List ℤ) → list_all (lacks 32) (w ∷ ws) ≡ true → AreSmall zs
     → numbers_behind (w ∷ ws) (fields (line_text w ws zs)) ≡ Some zs
 line_numbers w ws zs words small =
     ap (numbers_behind (w ∷ ws)) (line_fields w ws zs words small) ∙ behind_words (w ∷ ws) (map signed_decimal zs) ∙ numbers_in-signed zs small
 
--- a line with these numbers behind the words is spelled so
+-- a line with these numbers after the words has this text
 pub line_spelled : (w : List ℕ) (ws : List (List ℕ)) (zs : List ℤ) (line : List ℕ) → numbers_behind (w ∷ ws) (fields line) ≡ Some zs → AreSmall zs →
     line ≡ line_text w ws zs
 line_spelled w ws zs line h small =

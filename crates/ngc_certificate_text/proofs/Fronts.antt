@@ -1,4 +1,4 @@
--- Text that is collected and written from the front, one text after another.
+-- Text that is collected and written from the front, one text at a time.
 use Rattle.std.proofs.Common.{◌≡◌, ◌+◌, ◌<◌, ℕ, List, ◌∷◌, [], ◌++◌, length, get_or, take, drop, flat_map, Option, Result, Ok, Err, ap, sym, subst, ◌∙◌}
 use Rattle.std.proofs.lemmas.List.{append_assoc, append-nil, flat_map_more, take_more, take-append-drop}
 use Rattle.std.proofs.lemmas.List.Concat.{flat_map-append}
@@ -18,7 +18,7 @@ front_more old mid new before between after text h k = (
   ap (λ l. l ++ text) h.2 ∙ append_assoc h.0 between text ∙ ap (λ l. h.0 ++ l) k.2 ∙ sym (append_assoc h.0 k.0 after),
 )
 
--- more of it is written, and a text is collected behind the rest
+-- more of it is written, and a text is added to the rest
 pub front_moved : (old mid new : Option (List ℕ)) (before between made text : List ℕ)
     → WritesFront old mid before between → WritesFront mid new between made → WritesFront old new (before ++ text) (made ++ text)
 front_moved old mid new before between made text h k = (
@@ -27,7 +27,7 @@ front_moved old mid new before between made text h k = (
   ap (λ l. l ++ text) (h.2 ∙ ap (λ l. h.0 ++ l) k.2 ∙ sym (append_assoc h.0 k.0 made)) ∙ append_assoc (h.0 ++ k.0) made text,
 )
 
--- one text and then a beginning of another
+-- one text and then a prefix of another
 pub front_stopped : (old mid new : Option (List ℕ)) (before between text : List ℕ)
     → WritesFront old mid before between → AppendsBeginning mid new (between ++ text) → AppendsBeginning old new (before ++ text)
 front_stopped old mid new before between text h k =
@@ -35,11 +35,11 @@ front_stopped old mid new before between text h k =
     ap (λ l. l ++ text) h.2 ∙ append_assoc h.0 between text ∙ ap (λ l. h.0 ++ l) (sym (append-nil (between ++ text))) in
     subst (λ (l : List ℕ). AppendsBeginning old new l) (sym whole) (begins_after old mid new h.0 (between ++ text) [] h.1 k)
 
--- more would have come
+-- more text would follow
 pub longer : (old new : Option (List ℕ)) (text more : List ℕ) → AppendsBeginning old new text → AppendsBeginning old new (text ++ more)
 longer old new text more k = (k.0, k.1 ++ more, ap (λ l. l ++ more) k.2 ∙ append_assoc k.0 k.1 more, k.3)
 
--- what is collected is written too
+-- the collected text is written too
 pub all_written : (old mid new : Option (List ℕ)) (text after : List ℕ) → WritesFront old mid text after → Appends mid new after → Appends old new text
 all_written old mid new text after h k = subst (λ (l : List ℕ). Appends old new l) (sym h.2) (appends_both old mid new h.0 after h.1 k)
 
@@ -49,7 +49,7 @@ beginning_written old mid new text after h k =
     subst (λ (l : List ℕ). AppendsBeginning old new l) (append-nil text)
     (front_stopped old mid new text after [] h (subst (λ (l : List ℕ). AppendsBeginning mid new l) (sym (append-nil after)) k))
 
--- ---- a line that is collected, and the texts behind it
+-- ---- a line that is collected, and the texts after it
 
 behind_line : (line rest made lined : List ℕ) → lined ≡ made ++ line → lined ++ rest ≡ made ++ (line ++ rest)
 behind_line line rest made lined is = ap (λ l. l ++ rest) is ∙ append_assoc made line rest

@@ -10,12 +10,12 @@ use Rattle.ngc_certificate_text.specs.Number.{number_in}
 use Rattle.ngc_certificate_text.specs.Lines.{numbers_in}
 use Rattle.ngc_certificate_text.specs.Clamped.{clamped, at_most_eight, numbers_left}
 
--- how many bytes are left at most
+-- the greatest number of remaining bytes
 abbrev pub room_left : Option (Bor (List ℕ)) → ℕ
 room_left None = 0
 room_left (Some text) = length text.now + 1
 
--- what these numbers and those to come come to
+-- the result of these numbers and those to come
 abbrev pub gathered : List ℤ → Option (List ℤ) → Option (List ℤ)
 gathered items None = None
 gathered items (Some zs) = if nat_le (length items + length zs) 8 then Some (items ++ map clamped zs) else None

@@ -1,4 +1,4 @@
--- A certificate that is given says the motions of its form.
+-- A certificate that is returned has the motions of its form.
 use Rattle.std.proofs.Common.{◌≡◌, ℕ, ap, subst, Option, Some, None, Result, Ok, Err, List, sym, ◌∙◌}
 use Rattle.std.specs.Prelude.{IfOk, IfSome}
 use Rattle.ngc_certificate_text.specs.declared.certificate.Certificate.{Certificate}

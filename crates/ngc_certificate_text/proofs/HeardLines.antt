@@ -1,4 +1,4 @@
--- What a line adds to what was heard.
+-- What a line adds to the part read so far.
 use Rattle.std.proofs.Common.{◌≡◌, ℕ, zero, suc, ◌+◌, ◌-◌, ◌≤◌, ap, subst, Bool, true, false, Result, Ok, Err, Option, Some, None, List, [], ◌∷◌, ◌++◌, length}
 use Rattle.std.proofs.Common.{refl, sym, ◌∙◌, append_assoc, length-append, arith}
 use Rattle.std.specs.Prelude.{nat_le, IsTrue}
@@ -82,7 +82,7 @@ gathers e (tell.Piece b p) h r is may fits =
     by_begun (begun_of e) (Some b) h (with_pieces (p ∷ r.pieces) r) (ap begun_of is.0) ∙ last_gathers b p h r (nat_le b.pieces_left 1) refl fits
 gathers e tell.End h r is may fits = by_begun (begun_of e) None h r (ap begun_of is)
 
--- a line's text in front of what is left behind it
+-- a line's text in front of the rest
 pub front_gathers : (e : Expected) (told : Told) (h : Heard) (before after : Left) → IsNext e told → MayExpect e h → IsFront told before after
     → made_with (gathered (begun_of e) h) before ≡ made_with (gathered (begun_of (behind_told told)) (heard told h)) after
 front_gathers e told h before (Ok r) is may f =
@@ -91,7 +91,7 @@ front_gathers e told h before (Ok r) is may f =
       all_said c = Ok c
 front_gathers e told h before (Err fault) is may f = ap (made_with (gathered (begun_of e) h)) f
 
--- ---- there is room for what comes
+-- ---- there is capacity for the rest
 
 entries_may : (b : Bool) (left : EntriesLeft) (s : Setting) → may_come (next_of_entries b left) s ≤ left_at (Joined left) s
 entries_may true left s = omega arith
@@ -219,7 +219,7 @@ taken_item b p h is = record {
   pieces = good_more h.pieces p is.begun.good is.good;
 }
 
--- a line that is told leads on
+-- a line that is read leads to the next
 pub told_leads : (a b : Expected) (told : Told) (h more : Heard) (before after : Left) → IsNext a told → MayExpect a h → b ≡ behind_told told →
     more ≡ heard told h → IsFront told before after
     → made_with (gathered (begun_of a) h) before ≡ made_with (gathered (begun_of b) more) after

@@ -1,4 +1,4 @@
--- Motions that are held, one by one and when one more comes.
+-- Stored motions: each of them, and one more.
 use Rattle.std.proofs.Common.{◌≡◌, ◌+◌, ◌-◌, ◌<◌, ◌≤◌, ℕ, List, [], ◌∷◌, ◌++◌, length, get_or, take, drop, refl, ap, arith, sym, subst, ◌∙◌}
 use Rattle.std.specs.List.{All}
 use Rattle.std.proofs.lemmas.List.{map-append, get_or-map, length-append, length-map, take_all, take-append-le, drop-append-le, drop_at, length-drop}
@@ -15,7 +15,7 @@ is_entry pieces held i d are h =
     let inside : i < length (held_entries pieces held) = omega (arith, length-map held (held_entry pieces)) in
     subst IsEntry (get_or-map (held_entry pieces) held i d (held_entry pieces d) h) (are.entries.each i (held_entry pieces d) inside)
 
--- a motion doesn't see the pieces that come behind
+-- the following pieces do not change a motion
 kept_entry : (pieces more : List Piece) (h : Held) → IsWithin pieces h → held_entry (pieces ++ more) h ≡ held_entry pieces h
 kept_entry pieces more h within =
     let begins : h.start ≤ length pieces = omega arith in
@@ -33,7 +33,7 @@ kept pieces more (h ∷ held) within =
     ap (λ e. e ∷ held_entries (pieces ++ more) held) (kept_entry pieces more h (All-head (IsWithin pieces) h held within))
     ∙ ap (λ es. held_entry pieces h ∷ es) (kept pieces more held (All-tail (IsWithin pieces) h held within))
 
--- the motion that comes
+-- the motion that is added
 abbrev added : List Piece → List Piece → ℕ → Held
 added pieces more index = record { index = index; count = length more; start = length pieces }
 
@@ -70,7 +70,7 @@ held_with pieces more held index are room entry = record {
   });
 }
 
--- the two vectors once the motion's pieces and then the motion are pushed
+-- the two vectors after the motion's pieces and then the motion are pushed
 pub one_more : (pieces more all_pieces : List Piece) (held all_held : List Held) (index start : ℕ) → AreHeld pieces held
     → start ≡ length pieces → all_pieces ≡ pieces ++ more → all_held ≡ held ++ (record { index = index; count = length more; start = start }) ∷ []
     → held_entries all_pieces all_held ≡ held_entries pieces held ++ (record { index = index; pieces = more }) ∷ []
@@ -81,7 +81,7 @@ pub still_held : (pieces more all_pieces : List Piece) (held all_held : List Hel
     → length (held_entries pieces held) < MOTION_LIMIT → IsEntry (record { index = index; pieces = more }) → AreHeld all_pieces all_held
 still_held pieces more all_pieces held all_held index start are begins ps hs room entry = rw (hs, ps, begins) (held_with pieces more held index are room entry)
 
--- the pieces that a motion's place in the list of pieces gives
+-- the pieces at a motion's range in the list of pieces
 pub its_pieces : (pieces all : List Piece) (held : List Held) (i count : ℕ) (h : Held) → AreHeld pieces held → i < length (held_entries pieces held)
     → h ≡ get_or held i h → count ≡ h.count → all ≡ pieces
     → IsEntry (record { index = h.index; pieces = take (h.start + count - h.start) (drop h.start all) })

@@ -1,4 +1,4 @@
--- Motions of both settings, of which the first are joined, as entries.
+-- Motions of both settings, with the first ones joined, as entries.
 use Rattle.std.proofs.Common.{◌≡◌, ℕ, zero, suc, ◌-◌, ◌≤◌, Bool, true, false, List, [], ◌∷◌, ◌++◌, map, length, ap, refl, sym, ◌∙◌, subst, arith}
 use Rattle.std.specs.Prelude.{replicate, nat_le}
 use Rattle.std.specs.List.{All}
@@ -87,7 +87,7 @@ expanded_joined (suc n) (a ∷ off) (b ∷ on) have =
     ap (onto_motions (Both a.index b.index) a.pieces) (expanded_joined n off on (behind_first n a b off on have))
     ∙ ap (λ (ps : List Piece). data_of (a ∷ off) (entry_with b.index ps ∷ on)) (have.same 0 (omega arith))
 
--- the kinds, and the motions of both settings, make these entries
+-- the kinds, and the motions of both settings, give these entries
 pub joined_whole : (n m k : ℕ) (off on : List Entry) (ks : List EntryKind) → HaveSamePieces n off on → m ≡ length off → k ≡ length on → ks ≡ kinds_first n m k
     → Pushed ks off on (joined_first n off on)
 joined_whole n m k off on ks have off_count on_count e =

@@ -1,4 +1,4 @@
--- Entries that are left, one by one.
+-- The remaining entries, one by one.
 use Rattle.std.proofs.Common.{◌≡◌, ℕ, zero, suc, ◌+◌, ◌-◌, ◌≤◌, ap, subst, Bool, true, false, Option, Some, None, Result, Ok, Err, List, [], ◌∷◌, ◌++◌, length}
 use Rattle.std.proofs.Common.{refl, sym, ◌∙◌, append_assoc, arith}
 use Rattle.std.specs.Prelude.{ℤ, pos, unsigned_abs, codes, decimal, map, ◌==◌, ◌&&◌, ◌||◌, not, nat_le, nat_lt, if◌then◌else◌}
@@ -48,14 +48,14 @@ entry_numbers (On j) n = pos j ∷ pos n ∷ []
 unfoldable pub entry_text : Indices → ℕ → List ℕ
 entry_text i n = line_text (entry_word i) [] (entry_numbers i n)
 
--- an entry of so many pieces that may come, with its numbers in range
+-- an entry of n pieces that may be next, with its numbers in range
 pub record IsTaken (left : EntriesLeft) (i : Indices) (n : ℕ) : Type 0 where
   pub may : may_come left i ≡ true
   pub indices : good_indices i ≡ true
   pub some : 1 ≤ n
   pub few : n ≤ PIECE_LIMIT
 
--- what the fields say
+-- the content of the fields
 record EntryFields (left : EntriesLeft) (word : List ℕ) (fs : List (List ℕ)) (i : Indices) (n : ℕ) : Type 0 where
   kind : word ≡ entry_word i
   numbers : numbers_in fs ≡ Some (entry_numbers i n)
@@ -175,7 +175,7 @@ pub entry_spelled : (left : EntriesLeft) (line : List ℕ) (e : EntryLine) → e
 unfolding entry_said
 entry_spelled left line e h = spelled_entry left line (fields line) e refl h
 
--- ---- its spelling says it
+-- ---- its text has this content
 
 entry_words : (i : Indices) → AreWords (entry_word i) []
 unfolding behind_length
@@ -292,15 +292,15 @@ counts_spelled line c h =
       on = k.on;
     }
 
--- ---- fewer entries are left
+-- ---- fewer entries remain
 
--- one of `on` alone may come where some are left
+-- one of `on` alone may be next if some remain
 pub some_on : (left : EntriesLeft) (j : ℕ) → may_come left (On j) ≡ true → 1 ≤ left.on
 some_on left j h = grind (arith, nat_tests)
 
--- ---- no entry may come
+-- ---- no entry may be next
 
--- after one of `on` alone motions of `off` are left, and none of `on`
+-- after one of `on` alone, motions of `off` remain and none of `on`
 pub record IsClosed (left : EntriesLeft) : Type 0 where
   pub behind_on : left.behind_on ≡ true
   pub off : (left.off == 0) ≡ false
@@ -329,7 +329,7 @@ no_entry left (word ∷ fs) both off on =
     ∙ none_tried (bytes_eq word (codes "off")) (may_come left (Off 0)) (of_setting Off (two_counts (numbers_in fs))) _ off
     ∙ none_tried (bytes_eq word (codes "on")) (may_come left (On 0)) (of_setting On (two_counts (numbers_in fs))) (Err Spelling) on
 
--- every line is wrong then
+-- every line is then wrong
 pub closed_line : (left : EntriesLeft) (line : List ℕ) → IsClosed left → entry_said left line ≡ Err Spelling
 unfolding entry_said
 closed_line left line h =
@@ -367,14 +367,14 @@ no_more left h = none_of left.off left.on h where
 pub no_entries : (left : EntriesLeft) → none_left left ≡ true → total left ≡ 0
 no_entries left h = let p = and_parts (left.off == 0) (left.on == 0) h in grind (arith, nat_tests, p.0, p.1)
 
--- ---- entries are read till none is left
+-- ---- entries are read until none remains
 
 pub items_none : (n : ℕ) (left : EntriesLeft) (p : Place) → none_left left ≡ true → items_at n left p ≡ Ok ([], p)
 unfolding items_at
 items_none zero left p h = refl
 items_none (suc n) left p h = rw h refl
 
--- an entry, and those behind it
+-- an entry, and those after it
 abbrev pub entries_by : ℕ → EntriesLeft → Said Item → Said (List Item)
 entries_by n left t = then_read t (λ x q. then_read (items_at n (left_behind left x.indices) q) (λ xs r. Ok (x ∷ xs, r)))
 
@@ -386,7 +386,7 @@ pub more_items : (n : ℕ) (left : EntriesLeft) (p : Place) → 1 ≤ total left
 unfolding items_at
 more_items n left p h = rw (some_entries left h) refl
 
--- what stands behind an entry's line
+-- what follows an entry's line
 unfoldable pub pieces_behind : EntryLine → Place → Said Item
 pieces_behind e q = then_read (several (line_at piece_said) e.pieces q) (λ pieces r. Ok (record { indices = e.indices; pieces = pieces }, r))
 

@@ -1,56 +1,57 @@
--- Motions that are held, one by one and when one more comes.
+-- Stored motions: each of them, and one more.
 pub mod HeldMotions
--- Entries and the motions that they are, one by one and when one more comes.
+-- Entries and their motions: each of them, and one more.
 pub mod OrderOfEntries
--- Motions of both settings, of which the first are joined, as entries.
+-- Motions of both settings, with the first ones joined, as entries.
 pub mod JoinedFirst
--- Entries that are left, one by one.
+-- The remaining entries, one by one.
 pub mod LeftEntries
--- Lines that are taken.
+-- Lines that are read.
 pub mod Taken
--- The spelling of a number with a sign says it, and what says a number is its spelling.
+-- The text of a signed number reads as the number, and a text that reads as a number is the
+-- number's text.
 pub mod SignedNumbers
 -- Fields between single spaces, and lines between line feeds.
 pub mod Fields
--- A line's spelling says what it spells, and what says it is its spelling.
+-- A line's text has the line's content, and a text with this content is the line's text.
 pub mod SpelledLines
--- The text of a certificate says it, and what says a certificate is its text.
+-- The text of a certificate reads as it, and a text that reads as a certificate is its text.
 pub mod SpelledTexts
--- Numbers that are read up to a bound, and where a field ends.
+-- Numbers that are read up to a bound, and the end of a field.
 pub mod Clamps
 -- The numbers of fields, gathered one by one.
 pub mod Gathers
--- Steps that are held in 32 bits, and boxes of six of them.
+-- Steps that fit in 32 bits, and boxes of six of them.
 pub mod StepLemmas
--- What numbers say, put together from their parts.
+-- The contents of numbers, put together from their parts.
 pub mod PartLemmas
--- Numbers out of every range may be taken for one another.
+-- A number out of every range may be replaced with another such number.
 pub mod NumbersOutOfRange
--- What a line says by its first words.
+-- The content of a line, by its first words.
 pub mod WordLemmas
--- What a line of version 2 says by its first word.
+-- The content of a line of version 2, by its first word.
 pub mod EntryWords
 -- The first line feed among bytes.
 pub mod Feeds
--- What a line comes to, in front of what is left behind it.
+-- The result of a line in front of the rest.
 pub mod LinesAhead
--- What a line tells is what comes of the text.
+-- The content of a line is the result of the text.
 pub mod NextLines
--- What a line adds to what was heard.
+-- What a line adds to the part read so far.
 pub mod HeardLines
--- Bytes that are parted into lines.
+-- Bytes that are split into lines.
 pub mod Parting
--- What more bytes do to the lines so far.
+-- The effect of more bytes on the lines so far.
 pub mod LinesSoFar
--- What a piece does to a reader of a certificate's text.
+-- The effect of a piece on a reader of a certificate's text.
 pub mod Pieces
--- A certificate that is given says the motions of its form.
+-- A certificate that is returned has the motions of its form.
 pub mod GivenCertificates
--- What small texts say.
+-- The contents of small texts.
 mod Examples
--- Text that is collected and written from the front, one text after another.
+-- Text that is collected and written from the front, one text at a time.
 pub mod Fronts
--- A certificate's text, as far as its parts are collected and written.
+-- A certificate's text, while its parts are collected and written.
 pub mod Spelled
--- The entries of a certificate in memory, one after another.
+-- The entries of a certificate in memory, in order.
 pub mod Passing

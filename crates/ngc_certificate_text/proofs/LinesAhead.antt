@@ -1,4 +1,4 @@
--- What a line comes to, in front of what is left behind it.
+-- The result of a line in front of the rest.
 use Rattle.std.proofs.Common.{◌≡◌, ℕ, zero, suc, ◌-◌, ◌≤◌, ◌<◌, ap, subst, Bool, true, false, Result, Ok, Err, List, [], ◌∷◌, length, refl, sym, ◌∙◌, arith}
 use Rattle.std.specs.Prelude.{nat_le, codes, IfOk, map, Option, Some, None, ◌+◌, ◌++◌, if◌then◌else◌}
 use Rattle.std.specs.Str.{bytes_eq}
@@ -44,7 +44,7 @@ short_line n h = grind (arith, nat_tests)
 too_long : (n : ℕ) → 256 < n → nat_le n 256 ≡ false
 too_long n h = grind (arith, nat_tests)
 
--- a place in front of these lines
+-- a position before these lines
 abbrev pub at : ℕ → List (List ℕ) → Place
 at number left = record { number = number; left = left }
 
@@ -72,7 +72,7 @@ line_missing said number [] h = refl
 line_missing said number (last ∷ []) h = refl
 line_missing said number (line ∷ after ∷ left) h = rw (too_long (length line) h) refl
 
--- ---- what is made of a part
+-- ---- a value made from a part
 
 with_both : {X Y Z : Type 0} (f : Y → Z) (g : X → Y) (t : Said X) → said_with f (said_with g t) ≡ said_with (λ x. f (g x)) t
 with_both f g (Ok r) = refl
@@ -105,18 +105,18 @@ motion_first : (s : Setting) (x : Entry) (t : Said (List Entry))
 motion_first s x (Ok r) = first_motion s x r.0 (behind s r.1)
 motion_first s x (Err fault) = refl
 
--- a motion that this line begins, of those that come
+-- a motion that begins with this line, one of those that remain
 abbrev pub begun : MotionsLeft → EntryLine → BegunMotion
 begun left e = record { indices = e.indices; pieces_left = e.pieces; behind = motions_behind left e.indices }
 
--- a motion of a setting that has so many behind it
+-- a motion of a setting with k motions after it
 abbrev begun_at : Setting → MotionLine → ℕ → BegunMotion
 begun_at s m k = record { indices = index_at s m.index; pieces_left = m.pieces; behind = Parted s k }
 
 abbrev pub line_of : Setting → MotionLine → EntryLine
 line_of s m = record { indices = index_at s m.index; pieces = m.pieces }
 
--- what is left is this motion, with the pieces that come
+-- the rest is this motion, with the following pieces
 abbrev pub with_begun : Indices → Rest → Rest
 with_begun i r = with_items (record { indices = i; pieces = r.pieces } ∷ []) r
 
@@ -162,7 +162,7 @@ parted_stops s k p fault e = motions_are s k p ∙ ap (more_of s k) e
 
 -- ---- the line of an entry
 
--- the entries behind one
+-- the entries after one
 entries_then : ℕ → EntriesLeft → Item → Place → Said Rest
 entries_then k left x q = then_read (then_read (items_at k left q) (λ xs r. Ok (x ∷ xs, r))) (λ more q. said_with (with_items more) (end_ahead q))
 
@@ -180,7 +180,7 @@ entries_first k left x q h =
     ∙ ap (λ (t : Said (List Item)). said_with (with_items (x ∷ [])) (then_read t (λ more q. said_with (with_items more) (end_ahead q))))
     (items_enough k left q h)
 
--- the pieces of an entry, and the entries behind it
+-- the pieces of an entry, and the entries after it
 pieces_then : ℕ → EntriesLeft → EntryLine → Said (List Piece) → Said Rest
 pieces_then k left e t =
     then_read (then_read (then_read t (λ pieces r. Ok (record { indices = e.indices; pieces = pieces }, r)))
@@ -196,7 +196,7 @@ entry_begun k left e (Ok r) h =
     ∙ begun_first e.indices r.0 (motions_ahead (Joined (left_behind left e.indices)) r.1)
 entry_begun k left e (Err fault) h = refl
 
--- an entry's line, and what stands behind it
+-- an entry's line, and what follows it
 entry_then : ℕ → EntriesLeft → Said EntryLine → Said Rest
 entry_then k left t =
     then_read (then_read
@@ -259,7 +259,7 @@ motion_on (Parted s (suc k)) number e line after lines some short h =
     subst P r.2 (subst Q one (parted_on s k number r.0 line after lines short r.1))
 motion_on (Joined left) number e line after lines some short h = joined_on left (total left - 1) number e line after lines (omega (arith, some)) short h
 
--- no motion's line says anything
+-- no motion's line has any content
 abbrev MotionMissing : MotionsLeft → Place → CertificateFault → Type 0
 MotionMissing (Parted s n) p fault = line_at motion_said p ≡ Err fault
 MotionMissing (Joined left) p fault = line_at (entry_said left) p ≡ Err fault
@@ -308,7 +308,7 @@ counts_stop p fault e = counts_are p ∙ ap counts_then e ∙ counts_stop_is fau
 
 -- ---- the line of a piece
 
--- what is left is this piece, and what comes
+-- the rest is this piece, and what follows
 abbrev pub with_piece : Piece → Rest → Rest
 with_piece x r = with_pieces (x ∷ r.pieces) r
 
@@ -351,7 +351,7 @@ pieces_stop : (b : BegunMotion) (k : ℕ) (p : Place) (fault : CertificateFault)
     pieces_ahead b p ≡ Err fault
 pieces_stop b k p fault some e = pieces_are b k p some ∙ ap (pieces_of b k) e
 
--- ---- what is read whole
+-- ---- what is read completely
 
 none_begun : (more : List Item) (t : Said Rest) → said_with (with_pieces []) (said_with (with_items more) t) ≡ said_with (with_items more) t
 none_begun more (Ok r) = refl
@@ -449,7 +449,7 @@ pub one_left : (x : List ℕ) → 0 < length x → nothing_in (x ∷ []) ≡ fal
 one_left [] h = absurd (omega (arith, h))
 one_left (b ∷ x) h = refl
 
--- the line that comes next has no line feed, or is too long, or comes behind the end
+-- the next line has no line feed, or is too long, or is after the end
 pub wrong_said : (e : Expected) (number : ℕ) (lines : List (List ℕ)) → IsSound e number → HasNoLine lines
     → (e ≡ next.Nothing → nothing_in lines ≡ false) → left_from e number lines ≡ Err (wrong_line e number)
 unfolding ahead
@@ -466,7 +466,7 @@ wrong_said (next.Piece b) number lines sound h never =
 wrong_said next.End number lines sound h never = ap ended (end_stops (at number lines) (faults.BadLine number) (line_missing end_said number lines h))
 wrong_said next.Nothing number lines sound h never = rw (never refl) refl
 
--- ---- no line may come next
+-- ---- no line may be next
 
 closed_line_in : (entries : EntriesLeft) (number : ℕ) (lines : List (List ℕ)) → go_on (Joined entries) ≡ false →
     MotionMissing (Joined entries) (at number lines) (faults.BadLine number)
@@ -485,7 +485,7 @@ closed_motions (Joined entries) number lines h =
     motions_stop (Joined entries) (at number lines) (faults.BadLine number) (closed_some entries (closed_left entries h))
     (closed_line_in entries number lines h)
 
--- whatever comes, the next line is wrong
+-- whatever follows, the next line is wrong
 pub closed_said : (e : Expected) (number : ℕ) (lines : List (List ℕ)) → is_open e ≡ false → left_from e number lines ≡ Err (wrong_line e number)
 unfolding ahead
 closed_said next.Header number lines h = absurd (cc h)
@@ -528,7 +528,7 @@ module _ (number : ℕ) (line after : List ℕ) (left : List (List ℕ)) (flaw :
   unfolding ahead
   end_flawed e = ap ended (end_stops (at number (line ∷ after ∷ left)) (fault_at number flaw) (line_flawed end_said number line after left flaw short e))
 
--- ---- a line that is right
+-- ---- a correct line
 
 by_nothing : {X Y : Type 0} (f : X → Y) (x : X) (number : ℕ) (b : Bool) →
     (if b then Ok (f x) else Err (faults.BadLine number)) ≡ made_with f (if b then Ok x else Err (faults.BadLine number))
@@ -580,7 +580,7 @@ module _ (line after : List ℕ) (left : List (List ℕ)) where
       ap ended (piece_on b (b.pieces_left - 1) number x line after left (omega (arith, some)) short e)
       ∙ ended_with (with_piece x) (pieces_ahead (record b { pieces_left = b.pieces_left - 1 }) (at (next_number number) (after ∷ left)))
 
-  -- a motion that has no piece left has ended
+  -- a motion without remaining pieces has ended
   pub last_read : (number : ℕ) (b : BegunMotion) → b.pieces_left ≡ 0 → left_from (next.Piece b) number left ≡ left_from (next_of_motions b.behind) number left
   unfolding ahead
   last_read number b none = ap ended (pieces_done b (at number left) none) ∙ ap ended (sym (next_ahead b.behind (at number left)))
@@ -590,13 +590,13 @@ module _ (line after : List ℕ) (left : List (List ℕ)) where
   unfolding ahead
   end_read number short e = ap ended (end_on number line after left short e)
 
--- what stands behind the first line
+-- what follows the first line
 pub header_ended : (v : Version) (number : ℕ) (lines : List (List ℕ)) → ended (behind_header v (at number lines)) ≡ left_from (behind_version v) number lines
 unfolding ahead behind_header
 header_ended One number lines = refl
 header_ended Two number lines = refl
 
--- ---- behind the end
+-- ---- after the end
 
 pub nothing_said : (e : Expected) (number : ℕ) (lines : List (List ℕ)) → e ≡ next.Nothing → nothing_in lines ≡ false
     → left_from e number lines ≡ Err (wrong_line e number)
@@ -611,7 +611,7 @@ pub ended_said : (e : Expected) (number : ℕ) → e ≡ next.Nothing → left_f
 unfolding ahead
 ended_said e number h = ap (λ (x : Expected). left_from x number ([] ∷ [])) h
 
--- ---- what is left
+-- ---- the rest
 
 several_length : {X : Type 0} (said : Place → Said X) (n : ℕ) (p : Place) → IfOk (several said n p) (λ y. length y.0 ≡ n)
 unfolding several
@@ -646,19 +646,19 @@ pieces_fit b p = by_several (several (line_at piece_said) b.pieces_left p) (seve
   by_several (Ok r) h = by_rest r.0 (motions_ahead b.behind r.1) h
   by_several (Err fault) h = tt
 
--- as many pieces are left as the motion's line announced
+-- as many pieces remain as the motion's line declared
 pub left_fits : (b : BegunMotion) (number : ℕ) (lines : List (List ℕ)) → IfOk (left_from (next.Piece b) number lines) (λ r. length r.pieces ≡ b.pieces_left)
 unfolding ahead
 left_fits b number lines = if_ended (λ r. length r.pieces ≡ b.pieces_left) (pieces_ahead b (at number lines)) (pieces_fit b (at number lines))
 
--- behind the last line nothing comes
+-- after the last line there is nothing
 pub left_none : (number : ℕ) (lines : List (List ℕ)) → IfOk (left_from next.Nothing number lines) (λ r. r.items ≡ [])
 unfolding ahead
 left_none number lines = if_ended (λ r. r.items ≡ []) (Ok (nothing_left, at number lines)) refl
 
 -- ---- the whole text
 
--- what a text of these lines says
+-- the content of a text of these lines
 abbrev pub said_in : List (List ℕ) → Result Form CertificateFault
 said_in lines = ended (then_read (header_in lines) form_at)
 

@@ -1,4 +1,4 @@
--- What more bytes do to the lines so far.
+-- The effect of more bytes on the lines so far.
 use Rattle.std.proofs.Common.{◌≡◌, ℕ, ◌+◌, ◌<◌, ◌≤◌, ap, subst, Bool, true, false, Result, Ok, Err, List, [], ◌∷◌, ◌++◌, length, refl, sym, ◌∙◌, append_assoc}
 use Rattle.std.proofs.Common.{length-append, arith}
 use Rattle.std.specs.Prelude.{OnOk, ◌==◌}
@@ -16,7 +16,7 @@ use Rattle.ngc_certificate_text.proofs.LinesAhead.{HasNoLine, wrong_said, nothin
 use Rattle.ngc_certificate_text.proofs.Parting.{feedless_both, split_onto, only_line}
 use Rattle.ngc_certificate_text.proofs.SpelledTexts.{some_lines}
 
--- a line that tells from and to equal rests
+-- a line between equal rests
 tells_is : (result : Result Told CertificateFault) (a b c d : Left) → a ≡ b → (OnOk result (c ≡ d)) → Tells result b d → Tells result a c
 tells_is (Ok told) a b c d e f h =
     let P : Left → Type 0 = λ l. IsFront told a l in
@@ -45,7 +45,7 @@ empty_items b xs e f = no_items xs (sym e ∙ f)
 pub some_items : (b : Bool) (xs : List ℕ) → b ≡ (length xs == 0) → b ≡ false → 0 < length xs
 some_items b xs e f = let g : (length xs == 0) ≡ false = sym e ∙ f in grind (arith, nat_tests)
 
--- what is left in these lines
+-- the rest, from these lines
 abbrev from : CertificateLines → List (List ℕ) → Left
 from r lines = left_from r.next.expected r.next.number lines
 
@@ -67,7 +67,7 @@ long_cut lines r bytes rest fault parts reading feedless long is =
     ap (λ (b : List ℕ). from r (lines b)) (sym (append_assoc r.cut.items bytes rest)) ∙ ap (from r) g.split ∙ said
     ∙ ap (λ (f : CertificateFault). refused f) (sym is)
 
--- a line that is taken, in front of others
+-- a line that is read, before others
 taken : (lines : List ℕ → List (List ℕ)) (old new : CertificateLines) (line rest : List ℕ) (result : Result Told CertificateFault) → PartsLines lines
     → ((next : List ℕ) (left : List (List ℕ)) → Tells result (from old (line ∷ next ∷ left)) (from new (next ∷ left)))
     → Tells result (from old (line ∷ lines rest)) (from new (lines rest))
@@ -75,7 +75,7 @@ taken lines old new line rest result parts step =
     let g = parts.some rest in
     subst (λ (ls : List (List ℕ)). Tells result (from old (line ∷ ls)) (from new ls)) (sym g.split) (step g.more g.behind)
 
--- a line that lies whole in a piece
+-- a line that is whole in a piece
 pub whole_line : (lines : List ℕ → List (List ℕ)) (old new : CertificateLines) (result : Result Told CertificateFault) (bytes rest : List ℕ) →
     PartsLines lines → old.cut.items ≡ [] → new.cut.items ≡ []
     → is_feedless bytes ≡ true → ((next : List ℕ) (left : List (List ℕ)) → Tells result (from old (bytes ∷ next ∷ left)) (from new (next ∷ left)))
@@ -94,7 +94,7 @@ emptied : (lines : List ℕ → List (List ℕ)) (result : Result Told Certifica
 emptied lines (Ok done) r rest h = ap (λ (c : List ℕ). from r (lines (c ++ rest))) h
 emptied lines (Err fault) r rest h = tt
 
--- a line that an earlier piece began
+-- a line that began in an earlier piece
 pub cut_line : (lines : List ℕ → List (List ℕ)) (old mid new : CertificateLines) (result : Result Told CertificateFault) (bytes rest : List ℕ) →
     PartsLines lines → is_feedless mid.cut.items ≡ true
     → left_by lines old (bytes ++ (10 ∷ rest)) ≡ left_by lines mid (10 ∷ rest) → OnOk result (new.cut.items ≡ [])
@@ -106,7 +106,7 @@ cut_line lines old mid new result bytes rest parts feedless same empty step =
     (emptied lines result new rest empty)
     (taken lines mid new mid.cut.items rest result parts step)
 
--- a line that bytes begin with
+-- a line at the front of some bytes
 pub split_first : (lines : List ℕ → List (List ℕ)) (old new : CertificateLines) (result : Result Told CertificateFault) (bytes line behind rest : List ℕ) →
     bytes ≡ line ++ (10 ∷ behind)
     → Tells result (left_by lines old (line ++ (10 ∷ (behind ++ rest)))) (left_by lines new (behind ++ rest))
@@ -118,7 +118,7 @@ split_first lines old new result bytes line behind rest parts h =
 
 -- ---- the end
 
--- no line comes any more
+-- after the last line
 pub all_read : (r : CertificateLines) → r.next.expected ≡ next.Nothing → r.cut.items ≡ [] → left_by lines_of r [] ≡ Ok nothing_left
 all_read r e none = ap (λ (c : List ℕ). from r (lines_of (c ++ []))) none ∙ ended_said r.next.expected r.next.number e
 
@@ -130,7 +130,7 @@ last_line r fault reading some is =
     let said = wrong_said r.next.expected r.next.number (r.cut.items ∷ []) reading.sound tt (λ e. one_left r.cut.items (some e)) in
     ap (from r) (only_line r.cut.items reading.feedless) ∙ said ∙ ap (λ (f : CertificateFault). refused f) (sym is)
 
--- bytes behind the end are a fault, whatever follows
+-- bytes after the end are a fault, whatever follows
 too_far : (r : CertificateLines) (rest : List ℕ) → r.next.expected ≡ next.Nothing → 0 < length r.cut.items → IsReading r →
     left_by lines_of r rest ≡ Err (wrong_line r.next.expected r.next.number)
 too_far r rest e some reading =

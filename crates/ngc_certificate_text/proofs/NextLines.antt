@@ -1,4 +1,4 @@
--- What a line tells is what comes of the text.
+-- The content of a line is the result of the text.
 use Rattle.std.proofs.Common.{◌≡◌, ℕ, zero, suc, ◌+◌, ◌-◌, ◌*◌, ◌≤◌, ap, subst, Bool, true, false, Result, Ok, Err, List, [], ◌∷◌, length, refl, sym, ◌∙◌}
 use Rattle.std.proofs.Common.{arith}
 use Rattle.std.specs.Prelude.{nat_le, nat_lt, not, ◌&&◌, ◌==◌, IfOk}
@@ -39,7 +39,7 @@ use Rattle.ngc_certificate_text.proofs.LinesAhead.{last_read, end_read, left_fit
 use Rattle.ngc_certificate_text.proofs.LeftEntries.{total, entry_spelled, counts_spelled, least, some_on}
 use Rattle.ngc_certificate_text.proofs.SpelledLines.{setting_spelled, motion_spelled, piece_spelled}
 
--- ---- a line that is right
+-- ---- a correct line
 
 told_ok : {X : Type 0} (f : X → Told) (r : Result X LineFlaw) (told : Told) → told_with f r ≡ Ok told → (x : X) × (r ≡ Ok x) × (told ≡ f x)
 told_ok f (Ok x) told h = (x, refl, sym (cc h))
@@ -51,7 +51,7 @@ told_err {X} f (Err other) flaw h = let same : other ≡ flaw = cc h in ap (λ (
   flawed : LineFlaw → Result X LineFlaw
   flawed l = Err l
 
--- a line's text in front of what is left behind it
+-- a line's text in front of the rest
 front : (told : Told) (before after : Left) → before ≡ made_with (onto told) after → IfOk after (λ r. Fits told r) → IsFront told before after
 front told before (Ok r) e fits = (e, fits)
 front told before (Err fault) e fits = e
@@ -78,7 +78,7 @@ piece_ahead b true number lines some e =
     last_read [] [] lines number (record b { pieces_left = b.pieces_left - 1 }) none
 piece_ahead b false number lines some e = refl
 
--- where the rest of the text after a line has a fault, the text from that line on has it
+-- if the rest of the text after a line has a fault, the text from that line on has it
 stopped : (told : Told) (before after : Left) (fault : CertificateFault) → IsFront told before after → after ≡ Err fault → before ≡ Err fault
 stopped told before (Ok r) fault front e = absurd (cc e)
 stopped told before (Err other) fault front e = front ∙ e
@@ -190,7 +190,7 @@ module _ (number : ℕ) (line after : List ℕ) (left : List (List ℕ)) (short 
         refused : CertificateFault → Left
         refused fault = Err fault
 
-  -- a line that none may follow
+  -- a line after which none may follow
   pub told_closed : (e : Expected) (told : Told) → IsSound e number → told_by e line ≡ Ok told → is_open (behind_told told) ≡ false →
       left_from e number (line ∷ after ∷ left) ≡ Err (wrong_line (behind_told told) (next_number number))
   told_closed e told sound h closed = stopped told
@@ -200,7 +200,7 @@ module _ (number : ℕ) (line after : List ℕ) (left : List (List ℕ)) (short 
 
 -- ---- what is expected
 
--- the motion of a setting is one of those that come
+-- the motion of a setting is one of the remaining ones
 counted_parted : (s : Setting) (n index : ℕ) (t : Setting) → 1 ≤ n → left_at (Parted s n) t ≡ left_at (Parted s (n - 1)) t + taken_at (index_at s index) t
 counted_parted Off n index Off some = omega (arith, some)
 counted_parted Off n index On some = omega arith
@@ -274,7 +274,7 @@ told_next next.End number line told sound h =
     subst P (sym r.2) refl
 told_next next.Nothing number line told sound h = absurd (cc h)
 
--- ---- what comes next is sound
+-- ---- the next line is sound
 
 entries_some : (left : EntriesLeft) → none_left left ≡ false → 1 ≤ total left
 entries_some left h = some_of left.off left.on h where
@@ -291,7 +291,7 @@ motion_sound m number some going = record {
   going = going;
 }
 
--- where neither the first line nor a motion nor a piece comes next
+-- if the next line is neither the first line nor a motion nor a piece
 other_sound : (e : Expected) (number : ℕ) → (e ≡ next.Header → ⊥) → ((m : MotionsLeft) → e ≡ next.Motion m → ⊥) →
     ((b : BegunMotion) → e ≡ next.Piece b → ⊥) → is_open e ≡ true
     → IsSound e number
@@ -345,7 +345,7 @@ told_sound e (tell.Motion b) number h going = piece_sound b number h.some
 told_sound e (tell.Piece b p) number h going = behind_sound b (nat_le b.pieces_left 1) number refl going
 told_sound e tell.End number h going = other_sound next.Nothing number (λ x. cc x) (λ m x. cc x) (λ b x. cc x) refl
 
--- ---- fewer lines may come
+-- ---- fewer lines may follow
 
 entries_lines : (b : Bool) (left : EntriesLeft) → lines_ahead (next_of_entries b left) ≤ lines_of_motions (Joined left)
 entries_lines true left = omega arith
@@ -367,7 +367,7 @@ one_taken (of.Both i j) = omega arith
 one_taken (of.Off i) = omega arith
 one_taken (of.On j) = omega arith
 
--- a motion's lines are among those that may come
+-- a motion's lines are among those that may follow
 fewer_lines : (m : MotionsLeft) (i : Indices) → HaveSome m → ((s : Setting) → left_at m s ≡ left_at (motions_behind m i) s + taken_at i s)
     → lines_of_motions (motions_behind m i) + 65536 ≤ lines_of_motions m
 fewer_lines (Parted s n) i some counted = omega (arith, some)

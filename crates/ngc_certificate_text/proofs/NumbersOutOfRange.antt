@@ -1,4 +1,4 @@
--- Numbers out of every range may be taken for one another.
+-- A number out of every range may be replaced with another such number.
 use Rattle.std.proofs.Common.{◌≡◌, ◌⊎◌, inl, inr, ℕ, suc, ◌<◌, ◌≤◌, min, ap, Bool, true, false, Option, Some, None, Result, Ok, Err, List, [], ◌∷◌, length}
 use Rattle.std.proofs.Common.{refl, sym, ◌∙◌, arith}
 use Rattle.std.specs.Prelude.{ℤ, pos, negsuc, unsigned_abs, map, ◌&&◌, nat_le, if◌then◌else◌}
@@ -16,7 +16,7 @@ use Rattle.ngc_certificate_text.specs.Certificate.{WHOLE, INDEX_LIMIT, PIECE_LIM
 use Rattle.ngc_certificate_text.specs.Clamped.{clamped, at_most_eight}
 use Rattle.ngc_certificate_text.specs.Lines.{is_count, is_step, are_steps, good_box, ranged, boxed, one_count, two_counts, line_piece, arc_piece}
 
--- a test that is the same of a clamped number, and where it holds the number isn't clamped
+-- a test whose result is the same for a clamped number; if it holds, the number is not clamped
 pub record Same (test : ℤ → Bool) (z : ℤ) : Type 0 where
   pub same : test (clamped z) ≡ test z
   pub kept : test z ≡ true → clamped z ≡ z
@@ -88,7 +88,7 @@ same_within : (z : ℤ) → Same (is_within CUT_LIMIT) z
 same_within (pos n) = within_pos n (at_most n 10000000000)
 same_within (negsuc n) = within_neg n (at_most n 9999999999)
 
--- ---- what is ranged
+-- ---- values with a range
 
 pub ranged_same : {X : Type 0} (g h : Bool) (x y : X) → g ≡ h → (h ≡ true → x ≡ y) → ranged g x ≡ ranged h y
 ranged_same {X} g true x y e k = rw e (ap ok (k refl)) where

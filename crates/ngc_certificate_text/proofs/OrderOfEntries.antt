@@ -1,4 +1,4 @@
--- Entries and the motions that they are, one by one and when one more comes.
+-- Entries and their motions: each of them, and one more.
 use Rattle.std.proofs.Common.{◌≡◌, ℕ, ◌<◌, length, arith, ap, subst, List, [], ◌∷◌, ◌++◌, refl, sym, ◌∙◌}
 use Rattle.std.proofs.lemmas.List.{append-nil, map-append}
 use Rattle.ngc_certificate_text.specs.declared.certificate.EntryKind.{EntryKind}
@@ -19,7 +19,7 @@ item indices pieces = record { indices = indices; pieces = pieces }
 abbrev pub data_of : List Entry → List Entry → CertificateData
 data_of off on = record { off = off; on = on }
 
--- ---- the entries are those that their motions and kinds make
+-- ---- the entries are those of their motions and kinds
 
 abbrev made : List Item → List Item
 made items = items_in (kinds_of items) ((expansion items).off) ((expansion items).on)
@@ -48,7 +48,7 @@ pub both_expanded : (xs ys : List Item) →
 both_expanded [] ys = refl
 both_expanded (x ∷ xs) ys = ap (onto_motions x.indices x.pieces) (both_expanded xs ys) ∙ onto_both x.indices x.pieces (expansion xs) (expansion ys)
 
--- the motions that stand behind others
+-- the motions after others
 abbrev pub behind_motions : Indices → List Piece → CertificateData → CertificateData
 behind_motions i ps c = both_motions c (expansion (item i ps ∷ []))
 
@@ -106,7 +106,7 @@ pushed_on ks more off on late x j ps slice whole is same e f =
     (pushed ks more off on off late (On j) slice whole e
     (ap (data_of off) f ∙ ap (λ (l : List Entry). data_of l (on ++ (entry_with j slice ∷ []))) (sym (append-nil off)))))
 
--- there is room for an entry's motion
+-- there is capacity for an entry's motion
 pub room_for : (ks : List EntryKind) (off on : List Entry) (x y : Indices) (s : Setting) → IsWhole ks off on → x ≡ y → taken_at y s ≡ 1 →
     HasRoomFor x (items_in ks off on)
     → length (entries_at s (data_of off on)) < MOTION_LIMIT

@@ -1,4 +1,4 @@
--- What numbers say, put together from their parts.
+-- The contents of numbers, put together from their parts.
 use Rattle.std.proofs.Common.{◌≡◌, ℕ, ◌-◌, ◌<◌, ◌≤◌, ap, Bool, true, false, Some, Result, Err, List, [], ◌∷◌, length, take, drop, get_or, refl, ◌∙◌, arith}
 use Rattle.std.specs.Prelude.{ℤ, pos, unsigned_abs, ◌&&◌}
 use Rattle.std.proofs.lemmas.List.{take_rest}

@@ -1,4 +1,4 @@
--- Bytes that are parted into lines.
+-- Bytes that are split into lines.
 use Rattle.std.proofs.Common.{◌≡◌, ℕ, ◌<◌, ◌≤◌, ap, Bool, true, false, List, [], ◌∷◌, ◌++◌, length, refl, sym, ◌∙◌, append_assoc, length-append, arith}
 use Rattle.std.specs.Prelude.{◌==◌, not, nat_le}
 use Rattle.std.proofs.lemmas.Bool.{and_from, and_parts}
@@ -16,7 +16,7 @@ other_byte b h = grind (arith, nat_tests)
 pub feedless_both : (xs ys : List ℕ) → is_feedless xs ≡ true → is_feedless ys ≡ true → is_feedless (xs ++ ys) ≡ true
 feedless_both xs ys h k = list_all-append (λ b. not (b == 10)) xs ys ∙ and_from _ _ h k
 
--- bytes without a line feed go in front of the first line
+-- bytes without a line feed are put in front of the first line
 pub split_onto : (cur tail x : List ℕ) (xs : List (List ℕ)) → is_feedless cur ≡ true → lines_of tail ≡ x ∷ xs → lines_of (cur ++ tail) ≡ (cur ++ x) ∷ xs
 split_onto [] tail x xs h e = e
 split_onto (b ∷ cur) tail x xs h e =
@@ -35,7 +35,7 @@ some_line bytes = let s = some_lines bytes in record { more = s.0; behind = s.1;
 pub lines_parts : PartsLines lines_of
 lines_parts = record { ends = split_here 10; long = line_goes_on; some = some_line }
 
--- ---- what stands
+-- ---- what is certain
 
 firm_on : (begun line rest : List ℕ) → is_feedless line ≡ true → firm_behind begun (line ++ rest) ≡ firm_behind (begun ++ line) rest
 firm_on begun [] rest h = ap (λ (l : List ℕ). firm_behind l rest) (sym (append-nil begun))
@@ -51,7 +51,7 @@ firm_ends rest line more h =
     ap (λ (bytes : List ℕ). lines_of (bytes ++ rest)) (firm_here line more h) ∙ ap lines_of (append_assoc line (10 ∷ firm more) rest)
     ∙ split_here 10 line (firm more ++ rest) h
 
--- a line that is too long stands
+-- a line that is too long is certain
 record Stands (line rest : List ℕ) : Type 0 where
   more : List ℕ
   firm : firm_behind line rest ≡ line ++ more
@@ -79,7 +79,7 @@ firm_goes_on rest line more h long =
 pub firm_parts : (rest : List ℕ) → PartsLines (firm_lines rest)
 firm_parts rest = record { ends = firm_ends rest; long = firm_goes_on rest; some = λ bytes. some_line (firm bytes ++ rest) }
 
--- a line that has begun, and isn't too long yet, does not stand
+-- a line that has begun, and is not too long yet, is not certain
 pub firm_begun : (line : List ℕ) → is_feedless line ≡ true → length line ≤ 256 → firm line ≡ []
 firm_begun line h short =
     let e : nat_le (length line) 256 ≡ true = grind (arith, nat_tests) in

@@ -1,4 +1,4 @@
--- The entries of a certificate in memory, one after another.
+-- The entries of a certificate in memory, in order.
 use Rattle.std.proofs.Common.{◌≡◌, ℕ, zero, suc, ◌+◌, ◌<◌, ◌≤◌, ap, subst, List, [], ◌∷◌, length, get_or, drop, refl, sym, ◌∙◌, arith}
 use Rattle.std.specs.Prelude.{◌++◌, map, flat_map, codes, decimal}
 use Rattle.std.proofs.lemmas.List.{length-drop, length-map}
@@ -13,7 +13,7 @@ use Rattle.ngc_certificate_text.specs.Order.{kind_of, kinds_of, items_in, IsWhol
 use Rattle.ngc_certificate_text.specs.Spelling.{item_lines, counts_line, joined_spelling}
 use Rattle.ngc_certificate_text.specs.Places.{MayPass, entry_there, behind_entry}
 
--- what a list goes on with
+-- the next element of a list
 record First {X : Type 0} (xs : List X) (i : ℕ) (x : X) (more : List X) : Type 0 where
   inside : i < length xs
   is : (d : X) → get_or xs i d ≡ x
@@ -35,7 +35,7 @@ map_drop f (suc n) (x ∷ xs) = map_drop f n xs
 abbrev none : Entry
 none = record { index = 0; pieces = [] }
 
--- an entry comes at a place, and the rest behind it
+-- an entry at a position, and the rest after it
 pub record Turn (kinds : List EntryKind) (off on : List Entry) (items : List Item) (k : ℕ) (kind : EntryKind) (p : Passed) : Type 0 where
   pub may : MayPass kind p (length off) (length on)
   pub inside : k < length items
@@ -137,7 +137,7 @@ counts_same : (kinds : List EntryKind) (off on : List Entry) (m n : ℕ) → IsW
 counts_same kinds off on m n whole e f =
     ap (λ (k : ℕ). counts_text k n) e ∙ ap (λ (k : ℕ). counts_text (length off) k) f ∙ ap counts_line (sym whole.motions)
 
--- the text with its counts in front is the spelling
+-- the text with its counts in front is the certificate's text
 pub as_spelled : (P : List ℕ → Type 0) (kinds : List EntryKind) (off on : List Entry) (m n : ℕ) → IsWhole kinds off on → m ≡ length off → n ≡ length on
     → P (codes "ngc-certificate 2\n" ++ counts_text m n ++ flat_map item_lines (items_in kinds off on) ++ codes "end\n") →
     P (joined_spelling (items_in kinds off on))

@@ -1,4 +1,4 @@
--- What a piece does to a reader of a certificate's text.
+-- The effect of a piece on a reader of a certificate's text.
 use Rattle.std.proofs.Common.{◌≡◌, ℕ, ◌+◌, ◌≤◌, ap, subst, Bool, true, false, Option, None, Result, Ok, Err, List, [], ◌∷◌, ◌++◌, length, refl, sym, ◌∙◌, arith}
 use Rattle.std.specs.Prelude.{codes, ◌==◌, ◌||◌, not, nat_lt}
 use Rattle.std.proofs.lemmas.Bool.{and_from}
@@ -31,7 +31,8 @@ use Rattle.ngc_certificate_text.proofs.LeftEntries.{if_taken}
 use Rattle.ngc_certificate_text.proofs.SpelledLines.{end_reads}
 use Rattle.ngc_certificate_text.proofs.Parting.{lines_parts, firm_parts, firm_begun}
 
--- ---- whatever is expected, a text may follow that has one fault, and another that has none or another one
+-- ---- whatever is expected, one following text has a fault, and another has none or a different
+-- one
 
 huge_setting : (s : Setting) → setting_said (name_of s) (codes "setting " ++ name_of s ++ codes " 9999999") ≡ Err Range
 unfolding setting_said numbers_in number_in
@@ -66,7 +67,7 @@ huge_on : (left : EntriesLeft) → may_come left (of.On 0) ≡ true → entry_sa
 unfolding entry_said numbers_in number_in
 huge_on left h = if_taken (may_come left (of.On 0)) (Err Range) (Err Spelling) h
 
--- a line that is out of its range where these entries are left
+-- a line that is out of its range if these entries remain
 record HugeEntry (left : EntriesLeft) : Type 0 where
   line : List ℕ
   short : length line ≤ 256
@@ -107,7 +108,7 @@ some_huge left true true e f some going =
 two_faults : (o p : Left) (fault a b : CertificateFault) → o ≡ Err a → p ≡ Err b → o ≡ Err fault → p ≡ Err fault → a ≡ b
 two_faults o p fault a b e f h k = cc (e, f, h, k)
 
--- the line that comes next is missing, or is out of its range
+-- the next line is missing, or is out of its range
 differ : (n : ℕ) → faults.BadLine n ≡ faults.OutOfRange n → ⊥
 differ n e = cc e
 
@@ -169,7 +170,7 @@ made_err f (Err other) fault h = let same : other ≡ fault = cc h in ap (λ (x 
   refused : CertificateFault → Left
   refused x = Err x
 
--- no fault stands behind whole lines
+-- after whole lines no fault is certain
 abbrev pub IsQuiet : {X : Type 0} → Saying X → Type 0
 IsQuiet says = (fault : CertificateFault) → ((rest : List ℕ) → says (firm_lines rest) [] ≡ Err fault) → ⊥
 

@@ -1,4 +1,5 @@
--- The spelling of a number with a sign says it, and what says a number is its spelling.
+-- The text of a signed number reads as the number, and a text that reads as a number is the
+-- number's text.
 use Rattle.std.proofs.Common.{◌≡◌, ◌⊎◌, inl, inr, ℕ, zero, suc, ◌<◌, ◌^◌, ap, Bool, true, false, Option, Some, None, List, [], ◌∷◌, refl, sym, ◌∙◌, arith}
 use Rattle.std.specs.Prelude.{ℤ, pos, negsuc, decimal, ◌==◌, ◌&&◌, not, if◌then◌else◌}
 use Rattle.std.specs.Char.{is_ascii_digit}
@@ -61,7 +62,7 @@ number_spelled (b ∷ rest) z e small = elim (by_sign (b == 45) (negated (decima
       decimal_spelled (b ∷ rest) s.0 s.1 (omega (arith, size, small)) ∙ ap signed_decimal (sym s.2)
 ]
 
--- no space and no line feed stands in a number with a sign
+-- a signed number contains no space and no line feed
 pub signed_lacks : (s : ℕ) (z : ℤ) → s < 45 → mag z < 2 ^ 63 → lacks s (signed_decimal z) ≡ true
 signed_lacks s (pos n) low h = decimal_lacks s n low (omega arith)
 signed_lacks s (negsuc n) low h = rw (decimal_lacks s (suc n) low (omega arith)) (other s low) where

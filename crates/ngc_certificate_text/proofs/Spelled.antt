@@ -1,4 +1,4 @@
--- A certificate's text, as far as its parts are collected and written.
+-- A certificate's text, while its parts are collected and written.
 use Rattle.std.proofs.Common.{◌≡◌, ◌<◌, ℕ, List, [], ◌++◌, length, get_or, codes, decimal, Option, ap, sym, subst, ◌∙◌}
 use Rattle.std.proofs.lemmas.List.{append_assoc, get_or_default}
 use Rattle.ngc_text.specs.Written.{AppendsBeginning}
@@ -7,7 +7,7 @@ use Rattle.ngc_certificate_text.specs.Certificate.{Entry, entry_at}
 use Rattle.ngc_certificate_text.specs.declared.piece.Piece.{Piece}
 use Rattle.ngc_certificate_text.proofs.Fronts.{front_more, front_moved, front_stopped, longer, beginning_written}
 
--- the motion at a place, by its index and its pieces
+-- the motion at an index: its index in the commands and its pieces
 pub entry_found : (entries : List Entry) (i index : ℕ) (pieces : List Piece) → i < length entries → index ≡ (entry_at entries i).index →
     pieces ≡ (entry_at entries i).pieces
     → record { index = index; pieces = pieces } ≡ get_or entries i (record { index = index; pieces = pieces })
@@ -25,7 +25,7 @@ pub counted : (name made lined : List ℕ) (motions : ℕ) (entries : List Entry
     → lined ≡ made ++ setting_line name (length entries)
 counted name made lined motions entries is h = h ∙ ap (λ (n : ℕ). made ++ setting_line name n) is
 
--- ---- the parts of the text, one behind another
+-- ---- the parts of the text, in order
 
 joined : (before head off on foot : List ℕ) → (((before ++ head) ++ off) ++ on) ++ foot ≡ before ++ (((head ++ off) ++ on) ++ foot)
 joined before head off on foot = simp append_assoc

@@ -1,4 +1,4 @@
--- A line's spelling says what it spells, and what says it is its spelling.
+-- A line's text has the line's content, and a text with this content is the line's text.
 use Rattle.std.proofs.Common.{◌≡◌, ℕ, ◌+◌, ◌*◌, ◌<◌, ◌≤◌, ◌^◌, ap, subst, Bool, true, false, Option, Some, None, Ok, Err, List, [], ◌∷◌, ◌++◌, length, refl}
 use Rattle.std.proofs.Common.{sym, ◌∙◌, append_assoc, length-append, arith}
 use Rattle.std.specs.Prelude.{ℤ, pos, negsuc, unsigned_abs, codes, decimal, map, ◌==◌, ◌&&◌, not, nat_le, if◌then◌else◌}
@@ -39,7 +39,7 @@ joined_lacks x (y ∷ ys) h =
     let parts = and_parts (lacks 10 x) (list_all (lacks 10) (y ∷ ys)) h in
     list_all-append (λ b. not (b == 10)) x (32 ∷ join_with_byte 32 (y ∷ ys)) ∙ and_from _ _ parts.0 (joined_lacks y ys parts.1)
 
--- each behind a space
+-- each after a space
 unfoldable pub behind_length : List (List ℕ) → ℕ
 behind_length [] = 0
 behind_length (x ∷ xs) = 1 + length x + behind_length xs
@@ -241,7 +241,7 @@ six b = b.low.x ∷ b.low.y ∷ b.low.z ∷ b.high.x ∷ b.high.y ∷ b.high.z �
 pub piece_text : Piece → List ℕ
 piece_text p = line_text (cut_word p.end) [] (cut_numbers p.end (six p.bounds))
 
--- a piece that a line can say
+-- a piece that a line can have
 pub record IsHeld (p : Piece) : Type 0 where
   pub good : good_piece p ≡ true
   pub steps : (are_steps p.bounds.low && are_steps p.bounds.high) ≡ true
@@ -306,7 +306,7 @@ piece_reads p h =
     ap piece_in (line_fields (cut_word p.end) [] (cut_numbers p.end (six p.bounds)) (cut_whole p.end) (piece_small p h))
     ∙ piece_fields p.end p.bounds (and_parts (good_cut p.end) (is_below p.bounds.low p.bounds.high) h.good).0 (good_steps p h) (piece_small p h)
 
--- what six numbers say
+-- the content of six numbers
 record Boxed (good : Bool) (e : Cut) (zs : List ℤ) (p : Piece) : Type 0 where
   numbers : zs ≡ six p.bounds
   end : e ≡ p.end
@@ -332,7 +332,7 @@ boxed_ok good e (a ∷ b ∷ c ∷ d ∷ f ∷ g ∷ []) p h =
     }
 boxed_ok good e (a ∷ b ∷ c ∷ d ∷ f ∷ g ∷ k ∷ zs) p h = absurd (cc h)
 
--- what a piece's fields say
+-- the content of a piece's fields
 record PieceFields (word : List ℕ) (fs : List (List ℕ)) (p : Piece) : Type 0 where
   kind : word ≡ cut_word p.end
   numbers : numbers_in fs ≡ Some (cut_numbers p.end (six p.bounds))

@@ -1,4 +1,4 @@
--- The text of a certificate says it, and what says a certificate is its text.
+-- The text of a certificate reads as it, and a text that reads as a certificate is its text.
 use Rattle.std.proofs.Common.{◌≡◌, ℕ, zero, suc, ◌+◌, ◌-◌, ◌≤◌, ap, subst, Bool, true, false, Result, Ok, Err, List, [], ◌∷◌, ◌++◌, length}
 use Rattle.std.proofs.Common.{refl, sym, ◌∙◌, append_assoc, arith}
 use Rattle.std.specs.Prelude.{codes, decimal, ◌==◌, ◌&&◌, not, nat_le, nat_lt, if◌then◌else◌, flat_map}
@@ -42,7 +42,7 @@ use Rattle.ngc_certificate_text.proofs.LeftEntries.{counts_is_line, counts_reads
 use Rattle.ngc_certificate_text.proofs.LeftEntries.{pieces_behind as entry_pieces}
 use Rattle.ngc_certificate_text.proofs.Taken.{text_left, then_ok, line_taken, ok_same, read_to, said_ok}
 
--- ---- places
+-- ---- positions
 
 abbrev pub at : ℕ → List ℕ → Place
 at number text = record { number = number; left = lines_of text }
@@ -59,7 +59,7 @@ some_lines (b ∷ rest) = by_byte b rest (b == 10) refl where
   by_byte b rest true e = ([], lines_of rest, rw e refl)
   by_byte b rest false e = let o = onto b (lines_of rest) in (o.0, o.1, rw e o.2)
 
--- a part reads text that begins so
+-- a part reads a text with this prefix
 abbrev pub ReadsOn : {X : Type 0} → (Place → Said X) → List ℕ → X → Type 0
 ReadsOn said text x = (number : ℕ) (rest : List ℕ) → (after : ℕ) × (said (at number (text ++ rest)) ≡ Ok (x, at after rest))
 
@@ -122,7 +122,7 @@ several_read {X} said text good reads (x ∷ xs) h number rest =
 
 -- ---- a motion
 
--- a motion that lines can say
+-- a motion that lines can have
 pub record IsSpelledEntry (e : Entry) : Type 0 where
   pub entry : IsEntry e
   pub steps : has_steps e ≡ true
@@ -144,7 +144,7 @@ motion_reads_on i n hi some hn =
     subst (λ (t : List ℕ). ReadsOn (line_at motion_said) t (record { index = i; pieces = n })) (sym (motion_line_is i n))
     (line_reads motion_said (motion_text i n) (record { index = i; pieces = n }) (motion_is_line i n hi hn) (motion_reads i n hi some hn))
 
--- what stands behind a motion's line
+-- what follows a motion's line
 pieces_behind : MotionLine → Place → Said Entry
 pieces_behind m q = then_read (several (line_at piece_said) m.pieces q) (λ pieces r. Ok (record { index = m.index; pieces = pieces }, r))
 
@@ -253,7 +253,7 @@ on_read_on off on are steps =
     then_reads (setting_at (codes "on")) (end_behind off) (setting_lines (codes "on") on) (codes "end\n") on (record { off = off; on = on })
     (setting_reads_on (codes "on") on on_name are steps) (end_read_on off on)
 
--- the text behind the first line
+-- the text after the first line
 abbrev body : CertificateData → List ℕ
 body c = setting_lines (codes "off") c.off ++ (setting_lines (codes "on") c.on ++ codes "end\n")
 
@@ -268,7 +268,7 @@ spelling_is c = flat (codes "ngc-certificate 1\n") (setting_lines (codes "off") 
   flat : (h a b e : List ℕ) → h ++ a ++ b ++ e ≡ h ++ (a ++ (b ++ e))
   flat h a b e = simp append_assoc
 
--- a text with the first line of a version, and a form behind it
+-- a text with the first line of a version, and a form after it
 read_whole : (v : Version) (text rest : List ℕ) (f : Form) → text ≡ version_text v ++ (10 ∷ rest) → ReadsOn (form_at v) rest f → form_said text ≡ Ok f
 unfolding form_said
 read_whole v text rest f is reads =
@@ -285,7 +285,7 @@ parted_back c is steps = read_whole One (parted_spelling c) (body c) (Parted c) 
 
 -- ---- version 2
 
--- an entry that lines can say
+-- an entry that lines can have
 record IsSpelledItem (x : Item) : Type 0 where
   item : IsItem x
   steps : item_steps x ≡ true
@@ -316,7 +316,7 @@ item_reads_on left x h may number rest =
     (entry_reads_at left x h.item may) (item_pieces_read x.indices x.pieces (held_pieces x.pieces h.item.pieces h.steps)) number rest in
     (a.0, item_is left (at number (item_lines x ++ rest)) ∙ a.1)
 
--- so many motions are left as these entries are, and they may come
+-- as many motions remain as these entries have, and they may be next
 record AreLeft (left : EntriesLeft) (xs : List Item) : Type 0 where
   off : left.off ≡ length ((expansion xs).off)
   on : left.on ≡ length ((expansion xs).on)
@@ -441,9 +441,9 @@ pub reads_back : (f : Form) → IsForm f → form_said (spelling f) ≡ Ok f
 reads_back (Parted c) is = parted_back c is.0 is.1
 reads_back (Joined items) is = joined_back items is.0 is.1
 
--- ---- back: what is said is spelled
+-- ---- conversely, the text of a content is the one that was read
 
--- a part that says something has its spelling in front
+-- a part that has a content begins with its text
 abbrev pub Spells : {X : Type 0} → (Place → Said X) → (X → List ℕ) → (X → Type 0) → Type 0
 Spells {X} said text good = (p : Place) (x : X) (q : Place) → said p ≡ Ok (x, q) → (text_left p ≡ text x ++ text_left q) × good x
 
@@ -760,7 +760,7 @@ abbrev version_of : Form → Version
 version_of (Parted c) = One
 version_of (Joined items) = Two
 
--- what stands behind the first line
+-- what follows the first line
 record FormSpells (v : Version) (p : Place) (f : Form) (q : Place) : Type 0 where
   version : v ≡ version_of f
   text : text_left p ≡ body_of f ++ text_left q

@@ -1,4 +1,4 @@
--- Steps that are held in 32 bits, and boxes of six of them.
+-- Steps that fit in 32 bits, and boxes of six of them.
 use Rattle.std.proofs.Common.{◌≡◌, ◌<◌, ◌≤◌, ap, Bool, true, false, Result, Ok, List, [], ◌∷◌, length, get_or, refl, sym, ◌∙◌, w32, w64, to_z, of_z, SFits}
 use Rattle.std.proofs.Common.{arith}
 use Rattle.std.specs.Prelude.{ℤ, pos, negsuc, ◌&&◌, nat_le}

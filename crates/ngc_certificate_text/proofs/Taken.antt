@@ -1,4 +1,4 @@
--- Lines that are taken.
+-- Lines that are read.
 use Rattle.std.proofs.Common.{◌≡◌, ℕ, ap, Bool, true, false, Result, Ok, Err, List, [], ◌∷◌, ◌++◌, length, refl}
 use Rattle.std.specs.Prelude.{nat_le, if◌then◌else◌}
 use Rattle.std.specs.List.{join_with_byte}
@@ -6,7 +6,7 @@ use Rattle.ngc_certificate_text.specs.declared.fault.CertificateFault.TheVariant
 use Rattle.ngc_certificate_text.specs.declared.lines.LineFlaw.{LineFlaw}
 use Rattle.ngc_certificate_text.specs.Said.{Place, Said, then_read, next_number, line_is, line_in, line_at}
 
--- the text that is left
+-- the remaining text
 abbrev pub text_left : Place → List ℕ
 text_left p = join_with_byte 10 p.left
 
@@ -15,7 +15,7 @@ pub then_ok : {X Y : Type 0} (s : Said X) (more : X → Place → Said Y) (y : Y
 then_ok (Ok r) more y q h = (r.0, r.1, refl, h)
 then_ok (Err fault) more y q h = absurd (cc h)
 
--- a line that is taken
+-- a line that is read
 pub record Taken {X : Type 0} (said : List ℕ → Result X LineFlaw) (lines : List (List ℕ)) (x : X) (q : Place) : Type 0 where
   pub line : List ℕ
   pub says : said line ≡ Ok x

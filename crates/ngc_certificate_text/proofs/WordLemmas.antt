@@ -1,4 +1,4 @@
--- What a line says by its first words.
+-- The content of a line, by its first words.
 use Rattle.std.proofs.Common.{◌≡◌, ap, Bool, true, false, Option, None, Result, Err, List, [], ◌∷◌, ℕ, refl, sym, ◌∙◌}
 use Rattle.std.specs.Prelude.{ℤ, codes, if◌then◌else◌}
 use Rattle.std.specs.Str.{bytes_eq}

@@ -1,5 +1,4 @@
--- What is left of a certificate behind the lines that were read, by the line that comes next. Our
--- own.
+-- The remaining certificate after the lines that were read, for each next line. Our own.
 use Rattle.std.specs.Prelude.{◌≡◌, ℕ, ◌+◌, ◌-◌, ◌*◌, ◌≤◌, zero, suc, List, [], ◌++◌, map, codes}
 use Rattle.std.specs.Prelude.{Option, Some, None, Result, Ok, Bool, true, false, IsTrue, not, ◌||◌}
 use Rattle.std.specs.Prelude.{◌==◌, nat_lt}
@@ -26,8 +25,8 @@ pub use Rattle.ngc_certificate_text.specs.Said.{said_with, made_with}
 use Rattle.ngc_certificate_text.specs.Said.{Place, Said, then_read, line_at, several, entry_at}
 use Rattle.ngc_certificate_text.specs.Said.{setting_at, items_at, header_in, ended}
 
--- the version where its line comes yet, the pieces that come yet of a motion that has begun, and
--- the entries behind it
+-- the version if its line is still ahead, the remaining pieces of a motion that has begun, and the
+-- following entries
 pub record Rest : Type 0 where
   pub version : Option Version
   pub pieces : List Piece
@@ -36,7 +35,7 @@ pub record Rest : Type 0 where
 abbrev pub nothing_left : Rest
 nothing_left = record { version = None; pieces = []; items = [] }
 
--- a text's certificate, where nothing of it was read yet
+-- a text's certificate, if nothing of it was read
 abbrev pub certificate_of : Rest → CertificateData
 certificate_of r = expansion r.items
 
@@ -46,7 +45,7 @@ form_of_text r = form_by r.version r.items
 abbrev pub of_version : Version → Rest → Rest
 of_version v r = record { version = Some v; pieces = r.pieces; items = r.items }
 
--- these entries come first, and none has begun
+-- these entries come first, and no motion has begun
 abbrev pub with_items : List Item → Rest → Rest
 with_items more r = record { version = r.version; pieces = []; items = more ++ r.items }
 
@@ -72,25 +71,25 @@ name_of On = codes "on"
 unfoldable pub end_ahead : Place → Said Rest
 end_ahead p = then_read (line_at end_said p) (λ _ q. Ok (nothing_left, q))
 
--- what stands behind a setting: the other one, or the last line
+-- what follows a setting: the other one, or the last line
 unfoldable pub behind : Setting → Place → Said Rest
 behind Off p =
     then_read (setting_at (codes "on") p) (λ more q. said_with (with_motions On more) (end_ahead q))
 behind On p = end_ahead p
 
--- a setting, and what stands behind it
+-- a setting, and what follows it
 unfoldable pub setting_ahead : Setting → Place → Said Rest
 setting_ahead s p =
     then_read (setting_at (name_of s) p) (λ more q. said_with (with_motions s more) (behind s q))
 
--- the motions that come yet of a setting, or the entries of both
+-- the remaining motions of a setting, or the remaining entries of both
 unfoldable pub motions_ahead : MotionsLeft → Place → Said Rest
 motions_ahead (Parted s left) p =
     then_read (several entry_at left p) (λ more q. said_with (with_motions s more) (behind s q))
 motions_ahead (Joined left) p = then_read (items_at (left.off + left.on) left p)
     (λ more q. said_with (with_items more) (end_ahead q))
 
--- the pieces that are left of a motion, and the motions behind it
+-- the remaining pieces of a motion, and the motions after it
 unfoldable pub pieces_ahead : BegunMotion → Place → Said Rest
 pieces_ahead b p =
     then_read (several (line_at piece_said) b.pieces_left p) (λ pieces q.
@@ -104,7 +103,7 @@ unfoldable pub behind_header : Version → Place → Said Rest
 behind_header One p = setting_ahead Off p
 behind_header Two p = counts_ahead p
 
--- what comes of the text from this line on
+-- the result of the text from this line on
 unfoldable pub ahead : Expected → Place → Said Rest
 ahead next.Header p =
     then_read (header_in p.left) (λ v q. said_with (of_version v) (behind_header v q))
@@ -115,15 +114,15 @@ ahead (next.Piece b) p = pieces_ahead b p
 ahead next.End p = end_ahead p
 ahead next.Nothing p = Ok (nothing_left, p)
 
--- what a text says from some line on, or the first line at fault
+-- the content of a text from some line on, or the first line at fault
 abbrev pub Left : Type 0
 Left = Result Rest CertificateFault
 
--- what is left in these lines
+-- the rest, from these lines
 abbrev pub left_from : Expected → ℕ → List (List ℕ) → Left
 left_from e number lines = ended (ahead e (record { number = number; left = lines }))
 
--- ---- the line that comes next
+-- ---- the next line
 
 abbrev pub next_setting : Setting → Expected
 next_setting Off = next.Setting On
@@ -138,7 +137,7 @@ next_of_motions (Parted s zero) = next_setting s
 next_of_motions (Parted s (suc n)) = next.Motion (Parted s (suc n))
 next_of_motions (Joined left) = next_of_entries (none_left left) left
 
--- what comes behind a motion
+-- the remaining motions after a motion
 abbrev pub motions_behind : MotionsLeft → Indices → MotionsLeft
 motions_behind (Parted s left) indices = Parted s (left - 1)
 motions_behind (Joined left) indices = Joined (left_behind left indices)
@@ -160,13 +159,13 @@ how_many (Joined left) = left.off + left.on
 abbrev pub HaveSome : MotionsLeft → Type 0
 HaveSome left = 1 ≤ how_many left
 
--- Some motion may come next. After an entry of `on` alone none may where motions of `off` are left
--- and none of `on`.
+-- Some motion may be next. After an entry of `on` alone, none may be if motions of `off` remain and
+-- none of `on`.
 abbrev pub go_on : MotionsLeft → Bool
 go_on (Parted s left) = true
 go_on (Joined left) = not left.behind_on || ((left.off == 0) || nat_lt 0 left.on)
 
--- some line may come next: where none may, the next line is wrong whatever it says
+-- some line may be next; if none may, the next line is wrong whatever it is
 abbrev pub is_open : Expected → Bool
 is_open next.Header = true
 is_open (next.Setting s) = true
@@ -176,18 +175,18 @@ is_open (next.Piece b) = true
 is_open next.End = true
 is_open next.Nothing = true
 
--- some line may come next, a motion or a piece is counted, and the first line has the first number
+-- some line may be next, a motion or a piece is counted, and the first line has the first number
 pub record IsSound (e : Expected) (number : ℕ) : Type 0 where
   pub first : e ≡ next.Header → number ≡ 1
   pub motion : (left : MotionsLeft) → e ≡ next.Motion left → HaveSome left
   pub piece : (b : BegunMotion) → e ≡ next.Piece b → 1 ≤ b.pieces_left
   pub going : IsTrue (is_open e)
 
--- how many lines may come: a motion takes at most 65,536
+-- the greatest number of further lines: a motion takes at most 65,536
 abbrev pub LINES_OF_MOTIONS : ℕ
 LINES_OF_MOTIONS = 65536 * MOTION_LIMIT
 
--- the end, and one line behind it that is refused; in front of them the other setting
+-- the end, and one line after it that is refused; before them the other setting
 abbrev pub lines_behind : Setting → ℕ
 lines_behind Off = LINES_OF_MOTIONS + 3
 lines_behind On = 2

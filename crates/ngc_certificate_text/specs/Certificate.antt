@@ -1,5 +1,5 @@
--- What a certificate says: for both settings of block delete the motions in order, each with its
--- pieces. Our own.
+-- The contents of a certificate: for both settings of block delete the motions in order, each with
+-- its pieces. Our own.
 use Rattle.std.specs.Prelude.{ℕ, nat_le, ◌≤◌, List, [], length, slice_index_or, IsTrue, Bool, ◌&&◌}
 use Rattle.std.specs.List.{All, list_all}
 use Rattle.ngc_fixed_length.specs.Boxes.{is_below}
@@ -28,7 +28,7 @@ entry_at entries i = slice_index_or entries i (record { index = 0; pieces = [] }
 
 -- ---- ranges
 
--- parts of a line
+-- the number of parts of a line
 abbrev pub WHOLE : ℕ
 WHOLE = 65536
 
@@ -41,7 +41,7 @@ PIECE_LIMIT = 65535
 abbrev pub MOTION_LIMIT : ℕ
 MOTION_LIMIT = 1000000
 
--- how far out a cut point of an arc lies, in nanometres
+-- the greatest coordinate of a cut point of an arc, in nanometres
 abbrev pub CUT_LIMIT : ℕ
 CUT_LIMIT = 4000000000
 
@@ -49,7 +49,7 @@ abbrev pub good_cut : Cut → Bool
 good_cut (Part t) = nat_le 1 t && nat_le t WHOLE
 good_cut (Place q) = is_within CUT_LIMIT q.u && is_within CUT_LIMIT q.v
 
--- the box isn't inside out
+-- the cut is in range, and the box's low corner is not above its high corner
 abbrev pub good_piece : Piece → Bool
 good_piece p = good_cut p.end && is_below p.bounds.low p.bounds.high
 
@@ -63,7 +63,7 @@ pub record AreEntries (entries : List Entry) : Type 0 where
   pub count : length entries ≤ MOTION_LIMIT
   pub each : All IsEntry entries
 
--- what every certificate holds to
+-- properties of every certificate
 pub record IsCertificate (c : CertificateData) : Type 0 where
   pub off : AreEntries c.off
   pub on : AreEntries c.on

@@ -1,11 +1,11 @@
--- Text that is collected, and written from the front where room is wanted. Our own.
+-- Text that is collected, and written from the front when space is needed. Our own.
 use Rattle.std.specs.Prelude.{ℕ, List, ◌++◌, Option, Result, MatchResult}
 use Rattle.ngc_text.specs.Written.{AppendsBeginning}
 use Rattle.ngc_text.specs.declared.writing.WriteFault.{WriteFault}
 use Rattle.ngc_text.specs.Collected.{WritesFront}
 
--- a text comes behind what was collected: the front of both is written and the rest is still
--- collected, or a beginning is written
+-- a text is added to what was collected: the front of both is written and the rest is still
+-- collected, or a prefix is written
 abbrev pub Collects : Option (List ℕ) → Option (List ℕ) → List ℕ → List ℕ →
     Result (Unit {0}) WriteFault → List ℕ → Type 0
 Collects old new before after result text =

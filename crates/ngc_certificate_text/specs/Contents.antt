@@ -1,4 +1,4 @@
--- What a certificate in memory says. Our own.
+-- The contents of a certificate in memory. Our own.
 use Rattle.ngc_certificate_text.specs.declared.certificate.Certificate.{Certificate}
 use Rattle.ngc_certificate_text.specs.Certificate.{CertificateData}
 use Rattle.ngc_certificate_text.specs.Joined.{Form}

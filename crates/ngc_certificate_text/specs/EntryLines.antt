@@ -1,4 +1,4 @@
--- What the lines of version 2 say: the counts, and the entries that may come. Our own.
+-- The contents of the lines of version 2: the counts, and the entries that may be next. Our own.
 use Rattle.std.specs.Prelude.{ℕ, ◌-◌, nat_lt, ◌==◌, ℤ, unsigned_abs, List, [], ◌∷◌, codes, Option}
 use Rattle.std.specs.Prelude.{Some, Result, Ok, Err, Bool, true, false, not, ◌&&◌}
 use Rattle.std.specs.Prelude.{if◌then◌else◌}
@@ -33,11 +33,11 @@ motion_counts (Some (m ∷ n ∷ [])) =
     (record { off = unsigned_abs m; on = unsigned_abs n })
 motion_counts _ = Err Spelling
 
--- how many motions both settings have
+-- the numbers of motions of both settings
 unfoldable pub counts_said : List ℕ → Result CountsLine LineFlaw
 counts_said line = motion_counts (numbers_behind (codes "motions" ∷ []) (fields line))
 
--- ---- the entries that are left
+-- ---- the remaining entries
 
 -- all of them
 abbrev pub all_left : CountsLine → EntriesLeft
@@ -46,8 +46,8 @@ all_left c = record { off = c.off; on = c.on; behind_on = false }
 abbrev pub none_left : EntriesLeft → Bool
 none_left left = (left.off == 0) && (left.on == 0)
 
--- An entry may come where motions of its settings are left, but one of `off` alone not directly
--- after one of `on` alone.
+-- An entry may be next if motions of its settings remain, but one of `off` alone not directly after
+-- one of `on` alone.
 abbrev pub may_come : EntriesLeft → Indices → Bool
 may_come left (Both i j) = nat_lt 0 left.off && nat_lt 0 left.on
 may_come left (Off i) = nat_lt 0 left.off && not left.behind_on
@@ -60,7 +60,7 @@ left_behind left (On j) = record { off = left.off; on = left.on - 1; behind_on =
 
 -- ---- the line of an entry
 
--- two indices, and how many pieces
+-- two indexes, and the number of pieces
 abbrev pub three_counts : Option (List ℤ) → Result EntryLine LineFlaw
 three_counts (Some (i ∷ j ∷ n ∷ [])) =
     ranged (is_count 0 INDEX_LIMIT i && (is_count 0 INDEX_LIMIT j && is_count 1 PIECE_LIMIT n))
@@ -81,6 +81,6 @@ entry_in left (word ∷ fs) =
     if bytes_eq word (codes "on") && may_come left (On 0)
     then of_setting On (two_counts (numbers_in fs)) else Err Spelling
 
--- one of the entries that may come, and how many pieces it has
+-- one of the entries that may be next, and the number of its pieces
 unfoldable pub entry_said : EntriesLeft → List ℕ → Result EntryLine LineFlaw
 entry_said left line = entry_in left (fields line)

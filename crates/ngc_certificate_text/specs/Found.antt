@@ -1,4 +1,4 @@
--- What a reader keeps of a certificate, and what the whole one is. Our own.
+-- The part of a certificate that a reader stores, and the whole one. Our own.
 use Rattle.std.specs.Prelude.{◌≡◌, ℕ, ◌+◌, ◌≤◌, nat_le, List, [], ◌∷◌, ◌++◌, length, Option, Some}
 use Rattle.std.specs.Prelude.{None, Bool, true, false, IsTrue}
 use Rattle.std.specs.List.{list_all}
@@ -20,7 +20,7 @@ use Rattle.ngc_certificate_text.specs.Joined.{Item, expansion, good_indices, For
 use Rattle.ngc_certificate_text.specs.Order.{items_in, IsWhole}
 use Rattle.ngc_certificate_text.specs.Told.{left_at, taken_at}
 
--- the version, the entries that are whole, and the pieces so far of one that has begun
+-- the version, the complete entries, and the pieces so far of one that has begun
 pub record Heard : Type 0 where
   pub version : Option Version
   pub pieces : List Piece
@@ -37,7 +37,7 @@ heard_in f = record {
 abbrev pub IsKept : {A : Type 0} → Found A → Type 0
 IsKept f = IsWhole f.order.items f.off f.on
 
--- this entry comes behind the others
+-- this entry is added after the others
 abbrev pub add_item : Indices → List Piece → List Item → List Item
 add_item indices pieces items = items ++ (record { indices = indices; pieces = pieces } ∷ [])
 
@@ -46,7 +46,7 @@ heard_piece true b pieces h =
     record { version = h.version; pieces = pieces; items = add_item b.indices pieces h.items }
 heard_piece false b pieces h = record { version = h.version; pieces = pieces; items = h.items }
 
--- what a line adds
+-- what a line adds to the part read so far
 abbrev pub heard : Told → Heard → Heard
 heard (tell.Header v) h = record { version = Some v; pieces = h.pieces; items = h.items }
 heard (tell.Setting s n) h = h
@@ -55,7 +55,7 @@ heard (tell.Motion b) h = record { version = h.version; pieces = []; items = h.i
 heard (tell.Piece b p) h = heard_piece (nat_le b.pieces_left 1) b (h.pieces ++ (p ∷ [])) h
 heard tell.End h = h
 
--- ---- the whole certificate: what was heard, and what is left
+-- ---- the whole certificate: the part read so far, and the rest
 
 abbrev pub first_of : Option Version → Option Version → Option Version
 first_of None later = later
@@ -78,7 +78,7 @@ gathered None h r = joined h r
 gathered (Some b) h r =
     joined h (with_items (record { indices = b.indices; pieces = h.pieces ++ r.pieces } ∷ []) r)
 
--- ---- there is room for what comes
+-- ---- there is capacity for the rest
 
 abbrev pub may_come_behind : Setting → Setting → ℕ
 may_come_behind Off s = MOTION_LIMIT
@@ -99,30 +99,30 @@ pub record IsBegun (b : BegunMotion) (pieces : List Piece) : Type 0 where
   pub few : length pieces + b.pieces_left ≤ PIECE_LIMIT
   pub good : IsTrue (list_all good_piece pieces)
 
--- a certificate has room for what may come
+-- a certificate has capacity for the entries that may follow
 abbrev pub HasRoom : Expected → List Item → Type 0
 HasRoom e items =
     (s : Setting) → length (entries_at s (expansion items)) + may_come e s ≤ MOTION_LIMIT
 
--- and for one entry more
+-- and for one more entry
 abbrev pub HasRoomFor : Indices → List Item → Type 0
 HasRoomFor indices items =
     (s : Setting) → length (entries_at s (expansion items)) + taken_at indices s ≤ MOTION_LIMIT
 
--- what is expected may come behind what was heard
+-- this line may follow the part read so far
 pub record MayExpect (e : Expected) (h : Heard) : Type 0 where
   pub version : e ≡ next.Header → h.version ≡ None
   pub room : HasRoom e h.items
   pub piece : (b : BegunMotion) → e ≡ next.Piece b → IsBegun b h.pieces
 
--- a piece may be taken
+-- a piece may be added
 pub record IsPieceTaken (b : BegunMotion) (p : Piece) (h : Heard) : Type 0 where
   pub begun : IsBegun b h.pieces
   pub some : 1 ≤ b.pieces_left
   pub room : HasRoom (next.Piece b) h.items
   pub good : IsTrue (good_piece p)
 
--- a line may be taken
+-- a line may be added
 abbrev pub MayTake : Told → Heard → Type 0
 MayTake (tell.Header v) h = Unit {0}
 MayTake (tell.Setting s n) h = Unit {0}

@@ -1,4 +1,4 @@
--- How the answer of reading a certificate goes with what its text says. Our own.
+-- The relation between the result of reading a certificate and its text. Our own.
 use Rattle.std.specs.Prelude.{◌≡◌, Result, Ok, Err}
 use Rattle.ngc_certificate_text.specs.declared.certificate.Certificate.{Certificate}
 use Rattle.ngc_certificate_text.specs.declared.fault.CertificateFault.{CertificateFault}
@@ -8,7 +8,7 @@ use Rattle.ngc_certificate_text.specs.declared.fault.CertificateFault.TheVariant
 use Rattle.ngc_certificate_text.specs.declared.fault.CertificateFault.TheVariants.{Memory}
 use Rattle.ngc_certificate_text.specs.declared.fault.CertificateFault.TheVariants.{ReadFailed}
 
--- the answer is what the text says, but for want of memory and the source's failure
+-- the result is that of the text, except for lack of memory and the source's failure
 abbrev pub GivesCertificate : {A X : Type 0} → (Certificate A → X) →
     Result (Certificate A) CertificateFault
     → Result X CertificateFault → Type 0

@@ -1,5 +1,5 @@
--- How motions are held in memory: the pieces of all of them in one list, and for each motion which
--- of them are its own. Our own.
+-- The storage of motions: the pieces of all of them in one list, and for each motion the range of
+-- its own. Our own.
 use Rattle.std.specs.Prelude.{◌+◌, ◌≤◌, List, take, drop, map, length}
 use Rattle.std.specs.List.{All}
 use Rattle.ngc_certificate_text.specs.declared.motions.Held.{Held}
@@ -12,7 +12,7 @@ held_entry pieces h = record { index = h.index; pieces = take h.count (drop h.st
 abbrev pub held_entries : List Piece → List Held → List Entry
 held_entries pieces held = map (held_entry pieces) held
 
--- its pieces are there
+-- its pieces are in the list
 abbrev pub IsWithin : List Piece → Held → Type 0
 IsWithin pieces h = h.start + h.count ≤ length pieces
 

@@ -19,7 +19,7 @@ pub record Item : Type 0 where
 abbrev pub entry_with : ℕ → List Piece → Entry
 entry_with index pieces = record { index = index; pieces = pieces }
 
--- its motions come in front of those of their settings
+-- its motions are put in front of those of their settings
 abbrev pub onto_motions : Indices → List Piece → CertificateData → CertificateData
 onto_motions (Both i j) pieces c =
     record { off = entry_with i pieces ∷ c.off; on = entry_with j pieces ∷ c.on }
@@ -54,12 +54,12 @@ may_follow behind_on (Off i) = not behind_on
 may_follow behind_on (On j) = true
 may_follow behind_on (Both i j) = true
 
--- no entry of `off` alone stands directly behind one of `on` alone
+-- no entry of `off` alone directly follows one of `on` alone
 abbrev pub in_order : Bool → List Item → Bool
 in_order behind_on [] = true
 in_order behind_on (x ∷ xs) = may_follow behind_on x.indices && in_order (is_on x.indices) xs
 
--- what every certificate of version 2 holds to
+-- properties of every certificate of version 2
 pub record IsJoined (items : List Item) : Type 0 where
   pub off : length ((expansion items).off) ≤ MOTION_LIMIT
   pub on : length ((expansion items).on) ≤ MOTION_LIMIT

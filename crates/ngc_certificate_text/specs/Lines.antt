@@ -1,5 +1,5 @@
--- What each line of a certificate says. A line whose numbers are out of range is still spelled
--- right. Our own.
+-- The content of each line of a certificate. A line whose numbers are out of range is still written
+-- correctly. Our own.
 use Rattle.std.specs.Prelude.{ℕ, ℤ, pos, neg_ℤ, unsigned_abs, int_le, List, [], ◌∷◌, codes, Option}
 use Rattle.std.specs.Prelude.{Some, None, Result}
 use Rattle.std.specs.Prelude.{Ok, Err, Bool, ◌&&◌, if◌then◌else◌}
@@ -24,7 +24,7 @@ unfoldable pub numbers_in : List (List ℕ) → Option (List ℤ)
 numbers_in [] = Some []
 numbers_in (f ∷ fs) = option_and_then (λ z. option_map (λ zs. z ∷ zs) (numbers_in fs)) (number_in f)
 
--- numbers behind these words, one in each field
+-- numbers after these words, one in each field
 abbrev pub numbers_behind : List (List ℕ) → List (List ℕ) → Option (List ℤ)
 numbers_behind [] fs = numbers_in fs
 numbers_behind (w ∷ ws) [] = None
@@ -37,7 +37,7 @@ is_between least greatest z = int_le least z && int_le z greatest
 abbrev pub is_count : ℕ → ℕ → ℤ → Bool
 is_count least greatest z = is_between (pos least) (pos greatest) z
 
--- a line that is spelled right says x where its numbers are in range
+-- a correctly written line has the content x if its numbers are in range
 abbrev pub ranged : {X : Type 0} → Bool → X → Result X LineFlaw
 ranged good x = if good then Ok x else Err Range
 
@@ -47,7 +47,7 @@ abbrev pub one_count : Option (List ℤ) → Result ℕ LineFlaw
 one_count (Some (n ∷ [])) = ranged (is_count 0 MOTION_LIMIT n) (unsigned_abs n)
 one_count _ = Err Spelling
 
--- how many motions the setting of this name has
+-- the number of motions of the setting with this name
 unfoldable pub setting_said : List ℕ → List ℕ → Result ℕ LineFlaw
 setting_said name line = one_count (numbers_behind (codes "setting" ∷ name ∷ []) (fields line))
 
@@ -57,13 +57,13 @@ two_counts (Some (i ∷ n ∷ [])) =
     (record { index = unsigned_abs i; pieces = unsigned_abs n })
 two_counts _ = Err Spelling
 
--- a motion's index, and how many pieces it has
+-- a motion's index, and the number of its pieces
 unfoldable pub motion_said : List ℕ → Result MotionLine LineFlaw
 motion_said line = two_counts (numbers_behind (codes "motion" ∷ []) (fields line))
 
 -- ---- pieces
 
--- steps are counted by numbers of 32 bits
+-- steps are 32-bit numbers
 abbrev pub is_step : ℤ → Bool
 is_step z = is_between (neg_ℤ (pos 2147483648)) (pos 2147483647) z
 
@@ -73,7 +73,7 @@ are_steps p = is_step p.x && (is_step p.y && is_step p.z)
 abbrev pub good_box : GridBox → Bool
 good_box b = are_steps b.low && (are_steps b.high && is_below b.low b.high)
 
--- a piece that ends so, in the box of these six numbers
+-- a piece with this end, in the box of these six numbers
 abbrev pub boxed : Bool → Cut → List ℤ → Result Piece LineFlaw
 boxed good end (x0 ∷ y0 ∷ z0 ∷ x1 ∷ y1 ∷ z1 ∷ []) =
     let low : StepPos = record { x = x0; y = y0; z = z0 } in

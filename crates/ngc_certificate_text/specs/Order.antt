@@ -1,5 +1,4 @@
--- How entries are held in memory: the motions of both settings, and of which settings each entry is
--- one. Our own.
+-- The storage of entries: the motions of both settings, and the settings of each entry. Our own.
 use Rattle.std.specs.Prelude.{◌≡◌, List, [], ◌∷◌, map, Option, Some, None}
 use Rattle.ngc_certificate_text.specs.declared.expected.Indices.{Indices}
 use Rattle.ngc_certificate_text.specs.declared.expected.Indices.TheVariants as of
@@ -35,7 +34,7 @@ pub record IsWhole (kinds : List EntryKind) (off on : List Entry) : Type 0 where
   pub all : kinds_of (items_in kinds off on) ≡ kinds
   pub motions : expansion (items_in kinds off on) ≡ record { off = off; on = on }
 
--- the form of a certificate: of version 2 where the kinds of its entries are kept
+-- the form of a certificate: version 2 if the kinds of its entries are stored
 abbrev pub form_in : Option (List EntryKind) → List Entry → List Entry → Form
 form_in None off on = Parted (record { off = off; on = on })
 form_in (Some kinds) off on = Joined (items_in kinds off on)

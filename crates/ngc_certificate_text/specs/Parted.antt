@@ -1,12 +1,12 @@
--- A certificate's text that comes in pieces of any size: what stands of it already. It is our own
--- that a fault is answered as soon as it stands.
+-- A certificate's text that arrives in pieces of any size: the part that is already certain. Our
+-- own: a fault is returned as soon as it is certain.
 use Rattle.std.specs.Prelude.{◌≡◌, ℕ, ◌<◌, ◌==◌, nat_le, List, [], ◌∷◌, ◌++◌, length, IsTrue, Bool}
 use Rattle.std.specs.Prelude.{not, if◌then◌else◌}
 use Rattle.std.specs.List.{list_all}
 use Rattle.ngc_certificate_text.specs.Said.{lines_of}
 
--- The bytes that stand whatever follows, behind the beginning of a line: those of lines that a line
--- feed ends, and of a line that has more than 256 bytes already.
+-- The bytes that are certain whatever follows, after the beginning of a line: those of lines that a
+-- line feed ends, and of a line that already has more than 256 bytes.
 abbrev pub firm_behind : List ℕ → List ℕ → List ℕ
 firm_behind line [] = if nat_le (length line) 256 then [] else line
 firm_behind line (b ∷ bytes) =
@@ -15,7 +15,7 @@ firm_behind line (b ∷ bytes) =
 abbrev pub firm : List ℕ → List ℕ
 firm bytes = firm_behind [] bytes
 
--- the lines of the bytes that stand and of others behind them
+-- the lines of the certain bytes and of others after them
 abbrev pub firm_lines : List ℕ → List ℕ → List (List ℕ)
 firm_lines rest bytes = lines_of (firm bytes ++ rest)
 
@@ -25,19 +25,19 @@ firm_lines rest bytes = lines_of (firm bytes ++ rest)
 abbrev pub is_feedless : List ℕ → Bool
 is_feedless bytes = list_all (λ b. not (b == 10)) bytes
 
--- bytes that a line feed parts
+-- bytes that a line feed splits
 pub record IsSplit (bytes line behind : List ℕ) : Type 0 where
   pub feedless : IsTrue (is_feedless line)
   pub parts : bytes ≡ line ++ (10 ∷ behind)
 
--- the first of some lines begins so
+-- the first of some lines begins in this way
 pub record GoesOn (lines : List (List ℕ)) (line : List ℕ) : Type 0 where
   pub more : List ℕ
   pub behind : List (List ℕ)
   pub split : lines ≡ (line ++ more) ∷ behind
 
--- A way to part bytes into lines: a line feed ends one, and one that is too long already goes on
--- whatever follows.
+-- A way to split bytes into lines: a line feed ends one, and one that is already too long continues
+-- with whatever follows.
 pub record PartsLines (lines : List ℕ → List (List ℕ)) : Type 0 where
   pub ends : (line rest : List ℕ) → IsTrue (is_feedless line) →
       lines (line ++ (10 ∷ rest)) ≡ line ∷ lines rest

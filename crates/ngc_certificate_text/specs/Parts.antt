@@ -1,4 +1,4 @@
--- What the parts of a line come to. Our own.
+-- The values of the parts of a line. Our own.
 use Rattle.ngc_certificate_text.specs.declared.piece.Cut.{Cut}
 use Rattle.ngc_certificate_text.specs.declared.piece.Cut.TheVariants.{Place}
 use Rattle.ngc_certificate_text.specs.declared.piece.Piece.{Piece}
@@ -14,7 +14,7 @@ use Rattle.ngc_certificate_text.specs.declared.lines.LineFlaw.{LineFlaw}
 use Rattle.ngc_certificate_text.specs.declared.lines.LineFlaw.TheVariants.{Spelling, Range}
 use Rattle.ngc_certificate_text.specs.Lines.{ranged, good_box}
 
--- the box that six numbers say
+-- the box with these six numbers
 abbrev pub box_said : List ℤ → Result GridBox LineFlaw
 box_said (x0 ∷ y0 ∷ z0 ∷ x1 ∷ y1 ∷ z1 ∷ []) =
     let low : StepPos = record { x = x0; y = y0; z = z0 } in
@@ -35,7 +35,7 @@ place_between (Ok u) (Ok v) = Ok (Place (record { u = u; v = v }))
 place_between (Ok u) (Err flaw) = Err Range
 place_between (Err flaw) v = Err Range
 
--- a piece, or what is wrong with its box, or else with its end
+-- a piece, or the flaw of its box, or else of its end
 abbrev pub piece_with : Result Cut LineFlaw → Result GridBox LineFlaw → Result Piece LineFlaw
 piece_with (Ok end) (Ok bounds) = Ok (record { end = end; bounds = bounds })
 piece_with (Err flaw) (Ok bounds) = Err flaw

@@ -1,4 +1,4 @@
--- Places among the motions of both settings, as entries pass them. Our own.
+-- Positions among the motions of both settings, as entries pass them. Our own.
 use Rattle.std.specs.Prelude.{ℕ, ◌+◌, ◌<◌, List}
 use Rattle.ngc_certificate_text.specs.declared.certificate.EntryKind.{EntryKind}
 use Rattle.ngc_certificate_text.specs.declared.certificate.EntryKind.TheVariants.{Both, Off, On}
@@ -7,13 +7,13 @@ use Rattle.ngc_certificate_text.specs.declared.write.Passed.{Passed}
 use Rattle.ngc_certificate_text.specs.Certificate.{Entry, entry_at}
 use Rattle.ngc_certificate_text.specs.Joined.{Item}
 
--- its motions are there, of so many of each setting
+-- the entry's motions exist, with these numbers of motions at each setting
 abbrev pub MayPass : EntryKind → Passed → ℕ → ℕ → Type 0
 MayPass Both p off on = (p.off < off) × (p.on < on)
 MayPass Off p off on = p.off < off
 MayPass On p off on = p.on < on
 
--- the entry that they make
+-- the entry of these motions
 abbrev pub entry_there : EntryKind → List Entry → List Entry → Passed → Item
 entry_there Both off on p =
     record {

@@ -1,10 +1,10 @@
--- What a source's failure does. Our own.
+-- The effect of a source's failure. Our own.
 use Rattle.std.specs.Prelude.{◌≡◌, ℕ, Result, Ok, Err}
 use Rattle.ngc_text.specs.Failures.{Rises}
 use Rattle.ngc_certificate_text.specs.declared.fault.CertificateFault.{CertificateFault}
 use Rattle.ngc_certificate_text.specs.declared.fault.CertificateFault.TheVariants as faults
 
--- the count of failures rises at the answer that the source failed, and stays at every other
+-- the count of failures rises if the result is that the source failed, and stays the same otherwise
 abbrev pub FailsByReading : {X : Type 0} → Result X CertificateFault → ℕ → ℕ → Type 0
 FailsByReading (Ok x) old new = new ≡ old
 FailsByReading (Err faults.WrongHeader) old new = new ≡ old

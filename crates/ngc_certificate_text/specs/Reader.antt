@@ -1,22 +1,22 @@
--- What a reader of a certificate's text will answer, by the fault that it answered and what it
--- makes of the lines. Our own.
+-- The future results of a reader of a certificate's text, from the fault that it returned and what
+-- it makes of the lines. Our own.
 use Rattle.std.specs.Prelude.{◌≡◌, ℕ, List, Option, Some, None, Result, Ok, Err}
 use Rattle.ngc_certificate_text.specs.declared.fault.CertificateFault.{CertificateFault}
 use Rattle.ngc_certificate_text.specs.declared.fault.CertificateFault.TheVariants as faults
 use Rattle.ngc_certificate_text.specs.Parted.{firm_lines}
 use Rattle.ngc_certificate_text.specs.Said.{lines_of}
 
--- what bytes come to, by the way in which they are parted into lines
+-- the result for some bytes, for a way to split them into lines
 abbrev pub Saying : Type 0 → Type 0
 Saying X = (List ℕ → List (List ℕ)) → List ℕ → Result X CertificateFault
 
--- what the text comes to if these bytes follow and no more
+-- the result of the text if these bytes follow and no more
 abbrev pub outcome_by : {X : Type 0} → Option CertificateFault → Saying X → List ℕ →
     Result X CertificateFault
 outcome_by None says rest = says lines_of rest
 outcome_by (Some fault) says rest = Err fault
 
--- what it comes to if those bytes follow what stands once these have come
+-- its result if those bytes follow the certain part of these
 abbrev pub firm_by : {X : Type 0} → Option CertificateFault → Saying X → List ℕ → List ℕ →
     Result X CertificateFault
 firm_by None says bytes rest = says (firm_lines rest) bytes
@@ -24,7 +24,7 @@ firm_by (Some fault) says bytes rest = Err fault
 
 -- ---- a step
 
--- a fault is that of the text, but for want of memory and the source's failure
+-- a fault is that of the text, unless it is lack of memory or the source's failure
 abbrev pub FaultIs : {X : Type 0} → CertificateFault → Result X CertificateFault → Type 0
 FaultIs faults.WrongHeader says = says ≡ Err faults.WrongHeader
 FaultIs (faults.BadLine n) says = says ≡ Err (faults.BadLine n)
@@ -32,17 +32,18 @@ FaultIs (faults.OutOfRange n) says = says ≡ Err (faults.OutOfRange n)
 FaultIs faults.Memory says = Unit {0}
 FaultIs faults.ReadFailed says = Unit {0}
 
--- what came of the text is still to come, or the answer is its fault
+-- the result of the text is still open, or the fault is its result
 abbrev pub StepGives : {X : Type 0} → Result (Unit {0}) CertificateFault →
     Result X CertificateFault → Result X CertificateFault → Type 0
 StepGives (Ok done) before after = before ≡ after
 StepGives (Err fault) before after = FaultIs fault before
 
--- a text is refused so whatever bytes follow
+-- a text is refused with this fault whatever bytes follow
 abbrev pub Stands : {X : Type 0} → CertificateFault → (List ℕ → Result X CertificateFault) → Type 0
 Stands fault says = (rest : List ℕ) → says rest ≡ Err fault
 
--- The answer is the fault that stands whatever follows, or that none does, but for want of memory.
+-- The result is the fault that is certain whatever follows, or none if there is none, unless memory
+-- runs out.
 abbrev pub AnswerIs : {X : Type 0} → Result (Unit {0}) CertificateFault →
     (List ℕ → Result X CertificateFault) → Type 0
 AnswerIs (Ok done) says = (fault : CertificateFault) → ¬ Stands fault says

@@ -1,4 +1,4 @@
--- What a reader of a certificate will answer, as functions of the bytes that follow. Our own.
+-- The future results of a reader of a certificate, as functions of the bytes that follow. Our own.
 use Rattle.std.specs.Prelude.{◌≡◌, ℕ, List, Option, Some, None, Result}
 use Rattle.ngc_certificate_text.specs.declared.fault.CertificateFault.{CertificateFault}
 use Rattle.ngc_certificate_text.specs.declared.reader.CertificateReader.{CertificateReader}
@@ -8,27 +8,27 @@ use Rattle.ngc_certificate_text.specs.Reader.{outcome_by, firm_by}
 use Rattle.ngc_certificate_text.specs.Resumed.{resumed}
 use Rattle.ngc_certificate_text.specs.Said.{form_said}
 
--- what a certificate's text comes to
+-- the result of a certificate's text
 abbrev pub Outcome : Type 0
 Outcome = Result Form CertificateFault
 
--- what the text comes to if these bytes follow those that were fed, and no more
+-- the result of the text if these bytes follow those read so far, and no more
 abbrev pub outcome_in : {A : Type 0} → CertificateReader A → List ℕ → Outcome
 outcome_in r rest = outcome_by r.refusal (resumed r.text) rest
 
--- what it comes to if those bytes follow what stands of the text once these have come
+-- its result if those bytes follow the certain part of the text after these
 abbrev pub firm_in : {A : Type 0} → CertificateReader A → List ℕ → List ℕ → Outcome
 firm_in r bytes rest = firm_by r.refusal (resumed r.text) bytes rest
 
--- the fault that was answered already
+-- the fault that was returned already
 abbrev pub refusal_in : {A : Type 0} → CertificateReader A → Option CertificateFault
 refusal_in r = r.refusal
 
--- how many bytes more the text can have at most
+-- the greatest number of further bytes of the text
 abbrev pub room_in : {A : Type 0} → CertificateReader A → ℕ
 room_in r = room_of r.text.lines
 
--- what a source's bytes come to comes of those that are left, behind those that were fed
+-- the result of a source's bytes depends only on the bytes not yet read
 abbrev pub Goes : {A : Type 0} → Option (List ℕ) → Option (List ℕ) → CertificateReader A → Type 0
 Goes None left r = Unit {0}
 Goes (Some all) None r = ⊥

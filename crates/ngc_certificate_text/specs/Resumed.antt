@@ -1,4 +1,4 @@
--- What the lines so far and those that follow come to. Our own.
+-- The result of the lines so far and those that follow. Our own.
 use Rattle.ngc_certificate_text.specs.declared.text.TextSoFar.{TextSoFar}
 use Rattle.ngc_certificate_text.specs.Ahead.{made_with}
 use Rattle.ngc_certificate_text.specs.Found.{begun_of, gathered, heard_in, IsKept, MayExpect}
@@ -6,7 +6,7 @@ use Rattle.ngc_certificate_text.specs.Joined.{Form}
 use Rattle.ngc_certificate_text.specs.LinesView.{left_by, expected_in, IsReading}
 use Rattle.ngc_certificate_text.specs.Reader.{Saying}
 
--- what these bytes come to behind the lines so far
+-- the result of these bytes after the lines so far
 abbrev pub resumed : {A : Type 0} → TextSoFar A → Saying Form
 resumed t lines bytes = made_with (gathered (begun_of (expected_in t.lines)) (heard_in t.found))
     (left_by lines t.lines bytes)

@@ -1,4 +1,4 @@
--- What the text of a certificate says, line by line, or the first line at fault. Our own.
+-- The contents of a certificate's text, line by line, or the first line at fault. Our own.
 use Rattle.std.specs.Prelude.{◌≡◌, ◌↔◌, ℕ, zero, suc, ◌+◌, min, nat_le, ◌==◌, List, [], ◌∷◌, length}
 use Rattle.std.specs.Prelude.{codes, Result, Ok}
 use Rattle.std.specs.Prelude.{Err, IsTrue, Bool, true, false, ◌&&◌, if◌then◌else◌}
@@ -21,16 +21,16 @@ use Rattle.ngc_certificate_text.specs.EntryLines.{none_left, left_behind}
 use Rattle.ngc_certificate_text.specs.Joined.{Item, IsJoined, Form, Parted, Joined, contents}
 use Rattle.ngc_certificate_text.specs.Spelling.{spelling}
 
--- the lines of a text, each ended by a line feed, and last what stands behind the last line feed
+-- the lines of a text, each ended by a line feed, and last the text after the last line feed
 abbrev pub lines_of : List ℕ → List (List ℕ)
 lines_of text = slice_split (λ b. b == 10) text
 
--- how far a text is read: the number of the next line, from 1, and the lines that are left
+-- the position in a text: the number of the next line, from 1, and the remaining lines
 pub record Place : Type 0 where
   pub number : ℕ
   pub left : List (List ℕ)
 
--- what a part of the text says, and where it ends
+-- the content of a part of the text, and its end
 abbrev pub Said : Type 0 → Type 0
 Said X = Result (X × Place) CertificateFault
 
@@ -38,7 +38,7 @@ abbrev pub then_read : {X Y : Type 0} → Said X → (X → Place → Said Y) �
 then_read (Ok r) more = more r.0 r.1
 then_read (Err fault) more = Err fault
 
--- from 2^32 - 1 on lines are numbered so
+-- all lines from 2^32 - 1 on have that number
 abbrev pub next_number : ℕ → ℕ
 next_number number = min (number + 1) 4294967295
 
@@ -46,7 +46,7 @@ abbrev pub fault_at : ℕ → LineFlaw → CertificateFault
 fault_at number Spelling = BadLine number
 fault_at number Range = OutOfRange number
 
--- what a line says, in front of these lines
+-- the content of a line, before these lines
 abbrev pub line_is : {X : Type 0} → ℕ → Result X LineFlaw → List (List ℕ) → Said X
 line_is number (Ok x) left = Ok (x, record { number = next_number number; left = left })
 line_is number (Err flaw) left = Err (fault_at number flaw)
@@ -62,7 +62,7 @@ line_in said number (line ∷ next ∷ left) =
 unfoldable pub line_at : {X : Type 0} → (List ℕ → Result X LineFlaw) → Place → Said X
 line_at said p = line_in said p.number p.left
 
--- so many parts of one kind
+-- n parts of one kind
 unfoldable pub several : {X : Type 0} → (Place → Said X) → ℕ → Place → Said (List X)
 several said zero p = Ok ([], p)
 several said (suc n) p =
@@ -79,12 +79,12 @@ entry_at p =
 unfoldable pub setting_at : List ℕ → Place → Said (List Entry)
 setting_at name p = then_read (line_at (setting_said name) p) (λ n q. several entry_at n q)
 
--- behind the last line feed stands nothing
+-- there is nothing after the last line feed
 abbrev pub nothing_in : List (List ℕ) → Bool
 nothing_in ([] ∷ []) = true
 nothing_in _ = false
 
--- both settings, the line `end`, and nothing behind it
+-- both settings, the line `end`, and nothing after it
 unfoldable pub settings_at : Place → Said CertificateData
 settings_at p =
     then_read (setting_at (codes "off") p) (λ off q.
@@ -100,7 +100,7 @@ item_at left p =
     then_read (several (line_at piece_said) e.pieces q) (λ pieces r.
     Ok (record { indices = e.indices; pieces = pieces }, r)))
 
--- entries until no motions are left: at most so many
+-- entries until no motions remain: at most n
 unfoldable pub items_at : ℕ → EntriesLeft → Place → Said (List Item)
 items_at zero left p = Ok ([], p)
 items_at (suc n) left p =
@@ -117,18 +117,18 @@ joined_at p =
 
 -- ---- the whole text
 
--- behind it stands nothing
+-- there is nothing after it
 abbrev pub ended : {X : Type 0} → Said X → Result X CertificateFault
 ended (Ok r) = if nothing_in r.1.left then Ok r.0 else Err (BadLine r.1.number)
 ended (Err fault) = Err fault
 
--- what is made of what a text says
+-- a value that is made from the content of a text
 abbrev pub made_with : {X Y : Type 0} → (X → Y) → Result X CertificateFault →
     Result Y CertificateFault
 made_with f (Ok x) = Ok (f x)
 made_with f (Err fault) = Err fault
 
--- what is made of what a part of the text says
+-- a value that is made from the content of a part of the text
 abbrev pub said_with : {X Y : Type 0} → (X → Y) → Said X → Said Y
 said_with f s = then_read s (λ r q. Ok (f r, q))
 
@@ -146,17 +146,17 @@ abbrev pub form_at : Version → Place → Said Form
 form_at One p = said_with Parted (settings_at p)
 form_at Two p = said_with Joined (joined_at p)
 
--- what a text of either version says
+-- the content of a text of either version
 unfoldable pub form_said : List ℕ → Result Form CertificateFault
 form_said text = ended (then_read (header_in (lines_of text)) form_at)
 
--- the motions that it says
+-- its motions
 unfoldable pub certificate_said : List ℕ → Result CertificateData CertificateFault
 certificate_said text = made_with contents (form_said text)
 
 -- ---- the law
 
--- steps are numbers of 32 bits in each box
+-- steps are 32-bit numbers in each box
 abbrev pub has_steps : Entry → Bool
 has_steps e = list_all (λ (p : Piece). are_steps p.bounds.low && are_steps p.bounds.high) e.pieces
 
@@ -167,12 +167,12 @@ pub record HasSteps (c : CertificateData) : Type 0 where
 abbrev pub item_steps : Item → Bool
 item_steps x = list_all (λ (p : Piece). are_steps p.bounds.low && are_steps p.bounds.high) x.pieces
 
--- a form that a text can say
+-- a form that a text can have
 abbrev pub IsForm : Form → Type 0
 IsForm (Parted c) = IsCertificate c × HasSteps c
 IsForm (Joined items) = IsJoined items × IsTrue (list_all item_steps items)
 
--- a text says a form just where it is the form's spelling
+-- a text has a form if and only if it is the form's text
 abbrev pub OneSpelling : Type 0
 OneSpelling =
     (text : List ℕ) (f : Form) → (form_said text ≡ Ok f) ↔ (IsForm f × (text ≡ spelling f))

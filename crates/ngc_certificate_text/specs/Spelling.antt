@@ -10,7 +10,7 @@ use Rattle.ngc_certificate_text.specs.declared.expected.Indices.TheVariants.{Bot
 use Rattle.ngc_certificate_text.specs.Certificate.{Entry, CertificateData}
 use Rattle.ngc_certificate_text.specs.Joined.{Item, expansion, Form, Parted, Joined}
 
--- numbers, each behind one space
+-- numbers, each after one space
 abbrev pub steps_text : StepPos → List ℕ
 steps_text p = codes " " ++ signed_decimal p.x ++ codes " " ++ signed_decimal p.y ++ codes " "
     ++ signed_decimal p.z

@@ -1,4 +1,4 @@
--- What the lines of a certificate's text tell, one by one. Our own.
+-- The contents of the lines of a certificate's text, one by one. Our own.
 use Rattle.std.specs.Prelude.{◌≡◌, ℕ, ◌+◌, ◌-◌, ◌≤◌, nat_le, List, [], ◌∷◌, length, Result, Ok, Err}
 use Rattle.std.specs.Prelude.{Bool, true, false, IsTrue}
 use Rattle.ngc_certificate_text.specs.declared.expected.Expected.{Expected}
@@ -28,7 +28,7 @@ use Rattle.ngc_certificate_text.specs.Joined.{good_indices}
 use Rattle.ngc_certificate_text.specs.Lines.{setting_said, motion_said, piece_said, end_said}
 use Rattle.ngc_certificate_text.specs.Said.{fault_at}
 
--- what is left is this line's version, motion or piece, and what is left behind the line
+-- the rest before a line is the line's version, motion or piece, and the rest after the line
 abbrev pub onto : Told → Rest → Rest
 onto (tell.Header v) r = of_version v r
 onto (tell.Motion b) r = with_items (record { indices = b.indices; pieces = r.pieces } ∷ []) r
@@ -37,7 +37,7 @@ onto (tell.Setting s n) r = r
 onto (tell.Counts off on) r = r
 onto tell.End r = r
 
--- as many pieces are left as the line announced
+-- as many pieces remain as the line declared
 abbrev pub Fits : Told → Rest → Type 0
 Fits (tell.Header v) r = Unit {0}
 Fits (tell.Setting s n) r = Unit {0}
@@ -46,12 +46,12 @@ Fits (tell.Motion b) r = length r.pieces ≡ b.pieces_left
 Fits (tell.Piece b p) r = length r.pieces + 1 ≡ b.pieces_left
 Fits tell.End r = r.items ≡ []
 
--- a line stands in front of the rest of the text
+-- a line is in front of the rest of the text
 abbrev pub IsFront : Told → Left → Left → Type 0
 IsFront told before (Ok r) = (before ≡ Ok (onto told r)) × Fits told r
 IsFront told before (Err fault) = before ≡ Err fault
 
--- ---- which line comes behind another
+-- ---- the line that follows another
 
 abbrev pub behind_version : Version → Expected
 behind_version One = next.Setting Off
@@ -70,7 +70,7 @@ behind_told (tell.Motion b) = next.Piece b
 behind_told (tell.Piece b p) = behind_piece (nat_le b.pieces_left 1) b
 behind_told tell.End = next.Nothing
 
--- while these motions are to come, how many of a setting may
+-- the number of motions of a setting that may still follow, if these motions remain
 abbrev pub left_at : MotionsLeft → Setting → ℕ
 left_at (Parted Off left) Off = left
 left_at (Parted Off left) On = MOTION_LIMIT
@@ -79,7 +79,7 @@ left_at (Parted On left) On = left
 left_at (Joined left) Off = left.off
 left_at (Joined left) On = left.on
 
--- how many motions of a setting an entry is
+-- the number of motions of a setting in an entry
 abbrev pub taken_at : Indices → Setting → ℕ
 taken_at (of.Both i j) s = 1
 taken_at (of.Off i) Off = 1
@@ -87,7 +87,7 @@ taken_at (of.Off i) On = 0
 taken_at (of.On j) Off = 0
 taken_at (of.On j) On = 1
 
--- a motion's line announces some pieces, and the motion counts as one of its setting
+-- a motion's line declares at least one piece, and the motion counts as one of its setting
 pub record IsMotionTold (e : Expected) (b : BegunMotion) : Type 0 where
   pub left : MotionsLeft
   pub expected : e ≡ next.Motion left
@@ -97,7 +97,7 @@ pub record IsMotionTold (e : Expected) (b : BegunMotion) : Type 0 where
   pub some : 1 ≤ b.pieces_left
   pub few : b.pieces_left ≤ PIECE_LIMIT
 
--- a line that is expected may tell this
+-- a line of the expected kind may have this content
 abbrev pub IsNext : Expected → Told → Type 0
 IsNext e (tell.Header v) = e ≡ next.Header
 IsNext e (tell.Setting s n) = (e ≡ next.Setting s) × (n ≤ MOTION_LIMIT)
@@ -106,7 +106,7 @@ IsNext e (tell.Motion b) = IsMotionTold e b
 IsNext e (tell.Piece b p) = (e ≡ next.Piece b) × IsTrue (good_piece p)
 IsNext e tell.End = e ≡ next.End
 
--- ---- what a line tells, where this one is expected
+-- ---- the content of a line, if this one is expected
 
 abbrev pub told_with : {X : Type 0} → (X → Told) → Result X LineFlaw → Result Told LineFlaw
 told_with f (Ok x) = Ok (f x)
@@ -133,7 +133,7 @@ told_by (next.Piece b) line = told_with (tell.Piece b) (piece_said line)
 told_by next.End line = told_with (λ _. tell.End) (end_said line)
 told_by next.Nothing line = Err Spelling
 
--- why a line is refused, where this one is expected
+-- why a line is refused, if this one is expected
 abbrev pub fault_of : Expected → ℕ → LineFlaw → CertificateFault
 fault_of next.Header number flaw = faults.WrongHeader
 fault_of (next.Setting s) number flaw = fault_at number flaw
@@ -143,7 +143,7 @@ fault_of (next.Piece b) number flaw = fault_at number flaw
 fault_of next.End number flaw = fault_at number flaw
 fault_of next.Nothing number flaw = fault_at number flaw
 
--- a line comes in front of the rest, or the text has its fault
+-- a line is in front of the rest, or the text has its fault
 abbrev pub Tells : Result Told CertificateFault → Left → Left → Type 0
 Tells (Ok told) before after = IsFront told before after
 Tells (Err fault) before after = before ≡ Err fault

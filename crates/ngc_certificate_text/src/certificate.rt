@@ -9,7 +9,7 @@ use crate::motions::Motions;
 use crate::piece::Setting;
 use std::alloc::{AllocError, Allocator};
 
-/// Of which settings an entry of version 2 is a motion.
+/// The settings for which an entry of version 2 is a motion.
 #[derive(Clone, Copy)]
 pub enum EntryKind {
     Both,
@@ -24,13 +24,13 @@ pub struct Certificate<A: Allocator> {
     pub on: Motions<A>,
     // The kinds of its entries in order, if it is of version 2.
     pub(crate) order: Option<Vec<EntryKind, A>>,
-    // Its entries are all those motions.
+    // The entries are all these motions.
     ghost whole: { (kinds : List EntryKind) → option_map (λ k. k.items) order ≡ Some kinds →
         IsWhole kinds off on } by { Prim.hlevel props },
 }
 
-// The kinds of the entries where the first `both` motions of each setting are joined: so many
-// motions each setting has.
+// Returns the kinds of the entries if the first `both` motions of each setting are joined. The
+// settings have `off` and `on` motions.
 fn kinds_of<A: Allocator>(
     alloc: A,
     both: usize,
@@ -59,7 +59,7 @@ impl<A: Allocator> Certificate<A> {
     ghost use Rattle.ngc_certificate_text.specs.Joined.{Parted, Joined, IsJoined, contents};
     ghost use Rattle.ngc_certificate_text.specs.JoinedFirst.{joined_first, HaveSamePieces};
 
-    /// A certificate of version 1.
+    /// Returns a certificate of version 1.
     pub fn parted(off: Motions<A>, on: Motions<A>) -> Certificate<A>
         ensures said { said_of result ≡ record { off = off; on = on } }
         ensures form { form_of result ≡ Parted (record { off = off; on = on }) }
@@ -71,16 +71,15 @@ impl<A: Allocator> Certificate<A> {
         }
     }
 
-    /// The same motions as a certificate of version 2: the first `both` of each setting are joined,
-    /// which have the same pieces, and the others stand alone, those of `off` first. The memory for
-    /// that is of `alloc`.
+    /// Returns the same motions as a certificate of version 2. The first `both` motions of each
+    /// setting, which must have the same pieces, are joined. The others are entries of one setting,
+    /// those of `off` first. The memory is from `alloc`.
     pub fn joined(self, alloc: A, both: usize) -> Result<Certificate<A>, AllocError>
         requires { HaveSamePieces both (said_of self).off (said_of self).on }
         ensures said { IfOk result (λ c. said_of c ≡ said_of self) }
         ensures form { IfOk result
             (λ c. form_of c ≡ Joined (joined_first both (said_of self).off (said_of self).on)) }
-        // Its entries are in range, and none of `off` alone stands directly behind one of `on`
-        // alone.
+        // Its entries are in range, and no entry of `off` alone directly follows one of `on` alone.
         ensures entries { IsJoined (joined_first both (said_of self).off (said_of self).on) }
     {
         let Certificate { off, on, order: _ } = self;
@@ -88,7 +87,7 @@ impl<A: Allocator> Certificate<A> {
         Ok(Certificate { off, on, order })
     }
 
-    /// The motions at a setting.
+    /// Returns the motions at a setting.
     pub fn motions(&self, setting: Setting) -> &Motions<A>
         ensures { result.now ≡ entries_at setting (said_of self.now) }
     {

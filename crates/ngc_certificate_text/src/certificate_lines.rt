@@ -15,16 +15,16 @@ use crate::told::Told;
 use arrayvec::ArrayVec;
 use memchr::memchr;
 
-/// The lines of a certificate's text that comes in pieces of any size: each is read as soon as its
-/// line feed has come. Of the text no more is kept than a line that a piece's end cut, and of the
-/// certificate nothing.
+/// The lines of a certificate's text that arrives in pieces of any size. Each line is read when its
+/// line feed arrives. It stores no more of the text than a line that the end of a piece cut, and
+/// nothing of the certificate.
 #[derive(Drop)]
 pub struct CertificateLines {
     next: NextLine,
     cut: ArrayVec<u8, 256>,
 }
 
-// The first line of some bytes, and what stands behind its line feed.
+// Returns the first line of some bytes, and the bytes after its line feed.
 fn split_line(bytes: &[u8]) -> Option<(&[u8], &[u8])>
     ensures { MatchOption result (IsTrue (is_feedless bytes.now))
         (λ p. IsSplit bytes.now p.0.now p.1.now) }
@@ -35,7 +35,7 @@ fn split_line(bytes: &[u8]) -> Option<(&[u8], &[u8])>
 }
 
 impl CertificateLines {
-    /// Nothing of the text has come yet.
+    /// Returns the state before the first byte of the text.
     pub fn new() -> CertificateLines
         ensures reading { IsReading result }
         ensures expected { expected_in result ≡ expect.Header }
@@ -56,7 +56,7 @@ impl CertificateLines {
         }
     }
 
-    // More of the line that is cut.
+    // Adds bytes to the line that is cut.
     fn keep(&mut self, bytes: &[u8]) -> Result<(), CertificateFault>
         requires reading { IsReading self.old }
         requires feedless { IsTrue (is_feedless bytes.now) }
@@ -76,7 +76,7 @@ impl CertificateLines {
         }
     }
 
-    // The line that is cut ends here.
+    // Reads the line that is cut, which ends here.
     fn end_cut(&mut self) -> Result<Told, CertificateFault>
         requires { IsReading self.old }
         ensures step { (next : List ℕ) (left : List (List ℕ)) →
@@ -101,7 +101,7 @@ impl CertificateLines {
         }
     }
 
-    // Bytes that a line feed ends.
+    // Reads a line that ends with these bytes and a line feed.
     fn end_line(&mut self, bytes: &[u8]) -> Result<Told, CertificateFault>
         requires reading { IsReading self.old }
         requires feedless { IsTrue (is_feedless bytes.now) }
@@ -124,16 +124,17 @@ impl CertificateLines {
         }
     }
 
-    /// What the first line tells that ends in these bytes, with the bytes behind it; or `None`
-    /// where no line ends in them, and they are kept. A fault is answered as soon as it stands:
-    /// with its line's line feed, with the 257th byte of a line that is too long, or with the line
-    /// before it where no line may follow that one. Behind a fault there is nothing more to ask.
+    /// Returns the content of the first line that ends in these bytes, and the bytes after it. If
+    /// no line ends in them, it stores them and returns `None`. It returns a fault as soon as it is
+    /// certain: with its line's line feed, with the 257th byte of a line that is too long, or with
+    /// the line before it if no line may follow that one. After a fault it must not be called
+    /// again.
     pub fn next<'a>(
         &mut self,
         bytes: &'a [u8],
     ) -> Result<Option<(Told, &'a [u8])>, CertificateFault>
         requires { IsReading self.old }
-        // However the bytes that follow are parted into lines.
+        // This holds however the following bytes are split into lines.
         ensures step { (lines : List ℕ → List (List ℕ)) → PartsLines lines → (rest : List ℕ) →
             MatchResult result
             (λ o. MatchOption o
@@ -145,7 +146,7 @@ impl CertificateLines {
             (λ o. MatchOption o (expected_in self.new ≡ expected_in self.old)
             (λ p. IsNext (expected_in self.old) p.0 × (expected_in self.new ≡ behind_told p.0))) }
         ensures reading { OnOk result (IsReading self.new) }
-        // A text is no longer than its lines may be.
+        // A text is no longer than the limits of its lines allow.
         ensures room { IfOk result
             (λ o. MatchOption o (room_of self.new + length bytes.now ≤ room_of self.old)
             (λ p. room_of self.new + length bytes.now ≤ room_of self.old + length p.1.now)) }
@@ -165,7 +166,8 @@ impl CertificateLines {
         }
     }
 
-    /// Whether bytes stand behind the end of the text, so that what follows changes nothing.
+    /// Returns whether there are bytes after the end of the text, so that the following bytes
+    /// change nothing.
     pub fn goes_too_far(&self) -> bool
         ensures { IsTrue result → IsReading self.now → (rest : List ℕ) →
             left_by lines_of self.now rest ≡ left_by lines_of self.now [] }
@@ -173,8 +175,8 @@ impl CertificateLines {
         self.next.has_ended() && !self.cut.is_empty()
     }
 
-    /// Whether the text has ended, where no byte comes any more; else the fault of a line that is
-    /// missing or lacks its line feed.
+    /// Checks, after the last byte, that the text has ended. Otherwise it returns the fault of a
+    /// line that is missing or lacks its line feed.
     pub fn finish(&self) -> Result<(), CertificateFault>
         requires { IsReading self.now }
         ensures said { MatchResult result (λ _. left_by lines_of self.now [] ≡ Ok nothing_left)

@@ -7,8 +7,8 @@ ghost use Rattle.ngc_certificate_text.specs.Told.{behind_piece, behind_told, beh
 use crate::piece::Setting;
 use crate::told::{Told, Version};
 
-/// The index of a motion in its setting's list of commands, 0 to 999,999, or those of one motion of
-/// each setting.
+/// The index of a motion in its setting's list of commands, 0 to 999,999, or the indexes of one
+/// motion of each setting.
 #[derive(Clone, Copy)]
 pub enum Indices {
     /// A motion of each setting with the same pieces: its index at `off`, and at `on`.
@@ -17,49 +17,49 @@ pub enum Indices {
     On(u32),
 }
 
-/// The entries of version 2 that come yet.
+/// The remaining entries of version 2.
 #[derive(Clone, Copy)]
 pub struct EntriesLeft {
-    /// How many motions of `off` they are.
+    /// The number of remaining motions of `off`.
     pub off: u32,
-    /// How many motions of `on` they are.
+    /// The number of remaining motions of `on`.
     pub on: u32,
-    /// Whether they come directly behind a motion of `on` alone, so that none of `off` alone may
-    /// come first.
+    /// Whether the last entry was a motion of `on` alone, so that one of `off` alone may not be
+    /// next.
     pub behind_on: bool,
 }
 
-/// The motions that come yet.
+/// The remaining motions.
 #[derive(Clone, Copy)]
 pub enum MotionsLeft {
-    /// So many of a setting: version 1.
+    /// Version 1: a setting, and the number of its remaining motions.
     Parted(Setting, u32),
-    /// Those of both settings: version 2.
+    /// Version 2: those of both settings.
     Joined(EntriesLeft),
 }
 
-/// A motion whose pieces are read, or in version 2 one of each setting.
+/// A motion whose pieces are being read, or in version 2 one of each setting.
 #[derive(Clone, Copy)]
 pub struct BegunMotion {
     pub indices: Indices,
-    /// The pieces that come yet.
+    /// The number of remaining pieces.
     pub pieces_left: u32,
-    /// The motions that come behind this one.
+    /// The motions after this one.
     pub behind: MotionsLeft,
 }
 
-/// The line of a certificate that comes next.
+/// The next line of a certificate.
 #[derive(Clone, Copy)]
 pub enum Expected {
     Header,
     Setting(Setting),
-    /// The counts of version 2.
+    /// The counts, in version 2.
     Counts,
-    /// A motion's; these come yet.
+    /// The line of a motion; these motions remain.
     Motion(MotionsLeft),
     Piece(BegunMotion),
     End,
-    /// None: the text has ended.
+    /// No line: the text has ended.
     Nothing,
 }
 
@@ -82,7 +82,7 @@ fn entries(left: EntriesLeft) -> Expected
     }
 }
 
-// What comes next where these motions do.
+// Returns the next line if these motions remain.
 fn motions(left: MotionsLeft) -> Expected
     ensures { result ≡ next_of_motions left }
 {
@@ -94,35 +94,35 @@ fn motions(left: MotionsLeft) -> Expected
 }
 
 impl EntriesLeft {
-    /// Whether a motion of each setting may come next.
+    /// Returns whether a motion of each setting may be next.
     pub(crate) fn may_be_both(&self) -> bool
         ensures { result ≡ may_come self.now (Indices.Both 0 0) }
     {
         self.off > 0 && self.on > 0
     }
 
-    /// Whether one of `off` alone may.
+    /// Returns whether a motion of `off` alone may be next.
     pub(crate) fn may_be_off(&self) -> bool
         ensures { result ≡ may_come self.now (Indices.Off 0) }
     {
         self.off > 0 && !self.behind_on
     }
 
-    /// Whether one of `on` alone may.
+    /// Returns whether a motion of `on` alone may be next.
     pub(crate) fn may_be_on(&self) -> bool
         ensures { result ≡ may_come self.now (Indices.On 0) }
     {
         self.on > 0
     }
 
-    // Whether some entry may come next.
+    // Returns whether some entry may be next.
     fn go_on(&self) -> bool
         ensures { result ≡ go_on (MotionsLeft.Joined self.now) }
     {
         !self.behind_on || self.off == 0 || self.on > 0
     }
 
-    // What comes yet behind an entry.
+    // Returns the remaining entries after an entry.
     fn behind(self, indices: Indices) -> EntriesLeft
         ensures { result ≡ left_behind self indices }
     {
@@ -148,7 +148,7 @@ impl EntriesLeft {
 }
 
 impl MotionsLeft {
-    /// What comes yet behind a motion, or one of each setting.
+    /// Returns the remaining motions after a motion, or after one of each setting.
     pub(crate) fn behind(self, indices: Indices) -> MotionsLeft
         ensures { result ≡ motions_behind self indices }
     {
@@ -161,7 +161,7 @@ impl MotionsLeft {
     }
 }
 
-// What comes behind a piece of a motion.
+// Returns the next line after a piece of a motion.
 fn behind_piece(begun: &BegunMotion) -> Expected
     ensures { result ≡ behind_piece (nat_le begun.now.pieces_left 1) begun.now }
 {
@@ -176,7 +176,7 @@ fn behind_piece(begun: &BegunMotion) -> Expected
 }
 
 impl Version {
-    // What comes behind the first line.
+    // Returns the next line after the first one.
     fn second_line(self) -> Expected
         ensures { result ≡ behind_version self }
     {
@@ -188,8 +188,9 @@ impl Version {
 }
 
 impl Expected {
-    /// Whether some line may come next. After an entry of the last motion of `on` alone none may
-    /// while motions of `off` are left: `off` may not follow it, and `both` needs one of each.
+    /// Returns whether some line may be next. After an entry of the last motion of `on` alone, none
+    /// may be next while motions of `off` remain: `off` may not follow it, and `both` needs one of
+    /// each.
     pub(crate) fn is_open(&self) -> bool
         ensures { result ≡ is_open self.now }
     {
@@ -199,7 +200,7 @@ impl Expected {
         }
     }
 
-    /// What comes behind a line.
+    /// Returns the next line after a line.
     pub(crate) fn behind_told(told: &Told) -> Expected
         ensures { result ≡ behind_told told.now }
     {

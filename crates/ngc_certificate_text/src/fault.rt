@@ -2,19 +2,20 @@ ghost use Rattle.std.specs.Prelude.{◌≡◌};
 
 use thiserror::Error;
 
-/// Why a text is not read as a certificate.
+/// The reasons why a text is not read as a certificate.
 #[derive(Clone, Copy, Debug, PartialEq, Eq, Error)]
 pub enum CertificateFault {
-    /// The first line is another, or lacks its line feed.
+    /// The first line is wrong, or lacks its line feed.
     #[error("no certificate of version 1 or 2")]
     WrongHeader,
-    /// The line of this number, from 1, is wrong or missing, or stands behind the end.
+    /// The line with this number, from 1, is wrong or missing, or is after the end.
     #[error("wrong line {}", .0)]
     BadLine(u32),
-    /// In the line of this number, from 1, a number is out of its range or a box is inside out.
+    /// A number in the line with this number, from 1, is out of its range, or a box's low corner is
+    /// above its high corner.
     #[error("number out of range in line {}", .0)]
     OutOfRange(u32),
-    /// There was no memory for the certificate.
+    /// There is no memory for the certificate.
     #[error("out of memory")]
     Memory,
     /// The source failed.
@@ -25,7 +26,7 @@ pub enum CertificateFault {
 impl CertificateFault {
     ghost use Rattle.ngc_certificate_text.specs.Faults.{number_of, line_of};
 
-    /// The fault's number: 301 to 303, 900 or 901.
+    /// Returns the fault's number: 301 to 303, 900 or 901.
     pub fn number(&self) -> u16
         ensures { result ≡ number_of self.now }
     {
@@ -38,7 +39,8 @@ impl CertificateFault {
         }
     }
 
-    /// The line at fault, from 1, if it is one. From 2^32 - 1 on lines are numbered so.
+    /// Returns the number of the line at fault, from 1, if a line is at fault. All lines from 2^32
+    /// - 1 on have that number.
     pub fn line(&self) -> Option<u32>
         ensures { result ≡ line_of self.now }
     {

@@ -11,8 +11,8 @@ use crate::piece::Piece;
 use crate::told::{Told, Version};
 use std::alloc::{AllocError, Allocator};
 
-/// The certificate as far as its lines have come: the motions that are whole, and the pieces so far
-/// of one that has begun.
+/// The part of a certificate that was read so far: the complete motions, and the pieces of one that
+/// has begun.
 #[derive(Drop)]
 pub struct Found<A: Allocator> {
     version: Option<Version>,
@@ -33,7 +33,7 @@ fn push_kind<A: Allocator>(order: &mut Vec<EntryKind, A>, kind: EntryKind) -> Re
 }
 
 impl<A: Allocator> Found<A> {
-    /// No line has come yet.
+    /// Returns the state before the first line.
     pub(crate) fn new(alloc: A) -> Found<A>
     where
         A: Copy,
@@ -50,7 +50,7 @@ impl<A: Allocator> Found<A> {
         }
     }
 
-    // The pieces are all those of a motion, or of one of each setting.
+    // Adds an entry with the pieces read so far.
     fn push_entry(&mut self, indices: Indices) -> Result<(), AllocError>
         requires kept { IsKept self.old }
         requires room { HasRoomFor indices (heard_in self.old).items }
@@ -80,7 +80,7 @@ impl<A: Allocator> Found<A> {
         }
     }
 
-    // A motion has one piece more.
+    // Adds a piece to the motion that has begun.
     fn add_piece(&mut self, begun: &BegunMotion, piece: Piece) -> Result<(), AllocError>
         requires may { MayTake (Told.Piece begun.now piece) (heard_in self.old) }
         requires kept { IsKept self.old }
@@ -98,7 +98,7 @@ impl<A: Allocator> Found<A> {
         Ok(())
     }
 
-    /// One line more.
+    /// Adds the content of one line.
     pub(crate) fn take(&mut self, told: &Told) -> Result<(), AllocError>
         requires may { MayTake told.now (heard_in self.old) }
         requires kept { IsKept self.old }
@@ -119,7 +119,7 @@ impl<A: Allocator> Found<A> {
         }
     }
 
-    /// The certificate, where no line comes any more.
+    /// Returns the certificate, after the last line.
     pub(crate) fn into_certificate(self) -> Certificate<A>
         requires { IsKept self }
         ensures form { form_of result ≡ form_by self.version (heard_in self).items }

@@ -25,31 +25,31 @@ use crate::piece::{Cut, Piece, Setting};
 use crate::told::Version;
 use ngc_fixed_length::{GridBox, Nm, Point2, StepPos};
 
-/// Why a line is refused.
+/// The reasons why a line is refused.
 #[derive(Clone, Copy)]
 pub enum LineFlaw {
-    /// It is spelled wrong.
+    /// It is written wrong.
     Spelling,
-    /// A number is out of its range, or a box is inside out.
+    /// A number is out of its range, or a box's low corner is above its high corner.
     Range,
 }
 
-/// What the line of an entry says: its motions' indices in the lists of commands, and how many
-/// pieces they have.
+/// The content of an entry's line: its motions' indexes in the lists of commands, and the number of
+/// their pieces.
 #[derive(Clone, Copy)]
 pub struct EntryLine {
     pub indices: Indices,
     pub pieces: u32,
 }
 
-/// How many motions both settings have.
+/// The numbers of motions of both settings.
 #[derive(Clone, Copy)]
 pub struct CountsLine {
     pub off: u32,
     pub on: u32,
 }
 
-/// What the line of a motion says: its index in the list of commands, and how many pieces it has.
+/// The content of a motion's line: its index in the list of commands, and the number of its pieces.
 #[derive(Clone, Copy)]
 pub struct MotionLine {
     pub index: u32,
@@ -118,7 +118,7 @@ fn box_between(
     }
 }
 
-// The box that six numbers say.
+// Returns the box with these six numbers.
 fn box_in(numbers: &[i64]) -> Result<GridBox, LineFlaw>
     ensures { result ≡ box_said numbers.now }
 {
@@ -128,7 +128,7 @@ fn box_in(numbers: &[i64]) -> Result<GridBox, LineFlaw>
     }
 }
 
-// Where a piece of a line motion ends.
+// Returns the end of a piece of a line motion.
 fn part(number: i64) -> Result<Cut, LineFlaw>
     ensures { result ≡ ranged (is_count 1 WHOLE number) (Cut.Part (unsigned_abs number)) }
 {
@@ -138,7 +138,7 @@ fn part(number: i64) -> Result<Cut, LineFlaw>
     }
 }
 
-// Where a piece of an arc ends.
+// Returns the end of a piece of an arc.
 fn place(u: Result<Nm, LineFlaw>, v: Result<Nm, LineFlaw>) -> Result<Cut, LineFlaw>
     ensures { result ≡ place_between u v }
 {
@@ -232,7 +232,7 @@ fn motion_counts(numbers: &[i64]) -> Result<CountsLine, LineFlaw>
     }
 }
 
-// An entry of both settings.
+// Returns an entry of both settings.
 fn both_of(
     off: Result<u32, LineFlaw>,
     motion: Result<MotionLine, LineFlaw>,
@@ -323,7 +323,7 @@ pub(crate) fn is_text(bytes: &[u8], text: &[u8]) -> bool
     bytes == text
 }
 
-/// How many motions the setting of this name has, if the line says it.
+/// Returns the number of motions of the setting with this name, from its line.
 pub(crate) fn setting_line(name: &[u8], line: &[u8]) -> Result<u32, LineFlaw>
     ensures { result ≡ setting_said name.now line.now }
 {
@@ -342,7 +342,7 @@ pub(crate) fn setting_line(name: &[u8], line: &[u8]) -> Result<u32, LineFlaw>
     one_count_in(numbers)
 }
 
-/// A motion's index and number of pieces, if the line says them.
+/// Returns a motion's index and number of pieces, from its line.
 pub(crate) fn motion_line(line: &[u8]) -> Result<MotionLine, LineFlaw>
     ensures { result ≡ motion_said line.now }
 {
@@ -354,7 +354,7 @@ pub(crate) fn motion_line(line: &[u8]) -> Result<MotionLine, LineFlaw>
     }
 }
 
-/// The version, if the line says one.
+/// Returns the version, from the first line.
 pub(crate) fn version_line(line: &[u8]) -> Result<Version, LineFlaw>
     ensures { result ≡ version_said line.now }
 {
@@ -367,7 +367,7 @@ pub(crate) fn version_line(line: &[u8]) -> Result<Version, LineFlaw>
     }
 }
 
-/// How many motions both settings have, if the line says it.
+/// Returns the numbers of motions of both settings, from their line.
 pub(crate) fn counts_line(line: &[u8]) -> Result<CountsLine, LineFlaw>
     ensures { result ≡ counts_said line.now }
 {
@@ -403,7 +403,7 @@ fn on_entry(motion: Result<MotionLine, LineFlaw>) -> Result<EntryLine, LineFlaw>
     }
 }
 
-/// The motion of a setting in version 1, if the line says one.
+/// Returns the motion of a setting in version 1, from its line.
 pub(crate) fn setting_motion(setting: Setting, line: &[u8]) -> Result<EntryLine, LineFlaw>
     ensures { result ≡ of_setting (index_at setting) (motion_said line.now) }
 {
@@ -413,14 +413,14 @@ pub(crate) fn setting_motion(setting: Setting, line: &[u8]) -> Result<EntryLine,
     }
 }
 
-// Whether a word names an entry that may come.
+// Returns whether a word is the name of an entry that may be next.
 fn is_entry(word: &[u8], name: &[u8], may_come: bool) -> bool
     ensures { result ≡ (bytes_eq word.now name.now && may_come) }
 {
     is_text(word, name) && may_come
 }
 
-/// An entry that may come, if the line says one.
+/// Returns an entry that may be next, from its line.
 pub(crate) fn entry_line(left: &EntriesLeft, line: &[u8]) -> Result<EntryLine, LineFlaw>
     ensures { result ≡ entry_said left.now line.now }
 {
@@ -436,7 +436,7 @@ pub(crate) fn entry_line(left: &EntriesLeft, line: &[u8]) -> Result<EntryLine, L
     }
 }
 
-/// A piece, if the line says it.
+/// Returns a piece, from its line.
 pub(crate) fn piece_line(line: &[u8]) -> Result<Piece, LineFlaw>
     ensures { result ≡ piece_said line.now }
 {
@@ -450,7 +450,7 @@ pub(crate) fn piece_line(line: &[u8]) -> Result<Piece, LineFlaw>
     }
 }
 
-/// Whether the line is the last one.
+/// Checks that the line is the last one.
 pub(crate) fn end_line(line: &[u8]) -> Result<(), LineFlaw>
     ensures { result ≡ end_said line.now }
 {

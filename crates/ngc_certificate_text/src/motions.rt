@@ -8,7 +8,7 @@ use crate::piece::Piece;
 use std::alloc::{AllocError, Allocator};
 use std::marker::Model;
 
-// A motion, and which of the pieces are its own.
+// A motion, and the range of its pieces.
 #[derive(Clone, Copy)]
 struct Held {
     index: u32,
@@ -16,8 +16,8 @@ struct Held {
     start: usize,
 }
 
-/// The motions of a setting, in order: each with its index in the list of commands, at most
-/// 999,999, and with its pieces, 1 to 65,535. There are at most 1,000,000 motions.
+/// The motions of a setting, in order. Each has its index in the list of commands, at most 999,999,
+/// and its pieces, 1 to 65,535. There are at most 1,000,000 motions.
 #[derive(Drop)]
 pub struct Motions<A: Allocator> {
     held: Vec<Held, A>,
@@ -37,7 +37,7 @@ impl<A: Allocator> Model for Motions<A> {
 }
 
 impl<A: Allocator + Copy> Motions<A> {
-    /// No motions, with memory of `alloc`.
+    /// Returns an empty list of motions, with memory from `alloc`.
     pub fn new(alloc: A) -> Motions<A>
         ensures { result ≡ [] }
     {
@@ -47,7 +47,7 @@ impl<A: Allocator + Copy> Motions<A> {
         }
     }
 
-    /// The same motions, with memory of `alloc`.
+    /// Returns a copy of the motions, with memory from `alloc`.
     pub fn copy(&self, alloc: A) -> Result<Motions<A>, AllocError>
         ensures { IfOk result (λ m. m ≡ self.now) }
     {
@@ -58,7 +58,7 @@ impl<A: Allocator + Copy> Motions<A> {
 }
 
 impl<A: Allocator> Motions<A> {
-    /// The number of motions.
+    /// Returns the number of motions.
     pub fn len(&self) -> usize
         ensures value { result ≡ length self.now }
         ensures limit { result ≤ MOTION_LIMIT }
@@ -66,14 +66,14 @@ impl<A: Allocator> Motions<A> {
         self.held.len()
     }
 
-    /// Whether there are no motions.
+    /// Returns whether there are no motions.
     pub fn is_empty(&self) -> bool
         ensures { IsTrue result ↔ (self.now ≡ []) }
     {
         self.len() == 0
     }
 
-    /// The index of motion `i` in the list of commands. `i` is below `len`.
+    /// Returns the index of motion `i` in the list of commands. `i` is below `len`.
     pub fn index(&self, i: usize) -> u32
         requires { i < length self.now }
         ensures { result ≡ (entry_at self.now i).index }
@@ -81,7 +81,7 @@ impl<A: Allocator> Motions<A> {
         self.held[i].index
     }
 
-    /// The pieces of motion `i`, in order. `i` is below `len`.
+    /// Returns the pieces of motion `i`, in order. `i` is below `len`.
     pub fn pieces(&self, i: usize) -> &[Piece]
         requires { i < length self.now }
         ensures value { result.now ≡ (entry_at self.now i).pieces }
@@ -93,7 +93,7 @@ impl<A: Allocator> Motions<A> {
         &self.pieces[held.start..held.start + usize::from(held.count)]
     }
 
-    /// Adds a motion. Where memory is refused nothing is added.
+    /// Adds a motion. If memory is refused, nothing is added.
     pub fn push(&mut self, index: u32, pieces: &[Piece]) -> Result<(), AllocError>
         requires entry { IsEntry (record { index = index; pieces = pieces.now }) }
         requires room { length self.old < MOTION_LIMIT }

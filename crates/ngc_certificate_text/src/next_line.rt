@@ -18,7 +18,7 @@ use crate::told::Told;
 
 const LINE_BYTES: usize = 256;
 
-/// Which line of a certificate comes next, and its number from 1.
+/// The next line of a certificate: its kind, and its number from 1.
 #[derive(Clone, Copy)]
 pub struct NextLine {
     pub expected: Expected,
@@ -70,7 +70,7 @@ fn any_line(left: MotionsLeft, line: &[u8]) -> Result<EntryLine, LineFlaw>
     }
 }
 
-// One of these motions.
+// Returns the content of the line of one of these motions.
 fn motion_told(left: MotionsLeft, line: &[u8]) -> Result<Told, LineFlaw>
     ensures { result ≡ told_with (motion_told left) (any_said left line.now) }
 {
@@ -103,7 +103,7 @@ fn end_told(line: &[u8]) -> Result<Told, LineFlaw>
 }
 
 impl NextLine {
-    /// The first line.
+    /// Returns the first line.
     pub(crate) fn first() -> NextLine
         ensures { result ≡ record { expected = Expected.Header; number = 1 } }
     {
@@ -113,7 +113,7 @@ impl NextLine {
         }
     }
 
-    // What a line tells.
+    // Returns the content of a line.
     fn told(&self, line: &[u8]) -> Result<Told, LineFlaw>
         ensures { result ≡ told_by self.now.expected line.now }
     {
@@ -128,7 +128,7 @@ impl NextLine {
         }
     }
 
-    // Why a line is refused.
+    // Returns why a line is refused.
     fn fault(&self, flaw: LineFlaw) -> CertificateFault
         ensures { result ≡ fault_of self.now.expected self.now.number flaw }
     {
@@ -139,7 +139,7 @@ impl NextLine {
         }
     }
 
-    /// Why the text is refused if the line that comes next is missing or too long.
+    /// Returns the fault of the text if the next line is missing or too long.
     pub(crate) fn wrong_line(&self) -> CertificateFault
         ensures { result ≡ wrong_line self.now.expected self.now.number }
     {
@@ -149,7 +149,7 @@ impl NextLine {
         }
     }
 
-    // The line that follows one that tells this.
+    // Returns the line after one with this content.
     fn behind(&self, told: &Told) -> NextLine
         ensures { result ≡ record {
           expected = behind_told told.now;
@@ -162,8 +162,8 @@ impl NextLine {
         }
     }
 
-    /// What the next line tells. Where no line may follow it, the text is refused at the line that
-    /// would. A refusal leaves all as it was.
+    /// Reads the next line and returns its content. If no line may follow it, the text is refused
+    /// at the following line. A refusal changes nothing.
     pub(crate) fn read(&mut self, line: &[u8]) -> Result<Told, CertificateFault>
         requires { IsSound self.old.expected self.old.number }
         ensures tells { (next : List ℕ) (left : List (List ℕ)) →
@@ -184,7 +184,7 @@ impl NextLine {
         match self.told(line) {
             Ok(told) => {
                 let next = self.behind(&told);
-                // Whatever follows is wrong, so the fault stands already.
+                // Whatever follows is wrong, so the fault is already certain.
                 if !next.expected.is_open() {
                     return Err(next.wrong_line());
                 }
@@ -195,7 +195,7 @@ impl NextLine {
         }
     }
 
-    /// Whether the text has ended.
+    /// Returns whether the text has ended.
     pub(crate) fn has_ended(&self) -> bool
         ensures { IsTrue result ↔ (self.now.expected ≡ Expected.Nothing) }
     {

@@ -10,7 +10,7 @@ use ngc_text::decimal_in;
 /// The numbers of a line.
 pub type Numbers = ArrayVec<i64, 8>;
 
-// The bytes behind a minus sign in front.
+// Returns the bytes after a leading minus sign.
 fn behind_minus(field: &[u8]) -> Option<&[u8]>
     ensures { option_map (λ d. d.now) result ≡ minus_tail field.now }
 {
@@ -40,7 +40,8 @@ fn negative(size: Option<u64>) -> Option<i64>
     }
 }
 
-/// The number whose decimal spelling a field is, or one out of every range for a greater one.
+/// Returns the number that a field writes in decimal. A greater one is replaced with a number that
+/// is out of every range.
 fn number_in(field: &[u8]) -> Option<i64>
     ensures { result ≡ option_map clamped (number_said field.now) }
 {
@@ -57,7 +58,7 @@ fn first_space(text: &[u8]) -> Option<usize>
     text.iter().position(|byte| *byte == b' ')
 }
 
-/// The first of the fields of a text, and the text behind it if there are more.
+/// Returns the first field of a text, and the text after it if there is more.
 pub(crate) fn split_field(text: &[u8]) -> (&[u8], Option<&[u8]>)
     ensures fields { fields text.now ≡ result.0.now ∷ all_fields result.1 }
     ensures shorter { IfSome result.1 (λ rest. length rest.now < length text.now) }
@@ -71,7 +72,7 @@ pub(crate) fn split_field(text: &[u8]) -> (&[u8], Option<&[u8]>)
     }
 }
 
-/// The numbers in the fields that are left, one in each, if they are no more than 8.
+/// Returns the numbers in the remaining fields, one in each, if there are at most 8.
 pub(crate) fn numbers_in(text: Option<&[u8]>) -> Option<Numbers>
     ensures { option_map (λ n. n.items) result ≡ numbers_left (all_fields text.entry) }
 {

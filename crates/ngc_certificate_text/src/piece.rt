@@ -1,22 +1,22 @@
 use ngc_fixed_length::{GridBox, Point2};
 
-/// A setting of block delete: whether lines that begin with `/` are left out.
+/// A setting of block delete: whether lines that begin with `/` are skipped.
 #[derive(Clone, Copy, Debug, PartialEq, Eq)]
 pub enum Setting {
     Off,
     On,
 }
 
-/// Where a piece of a motion ends.
+/// The end of a piece of a motion.
 #[derive(Clone, Copy, PartialEq, Eq)]
 pub enum Cut {
-    /// After so many parts of 65,536 of a line, 1 to 65,536.
+    /// The end on a line: after this many of its 65,536 parts, from 1 to 65,536.
     Part(u32),
-    /// At a point of an arc's plane, in nanometres, at most 4*10^9 in size on each axis.
+    /// The end on an arc: a point of its plane, in nanometres, at most 4*10^9 in size on each axis.
     Place(Point2),
 }
 
-/// A piece of a motion: where it ends, and a box of grid points that holds it.
+/// A piece of a motion: its end, and a box of grid points that contains it.
 #[derive(Clone, Copy, PartialEq, Eq)]
 pub struct Piece {
     pub end: Cut,

@@ -13,7 +13,7 @@ use crate::reader::CertificateReader;
 use ngc_text::Source;
 use std::alloc::Allocator;
 
-// The certificate in its form.
+// Reads a certificate, with its version.
 fn read_form<A: Allocator + Copy, R: Source>(
     alloc: A,
     source: &mut R,
@@ -39,7 +39,7 @@ fn read_form<A: Allocator + Copy, R: Source>(
             Ok(()) => {}
             Err(fault) => return Err(fault),
         }
-        // Bytes behind the end are a fault before their line is whole.
+        // Bytes after the end are a fault before their line is complete.
         if reader.goes_too_far() {
             break;
         }
@@ -48,22 +48,22 @@ fn read_form<A: Allocator + Copy, R: Source>(
 }
 
 impl<A: Allocator + Copy> Certificate<A> {
-    /// The certificate that a text says, of either version, or the first line at fault: 302 where
-    /// the first line is another or lacks its line feed, 303 where a number is out of its range or
-    /// a box is inside out, 301 for any other wrong line, for a missing one, for one of more than
-    /// 256 bytes and for bytes behind the end.
+    /// Reads a certificate of either version, or returns the first line at fault: 302 if the first
+    /// line is wrong or lacks its line feed, 303 if a number is out of its range or a box's low
+    /// corner is above its high corner, 301 for any other wrong line, for a missing one, for one of
+    /// more than 256 bytes and for bytes after the end.
     ///
-    /// No more is pulled once a fault stands or the text has ended. What the text announces takes
-    /// no memory: only what is read does.
+    /// It stops pulling after a fault or after the end of the text. It allocates memory only for
+    /// what it reads, not for the counts that the text declares.
     pub fn read<R: Source>(alloc: A, source: &mut R) -> Result<Certificate<A>, CertificateFault>
-        // Where the source's bytes are known, the answer is what they say, but for want of memory
-        // and a failure.
+        // If the source's bytes are known, the result is the one that they define, except for lack
+        // of memory and a failure of the source.
         ensures said { IfSome (R.remaining source.old)
             (λ bytes. GivesCertificate said_of result (certificate_said bytes)) }
-        // So is its form.
+        // The same holds for its form.
         ensures form { IfSome (R.remaining source.old)
             (λ bytes. GivesCertificate form_of result (form_said bytes)) }
-        // Only a source that failed is said to have failed.
+        // `ReadFailed` is returned only if the source failed.
         ensures device { result ≡ Err ReadFailed →
             Rises (R.failures source.old) (R.failures source.new) }
         ensures counted { FailsByReading result (R.failures source.old) (R.failures source.new) }

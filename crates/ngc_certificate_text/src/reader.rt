@@ -8,7 +8,7 @@ use crate::fault::CertificateFault;
 use crate::text::TextSoFar;
 use std::alloc::Allocator;
 
-/// A certificate that comes in pieces of any size.
+/// A reader for a certificate that arrives in pieces of any size.
 ///
 /// ```text
 /// let mut reader = CertificateReader::new(alloc);
@@ -18,8 +18,8 @@ use std::alloc::Allocator;
 /// ```
 ///
 /// The certificate is the one that `Certificate::read` reads from all pieces joined. A line may be
-/// cut anywhere, and a piece may have no bytes. After a fault, want of memory among them, each
-/// later call answers it again.
+/// cut anywhere, and a piece may be empty. After a fault, including lack of memory, each later call
+/// returns the same fault.
 #[derive(Drop)]
 pub struct CertificateReader<A: Allocator> {
     text: TextSoFar<A>,
@@ -41,7 +41,7 @@ impl<A: Allocator> CertificateReader<A> {
     ghost use Rattle.ngc_certificate_text.specs.ReaderView.{room_in};
     ghost use Rattle.ngc_certificate_text.specs.Said.{form_said};
 
-    /// A reader that was fed nothing yet.
+    /// Returns a reader that has received no bytes.
     pub fn new(alloc: A) -> CertificateReader<A>
     where
         A: Copy,
@@ -56,26 +56,26 @@ impl<A: Allocator> CertificateReader<A> {
         }
     }
 
-    /// Takes the next bytes of the text, any number of them. A fault is answered as soon as it
-    /// stands: by the piece with the line feed that ends its line, with the 257th byte of a line
-    /// that is too long, or with the line before it where no line may follow that one.
+    /// Reads the next bytes of the text, any number of them. It returns a fault as soon as it is
+    /// certain: with the line feed that ends its line, with the 257th byte of a line that is too
+    /// long, or with the line before it if no line may follow that one.
     pub fn feed(&mut self, piece: &[u8]) -> Result<(), CertificateFault>
-        // The fault is the one that the lines so far have whatever follows, and where they have
-        // none, none is answered.
+        // The fault is the one that the lines so far have whatever follows. If they have none, it
+        // returns none.
         ensures answer { AnswerIs result (firm_in self.old piece.now) }
         ensures firm { OnOk result ((more rest : List ℕ) →
             firm_in self.old (piece.now ++ more) rest ≡ firm_in self.new more rest) }
-        // Whatever follows, the text comes to the same as if this piece stood in front of it: a
+        // Whatever follows, the text has the same result as if this piece were in front of it: a
         // fault stays.
         ensures text { (rest : List ℕ) →
             MatchResult result
             (λ _. outcome_in self.old (piece.now ++ rest) ≡ outcome_in self.new rest)
             (λ fault. FaultIs fault (outcome_in self.old (piece.now ++ rest))) }
-        // A fault is kept, also want of memory, and answered again.
+        // A fault is stored, including lack of memory, and returned again.
         ensures refusal { refusal_in self.new ≡ result_err result }
         ensures again { IfSome (refusal_in self.old) (λ fault. result ≡ Err fault) }
         ensures device { result ≢ Err ReadFailed }
-        // A text is no longer than its lines may be.
+        // A text is no longer than the limits of its lines allow.
         ensures room { OnOk result (room_in self.new + length piece.now ≤ room_in self.old) }
     {
         match self.refusal {
@@ -90,7 +90,7 @@ impl<A: Allocator> CertificateReader<A> {
         }
     }
 
-    // Whether bytes stand behind the end, so that what follows changes nothing.
+    // Returns whether there are bytes after the end, so that the following bytes change nothing.
     pub(crate) fn goes_too_far(&self) -> bool
         ensures { IsTrue result → (rest : List ℕ) →
             outcome_in self.now rest ≡ outcome_in self.now [] }
@@ -101,10 +101,10 @@ impl<A: Allocator> CertificateReader<A> {
         }
     }
 
-    /// The certificate, where no byte comes any more; else the fault that was answered, or that of
-    /// a line that is missing or lacks its line feed.
+    /// Returns the certificate, after the last byte. Otherwise it returns the fault that was
+    /// returned before, or that of a line that is missing or lacks its line feed.
     pub fn finish(self) -> Result<Certificate<A>, CertificateFault>
-        // The answer is what the pieces say together, but for want of memory.
+        // The result is the one that all pieces together define, except for lack of memory.
         ensures form { GivesCertificate form_of result (outcome_in self []) }
         ensures said { IfOk result (λ c. said_of c ≡ contents (form_of c)) }
         ensures again { IfSome (refusal_in self) (λ fault. result ≡ Err fault) }

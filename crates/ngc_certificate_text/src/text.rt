@@ -15,7 +15,7 @@ use crate::fault::CertificateFault;
 use crate::found::Found;
 use std::alloc::Allocator;
 
-/// The lines of a certificate's text, and what they told so far.
+/// The lines of a certificate's text, and their contents so far.
 #[derive(Drop)]
 pub struct TextSoFar<A: Allocator> {
     lines: CertificateLines,
@@ -37,7 +37,7 @@ impl<A: Allocator> TextSoFar<A> {
         }
     }
 
-    /// More bytes of the text.
+    /// Reads more bytes of the text.
     pub(crate) fn feed(&mut self, bytes: &[u8]) -> Result<(), CertificateFault>
         requires { IsResuming self.old }
         ensures step { (lines : List ℕ → List (List ℕ)) → PartsLines lines → (rest : List ℕ) →
@@ -61,7 +61,7 @@ impl<A: Allocator> TextSoFar<A> {
         }
     }
 
-    /// Whether bytes stand behind the end of the text.
+    /// Returns whether there are bytes after the end of the text.
     pub(crate) fn goes_too_far(&self) -> bool
         ensures { IsTrue result → IsResuming self.now → (rest : List ℕ) →
             resumed self.now lines_of rest ≡ resumed self.now lines_of [] }
@@ -69,7 +69,7 @@ impl<A: Allocator> TextSoFar<A> {
         self.lines.goes_too_far()
     }
 
-    /// The certificate, where no byte comes any more.
+    /// Returns the certificate, after the last byte.
     pub(crate) fn finish(self) -> Result<Certificate<A>, CertificateFault>
         requires { IsResuming self }
         ensures form { GivesCertificate form_of result (resumed self lines_of []) }

@@ -4,24 +4,24 @@ use crate::piece::{Piece, Setting};
 /// The version of a certificate's text.
 #[derive(Clone, Copy)]
 pub enum Version {
-    /// One setting of block delete behind the other.
+    /// The two settings of block delete in order.
     One,
     /// Both settings together: an entry may be a motion of each, with the same pieces.
     Two,
 }
 
-/// What a line of a certificate's text tells.
+/// The content of a line of a certificate's text.
 #[derive(Clone, Copy)]
 pub enum Told {
     /// The first line: a certificate of a version.
     Header(Version),
-    /// A setting of block delete, and how many motions it has.
+    /// A setting of block delete, and the number of its motions.
     Setting(Setting, u32),
-    /// How many motions both settings have, `off` first: the second line of version 2.
+    /// The second line of version 2: the numbers of motions of both settings, `off` first.
     Counts(u32, u32),
-    /// A motion, or in version 2 one of each setting, all of whose pieces come yet.
+    /// A motion, or in version 2 one of each setting, whose pieces follow.
     Motion(BegunMotion),
-    /// A piece of a motion; it is one of those that came yet.
+    /// A piece of a motion; it is one of the remaining ones.
     Piece(BegunMotion, Piece),
     /// The last line.
     End,

@@ -261,14 +261,14 @@ fn write_entry<W: Sink>(
     write_pieces(chunk, pieces, sink)
 }
 
-/// A place among the motions of both settings: so many of each are passed.
+/// A position among the motions of both settings: the number of motions of each that are passed.
 #[derive(Clone, Copy)]
 pub struct Passed {
     pub off: usize,
     pub on: usize,
 }
 
-// The entry of a kind that comes at a place.
+// Returns the entry of a kind at a position.
 fn entry_there<'a, A: Allocator>(
     kind: EntryKind,
     off: &'a Motions<A>,
@@ -289,7 +289,7 @@ fn entry_there<'a, A: Allocator>(
     }
 }
 
-// The place behind it.
+// Returns the position after it.
 fn behind_entry(kind: EntryKind, passed: Passed) -> Passed
     requires off { passed.off < usize.MAX }
     requires on { passed.on < usize.MAX }
@@ -403,10 +403,10 @@ fn write_form<A: Allocator, W: Sink>(
 }
 
 impl<A: Allocator> Certificate<A> {
-    /// Writes the certificate's text, of the version in which it was read or made: `setting off`
+    /// Writes the certificate's text, in the version in which it was read or made: `setting off`
     /// and `setting on`, each with its motions in order, or the entries of both in their order.
     ///
-    /// After a fault (902, and only where the sink failed) a beginning of the text is written.
+    /// After a fault (902, only if the sink failed) a prefix of the text is written.
     pub fn write<W: Sink>(&self, sink: &mut W) -> Result<(), WriteFault>
         ensures ok { OnOk result
             (Appends (W.written sink.old) (W.written sink.new) (spelling (form_of self.now))) }

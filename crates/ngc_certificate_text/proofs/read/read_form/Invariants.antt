@@ -1,4 +1,4 @@
--- What is left of the source comes to what all of it does.
+-- The rest of the source has the same result as the whole.
 use Rattle.std.proofs.Common.{◌≡◌}
 use Rattle.ngc_certificate_text.specs.ReaderView.{room_in, Goes}
 use Rattle.ngc_certificate_text.proofs.read.read_form.Given as goal
