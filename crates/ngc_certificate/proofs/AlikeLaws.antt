@@ -7,7 +7,7 @@ use Rattle.ngc_certificate_text.specs.declared.piece.Piece.{Piece}
 use Rattle.ngc_certificate_text.specs.Certificate.{Entry}
 use Rattle.ngc_certificate.specs.Common.{way_at, AreAlike}
 
--- two motions, with their ways and their pieces
+-- two motions, with their paths and their pieces
 pub record AreFound (off on : List Command) (a b : Entry) (u v : Way) (p q : List Piece) : Type 0 where
   pub off_goes : way_at off a.index ≡ Some u
   pub on_goes : way_at on b.index ≡ Some v

@@ -1,4 +1,4 @@
--- Where an arc's pieces are valid, the grid points of its ends are safe places.
+-- If an arc's pieces are valid, the grid points of its ends are safe.
 use Rattle.std.proofs.Common.{◌≡◌, List, [], ◌∷◌, subst, sym, Bool, true, false, pos, ℤ, ◌≤ℤ◌}
 use Rattle.std.specs.Prelude.{Option, IsTrue, ◌&&◌, if◌then◌else◌}
 use Rattle.ngc_fixed_length.specs.declared.points.Point2.{Point2}

@@ -9,14 +9,14 @@ use Rattle.ngc_fixed_length.specs.Grid.{distance}
 use Rattle.ngc_certificate.specs.DerivedBox.{cut_at, low_between, high_between}
 use Rattle.ngc_certificate.proofs.Shares.{ahead_of, ahead_back, before}
 
--- a whole number is at most a quotient rounded down where its product is at most the dividend
+-- a whole number is at most a quotient rounded down if its product is at most the dividend
 pub floor_above : (y : ℕ) (q x : ℤ) → 0 < y → (q *ℤ pos y) ≤ℤ x → q ≤ℤ int_div_euclid x (pos y)
 floor_above y (pos m) (pos a) p h = let i = le-div m a y p (omega (arith, ints, h)) in omega (arith, ints, i)
 floor_above y (pos m) (negsuc a) p h = absurd (omega (arith, ints, h))
 floor_above y (negsuc m) (pos a) p h = omega (arith, ints)
 floor_above y (negsuc m) (negsuc a) p h = let i = div_below a y (suc m) p (omega (arith, ints, h)) in omega (arith, ints, i)
 
--- the way from b to a cut, and the way u that was gone
+-- the distance from b to a cut, and the distance u that was travelled
 pub low_core : (w n k s t g : ℕ) (d u : ℤ) → 0 < n → s * n ≤ w * k → w * k ≤ t * n →
     unsigned_abs ((pos n *ℤ u) -ℤ (pos k *ℤ d)) ≤ n * g →
     ((d *ℤ pos s) ≤ℤ ((u *ℤ pos w) +ℤ pos (g * w))) ⊎ ((d *ℤ pos t) ≤ℤ ((u *ℤ pos w) +ℤ pos (g * w)))
@@ -54,7 +54,7 @@ int_max_left x y = grind (arith, ints)
 int_max_right : (x y : ℤ) → y ≤ℤ int_max x y
 int_max_right x y = grind (arith, ints)
 
--- the first grid point is at most p where the length is at most p's
+-- the first grid point is at most p if the length is at most p's
 pub above_most : (y : ℕ) (p l : ℤ) → 0 < y → l ≤ℤ (p *ℤ pos y) → grid_above (pos y) l ≤ℤ p
 above_most y p l z h =
     let e : (neg_ℤ p *ℤ pos y) ≤ℤ neg_ℤ l = rw (flipped y p) (omega (arith, ints, h)) in
@@ -64,7 +64,7 @@ above_most y p l z h =
 pub below_least : (y : ℕ) (p l : ℤ) → 0 < y → (p *ℤ pos y) ≤ℤ l → p ≤ℤ grid_below (pos y) l
 below_least y p l z h = floor_above y p l z h
 
--- p lies in the way between two cuts, grown by a step
+-- p is on the line between two cuts, grown by a step
 pub above_low : (n k s t g : ℕ) (b e p : ℤ) → 0 < n → 0 < g → s * n ≤ 65536 * k → 65536 * k ≤ t * n →
     distance (pos k *ℤ (e -ℤ b)) (pos n *ℤ ((p *ℤ pos g) -ℤ b)) ≤ n * g →
     low_between (pos g) b e s t ≤ℤ p

@@ -1,4 +1,4 @@
--- What the pieces are that a motion is cleared with.
+-- The pieces with which a motion is cleared.
 use Rattle.std.proofs.Common.{◌≡◌, ℕ, ◌≤◌, refl, ap, sym, subst, ◌∙◌, arith, List, [], ◌∷◌, ◌++◌, length, Some, None, true, false}
 use Rattle.std.specs.Prelude.{Option, option_map, IsTrue, Bool, cond, nat_le, nat_lt, ◌&&◌}
 use Rattle.std.specs.List.{find, filter, list_all}
@@ -45,7 +45,7 @@ found_in f test good (x ∷ xs) pieces g h =
     let e = both (good x) (list_all good xs) g in
     first_or_later f test good x (find test xs) pieces (test x) refl e.0 (found_in f test good xs pieces e.1) h
 
--- ---- all numbers that are tried are some, and no more than a motion may have
+-- ---- each number that is tried is at least 1, and at most what a motion may have
 
 abbrev is_count : ℕ → Bool
 is_count c = nat_le 1 c && nat_le c 65535
@@ -100,7 +100,7 @@ cleared_valid machine most tool w pieces least greatest h =
     subst (ArePiecesValid machine tool w) (sym c.made)
     (pieces_valid machine tool w (pieces_of machine.step w c.count) (none_of (pieces_fault machine tool w (pieces_of machine.step w c.count)) c.passes))
 
--- which are such as a certificate may hold
+-- a certificate may contain them
 pub cleared_good : (machine : MachineFile) (most : ℕ) (tool : Option Tool) (w : Way) (pieces : List Piece) → IsStep machine.step →
     IsTravel machine.step machine.low machine.high machine.start →
     1 ≤ most → most ≤ 65535 → cleared machine most tool w ≡ Some pieces → IsTrue (list_all good_piece pieces)
@@ -111,7 +111,7 @@ cleared_good machine most tool w pieces step travel least greatest h =
     subst (λ (ps : List Piece). IsTrue (list_all good_piece ps)) (sym c.made)
     (pieces_good machine tool w c.count step travel (at_least c.count c.fits) (at_most c.count c.fits) valid)
 
--- and so is an arc in one piece that clears
+-- and an arc in one piece that clears
 pub whole_good : (machine : MachineFile) (tool : Option Tool) (a : ArcShape) → IsStep machine.step →
     IsTravel machine.step machine.low machine.high machine.start →
     is_clear_in machine tool (Arc a) 1 ≡ true → IsTrue (list_all good_piece (pieces_of machine.step (Arc a) 1))
@@ -125,7 +125,7 @@ whole_good machine tool a step travel clear =
 true≢false : true ≡ false → ⊥
 true≢false h = cc
 
--- an arc that its one piece clears, and one for which nothing is found
+-- an arc that one piece clears, and one for which nothing is found
 pub whole_stands : (machine : MachineFile) (most : ℕ) (tool : Option Tool) (a : ArcShape) (pieces : List Piece) → pieces ≡ pieces_of machine.step (Arc a) 1 →
     is_clear_in machine tool (Arc a) 1 ≡ true →
     MayStand machine most tool a (Some pieces)
@@ -136,7 +136,7 @@ pub none_stands : (machine : MachineFile) (most : ℕ) (tool : Option Tool) (a :
     MayStand machine most tool a None
 none_stands machine most tool a refused = record { whole = λ h. absurd (true≢false (sym h ∙ refused)); cut = λ h. tt }
 
--- one that is cut, or not even so
+-- one that is cut, or for which no cuts are found
 pub cut_stands : (machine : MachineFile) (most : ℕ) (tool : Option Tool) (a : ArcShape) (clear : Bool) (pieces : List Piece) →
     is_clear_in machine tool (Arc a) 1 ≡ false →
     (clear ≡ true → IsCutClear machine most tool a pieces) → MayStand machine most tool a (pieces_where clear pieces)
@@ -185,7 +185,7 @@ some_valid : (machine : MachineFile) (tool : Option Tool) (w : Way) (pieces : Li
 some_valid machine tool w [] valid = absurd valid
 some_valid machine tool w (p ∷ ps) valid = omega arith
 
--- an entry that a certificate may hold
+-- an entry that a certificate may contain
 pub found_entry : (machine : MachineFile) (most k : ℕ) (tool : Option Tool) (w : Way) (pieces : List Piece) → k ≤ 999999 → 1 ≤ most → most ≤ 65535 →
     MayFind machine most tool w (Some pieces) → IsTrue (list_all good_piece pieces) → IsEntry (record { index = k; pieces = pieces })
 found_entry machine most k tool w pieces index least greatest may good = record {

@@ -1,4 +1,4 @@
--- The law: lines by their pieces, arcs by their swept box or by what lies about their cuts.
+-- The law: lines by their pieces, arcs by their swept box or by the boxes about their cuts.
 use Rattle.std.proofs.Common.{◌≡◌, ℕ, suc, ◌<◌, ap, ap₂, subst, sym, refl, arith, List, [], ◌∷◌, length, map, Bool, true, false, ℤ, pos, negsuc, ◌≤ℤ◌}
 use Rattle.std.specs.Prelude.{Any, IsTrue, nat_lt, if◌then◌else◌}
 use Rattle.std.proofs.lemmas.Int.{ints}

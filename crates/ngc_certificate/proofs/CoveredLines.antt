@@ -1,4 +1,4 @@
--- Each point of a line's path lies in the derived box of some piece.
+-- Each point of a line's path is in the derived box of one of its pieces.
 use Rattle.std.proofs.Common.{◌≡◌, ℕ, zero, suc, ◌+◌, ◌*◌, ◌<◌, ◌≤◌, inl, inr, ap, subst, arith, refl, List, [], ◌∷◌, Bool, false, ℤ, pos, ◌-ℤ◌, ◌*ℤ◌, ◌≤ℤ◌}
 use Rattle.std.proofs.Common.{unsigned_abs}
 use Rattle.std.specs.Prelude.{Any, IsTrue, nat_lt, ◌==◌, ◌&&◌}
@@ -21,7 +21,7 @@ use Rattle.ngc_certificate.specs.Chain.{ChainFrom}
 use Rattle.ngc_certificate.specs.DerivedBox.{line_box, boxes_from, low_between, high_between}
 use Rattle.ngc_certificate.proofs.AxisBetween.{above_low, below_high}
 
--- rounding to the grid loses at most a step
+-- the rounding error on the grid is at most a step
 near_close : (b : ℤ) (g : ℕ) → 0 < g → unsigned_abs ((nearest b (pos g) *ℤ pos g) -ℤ b) ≤ g
 near_close b g h = omega (arith, ints, nearest_near b g h)
 
@@ -31,14 +31,14 @@ greatest_below x y p h i = grind (arith, ints)
 least_above : (x y p : ℤ) → p ≤ℤ x → p ≤ℤ y → p ≤ℤ int_min x y
 least_above x y p h i = grind (arith, ints)
 
--- a place that is no detour between two others lies between them
+-- a point that is no detour between two others lies between them
 between_low : (a b p : ℤ) → distance a p + distance p b ≡ distance a b → int_min a b ≤ℤ p
 between_low a b p h = grind (arith, ints)
 
 between_high : (a b p : ℤ) → distance a p + distance p b ≡ distance a b → p ≤ℤ int_max a b
 between_high a b p h = grind (arith, ints)
 
--- one axis of a point, k moves of n on the way from b to e
+-- one axis of a point after k of n moves from b to e
 record OnAxis (g n k : ℕ) (b e p : ℤ) : Type 0 where
   close : distance (pos k *ℤ (e -ℤ b)) (pos n *ℤ ((p *ℤ pos g) -ℤ b)) ≤ n * g
   between : distance (nearest b (pos g)) p + distance p (nearest e (pos g)) ≡ distance (nearest b (pos g)) (nearest e (pos g))
@@ -81,7 +81,7 @@ whole_at_last s t h = grind (arith, nat_tests)
 not_true : IsTrue false → ⊥
 not_true h = cc
 
--- the pieces from a cut on hold each point that comes no earlier
+-- the pieces from a cut on contain each point that isn't earlier
 from_cut : (g n k : ℕ) (b e : Point3) (p : StepPos) → 0 < n → k ≤ n → 0 < g → OnLine g n k b e p →
     (several : Bool) (s : ℕ) (cuts : List Cut) → s * n ≤ 65536 * k → ChainFrom (pos g) (Line b e) several (Part s) cuts →
     Any (λ bounds. IsIn bounds p) (boxes_from (pos g) (Line b e) several (Part s) cuts)
@@ -100,7 +100,7 @@ from_cut g n k b e p zn kn zg h several s (Part t ∷ next ∷ cuts) c chain =
     ]
 from_cut g n k b e p zn kn zg h several s (Place q ∷ next ∷ cuts) c chain = absurd (not_true chain.0)
 
--- a path gives each point's axes
+-- the axes of a path's point
 axis_of : (g n k : ℕ) (b e : ℤ) (place : ℕ → ℤ) → k ≤ n → place 0 ≡ nearest b (pos g) → place n ≡ nearest e (pos g) →
     FollowsLine (pos g) n b e place → OnAxis g n k b e (place k)
 axis_of g n k b e place kn first last f = record {
@@ -116,7 +116,7 @@ line_at g n k b e path kn l = record {
   z = axis_of g n k b.z e.z (λ i. (point path i).z) kn (ap (λ (q : StepPos). q.z) l.starts) (ap (λ (q : StepPos). q.z) l.ends) l.z;
 }
 
--- a line without a path step: its one point is near its start
+-- a line without a move: its one point is near its start
 axis_still : (g : ℕ) (b e p : ℤ) → 0 < g → p ≡ nearest b (pos g) → p ≡ nearest e (pos g) → OnAxis g 1 0 b e p
 axis_still g b e p zg first last = record {
   close = let i = near_close b g zg in rw first (omega (arith, ints, i));

@@ -1,4 +1,4 @@
--- The boxes of an arc's pieces, one piece more at a time.
+-- The boxes of an arc's pieces, with one more piece each time.
 use Rattle.std.proofs.Common.{◌≡◌, ℕ, ap, ap₂, subst, sym, refl, ◌∙◌, List, [], ◌∷◌, ◌++◌, length, map, Bool, true, ℤ}
 use Rattle.std.specs.Prelude.{nat_lt}
 use Rattle.std.proofs.lemmas.List.{map-append, length-map}
@@ -13,19 +13,19 @@ use Rattle.ngc_certificate.specs.Chain.{first_cut, place_of, are_several}
 use Rattle.ngc_certificate.specs.DerivedBox.{boxes_from, HaveDerivedBoxes}
 use Rattle.ngc_certificate.proofs.CoveredLaw.{cut_boxes_are}
 
--- where pieces end
+-- the ends of pieces
 abbrev pub ends_of : ArcShape → List Piece → List Point2
 ends_of a pieces = map (λ (p : Piece). place_of a p.end) pieces
 
 abbrev pub bounds_of : List Piece → List GridBox
 bounds_of pieces = map (λ (p : Piece). p.bounds) pieces
 
--- where the last of them ends, or the first one begins
+-- the end of the last of them, or the begin of the first one
 abbrev pub reached : Point2 → List Point2 → Point2
 reached p [] = p
 reached p (q ∷ qs) = reached q qs
 
--- pieces from an arc's start to a point, each in the box that lies about its two cuts
+-- pieces from an arc's start to a point, each in the box about its two cuts
 pub record AreCutTo (step : ℤ) (a : ArcShape) (pieces : List Piece) (point : Point2) : Type 0 where
   pub boxes : bounds_of pieces ≡ cut_boxes step a (start_of a) (ends_of a pieces)
   pub end : point ≡ reached (start_of a) (ends_of a pieces)
@@ -53,7 +53,7 @@ one_more step a pieces point p cut box =
       end = sym (ap (reached (start_of a)) ends ∙ reached_more (start_of a) q (ends_of a pieces));
     }
 
--- a piece more, of an arc on a machine's grid
+-- one more piece of an arc on a machine's grid
 pub piece_cut : (step : ℤ) (a : ArcShape) (g : ArcOnGrid) (pieces more : List Piece) (point next : Point2) (p : Piece) → AreCutTo step a pieces point →
     g ≡ record { arc = a; step = step } → p.bounds ≡ cut_box g.step g.arc point (place_of g.arc p.end)
     → more ≡ pieces ++ (p ∷ []) → next ≡ place_of a p.end → AreCutTo step a more next

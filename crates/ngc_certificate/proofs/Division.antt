@@ -10,7 +10,7 @@ use Rattle.ngc_certificate.specs.Made.{line_piece, line_pieces_from, pieces_of}
 abbrev pub line_piece_at : ℤ → Point3 → Point3 → ℕ → ℕ → Piece
 line_piece_at step b e c k = line_piece step b e (65536 * k / c) (65536 * (k + 1) / c)
 
--- one piece more, behind the others
+-- one more piece, after the others
 pub one_more : (step : ℤ) (b e : Point3) (c k left : ℕ) →
     line_pieces_from step b e c k (suc left) ≡ line_pieces_from step b e c k left ++ (line_piece_at step b e c (k + left) ∷ [])
 one_more step b e c k zero =
@@ -40,7 +40,7 @@ pub piece_added : (step : ℤ) (b e : Point3) (c k s t : ℕ) (before after : Li
     before ≡ line_pieces_from step b e c 0 k → after ≡ before ++ (p ∷ []) → after ≡ line_pieces_from step b e c 0 (k + 1)
 piece_added step b e c k s t before after p hs ht hp hb ha = cc (next_piece step b e c k)
 
--- no more pieces than asked for
+-- at most as many pieces as requested
 pub few : (step : ℤ) (w : Way) (c : ℕ) → 1 ≤ c → c ≤ 65535 → length (pieces_of step w c) ≤ 65535
 few step (Line b e) c some most = rw (count_of step b e c 0 c) most
 few step (Arc a) c some most = omega arith

@@ -1,4 +1,4 @@
--- Worked pieces on a mill of 300 mm with steps of 0.01 mm, by computing the definitions.
+-- Worked pieces on a mill of 300 mm with steps of 0.01 mm, by evaluating the definitions.
 use Rattle.std.proofs.Common.{◌≡◌, ◌∙◌, ap, ap₂, ℕ, ℤ, pos, negsuc, List, [], ◌∷◌, false, Some, None, Ok, Err, refl}
 use Rattle.std.specs.Prelude.{codes, Result}
 use Rattle.std.specs.Fmt.{digits}
@@ -38,7 +38,7 @@ line t b = record { end = Part t; bounds = b }
 abbrev with_fixture : Point3 → Point3 → MachineFile
 with_fixture low high = record built_in_machine { fixtures = record { low = low; high = high } ∷ [] }
 
--- from zero, so far along X
+-- from zero, along X to x
 abbrev along_x : ℤ → Way
 along_x x = Line zero_point (point x (pos 0) (pos 0))
 
@@ -84,7 +84,7 @@ beyond_the_border : pieces_fault built_in_machine None (along_x (pos 300006000))
     ≡ Some (at_piece 0 OutsideTravel)
 beyond_the_border = refl
 
--- ---- a fixture beside a slanted line: undivided it is met, in two pieces it isn't
+-- ---- a fixture beside a slanted line: the undivided line meets it, in two pieces it does not
 
 abbrev slanted : Way
 slanted = Line zero_point (point (pos 10000000) (pos 10000000) (pos 0))
@@ -115,7 +115,7 @@ in_one_piece says made = made.4 ∙ ap₂ join_settings (one_motion 1 made.0 mad
 in_two_pieces : (says : Result CertificateData MakeFault) → IsMade beside 2 one_line one_line says → says ≡ Ok (both (pieces_of (pos 10000) slanted 2))
 in_two_pieces says made = made.4 ∙ ap₂ join_settings (one_motion 2 made.0 made.2) (one_motion 2 made.1 made.3)
 
--- the line is there at one setting alone
+-- the line is only at one setting
 at_one_setting : (says : Result CertificateData MakeFault) → IsMade beside 1 [] one_line says → says ≡ Err (NotCleared On 0)
 at_one_setting says made = made.4 ∙ ap₂ join_settings made.2 (one_motion 1 made.1 made.3)
 
@@ -158,7 +158,7 @@ mounted number bottom length =
           Mount (Some (record { number = number; offset = pos 0; bottom = bottom; parts = record { length = length; radius = pos 3000000 } ∷ [] }));
     } ∷ []
 
--- a tool of 60 mm reaches into the fixture, one of 20 mm does not
+-- a tool of 60 mm extends into the fixture, one of 20 mm does not
 long_tool : (says : Result CertificateData MakeFault) → IsMade below 8 (mounted 2 (negsuc 59999999) (pos 60000000)) [] says → says ≡ Err (NotCleared Off 0)
 long_tool says made = made.4 ∙ ap (λ first. join_settings first made.1) made.2.2
 

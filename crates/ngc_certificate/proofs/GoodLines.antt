@@ -1,4 +1,4 @@
--- The box of a line's piece isn't inside out.
+-- The low corner of a line's piece is not above its high corner.
 use Rattle.std.proofs.Common.{ℕ, suc, ◌*◌, ◌<◌, ◌≤◌, ◌⊎◌, inl, inr, arith, ℤ, pos, negsuc, ◌+ℤ◌, ◌-ℤ◌, ◌*ℤ◌, ◌≤ℤ◌, unsigned_abs}
 use Rattle.std.specs.Int.{int_min, int_max}
 use Rattle.std.proofs.lemmas.Int.{ints, clamps}
@@ -23,7 +23,7 @@ low_high g s t b e zg st =
     let high = below_high 65536 s s t g b e p (omega arith) zg (omega arith) (omega (arith, st)) near in
     omega (arith, ints, low, high)
 
--- parts of a way lead no farther than the way, and no farther back than its start
+-- parts of a line lead no farther than the line, and no farther back than its start
 part_up : (d : ℤ) (s : ℕ) → s ≤ 65536 → ((d *ℤ pos s) ≤ℤ (d *ℤ pos 65536)) ⊎ ((d *ℤ pos s) ≤ℤ pos 0)
 part_up (pos d) s h = let i : d * s ≤ d * 65536 = mul-le-mul_left d h in inl (omega (arith, ints, i))
 part_up (negsuc d) s h = inr (omega (arith, ints))
@@ -59,7 +59,8 @@ min_left x y = omega (arith, ints, clamps)
 min_right : (x y : ℤ) → int_min x y ≤ℤ y
 min_right x y = omega (arith, ints, clamps)
 
--- both ends lie at most a step beyond the greater of their grid points, and at most a step before the lesser
+-- both ends are at most a step beyond the greater of their grid points, and at most a step below
+-- the lesser
 ends_below : (g : ℕ) (b e : ℤ) → 0 < g → int_max b e ≤ℤ ((int_max (nearest b (pos g)) (nearest e (pos g)) *ℤ pos g) +ℤ pos g)
 ends_below g b e zg =
     let i = nearest_near b g zg in

@@ -1,4 +1,4 @@
--- The pieces of a motion that no refusal meets are such as a certificate may hold.
+-- A certificate may contain the pieces of a motion if none of them is refused.
 use Rattle.std.proofs.Common.{ℕ, zero, suc, ◌+◌, ◌*◌, ◌/◌, ◌<◌, ◌≤◌, refl, arith, [], ◌∷◌, true, false, ℤ, pos, negsuc, ◌*ℤ◌, ◌≤ℤ◌, unsigned_abs}
 use Rattle.std.specs.Prelude.{Option, IsTrue, nat_le, ◌&&◌}
 use Rattle.std.specs.List.{list_all}
@@ -62,7 +62,7 @@ lines_of (negsuc g) b e c range some most = absurd (omega (arith, ints, range.le
 
 -- ---- arcs
 
--- a place whose grid point lies in the travel isn't far out
+-- a position whose grid point is within the travel isn't far from zero
 near_zero : (step low high z : ℤ) → IsStep step → unsigned_abs low ≤ 1000000000 → unsigned_abs high ≤ 1000000000 →
     low ≤ℤ (nearest z step *ℤ step) → (nearest z step *ℤ step) ≤ℤ high → unsigned_abs z ≤ 4000000000
 near_zero (pos s) low high z range l h above below =

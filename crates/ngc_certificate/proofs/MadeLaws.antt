@@ -1,4 +1,4 @@
--- What the made certificate says: it is valid, and it is there where each motion clears undivided.
+-- The certificate that is made is valid, and it is made if each motion clears undivided.
 use Rattle.std.proofs.Common.{◌≡◌, inl, inr, ℕ, ◌+◌, ◌<◌, ◌≤◌, refl, ap, ap₂, sym, subst, ◌∙◌, arith, List, [], ◌∷◌, ◌++◌, map, Some, None, Ok, Err, true}
 use Rattle.std.proofs.Common.{false}
 use Rattle.std.specs.Prelude.{Option, Result, option_map, Bool, nat_lt}
@@ -47,7 +47,7 @@ record AreMade (machine : MachineFile) (k : ℕ) (tool : Option Tool) (place : P
   indices : map (λ entry. entry.index) entries ≡ motion_indices k actions
   clear : AreClearFrom machine tool place actions entries
 
--- a motion in front of what is made
+-- a motion before those that are made
 record Fronted (k : ℕ) (pieces : List Piece) (rest : Result (List Entry) ℕ) (entries : List Entry) : Type 0 where
   later : List Entry
   made : rest ≡ Ok later
@@ -77,7 +77,7 @@ unmet : (found : Option ℕ) (k : ℕ) (rest : Result (List Entry) ℕ) (entries
 unmet None k rest entries h = record { none = refl; same = sym h }
 unmet (Some fixture) k rest entries h = absurd (err_ok entries k h)
 
--- one entry more
+-- one more entry
 entry_more : (machine : MachineFile) (k : ℕ) (tool : Option Tool) (place : Point3) (m : Motion) (actions : List Action) (pieces : List Piece)
     (later entries : List Entry) →
     ArePiecesValid machine tool m.way pieces → AreMade machine (k + 1) tool (end_of m.way) actions later →
@@ -171,7 +171,7 @@ undivided_made machine most off on says least a b made =
     let q = all_made machine most 0 None machine.start (actions_of on) made.1 least f.1 made.3 in
     (record { off = p.0; on = q.0 }, made.4 ∙ ap (λ o. from_start o (join_settings made.0 made.1)) (none_of start e.0) ∙ ap₂ join_settings p.1 q.1)
 
--- where a setting is refused, not all motions clear undivided
+-- if a setting is refused, not all motions clear undivided
 refused_undivided : (machine : MachineFile) (most : ℕ) (off on : List Command) (s : Setting) (refusal : Refusal) → 1 ≤ most →
     GivesMade {X = CertificateData} (λ c. c) (Err (fault_at s refusal)) (IsMade machine most off on) →
     clears_undivided machine off ≡ true → clears_undivided machine on ≡ true → fault_at s refusal ≡ Memory
@@ -180,7 +180,7 @@ refused_undivided machine most off on s (refusals.NotCleared k) least h a b =
     absurd (err_ok m.0 (NotCleared s k) m.1)
 refused_undivided machine most off on s refusals.Memory least h a b = refl
 
--- ---- the answers of the maker, from what it found at the start and at the settings
+-- ---- the results of the maker, from the start and the settings
 
 no_fixture : (machine : MachineFile) (clear : Bool) → clear ≡ is_none (place_fault machine None (grid machine.step machine.start)) → clear ≡ true →
     place_fault machine None (grid machine.step machine.start) ≡ None
@@ -235,7 +235,7 @@ on_refused view machine most off on clear entries refusal fault start here first
         (Ok entries, Err k, first, made, ap (λ o. from_start o (join_settings (Ok entries) (Err k))) (sym (no_fixture machine clear start here)))
     at_on refusals.Memory made = tt
 
--- what was copied was made too
+-- a copy was made too
 pub copied_made : (machine : MachineFile) (most : ℕ) (commands : List Command) (entries same : List Entry) → same ≡ entries →
     IsSettingMade machine most commands (Ok entries) → IsSettingMade machine most commands (Ok same)
 copied_made machine most commands entries same is made = subst (λ (l : List Entry). IsSettingMade machine most commands (Ok l)) (sym is) made

@@ -81,7 +81,7 @@ nothing_behind motions = (Ok [], refl, ap (λ (l : List Entry). Ok l) (sym (appe
 pub one_longer : (motions new_motions : List Entry) (e : Entry) → new_motions ≡ motions ++ (e ∷ []) → length new_motions ≤ length motions + 1
 one_longer motions new_motions e h = rw h (rw (length-append motions (e ∷ [])) (omega arith))
 
--- what the commands from the next one on do
+-- the actions of the commands from the next one on
 pub next_action : (i : ℕ) (commands : List Command) (c : Command) → i < length commands → c ≡ get_or commands i c →
     actions_of (drop i commands) ≡ c.action ∷ actions_of (drop (i + 1) commands)
 next_action i commands c h e =

@@ -1,4 +1,4 @@
--- Where no refusal is found all is valid, and where all is valid no refusal is found.
+-- If no refusal is found, all is valid, and if all is valid, no refusal is found.
 use Rattle.std.proofs.Common.{◌≡◌, ℕ, ℤ, ◌+◌, refl, List, [], ◌∷◌, Some, None, true, false, not}
 use Rattle.std.specs.Prelude.{Option, option_map, IsTrue, Bool, ◌&&◌, if◌then◌else◌}
 use Rattle.std.specs.List.{list_all}

@@ -1,4 +1,4 @@
--- What holds of every good result.
+-- Properties of every good result.
 use Rattle.std.specs.Prelude.{Result, Ok, Err, IfOk}
 
 pub map_ok : {X E : Type 0} (r : Result X E) (P Q : X → Type 0) → IfOk r P → ((x : X) → P x → Q x) → IfOk r Q

@@ -1,4 +1,4 @@
--- Quotients by a step, and what 64 and 128 bits make of them.
+-- Quotients by a step, in 64 and 128 bits.
 use Rattle.std.proofs.Common.{◌≡◌, ℕ, ◌+◌, ◌*◌, ◌/◌, ◌≤◌, ℤ, pos, negsuc, ◌≤ℤ◌, unsigned_abs, to_z, of_z, arith}
 use Rattle.std.specs.Int.{int_div_euclid, w64, w128}
 use Rattle.std.proofs.lemmas.Int.{ints}

@@ -1,4 +1,4 @@
--- Past the commands before the one at which a setting is refused, and past that one.
+-- The commands before the one at which a setting is refused, and that one.
 use Rattle.std.proofs.Common.{◌≡◌, ℕ, ◌+◌, ◌-◌, ◌<◌, ◌≤◌, ◌⊎◌, inl, inr, refl, ap, sym, subst, ◌∙◌, arith, List, [], ◌∷◌, ◌++◌, drop, append_assoc, Some, None, Ok}
 use Rattle.std.proofs.Common.{Err}
 use Rattle.std.specs.Prelude.{Option, Result, Bool, true, false}
@@ -128,7 +128,7 @@ stands_refused machine most k _ r actions made =
     let after = not_before machine most (k + 1) k r.tool r.place actions made in
     absurd (omega (arith, after))
 
--- no command is refused where none is left
+-- no command is refused if none remains
 pub none_refused : (machine : MachineFile) (most k n : ℕ) (tool : Option Tool) (place : Point3) (actions : List Action) → actions ≡ [] →
     IsMadeFrom machine most k tool place actions (Err n) → ⊥
 none_refused machine most k n tool place [] none made = nothing_refused n [] made
@@ -144,12 +144,12 @@ module _ (machine : MachineFile) (most i : ℕ) (commands : List Command) (actio
   abbrev later : List Action
   later = actions_of (drop (i + 1) commands)
 
-  -- what isn't cleared from a place on completes the list so far
+  -- the commands that aren't cleared from a state on complete the list so far
   abbrev Completes : ℕ → Reached → List ℕ → Type 0
   Completes k r items = (ks : List ℕ) → AreUnclearedFrom machine most k r.tool r.place (actions_of (drop k commands)) ks →
       AreUncleared machine most commands (items ++ ks)
 
-  -- and the commands from there on are refused at the last of those that needn't be tried
+  -- and the commands from there on are refused at the last of those that are not tried
   abbrev Refuses : ℕ → Reached → ℕ → Type 0
   Refuses k r passed = (n : ℕ) → passed ≡ n + 1 → k ≤ n → IsMadeFrom machine most k r.tool r.place (actions_of (drop k commands)) (Err n)
 
@@ -186,7 +186,7 @@ module _ (machine : MachineFile) (most i : ℕ) (commands : List Command) (actio
   pub passes_refused : (passed : ℕ) → passed ≡ i + 1 → Refuses i old passed → LeadsPast machine most i action old false
   passes_refused passed e refuses = stands_refused machine most i action old later (refused_here passed i refuses e (omega arith))
 
--- the first of a list that grows at its end
+-- the first element of a list that grows at its end
 pub begins_still : (k i : ℕ) (items more : List ℕ) → more ≡ items ++ (i ∷ []) → BeginsWith k items → BeginsWith k more
 begins_still k i items more is begins = (begins.0 ++ (i ∷ []), is ∙ ap (λ (l : List ℕ). l ++ (i ∷ [])) begins.1)
 

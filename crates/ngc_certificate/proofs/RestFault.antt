@@ -1,4 +1,4 @@
--- The refusal of the pieces that are left, a piece at a time.
+-- The refusal of the remaining pieces, one piece at a time.
 use Rattle.std.proofs.Common.{◌≡◌, ℕ, ◌+◌, ◌-◌, ◌<◌, List, [], ◌∷◌, length, drop, get_or, Option, Some, None, Bool, true, false, nat_eq, refl, sym, ◌∙◌, ap}
 use Rattle.std.proofs.Common.{arith, add-one, drop-cons, length-drop}
 use Rattle.std.specs.Option.{option_map}

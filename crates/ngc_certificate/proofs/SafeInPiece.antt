@@ -1,4 +1,4 @@
--- Each place in the derived box of a valid piece is safe.
+-- Each position in the derived box of a valid piece is safe.
 use Rattle.std.proofs.Common.{ℕ, suc, ◌≤◌, arith, refl, Some, None, true, ℤ, pos, negsuc, ◌+ℤ◌, ◌*ℤ◌, ◌≤ℤ◌, List, [], ◌∷◌}
 use Rattle.std.specs.Prelude.{Option, IsTrue, int_le}
 use Rattle.std.specs.List.{list_all}
@@ -32,7 +32,7 @@ scale_by (negsuc s) a b p h = absurd (omega (arith, ints, p))
 pub le_trans : (a b c : ℤ) → a ≤ℤ b → b ≤ℤ c → a ≤ℤ c
 le_trans a b c h i = omega (arith, ints, h, i)
 
--- a box of grid points that holds another holds its points
+-- a box of grid points that contains another contains its points
 pub held_by : (outer inner : GridBox) (q : StepPos) → IsTrue (holds_box outer inner) → IsIn inner q → IsIn outer q
 held_by o i q h k =
     let lowhigh = both _ _ h in
@@ -47,7 +47,7 @@ held_by o i q h k =
       z_high = le_trans q.z i.high.z o.high.z k.z_high (le_of i.high.z o.high.z high_yz.1);
     }
 
--- one solid lies within another
+-- one solid is within another
 record Within (outer inner : Solid) : Type 0 where
   x_low : outer.low.x ≤ℤ inner.low.x
   x_high : inner.high.x ≤ℤ outer.high.x
@@ -91,7 +91,8 @@ apart_within f b c w =
     (or_to _ _ _ _ (test_down b.high.z f.low.z c.high.z w.z_high)
     (test_up f.high.z b.low.z c.low.z w.z_low)))))
 
--- part by part, what is apart from the boxes over a place is apart from those over a place within it
+-- part by part: a fixture that is apart from the boxes over a position's box is apart from those
+-- over a position in it
 stacked_within : (f : Fixture) (foot : ℤ) (parts : List Part) (b c : Solid) → Within b c → IsTrue (list_all (are_apart f) (stacked foot parts b)) →
     IsTrue (list_all (are_apart f) (stacked foot parts c))
 stacked_within f foot [] b c w h = refl
@@ -106,7 +107,7 @@ bodies_within : (f : Fixture) (tool : Option Tool) (b c : Solid) → Within b c 
 bodies_within f None b c w h = let e = both (are_apart f b) true h in and (are_apart f c) true (apart_within f b c w e.0) refl
 bodies_within f (Some t) b c w h = stacked_within f t.bottom t.parts b c w h
 
--- a place in a box that is within travel and clear is safe
+-- a position in a box that is within travel and clear is safe
 pub safe_in_box : (machine : MachineFile) (tool : Option Tool) (b : GridBox) (q : StepPos) → pos 1 ≤ℤ machine.step → IsIn b q →
     IsTrue (is_in_travel machine b) → IsTrue (list_all (clears machine.step tool b) machine.fixtures) → IsSafe machine tool q
 safe_in_box machine tool b q p k t c =

@@ -1,4 +1,4 @@
--- What a cut arc that pieces share tells of their boxes.
+-- The boxes of pieces that share a cut arc.
 use Rattle.std.proofs.Common.{◌≡◌, ℤ, Bool, true, false, subst, refl}
 use Rattle.ngc_fixed_length.specs.declared.points.Point2.{Point2}
 use Rattle.ngc_arc_geometry.specs.Shape.{ArcShape}

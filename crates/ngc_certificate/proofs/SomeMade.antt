@@ -1,4 +1,4 @@
--- Of all commands something is made.
+-- There is a result for all commands.
 use Rattle.std.proofs.Common.{◌≡◌, ℕ, ◌+◌, refl, List, [], ◌∷◌, Some, None, Ok, Bool, true, false}
 use Rattle.std.specs.Prelude.{Option, Result}
 use Rattle.ngc_fixed_length.specs.Grid.{grid}

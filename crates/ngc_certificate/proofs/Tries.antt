@@ -1,4 +1,4 @@
--- The numbers of pieces that are tried, one after another.
+-- The numbers of pieces that are tried, in order.
 use Rattle.std.proofs.Common.{◌≡◌, ℕ, suc, ◌+◌, ◌<◌, ◌≤◌, ap, sym, ◌∙◌, List, [], ◌∷◌, ◌++◌, Some, true, false, arith}
 use Rattle.std.specs.Prelude.{Option, option_map, Bool, nat_lt, drop, slice_index_or}
 use Rattle.std.specs.List.{find, filter}
@@ -12,7 +12,7 @@ use Rattle.ngc_certificate_text.specs.declared.piece.Piece.{Piece}
 use Rattle.ngc_certificate.specs.Made.{pieces_of, powers_of_two}
 use Rattle.ngc_certificate.specs.Making.{is_clear_in, pieces_where}
 
--- the pieces of the first try that clears, where these powers of two are left
+-- the pieces of the first try that clears, if these powers of two remain
 abbrev pub cleared_from : MachineFile → ℕ → Option Tool → Way → List ℕ → Option (List Piece)
 cleared_from machine most tool w powers =
     option_map (pieces_of machine.step w) (find (is_clear_in machine tool w) (filter (λ c. nat_lt c most) powers ++ most ∷ []))
@@ -34,7 +34,7 @@ at_last : (f : ℕ → List Piece) (test : ℕ → Bool) (x : ℕ) (clear : Bool
 at_last f test x true h = simp (sym h)
 at_last f test x false h = simp (sym h)
 
--- at place i of the powers of two, which is the next one
+-- at index i of the powers of two, which is the next one
 next : (i : ℕ) → i < 16 → drop i powers_of_two ≡ slice_index_or powers_of_two i 0 ∷ drop (i + 1) powers_of_two
 next i h = let e : i + 1 ≡ suc i = omega arith in drop-cons powers_of_two i 0 h ∙ ap (λ n. slice_index_or powers_of_two i 0 ∷ drop n powers_of_two) (sym e)
 

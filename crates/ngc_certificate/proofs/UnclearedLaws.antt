@@ -1,4 +1,4 @@
--- Which commands aren't cleared, beside what is made.
+-- The commands that aren't cleared, and what is made.
 use Rattle.std.proofs.Common.{◌≡◌, ℕ, ◌+◌, refl, ap, sym, subst, List, [], ◌∷◌, Some, None, Ok, Err, true, false}
 use Rattle.std.specs.Prelude.{Option, Result, Bool}
 use Rattle.std.specs.Option.{is_some, is_none}
@@ -18,7 +18,7 @@ use Rattle.ngc_certificate.specs.Uncleared.{unless_cleared, AreUnclearedFrom, Be
 use Rattle.ngc_certificate.proofs.Cleared.{none_of}
 use Rattle.ngc_certificate.proofs.SomeMade.{some_found}
 
--- of all commands there is an answer
+-- there is a result for all commands
 some_uncleared : (machine : MachineFile) (most k : ℕ) (tool : Option Tool) (place : Point3) (actions : List Action) →
     (ks : List ℕ) × AreUnclearedFrom machine most k tool place actions ks
 some_uncleared machine most k tool place [] = ([], refl)
@@ -67,7 +67,7 @@ as_made machine most k tool place (_ ∷ actions) says made = as_made machine mo
 pub made_says : MadeSaysUncleared
 made_says machine most commands says made = as_made machine most 0 None machine.start (actions_of commands) says made
 
--- ---- where there is none
+-- ---- if there is none
 
 nothing_listed : (clear : Bool) (k : ℕ) (rest : List ℕ) → [] ≡ unless_cleared clear k rest → (clear ≡ true) × (rest ≡ [])
 nothing_listed true k rest h = (refl, sym h)

@@ -15,7 +15,7 @@ use Rattle.ngc_fixed_length.specs.Length.{IsStep}
 use Rattle.ngc_fixed_length.specs.declared.points.Point3.{Point3}
 use Rattle.ngc_certificate.specs.DerivedBox.{low_between, high_between, cut_at, line_box}
 
--- what a quotient leaves
+-- the product with the quotient is at most the dividend
 below_product : (z : ℤ) (n : ℕ) → 0 < n → (int_div_euclid z (pos n) *ℤ pos n) ≤ℤ z
 below_product (pos a) n h = let whole = div-add-mod' a n in omega (arith, ints)
 below_product (negsuc a) n h =
@@ -34,7 +34,7 @@ above_product (negsuc a) n h =
     let product : suc (a / n) * n ≡ a / n * n + n = omega arith in
     omega (arith, ints)
 
--- a factor left out
+-- a factor cancels
 at_most : (a n : ℤ) (k : ℕ) → (a *ℤ pos k) <ℤ ((n *ℤ pos k) +ℤ pos k) → a ≤ℤ n
 at_most a n k h =
     by_lt_z n a
@@ -42,7 +42,7 @@ at_most a n k h =
     (let grown : k * (up n + down a + 1) ≤ k * (up a + down n) = mul-le-mul_left k (omega (arith, ints, less)) in absurd (omega (arith, ints, h, grown))))
     (λ (h : a ≤ℤ n). h)
 
--- the grid point next to a length is no more than a step away
+-- the grid point next to a length is at most a step away
 reached_above : (a x : ℤ) (k : ℕ) → 0 < k → (a *ℤ pos k) <ℤ x → a ≤ℤ nearest x (pos k)
 reached_above a x k h under =
     let near = nearest_near x k h in

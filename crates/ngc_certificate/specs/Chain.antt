@@ -1,4 +1,4 @@
--- How the pieces of a motion follow each other. Our own.
+-- The order of a motion's pieces. Our own.
 use Rattle.std.specs.Prelude.{ℕ, ◌==◌, nat_lt, ℤ, List, [], ◌∷◌, length, Bool, true, false, not}
 use Rattle.std.specs.Prelude.{◌&&◌, ◌||◌, if◌then◌else◌, IsTrue}
 use Rattle.ngc_fixed_length.specs.declared.points.Point2.{Point2}
@@ -12,7 +12,7 @@ use Rattle.ngc_certificate_text.specs.declared.piece.Cut.TheVariants.{Part, Plac
 use Rattle.ngc_certificate.specs.declared.stretch.Stretch.{Stretch}
 use Rattle.ngc_certificate_text.specs.Certificate.{WHOLE}
 
--- where the first piece begins
+-- the cut at which the first piece begins
 abbrev pub first_cut : Way → Cut
 first_cut (Line b e) = Part 0
 first_cut (Arc a) = Place (shapes.start_of a)
@@ -31,7 +31,7 @@ place_of a (Place q) = q
 abbrev pub line_follows : Bool → ℕ → ℕ → Bool
 line_follows last s t = nat_lt s t && (not last || t == WHOLE)
 
--- an arc in one piece ends where the arc does; one in several goes round by its cuts
+-- an arc in one piece ends at its end; each piece of a cut arc follows the last cut
 abbrev pub arc_follows : ℤ → ArcShape → Stretch → Point2 → Bool
 arc_follows step a s q =
     if s.several then cut_follows step a s.last (place_of a s.begin) q else is_end a q

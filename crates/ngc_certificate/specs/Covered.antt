@@ -1,4 +1,4 @@
--- Each point of a motion's path lies in the derived box of some piece. Our own.
+-- Each point of a motion's path is in the derived box of one of its pieces. Our own.
 use Rattle.std.specs.Prelude.{ℕ, ◌<◌, ℤ, pos, ◌≤ℤ◌, List, length, Any, Option}
 use Rattle.ngc_fixed_length.specs.declared.points.StepPos.{StepPos}
 use Rattle.ngc_fixed_length.specs.LinePath.{point}
@@ -20,7 +20,7 @@ Covered = (step : ℤ) (w : Way) (cuts : List Cut) (path : List StepPos) (k : �
     pos 1 ≤ℤ step → IsEvenIfArc w → IsChain step w cuts → IsPathOf step w path → k < length path →
     Any (λ b. IsIn b (point path k)) (derived_boxes step w cuts)
 
--- each point of a path of a motion whose pieces are valid is a safe place for the tool
+-- each point of a path of a motion whose pieces are valid is safe for the tool
 abbrev pub SafeOnPath : Type 0
 SafeOnPath = (machine : MachineFile) (tool : Option Tool) (w : Way) (pieces : List Piece)
     (path : List StepPos) (k : ℕ) →

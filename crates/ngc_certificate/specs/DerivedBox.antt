@@ -1,4 +1,4 @@
--- The box that a piece of a motion needs at least. Our own.
+-- The smallest box that a piece of a motion needs. Our own.
 use Rattle.std.specs.Prelude.{◌≡◌, ℕ, ℤ, pos, ◌+ℤ◌, ◌-ℤ◌, ◌*ℤ◌, List, [], ◌∷◌, map, Bool, true}
 use Rattle.std.specs.Prelude.{false, ◌&&◌, if◌then◌else◌}
 use Rattle.ngc_fixed_length.specs.Grid.{grid}
@@ -18,11 +18,11 @@ use Rattle.ngc_certificate.specs.declared.stretch.Stretch.{Stretch}
 use Rattle.ngc_certificate_text.specs.Certificate.{WHOLE}
 use Rattle.ngc_certificate.specs.Chain.{part_of, place_of, first_cut, stretch, are_several}
 
--- t parts of the way from b to e, in parts of a nanometre
+-- the point after t parts of the line from b to e, in parts of a nanometre
 abbrev pub cut_at : ℤ → ℤ → ℕ → ℤ
 cut_at b e t = (b *ℤ pos WHOLE) +ℤ ((e -ℤ b) *ℤ pos t)
 
--- of the grid points within a step of the way between two cuts, the first and the last
+-- the first and the last grid point within a step of the line between two cuts
 abbrev pub low_between : ℤ → ℤ → ℤ → ℕ → ℕ → ℤ
 low_between step b e s t =
     grid_above (step *ℤ pos WHOLE) (int_min (cut_at b e s) (cut_at b e t) -ℤ (step *ℤ pos WHOLE))
@@ -45,12 +45,12 @@ grown_box step b e s t = record {
   };
 }
 
--- the same, cut to the box of the line's grid ends
+-- the same, limited to the box of the line's grid ends
 abbrev pub line_box : ℤ → Point3 → Point3 → ℕ → ℕ → GridBox
 line_box step b e s t = common_box (grown_box step b e s t) (box_of (grid step b) (grid step e))
 
--- an arc in one piece needs its swept box; so does each piece where the inner radius is below eight
--- steps, and else what lies about its two cuts
+-- an arc in one piece needs its swept box; so does each piece if the inner radius is below eight
+-- steps; otherwise a piece needs the box about its two cuts
 abbrev pub arc_box : ℤ → ArcShape → Stretch → Point2 → GridBox
 arc_box step a s q =
     if s.several && is_large step a then cut_box step a (place_of a s.begin) q else swept_box step a

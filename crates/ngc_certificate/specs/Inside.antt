@@ -1,5 +1,5 @@
--- Boxes of steps as the crate keeps them, which may reach further than grid points do, and what its
--- loop keeps. Our own.
+-- Boxes of steps in the crate's own form, which may extend beyond the grid points, and the state of
+-- its loop. Our own.
 use Rattle.std.specs.Prelude.{ℕ, ◌≤◌, ℤ, FitsSigned, List, [], ◌∷◌, Option, None, Bool}
 use Rattle.std.specs.Int.{w32}
 use Rattle.ngc_fixed_length.specs.Grid.{grid}
@@ -29,18 +29,18 @@ corner_of c = record { x = c.x; y = c.y; z = c.z }
 abbrev pub bounds_of : Bounds → GridBox
 bounds_of b = record { low = corner_of b.low; high = corner_of b.high }
 
--- a corner that 32 bits hold
+-- a corner whose coordinates fit in 32 bits
 pub record IsNarrow (c : Corner) : Type 0 where
   pub x : FitsSigned w32 c.x
   pub y : FitsSigned w32 c.y
   pub z : FitsSigned w32 c.z
 
--- both cuts lie on the line
+-- both cuts are on the line
 pub record IsOnLine (cuts : Cuts) : Type 0 where
   pub from : cuts.from ≤ WHOLE
   pub to : cuts.to ≤ WHOLE
 
--- the grid points within a step of the way between two cuts
+-- the grid points within a step of the line between two cuts
 abbrev pub box_grown : ℤ → Point3 → Point3 → Cuts → GridBox
 box_grown step b e cuts = grown_box step b e cuts.from cuts.to
 
@@ -49,14 +49,14 @@ abbrev pub whole_box : ℤ → Way → GridBox
 whole_box step (Line b e) = box_of (grid step b) (grid step e)
 whole_box step (Arc a) = swept_box step a
 
--- the first refusal of the pieces that are left
+-- the first refusal of the remaining pieces
 abbrev pub rest_fault : MachineFile → Option Tool → Way → Bool → ℕ → Cut → List Piece →
     Option PieceRefusal
 rest_fault machine tool w several j begin [] = None
 rest_fault machine tool w several j begin (p ∷ ps) =
     fault_from machine tool w several j begin (p ∷ ps)
 
--- and of all of them, where there are some
+-- the same for all of them, if there are any
 abbrev pub fault_of_some : MachineFile → Option Tool → Way → List Piece → Option PieceRefusal
 fault_of_some machine tool w pieces =
     rest_fault machine tool w (are_several pieces) 0 (first_cut w) pieces

@@ -31,7 +31,7 @@ use Rattle.ngc_certificate.specs.PieceFault.{pieces_fault, place_fault}
 abbrev pub line_piece : ℤ → Point3 → Point3 → ℕ → ℕ → Piece
 line_piece step b e s t = record { end = Part t; bounds = line_box step b e s t }
 
--- pieces k + 1 to k + left of a line in c pieces of about one length
+-- pieces k + 1 to k + left of a line in c pieces of about the same length
 abbrev pub line_pieces_from : ℤ → Point3 → Point3 → ℕ → ℕ → ℕ → List Piece
 line_pieces_from step b e c k zero = []
 line_pieces_from step b e c k (suc left) =
@@ -43,7 +43,7 @@ abbrev pub pieces_of : ℤ → Way → ℕ → List Piece
 pieces_of step (Line b e) c = line_pieces_from step b e c 0 c
 pieces_of step (Arc a) c = record { end = Place (shapes.end_of a); bounds = swept_box step a } ∷ []
 
--- how many pieces are tried: the powers of two below the most, and then the most itself
+-- the numbers of pieces to try: the powers of two below the most, and then the most itself
 abbrev pub powers_of_two : List ℕ
 powers_of_two =
     1 ∷ 2 ∷ 4 ∷ 8 ∷ 16 ∷ 32 ∷ 64 ∷ 128 ∷ 256 ∷ 512 ∷ 1024 ∷ 2048 ∷ 4096 ∷ 8192 ∷ 16384 ∷ 32768 ∷ []
@@ -51,14 +51,14 @@ powers_of_two =
 abbrev pub tries : ℕ → List ℕ
 tries most = filter (λ c. nat_lt c most) powers_of_two ++ most ∷ []
 
--- the pieces of the first try that no refusal meets
+-- the pieces of the first try of which none is refused
 abbrev pub cleared : MachineFile → ℕ → Option Tool → Way → Option (List Piece)
 cleared machine most tool w =
     option_map (pieces_of machine.step w)
     (find (λ c. is_none (pieces_fault machine tool w (pieces_of machine.step w c)))
     (tries most))
 
--- one motion more, before those that follow
+-- one more motion, before those that follow
 abbrev pub with_entry : ℕ → List Piece → Result (List Entry) ℕ → Result (List Entry) ℕ
 with_entry k pieces (Ok entries) = Ok (record { index = k; pieces = pieces } ∷ entries)
 with_entry k pieces (Err refused) = Err refused
@@ -72,10 +72,10 @@ abbrev pub unless_met : Option ℕ → ℕ → Result (List Entry) ℕ → Resul
 unless_met None k rest = rest
 unless_met (Some fixture) k rest = Err k
 
--- ---- what may be found for a motion
+-- ---- the pieces that may be found for a motion
 
--- an arc in several pieces, at most as many as are allowed, each in its derived box, that no refusal
--- meets
+-- an arc in several pieces, at most the number allowed, each in its derived box, of which none is
+-- refused
 pub record IsCutClear (machine : MachineFile) (most : ℕ) (tool : Option Tool) (a : ArcShape)
     (pieces : List Piece) : Type 0 where
   pub few : length pieces ≤ most
@@ -87,7 +87,8 @@ abbrev pub MayCut : MachineFile → ℕ → Option Tool → ArcShape → Option 
 MayCut machine most tool a None = Unit {0}
 MayCut machine most tool a (Some pieces) = IsCutClear machine most tool a pieces
 
--- an arc stands in one piece where that clears; else only where it is cut is free
+-- an arc has one piece if that clears it; otherwise it has cuts, and their positions are not
+-- prescribed
 pub record MayStand (machine : MachineFile) (most : ℕ) (tool : Option Tool) (a : ArcShape)
     (found : Option (List Piece)) : Type 0 where
   pub whole : is_none (pieces_fault machine tool (Arc a) (pieces_of machine.step (Arc a) 1))
@@ -95,16 +96,16 @@ pub record MayStand (machine : MachineFile) (most : ℕ) (tool : Option Tool) (a
   pub cut : is_none (pieces_fault machine tool (Arc a) (pieces_of machine.step (Arc a) 1)) ≡ false →
       MayCut machine most tool a found
 
--- a line stands in the first try that no refusal meets
+-- a line has the pieces of the first try of which none is refused
 abbrev pub MayFind : MachineFile → ℕ → Option Tool → Way → Option (List Piece) → Type 0
 MayFind machine most tool (Line b e) found = found ≡ cleared machine most tool (Line b e)
 MayFind machine most tool (Arc a) found = MayStand machine most tool a found
 
--- ---- what may be made
+-- ---- the certificates that may be made
 
--- From command k on, with the tool mounted and the place reached so far: each motion with pieces
--- that may be found for it, or the first command that isn't cleared, a motion for which none are
--- found or a tool change that meets a fixture.
+-- From command k on, with the tool mounted and the position reached so far: each motion with pieces
+-- that may be found for it, or the first command that isn't cleared, which is a motion for which
+-- none are found or a tool change that meets a fixture.
 abbrev pub IsMadeFrom : MachineFile → ℕ → ℕ → Option Tool → Point3 → List Action →
     Result (List Entry) ℕ → Type 0
 IsMadeFrom machine most k tool place [] says = says ≡ Ok []
@@ -123,8 +124,8 @@ abbrev pub IsSettingMade : MachineFile → ℕ → List Command → Result (List
 IsSettingMade machine most commands says =
     IsMadeFrom machine most 0 None machine.start (actions_of commands) says
 
--- both settings, or the first command that isn't cleared; that of a start point which isn't clear
--- is command 0, block delete off
+-- both settings, or the first command that isn't cleared; for a start point that isn't clear it is
+-- command 0 with block delete off
 abbrev pub join_settings : Result (List Entry) ℕ → Result (List Entry) ℕ →
     Result CertificateData MakeFault
 join_settings (Err k) on = Err (NotCleared Off k)
@@ -144,7 +145,7 @@ IsMade machine most off on says =
     × (says ≡ from_start (place_fault machine None (grid machine.step machine.start))
     (join_settings first second))
 
--- an answer that may be given, unless memory ran out
+-- a result that is allowed, unless memory ran out
 abbrev pub GivesMade : {X : Type 0} → (X → CertificateData) → Result X MakeFault →
     (Result CertificateData MakeFault → Type 0) → Type 0
 GivesMade view (Ok x) May = May (Ok (view x))

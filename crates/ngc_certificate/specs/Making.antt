@@ -1,4 +1,4 @@
--- How far the maker has come in the commands of a setting. Our own.
+-- The maker's progress in the commands of a setting. Our own.
 use Rattle.std.specs.Prelude.{◌≡◌, ℕ, ◌+◌, ◌≤◌, ℤ, List, ◌∷◌, ◌++◌, length, Option, Some, None}
 use Rattle.std.specs.Prelude.{Result, Ok, Err, Bool, if◌then◌else◌}
 use Rattle.ngc_arc_geometry.specs.Shape.{ArcShape}
@@ -27,16 +27,16 @@ use Rattle.ngc_certificate.specs.Made.{pieces_of, IsMadeFrom}
 abbrev pub whole_arc : ℤ → ArcShape → Piece
 whole_arc step a = record { end = Place (shapes.end_of a); bounds = swept_box step a }
 
--- no refusal meets a motion in so many pieces
+-- no piece is refused if a motion has this number of pieces
 abbrev pub is_clear_in : MachineFile → Option Tool → Way → ℕ → Bool
 is_clear_in machine tool w count =
     is_none (pieces_fault machine tool w (pieces_of machine.step w count))
 
--- no fixture meets the tool where the axes stand at a place
+-- the tool meets no fixture with the axes at a position
 abbrev pub is_clear_at : MachineFile → Option Tool → Point3 → Bool
 is_clear_at machine tool place = is_none (place_fault machine tool (grid machine.step place))
 
--- the pieces, where they are clear
+-- the pieces, if they are clear
 abbrev pub pieces_where : Bool → List Piece → Option (List Piece)
 pieces_where clear pieces = if clear then Some pieces else None
 
@@ -45,14 +45,14 @@ abbrev pub behind : List Entry → Result (List Entry) ℕ → Result (List Entr
 behind entries (Ok rest) = Ok (entries ++ rest)
 behind entries (Err k) = Err k
 
--- what a setting may give, from command k on, where the commands that are left do this
+-- the allowed results for a setting, from command k on, if these commands remain
 abbrev pub IsGivenFrom : {A : Type 0} → MachineFile → ℕ → ℕ → Progress A → List Action →
     Result (List Entry) ℕ → Type 0
 IsGivenFrom machine most k p actions says =
     (rest : Result (List Entry) ℕ) × IsMadeFrom machine most k p.tool p.place actions rest ×
     (says ≡ behind p.motions rest)
 
--- command k leads on, or it isn't cleared, unless memory ran out
+-- command k is executed, or it isn't cleared, unless memory ran out
 abbrev pub Leads : {A : Type 0} → MachineFile → ℕ → ℕ → Action → Progress A →
     Result (Unit {0}) Refusal → Progress A → Type 0
 Leads machine most k action old (Ok done) new =
@@ -64,14 +64,14 @@ Leads machine most k action old (Err (NotCleared command)) new =
     (actions : List Action) → IsGivenFrom machine most k old (action ∷ actions) (Err command)
 Leads machine most k action old (Err Memory) new = Unit {0}
 
--- an answer that may be given, unless memory ran out
+-- a result that is allowed, unless memory ran out
 abbrev pub GivesSetting : {X : Type 0} → (X → List Entry) → Result X Refusal →
     (Result (List Entry) ℕ → Type 0) → Type 0
 GivesSetting view (Ok x) May = May (Ok (view x))
 GivesSetting view (Err (NotCleared command)) May = May (Err command)
 GivesSetting view (Err Memory) May = Unit {0}
 
--- what a refusal at a setting is
+-- the fault for a refusal at a setting
 abbrev pub fault_at : Setting → Refusal → MakeFault
 fault_at s (NotCleared command) = faults.NotCleared s command
 fault_at s Memory = faults.Memory

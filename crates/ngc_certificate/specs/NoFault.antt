@@ -1,4 +1,4 @@
--- No refusal is found exactly where all is valid. Our own.
+-- There is no refusal if and only if all is valid. Our own.
 use Rattle.std.specs.Prelude.{◌≡◌, List, Option, None, ◌↔◌}
 use Rattle.ngc_fixed_length.specs.declared.points.StepPos.{StepPos}
 use Rattle.ngc_machine.specs.declared.tools.Tool.{Tool}

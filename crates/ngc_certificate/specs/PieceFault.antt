@@ -33,7 +33,7 @@ piece_fault machine tool w s p =
     else (if not (is_in_travel machine p.bounds) then Some OutsideTravel
     else option_map MeetsFixture (first_met machine tool p.bounds)))
 
--- the lowest fixture that the tool's body meets at a place
+-- the lowest fixture that the tool's body meets at a position
 abbrev pub place_fault : MachineFile → Option Tool → StepPos → Option ℕ
 place_fault machine tool p = first_met machine tool (only p)
 

@@ -1,4 +1,4 @@
--- What is left of the judgement on a motion's pieces that come one by one. Our own.
+-- The remaining judgement of a motion's pieces, one by one. Our own.
 use Rattle.std.specs.Prelude.{◌≡◌, ℕ, List, [], ◌∷◌, Option, Bool, true, false}
 use Rattle.ngc_machine.specs.Machine.{MachineFile}
 use Rattle.ngc_certificate_text.specs.declared.piece.Piece.{Piece}
@@ -11,11 +11,11 @@ abbrev pub is_empty : List Piece → Bool
 is_empty [] = true
 is_empty (p ∷ ps) = false
 
--- how many pieces were judged
+-- the number of pieces that were judged
 abbrev pub judged_by : PieceJudge → ℕ
 judged_by j = j.judged
 
--- the first refusal of the pieces that come yet
+-- the first refusal of the remaining pieces
 abbrev pub fault_ahead : MachineFile → PieceJudge → List Piece → Option PieceRefusal
 fault_ahead machine j pieces = rest_fault machine j.tool j.way j.several j.judged j.begin pieces
 

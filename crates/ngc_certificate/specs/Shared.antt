@@ -1,4 +1,4 @@
--- What the pieces of a motion share. Our own.
+-- The value that the pieces of a motion share. Our own.
 use Rattle.std.specs.Prelude.{ℤ, Bool, true, false}
 use Rattle.ngc_commands.specs.declared.movement.Way.{Way}
 use Rattle.ngc_commands.specs.declared.movement.Way.TheVariants as ways

@@ -22,9 +22,9 @@ abbrev pub unless_cleared : Bool → ℕ → List ℕ → List ℕ
 unless_cleared true k ks = ks
 unless_cleared false k ks = k ∷ ks
 
--- From command k on, with the tool mounted and the place reached so far: each command that isn't
--- cleared, a motion for which no pieces are found or a tool change that meets a fixture. Behind it
--- the motion is at its end all the same, and the tool mounted.
+-- From command k on, with the tool mounted and the position reached so far: each command that isn't
+-- cleared, which is a motion for which no pieces are found or a tool change that meets a fixture.
+-- After it the motion still counts as made, and the tool as mounted.
 abbrev pub AreUnclearedFrom : MachineFile → ℕ → ℕ → Option Tool → Point3 → List Action →
     List ℕ → Type 0
 AreUnclearedFrom machine most k tool place [] ks = ks ≡ []
@@ -43,32 +43,32 @@ abbrev pub AreUncleared : MachineFile → ℕ → List Command → List ℕ → 
 AreUncleared machine most commands ks =
     AreUnclearedFrom machine most 0 None machine.start (actions_of commands) ks
 
--- ---- beside what is made of the setting
+-- ---- the relation to what is made of the setting
 
--- the list that is empty where motions are made, or one that begins with the refused command
+-- the list is empty if motions are made, otherwise it begins with the refused command
 abbrev pub BeginsAs : Result (List Entry) ℕ → (List ℕ → Type 0) → Type 0
 BeginsAs (Ok entries) May = May []
 BeginsAs (Err k) May = (ks : List ℕ) × May (k ∷ ks)
 
--- what is made of a setting says which command may be the first
+-- what is made of a setting determines the command that may be the first
 abbrev pub MadeSaysUncleared : Type 0
 MadeSaysUncleared =
     (machine : MachineFile) (most : ℕ) (commands : List Command) (says : Result (List Entry) ℕ) →
     IsSettingMade machine most commands says → BeginsAs says (AreUncleared machine most commands)
 
--- and where there may be none, motions may be made
+-- and if there may be none, motions may be made
 abbrev pub NoneUnclearedIsMade : Type 0
 NoneUnclearedIsMade = (machine : MachineFile) (most : ℕ) (commands : List Command) →
     AreUncleared machine most commands [] →
     (entries : List Entry) × IsSettingMade machine most commands (Ok entries)
 
--- a list that a command begins
+-- a list that begins with a command
 abbrev pub BeginsWith : ℕ → List ℕ → Type 0
 BeginsWith k ks = (rest : List ℕ) × (ks ≡ k ∷ rest)
 
 -- ---- from one command to the next
 
--- command k leads on, cleared or not
+-- command k is executed, cleared or not
 abbrev pub LeadsPast : MachineFile → ℕ → ℕ → Action → Reached → Bool → Type 0
 LeadsPast machine most k action r clear =
     (actions : List Action) (ks : List ℕ) →

@@ -1,4 +1,4 @@
--- When a certificate is valid for the commands of a setting. Our own.
+-- The validity of a certificate for the commands of a setting. Our own.
 use Rattle.std.specs.Prelude.{◌≡◌, List, [], ◌∷◌, map, Option, None}
 use Rattle.ngc_fixed_length.specs.Grid.{grid}
 use Rattle.ngc_fixed_length.specs.declared.points.Point3.{Point3}
@@ -12,8 +12,8 @@ use Rattle.ngc_collision.specs.Body.{IsClearAt}
 use Rattle.ngc_certificate_text.specs.Certificate.{Entry}
 use Rattle.ngc_certificate.specs.PieceFault.{ArePiecesValid}
 
--- From a place, with a tool mounted: each motion's pieces are valid with the tool mounted then, and
--- each new tool is clear where it is mounted.
+-- From a position, with a tool mounted: each motion's pieces are valid with the tool that is
+-- mounted then, and each new tool is clear where it is mounted.
 abbrev pub AreClearFrom : MachineFile → Option Tool → Point3 → List Action → List Entry → Type 0
 AreClearFrom machine tool place [] entries = Unit {0}
 AreClearFrom machine tool place (Mount new ∷ actions) entries =

@@ -12,8 +12,8 @@ pub(crate) struct Corner {
     pub(crate) z: i64,
 }
 
-/// A box from its lowest to its highest corner, which may lie beyond the grid points that 32 bits
-/// reach.
+/// A box from its lowest to its highest corner. It may extend beyond the grid points of 32-bit
+/// steps.
 #[derive(Clone, Copy)]
 pub(crate) struct Bounds {
     pub(crate) low: Corner,
@@ -31,7 +31,7 @@ impl Corner {
         }
     }
 
-    /// On each axis this corner is at most the other.
+    /// Returns whether this corner is at most the other on each axis.
     fn is_below(&self, other: &Corner) -> bool
         ensures { result ≡ is_below (corner_of self.now) (corner_of other.now) }
     {
@@ -51,14 +51,14 @@ impl Corner {
 }
 
 impl Bounds {
-    /// A box of grid points holds all of this one.
+    /// Returns whether a box of grid points contains all of this one.
     pub(crate) fn are_in(&self, outer: &GridBox) -> bool
         ensures { result ≡ holds_box outer.now (bounds_of self.now) }
     {
         Corner::of(&outer.low).is_below(&self.low) && self.high.is_below(&Corner::of(&outer.high))
     }
 
-    /// The same as a box of grid points.
+    /// Returns the same box as a box of grid points.
     pub(crate) fn narrowed(&self) -> GridBox
         requires low { IsNarrow self.now.low }
         requires high { IsNarrow self.now.high }

@@ -12,10 +12,10 @@ use ngc_certificate_text::Cut;
 use ngc_commands::Way;
 use ngc_fixed_length::Point2;
 
-/// Parts of a line.
+/// The number of parts of a line.
 pub(crate) const WHOLE: u32 = 65_536;
 
-/// Where the first piece of a motion begins.
+/// Returns the cut at which the first piece of a motion begins.
 pub(crate) fn first_cut(way: &Way) -> Cut
     ensures { result ≡ first_cut_of way.now }
 {
@@ -25,7 +25,7 @@ pub(crate) fn first_cut(way: &Way) -> Cut
     }
 }
 
-/// A cut as parts of a line.
+/// Returns a cut as a number of parts of a line.
 pub(crate) fn part_of(cut: &Cut) -> u32
     ensures { result ≡ part_of cut.now }
 {
@@ -35,7 +35,7 @@ pub(crate) fn part_of(cut: &Cut) -> u32
     }
 }
 
-/// A cut as a point of an arc's plane.
+/// Returns a cut as a point of an arc's plane.
 pub(crate) fn place_of(arc: &Arc, cut: &Cut) -> Point2
     ensures { result ≡ place_of arc.now cut.now }
 {
@@ -45,14 +45,15 @@ pub(crate) fn place_of(arc: &Arc, cut: &Cut) -> Point2
     }
 }
 
-/// A line's cuts rise up to the whole line.
+/// Returns whether a line's cuts rise, up to the whole line.
 fn line_follows(last: bool, from: u32, to: u32) -> bool
     ensures { result ≡ line_goes_on last from to }
 {
     from < to && (!last || to == WHOLE)
 }
 
-/// An arc in one piece ends where the arc does; one in several goes round by its cuts.
+/// Returns whether an arc's piece may end at a place: an arc in one piece at its end, one in
+/// several pieces at a cut that follows the last.
 fn arc_follows(arc: &Arc, shared: &Shared, stretch: &Stretch, place: &Point2) -> bool
     ensures { (step : ℤ) → shared.now ≡ shared_of step (ways.Arc arc.now) stretch.now.several →
         result ≡ arc_goes_on step arc.now stretch.now place.now }
@@ -65,7 +66,8 @@ fn arc_follows(arc: &Arc, shared: &Shared, stretch: &Stretch, place: &Point2) ->
     }
 }
 
-/// The piece that ends at a cut is of the motion's kind, and follows the one before it.
+/// Returns whether the piece that ends at a cut is of the motion's kind and follows the one before
+/// it.
 pub(crate) fn follows(way: &Way, shared: &Shared, stretch: &Stretch, cut: &Cut) -> bool
     ensures { (step : ℤ) → shared.now ≡ shared_of step way.now stretch.now.several →
         result ≡ goes_on step way.now stretch.now cut.now }

@@ -11,7 +11,7 @@ use crate::chain::{WHOLE, part_of};
 use ngc_certificate_text::Cut;
 use ngc_fixed_length::Nm;
 
-/// From which part of a line to which, in parts of 65,536.
+/// Two cuts of a line, in parts of 65,536.
 #[derive(Clone, Copy)]
 pub(crate) struct Cuts {
     pub(crate) from: u32,
@@ -21,7 +21,7 @@ pub(crate) struct Cuts {
 impl Cuts {
     ghost use Rattle.ngc_certificate.specs.Chain.{part_of as part_of_cut};
 
-    /// From one cut of a line to another.
+    /// Returns the parts of a line between two cuts.
     pub(crate) fn of(begin: &Cut, end: &Cut) -> Cuts
         ensures from { result.from ≡ part_of_cut begin.now }
         ensures to { result.to ≡ part_of_cut end.now }
@@ -32,7 +32,7 @@ impl Cuts {
         }
     }
 
-    /// They take in the whole line.
+    /// Returns whether they cover the whole line.
     pub(crate) fn are_all(&self) -> bool
         ensures { result ≡ (self.now.from == 0 && self.now.to == WHOLE_LINE) }
     {
@@ -40,7 +40,7 @@ impl Cuts {
     }
 }
 
-/// A length in 65,536ths of a nanometre.
+/// Returns a length in 65,536ths of a nanometre.
 fn in_parts(length: Nm) -> i128
     ensures value { result ≡ length *ℤ pos 65536 }
     ensures bound { unsigned_abs result ≤ 6553600000000000 }
@@ -48,7 +48,7 @@ fn in_parts(length: Nm) -> i128
     i128::from(length.nanometres()) * 65_536
 }
 
-/// From start to end, in nanometres.
+/// Returns the distance from start to end, in nanometres.
 fn way_between(start: Nm, end: Nm) -> i128
     ensures value { result ≡ end -ℤ start }
     ensures bound { unsigned_abs result ≤ 200000000000 }
@@ -56,7 +56,7 @@ fn way_between(start: Nm, end: Nm) -> i128
     i128::from(end.nanometres()) - i128::from(start.nanometres())
 }
 
-/// So many parts of a way.
+/// Returns a distance times a number of parts.
 fn part_of_way(way: i128, part: u32) -> i128
     requires { unsigned_abs way ≤ 200000000000 }
     ensures value { result ≡ way *ℤ pos part }
@@ -65,7 +65,7 @@ fn part_of_way(way: i128, part: u32) -> i128
     way * i128::from(part)
 }
 
-/// So many 65,536ths of the way from start to end, in 65,536ths of a nanometre.
+/// Returns the cut at `part` 65,536ths of the line from start to end, in 65,536ths of a nanometre.
 fn cut_at(start: Nm, end: Nm, part: u32) -> i128
     ensures value { result ≡ at_cut start end part }
     ensures bound { unsigned_abs result ≤ 6553600000000000 + 200000000000 * part }
@@ -73,7 +73,7 @@ fn cut_at(start: Nm, end: Nm, part: u32) -> i128
     in_parts(start) + part_of_way(way_between(start, end), part)
 }
 
-/// The last grid point that isn't above a number of 65,536ths of a nanometre, in steps.
+/// Returns the last grid point that is not above a number of 65,536ths of a nanometre, in steps.
 fn last_grid_point(step: i128, parts: i128) -> i64
     requires step { pos 32768000 ≤ℤ step }
     requires parts { unsigned_abs parts ≤ 10 ^ 21 }
@@ -83,7 +83,7 @@ fn last_grid_point(step: i128, parts: i128) -> i64
     parts.div_euclid(step) as i64
 }
 
-/// The first grid point that isn't below a number of 65,536ths of a nanometre, in steps.
+/// Returns the first grid point that is not below a number of 65,536ths of a nanometre, in steps.
 fn first_grid_point(step: i128, parts: i128) -> i64
     requires step { pos 32768000 ≤ℤ step }
     requires parts { unsigned_abs parts ≤ 10 ^ 21 }
@@ -93,7 +93,7 @@ fn first_grid_point(step: i128, parts: i128) -> i64
     -last_grid_point(step, -parts)
 }
 
-/// The lesser of two cuts.
+/// Returns the lesser of two cuts.
 fn lesser_cut(start: Nm, end: Nm, cuts: &Cuts) -> i128
     ensures value { result ≡ int_min (at_cut start end cuts.now.from)
         (at_cut start end cuts.now.to) }
@@ -104,7 +104,7 @@ fn lesser_cut(start: Nm, end: Nm, cuts: &Cuts) -> i128
     cut_at(start, end, cuts.from).min(cut_at(start, end, cuts.to))
 }
 
-/// The greater of two cuts.
+/// Returns the greater of two cuts.
 fn greater_cut(start: Nm, end: Nm, cuts: &Cuts) -> i128
     ensures value { result ≡ int_max (at_cut start end cuts.now.from)
         (at_cut start end cuts.now.to) }
@@ -115,7 +115,7 @@ fn greater_cut(start: Nm, end: Nm, cuts: &Cuts) -> i128
     cut_at(start, end, cuts.from).max(cut_at(start, end, cuts.to))
 }
 
-/// Of the grid points within a step of the way between two cuts the first, in steps.
+/// Returns the first grid point within a step of the line between two cuts, in steps.
 pub(crate) fn first_between(step: Nm, start: Nm, end: Nm, cuts: &Cuts) -> i64
     requires { IsStep step }
     ensures value { result ≡ low_between step start end cuts.now.from cuts.now.to }
@@ -125,7 +125,7 @@ pub(crate) fn first_between(step: Nm, start: Nm, end: Nm, cuts: &Cuts) -> i64
     first_grid_point(step, lesser_cut(start, end, cuts) - step)
 }
 
-/// Of the grid points within a step of the way between two cuts the last, in steps.
+/// Returns the last grid point within a step of the line between two cuts, in steps.
 pub(crate) fn last_between(step: Nm, start: Nm, end: Nm, cuts: &Cuts) -> i64
     requires { IsStep step }
     ensures value { result ≡ high_between step start end cuts.now.from cuts.now.to }

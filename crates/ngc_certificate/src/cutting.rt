@@ -1,4 +1,4 @@
-//! Arcs cut into pieces that clear.
+//! Cuts arcs into pieces that clear.
 ghost use Rattle.std.specs.Prelude.{◌≡◌, ◌≤◌, IfOk, IfSome, IsTrue, length, true};
 ghost use Rattle.std.specs.List.{list_all};
 ghost use Rattle.ngc_fixed_length.specs.Signed.{is_within};
@@ -18,10 +18,10 @@ use ngc_fixed_length::{Nm, Point2};
 use ngc_machine::{Machine, Tool};
 use std::alloc::{AllocError, Allocator};
 
-/// How far from zero cuts lie, in nanometres.
+/// The greatest coordinate of a cut, in nanometres.
 const CUT_LIMIT: u64 = 4_000_000_000;
 
-/// How far from the centre the pieces of an arc meet where it crosses an axis: a step inside the
+/// The distance from the centre at which the pieces of an arc meet on an axis: a step inside the
 /// arc or a step outside.
 #[derive(Clone, Copy)]
 pub(crate) enum Stops {
@@ -47,7 +47,7 @@ fn is_within_limit(coordinate: Nm) -> bool
     coordinate.nanometres().unsigned_abs() <= CUT_LIMIT
 }
 
-/// Whether a certificate can say this cut.
+/// Returns whether a certificate may contain this cut.
 fn is_good_cut(place: &Point2) -> bool
     ensures { result ≡ good_cut (Cut.Place place.now) }
 {
@@ -55,8 +55,8 @@ fn is_good_cut(place: &Point2) -> bool
 }
 
 impl<A: Allocator> Cutter<'_, A> {
-    /// Where the piece that begins at a spot may go at most: the arc's end if it lies ahead in the
-    /// same quadrant, else the axis ahead.
+    /// Returns the furthest end of a piece that begins at a spot: the arc's end if it is ahead in
+    /// the same quadrant, else the next axis.
     fn stop_ahead(&self, quadrant: &Quadrant, spot: &Spot) -> Spot {
         let end = self.arc.end().in_plane(self.arc.plane());
         if let Some(end) = quadrant.spot_of(&end) {
@@ -70,7 +70,7 @@ impl<A: Allocator> Cutter<'_, A> {
         }
     }
 
-    /// As far as a piece from a point may go.
+    /// Returns the furthest point to which a piece from `point` may go.
     fn furthest(&self, point: &Point2) -> Option<Point2> {
         let quadrant = Quadrant::ahead_of(self.arc, point);
         let spot = quadrant.spot_of(point)?;
@@ -89,7 +89,7 @@ impl<A: Allocator> Cutter<'_, A> {
         begin.furthest(&self.stop_ahead(&quadrant, &spot))
     }
 
-    /// The piece from a point on that goes as far as it may, where a certificate can say its cut.
+    /// Returns the longest allowed piece from a point on, if a certificate may contain its cut.
     fn next_piece(&self, point: &Point2) -> Option<Piece>
         ensures good { IfSome result (λ p. IsTrue (good_piece p)) }
         ensures bounds { IfSome result (λ p. p.bounds ≡ cut_box self.now.on_grid.step
@@ -131,9 +131,9 @@ impl<'a, A: Allocator> Cutter<'a, A> {
     }
 }
 
-/// Fills `pieces` with an arc that is cut into at most `most` of them, each as long as clears it
-/// and in its derived box, by way of the quadrant directions ahead, and answers whether several
-/// pieces reach its end. Where they don't, what stands in `pieces` says nothing.
+/// Cuts an arc into at most `most` pieces that pass through the following quadrant directions, and
+/// puts them in `pieces`. Each is as long as clears and has its derived box. Returns whether
+/// several pieces reach the arc's end. If they do not, the contents of `pieces` have no meaning.
 pub(crate) fn cut_arc<A: Allocator>(
     machine: &Machine<A>,
     tool: &Option<Tool>,
@@ -149,7 +149,7 @@ pub(crate) fn cut_arc<A: Allocator>(
 {
     pieces.clear();
     let cutter = Cutter::new(machine, tool, arc, stops);
-    // The pieces of a small arc all need the box of the whole.
+    // The pieces of a small arc all need the box of the whole arc.
     if !cutter.on_grid.is_large() {
         return Ok(false);
     }

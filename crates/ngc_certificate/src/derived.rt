@@ -23,7 +23,7 @@ use ngc_certificate_text::{Cut, Piece};
 use ngc_commands::Way;
 use ngc_fixed_length::{GridBox, Nm, Point3, StepPos};
 
-/// The first coordinate that a piece of a line needs, in steps; the line's own is `least`.
+/// Returns the first coordinate that a piece of a line needs, in steps; the line's own is `least`.
 fn first_needed(step: Nm, start: Nm, end: Nm, cuts: &Cuts, least: i32) -> i64
     requires { IsStep step }
     ensures value { result ≡ int_max (low_between step start end cuts.now.from cuts.now.to) least }
@@ -32,7 +32,8 @@ fn first_needed(step: Nm, start: Nm, end: Nm, cuts: &Cuts, least: i32) -> i64
     first_between(step, start, end, cuts).max(i64::from(least))
 }
 
-/// The last coordinate that a piece of a line needs, in steps; the line's own is `greatest`.
+/// Returns the last coordinate that a piece of a line needs, in steps; the line's own is
+/// `greatest`.
 fn last_needed(step: Nm, start: Nm, end: Nm, cuts: &Cuts, greatest: i32) -> i64
     requires { IsStep step }
     ensures value { result ≡ int_min
@@ -42,7 +43,7 @@ fn last_needed(step: Nm, start: Nm, end: Nm, cuts: &Cuts, greatest: i32) -> i64
     last_between(step, start, end, cuts).min(i64::from(greatest))
 }
 
-/// The lowest corner that a piece of a line needs; the line's own is `least`.
+/// Returns the lowest corner that a piece of a line needs; the line's own is `least`.
 fn lowest_needed(step: Nm, start: &Point3, end: &Point3, cuts: &Cuts, least: &StepPos) -> Corner
     requires { IsStep step }
     ensures value { corner_of result ≡ greater_corner
@@ -56,7 +57,7 @@ fn lowest_needed(step: Nm, start: &Point3, end: &Point3, cuts: &Cuts, least: &St
     }
 }
 
-/// The highest corner that a piece of a line needs; the line's own is `greatest`.
+/// Returns the highest corner that a piece of a line needs; the line's own is `greatest`.
 fn highest_needed(step: Nm, start: &Point3, end: &Point3, cuts: &Cuts, greatest: &StepPos) -> Corner
     requires { IsStep step }
     ensures value { corner_of result ≡ lesser_corner
@@ -70,7 +71,8 @@ fn highest_needed(step: Nm, start: &Point3, end: &Point3, cuts: &Cuts, greatest:
     }
 }
 
-/// The box that a piece of a line needs at least; `whole` is the box of the line's grid ends.
+/// Returns the smallest box that a piece of a line needs; `whole` is the box of the line's grid
+/// ends.
 fn line_bounds(step: Nm, start: &Point3, end: &Point3, cuts: &Cuts, whole: &GridBox) -> Bounds
     requires { IsStep step }
     ensures value { bounds_of result ≡ common_box
@@ -84,7 +86,7 @@ fn line_bounds(step: Nm, start: &Point3, end: &Point3, cuts: &Cuts, whole: &Grid
     }
 }
 
-/// The box of a motion in one piece.
+/// Returns the box of a motion in one piece.
 pub(crate) fn whole_box(step: Nm, way: &Way) -> GridBox
     requires { IsStep step }
     ensures { result ≡ box_of_whole step way.now }
@@ -95,8 +97,8 @@ pub(crate) fn whole_box(step: Nm, way: &Way) -> GridBox
     }
 }
 
-/// The box that a piece of a line needs at least; `whole` is the box of the line's grid ends, and
-/// cuts are at most 65,536.
+/// Returns the smallest box that a piece of a line needs; `whole` is the box of the line's grid
+/// ends, and cuts are at most 65,536.
 pub(crate) fn line_box(
     step: Nm,
     start: &Point3,
@@ -116,7 +118,7 @@ pub(crate) fn line_box(
     }
 }
 
-/// A box of grid points holds the piece of a line that it is given for.
+/// Returns whether the box of a line's piece contains the box that the piece needs.
 fn covers_line(
     step: Nm,
     start: &Point3,
@@ -137,7 +139,7 @@ fn covers_line(
     }
 }
 
-/// A box of grid points holds the piece of an arc that it is given for.
+/// Returns whether the box of an arc's piece contains the box that the piece needs.
 fn covers_arc(
     step: Nm,
     arc: &Arc,
@@ -161,7 +163,7 @@ fn covers_arc(
     }
 }
 
-/// A piece's box holds the box that it needs at least.
+/// Returns whether a piece's box contains the box that it needs.
 pub(crate) fn covers(step: Nm, way: &Way, shared: &Shared, stretch: &Stretch, piece: &Piece) -> bool
     requires step { IsStep step }
     requires shared { shared.now ≡ shared_of step way.now stretch.now.several }

@@ -1,4 +1,4 @@
-//! Motions in pieces.
+//! Divides motions into pieces.
 ghost use Rattle.std.specs.Prelude.{◌≡◌, ◌+◌, ◌*◌, ◌/◌, ◌≤◌, [], ◌∷◌, OnOk};
 ghost use Rattle.ngc_fixed_length.specs.Grid.{grid};
 ghost use Rattle.ngc_fixed_length.specs.Length.{IsStep};
@@ -17,7 +17,7 @@ use ngc_commands::Way;
 use ngc_fixed_length::{GridBox, Nm, Point3};
 use std::alloc::{AllocError, Allocator};
 
-/// How many parts of a line lie before piece `k` of `count`.
+/// Returns the number of parts of a line before piece `k` of `count`.
 fn part_before(k: u32, count: u32) -> u32
     requires some { 1 ≤ count }
     requires limit { count ≤ 65535 }
@@ -28,7 +28,7 @@ fn part_before(k: u32, count: u32) -> u32
     WHOLE * k / count
 }
 
-/// From where to where piece `k` of `count` of a line leads.
+/// Returns the cuts of piece `k` of `count` of a line.
 fn cuts_of(k: u32, count: u32) -> Cuts
     requires limit { count ≤ 65535 }
     requires k { k + 1 ≤ count }
@@ -42,8 +42,8 @@ fn cuts_of(k: u32, count: u32) -> Cuts
     }
 }
 
-/// A line's piece between two cuts, in the least box that holds it; `whole` is the box of the
-/// line's grid ends.
+/// Returns a line's piece between two cuts, in the smallest box that contains it; `whole` is the
+/// box of the line's grid ends.
 fn line_piece(step: Nm, start: &Point3, end: &Point3, cuts: &Cuts, whole: &GridBox) -> Piece
     requires step { IsStep step }
     requires on_line { IsOnLine cuts.now }
@@ -56,7 +56,7 @@ fn line_piece(step: Nm, start: &Point3, end: &Point3, cuts: &Cuts, whole: &GridB
     }
 }
 
-/// An arc in one piece, in the least box that holds it.
+/// Returns an arc in one piece, in the smallest box that contains it.
 fn whole_arc(step: Nm, arc: &Arc) -> Piece
     requires { IsStep step }
     ensures { result ≡ whole_arc step arc.now }
@@ -67,7 +67,7 @@ fn whole_arc(step: Nm, arc: &Arc) -> Piece
     }
 }
 
-/// Fills the empty `pieces` with a line in `count` of them, of about one length.
+/// Fills the empty `pieces` with a line in `count` pieces of about the same length.
 fn divide_line<A: Allocator>(
     step: Nm,
     start: &Point3,
@@ -88,9 +88,9 @@ fn divide_line<A: Allocator>(
     Ok(())
 }
 
-/// A motion in one piece, in the least box that holds it.
+/// Returns a motion in one piece, in the smallest box that contains it.
 ///
-/// The step is 500 to 50,000 nm.
+/// The step is from 500 to 50,000 nm.
 pub fn undivided(step: Nm, way: &Way) -> Piece
     requires { IsStep step }
     ensures { pieces_of step way.now 1 ≡ result ∷ [] }
@@ -104,9 +104,10 @@ pub fn undivided(step: Nm, way: &Way) -> Piece
     }
 }
 
-/// Makes `pieces` those of a motion: a line in `count` of them of about one length, an arc in one.
+/// Replaces `pieces` with those of a motion: a line in `count` pieces of about the same length, an
+/// arc in one.
 ///
-/// The step is 500 to 50,000 nm.
+/// The step is from 500 to 50,000 nm.
 pub(crate) fn divide<A: Allocator>(
     step: Nm,
     way: &Way,

@@ -4,27 +4,27 @@ ghost use Rattle.ngc_certificate.specs.Faults.{piece_number, make_number};
 use ngc_certificate_text::Setting;
 use thiserror::Error;
 
-/// Why a piece is refused.
+/// The reasons why a piece is refused.
 #[derive(Clone, Copy, Debug, PartialEq, Eq, Error)]
 pub enum PieceFault {
-    /// 313: the piece isn't of its motion's kind, or doesn't follow the piece before it, or the
-    /// motion doesn't end with it.
+    /// Fault 313: the piece isn't of its motion's kind, or doesn't follow the piece before it, or
+    /// is the last and doesn't end with the motion.
     #[error("the piece does not follow the one before it")]
     Chain,
-    /// 314: the box doesn't hold the piece.
+    /// Fault 314: the box doesn't contain the piece.
     #[error("the box does not hold the piece")]
     NotCovered,
-    /// 315: the box leaves the travel limits.
+    /// Fault 315: the box leaves the travel limits.
     #[error("the box leaves the travel limits")]
     OutsideTravel,
-    /// 316: over the box the tool's body meets this fixture, the lowest one that it meets, counted
-    /// from 0.
+    /// Fault 316: over the box the tool's body meets this fixture, the lowest one that it meets,
+    /// counted from 0.
     #[error("the body meets fixture {0}")]
     MeetsFixture(u32),
 }
 
 impl PieceFault {
-    /// The fault's number: 313 to 316.
+    /// Returns the fault's number: 313 to 316.
     pub fn number(&self) -> u16
         ensures { result ≡ piece_number self.now }
     {
@@ -45,20 +45,21 @@ pub struct PieceRefusal {
     pub fault: PieceFault,
 }
 
-/// Why no certificate is made.
+/// The reasons why no certificate is made.
 #[derive(Clone, Copy, Debug, PartialEq, Eq, Error)]
 pub enum MakeFault {
-    /// 304: no number of pieces that was tried clears this command, counted from 0, at this setting
-    /// of block delete. Of a start point that isn't clear it is command 0 with block delete off.
+    /// Fault 304: no number of pieces that was tried clears this command, counted from 0, at this
+    /// setting of block delete. If the start point isn't clear, it is command 0 with block delete
+    /// off.
     #[error("no certificate clears command {command}")]
     NotCleared { setting: Setting, command: u32 },
-    /// 900
+    /// Fault 900.
     #[error("out of memory")]
     Memory,
 }
 
 impl MakeFault {
-    /// The fault's number: 304, 900.
+    /// Returns the fault's number: 304 or 900.
     pub fn number(&self) -> u16
         ensures { result ≡ make_number self.now }
     {
@@ -69,13 +70,14 @@ impl MakeFault {
     }
 }
 
-/// There is too little memory, to join a certificate, for a `CheckReader` or for a controller: 900.
+/// Fault 900: there is too little memory to join a certificate, for a `CheckReader` or for a
+/// controller.
 #[derive(Clone, Copy, Debug, PartialEq, Eq, Error)]
 #[error("out of memory")]
 pub struct MemoryFault;
 
 impl MemoryFault {
-    /// The fault's number.
+    /// Returns the fault's number.
     pub fn number(&self) -> u16
         ensures { result ≡ 900 }
     {

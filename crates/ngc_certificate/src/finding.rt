@@ -1,4 +1,4 @@
-//! Pieces that clear a motion.
+//! Finds pieces that clear a motion.
 ghost use Rattle.std.specs.Prelude.{◌≡◌, ◌≤◌, true, IsTrue, IfOk};
 ghost use Rattle.std.specs.List.{list_all};
 ghost use Rattle.ngc_machine.specs.Machine.{file_of};
@@ -16,12 +16,12 @@ use ngc_commands::Way;
 use ngc_machine::{Machine, Tool};
 use std::alloc::{AllocError, Allocator};
 
-/// In how many pieces a line is tried, where that is less than the most.
+/// The numbers of pieces in which a line is tried, up to the greatest number allowed.
 const POWERS_OF_TWO: [u16; 16] = [
     1, 2, 4, 8, 16, 32, 64, 128, 256, 512, 1024, 2048, 4096, 8192, 16384, 32768,
 ];
 
-// Makes `pieces` those of a motion in `count`, and answers whether no refusal meets them.
+// Replaces `pieces` with those of a motion in `count`, and returns whether none of them is refused.
 fn clears_in<A: Allocator>(
     machine: &Machine<A>,
     tool: &Option<Tool>,
@@ -39,8 +39,8 @@ fn clears_in<A: Allocator>(
     Ok(pieces_fault(machine, *tool, way, pieces.as_slice()).is_none())
 }
 
-// Makes `pieces` those of a motion in the first number of pieces that no refusal meets, and answers
-// whether there is one.
+// Replaces `pieces` with those of a motion in the first number of pieces of which none is refused.
+// Returns whether there is such a number.
 fn find_count<A: Allocator>(
     machine: &Machine<A>,
     tool: &Option<Tool>,
@@ -64,8 +64,8 @@ fn find_count<A: Allocator>(
     clears_in(machine, tool, way, most, pieces)
 }
 
-// Makes `pieces` those of an arc that is cut by way of these stops, and answers whether no refusal
-// meets them.
+// Replaces `pieces` with those of an arc that is cut at these stops, and returns whether none of
+// them is refused.
 fn clears_cut<A: Allocator>(
     machine: &Machine<A>,
     tool: &Option<Tool>,
@@ -85,8 +85,8 @@ fn clears_cut<A: Allocator>(
     Ok(pieces_fault(machine, *tool, &Way::Arc(*arc), pieces.as_slice()).is_none())
 }
 
-// Makes `pieces` those of an arc: one where that clears it, else several if a way to cut it is
-// found.
+// Replaces `pieces` with those of an arc: one piece if it clears the arc, else several if the
+// search finds cuts.
 fn find_arc<A: Allocator>(
     machine: &Machine<A>,
     tool: &Option<Tool>,
@@ -110,8 +110,8 @@ fn find_arc<A: Allocator>(
     clears_cut(machine, tool, arc, most, Stops::Outer, pieces)
 }
 
-/// Makes `pieces` such as a motion may stand in with this tool mounted, `most` at most, and answers
-/// whether any are found.
+/// Replaces `pieces` with at most `most` pieces that clear a motion with this tool mounted. Returns
+/// whether there are any.
 pub(crate) fn find_clear<A: Allocator>(
     machine: &Machine<A>,
     tool: &Option<Tool>,

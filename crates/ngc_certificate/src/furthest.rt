@@ -1,4 +1,4 @@
-//! How far a piece of an arc may go.
+//! Finds how far a piece of an arc may go.
 ghost use Rattle.std.specs.Prelude.{◌+◌, ◌≤◌, unsigned_abs};
 ghost use Rattle.ngc_fixed_length.specs.Length.{IsStep};
 
@@ -10,10 +10,11 @@ use ngc_fixed_length::{Nm, Plane, Point2, root_ceil, root_floor};
 use ngc_machine::{Fixture, Machine, Part, Tool};
 use std::alloc::Allocator;
 
-/// Farther along an axis than anything lies, in nanometres.
+/// A distance along an axis that exceeds all others, in nanometres.
 const FAR: i64 = 1_000_000_000_000_000;
 
-/// How far from the centre cuts may lie, and how far the boxes of pieces reach beyond their cuts.
+/// The distances from the centre between which cuts may be, and how far the boxes of pieces extend
+/// beyond their cuts.
 #[derive(Clone, Copy)]
 pub(crate) struct Band {
     pub(crate) inner: u64,
@@ -25,8 +26,8 @@ pub(crate) struct Band {
 }
 
 impl Band {
-    /// From a step below the inner radius to a step above the outer one; the margin is two steps
-    /// and what lies between the radii.
+    /// Returns the band from a step below the inner radius to a step above the outer one. The
+    /// margin is two steps and the difference of the radii.
     pub(crate) fn of(arc: &Arc, step: u64) -> Band
         requires { step ≤ 50000 }
     {
@@ -38,7 +39,7 @@ impl Band {
         }
     }
 
-    /// The least y of the band at x, or the limit if that is less.
+    /// Returns the least y of the band at x, or the limit if that is less.
     fn low_at(&self, x: u64, limit: u64) -> u64
         requires x { x ≤ 200000000000 }
         requires limit { limit ≤ 200000000000 }
@@ -47,7 +48,7 @@ impl Band {
         root_ceil(square(self.inner).saturating_sub(square(x))).min(limit)
     }
 
-    /// The greatest y of the band at x, or the limit if that is less.
+    /// Returns the greatest y of the band at x, or the limit if that is less.
     fn high_at(&self, x: u64, limit: u64) -> u64
         requires x { x ≤ 200000000000 }
         requires limit { limit ≤ 200000000000 }
@@ -57,9 +58,9 @@ impl Band {
     }
 }
 
-/// The first coordinate after the greatest multiple of the step that lies below a coordinate. The
-/// sides of boxes are multiples, and one that is found for a coordinate from there on doesn't lie
-/// below the given one.
+/// Returns the first coordinate after the greatest multiple of the step below a coordinate. The
+/// sides of boxes are multiples of the step, so the side for a coordinate from there on isn't below
+/// the given one.
 fn after_multiple_below(step: Nm, coordinate: i64) -> i64
     requires step { IsStep step }
     requires coordinate { unsigned_abs coordinate ≤ 200000000000000 }
@@ -69,7 +70,7 @@ fn after_multiple_below(step: Nm, coordinate: i64) -> i64
     coordinate + (-coordinate).rem_euclid(step) - step + 1
 }
 
-/// Where the part on top of this one begins.
+/// Returns the foot of the part on top of this one.
 fn top_of(part: &Part, foot: i64) -> i64
     requires { unsigned_abs foot ≤ 500000000000 }
     ensures { unsigned_abs result ≤ unsigned_abs foot + 100000000000 }
@@ -84,7 +85,8 @@ fn square(x: u64) -> u128
     u128::from(x) * u128::from(x)
 }
 
-/// A piece is stopped where its end lies both nearer along x than here, and farther along y.
+/// A limit for pieces: a piece is not allowed if its end is both nearer along x than `x` and
+/// farther along y than `y`.
 #[derive(Clone, Copy)]
 struct Limit {
     x: i64,
@@ -94,8 +96,8 @@ struct Limit {
 }
 
 impl Limit {
-    /// The square of the least x that the inside of a band may come to, from a spot on and before a
-    /// stop.
+    /// Returns the square of the least x that the inside of a band may reach, from a spot on and
+    /// before a stop.
     fn nearest(&self, band: &Band, from: &Spot, stop: &Spot) -> u128
         ensures { result ≤ 4000000000000000000000000000000 }
     {
@@ -109,7 +111,7 @@ impl Limit {
         nearest.min(square(band.inner).saturating_sub(square(self.y.unsigned_abs())))
     }
 
-    /// The greatest y that a piece may come to at x.
+    /// Returns the greatest y that a piece may reach at x.
     fn highest(&self, x: u64) -> i64
         requires { x ≤ 200000000000 }
     {
@@ -117,7 +119,7 @@ impl Limit {
     }
 }
 
-/// Where a piece of an arc begins, in a quadrant.
+/// The begin of a piece of an arc, in a quadrant.
 #[derive(Drop)]
 pub(crate) struct Begin<'a, A: Allocator> {
     pub(crate) machine: &'a Machine<A>,
@@ -128,12 +130,12 @@ pub(crate) struct Begin<'a, A: Allocator> {
     pub(crate) quadrant: Quadrant,
     pub(crate) point: Point2,
     pub(crate) spot: Spot,
-    /// The box of a piece that would end where it begins.
+    /// The box of a piece that ends where it begins.
     pub(crate) least: Sight,
 }
 
 impl<A: Allocator> Begin<'_, A> {
-    /// Whether the piece from here to a spot is within travel and clear of all fixtures.
+    /// Returns whether the piece from here to a spot is within travel and clear of all fixtures.
     fn clears_to(&self, spot: &Spot) -> bool {
         match self.quadrant.point_at(spot) {
             Some(point) => {
@@ -145,7 +147,7 @@ impl<A: Allocator> Begin<'_, A> {
         }
     }
 
-    /// The least x at which a piece's box doesn't reach below a coordinate.
+    /// Returns the least x at which a piece's box doesn't extend below a coordinate.
     fn least_x(&self, bound: i64) -> i64
         requires { unsigned_abs bound ≤ 200000000000000 }
         ensures { unsigned_abs result ≤ 1000000000000000 }
@@ -154,7 +156,7 @@ impl<A: Allocator> Begin<'_, A> {
         side - self.quadrant.centre_seen().0 + self.band.margin as i64
     }
 
-    /// The greatest y at which it doesn't reach above a coordinate.
+    /// Returns the greatest y at which a piece's box doesn't extend above a coordinate.
     fn greatest_y(&self, bound: i64) -> i64
         requires { unsigned_abs bound ≤ 200000000000000 }
         ensures { unsigned_abs result ≤ 1000000000000000 }
@@ -163,7 +165,7 @@ impl<A: Allocator> Begin<'_, A> {
         side - self.quadrant.centre_seen().1 - self.band.margin as i64
     }
 
-    /// What stops pieces from here at the travel limits.
+    /// Returns the limits of pieces from here at the travel limits.
     fn travel_limits(&self) -> [Limit; 2] {
         let travel = Block::between(&self.machine.low, &self.machine.high);
         let travel = self.quadrant.sight_of(self.plane, &travel);
@@ -178,8 +180,8 @@ impl<A: Allocator> Begin<'_, A> {
         [before, beyond]
     }
 
-    /// What stops pieces from here where the controlled point may not stand in a block, if that may
-    /// stop any.
+    /// Returns the limit of pieces from here for a block in which the controlled point may not be,
+    /// or `None` if the block limits none.
     fn limit_at(&self, block: &Block) -> Option<Limit> {
         let kept_from = self.quadrant.sight_of(self.plane, block);
         if self.least.x.high <= kept_from.x.low
@@ -194,7 +196,7 @@ impl<A: Allocator> Begin<'_, A> {
         })
     }
 
-    /// What stops pieces from here at a fixture, for each part of the tool.
+    /// Returns the limits of pieces from here at a fixture, for each part of the tool.
     fn limits_at(&self, fixture: &Fixture) -> [Option<Limit>; 4] {
         let mut limits = [None; 4];
         let Some(tool) = self.tool else {
@@ -209,8 +211,8 @@ impl<A: Allocator> Begin<'_, A> {
         limits
     }
 
-    /// The square of the least x that the way along the inside of the band may come to past a
-    /// fixture, before a stop.
+    /// Returns the square of the least x that the inside of the band may reach past a fixture,
+    /// before a stop.
     fn nearest_past(&self, fixture: &Fixture, stop: &Spot) -> u128
         ensures { result ≤ 4000000000000000000000000000000 }
     {
@@ -221,12 +223,12 @@ impl<A: Allocator> Begin<'_, A> {
         least
     }
 
-    /// The least x that it may come to past all of them.
+    /// Returns the least x that it may reach past all of them.
     fn nearest_inside(&self, stop: &Spot) -> u64
         ensures { result ≤ 200000000000 }
     {
         let [before, beyond] = self.travel_limits();
-        // Not in the direction of a stop on the axis.
+        // A piece must not end in the direction of a stop on the axis.
         let mut least = square(stop.x.max(1))
             .max(before.nearest(&self.band, &self.spot, stop))
             .max(beyond.nearest(&self.band, &self.spot, stop));
@@ -236,7 +238,7 @@ impl<A: Allocator> Begin<'_, A> {
         root_ceil(least).min(self.spot.x)
     }
 
-    /// The greatest y that the way straight up at x may come to beside a fixture.
+    /// Returns the greatest y that the straight line up at x may reach beside a fixture.
     fn highest_beside(&self, fixture: &Fixture, x: u64) -> i64
         requires { x ≤ 200000000000 }
     {
@@ -247,7 +249,7 @@ impl<A: Allocator> Begin<'_, A> {
         highest
     }
 
-    /// The greatest y that it may come to, at most a given one.
+    /// Returns the greatest y that it may reach, at most `most`.
     fn highest_above(&self, x: u64, most: u64) -> u64
         requires x { x ≤ 200000000000 }
         requires most { most ≤ 200000000000 }
@@ -261,13 +263,13 @@ impl<A: Allocator> Begin<'_, A> {
         highest.clamp(0, most as i64) as u64
     }
 
-    /// The furthest point towards a stop that a piece from here may go to, and `None` where that
-    /// leads nowhere.
+    /// Returns the furthest point towards a stop to which a piece from here may go, or `None` if it
+    /// can't leave its begin.
     ///
-    /// Boxes of pieces from here grow as x falls and as y rises. A fixture inside the arc keeps x
-    /// from falling below some limit, one outside keeps y from rising above one. So the way along
-    /// the inside of the band, and then straight up, comes to the corner of both limits, or to the
-    /// rim of the band before it.
+    /// The boxes of pieces from here grow as x falls and as y rises. A fixture inside the arc keeps
+    /// x above some limit, one outside keeps y below one. So the search follows the inside of the
+    /// band, and then goes straight up, to the corner of both limits, or to the rim of the band if
+    /// that is earlier.
     pub(crate) fn furthest(&self, stop: &Spot) -> Option<Point2> {
         if self.clears_to(stop) {
             return self.quadrant.point_at(stop);

@@ -1,4 +1,4 @@
-//! Certificates of version 2 from certificates.
+//! Makes certificates of version 2 from certificates.
 ghost use Rattle.std.specs.Prelude.{◌≡◌, ◌≢◌, ◌<◌, ◌≤◌, length, true, false, IfOk};
 ghost use Rattle.ngc_certificate_text.specs.Certificate.{entry_at};
 ghost use Rattle.ngc_certificate_text.specs.Contents.{said_of, form_of};
@@ -9,7 +9,7 @@ use ngc_certificate_text::{Certificate, Motions, Piece};
 use ngc_commands::{Action, Command, Way};
 use std::alloc::Allocator;
 
-// The way of the command with this index, where it is a motion.
+// Returns the path of the command with this index, if it is a motion.
 fn way_at(commands: &[Command], index: u32) -> Option<Way>
     ensures { result ≡ way_at commands.now index }
 {
@@ -36,7 +36,7 @@ fn same_pieces(a: &[Piece], b: &[Piece]) -> bool
     a == b
 }
 
-// Whether motion `i` of both settings is alike: one way, in the same pieces.
+// Returns whether motion `i` is alike at both settings: the same path, in the same pieces.
 fn are_alike<A: Allocator>(
     off: &[Command],
     on: &[Command],
@@ -62,7 +62,7 @@ fn are_alike<A: Allocator>(
     }
 }
 
-// How many motions from the first on are alike at both settings.
+// Returns the number of leading motions that are alike at both settings.
 fn common_beginning<A: Allocator>(
     certificate: &Certificate<A>,
     off: &[Command],
@@ -79,8 +79,8 @@ fn common_beginning<A: Allocator>(
     fewer
 }
 
-/// A certificate of version 2 with the motions of this one, joined where the settings begin alike,
-/// or 900.
+/// Returns a certificate of version 2 with the motions of this one, joined as long as the settings
+/// are alike, or 900.
 ///
 /// ```text
 /// let certificate = make(alloc, off, on, &machine, 8)?;
@@ -88,11 +88,11 @@ fn common_beginning<A: Allocator>(
 /// joined.write(&mut output)?;
 /// ```
 ///
-/// The certificate's motions are those of the commands with block delete off and on. A motion of
-/// each setting is joined as long as all before it are, where both go the same way, which is
-/// straight or the same arc from the same start to the same end, and have the same pieces. Behind
-/// those come the motions that are left, of `off` and then of `on`. A motion that is none of the
-/// commands' is never joined.
+/// The certificate's motions are those of the commands with block delete off and on. From the first
+/// one on, a motion of each setting is joined if both have the same path and the same pieces. The
+/// path is the same if it is straight, or the same arc, from the same start to the same end. The
+/// first pair that differs ends this: the remaining motions of `off` follow, and then those of `on`.
+/// A motion that is none of the commands' is never joined.
 pub fn join<A: Allocator>(
     alloc: A,
     certificate: Certificate<A>,

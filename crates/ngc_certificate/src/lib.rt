@@ -1,5 +1,5 @@
-//! Certificates for the motions of a program: which pieces hold them, the maker, and which commands
-//! aren't cleared.
+//! Certificates for the motions of a program: the pieces that contain them, the maker, and the
+//! commands that aren't cleared.
 #![tactic(auto)]
 
 mod bounds;

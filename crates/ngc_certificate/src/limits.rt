@@ -1,12 +1,12 @@
-//! What stops a piece of an arc: travel limits and fixtures, as a quadrant about its centre sees
-//! them.
+//! The limits of a piece of an arc: travel limits and fixtures, in the coordinates of a quadrant
+//! about its centre.
 ghost use Rattle.std.specs.Prelude.{◌≤◌, unsigned_abs};
 ghost use Rattle.ngc_fixed_length.specs.Length.{IsStep};
 
 use ngc_fixed_length::{GridBox, Nm, Plane, Point3, nanometres_at};
 use ngc_machine::{Fixture, Part};
 
-/// From one coordinate to another, in nanometres.
+/// A span of coordinates, in nanometres.
 #[derive(Clone, Copy)]
 pub(crate) struct Span {
     pub(crate) low: i64,
@@ -24,7 +24,7 @@ pub(crate) struct Block {
 }
 
 impl Span {
-    /// Between two coordinates in steps.
+    /// Returns the span between two coordinates in steps.
     fn of_steps(step: Nm, low: i32, high: i32) -> Span
         requires { IsStep step }
     {
@@ -34,7 +34,7 @@ impl Span {
         }
     }
 
-    /// Between two lengths, and so much farther at both ends.
+    /// Returns the span between two lengths, extended by `below` and `above`.
     fn around(low: Nm, high: Nm, below: i64, above: i64) -> Span
         requires below { unsigned_abs below ≤ 600000000000 }
         requires above { unsigned_abs above ≤ 600000000000 }
@@ -45,7 +45,7 @@ impl Span {
         }
     }
 
-    /// The same along an axis that points the other way.
+    /// Returns the same span along an axis that points the other way.
     fn mirrored(&self) -> Span {
         Span {
             low: -self.high,
@@ -53,19 +53,19 @@ impl Span {
         }
     }
 
-    /// The same along this axis or along one that points the other way.
+    /// Returns the span, mirrored unless `upright`.
     pub(crate) fn seen(&self, upright: bool) -> Span {
         if upright { *self } else { self.mirrored() }
     }
 
-    /// They have more than an end in common.
+    /// Returns whether two spans have more than an end in common.
     pub(crate) fn overlaps(&self, other: &Span) -> bool {
         self.low < other.high && other.low < self.high
     }
 }
 
 impl Block {
-    /// Between two corners.
+    /// Returns the block between two corners.
     pub(crate) fn between(low: &Point3, high: &Point3) -> Block {
         Block {
             x: Span::around(low.x, high.x, 0, 0),
@@ -74,7 +74,7 @@ impl Block {
         }
     }
 
-    /// That of a box of grid points.
+    /// Returns the block of a box of grid points.
     pub(crate) fn of_grid(step: Nm, bounds: &GridBox) -> Block
         requires { IsStep step }
     {
@@ -85,8 +85,8 @@ impl Block {
         }
     }
 
-    /// Where the controlled point may not stand, since a part of its tool, whose foot stands so far
-    /// above that point, would meet a fixture.
+    /// Returns the block in which the controlled point may not be, because a part of its tool would
+    /// meet a fixture. The part's foot is at the height `foot` above that point.
     pub(crate) fn kept_from(fixture: &Fixture, part: &Part, foot: i64) -> Block
         requires { unsigned_abs foot ≤ 500000000000 }
     {
@@ -100,7 +100,7 @@ impl Block {
         }
     }
 
-    /// The spans along the axes of a plane, and along the third one.
+    /// Returns the spans along the axes of a plane, and along the third one.
     pub(crate) fn in_plane(&self, plane: Plane) -> (Span, Span, Span) {
         match plane {
             Plane::XY => (self.x, self.y, self.z),

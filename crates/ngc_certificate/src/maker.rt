@@ -1,4 +1,4 @@
-//! Certificates for commands.
+//! Makes certificates for commands.
 ghost use Rattle.std.specs.Prelude.{◌≡◌, ℕ, ◌<◌, ◌≤◌, [], length, true, IfOk, MatchResult};
 ghost use Rattle.ngc_machine.specs.Machine.{file_of};
 ghost use Rattle.ngc_commands.specs.Sequence.{COMMAND_LIMIT};
@@ -18,15 +18,15 @@ use ngc_fixed_length::Point3;
 use ngc_machine::{Machine, Tool};
 use std::alloc::Allocator;
 
-/// Why a setting has no motions with pieces: it doesn't clear this command, counted from 0, or
-/// memory ran out.
+/// The reasons why a setting has no motions with pieces: this command, counted from 0, isn't
+/// cleared, or memory ran out.
 #[derive(Clone, Copy)]
 enum Refusal {
     NotCleared(u32),
     Memory,
 }
 
-/// The motions so far with their pieces, the tool that is mounted and the place that is reached.
+/// The motions so far with their pieces, the mounted tool and the position of the axes.
 #[derive(Drop)]
 struct Progress<A: Allocator> {
     motions: Motions<A>,
@@ -34,7 +34,7 @@ struct Progress<A: Allocator> {
     place: Point3,
 }
 
-/// Whether the tool's body is clear of all fixtures where the axes stand at a place.
+/// Returns whether the tool's body is clear of all fixtures with the axes at a position.
 pub(crate) fn is_clear_at<A: Allocator>(
     machine: &Machine<A>,
     tool: &Option<Tool>,
@@ -46,7 +46,7 @@ pub(crate) fn is_clear_at<A: Allocator>(
 }
 
 impl<A: Allocator + Copy> Progress<A> {
-    // At the start, with no tool mounted.
+    // Returns the progress at the start, with no tool mounted.
     fn at_start(alloc: A, machine: &Machine<A>) -> Progress<A>
         ensures motions { result.motions ≡ [] }
         ensures tool { result.tool ≡ None }
@@ -61,7 +61,7 @@ impl<A: Allocator + Copy> Progress<A> {
 }
 
 impl<A: Allocator> Progress<A> {
-    // A tool, or none, is mounted where the axes stand.
+    // Mounts a tool, or none, at the position of the axes.
     fn mount(&mut self, machine: &Machine<A>, index: u32, tool: Option<Tool>) -> Result<(), Refusal>
         ensures { (most : ℕ) →
             Leads (file_of machine.now) most index (Action.Mount tool) self.old result self.new }
@@ -73,7 +73,7 @@ impl<A: Allocator> Progress<A> {
         Ok(())
     }
 
-    // A motion, in pieces that clear it. `pieces` is room for them.
+    // Adds a motion, in pieces that clear it. `pieces` is a buffer for them.
     fn move_along(
         &mut self,
         machine: &Machine<A>,
@@ -101,7 +101,7 @@ impl<A: Allocator> Progress<A> {
         Ok(())
     }
 
-    // What a command does.
+    // Executes a command.
     fn take(
         &mut self,
         machine: &Machine<A>,
@@ -123,7 +123,7 @@ impl<A: Allocator> Progress<A> {
     }
 }
 
-// The motions of a setting, each with its pieces.
+// Returns the motions of a setting, each with its pieces.
 fn setting_motions<A: Allocator + Copy>(
     alloc: A,
     commands: &[Command],
@@ -145,7 +145,7 @@ fn setting_motions<A: Allocator + Copy>(
     Ok(progress.motions)
 }
 
-// What a refusal at a setting is.
+// Returns the fault for a refusal at a setting.
 fn fault_at(setting: Setting, refusal: Refusal) -> MakeFault
     ensures { result ≡ fault_at setting refusal }
 {
@@ -155,13 +155,13 @@ fn fault_at(setting: Setting, refusal: Refusal) -> MakeFault
     }
 }
 
-/// A certificate for the commands of a program with block delete off and on, on a machine; or the
-/// first command that isn't cleared (304), or 900.
+/// Returns a certificate for the commands of a program with block delete off and on, on a machine;
+/// or the first command that isn't cleared (304), or 900.
 ///
-/// A line is tried in 1, 2, 4 .. pieces of about one length below `cuts`, and then in `cuts`, of
-/// which the first number that clears is taken. An arc stands in one piece where that clears it;
-/// else it is cut into at most `cuts`, where a way is found. `cuts` is at least 1. Each setting has
-/// at most a million commands.
+/// A line is tried in 1, 2, 4 .. pieces of about the same length, as long as their number is below
+/// `cuts`, and then in `cuts` pieces. The first number that clears is used. An arc has one piece if
+/// that clears it; else it has at most `cuts`, if the search finds cuts. `cuts` is at least 1. Each
+/// setting has at most a million commands.
 pub fn make<A: Allocator + Copy>(
     alloc: A,
     off: &[Command],
@@ -199,8 +199,8 @@ pub fn make<A: Allocator + Copy>(
     Ok(Certificate::parted(off, on))
 }
 
-/// The same of a program that has these commands at both settings: what is found for one serves the
-/// other.
+/// Does the same as `make` for a program with the same commands at both settings: the motions of
+/// one setting are copied for the other.
 pub fn make_alike<A: Allocator + Copy>(
     alloc: A,
     commands: &[Command],

@@ -1,4 +1,4 @@
-//! Commands that aren't cleared.
+//! Finds the commands that aren't cleared.
 ghost use Rattle.std.specs.Prelude.{◌≡◌, ℕ, ◌+◌, ◌≤◌, length, Err, IfOk};
 ghost use Rattle.ngc_machine.specs.Machine.{file_of};
 ghost use Rattle.ngc_commands.specs.Sequence.{COMMAND_LIMIT};
@@ -13,8 +13,8 @@ use ngc_commands::{Action, Command, Reached};
 use ngc_machine::Machine;
 use std::alloc::{AllocError, Allocator};
 
-// Whether a command is cleared where the machine stands: a tool change whose body meets no fixture, a
-// motion for which pieces are found. `pieces` is room for them.
+// Returns whether a command is cleared in the machine's state: a tool change if the body meets no
+// fixture, a motion if pieces are found for it. `pieces` is a buffer for them.
 fn is_cleared<A: Allocator>(
     machine: &Machine<A>,
     reached: &Reached,
@@ -33,8 +33,9 @@ fn is_cleared<A: Allocator>(
     }
 }
 
-// Every command that isn't cleared. Where `make` refuses command `k`, those before it needn't be
-// tried again, nor `k` itself: `passed` is `k + 1` then, and else 0.
+// Returns every command that isn't cleared. If `make` refuses command `k`, `passed` is `k + 1`: the
+// commands before `k` are cleared and `k` is not, so none of them is tried again. Otherwise
+// `passed` is 0.
 fn find_uncleared<A: Allocator + Copy>(
     alloc: A,
     commands: &[Command],
@@ -75,14 +76,14 @@ fn find_uncleared<A: Allocator + Copy>(
     Ok(indices)
 }
 
-/// Every command that isn't cleared on a machine, by its index from 0, in order; or 900.
+/// Returns every command that isn't cleared on a machine, by its index from 0, in order; or 900.
 ///
 /// These are the motions for which no pieces are found, tried as `make` does with the same `cuts`,
-/// and the tool changes at which the tool's body meets a fixture. Such a motion is taken to reach
-/// its end all the same, and such a tool to be mounted. A start point that isn't clear is no
-/// command, and isn't told here. `cuts` is at least 1, and there are at most a million commands.
+/// and the tool changes at which the tool's body meets a fixture. After such a command the motion
+/// still counts as made and the tool as mounted. A start point that isn't clear is no command, and
+/// isn't in the list. `cuts` is at least 1, and there are at most a million commands.
 ///
-/// Memory is taken for the answer and for the pieces of one motion.
+/// Memory is allocated for the result and for the pieces of one motion.
 pub fn uncleared<A: Allocator + Copy>(
     alloc: A,
     commands: &[Command],
@@ -96,8 +97,8 @@ pub fn uncleared<A: Allocator + Copy>(
     find_uncleared(alloc, commands, machine, cuts, 0)
 }
 
-/// As `uncleared`, where `make` refuses these commands at the command `first` with the same `cuts`:
-/// that one is the first which is told.
+/// Returns the same as `uncleared`, after `make` refused these commands at the command `first` with
+/// the same `cuts`: `first` is then the first of the list.
 pub fn uncleared_from<A: Allocator + Copy>(
     alloc: A,
     commands: &[Command],

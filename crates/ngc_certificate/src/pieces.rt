@@ -19,7 +19,8 @@ use ngc_fixed_length::{GridBox, StepPos};
 use ngc_machine::{Machine, Tool};
 use std::alloc::Allocator;
 
-/// The first refusal of a piece of a motion with this tool mounted, in the order 313 to 316.
+/// Returns the first refusal of a piece of a motion with this tool mounted, in the order 313 to
+/// 316.
 fn fault_within<A: Allocator>(
     machine: &Machine<A>,
     tool: &Option<Tool>,
@@ -43,7 +44,8 @@ fn fault_within<A: Allocator>(
     first_met(machine, *tool, &piece.bounds).map(PieceFault::MeetsFixture)
 }
 
-/// The first refusal of a piece of a motion with this tool mounted, in the order 313 to 316.
+/// Returns the first refusal of a piece of a motion with this tool mounted, in the order 313 to
+/// 316.
 pub fn piece_fault<A: Allocator>(
     machine: &Machine<A>,
     tool: Option<Tool>,
@@ -57,7 +59,7 @@ pub fn piece_fault<A: Allocator>(
     fault_within(machine, &tool, way, &shared, stretch, piece)
 }
 
-/// The pieces of a motion, judged one by one as they come.
+/// Judges the pieces of a motion one by one.
 #[derive(Drop)]
 pub struct PieceJudge {
     tool: Option<Tool>,
@@ -76,7 +78,7 @@ impl PieceJudge {
     ghost use Rattle.ngc_certificate.specs.PieceJudging.{IsJudging, fault_ahead, is_empty};
     ghost use Rattle.ngc_certificate.specs.PieceJudging.{judged_by};
 
-    /// No piece has come yet of a motion that has several pieces or one.
+    /// Returns a judge for a motion that has several pieces or one, before its first piece.
     pub fn new<A: Allocator>(
         machine: &Machine<A>,
         tool: Option<Tool>,
@@ -99,8 +101,8 @@ impl PieceJudge {
         }
     }
 
-    /// The first refusal of the next piece, which is the motion's last one or isn't, on the machine
-    /// that the judge was made for.
+    /// Returns the first refusal of the next piece, on the machine for which the judge was made.
+    /// `last` tells whether it is the motion's last piece.
     pub fn next<A: Allocator>(
         &mut self,
         machine: &Machine<A>,
@@ -111,7 +113,7 @@ impl PieceJudge {
         requires few { judged_by self.old < PIECE_LIMIT }
         ensures judging { IsJudging (file_of machine.now) self.new }
         ensures one { judged_by self.new ≡ judged_by self.old + 1 }
-        // Whatever pieces come behind it.
+        // This holds for all following pieces.
         ensures first { (rest : List Piece) → last ≡ is_empty rest →
             fault_ahead (file_of machine.now) self.old (piece.now ∷ rest)
             ≡ (result or fault_ahead (file_of machine.now) self.new rest) }
@@ -141,7 +143,7 @@ impl PieceJudge {
     }
 }
 
-/// The first refusal of the pieces of a motion, or `None` also where there are none.
+/// Returns the first refusal of the pieces of a motion, or `None` if there are no pieces.
 fn first_refusal<A: Allocator>(
     machine: &Machine<A>,
     tool: Option<Tool>,
@@ -160,8 +162,8 @@ fn first_refusal<A: Allocator>(
     None
 }
 
-/// The first refusal of the pieces of a motion with this tool mounted. There are at most 65,535
-/// pieces; of none the chain is refused.
+/// Returns the first refusal of the pieces of a motion with this tool mounted. There are at most
+/// 65,535 pieces; if there are none, it is a refusal of the chain.
 pub fn pieces_fault<A: Allocator>(
     machine: &Machine<A>,
     tool: Option<Tool>,
@@ -179,8 +181,8 @@ pub fn pieces_fault<A: Allocator>(
     first_refusal(machine, tool, way, pieces)
 }
 
-/// The lowest fixture, counted from 0, that the tool's body meets where its controlled point stands
-/// at a place.
+/// Returns the lowest fixture, counted from 0, that the tool's body meets with its controlled point
+/// at a grid point.
 pub fn place_fault<A: Allocator>(
     machine: &Machine<A>,
     tool: Option<Tool>,

@@ -1,12 +1,12 @@
-//! Quadrants about the centre of an arc, as the arc goes through them.
+//! Quadrants about the centre of an arc, in the order in which the arc passes through them.
 ghost use Rattle.std.specs.Prelude.{◌≡◌, ◌≤◌, unsigned_abs};
 
 use crate::limits::{Block, Span};
 use ngc_arc_geometry::Arc;
 use ngc_fixed_length::{Nm, Plane, Point2, Turn};
 
-/// A point of a quadrant by its distances from the centre, of which x falls and y rises as the arc
-/// goes on.
+/// A point of a quadrant, as its distances from the centre along two axes; x falls and y rises
+/// along the arc.
 #[derive(Clone, Copy)]
 pub(crate) struct Spot {
     pub(crate) x: u64,
@@ -19,16 +19,16 @@ pub(crate) struct Spot {
 #[derive(Clone, Copy)]
 pub(crate) struct Quadrant {
     centre: Point2,
-    /// On which side of the centre it lies along u, above or not.
+    /// Whether it is above the centre along u.
     above_in_u: bool,
-    /// The same along v.
+    /// Whether it is above the centre along v.
     above_in_v: bool,
-    /// The arc comes to it along the axis of u.
+    /// Whether the arc enters it from the axis of u.
     from_u: bool,
 }
 
-/// A box as a quadrant sees it: along its axes, x and y as those of spots, coordinates rise away
-/// from the centre.
+/// A box in the coordinates of a quadrant: x and y are along the axes of spots, and coordinates
+/// rise away from the centre.
 #[derive(Clone, Copy)]
 pub(crate) struct Sight {
     pub(crate) x: Span,
@@ -36,19 +36,19 @@ pub(crate) struct Sight {
     pub(crate) height: Span,
 }
 
-/// How far a coordinate lies above another.
+/// Returns how much a coordinate is above another.
 fn rise(from: Nm, to: Nm) -> i64
     ensures { unsigned_abs result ≤ 200000000000 }
 {
     to.nanometres() - from.nanometres()
 }
 
-/// Whether a way along an axis doesn't lead to the other side of the centre.
+/// Returns whether a distance along an axis doesn't lead to the other side of the centre.
 fn is_on_side(above: bool, way: i64) -> bool {
     if above { way >= 0 } else { way <= 0 }
 }
 
-/// The coordinate at a distance from another, where lengths reach so far.
+/// Returns the coordinate at a distance from another, if it is a length.
 fn at_distance(from: Nm, above: bool, distance: u64) -> Option<Nm>
     requires { distance ≤ 200000000000 }
 {
@@ -58,8 +58,8 @@ fn at_distance(from: Nm, above: bool, distance: u64) -> Option<Nm>
 }
 
 impl Spot {
-    /// Whether the way round the centre from here to another spot of the quadrant goes on, and not
-    /// back or straight out.
+    /// Returns whether the turn round the centre from here to another spot of the quadrant leads
+    /// forward.
     pub(crate) fn is_before(&self, other: &Spot) -> bool {
         let ahead = u128::from(self.x) * u128::from(other.y);
         let behind = u128::from(self.y) * u128::from(other.x);
@@ -68,13 +68,13 @@ impl Spot {
 }
 
 impl Quadrant {
-    /// The one that the arc goes through from a point on: the next one, where the point lies on an
-    /// axis.
+    /// Returns the quadrant through which the arc passes from a point on. If the point is on an
+    /// axis, it is the next one.
     pub(crate) fn ahead_of(arc: &Arc, point: &Point2) -> Quadrant {
         let centre = arc.centre();
         let u = rise(centre.u, point.u);
         let v = rise(centre.v, point.v);
-        // A clockwise arc is seen in the mirror.
+        // A clockwise arc is mirrored.
         let mirrored = arc.turn() == Turn::Clockwise;
         let seen = if mirrored { -v } else { v };
         let (above_in_u, above, from_u) = if 0 < u && 0 <= seen {
@@ -94,7 +94,7 @@ impl Quadrant {
         }
     }
 
-    /// A box as it is seen from here, where the arc lies in a plane.
+    /// Returns a box in the quadrant's coordinates, for an arc in a plane.
     pub(crate) fn sight_of(&self, plane: Plane, block: &Block) -> Sight {
         let (u, v, height) = block.in_plane(plane);
         let (u, v) = (u.seen(self.above_in_u), v.seen(self.above_in_v));
@@ -102,7 +102,7 @@ impl Quadrant {
         Sight { x, y, height }
     }
 
-    /// The centre's coordinates along x and y, as they are seen from here.
+    /// Returns the centre's coordinates along x and y, in the quadrant's directions.
     pub(crate) fn centre_seen(&self) -> (i64, i64)
         ensures x { unsigned_abs result.0 ≤ 100000000000 }
         ensures y { unsigned_abs result.1 ≤ 100000000000 }
@@ -113,7 +113,7 @@ impl Quadrant {
         if self.from_u { (u, v) } else { (v, u) }
     }
 
-    /// A point's spot, if it lies in the quadrant.
+    /// Returns a point's spot, if it is in the quadrant.
     pub(crate) fn spot_of(&self, point: &Point2) -> Option<Spot> {
         let u = rise(self.centre.u, point.u);
         let v = rise(self.centre.v, point.v);
@@ -125,7 +125,7 @@ impl Quadrant {
         Some(Spot { x, y })
     }
 
-    /// The point of a spot, where lengths reach so far.
+    /// Returns the point of a spot, if its coordinates are lengths.
     pub(crate) fn point_at(&self, spot: &Spot) -> Option<Point2> {
         let (u, v) = if self.from_u {
             (spot.x, spot.y)

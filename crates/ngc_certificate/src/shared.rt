@@ -7,17 +7,17 @@ use ngc_arc_geometry::GridArc;
 use ngc_commands::Way;
 use ngc_fixed_length::{GridBox, Nm};
 
-/// What the pieces of a motion share, so that it is found once.
+/// The value that the pieces of a motion share, so that it is computed once.
 #[derive(Drop)]
 pub(crate) enum Shared {
-    /// The box of the motion in one piece.
+    /// The box of a motion in one piece.
     Whole(GridBox),
     /// An arc that is cut into several pieces.
     Cut(GridArc),
 }
 
 impl Shared {
-    /// What the pieces of a motion share, of which there are several or one.
+    /// Returns the value that the pieces of a motion share, for several pieces or one.
     pub(crate) fn of(step: Nm, way: &Way, several: bool) -> Shared
         requires { IsStep step }
         ensures { result ≡ shared_of step way.now several }

@@ -1,7 +1,7 @@
 use ngc_certificate_text::Cut;
 
-/// Where a piece stands in its motion: the cut where it begins, whether the motion has several
-/// pieces, and whether this is the last of them.
+/// The position of a piece in its motion: the cut at which it begins, whether the motion has
+/// several pieces, and whether this is the last one.
 #[derive(Clone, Copy)]
 pub struct Stretch {
     pub begin: Cut,

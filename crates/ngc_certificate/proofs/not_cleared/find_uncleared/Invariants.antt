@@ -6,8 +6,8 @@ use Rattle.ngc_certificate.specs.Made.{IsMadeFrom}
 use Rattle.ngc_certificate.specs.Uncleared.{AreUnclearedFrom, AreUncleared, BeginsWith}
 use Rattle.ngc_certificate.proofs.not_cleared.find_uncleared.Given as goal
 
--- what isn't cleared so far, and then what of the commands that are left; before the command that is
--- refused there is none, and from it on that is the first
+-- the commands so far that aren't cleared, and then those of the remaining commands; there is none
+-- before the refused command, and from it on that is the first
 abbrev pub invariant-loop-index : goal.invariant-loop-index
 invariant-loop-index g l = record {
   are : (ks : List ℕ) → AreUnclearedFrom (file_of l.machine) l.cuts l.index l.reached.tool l.reached.place (actions_of (drop l.index l.commands)) ks →
