@@ -1,4 +1,4 @@
--- Where nothing is refused, what the checker hands out holds to what is promised of it.
+-- If nothing is refused, the program that the checker returns has the promised properties.
 use Rattle.std.proofs.Common.{◌≡◌, sym, subst, List, None}
 use Rattle.std.specs.Prelude.{Ok}
 use Rattle.ngc_machine.specs.Machine.{MachineFile}

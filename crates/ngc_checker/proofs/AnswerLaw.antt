@@ -1,4 +1,4 @@
--- What a verdict says is what the checker answers.
+-- A verdict agrees with the checker's result.
 use Rattle.std.proofs.Common.{◌≡◌, ℕ, List, Option, Some, None, Result, Ok, Err, ap, refl}
 use Rattle.ngc_canonical.specs.Meaning.{Program}
 use Rattle.ngc_canonical.specs.State.{Setup}

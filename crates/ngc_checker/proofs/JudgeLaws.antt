@@ -1,4 +1,4 @@
--- What a line does to the check of a certificate.
+-- The effect of a line on the check of a certificate.
 use Rattle.std.proofs.Common.{◌≡◌, ℕ, ◌+◌, ◌-◌, ◌≤◌, ap₂, subst, Option, None, List, [], ◌∷◌, length, refl, sym, ◌∙◌, arith}
 use Rattle.std.specs.Prelude.{Ok}
 use Rattle.ngc_machine.specs.Machine.{MachineFile}
@@ -31,7 +31,7 @@ is_idle machine f left e = subst (λ (o : Option PieceJudge). IsFollowing machin
 abbrev Begins : MachineFile → SettingJudge → Type 0
 Begins machine walk = (s : Setting) (cs : List Command) (es : List Entry) → setting_fault machine s cs es ≡ fault_left machine s cs walk [] es
 
--- a setting whose motion hasn't begun passes pieces by
+-- a setting whose motion has not begun ignores pieces
 walking_on : (machine : MachineFile) (cs : List Command) (walk : SettingJudge) (left n : ℕ) → IsWalking machine cs walk left → left ≡ 0 →
     IsWalking machine cs walk n
 walking_on machine cs walk left n w zero = record {
@@ -40,7 +40,7 @@ walking_on machine cs walk left n w zero = record {
   none = λ e. w.none zero;
 }
 
--- ---- no line has come
+-- ---- before the first line
 
 pub begun_walking : (machine : MachineFile) (cs : List Command) (walk : SettingJudge) → walk.following ≡ None → walk.walk.index ≡ 0 →
     IsWalking machine cs walk 0
@@ -65,7 +65,7 @@ begun_says machine off on off_walk on_walk off_begins off_none on_begins on_none
 pub begins_on : (machine own : MachineFile) (walk : SettingJudge) → machine ≡ own → Begins machine walk → Begins own walk
 begins_on machine own walk is begins = subst (λ (m : MachineFile). Begins m walk) is begins
 
--- the machine as it is passed
+-- the machine as it is passed on
 pub judged_on : (machine own : MachineFile) (off on : List Command) (off_walk on_walk : SettingJudge) (left : ℕ) → machine ≡ own →
     IsJudge machine off on off_walk on_walk left → IsJudge own off on off_walk on_walk left
 judged_on machine own off on off_walk on_walk left is judge = subst (λ (m : MachineFile). IsJudge m off on off_walk on_walk left) is judge
@@ -81,7 +81,7 @@ moved : (machine : MachineFile) (cs : List Command) (new : SettingJudge) (n : �
     IsWalking machine cs new n
 moved machine cs new n index following some = record { index = index; following = following; none = λ e. absurd (omega (arith, e, some)) }
 
--- an entry in front of what is left
+-- an entry in front of the rest
 abbrev pub begun_with : Indices → Rest → Rest
 begun_with indices r = with_items (record { indices = indices; pieces = r.pieces } ∷ []) r
 
@@ -105,7 +105,7 @@ both_verdict : (machine : MachineFile) (off on : List Command) (off_old off_new 
 both_verdict machine off on off_old off_new on_old on_new i j n r off_moves on_moves fits =
     ap₂ (λ (x y : Option CheckFault). (x or y)) (off_moves r.pieces (certificate_of r).off fits) (on_moves r.pieces (certificate_of r).on fits)
 
--- a motion has begun: how the settings' walks changed
+-- a motion has begun: the changes of the settings' walks
 pub record HasBegun (machine : MachineFile) (off on : List Command) (off_old off_new on_old on_new : SettingJudge) (indices : Indices) (n : ℕ) : Type 0 where
   pub off_walking : IsWalking machine off off_new n
   pub on_walking : IsWalking machine on on_new n
@@ -115,7 +115,7 @@ pub record HasBegun (machine : MachineFile) (off on : List Command) (off_old off
 abbrev Walks : MachineFile → Setting → List Command → SettingJudge → SettingJudge → ℕ → ℕ → Type 0
 Walks machine s cs old new index n = (new.walk.index ≤ length cs) × IsFollowing machine new.following n × Moves machine s cs old new index n
 
--- the commands as they are passed
+-- the commands as they are passed on
 walks_in : (machine : MachineFile) (s : Setting) (cs own : List Command) (old new : SettingJudge) (index n : ℕ) → cs ≡ own →
     Walks machine s cs old new index n → Walks machine s own old new index n
 walks_in machine s cs own old new index n is walks = subst (λ (x : List Command). Walks machine s x old new index n) is walks

@@ -1,4 +1,4 @@
--- Where a judge stands behind a line.
+-- The judge's state after a line.
 use Rattle.std.proofs.Common.{◌≡◌, ℕ, zero, suc, ◌-◌, ap, Bool, true, false, Result, Ok, Err, refl, sym, ◌∙◌, arith}
 use Rattle.std.specs.Prelude.{nat_le}
 use Rattle.std.proofs.lemmas.Bool.Decides.{nat_tests}
@@ -53,7 +53,7 @@ may_judge e number (tell.Motion b) v sound is at = (at ∙ ap left_of is.expecte
 may_judge e number (tell.Piece b p) v sound is at = (at ∙ ap left_of is.0, sound.piece b is.0)
 may_judge e number tell.End v sound is at = tt
 
--- ---- what is made of a text
+-- ---- a value that is made from a text
 
 pub front_judged : {X : Type 0} (told : Told) (f g : Rest → X) (before after : Left) → ((r : Rest) → Fits told r → f (onto told r) ≡ g r) →
     IsFront told before after → made_with f before ≡ made_with g after

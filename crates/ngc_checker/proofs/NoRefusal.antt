@@ -1,4 +1,5 @@
--- Where the checker refuses nothing the certificate is valid at both settings, and where it is valid the checker refuses nothing.
+-- If the checker refuses nothing, the certificate is valid at both settings, and if it is valid,
+-- the checker refuses nothing.
 use Rattle.std.proofs.Common.{◌≡◌, ℕ, ◌+◌, ap, sym, ◌∙◌, arith, refl, List, [], ◌∷◌, Some, None, map}
 use Rattle.std.specs.Prelude.{Option, option_map, Result, Ok, Err, false, true, ◌==◌, min, if◌then◌else◌}
 use Rattle.ngc_fixed_length.specs.Grid.{grid}

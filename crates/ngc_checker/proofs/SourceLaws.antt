@@ -1,4 +1,4 @@
--- What the check of a source's bytes comes to, from what the pieces of them do.
+-- The result of checking a source's bytes, from the effects of its pieces.
 use Rattle.std.proofs.Common.{◌≡◌, ℕ, List, [], ◌++◌, ap, subst, Option, Some, None, Result, Ok, Err, IfSome, sym, ◌∙◌}
 use Rattle.std.specs.Io.KnownBytes.{Consumes, IsAtEnd}
 use Rattle.ngc_canonical.specs.Meaning.{Program}
@@ -12,7 +12,7 @@ use Rattle.ngc_checker.specs.Accepted.{AcceptedData, Keeps}
 use Rattle.ngc_checker.specs.CheckSource.{AnswersText}
 use Rattle.ngc_checker.specs.CheckView.{Verdict, GivesVerdict, text_verdict}
 
--- what all bytes of a source come to comes of those that are left, behind those that were fed
+-- the result of all bytes of a source depends only on the bytes not yet read
 abbrev pub Goes : (List ℕ → Verdict) → Option (List ℕ) → Option (List ℕ) → (List ℕ → Verdict) → Type 0
 Goes first None left says = Unit {0}
 Goes first (Some all) None says = ⊥
@@ -45,7 +45,7 @@ module _ (program : Program) (setup : Setup) (first says : List ℕ → Verdict)
       fault_is fault (text_verdict program setup text) (said ∙ gives)
   answered text kept (Err (reads.Check fault)) v said keeps gives = said ∙ gives
 
-  -- nothing more came
+  -- nothing more arrived
   pub ended : (all left now : Option (List ℕ)) (piece : List ℕ) (kept : Option AcceptedData) (answer : Result AcceptedData CheckReadFault)
       → Goes first all left says → Consumes left now piece → piece ≡ [] → IsAtEnd now
       → ((a : AcceptedData) → kept ≡ Some a → Keeps program setup a) → GivesVerdict (λ a. a) kept answer (says [])
@@ -56,7 +56,7 @@ module _ (program : Program) (setup : Setup) (first says : List ℕ → Verdict)
   ended (Some all) (Some left) (Some now) piece kept answer goes took none end keeps gives =
       answered all kept answer (says []) (begins all ∙ goes ∙ ap says took ∙ ap (λ (l : List ℕ). says (l ++ now)) none ∙ ap says end) keeps gives
 
-  -- what comes behind a piece changes nothing
+  -- the bytes after a piece change nothing
   pub cut_short : (all left now : Option (List ℕ)) (piece : List ℕ) (after : List ℕ → Verdict) (kept : Option AcceptedData)
       (answer : Result AcceptedData CheckReadFault) → Goes first all left says → Consumes left now piece
       → ((rest : List ℕ) → says (piece ++ rest) ≡ after rest) → ((rest : List ℕ) → after rest ≡ after [])

@@ -1,4 +1,4 @@
--- What the motions and pieces of a certificate do to the check of a setting.
+-- The effect of a certificate's motions and pieces on the check of a setting.
 use Rattle.std.proofs.Common.{◌≡◌, ℕ, zero, suc, ◌+◌, ◌-◌, ◌<◌, ◌≤◌, ap, ap₂, Option, Some, None, List, [], ◌∷◌, length, drop, take, get_or, refl, sym, ◌∙◌}
 use Rattle.std.proofs.Common.{arith, add-one, drop-cons}
 use Rattle.std.specs.Prelude.{map, min, nat_le, nat_lt, ◌==◌, if◌then◌else◌}
@@ -70,7 +70,7 @@ map_or : (f : PieceRefusal → CheckFault) (a b : Option PieceRefusal) → optio
 map_or f (Some x) b = refl
 map_or f None b = refl
 
--- ---- the way to a motion
+-- ---- the walk to a motion
 
 abbrev after_move : MachineFile → Setting → CommandWalk → Motion → List Command → Entry → List Entry → Point3 → ℕ → Option CheckFault
 after_move machine s w m cs entry entries p k =
@@ -101,7 +101,7 @@ alike_heads i j is js e = by_test i j (first_difference is js) e where
 none_left : (machine : MachineFile) (s : Setting) (k : ℕ) (f : Option PieceJudge) (x : Option CheckFault) → f ≡ None → (pieces_left machine s k f [] or x) ≡ x
 none_left machine s k f x e = ap (λ (o : Option PieceJudge). (pieces_left machine s k o [] or x)) e
 
--- what differs, the start, and the commands
+-- the difference, the start, and the commands
 abbrev by_parts : MachineFile → Setting → Option ℕ → Option ℕ → Option CheckFault → Option CheckFault
 by_parts machine s differs d x = option_map (faults.MotionsDiffer s) (differs or d) or start_fault machine or x
 
@@ -167,14 +167,14 @@ not_last n (p ∷ ps) h e = grind (arith, nat_tests)
 pub several_are : (n : ℕ) (ps : List Piece) → length ps ≡ n → are_several ps ≡ nat_lt 1 n
 several_are n ps e = ap (λ k. nat_lt 1 k) e
 
--- all pieces of a motion that has some
+-- all pieces of a motion that has at least one
 pub judged_all : (machine : MachineFile) (tool : Option Tool) (w : Way) (n : ℕ) (j : PieceJudge) (ps : List Piece) → 1 ≤ n → length ps ≡ n
     → ((p : Piece) (more : List Piece) → are_several (p ∷ more) ≡ nat_lt 1 n → fault_ahead machine j (p ∷ more) ≡ pieces_fault machine tool w (p ∷ more))
     → pieces_fault machine tool w ps ≡ fault_ahead machine j ps
 judged_all machine tool w n j [] some e h = absurd (omega (arith, some, e))
 judged_all machine tool w n j (p ∷ ps) some e h = sym (h p ps (several_are n (p ∷ ps) e))
 
--- pieces that nobody follows change nothing
+-- pieces that are not followed change nothing
 pub idle : (machine : MachineFile) (s : Setting) (commands : List Command) (old : SettingJudge) (p : Piece) (ps : List Piece) (entries : List Entry) →
     old.following ≡ None
     → fault_left machine s commands old (p ∷ ps) entries ≡ fault_left machine s commands old ps entries

@@ -1,5 +1,5 @@
--- What was accepted: a program's commands at both settings of block delete, its machine and its
--- tools. Our own.
+-- An accepted program: its commands at both settings of block delete, its machine and its tools.
+-- Our own.
 use Rattle.std.specs.Prelude.{◌≡◌, List, Option, Some, None, Result, Ok, Err, Bool}
 use Rattle.std.specs.Prelude.{true, false}
 use Rattle.ngc_machine.specs.Machine.{MachineFile}
@@ -26,7 +26,7 @@ abbrev pub commands_at : Bool → AcceptedData → List Command
 commands_at false a = a.off
 commands_at true a = a.on
 
--- what holds of all that was accepted: some certificate is valid for both settings
+-- properties of every accepted program: there is a certificate that is valid for both settings
 pub record IsAccepted (a : AcceptedData) : Type 0 where
   pub machine : IsMachine a.machine
   pub certificate : CertificateData
@@ -35,16 +35,16 @@ pub record IsAccepted (a : AcceptedData) : Type 0 where
   pub off_commands : AreCommands a.machine.start a.off
   pub on_commands : AreCommands a.machine.start a.on
 
--- ---- what the checker answers
+-- ---- the checker's result
 
--- it keeps what it was given, and the commands are the program's
+-- it stores its inputs, and the commands are the program's
 pub record Keeps (program : Program) (setup : Setup) (a : AcceptedData) : Type 0 where
   pub machine : a.machine ≡ setup.machine
   pub tools : a.tools ≡ setup.tools
   pub off : meaning program setup false ≡ Ok a.off
   pub on : meaning program setup true ≡ Ok a.on
 
--- a refusal is the first one; that memory ran out says nothing
+-- the refusal is the first one; nothing is stated if memory ran out
 abbrev pub IsFirst : CheckFault → Option CheckFault → Type 0
 IsFirst Memory first = Unit {0}
 IsFirst (faults.Program s e) first = first ≡ Some (faults.Program s e)
@@ -53,7 +53,7 @@ IsFirst (faults.Start i) first = first ≡ Some (faults.Start i)
 IsFirst (faults.Piece s k j e) first = first ≡ Some (faults.Piece s k j e)
 IsFirst (faults.ToolChange s k i) first = first ≡ Some (faults.ToolChange s k i)
 
--- exactly: yes where nothing is refused, else the first refusal
+-- the result is acceptance if nothing is refused, and otherwise the first refusal
 abbrev pub Answers : {X : Type 0} → (X → AcceptedData) → Program → Setup → CertificateData →
     Result X CheckFault → Type 0
 Answers view program setup c (Ok x) =

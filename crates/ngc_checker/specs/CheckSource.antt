@@ -1,4 +1,4 @@
--- What the check of a certificate that a source gives comes to. Our own.
+-- The result of checking a certificate from a source. Our own.
 use Rattle.std.specs.Prelude.{◌≡◌, ℕ, List, Some, None, Result, Ok, Err}
 use Rattle.ngc_canonical.specs.Meaning.{Program}
 use Rattle.ngc_canonical.specs.State.{Setup}
@@ -9,9 +9,9 @@ use Rattle.ngc_checker.specs.declared.check_fault.CheckReadFault.TheVariants as 
 use Rattle.ngc_checker.specs.Accepted.{AcceptedData, Keeps}
 use Rattle.ngc_checker.specs.CheckView.{text_verdict}
 
--- exactly: yes where the text has no fault and nothing is refused, with what the checker keeps
--- then; else the text's fault, but for want of memory and the source's failure, or the first
--- refusal
+-- the result is acceptance if the text has no fault and nothing is refused, with the program that
+-- the checker stores; otherwise it is the text's fault, lack of memory, the source's failure, or
+-- the first refusal
 abbrev pub AnswersText : {X : Type 0} → (X → AcceptedData) → Program → Setup → List ℕ →
     Result X CheckReadFault → Type 0
 AnswersText view program setup text (Ok x) =
@@ -21,7 +21,7 @@ AnswersText view program setup text (Err (reads.Certificate fault)) =
 AnswersText view program setup text (Err (reads.Check fault)) =
     text_verdict program setup text ≡ Ok (Some fault)
 
--- the count of failures rises at the answer that the source failed, and stays at every other
+-- the count of failures rises if the result is that the source failed, and stays the same otherwise
 abbrev pub FailsByReading : {X : Type 0} → Result X CheckReadFault → ℕ → ℕ → Type 0
 FailsByReading (Ok x) old new = new ≡ old
 FailsByReading {X} (Err (reads.Certificate fault)) old new = FailsByText {X = X} (Err fault) old new

@@ -1,5 +1,5 @@
--- What a reader that checks a certificate will answer, as functions of the bytes that follow. Our
--- own.
+-- The future results of a reader that checks a certificate, as functions of the bytes that follow.
+-- Our own.
 use Rattle.std.specs.Prelude.{◌≡◌, ℕ, List, Option, Some, None, Result, Ok, Err}
 use Rattle.ngc_canonical.specs.Meaning.{Program}
 use Rattle.ngc_canonical.specs.State.{Setup}
@@ -17,36 +17,35 @@ use Rattle.ngc_checker.specs.Accepted.{AcceptedData, Answers, Keeps}
 use Rattle.ngc_checker.specs.Checked.{judged, kept_by}
 use Rattle.ngc_checker.specs.FirstRefusal.{first_refusal}
 
--- what a text comes to: its fault, or else the first refusal of the certificate that it says, or
--- none
+-- the result of a text: its fault, or else the first refusal of its certificate, or none
 abbrev pub Verdict : Type 0
 Verdict = Result (Option CheckFault) CertificateFault
 
 abbrev pub text_verdict : Program → Setup → List ℕ → Verdict
 text_verdict program setup text = made_with (first_refusal program setup) (certificate_said text)
 
--- what it comes to if these bytes follow those that were fed, and no more
+-- its result if these bytes follow those read so far, and no more
 abbrev pub outcome_in : {A : Type 0} → CheckReader A → List ℕ → Verdict
 outcome_in r rest = outcome_by r.refusal (judged r.text) rest
 
--- what it comes to if those bytes follow what stands of the text once these have come
+-- its result if those bytes follow the certain part of the text after these
 abbrev pub firm_in : {A : Type 0} → CheckReader A → List ℕ → List ℕ → Verdict
 firm_in r bytes rest = firm_by r.refusal (judged r.text) bytes rest
 
--- the fault that was answered already
+-- the fault that was returned already
 abbrev pub refusal_in : {A : Type 0} → CheckReader A → Option CertificateFault
 refusal_in r = r.refusal
 
--- what is handed out where the certificate is accepted; nothing where the program is refused
+-- the program that an acceptance returns; nothing if the program is refused
 abbrev pub kept_in : {A : Type 0} → CheckReader A → Option AcceptedData
 kept_in r = kept_by r.text.judge
 
--- how many bytes more the text can have at most
+-- the greatest number of further bytes of the text
 abbrev pub room_in : {A : Type 0} → CheckReader A → ℕ
 room_in r = room_of r.text.lines
 
--- exactly: yes with what was kept where nothing is refused, else the text's fault or the first
--- refusal
+-- the result is acceptance with the stored program if nothing is refused, and otherwise the text's
+-- fault or the first refusal
 abbrev pub GivesVerdict : {X : Type 0} → (X → AcceptedData) → Option AcceptedData →
     Result X CheckReadFault → Verdict → Type 0
 GivesVerdict view kept (Ok x) says = (says ≡ Ok None) × (kept ≡ Some (view x))
@@ -55,8 +54,8 @@ GivesVerdict view kept (Err (reads.Check fault)) says = says ≡ Ok (Some fault)
 
 -- ---- the whole text
 
--- what a reader of a certificate's text answers: the text's fault, or else what the checker answers
--- for what it says
+-- the result of a reader of a certificate's text: the text's fault, or else the checker's result
+-- for its certificate
 abbrev pub AnswersSaid : {X : Type 0} → (X → AcceptedData) → Program → Setup → List ℕ →
     Result X CheckReadFault → Type 0
 AnswersSaid view program setup text (Ok x) =
@@ -66,8 +65,8 @@ AnswersSaid view program setup text (Err (reads.Certificate fault)) =
 AnswersSaid {X} view program setup text (Err (reads.Check fault)) = (c : CertificateData) ×
     (certificate_said text ≡ Ok c) × Answers {X = X} view program setup c (Err fault)
 
--- What a reader makes of the joined pieces is exactly what the checker answers for the certificate
--- that they say, or the text's fault.
+-- The result of a reader for the joined pieces is the checker's result for their certificate, or
+-- the text's fault.
 abbrev pub VerdictIsAnswer : Type 0
 VerdictIsAnswer =
     (program : Program) (setup : Setup) (text : List ℕ) (kept : Option AcceptedData)

@@ -1,4 +1,4 @@
--- What a reader that checks a certificate makes of the lines. Our own.
+-- The lines as a reader that checks a certificate judges them. Our own.
 use Rattle.std.specs.Prelude.{◌≡◌, Option, Some, None, Result, Ok, Err}
 use Rattle.ngc_certificate_text.specs.Ahead.{Rest, made_with}
 use Rattle.ngc_certificate_text.specs.LinesView.{left_by, expected_in, IsReading}
@@ -8,7 +8,7 @@ use Rattle.ngc_checker.specs.declared.judged_lines.JudgedLines.{JudgedLines}
 use Rattle.ngc_checker.specs.Accepted.{AcceptedData}
 use Rattle.ngc_checker.specs.Judging.{JudgeData, IsAt, verdict_of, kept_of}
 
--- the first refusal, where this comes yet: that of the program goes first
+-- the first refusal, if this remains: that of the program takes precedence
 abbrev pub judged_by : Result JudgeData CheckFault → Rest → Option CheckFault
 judged_by (Ok v) r = verdict_of v r
 judged_by (Err fault) r = Some fault
@@ -17,7 +17,7 @@ abbrev pub kept_by : Result JudgeData CheckFault → Option AcceptedData
 kept_by (Ok v) = Some (kept_of v)
 kept_by (Err fault) = None
 
--- what these bytes come to behind the lines so far
+-- the result of these bytes after the lines so far
 abbrev pub judged : {A : Type 0} → JudgedLines A → Saying (Option CheckFault)
 judged t lines bytes = made_with (judged_by t.judge) (left_by lines t.lines bytes)
 

@@ -20,7 +20,7 @@ use Rattle.ngc_certificate.specs.PieceFault.{pieces_fault, place_fault, ◌or◌
 use Rattle.ngc_checker.specs.declared.fault.CheckFault.{CheckFault}
 use Rattle.ngc_checker.specs.declared.fault.CheckFault.TheVariants as faults
 
--- the first index that two lists don't share, the lesser one where both have one
+-- the first index at which two lists differ, the lesser one if both have one
 abbrev pub first_difference : List ℕ → List ℕ → Option ℕ
 first_difference [] [] = None
 first_difference (i ∷ is) [] = Some i

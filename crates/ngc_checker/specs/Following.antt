@@ -5,7 +5,7 @@ use Rattle.ngc_certificate_text.specs.Certificate.{PIECE_LIMIT}
 use Rattle.ngc_certificate.specs.declared.pieces.PieceJudge.{PieceJudge}
 use Rattle.ngc_certificate.specs.PieceJudging.{IsJudging, judged_by}
 
--- a judge was made for this machine, and so many pieces may come yet
+-- a judge was made for this machine, and at most `left` pieces may follow
 pub record IsJudgingFor (machine : MachineFile) (j : PieceJudge) (left : ℕ) : Type 0 where
   pub judging : IsJudging machine j
   pub few : judged_by j + left ≤ PIECE_LIMIT

@@ -1,4 +1,4 @@
--- What is accepted of a job, and which refusal a fault of the program is. Our own.
+-- The accepted part of a job, and the refusal for a fault of the program. Our own.
 use Rattle.std.specs.Prelude.{List, true}
 use Rattle.ngc_machine.specs.Machine.{MachineFile}
 use Rattle.ngc_machine.specs.declared.tools.Tool.{Tool}
@@ -17,7 +17,7 @@ held machine tools off on = record { machine = machine; tools = tools; off = off
 abbrev pub accepted_of : JobData → AcceptedData
 accepted_of j = held j.machine j.tools j.off (commands_in true j)
 
--- want of memory is no fault of the program
+-- lack of memory is no fault of the program
 abbrev pub program_fault : Setting → ProgramFault → CheckFault
 program_fault s (At line e) = faults.Program s (At line e)
 program_fault s Memory = faults.Memory

@@ -1,4 +1,4 @@
--- What is left of the check of a certificate whose lines come one by one. Our own.
+-- The rest of the check of a certificate, line by line. Our own.
 use Rattle.std.specs.Prelude.{◌≡◌, ℕ, ◌-◌, ◌≤◌, List, length, Option, None, Ok}
 use Rattle.ngc_machine.specs.Machine.{MachineFile}
 use Rattle.ngc_machine.specs.MachineRanges.{IsMachine}
@@ -21,8 +21,8 @@ use Rattle.ngc_checker.specs.Walking.{fault_left}
 use Rattle.ngc_machine.specs.declared.tools.Tool.{Tool}
 use Rattle.ngc_certificate.specs.PieceFault.{◌or◌}
 
--- What a judge keeps: machine, tools and commands; what is known of each setting; and how many
--- pieces come yet of a motion that has begun.
+-- The state of a judge: machine, tools and commands; the state of each setting; and the number of
+-- remaining pieces of a motion that has begun.
 pub record JudgeData : Type 0 where
   pub machine : MachineFile
   pub tools : List Tool
@@ -32,24 +32,24 @@ pub record JudgeData : Type 0 where
   pub on_walk : SettingJudge
   pub left : ℕ
 
--- the first refusal, where this is left of a certificate: pieces matter to a setting where its
--- motion has begun
+-- the first refusal, if this remains of a certificate: pieces matter to a setting if its motion has
+-- begun
 abbrev pub verdict_left : MachineFile → List Command → List Command → SettingJudge → SettingJudge →
     Rest → Option CheckFault
 verdict_left machine off on off_walk on_walk r =
     fault_left machine Off off off_walk r.pieces
     (certificate_of r).off or fault_left machine On on on_walk r.pieces (certificate_of r).on
 
--- a setting's walk stands among its commands, and so many pieces may come yet of its motion that
--- has begun
+-- a setting's walk is among its commands, and at most `left` pieces of its motion that has begun
+-- may follow
 pub record IsWalking (machine : MachineFile) (commands : List Command) (walk : SettingJudge)
     (left : ℕ) : Type 0 where
   pub index : walk.walk.index ≤ length commands
   pub following : IsFollowing machine walk.following left
   pub none : left ≡ 0 → walk.following ≡ None
 
--- The lines so far and those that come say some certificate, and the verdict is that of both
--- together.
+-- The lines so far and those that follow are those of some certificate, and the verdict is that of
+-- both together.
 pub record IsJudge (machine : MachineFile) (off on : List Command) (off_walk on_walk : SettingJudge)
     (left : ℕ) : Type 0 where
   pub good_machine : IsMachine machine
@@ -62,7 +62,7 @@ pub record IsJudge (machine : MachineFile) (off on : List Command) (off_walk on_
       settings_fault machine (Ok off) (Ok on) (certificate r)
       ≡ verdict_left machine off on off_walk on_walk r
 
--- the first refusal, where this comes yet
+-- the first refusal, if this remains
 abbrev pub verdict_of : JudgeData → Rest → Option CheckFault
 verdict_of v r = verdict_left v.machine v.off v.on v.off_walk v.on_walk r
 
@@ -71,7 +71,7 @@ kept_of v = held v.machine v.tools v.off v.on
 
 -- ---- a line
 
--- the line comes where the judge stands
+-- the line is allowed in the judge's state
 abbrev pub MayJudge : Told → JudgeData → Type 0
 MayJudge (tell.Header version) v = Unit {0}
 MayJudge (tell.Setting s n) v = Unit {0}
@@ -80,7 +80,7 @@ MayJudge (tell.Motion b) v = (v.left ≡ 0) × (1 ≤ b.pieces_left) × (b.piece
 MayJudge (tell.Piece b p) v = (v.left ≡ b.pieces_left) × (1 ≤ b.pieces_left)
 MayJudge tell.End v = Unit {0}
 
--- so many pieces come yet behind the line
+-- the number of remaining pieces after the line
 abbrev pub left_behind : Told → ℕ → ℕ
 left_behind (tell.Header version) left = left
 left_behind (tell.Setting s n) left = left
@@ -89,7 +89,7 @@ left_behind (tell.Motion b) left = b.pieces_left
 left_behind (tell.Piece b p) left = b.pieces_left - 1
 left_behind tell.End left = left
 
--- ---- which line comes next
+-- ---- the next line
 
 abbrev pub left_of : Expected → ℕ
 left_of next.Header = 0
@@ -100,6 +100,6 @@ left_of (next.Piece b) = b.pieces_left
 left_of next.End = 0
 left_of next.Nothing = 0
 
--- a judge stands where this line comes next
+-- a judge's state if this line is next
 abbrev pub IsAt : Expected → JudgeData → Type 0
 IsAt e v = v.left ≡ left_of e

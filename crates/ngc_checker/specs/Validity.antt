@@ -1,4 +1,4 @@
--- When a certificate is valid for a program: what the checker's yes means. Our own.
+-- The validity of a certificate for a program: the meaning of the checker's acceptance. Our own.
 use Rattle.std.specs.Prelude.{◌≡◌, List, None, Ok, true, false, ◌↔◌}
 use Rattle.ngc_commands.specs.declared.command.Command.{Command}
 use Rattle.ngc_canonical.specs.Meaning.{Program, meaning}
@@ -16,7 +16,7 @@ pub record IsValidFor (program : Program) (setup : Setup) (c : CertificateData) 
   pub off_valid : IsValid setup.machine off c.off
   pub on_valid : IsValid setup.machine on c.on
 
--- nothing is refused exactly where the certificate is valid for the program
+-- nothing is refused if and only if the certificate is valid for the program
 abbrev pub NoneRefusedIsValid : Type 0
 NoneRefusedIsValid = (program : Program) (setup : Setup) (c : CertificateData) →
     (first_refusal program setup c ≡ None) ↔ IsValidFor program setup c

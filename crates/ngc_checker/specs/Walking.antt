@@ -1,5 +1,4 @@
--- What is left of a check on the way through a setting's commands, as the motions of a certificate
--- come. Our own.
+-- The rest of a check on the walk through a setting's commands, motion by motion. Our own.
 use Rattle.std.specs.Prelude.{ℕ, ◌-◌, List, map, drop, Option, Some, None, option_map}
 use Rattle.ngc_machine.specs.Machine.{MachineFile}
 use Rattle.ngc_commands.specs.Movement.{actions_of, motion_indices}
@@ -25,14 +24,14 @@ abbrev pub walk_from : MachineFile → Setting → ℕ → CommandWalk → List 
 walk_from machine s k w actions entries =
     w.refusal or commands_fault machine s k w.tool w.place actions entries
 
--- of those so far, of a motion's pieces, and of those behind it
+-- of those so far, of a motion's pieces, and of those after it
 abbrev pub with_motion : MachineFile → Setting → CommandWalk → NextMotion → List Action → Entry →
     List Entry → Option CheckFault
 with_motion machine s w m actions entry entries =
     w.refusal or (option_map (at_command s m.index) (pieces_fault machine w.tool m.way entry.pieces)
     or commands_fault machine s w.index w.tool w.place actions entries)
 
--- of the pieces that come of the motion that has begun, where they are judged
+-- of the remaining pieces of the motion that has begun, if they are judged
 abbrev pub pieces_left : MachineFile → Setting → ℕ → Option PieceJudge → List Piece →
     Option CheckFault
 pieces_left machine s k None pieces = None
@@ -41,7 +40,7 @@ pieces_left machine s k (Some j) pieces = option_map (at_command s k) (fault_ahe
 abbrev pub commands_ahead : List Command → CommandWalk → List Action
 commands_ahead commands w = actions_of (drop w.index commands)
 
--- the first refusal of a setting, where these pieces and motions come yet
+-- the first refusal of a setting, if these pieces and motions remain
 abbrev pub fault_left : MachineFile → Setting → List Command → SettingJudge → List Piece →
     List Entry → Option CheckFault
 fault_left machine s commands j pieces entries =

@@ -1,4 +1,4 @@
-//! What the checker accepted.
+//! The result of an accepted check.
 ghost use Rattle.std.specs.Prelude.{◌≡◌};
 ghost use Rattle.ngc_machine.specs.Machine.{file_of};
 ghost use Rattle.ngc_machine.specs.Tools.{tools_of};
@@ -12,8 +12,8 @@ use std::alloc::Allocator;
 use std::marker::Model;
 
 /// A program that was accepted on a machine with its tools: its commands at both settings of block
-/// delete, and machine and tools of its own. Some certificate is valid for them. Only `check`,
-/// `check_job`, `check_source` and `CheckReader` make one.
+/// delete, and its own copies of machine and tools. There is a certificate that is valid for them.
+/// Only `check`, `check_job`, `check_source` and `CheckReader` make one.
 #[derive(Drop)]
 pub struct Accepted<A: Allocator> {
     job: Job<A>,
@@ -38,7 +38,7 @@ impl<A: Allocator> Accepted<A> {
         Accepted { job }
     }
 
-    /// The commands at a setting of block delete, in the order in which they are executed.
+    /// Returns the commands at a setting of block delete, in order of execution.
     pub fn commands(&self, block_delete: bool) -> &[Command]
         ensures { result.now ≡ commands_at block_delete self.now }
     {
@@ -49,16 +49,16 @@ impl<A: Allocator> Accepted<A> {
         }
     }
 
-    /// The machine.
+    /// Returns the machine.
     pub fn machine(&self) -> &Machine<A>
         ensures value { file_of result.now ≡ self.now.machine }
-        // What holds of all that was accepted.
+        // This holds for every accepted program.
         ensures accepted { IsAccepted self.now }
     {
         self.job.machine()
     }
 
-    /// The tools.
+    /// Returns the tools.
     pub fn tools(&self) -> &Tools<A>
         ensures { tools_of result.now ≡ self.now.tools }
     {

@@ -5,10 +5,10 @@ use crate::fault::CheckFault;
 use ngc_certificate_text::CertificateFault;
 use thiserror::Error;
 
-/// Why a certificate that is checked as its text comes isn't accepted.
+/// The reasons why a certificate that is checked while it is read isn't accepted.
 #[derive(Clone, Copy, Debug, PartialEq, Eq, Error)]
 pub enum CheckReadFault {
-    /// The text is no certificate, 301 to 303, or isn't read: 900, 901.
+    /// The text is no certificate, 301 to 303, or could not be read: 900, 901.
     #[error(transparent)]
     Certificate(CertificateFault),
     /// The certificate is refused: 311 to 318.
@@ -17,7 +17,7 @@ pub enum CheckReadFault {
 }
 
 impl CheckReadFault {
-    /// The fault's number.
+    /// Returns the fault's number.
     pub fn number(&self) -> u16
         ensures { result ≡ read_number self.now }
     {

@@ -29,8 +29,8 @@ use ngc_line_reader::Program;
 use ngc_machine::{Machine, Tools};
 use std::alloc::Allocator;
 
-/// A check of a certificate whose text comes in pieces of any size. Of the certificate no more is
-/// kept than a line that a piece's end cut and the first refusal.
+/// A reader that checks a certificate whose text arrives in pieces of any size. It stores no more of
+/// the certificate than a line that the end of a piece cut and the first refusal.
 ///
 /// ```text
 /// let mut reader = CheckReader::new(alloc, &program, &machine, &tools)?;
@@ -39,8 +39,8 @@ use std::alloc::Allocator;
 /// let accepted = reader.finish()?;
 /// ```
 ///
-/// It answers what `Certificate::read` and then `check` answer for all pieces joined. A line may be
-/// cut anywhere, and a piece may have no bytes. After a fault each later call answers it again.
+/// The result is that of `Certificate::read` and then `check` for all pieces joined. A line may be
+/// cut anywhere, and a piece may be empty. After a fault each later call returns the same fault.
 #[derive(Drop)]
 pub struct CheckReader<A: Allocator> {
     text: JudgedLines<A>,
@@ -50,7 +50,7 @@ pub struct CheckReader<A: Allocator> {
     ghost no_device: { refusal ≢ Some texts.ReadFailed } by { Prim.hlevel props },
 }
 
-// The judge of the certificate, or why the program is refused.
+// Returns the judge of the certificate, or why the program is refused.
 fn judge_of<A: Allocator + Copy>(
     alloc: A,
     program: &Program<A>,
@@ -89,8 +89,9 @@ impl<A: Allocator> CheckReader<A> {
     ghost use Rattle.ngc_checker.specs.CheckView.{text_verdict, outcome_in, firm_in, refusal_in};
     ghost use Rattle.ngc_checker.specs.CheckView.{kept_in, room_in, GivesVerdict};
 
-    /// A reader that was fed nothing yet. The program is executed at both settings of block delete;
-    /// why it is refused is answered by `finish`. It fails where memory is refused.
+    /// Returns a reader that has received no bytes. It executes the program at both settings of
+    /// block delete; if the program is refused, `finish` returns the refusal. It fails if memory is
+    /// refused.
     pub fn new(
         alloc: A,
         program: &Program<A>,
@@ -99,7 +100,7 @@ impl<A: Allocator> CheckReader<A> {
     ) -> Result<CheckReader<A>, MemoryFault>
     where
         A: Copy,
-        // Whatever the lines' readings are: each line has one, and only one.
+        // This holds for all readings of the lines: each line has exactly one.
         ensures text { (rs : List Reading) → AreReadings (text_in program.now).lines rs →
             IfOk result (λ r. (bytes : List ℕ) →
             text_verdict (program_said (text_in program.now) rs)
@@ -125,28 +126,28 @@ impl<A: Allocator> CheckReader<A> {
         }
     }
 
-    /// Takes the next bytes of the text, any number of them, and asks for no memory. A fault of the
-    /// text is answered as soon as it stands: by the piece with the line feed that ends its line,
-    /// or with the 257th byte of a line that is too long.
+    /// Reads the next bytes of the text, any number of them. It allocates no memory. It returns a
+    /// fault of the text as soon as it is certain: with the line feed that ends its line, or with
+    /// the 257th byte of a line that is too long.
     pub fn feed(&mut self, piece: &[u8]) -> Result<(), CertificateFault>
-        // The fault is the one that the lines so far have whatever follows, and where they have
-        // none, none is answered.
+        // The fault is the one that the lines so far have whatever follows. If they have none, it
+        // returns none.
         ensures answer { AnswerIs result (firm_in self.old piece.now) }
         ensures firm { OnOk result ((more rest : List ℕ) →
             firm_in self.old (piece.now ++ more) rest ≡ firm_in self.new more rest) }
-        // Whatever follows, the text comes to the same as if this piece stood in front of it: a
+        // Whatever follows, the text has the same result as if this piece were in front of it: a
         // fault stays.
         ensures text { (rest : List ℕ) →
             MatchResult result
             (λ _. outcome_in self.old (piece.now ++ rest) ≡ outcome_in self.new rest)
             (λ fault. FaultIs fault (outcome_in self.old (piece.now ++ rest))) }
         ensures keeps { kept_in self.new ≡ kept_in self.old }
-        // A fault is kept, and answered again.
+        // A fault is stored, and returned again.
         ensures refusal { refusal_in self.new ≡ result_err result }
         ensures again { IfSome (refusal_in self.old) (λ fault. result ≡ Err fault) }
         ensures memory { result ≢ Err CertificateFault.Memory }
         ensures device { result ≢ Err CertificateFault.ReadFailed }
-        // A text is no longer than its lines may be.
+        // A text is no longer than the limits of its lines allow.
         ensures room { OnOk result (room_in self.new + length piece.now ≤ room_in self.old) }
     {
         match self.refusal {
@@ -161,7 +162,7 @@ impl<A: Allocator> CheckReader<A> {
         }
     }
 
-    // Whether bytes stand behind the end, so that what follows changes nothing.
+    // Returns whether there are bytes after the end, so that the following bytes change nothing.
     pub(crate) fn goes_too_far(&self) -> bool
         ensures { IsTrue result → (rest : List ℕ) →
             outcome_in self.now rest ≡ outcome_in self.now [] }
@@ -172,9 +173,9 @@ impl<A: Allocator> CheckReader<A> {
         }
     }
 
-    /// What is accepted, where no byte comes any more; else the fault of the text that was
-    /// answered, or that of a line that is missing or lacks its line feed; else the first refusal,
-    /// as `check` has it.
+    /// Returns the accepted program, after the last byte. Otherwise it returns the fault of the
+    /// text that was returned before, or that of a line that is missing or lacks its line feed, or
+    /// else the first refusal, as `check` does.
     pub fn finish(self) -> Result<Accepted<A>, CheckReadFault>
         ensures said { GivesVerdict (λ a. a) (kept_in self) result (outcome_in self []) }
         ensures again { IfSome (refusal_in self)

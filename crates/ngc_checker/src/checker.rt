@@ -25,7 +25,7 @@ use ngc_line_reader::Program;
 use ngc_machine::{Machine, Tools};
 use std::alloc::Allocator;
 
-/// Why a program that has no job is refused.
+/// Returns the refusal of a program that has no job.
 pub(crate) fn refused(refusal: JobFault) -> CheckFault
     ensures { result ≡ program_fault refusal.setting refusal.fault }
 {
@@ -38,7 +38,7 @@ pub(crate) fn refused(refusal: JobFault) -> CheckFault
     }
 }
 
-// The first fault of the commands at both settings.
+// Returns the first fault of the commands at both settings.
 fn settings_fault<A: Allocator>(
     machine: &Machine<A>,
     off: &[Command],
@@ -58,12 +58,12 @@ fn settings_fault<A: Allocator>(
     setting_fault(machine, Setting::On, on, motions)
 }
 
-/// Whether a certificate shows that a job is safe, at both settings of block delete. It asks for no
-/// memory.
+/// Checks whether a certificate shows that a job is safe, at both settings of block delete. It
+/// allocates no memory.
 ///
-/// The first refusal is answered: for block delete off, and then for on, 312, 318, and the commands
-/// in their order: of a tool change 317, of a motion its pieces in their order, of a piece 313 to
-/// 316, the fixtures in theirs. The job is dropped then.
+/// It returns the first refusal: for block delete off, and then for on, 312, 318, and then the
+/// commands in order. A tool change is refused with 317. The pieces of a motion are checked in
+/// order, each with 313 to 316, and the fixtures in order. It then drops the job.
 pub fn check_job<A: Allocator>(
     job: Job<A>,
     certificate: &Certificate<A>,
@@ -85,13 +85,13 @@ pub fn check_job<A: Allocator>(
     }
 }
 
-/// Whether a certificate shows that a program is safe on a machine with its tools, at both settings
-/// of block delete.
+/// Checks whether a certificate shows that a program is safe on a machine with its tools, at both
+/// settings of block delete.
 ///
-/// The first refusal is answered: 311 with block delete off, then on; and then for off, and after
-/// it for on, 312, 318, and the commands in their order: of a tool change 317, of a motion its
-/// pieces in their order, of a piece 313 to 316, the fixtures in theirs. 900 says nothing of the
-/// program.
+/// It returns the first refusal: 311 with block delete off, then on; and then for off, and after it
+/// for on, 312, 318, and then the commands in order. A tool change is refused with 317. The pieces
+/// of a motion are checked in order, each with 313 to 316, and the fixtures in order. 900 (lack of
+/// memory) tells nothing about the program.
 pub fn check<A: Allocator + Copy>(
     alloc: A,
     program: &Program<A>,
@@ -99,7 +99,7 @@ pub fn check<A: Allocator + Copy>(
     tools: &Tools<A>,
     certificate: &Certificate<A>,
 ) -> Result<Accepted<A>, CheckFault>
-    // Whatever the lines' readings are: each line has one, and only one.
+    // This holds for all readings of the lines: each line has exactly one.
     ensures { (rs : List Reading) → AreReadings (text_in program.now).lines rs →
         Answers (λ a. a) (program_said (text_in program.now) rs) (setup_of machine.now tools.now)
         (said_of certificate.now) result }

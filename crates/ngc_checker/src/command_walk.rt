@@ -1,4 +1,4 @@
-//! The way through the commands of a setting, from one motion to the next.
+//! A walk through the commands of a setting, from one motion to the next.
 ghost use Rattle.std.specs.Prelude.{◌≡◌, ◌+◌, ◌-◌, ◌<◌, ◌≤◌, ◌∷◌, [], length, drop, List};
 ghost use Rattle.std.specs.Prelude.{MatchOption, IfSome, Some, None};
 ghost use Rattle.ngc_machine.specs.Machine.{file_of};
@@ -14,8 +14,8 @@ use ngc_fixed_length::Point3;
 use ngc_machine::{Machine, Tool};
 use std::alloc::Allocator;
 
-/// Between two commands: the index of the next one, the tool that is mounted, where the axes stand,
-/// and the first refusal of the commands so far.
+/// The state between two commands: the index of the next one, the mounted tool, the position of the
+/// axes, and the first refusal of the commands so far.
 #[derive(Clone, Copy)]
 pub struct CommandWalk {
     pub index: u32,
@@ -24,7 +24,7 @@ pub struct CommandWalk {
     pub refusal: Option<CheckFault>,
 }
 
-/// A motion of the program: its index in the list of commands, and its way.
+/// A motion of the program: its index in the list of commands, and its path.
 #[derive(Clone, Copy)]
 pub struct NextMotion {
     pub index: u32,
@@ -36,7 +36,7 @@ impl CommandWalk {
     ghost use Rattle.ngc_commands.specs.declared.command.Action.TheVariants.{Mount};
     ghost use Rattle.ngc_certificate_text.specs.Certificate.{Entry};
 
-    /// In front of all commands.
+    /// Returns the state before all commands.
     pub(crate) fn new(start: Point3) -> CommandWalk
         ensures { result ≡ record { index = 0; tool = None; place = start; refusal = None } }
     {
@@ -48,7 +48,7 @@ impl CommandWalk {
         }
     }
 
-    /// A refusal, where there is none yet.
+    /// Sets the refusal, if there is none yet.
     pub(crate) fn refuse(&mut self, fault: CheckFault)
         ensures { self.new ≡ record self.old { refusal = self.old.refusal or Some fault } }
     {
@@ -57,7 +57,7 @@ impl CommandWalk {
         }
     }
 
-    // Command `index` mounts a tool.
+    // Mounts the tool of command `index`.
     fn mount<A: Allocator>(
         &mut self,
         machine: &Machine<A>,
@@ -81,7 +81,7 @@ impl CommandWalk {
         self.tool = *tool;
     }
 
-    /// Goes on to the next motion of the commands that come, and behind it; or behind all of them.
+    /// Goes to the next motion among the commands `ahead`, and past it; or past all of them.
     pub(crate) fn next_motion<A: Allocator>(
         &mut self,
         machine: &Machine<A>,

@@ -5,29 +5,29 @@ use ngc_canonical::ProgramFault;
 use ngc_certificate::{PieceFault, Setting};
 use thiserror::Error;
 
-/// Why a certificate isn't accepted. Commands, pieces and fixtures are counted from 0.
+/// The reasons why a certificate isn't accepted. Commands, pieces and fixtures are counted from 0.
 #[derive(Clone, Copy, Debug, PartialEq, Eq, Error)]
 pub enum CheckFault {
-    /// 311: the program is refused at this setting of block delete.
+    /// Fault 311: the program is refused at this setting of block delete.
     #[error("the program is refused: {fault}")]
     Program {
         setting: Setting,
         fault: ProgramFault,
     },
-    /// 312: the indices of the program's motions and of the certificate's are two lists, and this
-    /// is the index at the first place where they differ, the lesser of the two where both have one
-    /// there.
+    /// Fault 312: the indexes of the program's motions and of the certificate's are two lists that
+    /// differ. This is the index at the first position where they differ, the lesser of the two if
+    /// both have one there.
     #[error("program and certificate differ at command {command}")]
     MotionsDiffer {
         setting: Setting,
         command: u32,
     },
-    /// 318: the start point lies in a fixture.
+    /// Fault 318: the start point is in a fixture.
     #[error("the start point meets fixture {fixture}")]
     Start {
         fixture: u32,
     },
-    /// 313 to 316: a piece of a motion.
+    /// Fault 313 to 316: a piece of a motion.
     #[error("command {command}, piece {piece}: {fault}")]
     Piece {
         setting: Setting,
@@ -35,20 +35,20 @@ pub enum CheckFault {
         piece: u32,
         fault: PieceFault,
     },
-    /// 317: the body of the tool that this command mounts meets a fixture.
+    /// Fault 317: the body of the tool that this command mounts meets a fixture.
     #[error("the tool of command {command} meets fixture {fixture}")]
     ToolChange {
         setting: Setting,
         command: u32,
         fixture: u32,
     },
-    /// 900
+    /// Fault 900.
     #[error("out of memory")]
     Memory,
 }
 
 impl CheckFault {
-    /// The fault's number: 311 to 318, 900.
+    /// Returns the fault's number: 311 to 318, 900.
     pub fn number(&self) -> u16
         ensures { result ≡ number_of self.now }
     {

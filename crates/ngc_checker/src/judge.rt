@@ -1,4 +1,4 @@
-//! The check of a certificate whose lines come one by one.
+//! The check of a certificate, line by line.
 ghost use Rattle.std.specs.Prelude.{◌≡◌, ◌+◌, ◌-◌, ◌≤◌, ◌∷◌, [], length, Option, None, Some};
 ghost use Rattle.std.specs.Prelude.{Ok, MatchResult, true};
 ghost use Rattle.ngc_certificate_text.specs.Ahead.{Rest, certificate_of, nothing_left, with_items};
@@ -20,13 +20,13 @@ use ngc_job::Job;
 use std::alloc::Allocator;
 use std::marker::Model;
 
-/// What is known of a certificate so far, with what is kept where it is accepted.
+/// The state of a check: the results so far, and what an acceptance returns.
 #[derive(Drop)]
 pub struct Judge<A: Allocator> {
     job: Job<A>,
     off_walk: SettingJudge,
     on_walk: SettingJudge,
-    // How many pieces come yet of a motion that has begun.
+    // The number of remaining pieces of a motion that has begun.
     left: u32,
 }
 
@@ -64,7 +64,7 @@ fn first_of(first: Option<CheckFault>, later: Option<CheckFault>) -> Option<Chec
 }
 
 impl<A: Allocator> Judge<A> {
-    /// No line has come yet.
+    /// Returns the state before the first line.
     pub(crate) fn new(job: Job<A>) -> Judge<A>
         ensures verdict { (r : Rest) →
             settings_fault job.machine (Ok job.off) (Ok (commands_in true job)) (certificate_of r)
@@ -111,7 +111,7 @@ impl<A: Allocator> Judge<A> {
         self.left = pieces;
     }
 
-    // Where no motion of a setting has begun, its walk passes the piece by.
+    // A setting in which no motion has begun ignores the piece.
     fn piece(&mut self, begun: &BegunMotion, piece: &Piece)
         requires left { self.old.left ≡ begun.now.pieces_left }
         requires some { 1 ≤ begun.now.pieces_left }
@@ -127,7 +127,7 @@ impl<A: Allocator> Judge<A> {
         self.left = left - 1;
     }
 
-    /// One line more.
+    /// Checks one more line.
     pub(crate) fn take(&mut self, told: &Told)
         requires { MayJudge told.now self.old }
         ensures verdict { (r : Rest) → Fits told.now r →
@@ -142,7 +142,7 @@ impl<A: Allocator> Judge<A> {
         }
     }
 
-    /// What is answered where no line comes any more.
+    /// Returns the result, after the last line.
     pub(crate) fn finish(self) -> Result<Accepted<A>, CheckFault>
         requires { self.left ≡ 0 }
         ensures { MatchResult result (λ a. (verdict_of self nothing_left ≡ None) ×

@@ -18,8 +18,7 @@ use crate::judge::Judge;
 use ngc_certificate_text::{CertificateFault, CertificateLines, Told};
 use std::alloc::Allocator;
 
-/// The lines of a certificate's text, and what is known of the certificate so far; or why the
-/// program is refused.
+/// The lines of a certificate's text, and the state of the check; or why the program is refused.
 #[derive(Drop)]
 pub struct JudgedLines<A: Allocator> {
     pub lines: CertificateLines,
@@ -41,7 +40,7 @@ fn take_line<A: Allocator>(judge: &mut Result<Judge<A>, CheckFault>, told: &Told
 }
 
 impl<A: Allocator> JudgedLines<A> {
-    /// More bytes of the text.
+    /// Reads more bytes of the text.
     pub(crate) fn feed(&mut self, bytes: &[u8]) -> Result<(), CertificateFault>
         requires { IsJudged self.old }
         ensures step { (lines : List ℕ → List (List ℕ)) → PartsLines lines → (rest : List ℕ) →
@@ -67,7 +66,7 @@ impl<A: Allocator> JudgedLines<A> {
         }
     }
 
-    /// Whether bytes stand behind the end of the text.
+    /// Returns whether there are bytes after the end of the text.
     pub(crate) fn goes_too_far(&self) -> bool
         ensures { IsTrue result → IsJudged self.now → (rest : List ℕ) →
             judged self.now lines_of rest ≡ judged self.now lines_of [] }
@@ -75,7 +74,7 @@ impl<A: Allocator> JudgedLines<A> {
         self.lines.goes_too_far()
     }
 
-    /// What is answered, where no byte comes any more.
+    /// Returns the result, after the last byte.
     pub(crate) fn finish(self) -> Result<Accepted<A>, CheckReadFault>
         requires { IsJudged self }
         ensures said { GivesVerdict (λ a. a) (kept_by self.judge) result (judged self lines_of []) }

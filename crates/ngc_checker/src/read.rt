@@ -17,13 +17,13 @@ use ngc_machine::{Machine, Tools};
 use ngc_text::Source;
 use std::alloc::Allocator;
 
-/// Whether the certificate that a source gives shows that a program is safe on a machine with its
-/// tools: what `Certificate::read` and then `check` answer, but the certificate is judged as it
-/// comes, and no box of it is kept.
+/// Checks whether the certificate from a source shows that a program is safe on a machine with its
+/// tools. The result is that of `Certificate::read` and then `check`, but the certificate is
+/// checked while it is read, and no box of it is stored.
 ///
-/// A fault of the text goes before 311 to 318. Memory is asked for before anything is pulled: 900
-/// says nothing of program and text. No more is pulled once a fault of the text stands or the text
-/// has ended.
+/// A fault of the text takes precedence over 311 to 318. Memory is allocated before anything is
+/// pulled: 900 tells nothing about program and text. It stops pulling after a fault of the text or
+/// after the end of the text.
 pub fn check_source<A: Allocator + Copy, S: Source>(
     alloc: A,
     program: &Program<A>,
@@ -31,13 +31,13 @@ pub fn check_source<A: Allocator + Copy, S: Source>(
     tools: &Tools<A>,
     source: &mut S,
 ) -> Result<Accepted<A>, CheckReadFault>
-    // Where the source's bytes are known, and whatever the lines' readings are: each line has one,
-    // and only one.
+    // This holds if the source's bytes are known, and for all readings of the lines: each line has
+    // exactly one.
     ensures said { (rs : List Reading) → AreReadings (text_in program.now).lines rs →
         IfSome (S.remaining source.old)
         (λ text. AnswersText (λ a. a) (program_said (text_in program.now) rs)
         (setup_of machine.now tools.now) text result) }
-    // Only a source that failed is said to have failed.
+    // `ReadFailed` is returned only if the source failed.
     ensures device { result ≡ Err (CheckReadFault.Certificate ReadFailed) →
         Rises (S.failures source.old) (S.failures source.new) }
     ensures counted { FailsByReading result (S.failures source.old) (S.failures source.new) }
@@ -59,7 +59,7 @@ pub fn check_source<A: Allocator + Copy, S: Source>(
             Ok(()) => {}
             Err(fault) => return Err(CheckReadFault::Certificate(fault)),
         }
-        // Bytes behind the end are a fault before their line is whole.
+        // Bytes after the end are a fault before their line is complete.
         if reader.goes_too_far() {
             break;
         }

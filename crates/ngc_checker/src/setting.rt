@@ -12,7 +12,7 @@ use ngc_commands::Command;
 use ngc_machine::Machine;
 use std::alloc::Allocator;
 
-/// The start point, where no tool is mounted yet.
+/// Returns the fault of the start point, where no tool is mounted yet.
 pub(crate) fn start_fault<A: Allocator>(machine: &Machine<A>) -> Option<CheckFault>
     ensures { result ≡ start_fault (file_of machine.now) }
 {
@@ -22,7 +22,7 @@ pub(crate) fn start_fault<A: Allocator>(machine: &Machine<A>) -> Option<CheckFau
     }
 }
 
-/// The first fault of a setting: 312, 318, and then those of the commands.
+/// Returns the first fault of a setting: 312, 318, and then those of the commands.
 pub fn setting_fault<A: Allocator>(
     machine: &Machine<A>,
     setting: Setting,

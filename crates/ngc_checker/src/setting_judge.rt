@@ -1,4 +1,4 @@
-//! The check of a setting of block delete, as the motions of a certificate come.
+//! The check of a setting of block delete, motion by motion.
 ghost use Rattle.std.specs.Prelude.{◌≡◌, ◌+◌, ◌-◌, ◌<◌, ◌≤◌, ◌∷◌, [], length, drop, List};
 ghost use Rattle.std.specs.Prelude.{MatchOption, Option, Some, None, IfSome};
 ghost use Rattle.ngc_machine.specs.Machine.{MachineFile, file_of};
@@ -16,14 +16,14 @@ use ngc_commands::Command;
 use ngc_machine::Machine;
 use std::alloc::Allocator;
 
-/// What is known of a setting so far.
+/// The state of the check of a setting.
 #[derive(Drop)]
 pub struct SettingJudge {
-    /// The way through its commands.
+    /// The walk through its commands.
     pub walk: CommandWalk,
-    /// Where the motions of program and certificate differ first.
+    /// The index at which the motions of program and certificate first differ.
     pub differs: Option<u32>,
-    /// The judge of the motion that has begun, where its pieces still matter.
+    /// The judge of the motion that has begun, if its pieces still matter.
     pub following: Option<PieceJudge>,
 }
 
@@ -33,7 +33,7 @@ impl SettingJudge {
     ghost use Rattle.ngc_certificate_text.specs.Certificate.{Entry};
     ghost use Rattle.ngc_certificate_text.specs.declared.piece.Setting.{Setting};
 
-    /// No motion of the setting has come yet.
+    /// Returns the state before the first motion of the setting.
     pub(crate) fn new<A: Allocator>(machine: &Machine<A>) -> SettingJudge
         ensures begins { (setting : Setting) (commands : List Command) (entries : List Entry) →
             setting_fault (file_of machine.now) setting commands entries
@@ -48,7 +48,7 @@ impl SettingJudge {
         }
     }
 
-    // The program's next motion is to be this one, with so many pieces.
+    // Compares the program's next motion with this one, which has `pieces` pieces.
     fn compare<A: Allocator>(
         &mut self,
         machine: &Machine<A>,
@@ -85,7 +85,7 @@ impl SettingJudge {
         }
     }
 
-    /// A motion of the certificate by its index, all of whose pieces come yet: so many.
+    /// Checks a motion of the certificate, given by its index; its `pieces` pieces follow.
     pub(crate) fn motion<A: Allocator>(
         &mut self,
         machine: &Machine<A>,
@@ -111,7 +111,7 @@ impl SettingJudge {
         }
     }
 
-    /// A piece of the motion that has begun; so many came yet, this one among them.
+    /// Checks a piece of the motion that has begun; `left` pieces remain, including this one.
     pub(crate) fn piece<A: Allocator>(
         &mut self,
         machine: &Machine<A>,
@@ -146,7 +146,7 @@ impl SettingJudge {
         }
     }
 
-    /// A motion of the certificate by its index, with all its pieces.
+    /// Checks a motion of the certificate, given by its index, with all its pieces.
     pub(crate) fn entry<A: Allocator>(
         &mut self,
         machine: &Machine<A>,
@@ -174,7 +174,7 @@ impl SettingJudge {
         }
     }
 
-    /// The first refusal of the setting, where no motion comes any more.
+    /// Returns the first refusal of the setting, after the last motion.
     pub(crate) fn finish<A: Allocator>(
         &mut self,
         machine: &Machine<A>,

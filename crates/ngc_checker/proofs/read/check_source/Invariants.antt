@@ -1,4 +1,4 @@
--- What is left of the source comes to what all of it does.
+-- The rest of the source has the same result as the whole.
 use Rattle.std.proofs.Common.{◌≡◌}
 use Rattle.ngc_checker.specs.CheckView.{kept_in, outcome_in, room_in}
 use Rattle.ngc_checker.proofs.SourceLaws.{Goes}

@@ -1,4 +1,4 @@
--- What is left of the motions comes to what all of them do.
+-- The remaining motions have the same result as all of them.
 use Rattle.std.proofs.Common.{◌≡◌, ◌≤◌, None, [], length, drop}
 use Rattle.ngc_machine.specs.Machine.{file_of}
 use Rattle.ngc_checker.specs.FirstRefusal.{setting_fault}

@@ -1,4 +1,4 @@
--- The way from here on is the way from where it began.
+-- The walk from here on is the walk from where it began.
 use Rattle.std.proofs.Common.{◌≡◌, ◌+◌, List, drop}
 use Rattle.ngc_machine.specs.Machine.{file_of}
 use Rattle.ngc_commands.specs.Movement.{actions_of, motion_indices}

@@ -1,4 +1,4 @@
--- What is left of the bytes comes to what all of them do.
+-- The rest of the bytes has the same result as the whole.
 use Rattle.std.proofs.Common.{◌≡◌, ◌+◌, ◌≤◌, ◌++◌, ℕ, List, length}
 use Rattle.ngc_certificate_text.specs.LinesView.{room_of}
 use Rattle.ngc_certificate_text.specs.Parted.{PartsLines}

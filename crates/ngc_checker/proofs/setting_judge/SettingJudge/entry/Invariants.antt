@@ -1,4 +1,4 @@
--- What is left of the pieces comes to what all of them do.
+-- The remaining pieces have the same result as all of them.
 use Rattle.std.proofs.Common.{◌≡◌, ◌≤◌, ◌-◌, None, List, length, drop}
 use Rattle.ngc_machine.specs.Machine.{file_of}
 use Rattle.ngc_certificate_text.specs.Certificate.{Entry}
