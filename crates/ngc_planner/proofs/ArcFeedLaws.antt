@@ -1,4 +1,4 @@
--- Targets by the place on an arc.
+-- Targets that depend on the place on an arc.
 use Rattle.std.proofs.Common.{◌≡◌, ℕ, ℤ, ◌-ℤ◌, zero, suc, ◌+◌, ◌-◌, ◌*◌, ◌/◌, ◌≤◌, ◌<◌, ◌^◌, ◌==◌, min, max, unsigned_abs, Bool, true, false, cond, inl, inr, arith, refl, ap, sym, subst}
 use Rattle.std.specs.Prelude.{◌&&◌}
 use Rattle.std.proofs.lemmas.Bool.{cases_lt}
@@ -86,7 +86,8 @@ flat_below flat rise length h = at_most (flat * flat) flat length (omega arith) 
 
 -- ---- with a height
 
--- what a rate v up to the cap c of the plane, reduced by the share that the height takes, has of the feed
+-- the share of the feed at a rate v up to the cap c of the plane, reduced by the share that the
+-- height takes
 sloped : (hz step radius out n length f v c : ℕ) → 1 ≤ step → c * (60 * hz * step * radius) ≤ f * MILLION * out → v * length ≤ c * (n * step) →
     v * (60 * hz) * length * radius ≤ f * MILLION * n * out
 sloped hz step radius out n length f v c some plane slope =
@@ -155,7 +156,7 @@ keeps_level hz step radius n m f v rounds low =
     let bb = mul-le (v * (60 * hz) * step * n) (v * (60 * hz) * step * n) (f * MILLION * n) (f * MILLION * n) b b in
     record { along_arc = omega (arith, aa); along_line = omega (arith, bb) }
 
--- a helix has some height, and so some length
+-- a helix has a height above 0, and so a length above 0
 none_if : (n : ℕ) → (n == 0) ≡ true → n ≡ 0
 none_if n h = grind (arith, nat_tests)
 
@@ -193,7 +194,7 @@ near_height YZ p near = near.x
 far_height : (x y : ℤ) → unsigned_abs x ≤ 90000000000 → unsigned_abs y ≤ 90000000000 → distance x y ≤ 200000000000
 far_height x y low high = omega (arith, ints, low, high)
 
--- the length of a helix is above 0, and no less than its path steps
+-- the length of a helix is above 0, and at least that of its path steps
 pub length_some : (flat step n : ℕ) (a : ArcShape) → IsArc a → is_level a ≡ false → flat ≡ n * step → n ≤ STEPS_LIMIT → step ≤ 50000 →
     (1 ≤ sloped_length (n * step) (rise a)) × (flat ≤ sloped_length (n * step) (rise a))
 length_some flat step n a is helix same few small =
@@ -233,7 +234,7 @@ target_on_some a n percent p m ranges moves some =
     let more = no_less_by_place m a n percent p in
     omega (arith, least, more)
 
--- ---- the same where no place counts
+-- ---- the same if the place does not matter
 
 none_at_feed : (m : MachineFile) (a : ArcShape) (n : ℕ) (f : Feed) (p : StepPos) → is_minute_feed f ≡ false → feed_cap_at m a n f p ≡ 0
 none_at_feed m a n (PerMinute f) p h = cc

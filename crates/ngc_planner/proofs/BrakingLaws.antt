@@ -1,4 +1,4 @@
--- What braking takes: a sum that is also a closed form.
+-- The braking distance: a sum with a closed form.
 use Rattle.std.proofs.Common.{◌≡◌, ℕ, zero, suc, ◌+◌, ◌-◌, ◌*◌, ◌/◌, ◌≤◌, ◌<◌, inl, inr, refl, ap, arith}
 use Rattle.std.proofs.Math.Nat.{div-le_self, div-mul-le_self, lt-div-mul-add, mul-le-mul_left, le_of_mul-le-mul_left}
 use Rattle.std.proofs.lemmas.Bool.{cases_lt}
@@ -21,7 +21,7 @@ pub braking_none : (a : ℕ) → braking 0 a ≡ 0
 unfolding braking_terms
 braking_none a = refl
 
--- one tick, and what is left
+-- one tick, and the rest
 pub braking_step : (v a : ℕ) → 0 < v → 1 ≤ a → braking v a ≡ v + braking (v - a) a
 unfolding braking_terms
 braking_step zero a h some = absurd (omega arith)
@@ -70,7 +70,7 @@ closed_form (suc (suc j)) v a some high low =
     let both = one_tick_more j (v - a) a (braking (v - a) a) (suc j * (suc j - 1) / 2) before in
     rw (step, ticks, triangle (suc j)) (rw (← whole) at both)
 
--- the ticks that it takes, and their number
+-- the number of ticks that it takes
 pub brakes_in : (v a : ℕ) → 1 ≤ a → braking v a + a * ((v + a - 1) / a * ((v + a - 1) / a - 1) / 2) ≡ (v + a - 1) / a * v
 brakes_in v a some =
     let more = lt-div-mul-add {a = v + a - 1} {b = a} some in
@@ -82,7 +82,7 @@ few_ticks v a slow short =
     let ticks = div-le_self (v + a - 1) a in
     mul-le ((v + a - 1) / a) v 2000000 1000000 (omega arith) slow
 
--- ---- about a square: 8 a times it is no more than that of 2 v + a, and less by no more than that of a
+-- ---- near a square: 8 a times it is at most that of 2 v + a, and less by at most that of a
 
 square_further : (x e : ℕ) → 2 * (x * (x + e)) ≤ x * x + (x + e) * (x + e)
 square_further x e = omega arith

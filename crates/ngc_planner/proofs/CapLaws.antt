@@ -3,7 +3,7 @@ use Rattle.std.proofs.Common.{ℕ, ◌*◌, ◌/◌, ◌≤◌, max, arith}
 use Rattle.std.proofs.Math.Nat.{div-mul-le_self}
 use Rattle.std.proofs.lemmas.Nat.{mul-le}
 
--- what a quotient that is at least 1 times the divisor makes of rates up to it
+-- a rate up to a quotient of at least 1, times the divisor
 pub below_quotient : (x d v : ℕ) → 1 ≤ x / d → v ≤ max 1 (x / d) → v * d ≤ x
 below_quotient x d v some low =
     let less : v ≤ x / d = omega arith in

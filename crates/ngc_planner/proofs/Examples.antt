@@ -1,4 +1,4 @@
--- Caps, bounds and braking on worked motions, by computing the definitions.
+-- Caps, bounds and braking on worked motions, by evaluating the definitions.
 use Rattle.std.proofs.Common.{◌≡◌, ℕ, ℤ, pos, negsuc, Bool, true, false, [], ◌∷◌, refl}
 use Rattle.ngc_fixed_length.specs.Roots.{whole_root, whole_root_above}
 use Rattle.ngc_fixed_length.specs.declared.modes.Plane.TheVariants.{XY, ZX, YZ}
@@ -49,7 +49,7 @@ braking_high : braking 400000 1000 ≡ 80200000
 unfolding braking_terms
 braking_high = refl
 
--- 60 mm a minute over 10 mm
+-- 60 mm per minute over 10 mm
 cap_long : cap_of (feed (at (pos 10000000) (pos 0) (pos 0)) (PerMinute 60000000)) 1000 built_in_machine ≡ 10000
 unfolding whole_root_above
 cap_long = refl
@@ -70,7 +70,7 @@ cap_arc = refl
 cap_helix : cap_of (along (arc (pos 5000000) (at (pos 10000000) (pos 0) (pos 1000000))) (PerMinute 60000000)) 2000 built_in_machine ≡ 5770
 cap_helix = refl
 
--- twice a minute
+-- twice per minute
 cap_inverse : cap_of (feed (at (pos 10000000) (pos 0) (pos 0)) (Inverse 2000000)) 1000 built_in_machine ≡ 3333
 unfolding whole_root_above
 cap_inverse = refl
@@ -80,7 +80,7 @@ turn_small : turn_rate built_in_machine (ways.Arc (arc (pos 1000000) (at (pos 0)
 unfolding whole_root
 turn_small = refl
 
--- a feed motion at twice its cap at most, also behind a traverse
+-- a feed motion has at most twice its cap, also after a traverse
 bound_feed : bound_of built_in_machine (feed (at (pos 10000000) (pos 0) (pos 0)) (PerMinute 60000000)) 1000 ≡ 20000
 unfolding whole_root_above
 bound_feed = refl
@@ -89,7 +89,7 @@ target_feed : target_at built_in_machine (feed (at (pos 10000000) (pos 0) (pos 0
 unfolding whole_root_above
 target_feed = refl
 
--- no override makes more of a traverse than the greatest rate
+-- no override raises a traverse above the greatest rate
 target_traverse : target_at built_in_machine (traverse (at (pos 0) (pos 0) (pos 0)) (at (pos 1000000) (pos 0) (pos 0))) 100 200 ≡ 400000
 target_traverse = refl
 
@@ -111,11 +111,12 @@ joint_straight : joint_of built_in_machine (traverse (at (pos 0) (pos 0) (pos 0)
     (traverse (at (pos 1000000) (pos 0) (pos 0)) (at (pos 3000000) (pos 0) (pos 0))) ≡ 1000000
 joint_straight = refl
 
--- a leg of so many path steps, with a bound, and with this joint at both of its ends
+-- a leg of this length, with a bound, and with this joint at both of its ends
 abbrev leg : ℕ → ℕ → ℕ → Bool → Leg
 leg millionths bound joint joined = record { millionths = millionths; bound = bound; entry = joint; exit = joint; joined = joined }
 
--- a corner stops the rates above it, a slow leg those above its bound, and a stop ends what is known
+-- a corner limits the rates above it, a slow leg those above its bound, and a stop ends the known
+-- path
 reach_on : reach 7 (leg 2000000 400000 50000 true ∷ leg 3000000 20000 1000000 true ∷ leg 5000000 400000 1000000 false ∷ []) ≡ 5000007
 reach_on = refl
 
@@ -128,7 +129,7 @@ free_above_corner = refl
 free_slow : free 20000 7 (leg 1000000 400000 50000 false) (leg 2000000 400000 50000 true ∷ leg 3000000 20000 1000000 true ∷ []) ≡ 5000007
 free_slow = refl
 
--- from 60,000 to 50,000 within the leg, though not to 0
+-- from 60,000 to 50,000 within the leg, but not to 0
 room_at_corner : has_room 60000 1000 610000 (leg 1000000 400000 50000 false) (leg 2000000 400000 50000 true ∷ []) ≡ true
 unfolding braking_terms
 room_at_corner = refl
@@ -137,7 +138,7 @@ no_room_at_corner : has_room 60000 1000 600000 (leg 1000000 400000 50000 false) 
 unfolding braking_terms
 no_room_at_corner = refl
 
--- the way that is known ends after 1.6 path steps
+-- the known path ends after 1.6 path steps
 no_room_to_stop : has_room 60000 1000 610000 (leg 1000000 400000 50000 false) (leg 1000000 400000 50000 true ∷ []) ≡ false
 unfolding braking_terms
 no_room_to_stop = refl
@@ -174,7 +175,7 @@ abbrev joint_along : ℕ → Way × Way → ℕ
 joint_along jump two = joint_of (jumping jump) (Move (record { way = two.0; pace = paces.Rapid; stop = false }))
     (Move (record { way = two.1; pace = paces.Rapid; stop = false }))
 
--- a right angle is taken at the jump, a reversal at half of it, and no joint below the corner
+-- a right angle is passed at the jump, a reversal at half of it, and no joint is below the corner
 joint_right : joint_along 20000 (lines (at (pos 1000000) (pos 0) (pos 0)) (at (pos 0) (pos 3000000) (pos 0))) ≡ 20000
 joint_right = refl
 
@@ -188,14 +189,14 @@ joint_low = refl
 joint_degree : joint_along 10000 (lines (at (pos 1000000) (pos 0) (pos 0)) (at (pos 1000000) (pos 17455) (pos 0))) ≡ 572901
 joint_degree = refl
 
--- 45 degrees in space, and half a degree, which no rate is too fast for
+-- 45 degrees in space, and half a degree, which allows every rate
 joint_slanted : joint_along 20000 (lines (at (pos 1000000) (pos 0) (pos 0)) (at (pos 2000000) (pos 0) (negsuc 1999999))) ≡ 20000
 joint_slanted = refl
 
 joint_slight : joint_along 20000 (lines (at (pos 1000000) (pos 0) (pos 0)) (at (pos 1000000) (pos 8727) (pos 0))) ≡ 1000000
 joint_slight = refl
 
--- lines that go straight on, of lengths that share no factor
+-- lines that continue straight, with lengths that share no factor
 joint_onward : joint_along 1 (lines (at (pos 3000001) (pos 6000002) (negsuc 9000002)) (at (pos 7) (pos 14) (negsuc 20))) ≡ 1000000
 joint_onward = refl
 
@@ -206,7 +207,7 @@ bow turn centre = record { plane = XY; turn = turn; start = at (pos 0) (pos 0) (
 abbrev pub from_left : Way
 from_left = ways.Line (at (negsuc 9999999) (pos 0) (pos 0)) (at (pos 0) (pos 0) (pos 0))
 
--- a line that runs into an arc along its tangent, and one that the arc turns back
+-- a line that enters an arc along its tangent, and one from which the arc turns back
 joint_tangent : joint_along 1 (from_left, ways.Arc (bow Clockwise (negsuc 4999999))) ≡ 1000000
 joint_tangent = refl
 
@@ -223,8 +224,8 @@ joint_left = refl
 joint_left_aside : joint_along 20000 (ways.Arc (bow Counterclockwise (pos 5000000)), ways.Line (at (pos 5000000) (pos 5000000) (pos 0)) (at (pos 9000000) (pos 5000000) (pos 0))) ≡ 20000
 joint_left_aside = refl
 
--- in the plane of z and x counterclockwise is from z to x: from the x axis it goes against z; in that
--- of y and z from z against y
+-- in the plane of z and x counterclockwise is from z to x: from the x axis it leads against z; in
+-- that of y and z from z against y
 joint_zx : joint_along 1 (
   ways.Line (at (pos 5000000) (pos 0) (pos 9)) (at (pos 5000000) (pos 0) (pos 0)),
   ways.Arc (record { plane = ZX; turn = Counterclockwise; start = at (pos 5000000) (pos 0) (pos 0); end = at (pos 0) (pos 0) (negsuc 4999999); centre = record { u = pos 0; v = pos 0 } }),
@@ -251,7 +252,7 @@ joint_after_helix = refl
 joint_still : joint_along 20000 (lines (at (pos 0) (pos 0) (pos 0)) (at (pos 1000000) (pos 0) (pos 0))) ≡ 5000
 joint_still = refl
 
--- without a jump the corner alone rules, also along a tangent and at the slightest turn
+-- without a jump only the corner counts, also along a tangent and at the slightest turn
 joint_plain_tangent : joint_along 0 (from_left, ways.Arc (bow Clockwise (negsuc 4999999))) ≡ 5000
 joint_plain_tangent = refl
 
@@ -275,8 +276,8 @@ round =
 abbrev step_at : ℤ → ℤ → ℤ → StepPos
 step_at x y z = record { x = x; y = y; z = z }
 
--- 600 mm a minute are 100,000 path steps of 0.01 mm in a million ticks along an axis; where the
--- circle crosses the x axis it is so less a step of its 500
+-- 600 mm per minute are 100,000 path steps of 0.01 mm in a million ticks along an axis; where the
+-- circle crosses the x axis it is this less one of its 500 steps
 place_on_axis : target_on at_feed (along round (PerMinute 600000000)) 2828 100 (step_at (pos 500) (pos 0) (pos 0)) ≡ 99800
 unfolding whole_root whole_root_above
 place_on_axis = refl
@@ -305,7 +306,7 @@ place_outside : target_on at_feed (along round (PerMinute 600000000)) 2828 100 (
 unfolding whole_root whole_root_above
 place_outside = refl
 
--- twice a minute over 2,828 path steps
+-- twice per minute over 2,828 path steps
 place_inverse : target_on at_feed (along round (Inverse 2000000)) 2828 100 (step_at (pos 500) (pos 0) (pos 0)) ≡ 9426
 unfolding whole_root whole_root_above
 place_inverse = refl
@@ -314,8 +315,9 @@ place_inverse = refl
 abbrev screw : ℕ → ArcShape
 screw rise = record round { end = at (pos 5000000) (pos 0) (pos rise) }
 
--- 2,828 path steps of 0.01 mm are 28.28 mm; 21.21 mm high are three quarters of that, and the long
--- side is five quarters: 35.35 mm. So four fifths of the feed are left for the plane: of 99,800
+-- 2,828 path steps of 0.01 mm are 28.28 mm. The height of 21.21 mm is three quarters of that, and
+-- the long side is five quarters: 35.35 mm. So four fifths of the feed remain for the plane: of
+-- 99,800
 helix_on_axis : target_on at_feed (along (screw 21210000) (PerMinute 600000000)) 2828 100 (step_at (pos 500) (pos 0) (pos 0)) ≡ 79840
 unfolding whole_root whole_root_above
 helix_on_axis = refl
@@ -339,18 +341,18 @@ helix_overridden : target_on at_feed (along (screw 21210000) (PerMinute 60000000
 unfolding whole_root whole_root_above
 helix_overridden = refl
 
--- a helix that rises by 1 mm a turn takes 1 in 1,600 of the feed for its height: the long side is
+-- a helix that rises by 1 mm per turn takes 1 in 1,600 of the feed for its height: the long side is
 -- 28.2977 mm, and 99,800 * 28.28 / 28.2977 is 99,737.6
 helix_slight : target_on at_feed (along (screw 1000000) (PerMinute 600000000)) 2828 100 (step_at (pos 500) (pos 0) (pos 0)) ≡ 99737
 unfolding whole_root whole_root_above
 helix_slight = refl
 
--- twice a minute over 2,828 path steps
+-- twice per minute over 2,828 path steps
 helix_inverse : target_on at_feed (along (screw 21210000) (Inverse 2000000)) 2828 100 (step_at (pos 500) (pos 0) (pos 0)) ≡ 9426
 unfolding whole_root whole_root_above
 helix_inverse = refl
 
--- a plane sees two of the coordinates
+-- two of the coordinates are in the plane
 out_zx : farther_out (pos 10000) (record round { plane = ZX }) (step_at (pos 300) (pos 700) (negsuc 399)) ≡ 4000000
 out_zx = refl
 

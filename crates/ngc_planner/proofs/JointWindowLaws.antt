@@ -1,4 +1,4 @@
--- What the joint over a window is beside that of the two neighbours, and what it keeps.
+-- The joint over a window compared with that of the two neighbours, and its properties.
 use Rattle.std.proofs.Common.{◌≡◌, ◌⊎◌, inl, inr, ℕ, zero, suc, ◌+◌, ◌*◌, ◌≤◌, ◌<◌, ◌==◌, nat_le, max, cond, Bool, true, false, Option, Some, None, List, [], ◌∷◌, arith, refl}
 use Rattle.std.specs.List.{AllByRecursion}
 use Rattle.std.proofs.lemmas.List.Elements.{All-from_recursion, recursion_from_All}
@@ -25,7 +25,7 @@ slow_enough : (jump turn n v : ℕ) → MayHead jump turn n 0 v → v * n ≤ MI
 slow_enough jump turn n zero h = omega arith
 slow_enough jump turn n (suc v) h = less_times (suc v) (suc v * n) (MILLION * jump) (omega arith) (omega (arith, h))
 
--- over no way the rate is that of the jump alone
+-- over no distance the rate is that of the jump alone
 at_once : (jump turn n : ℕ) → n ≤ 2000000 → heading_rate jump turn n 0 ≤ rate_through jump n
 at_once jump turn n few =
     let v = heading_rate jump turn n 0 in
@@ -118,7 +118,7 @@ greatest_of_window m before w x d e v ends starts =
       ],
     )
 
--- ---- at one rate through the window
+-- ---- at a constant rate through the window
 
 one_axis : (jump turn n way v a : ℕ) → a ≤ n → MayHead jump turn n way v → v * (v * a) ≤ MILLION * (jump * v + turn * way)
 one_axis jump turn n way v a less may = let p = mul-le (v * v) a (v * v) n (omega arith) less in omega (arith, p, may)

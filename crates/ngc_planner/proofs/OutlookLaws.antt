@@ -1,4 +1,4 @@
--- What is kept of the motions ahead: from load to load, and as motions leave.
+-- The summary of the motions ahead: from load to load, and as motions leave.
 use Rattle.std.proofs.Common.{◌≡◌, ℕ, zero, suc, ◌+◌, ◌-◌, ◌≤◌, ◌<◌, min, List, [], ◌∷◌, ◌++◌, length, drop, cond, inl, inr, refl, sym, ap, ap₂, ◌∙◌, arith, get_or}
 use Rattle.std.proofs.lemmas.Bool.{cases_Bool, cases_lt}
 use Rattle.std.proofs.lemmas.List.{drop_all}
@@ -35,7 +35,7 @@ one_more a e [] x = sym (none_followed (with_leg a e x none) (omega arith) (omeg
 one_more a e (l ∷ ls) x =
     ap (with_leg a e l) (one_more a l.exit ls x) ∙ leg_followed a e l (allowed a l.exit ls) (with_leg a (exit_after l.exit ls) x none)
 
--- ---- what is kept
+-- ---- the summary
 
 seen : (a e : ℕ) (ls : List Leg) (near : Allowance) (later : List Allowance) (far : Allowance) → Foresees a e ls near later far →
     followed near far ≡ allowed a e ls
@@ -122,7 +122,7 @@ all_nearer a i legs near later low high is h = elim (cases_lt i 2) [
   nothing : (near : Allowance) (later : List Allowance) → length legs ≤ 2 → Foresees a (exit_at (i - 1) legs) [] near later none → IsOutlook a legs near later none
   nothing near later few h = rw (drop_all 2 legs few) (no_legs a (exit_at (i - 1) legs) (exit_at 1 legs) near later none h)
 
--- ---- how far beyond the second leg the way to brake may end
+-- ---- how far beyond the second leg the braking distance may end
 
 beyond_is : (a e : ℕ) (ls : List Leg) → min GREATEST (beyond a e ls) ≡ min (allowed a e ls).least (allowed a e ls).length
 beyond_is a e [] = omega arith

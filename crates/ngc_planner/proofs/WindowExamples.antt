@@ -1,4 +1,4 @@
--- Joints over a window, by computing the definitions.
+-- Joints over a window, by evaluating the definitions.
 use Rattle.std.proofs.Common.{◌≡◌, ℕ, zero, suc, ◌+◌, pos, Bool, true, false, List, [], ◌∷◌, refl}
 use Rattle.ngc_fixed_length.specs.Roots.{whole_root}
 use Rattle.ngc_fixed_length.specs.declared.modes.Turn.TheVariants.{Counterclockwise}
@@ -25,7 +25,7 @@ straight start end = command (ways.Line start end) false
 abbrev stopping : Point3 → Point3 → Command
 stopping start end = command (ways.Line start end) true
 
--- along x, and then along y, back, or on
+-- along x, and then along y, back, or straight on
 window_right : joint_at (turning 100000000) (straight (at (pos 0) (pos 0) (pos 0)) (at (pos 1000000) (pos 0) (pos 0))
     ∷ straight (at (pos 1000000) (pos 0) (pos 0)) (at (pos 1000000) (pos 1000000) (pos 0)) ∷ []) 0 ≡ 20000
 unfolding whole_root
@@ -41,7 +41,7 @@ window_onward : joint_at (turning 100000000) (straight (at (pos 0) (pos 0) (pos 
 unfolding whole_root
 window_onward = refl
 
--- the last command has no joint behind it, nor has one that is no motion
+-- the last command has no joint after it, and an action that is no motion has none
 window_last : joint_at (turning 100000000) (straight (at (pos 0) (pos 0) (pos 0)) (at (pos 1000000) (pos 0) (pos 0)) ∷ []) 0 ≡ 1000000
 unfolding whole_root
 window_last = refl
@@ -51,8 +51,9 @@ window_dwell : joint_at (turning 100000000) (straight (at (pos 0) (pos 0) (pos 0
 unfolding whole_root
 window_dwell = refl
 
--- eight chords of ten steps each, of which each turns by a tenth: from the first to the last heading
--- there are eight tenths over seventy steps, and 106872^2 * 800000 ≤ 10^6 * (20000 * 106872 + 10^8 * 70)
+-- eight chords of ten steps each, each of which turns by a tenth. From the first to the last
+-- heading there are eight tenths over seventy steps, and 106872^2 * 800000 ≤ 10^6 * (20000 * 106872
+-- + 10^8 * 70)
 abbrev chords : Command → List Command
 chords fifth =
     straight (at (pos 0) (pos 0) (pos 0)) (at (pos 100000) (pos 0) (pos 0))
@@ -70,7 +71,7 @@ window_chords : joint_at (turning 100000000) (chords (straight (at (pos 400000) 
 unfolding whole_root
 window_chords = refl
 
--- the first two alone, where the jump counts, and the first three, with two tenths over ten steps
+-- only the first two, where the jump counts, and the first three, with two tenths over ten steps
 window_first : joint_at (turning 100000000) (chords (straight (at (pos 400000) (pos 60000) (pos 0)) (at (pos 500000) (pos 100000) (pos 0)))) 0 ≡ 200000
 unfolding whole_root
 window_first = refl
@@ -79,12 +80,12 @@ window_second : joint_at (turning 100000000) (chords (straight (at (pos 400000) 
 unfolding whole_root
 window_second = refl
 
--- a stop at the end of the fifth ends the window: three tenths over twenty steps are left
+-- a stop at the end of the fifth ends the window: three tenths over twenty steps remain
 window_stop : joint_at (turning 100000000) (chords (stopping (at (pos 400000) (pos 60000) (pos 0)) (at (pos 500000) (pos 100000) (pos 0)))) 7 ≡ 121525
 unfolding whole_root
 window_stop = refl
 
--- so does a dwell in its place, and a motion without path steps
+-- a dwell in its place does so too, and a motion without path steps
 window_pause : joint_at (turning 100000000) (chords (record { line = 1; action = Dwell 1000000 })) 7 ≡ 121525
 unfolding whole_root
 window_pause = refl
@@ -93,22 +94,22 @@ window_still : joint_at (turning 100000000) (chords (straight (at (pos 500000) (
 unfolding whole_root
 window_still = refl
 
--- behind a right angle ten steps ago the way goes straight on: a million millionths over ten steps
+-- ten steps after a right angle the path continues straight: a million millionths over ten steps
 window_corner : joint_at (turning 1000000000) (straight (at (pos 0) (pos 0) (pos 0)) (at (pos 1000000) (pos 0) (pos 0))
     ∷ straight (at (pos 1000000) (pos 0) (pos 0)) (at (pos 1000000) (pos 100000) (pos 0))
     ∷ straight (at (pos 1000000) (pos 100000) (pos 0)) (at (pos 1000000) (pos 2000000) (pos 0)) ∷ []) 1 ≡ 110498
 unfolding whole_root
 window_corner = refl
 
--- nothing in front of an arc counts: it ends along y, as the lines behind it go on
+-- nothing before an arc counts: it ends along y, and the lines after it continue along y
 window_arc : joint_at (turning 100000000) (command from_left false ∷ command (ways.Arc (bow Counterclockwise (pos 5000000))) false
     ∷ straight (at (pos 5000000) (pos 5000000) (pos 0)) (at (pos 5000000) (pos 5100000) (pos 0))
     ∷ straight (at (pos 5000000) (pos 5100000) (pos 0)) (at (pos 5000000) (pos 9000000) (pos 0)) ∷ []) 2 ≡ 1000000
 unfolding whole_root
 window_arc = refl
 
--- a line along x, and then steps along y: the window of 32 motions still takes in the line, and
--- that behind it doesn't
+-- a line along x, and then steps along y: the window of 32 motions still includes the line, and the
+-- next one does not
 abbrev upward : ℕ → ℕ → List Command
 upward zero y = []
 upward (suc n) y = straight (at (pos 1000000) (pos y) (pos 0)) (at (pos 1000000) (pos (y + 10000)) (pos 0)) ∷ upward n (y + 10000)

@@ -1,4 +1,4 @@
--- What a window allows: the greatest rate, and when no heading behind lowers it.
+-- The rates that a window allows: the greatest one, and when no earlier heading lowers it.
 use Rattle.std.proofs.Common.{◌≡◌, inl, inr, ℕ, zero, suc, ◌+◌, ◌-◌, ◌*◌, ◌^◌, ◌≤◌, ◌<◌, ◌↔◌, ◌==◌, nat_le, min, cond, ℤ, pos, ◌*ℤ◌, unsigned_abs, Bool, true, false, Option, Some, None, List, [], ◌∷◌, reverse, length, arith, refl, sym, subst, ap, ◌∙◌}
 use Rattle.std.proofs.lemmas.Bool.Decides.{nat_tests}
 use Rattle.std.proofs.lemmas.Bool.{cases_lt}
@@ -29,7 +29,7 @@ use Rattle.ngc_planner.specs.Joints.{MayHead, may_head, greatest_root, heading_r
 squares : (a b : ℕ) → a ≤ b → a * a ≤ b * b
 squares a b h = mul-le a a b b h h
 
--- 4n times v*v*n ≤ j*v + t, where x is what 2nv has beyond j
+-- 4n times v*v*n ≤ j*v + t, where x is 2nv less j
 completed : (n j t v x : ℕ) → 2 * n * v ≡ j + x → x * x ≤ j * j + 4 * n * t → n * (v * v * n) ≤ n * (j * v + t)
 completed n j t v x e h =
     let square = ap (λ z. z * z) e in
@@ -60,7 +60,7 @@ uncompleted n j t v x e h =
 pub less_times : (g a b : ℕ) → 0 < g → g * a ≤ g * b → a ≤ b
 less_times g a b some h = grind arith
 
--- where 2nv is at most j
+-- if 2nv is at most j
 below_half : (n j t v : ℕ) → 2 * n * v ≤ j → v * v * n ≤ j * v + t
 below_half n j t v h = let p = mul-le v (2 * n * v) v j (omega arith) h in omega (arith, p)
 
@@ -102,7 +102,7 @@ root_law n j t v some small =
 
 -- ---- the greatest rate
 
--- where a million may not, the root is within 128 bits
+-- if a million is not allowed, the root is within 128 bits
 root_bits : (n j t : ℕ) → n ≤ 2000000 → MILLION * j + t < MILLION * MILLION * n → j * j + 4 * n * t < 4 ^ 64
 root_bits n j t few over =
     let jump : j ≤ MILLION * n = omega (arith, over) in
@@ -115,7 +115,7 @@ root_bits n j t few over =
 scaled : (jump turn way v : ℕ) → MILLION * (jump * v + turn * way) ≡ (MILLION * jump) * v + MILLION * (turn * way)
 scaled jump turn way v = omega arith
 
--- the rates that may reach from 0 up
+-- the allowed rates extend from 0 up
 lower_by : (slow : Bool) (jump turn n way v w : ℕ) → slow ≡ nat_le (v * n) (MILLION * jump) → v ≤ w → MayHead jump turn n way w → MayHead jump turn n way v
 lower_by true jump turn n way v w test less h =
     let slow : v * n ≤ MILLION * jump = grind (arith, nat_tests) in
@@ -131,7 +131,7 @@ lower_by false jump turn n way v w test less h =
     let rest = mul-le v x w x less (omega arith) in
     omega (arith, here, there, rest, h)
 
--- what a rate may, each rate below may
+-- each rate below an allowed one is allowed
 lower : (jump turn n way v w : ℕ) → v ≤ w → MayHead jump turn n way w → MayHead jump turn n way v
 lower jump turn n way v w less h = lower_by (nat_le (v * n) (MILLION * jump)) jump turn n way v w refl less h
 
@@ -157,7 +157,7 @@ rate_by false jump turn n way v test few =
       λ h. law.1 (omega (arith, h.1)),
     )
 
--- the greatest rate is the greatest up to a million that may
+-- the greatest rate is the greatest allowed one up to a million
 pub rate_law : (jump turn n way v : ℕ) → n ≤ 2000000 → (v ≤ heading_rate jump turn n way) ↔ ((v ≤ MILLION) × MayHead jump turn n way v)
 rate_law jump turn n way v few = rate_by (may_head jump turn n way MILLION) jump turn n way v refl few
 
@@ -237,7 +237,7 @@ pub passing_is : (m : MachineFile) (a : Action) (d : Point3) → passing_heading
 passing_is m (Move k) d h = passing_by (k.stop || is_still m k.way) (end_vector k.way) d h
 passing_is m _ d h = cc
 
--- ---- where two headings that are opposite may follow, any two may
+-- ---- if two opposite headings may follow each other, any two may
 
 may_any : (jump turn n way w v : ℕ) → n ≤ 2000000 → way ≤ w → MayHead jump turn 2000000 way v → MayHead jump turn n w v
 may_any jump turn n way w v few more h =
@@ -265,7 +265,7 @@ free_on m e v way (c ∷ cs) next small may =
     free_with (passing_heading m c.action) (goes_straight c.action) m e v way (passed_on m on cs) (λ d h. passing_is m c.action d h) next small may
     (free_on m e v on cs next small (may_any m.jump m.turn 2000000 way on v (omega arith) (omega arith) may))
 
--- nothing that is passed on the rest lowers the rate
+-- no heading that is passed on the rest lowers the rate
 pub ends_free : (m : MachineFile) (e : Point3) (v way : ℕ) (cs : List Command) → IsHeading e → v ≤ MILLION → may_head m.jump m.turn 2000000 way v ≡ true →
     v ≡ min v (rate_from_all m e (passed_on m way cs))
 ends_free m e v way cs next small may =
@@ -290,7 +290,7 @@ line_window m e d w cs rate r steps passed next line length first all =
     ap (λ b. rate_from_all m e (cond b (passed_on m (line_steps m w) cs) [])) line ∙ ap (λ n. rate_from_all m e (passed_on m n cs)) (sym length) in
     least_of_both r rate h (rate_from_all m e (passed_on m steps cs)) _ all first most behind
 
--- ---- the walk back: from the rate v, where the last of cs ended so many path steps ago, to the rate
+-- ---- the walk back: from the rate v, where the last of cs ended way path steps ago, to the rate
 -- r, where that of ds did
 
 pub record IsAsFar (m : MachineFile) (e : Point3) (v way : ℕ) (cs : List Command) (r on : ℕ) (ds : List Command) : Type 0 where

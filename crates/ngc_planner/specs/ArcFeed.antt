@@ -1,5 +1,5 @@
--- Arcs at their feed: a target that depends on the place. Our own; what F means is NISTIR 6556,
--- 2.1.2.5.
+-- Arcs at their feed: a target that depends on the place. Our own; the meaning of F is that of
+-- NISTIR 6556, 2.1.2.5.
 use Rattle.std.specs.Prelude.{◌≡◌, ℕ, ◌+◌, ◌-◌, ◌*◌, ◌/◌, ◌≤◌, min, max, ℤ, unsigned_abs, Bool, true}
 use Rattle.std.specs.Prelude.{false, ◌&&◌, if◌then◌else◌}
 use Rattle.ngc_fixed_length.specs.Grid.{distance}
@@ -24,29 +24,30 @@ use Rattle.ngc_planner.specs.Bounds.{aimed_at, target_at}
 use Rattle.ngc_planner.specs.Caps.{STEPS_LIMIT, square, cap_of}
 use Rattle.ngc_planner.specs.Headings.{is_level}
 
--- how far out a grid point is from an arc's centre, along the axis of the plane on which that is
--- more
+-- the distance of a grid point from an arc's centre, along the axis of the plane on which it is
+-- greater
 abbrev pub farther_out : ℤ → ArcShape → StepPos → ℕ
 farther_out step a p =
     max (distance a.centre.u (seen step a p).u) (distance a.centre.v (seen step a p).v)
 
--- The cap at a place m nanometres out, at f nanometres a minute. Where a circle is m out along one
--- axis, the tool goes m nanometres along the other for each `radius` of the circle, and each step
--- along that axis is a path step. A grid point may lie a step farther out than the arc, so a step
--- is taken off; and no place counts as farther out than the radius.
+-- The cap at a place m nanometres from the centre, at f nanometres per minute. At a point of a
+-- circle that is m from the centre along one axis, the tool moves m nanometres along the other axis
+-- for each `radius` of the circle, and each step along that axis is a path step. A grid point may
+-- be a step farther out than the arc, so one step is subtracted. No place counts as farther out
+-- than the radius.
 abbrev pub place_cap : ℕ → ℕ → ℕ → ℕ → ℕ → ℕ
 place_cap hz step radius m f = f * MILLION * min (m - step) radius / (60 * hz * step * radius)
 
--- how much an arc's ends differ in height, in nanometres
+-- the difference in height of an arc's ends, in nanometres
 abbrev pub rise : ArcShape → ℕ
 rise a = distance (height a.plane a.start) (height a.plane a.end)
 
--- the length of a line that goes so far in the plane and rises so much, rounded up
+-- the length of a line with this length in the plane and this rise, rounded up
 abbrev pub sloped_length : ℕ → ℕ → ℕ
 sloped_length flat rise = whole_root_above (square flat + square rise)
 
--- The length of a line that goes as many steps along an axis as a helix has path steps, n, and rises
--- as much; 0 for any other motion
+-- The length of a line that goes as many steps along an axis as a helix has path steps, n, and
+-- rises as much; 0 for any other motion
 abbrev pub length_along : ℤ → Way → ℕ → ℕ
 length_along step (Line b e) n = 0
 length_along step (Arc a) n =
@@ -56,13 +57,13 @@ abbrev pub helix_length : ℤ → Action → ℕ → ℕ
 helix_length step (Move motion) n = length_along step motion.way n
 helix_length step _ n = 0
 
--- The cap on a helix. Its height is spread evenly over its path steps, and no path step is shorter
--- in the plane than a step. So the share of the feed that is left for the plane is no less than
+-- The cap on a helix. Its height is distributed evenly over its path steps, and no path step is
+-- shorter in the plane than a step. So the remaining share of the feed for the plane is at least
 -- that of a line that goes all path steps along an axis and rises as much.
 abbrev pub sloped_cap : ℕ → ℕ → ℕ → ℕ
 sloped_cap flat length cap = cap * flat / length
 
--- the cap at a place of an arc of n path steps, at a feed a minute; else there is none
+-- the cap at a place of an arc of n path steps, at a feed per minute; otherwise there is none
 abbrev pub feed_cap_at : MachineFile → ArcShape → ℕ → Feed → StepPos → ℕ
 feed_cap_at m a n (PerMinute f) p =
     let cap = place_cap m.ticks_per_second (unsigned_abs m.step) (outer_radius a)
@@ -79,13 +80,13 @@ abbrev pub way_cap_at : MachineFile → Way → ℕ → Pace → StepPos → ℕ
 way_cap_at m (Line b e) n pace p = 0
 way_cap_at m (Arc a) n pace p = arc_cap_at m a n pace p
 
--- where the machine has arcs at their feed
+-- if the machine runs arcs at their feed
 abbrev pub cap_at : MachineFile → Action → ℕ → StepPos → ℕ
 cap_at m (Move motion) n p = if m.arc_feed then way_cap_at m motion.way n motion.pace p else 0
 cap_at m _ n p = 0
 
--- the rate that a tick of a motion of n path steps is to reach at a place: by the greater of its
--- two caps, so that no place asks for less than `target_at`
+-- the target rate of a tick of a motion of n path steps at a place: from the greater of its two
+-- caps, so that no place has less than `target_at`
 abbrev pub target_on : MachineFile → Action → ℕ → ℕ → StepPos → ℕ
 target_on machine action n percent p =
     aimed_at machine action (max (cap_of action n machine) (cap_at machine action n p)) percent
@@ -109,10 +110,10 @@ is_by_place m (Move motion) =
     m.arc_feed && (is_arc motion.way && has_minute_feed motion.pace)
 is_by_place m _ = false
 
--- ---- what holds of every place
+-- ---- properties of every place
 
--- no rate up to the cap makes more of the arc than f nanometres a minute, and none more path steps
--- than a line along an axis has at that feed
+-- a rate up to the cap covers no more of the arc than f nanometres per minute, and no more path
+-- steps than a line along an axis at that feed
 pub record KeepsArcFeed (hz step radius m f v : ℕ) : Type 0 where
   pub along_arc : v * (60 * hz * step * radius) ≤ f * MILLION * (m - step)
   pub along_axis : v * (60 * hz * step * radius) ≤ f * MILLION * radius
@@ -122,9 +123,10 @@ PlacesKeepFeed =
     (hz step radius m f v : ℕ) → v ≤ place_cap hz step radius m f →
     KeepsArcFeed hz step radius m f v
 
--- The same of each arc, with its height. At m nanometres out a path step is step * radius / m long
--- in the plane, or less, and it rises by an nth of the height; and a line of n path steps along an
--- axis rises as much. The squares of these lengths make that of the way that a rate goes a minute.
+-- The same for each arc with its height. At m nanometres from the centre a path step is at most
+-- step * radius / m long in the plane, and it rises by an nth of the height; a line of n path steps
+-- along an axis rises as much. The squares of these lengths give that of the distance that a rate
+-- covers per minute.
 pub record KeepsSlopedFeed (hz step radius n rise m f v : ℕ) : Type 0 where
   pub along_arc :
       square (v * (60 * hz)) * (square (n * step * radius) + square (rise * (m - step)))
@@ -140,13 +142,13 @@ ArcsKeepFeed =
     KeepsSlopedFeed machine.ticks_per_second (unsigned_abs machine.step) (outer_radius a) n
     (rise a) (farther_out machine.step a p) f v
 
--- no place asks for less than the target without it
+-- the target at a place is at least the target without a place
 abbrev pub IsNoLessByPlace : Type 0
 IsNoLessByPlace =
     (machine : MachineFile) (action : Action) (n percent : ℕ) (p : StepPos) →
     target_at machine action n percent ≤ target_on machine action n percent p
 
--- and for the same, unless the machine and the motion are of that kind
+-- and it is the same, unless the machine and the motion are of that kind
 abbrev pub IsSameElsewhere : Type 0
 IsSameElsewhere =
     (machine : MachineFile) (action : Action) (n percent : ℕ) (p : StepPos) →

@@ -1,4 +1,4 @@
--- Which axes a motion may move, and how fast these may go. Our own.
+-- The axes that a motion may move, and their greatest rates. Our own.
 use Rattle.std.specs.Prelude.{ℕ, ◌≤◌, min, ℤ, Bool, true, nat_lt, IsTrue, if◌then◌else◌}
 use Rattle.ngc_fixed_length.specs.Grid.{grid, distance}
 use Rattle.ngc_fixed_length.specs.declared.modes.Plane.{Plane}
@@ -28,12 +28,12 @@ with_plane XY axes = record { x = true; y = true; z = axes.z }
 with_plane ZX axes = record { x = true; y = axes.y; z = true }
 with_plane YZ axes = record { x = axes.x; y = true; z = true }
 
--- a line moves the axes on which the grid points of its ends differ, an arc those of its plane too
+-- a line moves the axes on which the grid points of its ends differ, an arc also those of its plane
 abbrev pub axes_of : ℤ → Way → Axes
 axes_of step (Line b e) = differing (grid step b) (grid step e)
 axes_of step (Arc a) = with_plane a.plane (differing (grid step a.start) (grid step a.end))
 
--- a rate that each axis which may move allows
+-- a rate that each axis that may move allows
 pub record IsWithinAxes (rates : AxisRates) (axes : Axes) (v : ℕ) : Type 0 where
   pub x : IsTrue axes.x → v ≤ rates.x
   pub y : IsTrue axes.y → v ≤ rates.y

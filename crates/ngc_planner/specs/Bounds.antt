@@ -1,4 +1,4 @@
--- Which rates a tick may have on a motion, and which one it is to reach. Our own.
+-- The allowed rates of a tick on a motion, and its target rate. Our own.
 use Rattle.std.specs.Prelude.{◌≡◌, ℕ, ◌*◌, ◌/◌, ◌≤◌, ◌↔◌, min, max, ◌==◌, unsigned_abs}
 use Rattle.std.specs.Prelude.{List, if◌then◌else◌}
 use Rattle.ngc_fixed_length.specs.Roots.{whole_root}
@@ -58,21 +58,21 @@ bound_of machine action n = min (min (greatest_rate machine action) (2 * cap_of 
 abbrev pub overridden : ℕ → ℕ → ℕ
 overridden cap percent = if percent == 0 then 0 else max 1 (cap * percent / 100)
 
--- the rate that a tick of a motion is to reach, by a cap
+-- the target rate of a tick of a motion, from a cap
 abbrev pub aimed_at : MachineFile → Action → ℕ → ℕ → ℕ
 aimed_at machine action cap percent =
     min (min (overridden cap percent) (greatest_rate machine action)) (turn_bound machine action)
 
--- by the cap of a motion of n path steps
+-- from the cap of a motion of n path steps
 abbrev pub target_at : MachineFile → Action → ℕ → ℕ → ℕ
 target_at machine action n percent = aimed_at machine action (cap_of action n machine) percent
 
--- the rate that a motion of n path steps has in each of its ticks at least, if its end allows it
+-- the least rate of each tick of a motion of n path steps, if its end allows it
 abbrev pub least_travel : MachineFile → Action → ℕ → ℕ
 least_travel machine action n =
     min (min machine.change machine.corner) (target_at machine action n 1)
 
--- ---- what holds of every machine and action
+-- ---- properties of every machine and action
 
 abbrev pub IsMotion : Action → Type 0
 IsMotion action = (m : Motion) × (action ≡ Move m)
@@ -83,8 +83,8 @@ IsGreatestBound =
     (machine : MachineFile) (action : Action) (n v : ℕ) → IsMachine machine →
     (v ≤ bound_of machine action n) ↔ IsWithinBounds machine action n v
 
--- at least that much is aimed at under every override, and allowed by every bound, wherever among
--- commands the motion is
+-- this rate is at most the target under every override, and every bound, wherever the motion is
+-- among commands
 pub record IsLeastTravel (machine : MachineFile) (action : Action) (commands : List Command)
     (k n percent : ℕ) : Type 0 where
   pub some : 1 ≤ least_travel machine action n

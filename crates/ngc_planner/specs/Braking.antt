@@ -1,4 +1,4 @@
--- How far a rate goes on when it falls by the change at each tick. Our own.
+-- The braking distance of a rate that falls by the change at each tick. Our own.
 use Rattle.std.specs.Prelude.{ℕ, zero, suc, ◌+◌, ◌-◌}
 
 -- v + (v - a) + (v - 2 a) + .., while above 0, of at most n terms

@@ -1,10 +1,10 @@
--- Motions as a ramp sees them. Our own.
+-- Motions in the ramp's units. Our own.
 use Rattle.std.specs.Prelude.{◌≡◌, ℕ, ◌+◌, ◌-◌, ◌*◌, ◌/◌, ◌≤◌, min, ◌==◌, nat_lt, Bool}
 use Rattle.std.specs.Prelude.{if◌then◌else◌}
 use Rattle.ngc_planner.specs.declared.leg.Leg.{Leg}
 use Rattle.ngc_fixed_length.specs.Limits.{MILLION}
 
--- of whole path steps, at least one, and with bounds of at least 1
+-- a whole number of path steps, at least one, with bounds of at least 1
 pub record IsLeg (l : Leg) : Type 0 where
   pub whole : (l.millionths / MILLION) * MILLION ≡ l.millionths
   pub some : MILLION ≤ l.millionths
@@ -13,14 +13,14 @@ pub record IsLeg (l : Leg) : Type 0 where
   pub entry : 1 ≤ l.entry
   pub exit : 1 ≤ l.exit
 
--- the first tick on a leg is bound by its entry too
+-- the first tick on a leg is also bound by its entry
 abbrev pub tick_bound : Leg → ℕ → ℕ
 tick_bound l rest = if rest == l.millionths then min l.bound l.entry else l.bound
 
 abbrev pub travelled : Leg → ℕ → ℕ
 travelled l rest = l.millionths - rest
 
--- whether v millionths more, with so much left before, reach the end of a path step
+-- whether the next v millionths, with rest remaining, reach the end of a path step
 abbrev pub is_due : Leg → ℕ → ℕ → Bool
 is_due l rest v =
     nat_lt (travelled l rest / MILLION) (min (travelled l rest + v) l.millionths / MILLION)

@@ -1,4 +1,4 @@
--- Where a ramp keeps its motions. Our own.
+-- The storage of a ramp's motions. Our own.
 use Rattle.ngc_planner.specs.declared.legs.Store.{Store}
 use Rattle.ngc_planner.specs.declared.legs.Store.TheVariants.{Few, Many}
 use Rattle.ngc_planner.specs.Queue.{Waiting}

@@ -1,11 +1,11 @@
--- The rules of pulses: how many there are in a window of ticks. Our own.
+-- The rules of pulses: the number of pulses in a window of ticks. Our own.
 use Rattle.std.specs.Prelude.{ℕ, ◌+◌, ◌-◌, ◌*◌, ◌/◌, ◌≤◌, min, ℤ, unsigned_abs, List, length, take}
 use Rattle.std.specs.Prelude.{drop, count_by, Bool, nat_lt, ◌||◌}
 use Rattle.ngc_fixed_length.specs.declared.points.StepPos.{StepPos}
 use Rattle.ngc_machine.specs.Machine.{MachineFile}
 use Rattle.ngc_fixed_length.specs.Limits.{MILLION}
 
--- by how much each axis goes in a tick: -1, 0 or 1
+-- the movement of each axis in a tick: -1, 0 or 1
 abbrev pub Pulse : Type 0
 Pulse = StepPos
 
@@ -15,7 +15,7 @@ is_stepping d = nat_lt 0 (unsigned_abs d)
 abbrev pub is_path_step : Pulse → Bool
 is_path_step p = is_stepping p.x || (is_stepping p.y || is_stepping p.z)
 
--- how many of the n ticks from tick i on pass a test
+-- the number of the n ticks from tick i on that pass a test
 abbrev pub count_in : (Pulse → Bool) → ℕ → ℕ → List Pulse → ℕ
 count_in test i n ticks = count_by test (take n (drop i ticks))
 
@@ -33,7 +33,7 @@ pub record KeepsPulseRules (machine : MachineFile) (ticks : List Pulse) : Type 0
   pub z : (i n : ℕ) → i + n ≤ length ticks →
       count_in (λ p. is_stepping p.z) i n ticks
       ≤ up_to_whole (n * min machine.max_rate machine.axis_rates.z)
-  -- two windows of n ticks, one after the other
+  -- two windows of n ticks, one directly after the other
   pub faster : (i n : ℕ) → i + n + n ≤ length ticks →
       count_in is_path_step (i + n) n ticks ≤ count_in is_path_step i n ticks
       + up_to_whole (n * n * machine.change) + 1

@@ -1,4 +1,4 @@
--- Motions in memory that is taken once. Our own.
+-- Motions in memory that is allocated once. Our own.
 use Rattle.std.specs.Prelude.{ℕ, ◌+◌, ◌-◌, ◌≤◌, List, length, drop, reverse, vec_capacity}
 use Rattle.std.specs.List.{All}
 use Rattle.ngc_fixed_length.specs.Limits.{MILLION}
@@ -7,13 +7,13 @@ use Rattle.ngc_planner.specs.declared.outlook.Outlook.{Outlook}
 use Rattle.ngc_planner.specs.Leg.{IsLeg}
 use Rattle.ngc_planner.specs.Outlook.{IsOutlook}
 
--- the motions, the first one first, how many there may be, and the change of the ramp
+-- the motions, in order, the greatest number of them, and the change of the ramp
 pub record Waiting : Type 0 where
   pub legs : List Leg
   pub room : ℕ
   pub change : ℕ
 
--- those before the first are done; there is memory for twice as many as there may be
+-- those before the first are done; there is memory for twice the greatest number
 pub record IsQueue {A : Type 0} (change first room : ℕ) (slots : List Leg) (capacity : ℕ)
     (outlook : Outlook A) : Type 0 where
   pub change_least : 1 ≤ change

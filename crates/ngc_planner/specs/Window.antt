@@ -1,4 +1,4 @@
--- The headings that were passed on the way to a joint. Our own.
+-- The headings that were passed before a joint. Our own.
 use Rattle.std.specs.Prelude.{ℕ, ◌+◌, ◌-◌, ◌==◌, Option, Some, None, Bool, true, false, ◌&&◌, ◌||◌, List, [], ◌∷◌}
 use Rattle.std.specs.Prelude.{take, drop, reverse, if◌then◌else◌}
 use Rattle.ngc_fixed_length.specs.Grid.{grid, greatest_distance}
@@ -11,21 +11,21 @@ use Rattle.ngc_commands.specs.declared.movement.Way.{Way}
 use Rattle.ngc_commands.specs.declared.movement.Way.TheVariants.{Line, Arc}
 use Rattle.ngc_planner.specs.Headings.{end_heading}
 
--- how many motions a window takes in at most
+-- the greatest number of motions in a window
 abbrev pub WINDOW : ℕ
 WINDOW = 32
 
--- a heading that was passed, and how many path steps ago
+-- a heading that was passed, and the number of path steps since
 pub record Passed : Type 0 where
   pub heading : Point3
   pub way : ℕ
 
--- the path steps of a line; those of an arc aren't counted
+-- the path steps of a line; those of an arc are not counted
 abbrev pub line_steps : MachineFile → Way → ℕ
 line_steps machine (Line b e) = greatest_distance (grid machine.step b) (grid machine.step e)
 line_steps machine (Arc a) = 0
 
--- behind an arc a window ends
+-- a window ends at an arc
 abbrev pub is_line : Way → Bool
 is_line (Line b e) = true
 is_line (Arc a) = false
@@ -34,7 +34,8 @@ is_line (Arc a) = false
 abbrev pub is_still : MachineFile → Way → Bool
 is_still machine w = is_line w && line_steps machine w == 0
 
--- the heading at the end of a motion that passes it: one that has path steps and isn't to stop there
+-- the heading at the end of a motion that passes it: a motion with path steps that does not stop
+-- there
 abbrev pub passing_heading : MachineFile → Action → Option Point3
 passing_heading machine (Move m) =
     if m.stop || is_still machine m.way then None else end_heading m.way
@@ -52,7 +53,7 @@ abbrev pub passed_with : Option Point3 → ℕ → List Passed → List Passed
 passed_with (Some d) way behind = record { heading = d; way = way } ∷ behind
 passed_with None way behind = []
 
--- what was passed on commands, nearest first, of which the first ended so many path steps ago
+-- the headings that were passed on commands, nearest first; the first one ended way path steps ago
 abbrev pub passed_on : MachineFile → ℕ → List Command → List Passed
 passed_on machine way [] = []
 passed_on machine way (c ∷ cs) =
@@ -60,12 +61,12 @@ passed_on machine way (c ∷ cs) =
     (if goes_straight c.action then passed_on machine (way + steps_of machine c.action) cs
     else [])
 
--- the window of a joint at the end of a way with heading d, behind these commands, nearest first
+-- the window of a joint at the end of a path with heading d, after these commands, nearest first
 abbrev pub window : MachineFile → Point3 → Way → List Command → List Passed
 window machine d w earlier =
     record { heading = d; way = 0 }
     ∷ (if is_line w then passed_on machine (line_steps machine w) earlier else [])
 
--- the commands in front of command k that its window may take in, nearest first
+-- the commands before command k that its window may include, nearest first
 abbrev pub earlier : List Command → ℕ → List Command
 earlier commands k = reverse (drop (k - (WINDOW - 1)) (take k commands))

@@ -21,7 +21,7 @@ use ngc_fixed_length::{Nm, Plane, StepPos, nanometres_at, root_ceil};
 use ngc_machine::Machine;
 use std::alloc::Allocator;
 
-/// How far a number of steps is from a coordinate, in nanometres.
+/// Returns the distance from a coordinate to a number of steps, in nanometres.
 fn distance(coordinate: Nm, steps: i32, step: Nm) -> u64
     requires { IsStep step }
     ensures value { result ≡ distance coordinate (steps *ℤ step) }
@@ -29,8 +29,8 @@ fn distance(coordinate: Nm, steps: i32, step: Nm) -> u64
     nanometres_at(step, steps).abs_diff(coordinate.nanometres())
 }
 
-/// How far out a grid point is from an arc's centre, along the axis of the plane on which that is
-/// more, in nanometres.
+/// Returns the distance of a grid point from an arc's centre, along the axis of the plane on which
+/// it is greater, in nanometres.
 fn farther_out(step: Nm, arc: &Arc, position: &StepPos) -> u64
     requires { IsStep step }
     ensures value { result ≡ farther_out step arc.now position.now }
@@ -45,8 +45,8 @@ fn farther_out(step: Nm, arc: &Arc, position: &StepPos) -> u64
     distance(centre.u, u, step).max(distance(centre.v, v, step))
 }
 
-/// The cap at a place so many nanometres farther out on an arc of a radius, at a feed in nanometres
-/// a minute.
+/// Returns the cap at a place of an arc of a radius, at a feed in nanometres per minute. The place
+/// is `farther_out` nanometres from the centre along one axis.
 fn place_cap(ticks_per_second: u32, step: u64, radius: u64, farther_out: u64, feed: u64) -> u128
     requires ticks { 1 ≤ ticks_per_second }
     requires step_least { 1 ≤ step }
@@ -61,7 +61,7 @@ fn place_cap(ticks_per_second: u32, step: u64, radius: u64, farther_out: u64, fe
         / (60 * u128::from(ticks_per_second) * u128::from(step) * u128::from(radius))
 }
 
-/// So many steps as a length in nanometres.
+/// Returns the length of `n` steps in nanometres.
 fn flat_length(n: u64, step: Nm) -> u64
     requires steps { n ≤ STEPS_LIMIT }
     requires step { IsStep step }
@@ -71,8 +71,8 @@ fn flat_length(n: u64, step: Nm) -> u64
     n * step.nanometres().unsigned_abs()
 }
 
-/// The length of a line that goes so many nanometres in the plane of an arc and rises as much as
-/// the arc, rounded up to whole nanometres.
+/// Returns the length of a line that is `flat` nanometres long in the plane of an arc and rises as
+/// much as the arc, rounded up to whole nanometres.
 fn sloped_length(flat: u64, arc: &Arc) -> u64
     requires { flat ≤ 5 * 10 ^ 13 }
     ensures { result ≡ sloped_length flat (rise arc.now) }
@@ -100,9 +100,9 @@ fn length_along(way: &Way, n: u64, step: Nm) -> u64
     }
 }
 
-/// Returns the length of a line that goes as many steps along an axis as a helix has path steps, `n`
-/// and at most 10^9, and rises as much as the helix: in nanometres, rounded up. For an action that
-/// is no helix it is 0. It takes a whole root.
+/// Returns the length of a line that goes as many steps along an axis as a helix has path steps,
+/// and rises as much as the helix: in nanometres, rounded up. `n` is the number of path steps, at
+/// most 10^9. For an action that is no helix it returns 0. It computes a whole root.
 pub fn helix_length(action: &Action, n: u64, step: Nm) -> u64
     requires steps { n ≤ STEPS_LIMIT }
     requires step { IsStep step }
@@ -114,7 +114,7 @@ pub fn helix_length(action: &Action, n: u64, step: Nm) -> u64
     }
 }
 
-/// The cap of a plane, reduced by the share that the height of a helix takes.
+/// Returns the cap of a plane, reduced by the share that the height of a helix takes.
 fn sloped_cap(flat: u64, length: u64, cap: u128) -> u128
     requires flat { flat ≤ 5 * 10 ^ 13 }
     requires some { 1 ≤ length }
@@ -126,7 +126,7 @@ fn sloped_cap(flat: u64, length: u64, cap: u128) -> u128
     cap * u128::from(flat) / u128::from(length)
 }
 
-/// The cap at a place of an arc of `n` path steps, at a feed a minute, and else 0.
+/// Returns the cap at a place of an arc of `n` path steps, at a feed per minute, and otherwise 0.
 fn feed_cap_at<A: Allocator>(
     arc: &Arc,
     n: u64,
@@ -197,7 +197,8 @@ fn way_cap_at<A: Allocator>(
     }
 }
 
-/// The cap of an action of `n` path steps at a place, 0 where no place changes it.
+/// Returns the cap of an action of `n` path steps at a place, or 0 if it doesn't depend on the
+/// place.
 fn cap_at<A: Allocator>(
     action: &Action,
     n: u64,
@@ -222,9 +223,10 @@ fn cap_at<A: Allocator>(
     }
 }
 
-/// The rate that a tick on a motion of `n` path steps, at most 10^9, is to reach at a grid point of
-/// its path under an override in percent: that of `target_at`, or more on an arc where the machine
-/// has arcs at their feed. The length is that of `helix_length`, which is the same at each place.
+/// Returns the target rate of a tick on a motion of `n` path steps, at most 10^9, at a grid point
+/// of its path, under an override in percent. It is that of `target_at`, or more on an arc if the
+/// machine runs arcs at their feed. `length` is that of `helix_length`, which is the same at each
+/// place.
 pub fn target_on<A: Allocator>(
     action: &Action,
     n: u64,
@@ -267,8 +269,8 @@ fn is_arc(way: &Way) -> bool
     matches!(way, Way::Arc(_))
 }
 
-/// Whether the target of `target_on` depends on the grid point: on an arc or a helix at a feed a
-/// minute, where the machine has arcs at their feed.
+/// Returns whether the target of `target_on` depends on the grid point: on an arc or a helix at a
+/// feed per minute, if the machine runs arcs at their feed.
 pub fn is_by_place<A: Allocator>(action: &Action, machine: &Machine<A>) -> bool
     ensures { result ≡ is_by_place (file_of machine.now) action.now }
 {

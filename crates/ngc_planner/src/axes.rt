@@ -10,7 +10,7 @@ use ngc_fixed_length::{Nm, Plane, StepPos};
 use ngc_machine::{AxisRates, Machine};
 use std::alloc::Allocator;
 
-/// Which axes a motion may move.
+/// The axes that a motion may move.
 #[derive(Clone, Copy)]
 pub struct Axes {
     pub x: bool,
@@ -19,7 +19,7 @@ pub struct Axes {
 }
 
 impl Axes {
-    /// Those on which two grid points differ.
+    /// Returns the axes on which two grid points differ.
     fn differing(start: &StepPos, end: &StepPos) -> Axes
         ensures { result ≡ differing start.now end.now }
     {
@@ -30,7 +30,7 @@ impl Axes {
         }
     }
 
-    /// These and the two of a plane.
+    /// Returns these axes and the two of a plane.
     fn with_plane(self, plane: Plane) -> Axes
         ensures { result ≡ with_plane plane self }
     {
@@ -82,9 +82,9 @@ fn least_rate(rates: &AxisRates, axes: Axes) -> u32
     x.min(y.min(z))
 }
 
-/// The least rate of the axes that a motion along a way may move: of a line those on which the grid
-/// points of its ends differ, of an arc the two of its plane too. It is 1,000,000, which no rate is
-/// above, where there are none.
+/// Returns the least rate of the axes that a motion along a path may move. A line moves those on
+/// which the grid points of its ends differ, an arc also the two of its plane. If there are none,
+/// it returns 1,000,000, which no rate exceeds.
 pub fn axes_rate<A: Allocator>(way: &Way, machine: &Machine<A>) -> u32
     ensures { result ≡ axes_rate (file_of machine.now) way.now }
 {

@@ -14,7 +14,7 @@ use ngc_fixed_length::root_floor;
 use ngc_machine::Machine;
 use std::alloc::Allocator;
 
-/// The greatest rate on an arc, where the steps are so many nanometres long.
+/// Returns the greatest rate on an arc, for steps of `step` nanometres.
 fn arc_rate(arc: &Arc, turn: u64, step: u64) -> u64
     requires turn { turn ≤ 10 ^ 12 }
     requires step_least { 1 ≤ step }
@@ -25,8 +25,8 @@ fn arc_rate(arc: &Arc, turn: u64, step: u64) -> u64
     root_floor(u128::from(turn) * u128::from(radius) / u128::from(step))
 }
 
-/// The greatest rate that the machine's turn allows on an arc, and 1,000,000, which no rate is
-/// above, on a line.
+/// Returns the greatest rate that the machine's turn allows on an arc. On a line it returns
+/// 1,000,000, which no rate exceeds.
 pub fn turn_rate<A: Allocator>(way: &Way, machine: &Machine<A>) -> u64
     ensures { result ≡ turn_rate (file_of machine.now) way.now }
 {
@@ -36,7 +36,7 @@ pub fn turn_rate<A: Allocator>(way: &Way, machine: &Machine<A>) -> u64
     }
 }
 
-/// The same of a motion, and 1,000,000 for an action that is none.
+/// Returns the same for a motion, and 1,000,000 for any other action.
 fn turn_bound<A: Allocator>(action: &Action, machine: &Machine<A>) -> u64
     ensures { result ≡ turn_bound (file_of machine.now) action.now }
 {
@@ -46,7 +46,7 @@ fn turn_bound<A: Allocator>(action: &Action, machine: &Machine<A>) -> u64
     }
 }
 
-/// The least rate of the axes that a motion may move, and 1,000,000 for an action that is none.
+/// Returns the least rate of the axes that a motion may move, and 1,000,000 for any other action.
 fn axes_bound<A: Allocator>(action: &Action, machine: &Machine<A>) -> u32
     ensures { result ≡ axes_bound (file_of machine.now) action.now }
 {
@@ -56,7 +56,7 @@ fn axes_bound<A: Allocator>(action: &Action, machine: &Machine<A>) -> u32
     }
 }
 
-/// The machine's greatest rate on the axes that a motion may move.
+/// Returns the machine's greatest rate on the axes that a motion may move.
 fn greatest_rate<A: Allocator>(action: &Action, machine: &Machine<A>) -> u32
     ensures value { result ≡ greatest_rate (file_of machine.now) action.now }
     ensures greatest { result ≤ MILLION }
@@ -64,9 +64,9 @@ fn greatest_rate<A: Allocator>(action: &Action, machine: &Machine<A>) -> u32
     machine.max_rate.min(axes_bound(action, machine))
 }
 
-/// The greatest rate of any tick on a motion of `n` path steps, at most 10^9: the machine's
-/// greatest rate, that of an axis which it may move, twice the feed cap, or what the turn on an arc
-/// allows. It is 0 for an action that is no motion.
+/// Returns the greatest rate of any tick on a motion of `n` path steps, at most 10^9. It is the
+/// least of the machine's greatest rate, the rates of the axes that it may move, twice the feed
+/// cap, and the rate that the turn on an arc allows. It is 0 for an action that is no motion.
 pub fn bound_of<A: Allocator>(action: &Action, n: u64, machine: &Machine<A>) -> u64
     requires { n ≤ STEPS_LIMIT }
     ensures value { result ≡ bound_of (file_of machine.now) action.now n }
@@ -78,7 +78,7 @@ pub fn bound_of<A: Allocator>(action: &Action, n: u64, machine: &Machine<A>) -> 
     greatest.min(turn_bound(action, machine))
 }
 
-/// A cap under an override in percent.
+/// Returns a cap under an override in percent.
 fn overridden(cap: u128, percent: u8) -> u128
     requires { cap < 2 ^ 115 }
     ensures { result ≡ overridden cap percent }
@@ -90,7 +90,7 @@ fn overridden(cap: u128, percent: u8) -> u128
     }
 }
 
-/// The rate that a tick on a motion is to reach, by a cap under an override in percent.
+/// Returns the target rate of a tick on a motion, from a cap and an override in percent.
 pub(crate) fn aimed_at<A: Allocator>(
     action: &Action,
     cap: u128,
@@ -106,7 +106,7 @@ pub(crate) fn aimed_at<A: Allocator>(
     greatest.min(turn_bound(action, machine))
 }
 
-/// The rate that a tick on a motion of `n` path steps, at most 10^9, is to reach under an override
+/// Returns the target rate of a tick on a motion of `n` path steps, at most 10^9, under an override
 /// in percent.
 pub fn target_at<A: Allocator>(action: &Action, n: u64, percent: u8, machine: &Machine<A>) -> u64
     requires { n ≤ STEPS_LIMIT }

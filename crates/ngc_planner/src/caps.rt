@@ -12,7 +12,7 @@ use ngc_fixed_length::{Nm, Point3, root_ceil};
 use ngc_machine::Machine;
 use std::alloc::Allocator;
 
-/// The square of the way from one coordinate to another.
+/// Returns the square of the distance between two coordinates.
 pub(crate) fn squared_distance(start: Nm, end: Nm) -> u128
     ensures value { result ≡ distance start end * distance start end }
     ensures bound { result ≤ 4 * 10 ^ 22 }
@@ -21,7 +21,7 @@ pub(crate) fn squared_distance(start: Nm, end: Nm) -> u128
     distance * distance
 }
 
-/// The length of a line, rounded up to whole nanometres.
+/// Returns the length of a line, rounded up to whole nanometres.
 fn length_between(start: &Point3, end: &Point3) -> u64
     ensures value { result ≡ length_between start.now end.now }
     ensures bound { result ≤ 10 ^ 12 }
@@ -32,8 +32,8 @@ fn length_between(start: &Point3, end: &Point3) -> u64
     root_ceil(x + y + z)
 }
 
-/// The thousandths of a step that a path step along an arc is taken for: a little more than the
-/// diagonal of a square, or of a cube on a helix.
+/// Returns the assumed length of a path step along an arc, in thousandths of a step: a little more
+/// than the diagonal of a square, or of a cube on a helix.
 fn crosswise(arc: &Arc) -> u64
     ensures value { result ≡ crosswise arc.now }
     ensures least { 1 ≤ result }
@@ -47,7 +47,8 @@ fn crosswise(arc: &Arc) -> u64
     }
 }
 
-/// The cap of so many path steps that are made so many millionths of a time a minute.
+/// Returns the cap of `n` path steps in inverse time. `feed` is in millionths of a motion per
+/// minute.
 fn inverse_cap(ticks_per_second: u32, n: u64, feed: u64) -> u128
     requires ticks { 1 ≤ ticks_per_second }
     requires steps { n ≤ STEPS_LIMIT }
@@ -57,7 +58,7 @@ fn inverse_cap(ticks_per_second: u32, n: u64, feed: u64) -> u128
     u128::from(n) * u128::from(feed) / (60 * u128::from(ticks_per_second))
 }
 
-/// The cap of so many path steps on a line of so many nanometres.
+/// Returns the cap of `n` path steps on a line of `length` nanometres.
 fn line_cap(ticks_per_second: u32, n: u64, length: u64, feed: &Feed) -> u128
     requires ticks { 1 ≤ ticks_per_second }
     requires steps { n ≤ STEPS_LIMIT }
@@ -78,7 +79,7 @@ fn line_cap(ticks_per_second: u32, n: u64, length: u64, feed: &Feed) -> u128
     }
 }
 
-/// The cap of so many path steps on an arc, where the steps are so many nanometres long.
+/// Returns the cap of `n` path steps on an arc, for steps of `step` nanometres.
 fn arc_cap(ticks_per_second: u32, n: u64, step: u64, crosswise: u64, feed: &Feed) -> u128
     requires ticks { 1 ≤ ticks_per_second }
     requires steps { n ≤ STEPS_LIMIT }
@@ -98,7 +99,7 @@ fn arc_cap(ticks_per_second: u32, n: u64, step: u64, crosswise: u64, feed: &Feed
     }
 }
 
-/// The cap of so many path steps on a way at a feed.
+/// Returns the cap of `n` path steps on a path at a feed.
 fn feed_cap<A: Allocator>(way: &Way, n: u64, feed: &Feed, machine: &Machine<A>) -> u128
     requires { n ≤ STEPS_LIMIT }
     ensures value { result ≡ feed_cap way.now n feed.now (file_of machine.now) }
@@ -116,9 +117,9 @@ fn feed_cap<A: Allocator>(way: &Way, n: u64, feed: &Feed, machine: &Machine<A>) 
     }
 }
 
-/// The feed cap of a motion of `n` path steps, at most 10^9, in millionths of a path step a tick:
-/// the greatest rate at a rapid pace, and otherwise what the feed allows, at least 1. It is 0 for
-/// an action that is no motion.
+/// Returns the feed cap of a motion of `n` path steps, at most 10^9, in millionths of a path step
+/// per tick. At a rapid pace it is the greatest rate, and otherwise what the feed allows, at least
+/// 1. It is 0 for an action that is no motion.
 pub fn cap_of<A: Allocator>(action: &Action, n: u64, machine: &Machine<A>) -> u128
     requires { n ≤ STEPS_LIMIT }
     ensures value { result ≡ cap_of action.now n (file_of machine.now) }

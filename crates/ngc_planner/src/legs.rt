@@ -1,4 +1,4 @@
-//! Where a ramp keeps its motions.
+//! The storage of a ramp's motions.
 ghost use Rattle.std.specs.Prelude.{◌≡◌, ◌≢◌, ◌≤◌, ◌<◌, ◌++◌, ◌∷◌, [], length, drop, IfOk};
 ghost use Rattle.std.specs.List.{All};
 ghost use Rattle.ngc_fixed_length.specs.Limits.{MILLION};
@@ -22,7 +22,7 @@ enum Store<A: Allocator> {
     Many(Queue<A>),
 }
 
-/// Motions that wait, the first one first.
+/// Waiting motions, in order.
 #[derive(Drop)]
 pub struct Legs<A: Allocator> {
     store: Store<A>,
@@ -38,8 +38,8 @@ impl<A: Allocator> Model for Legs<A> {
 }
 
 impl<A: Allocator + Copy> Legs<A> {
-    /// Room for so many motions, 1 to 1,024, on a ramp with this change, 1 to 1,000,000. All memory
-    /// is taken here.
+    /// Returns a store with capacity for `room` motions, 1 to 1,024, on a ramp with this change, 1
+    /// to 1,000,000. All memory is allocated here.
     pub fn many(alloc: A, change: u64, room: usize) -> Result<Legs<A>, AllocError>
         requires least { 1 ≤ change }
         requires greatest { change ≤ MILLION }
@@ -55,7 +55,8 @@ impl<A: Allocator + Copy> Legs<A> {
 }
 
 impl<A: Allocator> Legs<A> {
-    /// Room for 16 motions on a ramp with this change, without memory.
+    /// Returns a store with capacity for 16 motions on a ramp with this change. It allocates no
+    /// memory.
     pub fn few(change: u64) -> Legs<A>
         ensures { result ≡ record { legs = []; room = LEGS; change = change } }
     {
@@ -64,7 +65,7 @@ impl<A: Allocator> Legs<A> {
         }
     }
 
-    /// The motions.
+    /// Returns the motions.
     pub fn as_slice(&self) -> &[Leg]
         ensures { result.now ≡ self.now.legs }
     {
@@ -74,7 +75,7 @@ impl<A: Allocator> Legs<A> {
         }
     }
 
-    /// One more motion, behind the others. There must be room.
+    /// Adds a motion after the others. The store must not be full.
     pub fn push(&mut self, leg: Leg)
         requires room { length self.old.legs < self.old.room }
         requires leg { IsLeg leg }
@@ -86,7 +87,7 @@ impl<A: Allocator> Legs<A> {
         }
     }
 
-    /// The first motion leaves. There must be one.
+    /// Removes the first motion. There must be one.
     pub fn leave(&mut self)
         requires { self.old.legs ≢ [] }
         ensures { self.new ≡ record self.old { legs = drop 1 self.old.legs } }
@@ -99,7 +100,7 @@ impl<A: Allocator> Legs<A> {
         }
     }
 
-    /// How far beyond the second motion the way to brake may end.
+    /// Returns how far beyond the second motion the braking distance may end.
     pub fn beyond(&self) -> u64
         requires change_least { 1 ≤ self.now.change }
         requires change_greatest { self.now.change ≤ MILLION }

@@ -1,4 +1,4 @@
-//! How far beyond the second motion the way to brake may end, kept from load to load.
+//! How far beyond the second motion the braking distance may end, updated from load to load.
 ghost use Rattle.std.specs.Prelude.{◌≡◌, ℕ, ◌+◌, ◌≤◌, ◌<◌, ◌++◌, ◌∷◌, List, [], length, drop, reverse};
 ghost use Rattle.std.specs.Prelude.{vec_capacity, IfOk};
 ghost use Rattle.std.specs.List.{All};
@@ -12,8 +12,8 @@ use crate::leg::Leg;
 use crate::stretch::slack;
 use std::alloc::{AllocError, Allocator};
 
-/// How far from the beginning of some motions the way to brake may end: the least over the joints
-/// among them, and their length, each at most what 64 bits hold.
+/// How far from the beginning of some motions the braking distance may end: the least over the
+/// joints among them, and their length, each limited to 64 bits.
 #[derive(Clone, Copy)]
 pub struct Allowance {
     pub least: u64,
@@ -21,13 +21,13 @@ pub struct Allowance {
 }
 
 impl Allowance {
-    // Of no motions.
+    // The allowance of no motions.
     const NONE: Allowance = Allowance {
         least: u64::MAX,
         length: 0,
     };
 
-    // With one more motion in front, behind one with this exit.
+    // Returns the allowance with one more motion in front, which follows one with this exit.
     fn with_leg(self, change: u64, exit: u64, leg: &Leg) -> Allowance
         requires change_least { 1 ≤ change }
         requires change_greatest { change ≤ MILLION }
@@ -41,7 +41,7 @@ impl Allowance {
         }
     }
 
-    // Of these motions, and then of others.
+    // Returns the allowance of these motions followed by others.
     fn followed(self, far: Allowance) -> Allowance
         ensures { result ≡ followed self far }
     {
@@ -52,10 +52,10 @@ impl Allowance {
     }
 }
 
-/// What is kept of the motions behind the second one, so that neither a load nor the end of a motion
-/// goes over all of them: of the nearer ones, each with those up to the last nearer one, the first
-/// one last; and of the farther ones together. Once the nearer ones are gone, the farther ones take
-/// their place.
+/// A summary of the motions after the second one, so that neither a load nor the end of a motion
+/// goes through all of them. For each nearer motion it stores the allowance from that motion to the
+/// last nearer one, with the first one last. For the farther ones it stores one allowance. When no
+/// nearer ones remain, the farther ones take their place.
 #[derive(Drop)]
 pub struct Outlook<A: Allocator> {
     pub near: Allowance,
@@ -63,7 +63,7 @@ pub struct Outlook<A: Allocator> {
     pub far: Allowance,
 }
 
-// The greatest rate of the last tick of the motion at an index, 0 where there is none.
+// Returns the greatest rate of the last tick of the motion at an index, or 0 if there is none.
 fn exit_at(legs: &[Leg], index: usize) -> u64
     ensures { result ≡ exit_at index legs.now }
 {
@@ -73,7 +73,7 @@ fn exit_at(legs: &[Leg], index: usize) -> u64
     }
 }
 
-// Makes all motions behind the second one nearer ones.
+// Makes all motions after the second one nearer ones.
 fn foresee<A: Allocator>(change: u64, legs: &[Leg], later: &mut Vec<Allowance, A>) -> Allowance
     requires change_least { 1 ≤ change }
     requires change_greatest { change ≤ MILLION }
@@ -97,7 +97,7 @@ fn foresee<A: Allocator>(change: u64, legs: &[Leg], later: &mut Vec<Allowance, A
 }
 
 impl<A: Allocator> Outlook<A> {
-    /// Of no motions, with memory for so many.
+    /// Returns the outlook of no motions, with memory for `room` motions.
     pub fn new(alloc: A, room: usize) -> Result<Outlook<A>, AllocError>
         ensures { IfOk result (λ o. (vec_capacity o.later ≡ room) ×
             ((a : ℕ) → IsOutlook a [] o.near (reverse o.later.items) o.far)) }
@@ -110,7 +110,7 @@ impl<A: Allocator> Outlook<A> {
         })
     }
 
-    /// One more motion comes, behind these.
+    /// Adds a motion, after these.
     pub fn add(&mut self, change: u64, legs: &[Leg], leg: &Leg)
         requires change_least { 1 ≤ change }
         requires change_greatest { change ≤ MILLION }
@@ -128,7 +128,7 @@ impl<A: Allocator> Outlook<A> {
         }
     }
 
-    /// The first motion leaves; these are the others.
+    /// Removes the first motion; these are the others.
     pub fn leave(&mut self, change: u64, legs: &[Leg])
         requires change_least { 1 ≤ change }
         requires change_greatest { change ≤ MILLION }
@@ -149,7 +149,7 @@ impl<A: Allocator> Outlook<A> {
         }
     }
 
-    /// How far beyond the second motion the way to brake may end.
+    /// Returns how far beyond the second motion the braking distance may end.
     pub fn beyond(&self) -> u64
         ensures { (a : ℕ) (legs : List TheLeg) → IsOutlook a legs self.now.near
             (reverse self.now.later.items) self.now.far → result ≡ legs_beyond a legs }

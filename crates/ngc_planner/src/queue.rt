@@ -1,4 +1,4 @@
-//! Motions in memory that is taken once.
+//! Motions in memory that is allocated once.
 ghost use Rattle.std.specs.Prelude.{◌≡◌, ◌≢◌, ◌-◌, ◌*◌, ◌≤◌, ◌<◌, ◌++◌, ◌∷◌, [], length, drop};
 ghost use Rattle.std.specs.Prelude.{vec_len, vec_capacity, IfOk};
 ghost use Rattle.std.specs.List.{All};
@@ -13,8 +13,9 @@ use crate::outlook::Outlook;
 use std::alloc::{AllocError, Allocator};
 use std::marker::Model;
 
-/// Motions that wait, the first one first. One that leaves stays in its slot until the slots end;
-/// then the others are moved to the front, so that neither loads nor leaves depend on how many wait.
+/// Waiting motions, in order. A motion that leaves stays in its slot until the slots are full; then
+/// the others are moved to the front. So the cost of loads and leaves does not depend on the number
+/// of waiting motions.
 #[derive(Drop)]
 pub struct Queue<A: Allocator> {
     change: u64,
@@ -40,7 +41,7 @@ impl<A: Allocator> Model for Queue<A> {
         (vec_capacity q.slots) q.outlook };
 }
 
-// The motions in the slots from the first one on.
+// Returns the motions in the slots from the first one on.
 fn waiting<A: Allocator>(slots: &Vec<Leg, A>, first: usize) -> &[Leg]
     requires { first ≤ length slots.now.items }
     ensures { result.now ≡ drop first slots.now.items }
@@ -48,7 +49,7 @@ fn waiting<A: Allocator>(slots: &Vec<Leg, A>, first: usize) -> &[Leg]
     &slots.as_slice()[first..]
 }
 
-// The first motions leave their slots to the others.
+// Moves the waiting motions to the front, over the slots of those that left.
 fn move_to_front<A: Allocator>(slots: &mut Vec<Leg, A>, first: usize)
     requires { first ≤ length slots.old.items }
     ensures items { slots.new.items ≡ drop first slots.old.items }
@@ -61,8 +62,8 @@ fn move_to_front<A: Allocator>(slots: &mut Vec<Leg, A>, first: usize)
 }
 
 impl<A: Allocator + Copy> Queue<A> {
-    /// An empty queue with all its memory, for so many motions, 1 to 1,024, on a ramp with this
-    /// change, 1 to 1,000,000.
+    /// Returns an empty queue with all its memory, for `room` motions, 1 to 1,024, on a ramp with
+    /// this change, 1 to 1,000,000.
     pub fn new(alloc: A, change: u64, room: usize) -> Result<Queue<A>, AllocError>
         requires least { 1 ≤ change }
         requires greatest { change ≤ MILLION }
@@ -83,14 +84,14 @@ impl<A: Allocator + Copy> Queue<A> {
 }
 
 impl<A: Allocator> Queue<A> {
-    /// The motions.
+    /// Returns the motions.
     pub fn as_slice(&self) -> &[Leg]
         ensures { result.now ≡ self.now.legs }
     {
         waiting(&self.slots, self.first)
     }
 
-    /// One more motion, behind the others. There must be room.
+    /// Adds a motion after the others. The queue must not be full.
     pub fn push(&mut self, leg: Leg)
         requires room { length self.old.legs < self.old.room }
         requires leg { IsLeg leg }
@@ -105,7 +106,7 @@ impl<A: Allocator> Queue<A> {
         self.slots.push_reserved(leg);
     }
 
-    /// The first motion leaves. There must be one.
+    /// Removes the first motion. There must be one.
     pub fn leave(&mut self)
         requires { self.old.legs ≢ [] }
         ensures { self.new ≡ record self.old { legs = drop 1 self.old.legs } }
@@ -115,7 +116,7 @@ impl<A: Allocator> Queue<A> {
             .leave(self.change, waiting(&self.slots, self.first));
     }
 
-    /// How far beyond the second motion the way to brake may end.
+    /// Returns how far beyond the second motion the braking distance may end.
     pub fn beyond(&self) -> u64
         ensures { result ≡ legs_beyond self.now.change self.now.legs }
     {

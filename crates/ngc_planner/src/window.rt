@@ -14,7 +14,7 @@ use ngc_fixed_length::root_floor;
 use ngc_machine::Machine;
 use std::alloc::Allocator;
 
-/// Whether a rate may change its heading by so many millionths over so many path steps.
+/// Returns whether a rate may change its heading by `difference` millionths over `way` path steps.
 fn may_head(jump: u32, turn: u64, difference: u64, way: u64, rate: u64) -> bool
     requires jump { jump ≤ MILLION }
     requires turn { turn ≤ 10 ^ 12 }
@@ -28,7 +28,8 @@ fn may_head(jump: u32, turn: u64, difference: u64, way: u64, rate: u64) -> bool
     wanted <= 1_000_000 * (jumped + u128::from(turn) * u128::from(way))
 }
 
-/// The greatest `v` with `v * v * n` at most `j * v + t`. The root is of less than 2 * 10^35.
+/// Returns the greatest `v` with `v * v * n` at most `j * v + t`. The root is of a number below 2 *
+/// 10^35.
 fn greatest_root(n: u64, j: u128, t: u128) -> u64
     requires least { 1 ≤ n }
     requires greatest { n ≤ 2000000 }
@@ -40,8 +41,8 @@ fn greatest_root(n: u64, j: u128, t: u128) -> u64
     ((j + u128::from(root)) / (2 * u128::from(n))) as u64
 }
 
-/// A rate, lowered to one that may change its heading by so many millionths over so many path
-/// steps.
+/// Returns a rate, lowered to one that may change its heading by `difference` millionths over `way`
+/// path steps.
 fn lowered(rate: u64, jump: u32, turn: u64, difference: u64, way: u64) -> u64
     requires jump { jump ≤ MILLION }
     requires turn { turn ≤ 10 ^ 12 }
@@ -60,7 +61,7 @@ fn lowered(rate: u64, jump: u32, turn: u64, difference: u64, way: u64) -> u64
     }
 }
 
-/// The path steps of a line, and 0 for an arc.
+/// Returns the path steps of a line, and 0 for an arc.
 fn line_steps<A: Allocator>(way: &Way, machine: &Machine<A>) -> u64
     ensures value { result ≡ line_steps (file_of machine.now) way.now }
     ensures bound { result ≤ 400000000 }
@@ -80,7 +81,8 @@ fn is_line(way: &Way) -> bool
     matches!(way, Way::Line { .. })
 }
 
-/// Where an action heads at its end, if it is a motion with path steps that doesn't stop there.
+/// Returns the heading of an action at its end, if it is a motion with path steps that doesn't stop
+/// there.
 fn passing_heading<A: Allocator>(action: &Action, machine: &Machine<A>) -> Option<Displacement>
     ensures { result ≡ passing_heading (file_of machine.now) action.now }
 {
@@ -114,8 +116,8 @@ fn goes_straight(action: &Action) -> bool
     }
 }
 
-/// A rate, lowered to one that may change into a heading from each that was passed on commands, of
-/// which the last ended so many path steps ago.
+/// Returns a rate, lowered to one that may change into a heading from each heading that was passed
+/// on these commands. The last command ended `way` path steps ago.
 fn lowered_on<A: Allocator>(
     rate: u64,
     next: &Displacement,
@@ -135,7 +137,7 @@ fn lowered_on<A: Allocator>(
     let mut way = way;
     let mut commands = commands;
     while let Some((command, before)) = commands.split_last() {
-        // No two headings differ by more than 2,000,000, so none that was passed lowers it.
+        // No two headings differ by more than 2,000,000, so no passed heading lowers the rate.
         if may_head(machine.jump, machine.turn, 2_000_000, way, rate) {
             return rate;
         }
@@ -158,8 +160,8 @@ fn lowered_on<A: Allocator>(
     rate
 }
 
-/// The greatest rate that may change into a heading from each of a window: the one at the end of a
-/// way, and those that were passed on the commands before it.
+/// Returns the greatest rate that may change into a heading from each heading of a window: the one
+/// at the end of a path, and those that were passed on the earlier commands.
 pub(crate) fn window_rate<A: Allocator>(
     earlier: &[Command],
     way: &Way,
