@@ -91,8 +91,8 @@ fn common_beginning<A: Allocator>(
 /// The certificate's motions are those of the commands with block delete off and on. From the first
 /// one on, a motion of each setting is joined if both have the same path and the same pieces. The
 /// path is the same if it is straight, or the same arc, from the same start to the same end. The
-/// first pair that differs ends this: the remaining motions of `off` follow, and then those of `on`.
-/// A motion that is none of the commands' is never joined.
+/// first pair that differs ends this: the remaining motions of `off` follow, and then those of
+/// `on`. A motion that is none of the commands' is never joined.
 pub fn join<A: Allocator>(
     alloc: A,
     certificate: Certificate<A>,

@@ -29,8 +29,8 @@ use ngc_line_reader::Program;
 use ngc_machine::{Machine, Tools};
 use std::alloc::Allocator;
 
-/// A reader that checks a certificate whose text arrives in pieces of any size. It stores no more of
-/// the certificate than a line that the end of a piece cut and the first refusal.
+/// A reader that checks a certificate whose text arrives in pieces of any size. It stores no more
+/// of the certificate than a line that the end of a piece cut and the first refusal.
 ///
 /// ```text
 /// let mut reader = CheckReader::new(alloc, &program, &machine, &tools)?;
