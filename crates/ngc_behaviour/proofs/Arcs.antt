@@ -1,4 +1,4 @@
--- Each arc of commands for which a certificate is valid lies near zero, with even radii.
+-- Each arc of commands for which a certificate is valid is near zero, and its radii are even.
 use Rattle.std.proofs.Common.{ℕ, zero, suc, ◌≤◌, arith, List, [], ◌∷◌, drop, ℤ, pos, negsuc, ◌*ℤ◌, ◌≤ℤ◌}
 use Rattle.std.specs.Prelude.{Option, unsigned_abs}
 use Rattle.std.proofs.lemmas.Int.{ints}
@@ -38,7 +38,7 @@ abbrev pub AreArcs : List Way → Type 0
 AreArcs [] = Unit {0}
 AreArcs (way ∷ ways) = IsArcIfCurved way × AreArcs ways
 
--- ---- a place whose grid point is within travel
+-- ---- a position whose grid point is within travel
 
 near_zero : (z step low high : ℤ) → IsStep step → unsigned_abs low ≤ PLACE_LIMIT → unsigned_abs high ≤ PLACE_LIMIT →
     low ≤ℤ (nearest z step *ℤ step) → (nearest z step *ℤ step) ≤ℤ high → unsigned_abs z ≤ END_LIMIT
@@ -88,7 +88,7 @@ pub are_arcs : (machine : MachineFile) (commands : List Command) (entries : List
     HaveEvenRadii (ways_of (actions_of commands)) → AreArcs (ways_of (actions_of commands))
 are_arcs machine commands entries h v even = clear_arcs machine _ machine.start (actions_of commands) entries h v.clear even
 
--- and of those that are left
+-- and of the remaining ones
 behind_first : (d : Action) (actions : List Action) → AreArcs (ways_of (d ∷ actions)) → AreArcs (ways_of actions)
 behind_first (Move m) actions arcs = arcs.1
 behind_first _ actions arcs = arcs

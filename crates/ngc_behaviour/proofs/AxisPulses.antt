@@ -1,4 +1,4 @@
--- The pulses of one axis are bound by the rates on the motions that move it.
+-- The rates on the motions that move an axis bound its pulses.
 use Rattle.std.proofs.Common.{◌≡◌, ℕ, suc, ◌+◌, ◌-◌, ◌*◌, ◌/◌, ◌<◌, ◌≤◌, inl, inr, ap, subst, sym, ◌∙◌, arith, refl, List, [], ◌∷◌, ◌++◌, length, drop, Some}
 use Rattle.std.proofs.Common.{None, true, false, Bool, cond, ℤ}
 use Rattle.std.specs.Prelude.{Option, MatchBool, nat_lt, nat_le, take, count_by, ◌-ℤ◌, ◌||◌, if◌then◌else◌}
@@ -30,7 +30,8 @@ use Rattle.ngc_behaviour.proofs.PulseRules.{Advances, IsOnHead, WalksIn, head_pa
 use Rattle.ngc_behaviour.proofs.StillAxes.{Axis, X, Y, Z, on, IsStill}
 use Rattle.ngc_behaviour.proofs.AxisTravel.{AreSlow, slow_window}
 
--- An action that doesn't move the axis never steps on it, and a tick on one that does has at most this rate.
+-- An action that does not move the axis never steps on it, and a tick on one that does has at most
+-- this rate.
 pub record IsBoundOn (job : Job) (axis : Axis) (moves : Action → Bool) (most : ℕ) : Type 0 where
   pub still : (a : Action) (path : List StepPos) → MayTake job a path → moves a ≡ false → IsStill axis path
   pub bound : (a : Action) (n v : ℕ) → IsWithinBounds job.machine a n v → moves a ≡ true → v ≤ most
@@ -64,7 +65,7 @@ no_step Z p q e = ap passes (same_on p.z q.z e)
 
 -- ---- travel on an axis
 
--- what is travelled on the head, if it moves the axis
+-- the distance travelled on the head, if it moves the axis
 abbrev on_head : (Action → Bool) → List Queued → ℕ → ℕ
 on_head moves [] travelled = 0
 on_head moves (l ∷ ls) travelled = if moves l.command.action then travelled else 0
@@ -87,13 +88,14 @@ no_more_than moves (l ∷ ls) t = elim (cases_Bool (moves l.command.action)) [
   | inr h ↦ let e = left_out (moves l.command.action) t h in omega (arith, e)
 ]
 
--- the travel grows by at most that much in a tick, by these whole millions of a motion that ends and what is travelled on the next
+-- the travel grows by at most that much in a tick, by these whole millions of a motion that ends
+-- and the distance travelled on the next
 record Grows (axis : Axis) (moves : Action → Bool) (most : ℕ) (old new : State) : Type 0 where
   pub whole : ℕ
   pub slow : whole * MILLION + on_axis moves new ≤ on_axis moves old + most
   pub counts : passes (steps axis (step_to old.position new.position)) + on_axis moves old / MILLION ≤ (whole * MILLION + on_axis moves new) / MILLION
 
--- where nothing is travelled
+-- if nothing is travelled
 stands : (axis : Axis) (moves : Action → Bool) (most : ℕ) (old new : State) → new.position ≡ old.position → on_axis moves new ≡ on_axis moves old →
     Grows axis moves most old new
 stands axis moves most old new p t =
@@ -110,7 +112,7 @@ same_along axis path j k still jk kj kn = elim (cases_lt j k) [
   | inr h ↦ let e : j ≡ k = omega (arith, h, jk) in ap (λ i. on axis (point path i)) e
 ]
 
--- what goes on into the next motion
+-- the distance that passes into the next motion
 over_slow : (job : Job) (axis : Axis) (moves : Action → Bool) (most : ℕ) → IsBoundOn job axis moves most → (l : Queued) (ls : List Queued) (over v : ℕ) →
     (0 < over → GoesOnInto job v l ls) → over ≤ v → on_head moves ls over ≤ most
 over_slow job axis moves most b l [] over v into h = omega arith
@@ -150,7 +152,7 @@ moving_grows job axis moves most b l ls old o new e over advances moving t =
           record { whole = 0; slow = omega (arith, after, before, bound); counts = omega (arith, after, before, c, one) }
     ]
 
--- one that doesn't
+-- one that does not
 still_grows : (job : Job) (axis : Axis) (moves : Action → Bool) (most : ℕ) → IsBoundOn job axis moves most →
     (l : Queued) (ls : List Queued) (old : State) (o : Outcome) (new : State) →
     old.ring ≡ l ∷ ls → old.travelled ≤ millionths l - 1 → on axis old.position ≡ on axis new.position → moves l.command.action ≡ false →
@@ -265,7 +267,7 @@ event_stays job moves old (Override p) o new n f t = elim (match_with (nat_le p 
 
 -- ---- runs
 
--- ticks that go on from a state, where motions of q whole millions are done that moved the axis
+-- ticks that continue from a state, after motions of q whole millions that moved the axis
 abbrev IsSlowFrom : Axis → (Action → Bool) → ℕ → ℕ → State → List StepPos → Type 0
 IsSlowFrom axis moves most q s ticks = AreSlow (steps axis) most (q * MILLION + on_axis moves s) ticks
 

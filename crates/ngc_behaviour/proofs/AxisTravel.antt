@@ -1,11 +1,12 @@
--- Windows over ticks that each bring a travel on at most m millionths, and pass a test only where one more million is full.
+-- Windows over ticks that each add at most m millionths to a travel, and pass a test only if one
+-- more million is full.
 use Rattle.std.proofs.Common.{ℕ, zero, suc, ◌+◌, ◌*◌, ◌/◌, ◌≤◌, arith, List, [], ◌∷◌, Bool, cond}
 use Rattle.std.specs.Prelude.{take, drop, count_by}
 use Rattle.std.proofs.lemmas.List.Sums.{sum_by-cons}
 use Rattle.ngc_fixed_length.specs.Limits.{MILLION}
 use Rattle.ngc_planner.specs.Pulses.{up_to_whole}
 
--- after s millionths; each tick goes on to t
+-- after s millionths; each tick continues to t
 abbrev pub AreSlow : {X : Type 0} → (X → Bool) → ℕ → ℕ → List X → Type 0
 AreSlow test m s [] = Unit {0}
 AreSlow test m s (x ∷ xs) = (t : ℕ) × (t ≤ s + m) × (cond (test x) 1 0 + s / MILLION ≤ t / MILLION) × AreSlow test m t xs

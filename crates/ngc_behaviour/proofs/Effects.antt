@@ -1,4 +1,4 @@
--- What an event does to the way: five cases.
+-- The effect of an event on the remaining path: five cases.
 use Rattle.std.proofs.Common.{◌≡◌, ℕ, suc, ◌+◌, ◌-◌, ◌/◌, ◌<◌, ◌≤◌, inl, inr, ap, sym, ◌∙◌, arith, refl, List, [], ◌∷◌, ◌++◌, length, drop, Some, None, true}
 use Rattle.std.proofs.Common.{false, Ok, Err}
 use Rattle.std.specs.Prelude.{if◌then◌else◌, Option, Bool, MatchBool, nat_lt, nat_le}
@@ -23,7 +23,7 @@ use Rattle.ngc_behaviour.specs.Run.{position_in}
 use Rattle.ngc_behaviour.proofs.Cases.{match_with}
 use Rattle.ngc_behaviour.proofs.RatesOfRun.{Fits, GoesOver, goes_over, travel_small}
 
--- what the way depends on in a state
+-- the part of a state on which the remaining path depends
 pub record Spot : Type 0 where
   pub done : ℕ
   pub ring : List Queued
@@ -56,7 +56,7 @@ abbrev pub ends_program : Action → Bool
 ends_program actions.End = true
 ends_program _ = false
 
--- the position of a pulse from place j to place k of a path
+-- the position of a pulse from point j to point k of a path
 abbrev pub emitted : List StepPos → ℕ → ℕ → List StepPos
 emitted path j k = if nat_lt j k then point path k ∷ [] else []
 
@@ -86,7 +86,7 @@ pub record GoesOn (old new : Spot) (o : Outcome) : Type 0 where
   pub emits : position_in o ≡ emitted head.path (old.travelled / MILLION) ((old.travelled + rate) / MILLION)
   pub no_end : tells_end o ≡ false
 
--- with what is beyond travelled on the next
+-- with the rest travelled on the next
 pub record Arrives (old new : Spot) (o : Outcome) : Type 0 where
   pub head : Queued
   pub others : List Queued
@@ -115,7 +115,7 @@ pub data Effect (job : Job) (old new : Spot) (o : Outcome) : Type 0 where
   arrives : Arrives old new o → Effect job old new o
   passes : Passes old new o → Effect job old new o
 
--- ---- what ends
+-- ---- the effects at an end
 
 by_test : (b : Bool) (e f : Ending) → is_end e ≡ false → is_end f ≡ false → is_end (if b then e else f) ≡ false
 by_test true e f x y = x
@@ -127,7 +127,7 @@ only_end actions.OptionalStop s h =
     absurd (true≢false (sym h ∙ by_test s.stop_switch (Stopped s.done) (Done s.done) refl refl))
 only_end _ s h = h
 
--- ---- a tick on the way
+-- ---- a tick on the path
 
 said_position : (b : Bool) (p : StepPos) (e : Option Ending) → position_in (Ok (Ticked (if b then Some p else None) e)) ≡ (if b then p ∷ [] else [])
 said_position true p e = refl
@@ -206,7 +206,7 @@ on_way job l ls old o new m e some f t =
       no_end = ap tells_end t.says ∙ said_none (pulse l old v) (nat_le (millionths l) (t0 + v)) (ending l.command.action old) b;
     }))
 
--- ---- a tick that travels nothing
+-- ---- a tick without travel
 
 same_spot : (a : Action) (s : State) → spot (after a s) ≡ spot s
 same_spot (actions.Move m) s = refl

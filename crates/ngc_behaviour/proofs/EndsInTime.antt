@@ -1,4 +1,4 @@
--- A motion is done within so many ticks in which the machine is free.
+-- A motion is done within a bounded number of ticks in which the machine is free.
 use Rattle.std.proofs.Common.{◌≡◌, ◌⊎◌, inl, inr, ℕ, zero, suc, ◌+◌, ◌-◌, ◌*◌, ◌<◌, ◌≤◌, ap, subst, sym, ◌∙◌, arith, refl, List, [], ◌∷◌, length, Some, None}
 use Rattle.std.proofs.Common.{true, false, Bool, min}
 use Rattle.std.specs.Prelude.{Option, MatchBool, nat_lt, nat_le, not, ◌&&◌, if◌then◌else◌, slice_index_or, slice_get}
@@ -29,26 +29,26 @@ use Rattle.ngc_behaviour.proofs.KeptPaths.{keep_paths}
 use Rattle.ngc_behaviour.proofs.RatesOfRun.{Fits, after_stays, event_keeps}
 use Rattle.ngc_behaviour.proofs.Travel.{moved}
 
--- ---- ticks for a length
+-- ---- the number of ticks for a length
 
--- more takes no fewer ticks
+-- a greater length takes at least as many ticks
 ticks_more : (x y m : ℕ) → 1 ≤ m → x ≤ y → ticks_for x m ≤ ticks_for y m
 ticks_more x y m p h = let q = div-mul-le_self (x + (m - 1)) m in le-div (ticks_for x m) (y + (m - 1)) m (omega (arith, p)) (omega (arith, q, h))
 
--- one tick at the least
+-- at least one tick
 ticks_some : (x m : ℕ) → 1 ≤ m → 1 ≤ x → 1 ≤ ticks_for x m
 ticks_some x m p h = le-div 1 (x + (m - 1)) m (omega (arith, p)) (omega (arith, p, h))
 
--- one tick of m takes one off
+-- one tick of m reduces the number by one
 ticks_next : (x m : ℕ) → 1 ≤ m → m ≤ x → 1 + ticks_for (x - m) m ≤ ticks_for x m
 ticks_next x m p h =
     let q = div-mul-le_self (x - m + (m - 1)) m in
     let e : (1 + ticks_for (x - m) m) * m ≡ m + ticks_for (x - m) m * m = omega arith in
     le-div (1 + ticks_for (x - m) m) (x + (m - 1)) m (omega (arith, p)) (omega (arith, q, h, e))
 
--- ---- what any event leaves
+-- ---- the state after any event
 
--- command k goes on, or the next one is at the head
+-- command k continues, or the next one is at the head
 abbrev GoesAhead : State → State → Type 0
 GoesAhead old new = ((new.done ≡ old.done) × (old.travelled ≤ new.travelled)) ⊎ (new.done ≡ suc old.done)
 
@@ -106,9 +106,9 @@ event_ahead job old (Override n) o new t = elim (match_with (nat_le n 200) _ _ t
   | inr u ↦ subst (GoesAhead old) (sym u.1.1) (same_ahead old)
 ]
 
--- ---- what a tick leaves that is given while the machine is free
+-- ---- the state after a tick while the machine is free
 
--- command k, of x millionths, is at the head, and is done now or has travelled m more
+-- command k, of x millionths, is at the head, and is now done or has travelled m more
 pub record Counts (k x m : ℕ) (old new : State) : Type 0 where
   pub head : old.done ≡ k
   pub some : old.travelled < x
@@ -120,7 +120,7 @@ free_is s h =
     let b = and_parts (not s.stopped) (nat_lt 0 (effective s)) a.1 in
     record { not_held = not-true s.held a.0; not_stopped = not-true s.stopped b.0; some_override = ltb-true 0 (effective s) b.1 }
 
--- where command k is at the head, it is this one
+-- if command k is at the head, it is this one
 abbrev Shows : ℕ → Queued → State → List Queued → Type 0
 Shows k l s [] = Unit {0}
 Shows k l s (m ∷ ms) = s.done ≡ k → m ≡ l
@@ -175,7 +175,7 @@ event_counts job k l old (Override q) o new f some shows t g h = absurd (false�
 
 -- ---- runs
 
--- how many such ticks are to come, where command k has x millionths
+-- the number of such ticks to come, if command k has x millionths
 pub record IsBounded (k x m : ℕ) (s : State) (ticks : ℕ) : Type 0 where
   pub past : k < s.done → ticks ≡ 0
   pub now : s.done ≡ k → ticks ≤ ticks_for (x - s.travelled) m
@@ -239,7 +239,7 @@ run_bounded job k l old (e ∷ es) (o ∷ os) (new ∷ states) small f some leas
     next_bounded k (millionths l) (least_rate job l) old new (free_ticks k new es states) (is_tick e && (has_head k old old.ring && is_free old)) least
     (event_counts job k l old e o new f some shows r.0 g.0) (event_ahead job old e o new r.0) i
 
--- command k is at the head as no other
+-- command k is at the head only as this one
 shown : (k : ℕ) (l : Queued) (states : List State) → ((m : Queued) → ComesToHead k m states → m ≡ l) → All (λ (s : State). Shows k l s s.ring) states
 shown k l states no_other i d lt = at (slice_index_or states i d).ring refl
   where

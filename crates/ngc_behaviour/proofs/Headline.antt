@@ -1,4 +1,4 @@
--- Every run of what the checker accepts is safe.
+-- Every run of an accepted program is safe.
 use Rattle.std.proofs.Common.{List, true, false}
 use Rattle.ngc_machine.specs.Machine.{MachineFile}
 use Rattle.ngc_machine.specs.MachineRanges.{IsMachine}

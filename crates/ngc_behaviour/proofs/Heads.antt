@@ -1,4 +1,4 @@
--- The ends of a motion's path, and the commands behind the head.
+-- The ends of a motion's path, and the commands after the head.
 use Rattle.std.proofs.Common.{◌≡◌, ℕ, suc, ◌+◌, ◌-◌, ◌<◌, ap, ◌∙◌, arith, List, ◌∷◌, length}
 use Rattle.std.specs.Prelude.{slice_get}
 use Rattle.ngc_fixed_length.specs.declared.points.StepPos.{StepPos}
@@ -11,7 +11,7 @@ use Rattle.ngc_commands.specs.declared.movement.Way.TheVariants.{Line, Arc}
 use Rattle.ngc_commands.specs.ProgramPath.{IsPathOf}
 use Rattle.ngc_behaviour.specs.State.{Job, command_at}
 
--- the commands that are left behind the head
+-- the remaining commands after the head
 pub next_at : (job : Job) (done : ℕ) (c : Command) (cs : List Command) → ((k : ℕ) → command_at job (done + k) ≡ slice_get (c ∷ cs) k) →
     (k : ℕ) → command_at job (suc done + k) ≡ slice_get cs k
 next_at job done c cs f k = let e : suc done + k ≡ done + suc k = omega arith in ap (command_at job) e ∙ f (suc k)

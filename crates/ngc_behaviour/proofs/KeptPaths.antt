@@ -1,4 +1,4 @@
--- A loaded command that comes to the head keeps its path.
+-- A loaded command that reaches the head keeps its path.
 use Rattle.std.proofs.Common.{◌≡◌, ◌⊎◌, inl, inr, ℕ, zero, suc, ◌+◌, ◌-◌, ◌≤◌, ap, subst, sym, ◌∙◌, arith, refl, List, [], ◌∷◌, ◌++◌, length, drop, Some}
 use Rattle.std.specs.Prelude.{slice_get, Any}
 use Rattle.std.specs.List.{AllByRecursion}
@@ -88,7 +88,7 @@ no_other job k l m old (e ∷ es) (o ∷ os) (new ∷ states) r a b =
     agree : (k : ℕ) (l m : Queued) (s : State) (states : List State) → AllByRecursion (IsKnown k l) (s ∷ states) → ComesToHead k m (s ∷ states) → m ≡ l
     agree k l m s states h c = let x = at_any (IsKnown k l) (IsHead k m) (s ∷ states) h c in known_head k l m x.0 x.1 x.2
 
--- ---- what is loaded are the job's commands, on paths that they may take
+-- ---- the loaded commands are the job's, on paths that they may take
 
 pub record IsLoadedAs (job : Job) (k : ℕ) (l : Queued) : Type 0 where
   pub command : command_at job k ≡ Some l.command

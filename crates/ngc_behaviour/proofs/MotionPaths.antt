@@ -1,4 +1,4 @@
--- Each motion has a path, and so have joined motions.
+-- Each motion has a path, and joined motions have one too.
 use Rattle.std.proofs.Common.{◌≡◌, ℕ, ℤ, suc, ◌+◌, ◌-◌, ◌<◌, ◌≤◌, ap, subst, sym, ◌∙◌, arith, refl, List, [], ◌∷◌, ◌++◌, length, take, drop, true, false}
 use Rattle.std.specs.Prelude.{Bool, nat_lt, if◌then◌else◌}
 use Rattle.std.proofs.lemmas.Bool.Decides.{nat_tests}
@@ -27,7 +27,7 @@ use Rattle.ngc_step_kernel.proofs.SomePath.{some_arc_path}
 split_last : (path : List StepPos) (n : ℕ) → length path ≡ n + 1 → take n path ++ point path n ∷ [] ≡ path
 split_last path n e = sym (take_more path n _ (omega (arith, e))) ∙ ap (λ k. take k path) (sym e) ∙ take-length path
 
--- the points before the last one, from place k on
+-- the points before the last one, from point k on
 pub none_before : (path : List StepPos) (n k : ℕ) → n ≤ k → drop k (take n path) ≡ []
 none_before path n k h = drop_of_length-le (take n path) {i = k} (omega (arith, length-take n path, h))
 
@@ -43,7 +43,7 @@ begins_with : (xs : List StepPos) (q : StepPos) (ys : List StepPos) (p : StepPos
 begins_with [] q ys p h = (ys, ap (λ t. t ∷ ys) h)
 begins_with (x ∷ xs) q ys p h = (xs ++ q ∷ ys, ap (λ t. t ∷ (xs ++ q ∷ ys)) h)
 
--- from place k of a path on
+-- from point k of a path on
 pub begins_at : (path : List StepPos) (n k : ℕ) (p : StepPos) (rest : List StepPos) → length path ≡ n + 1 → k ≤ n → p ≡ point path k →
     BeginsWith p (drop k (take n path) ++ point path n ∷ rest)
 begins_at path n k p rest e h at = by_case (nat_lt k n) refl
@@ -58,7 +58,7 @@ begins_at path n k p rest e h at = by_case (nat_lt k n) refl
         let last : k ≡ n = grind (arith, nat_tests) in
         (rest, ap (λ xs. xs ++ point path n ∷ rest) (none_before path n k (omega (arith, last))) ∙ ap (λ t. t ∷ rest) (ap (point path) (sym last) ∙ sym at))
 
--- a pulse from place j to k, at most one place on
+-- a pulse from point j to k, at most one point further
 pub with_pulse : (path : List StepPos) (n j k : ℕ) (p q : StepPos) (tail rest : List StepPos) → length path ≡ n + 1 → j ≤ k → k ≤ j + 1 → k ≤ n →
     p ≡ point path j → q ≡ point path k → q ∷ tail ≡ drop k (take n path) ++ rest → p ∷ (emitted path j k ++ tail) ≡ drop j (take n path) ++ rest
 with_pulse path n j k p q tail rest e jk kj kn pj qk h = by_case (nat_lt j k) refl
@@ -101,7 +101,7 @@ path_then job way ways p path rest points w starts others e =
       e,
     )
 
--- joined motions have a path from the grid point of their start on
+-- joined motions have a path, from the grid point of their start on
 pub some_path : (job : Job) → IsStep job.machine.step → (ways : List Way) (place : Point3) (p : StepPos) → AreArcs ways → AreJoined place ways →
     p ≡ grid job.machine.step place →
     (later : List StepPos) × IsPathOfAll job.machine.step p ways (p ∷ later)

@@ -1,4 +1,5 @@
--- The ticks of a run walk the joined paths of its motions: each path step is a million that the travelled millionths fill.
+-- The ticks of a run follow the joined paths of its motions: each path step is a million that the
+-- travelled millionths fill.
 use Rattle.std.proofs.Common.{◌≡◌, ℕ, zero, suc, ◌+◌, ◌-◌, ◌*◌, ◌/◌, ◌<◌, ◌≤◌, inl, inr, ap, subst, sym, ◌∙◌, arith, refl, List, [], ◌∷◌, ◌++◌, length, drop}
 use Rattle.std.proofs.Common.{Some, None, true, false, Bool, cond, ℤ}
 use Rattle.std.specs.Prelude.{Option, MatchBool, nat_lt, nat_le, slice_get, take, unsigned_abs, ◌-ℤ◌, ◌||◌}
@@ -60,14 +61,14 @@ unit_step p q u = elim (cases_Bool (is_path_step (step_to p q))) [
   | inr h ↦ absurd (u.moves (no_step p q h))
 ]
 
--- ---- where the machine stands between two events
+-- ---- the state between two events
 
 -- on the path of the head
 abbrev pub IsOnHead : List Queued → ℕ → StepPos → Type 0
 IsOnHead [] travelled position = ⊥
 IsOnHead (l ∷ ls) travelled position = position ≡ point l.path (travelled / MILLION)
 
--- what is left of the commands, and the place where the first of their motions begins
+-- the remaining commands, and the position where the first of their motions begins
 pub record Walks (job : Job) (done : ℕ) (ring : List Queued) (travelled : ℕ) (position : StepPos) : Type 0 where
   pub left : List Command
   pub place : Point3
@@ -163,7 +164,7 @@ at_state job s done ring travelled position d r t p w =
     (subst (λ x. Walks job done ring x s.position) (sym t)
     (subst (λ x. Walks job done ring travelled x) (sym p) w)))
 
--- what goes beyond the path of l stays at the first point of the next one
+-- the distance beyond the path of l stays at the first point of the next one
 on_next : (job : Job) (l : Queued) (ring : List Queued) (over : ℕ) (position : StepPos) (cs : List Command) (place : Point3) →
     AreJoined place (ways_of (actions_of cs)) →
     RingFits job cs ring → position ≡ grid job.machine.step place → GoesOver l ring over → 0 < over → IsOnHead ring over position
@@ -339,7 +340,7 @@ pub rate_bounds : (job : Job) (ring : List Queued) (old : State) (v : ℕ) → T
 rate_bounds job [] old v k = let z = k.0 in let s = k.1 in (omega (arith, z), omega (arith, z), omega (arith, s))
 rate_bounds job (l ∷ ls) old v k = (k.within.greatest, k.faster, k.slower)
 
--- the rates at which a list of ticks goes on from a state
+-- the rates at which a list of ticks continues from a state
 abbrev pub Goes : Job → ℕ → State → List StepPos → Type 0
 Goes job q s ticks = (vs : List ℕ) × ArePaced is_path_step job.machine.change (q * MILLION + s.travelled) s.rate vs ticks
 

@@ -1,4 +1,4 @@
--- What a tick of a ramp, whose legs are those of the ring, may do as a tick of the machine.
+-- A tick of a ramp whose legs are the ring's motions, as a tick of the machine.
 use Rattle.std.proofs.Common.{◌≡◌, ◌⊎◌, inl, inr, ℕ, suc, ◌+◌, ◌-◌, ◌<◌, ◌≤◌, ◌==◌, min, ap, ap₂, subst, sym, ◌∙◌, arith, refl, List, [], ◌∷◌, ◌++◌, length}
 use Rattle.std.proofs.Common.{Bool, true, false, cond}
 use Rattle.std.specs.Prelude.{Option, Some, None, nat_lt, not, ◌&&◌}
@@ -26,7 +26,7 @@ use Rattle.ngc_behaviour.specs.Reach.{stops, flows_into, leg_of, legs_behind, re
 use Rattle.ngc_behaviour.specs.RateRules.{GoesOnInto, MayTravel, target, head_bound, pace}
 use Rattle.ngc_behaviour.specs.Progress.{TravelsAtLeast}
 
--- ---- behind a command that flows into nothing
+-- ---- after a command that continues into nothing
 
 none_left : (n : ℕ) → nat_lt 0 n ≡ false → n ≡ 0
 none_left n h = grind (arith, nat_tests)
@@ -41,7 +41,7 @@ off_by true false c (inr h) = absurd (false≢true h)
 abbrev pub IsStop : Queued → Type 0
 IsStop l = (path_steps l ≡ 0) ⊎ (stops l.command.action ≡ true)
 
--- so it flows into no command
+-- so it continues into no command
 pub flows_nowhere : (l m : Queued) → IsStop l → flows_into l m ≡ false
 flows_nowhere l m (inl z) =
     off_by (nat_lt 0 (path_steps l)) (stops l.command.action) (nat_lt 0 (path_steps m)) (inl (le-ltb 0 (path_steps l) (omega (arith, z))))
@@ -66,7 +66,7 @@ never_by : (b : Bool) (v : ℕ) (x : Leg) (xs others : List Leg) → x.joined �
 never_by true v x xs others off none h = true≢false (sym h.0 ∙ off)
 never_by false v x xs others off none h = none refl h
 
--- no rate goes on behind a stop
+-- no rate continues after a stop
 never_goes_on : (job : Job) (k v : ℕ) (l : Queued) (ls : List Queued) → IsStop l → GoesOnLeg v (legs_behind job k l ls) → ⊥
 never_goes_on job k v l [] stop h = h
 never_goes_on job k v l (m ∷ ms) stop h =
@@ -81,7 +81,7 @@ into_by true job v l m x xs others machine on most none h =
     let low = h.1 in (sym on ∙ h.0, (greatest_bound job.machine m.command.action (path_steps m) v machine).0 (omega (arith, low, most)))
 into_by false job v l m x xs others machine on most none h = absurd (none refl h)
 
--- what goes on into the next leg goes on into the next command
+-- a rate that continues into the next leg continues into the next command
 pub goes_into : (job : Job) (k v : ℕ) (l : Queued) (ls : List Queued) → IsMachine job.machine → GoesOnLeg v (legs_behind job k l ls) → GoesOnInto job v l ls
 goes_into job k v l [] machine h = h
 goes_into job k v l (m ∷ ms) machine h =
@@ -91,7 +91,7 @@ goes_into job k v l (m ∷ ms) machine h =
 
 -- ---- a tick
 
--- nothing is travelled where all is left
+-- nothing is travelled if all remains
 same_test : (t r m : ℕ) → r ≡ m - t → t ≤ m → (t == 0) ≡ (r == m)
 same_test t r m e f = grind (arith, nat_tests)
 
@@ -112,7 +112,7 @@ same_pace r a w b s c x d e f g h = cc
 paced : (p q v way other have there : ℕ) → p ≡ q → way ≡ other → have ≡ there → (other < there → q ≤ v) → way < have → p ≤ v
 paced p q v way other have there e f g h less = omega (arith, h (omega arith))
 
--- a ramp with the ring's motions as its legs travels at rates that the machine may travel
+-- a ramp with the ring's motions as its legs travels at rates that the machine allows
 pub may_travel : (job : Job) (l : Queued) (ls : List Queued) (s : State) (r : RampState) (joined : Bool) (wish v : ℕ) → IsMachine job.machine →
     1 ≤ path_steps l →
     r.change ≡ job.machine.change → r.rate ≡ s.rate → r.rest ≡ rest l s → s.travelled ≤ millionths l → wish ≡ target job l s →
@@ -141,12 +141,12 @@ may_travel job l ls s r joined wish v machine some change rate left within aim m
           (free job (pace job l s) l ls s) (ramp_free (ramp_pace r wish leg) r.rest leg legs) same (ap₂ braking same (sym change)) clear may.keeps_pace;
     }
 
--- ---- how far it goes at least
+-- ---- the least distance of a tick
 
 no_greater : (a b c : ℕ) → a ≤ b → b ≤ c → a ≤ c
 no_greater a b c p q = omega arith
 
--- while the machine is free it travels at least the least travel of a motion, whatever lies behind it
+-- while the machine is free it travels at least the least travel of a motion, whatever follows it
 pub travels_at_least : (job : Job) (l : Queued) (ls : List Queued) (s : State) (r : RampState) (joined : Bool) (wish v : ℕ) → IsMachine job.machine →
     IsMotion l.command.action → 1 ≤ path_steps l → r.change ≡ job.machine.change → r.rate ≡ s.rate → r.rest ≡ rest l s → s.travelled ≤ millionths l →
     wish ≡ target job l s → MayTick r wish (leg_of job s.done joined l) (legs_behind job (suc s.done) l ls) v → TravelsAtLeast job (l ∷ ls) s v
@@ -169,13 +169,13 @@ few_by : (b : Bool) (x : Leg) (xs : List Leg) (n : ℕ) → length xs ≤ n → 
 few_by true x xs n p = omega arith
 few_by false x xs n p = omega arith
 
--- no more legs than commands
+-- there are no more legs than commands
 pub no_more_legs : (job : Job) (k : ℕ) (l : Queued) (ls : List Queued) → length (legs_behind job k l ls) ≤ length ls
 no_more_legs job k l [] = omega arith
 no_more_legs job k l (m ∷ ms) =
     few_by (nat_lt 0 (path_steps m)) (leg_of job k (flows_into l m) m) (legs_behind job (suc k) m ms) (length ms) (no_more_legs job (suc k) m ms)
 
--- the last of l and those behind it
+-- the last of l and those after it
 abbrev pub last_behind : Queued → List Queued → Queued
 last_behind l [] = l
 last_behind l (m ∷ ms) = last_behind m ms
@@ -184,7 +184,7 @@ more_by : (b : Bool) (x : Leg) (all some one : List Leg) → all ≡ some ++ one
 more_by true x all some one e = ap (λ xs. x ∷ xs) e
 more_by false x all some one e = e
 
--- the legs of one command more are those before and its own, if it has one
+-- one more command adds its own leg, if it has one
 pub legs_more : (job : Job) (k : ℕ) (l : Queued) (ls : List Queued) (q : Queued) →
     legs_behind job k l (ls ++ q ∷ []) ≡ legs_behind job k l ls ++ legs_behind job (k + length ls) (last_behind l ls) (q ∷ [])
 legs_more job k l [] q = let same : k ≡ k + 0 = omega arith in ap (λ n. legs_behind job n l (q ∷ [])) same

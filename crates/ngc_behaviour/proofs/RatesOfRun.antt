@@ -30,7 +30,8 @@ abbrev pub Fits : List Queued → ℕ → Type 0
 Fits [] travelled = travelled ≡ 0
 Fits (l ∷ ls) travelled = travelled ≤ millionths l - 1
 
--- what a tick has beyond the head is less than a path step, and the way goes on into the next command
+-- the rest of a tick beyond the head is less than a path step, and the axes continue into the next
+-- command
 abbrev pub GoesOver : Queued → List Queued → ℕ → Type 0
 GoesOver l [] over = over ≡ 0
 GoesOver l (k ∷ ks) over = 0 < over → (flows_into l k ≡ true) × (over < MILLION)
@@ -57,7 +58,7 @@ resting job l ls s slow f = record {
   goes_on = λ h. absurd (omega (arith, h, f));
 }
 
--- what an action that travels nothing leaves when it is done
+-- the state after an action without travel is done
 pub after_stays : (a : Action) (s : State) → ((after a s).done ≡ s.done) × ((after a s).ring ≡ s.ring) × ((after a s).travelled ≡ s.travelled) ×
     ((after a s).position ≡ s.position) × ((after a s).rate ≡ s.rate)
 after_stays (Move m) s = (refl, refl, refl, refl, refl)
@@ -88,7 +89,7 @@ travel_fits : (b : Bool) (x y : State) → (b ≡ true → Fits x.ring x.travell
 travel_fits true x y f g = f refl
 travel_fits false x y f g = g refl
 
--- a command that the way flows into has path steps
+-- a command into which another continues has path steps
 pub flows_some : (l k : Queued) → flows_into l k ≡ true → 0 < path_steps k
 flows_some l k h =
     let a = and_parts (nat_lt 0 (path_steps l)) (not (stops l.command.action) && nat_lt 0 (path_steps k)) h in
@@ -102,17 +103,17 @@ over_by job l [] t v small short g = elim (cases_lt (millionths l) (t + v)) [
 ]
 over_by job l (k ∷ ks) t v small short g = λ more. let into = g (omega (arith, more)) in (into.0, omega (arith, small, short))
 
--- what a tick has beyond the head
+-- the rest of a tick beyond the head
 pub goes_over : (job : Job) (l : Queued) (ls : List Queued) (old : State) (o : Outcome) (new : State) → new.rate ≤ MILLION → 0 < path_steps l →
     old.travelled ≤ millionths l - 1 → Travels job l ls old o new → GoesOver l ls (old.travelled + new.rate - millionths l)
 goes_over job l ls old o new small some f t = over_by job l ls old.travelled new.rate small (omega (arith, some, f)) t.may.rules.goes_on
 
--- nothing is beyond where a tick ends with the head, or before
+-- there is no rest if a tick ends with the head, or before
 pub none_over : (l : Queued) (ls : List Queued) → GoesOver l ls 0
 none_over l [] = refl
 none_over l (k ∷ ks) = λ h. absurd (omega (arith, h))
 
--- what is beyond is less than a path step
+-- the rest is less than a path step
 pub over_small : (l : Queued) (ls : List Queued) (over : ℕ) → GoesOver l ls over → over < MILLION
 over_small l [] over g = omega (arith, g)
 over_small l (k ∷ ks) over g = elim (cases_lt 0 over) [

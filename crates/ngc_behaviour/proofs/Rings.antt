@@ -1,4 +1,4 @@
--- What an event does to the ring: three cases.
+-- The effect of an event on the ring: three cases.
 use Rattle.std.proofs.Common.{◌≡◌, suc, ap, subst, sym, ◌∙◌, refl, inl, inr, List, [], ◌∷◌, ◌++◌, length, drop, Some, None, true, false}
 use Rattle.std.specs.Prelude.{Option, Bool, MatchBool, nat_lt, nat_le, if◌then◌else◌, ◌+◌, ◌-◌}
 use Rattle.ngc_fixed_length.specs.declared.points.StepPos.{StepPos}
@@ -13,7 +13,7 @@ use Rattle.ngc_behaviour.specs.Step.{ticks_of}
 use Rattle.ngc_behaviour.proofs.Cases.{match_with}
 use Rattle.ngc_behaviour.proofs.RatesOfRun.{after_stays}
 
--- a command came behind the others
+-- a command was added after the others
 pub record Grows (job : Job) (old new : State) : Type 0 where
   pub command : Command
   pub path : List StepPos

@@ -1,4 +1,5 @@
--- Each position of a run is safe, from the opening state on, where the certificate is valid for the commands.
+-- Each position of a run is safe, from the opening state on, if the certificate is valid for the
+-- commands.
 use Rattle.std.proofs.Common.{◌≡◌, ℕ, zero, suc, ◌+◌, ◌*◌, ◌/◌, ◌<◌, ap, subst, sym, ◌∙◌, arith, refl, List, ◌∷◌, ℤ, pos, negsuc, ◌*ℤ◌, ◌≤ℤ◌, neg_ℤ}
 use Rattle.std.specs.Prelude.{IsTrue, ◌&&◌, int_div, int_rem, int_le, slice_get}
 use Rattle.std.proofs.lemmas.Int.{ints, quot-rem}

@@ -1,4 +1,4 @@
--- Every state of a run is safe, where a certificate is valid for the commands.
+-- Every state of a run is safe if a certificate is valid for the commands.
 use Rattle.std.proofs.Common.{◌≡◌, ℕ, suc, ◌+◌, ◌-◌, ◌*◌, ◌<◌, ◌≤◌, inl, inr, ap, subst, sym, ◌∙◌, arith, refl, List, [], ◌∷◌, ◌++◌, length, drop, Some, None}
 use Rattle.std.proofs.Common.{true, false, pos, ◌≤ℤ◌}
 use Rattle.std.specs.Prelude.{if◌then◌else◌, Option, Bool, MatchBool, nat_lt, nat_le, slice_get}
@@ -30,7 +30,7 @@ use Rattle.ngc_behaviour.specs.Safety.{AreSafe}
 use Rattle.ngc_behaviour.proofs.Cases.{match_with}
 use Rattle.ngc_behaviour.proofs.Heads.{next_at}
 
--- the loaded commands begin what is left, each with a path that it may take
+-- the loaded commands begin the remaining ones, each with a path that it may take
 abbrev pub RingFits : Job → List Command → List Queued → Type 0
 RingFits job cs [] = Unit {0}
 RingFits job [] (l ∷ ls) = ⊥
@@ -41,7 +41,8 @@ abbrev pub NoSteps : List Queued → Type 0
 NoSteps [] = Unit {0}
 NoSteps (l ∷ ls) = path_steps l ≡ 0
 
--- what holds between two events: what is left of commands and entries, and the place where the next motion begins
+-- the invariant between two events: the remaining commands and entries, and the position where the
+-- next motion begins
 pub record Holds (job : Job) (done : ℕ) (ring : List Queued) (position : StepPos) (tool : Option Tool) : Type 0 where
   pub left : List Command
   pub entries : List Entry
@@ -73,7 +74,7 @@ pub still_ends : (job : Job) (way : Way) (path : List StepPos) → IsPathOf job.
 still_ends job way path w z = let e = path_ends job way path w in
     let i : 0 ≡ e.0 = omega (arith, e.1, z) in sym e.2 ∙ ap (point path) i ∙ e.3
 
--- ---- the head is done, in a place p
+-- ---- the head is done, at a position p
 
 abbrev tool_after : Action → Option Tool → Option Tool
 tool_after (Mount new) tool = new
@@ -134,7 +135,7 @@ on_way job l tool place (Move m) actions (entry ∷ entries) k s clear even take
     safe_on_path job.machine tool m.way entry.pieces l.path k s even.0 clear.0 take (omega (arith, p, i))
 on_way job l tool place _ actions entries k s clear even take p i = absurd (let e = ap length take in omega (arith, e, p))
 
--- and when it is done, the next motion begins where it ends
+-- and when it is done, the next motion begins at its end
 arrived : (job : Job) (done : ℕ) (l : Queued) (ls : List Queued) (tool : Option Tool) (d : Action) (cs : List Command) (entries : List Entry) (place : Point3) →
     pos 1 ≤ℤ job.machine.step →
     ((k : ℕ) → command_at job (suc done + k) ≡ slice_get cs k) →

@@ -1,4 +1,4 @@
--- What the checker's yes says of the commands of a setting.
+-- The consequences of the checker's acceptance for the commands of a setting.
 use Rattle.std.proofs.Common.{◌≡◌, List, subst, sym, ◌∙◌}
 use Rattle.std.specs.Prelude.{None, Bool, true, false, Result, Ok}
 use Rattle.ngc_commands.specs.declared.command.Command.{Command}
@@ -31,7 +31,7 @@ unfolding fine
 meant program setup c v false commands e = subst (λ cs. IsValid setup.machine cs c.off) (same_commands v.off commands (sym v.off_means ∙ e)) v.off_valid
 meant program setup c v true commands e = subst (λ cs. IsValid setup.machine cs c.on) (same_commands v.on commands (sym v.on_means ∙ e)) v.on_valid
 
--- where nothing is refused the certificate is valid for the commands of each setting
+-- if nothing is refused, the certificate is valid for the commands of each setting
 pub setting_is_valid : (program : Program) (setup : Setup) (c : CertificateData) → first_refusal program setup c ≡ None →
     (block_delete : Bool) (commands : List Command) →
     meaning program setup block_delete ≡ Ok commands → IsValid setup.machine commands (entries_at block_delete c)

@@ -1,4 +1,5 @@
--- A motion never steps on an axis on which its ends agree, unless it is an arc and the axis lies in its plane.
+-- A motion never steps on an axis on which its ends agree, unless it is an arc and the axis is in
+-- its plane.
 use Rattle.std.proofs.Common.{◌≡◌, ℕ, ◌+◌, ◌-◌, ◌<◌, ◌≤◌, ap, subst, sym, ◌∙◌, arith, List, length, false, ℤ}
 use Rattle.std.specs.Prelude.{Bool, nat_lt, unsigned_abs, ◌-ℤ◌}
 use Rattle.std.proofs.lemmas.Int.{ints}
@@ -27,7 +28,7 @@ pub data Axis : Type 0 where
   Y : Axis
   Z : Axis
 
--- a point's place on it
+-- a point's coordinate on it
 abbrev pub on : Axis → StepPos → ℤ
 on X p = p.x
 on Y p = p.y
@@ -56,7 +57,7 @@ record Follows (axis : Axis) (step : ℤ) (n : ℕ) (b e : ℤ) (p q : StepPos) 
   pub ends : point path n ≡ q
   pub follows : FollowsLine step n b e (λ k. on axis (point path k))
 
--- where nothing turns back, and the ends agree, nothing moves
+-- if nothing turns back and the ends agree, nothing moves
 stays : (step : ℤ) (n : ℕ) (b e : ℤ) (place : ℕ → ℤ) → FollowsLine step n b e place → place 0 ≡ place n → (k : ℕ) → k ≤ n → place k ≡ place 0
 stays step n b e place f agree k h =
     let s = subst (λ q. distance (place 0) (place k) + distance (place k) q ≡ distance (place 0) q) (sym agree)
@@ -85,11 +86,11 @@ line_follows X step b e n path l = (b.x, e.x, record { count = l.count; starts =
 line_follows Y step b e n path l = (b.y, e.y, record { count = l.count; starts = l.starts; ends = l.ends; follows = l.y })
 line_follows Z step b e n path l = (b.z, e.z, record { count = l.count; starts = l.starts; ends = l.ends; follows = l.z })
 
--- how high the points of a path stand on a plane
+-- the heights of a path's points above a plane
 abbrev heights : Plane → List StepPos → ℕ → ℤ
 heights plane path k = height plane (record { x = (point path k).x; y = (point path k).y; z = (point path k).z })
 
--- an arc's path, as its plane sees it
+-- an arc's path, in its plane's coordinates
 record Rises (plane : Plane) (step : ℤ) (n : ℕ) (b e : ℤ) (p q : StepPos) (path : List StepPos) : Type 0 where
   pub count : length path ≡ n + 1
   pub starts : point path 0 ≡ p
@@ -117,7 +118,7 @@ still_way axis step (Arc a) path w h =
     still_arc axis a.plane step w.0 (height a.plane a.start) (height a.plane a.end) (grid step a.start) (grid step a.end) path
     (record { count = w.1.weak.count; starts = w.1.weak.starts; ends = w.1.weak.ends; rises = w.1.rises }) h
 
--- a path that an action may take is still on the axes that the action doesn't move
+-- a path that an action may take is still on the axes that the action does not move
 pub still_action : (axis : Axis) (job : Job) (a : Action) (path : List StepPos) → MayTake job a path → may_move axis job.machine.step a ≡ false →
     IsStill axis path
 still_action axis job (Move m) path take h = still_way axis job.machine.step m.way path take h

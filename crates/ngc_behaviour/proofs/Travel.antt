@@ -1,4 +1,4 @@
--- What a tick that travels leaves.
+-- The state after a tick that travels.
 use Rattle.std.proofs.Common.{◌≡◌, ◌⊎◌, inl, inr, ℕ, suc, ◌+◌, ◌-◌, ◌<◌, ◌≤◌, subst, sym, arith, refl, List, drop, true, false, Bool}
 use Rattle.std.specs.Prelude.{nat_le, if◌then◌else◌}
 use Rattle.std.proofs.lemmas.Bool.Decides.{nat_tests}
@@ -6,7 +6,8 @@ use Rattle.ngc_fixed_length.specs.LinePath.{point}
 use Rattle.ngc_behaviour.specs.State.{Job, Queued, State, millionths}
 use Rattle.ngc_behaviour.specs.Step.{Outcome, Travels, without_head, place_after}
 
--- what a tick of rate v that travels leaves: the head is done, with what is beyond travelled on the next, or goes on
+-- the state after a tick of rate v that travels: the head is done, with the rest travelled on the
+-- next, or it continues
 pub record Moved (l : Queued) (old : State) (v : ℕ) (new : State) : Type 0 where
   pub position : new.position ≡ point l.path (place_after l old v)
   pub state : ((millionths l ≤ old.travelled + v) × (new.done ≡ suc old.done) × (new.ring ≡ drop 1 old.ring) ×

@@ -1,4 +1,5 @@
--- The positions of a run begin a path of the program, and when its end is told they are a whole one.
+-- The positions of a run begin a path of the program, and when its end is reported they are a whole
+-- one.
 use Rattle.std.proofs.Common.{◌≡◌, ℕ, zero, suc, ◌+◌, ◌-◌, ◌/◌, ◌<◌, ◌≤◌, ◌⊎◌, inl, inr, ap, subst, sym, ◌∙◌, arith, refl, List, [], ◌∷◌, ◌++◌, length, take}
 use Rattle.std.proofs.Common.{drop, Some, None, true, Ok}
 use Rattle.std.specs.Prelude.{Contains, slice_get}
@@ -34,7 +35,7 @@ use Rattle.ngc_behaviour.proofs.Effects.{Spot, spot_of, spot, tells_end, ends_pr
 use Rattle.ngc_behaviour.proofs.Arcs.{AreArcs, arcs_left}
 use Rattle.ngc_behaviour.proofs.MotionPaths.{begins_at, none_before, with_pulse, path_length, path_then, some_path}
 
--- ---- what holds between two events
+-- ---- the invariant between two events
 
 -- the position: on the head's path, or where the next motion begins
 abbrev IsHere : Job → Point3 → List Queued → ℕ → StepPos → Type 0
@@ -51,7 +52,7 @@ record Walks (job : Job) (left : List Command) (ring : List Queued) (travelled :
 
 -- ---- the points that may follow
 
--- of the head's path the points from the place on, and then a path of the other motions
+-- the points of the head's path from the position on, and then a path of the other motions
 abbrev HeadWay : Job → Queued → Action → List Command → ℕ → StepPos → List StepPos → Type 0
 HeadWay job l (Move m) cs travelled p points =
     (rest : List StepPos) × IsPathOfAll job.machine.step (point l.path (path_steps l)) (ways_of (actions_of cs)) rest ×
@@ -86,13 +87,13 @@ none_walked : (ring : List Queued) → Fits ring 0
 none_walked [] = refl
 none_walked (l ∷ ls) = omega arith
 
--- less than a path step of the head was walked
+-- less than a path step of the head was travelled
 begins : (job : Job) (left : List Command) (ring : List Queued) (place : Point3) (t : ℕ) (p : StepPos) → AreJoined place (ways_of (actions_of left)) →
     RingFits job left ring → Fits ring t → t < MILLION → p ≡ grid job.machine.step place → Walks job left ring t p
 begins job left ring place t p j f short small e =
     record { place = place; joined = j; fits = f; short = short; here = begins_here job left ring place t p j f small e }
 
--- ---- each case keeps it
+-- ---- each case keeps the invariant
 
 more_walked : (ring : List Queued) (l : Queued) (t : ℕ) → Fits ring t → Fits (ring ++ l ∷ []) t
 more_walked [] l t f = omega (arith, f)
@@ -128,7 +129,7 @@ walks_on : (job : Job) (left : List Command) (l : Queued) (ls : List Queued) (t 
 walks_on job left l ls t v p w some short =
     record { place = w.place; joined = w.joined; fits = w.fits; short = omega (arith, short); here = (λ z. absurd (omega (arith, z, some)), λ s. refl) }
 
--- the command behind the head
+-- the command after the head
 walks_arrived : (job : Job) (d : Action) (cs : List Command) (l : Queued) (ls : List Queued) (place : Point3) (over : ℕ) →
     AreJoined place (ways_of (d ∷ actions_of cs)) →
     MayTake job d l.path → RingFits job cs ls → 0 < path_steps l → GoesOver l ls over → Walks job cs ls over (point l.path (path_steps l))
@@ -143,7 +144,7 @@ walks_passed job (Move m) cs l ls place p j may f z e =
     begins job cs ls (end_of m.way) 0 p j.1 f (none_walked ls) (omega arith) (e ∙ ap (grid job.machine.step) (sym j.0) ∙ still_ends job m.way l.path may z)
 walks_passed job _ cs l ls place p j may f z e = begins job cs ls place 0 p j f (none_walked ls) (omega arith) e
 
--- ---- from the way of the next state to that of this one
+-- ---- from the remaining path of the next state to that of this one
 
 zero_or_some : (n : ℕ) → (n ≡ 0) ⊎ (0 < n)
 zero_or_some zero = inl refl
@@ -170,7 +171,8 @@ all_head job (Move m) cs l ls place t p points small short j may here w =
     path_then job m.way (ways_of (actions_of cs)) p l.path w.0 points may starts w.1 (w.2 ∙ ap (λ k. drop k (take (path_steps l) l.path) ++ w.0) first)
 all_head job _ cs l ls place t p points small short j may here w = w
 
--- where less than a path step of the head was walked, the way is a path of all that is left
+-- if less than a path step of the head was travelled, the remaining path is a path of all remaining
+-- motions
 all_way : (job : Job) (left : List Command) (ring : List Queued) (t : ℕ) (p : StepPos) (points : List StepPos) → t < MILLION → Walks job left ring t p →
     WayFrom job left ring t p points → IsPathOfAll job.machine.step p (ways_of (actions_of left)) points
 all_way job left [] t p points small w way = way
@@ -223,7 +225,7 @@ back_passed job (Move m) cs l ls place t p tail j may here short z w =
     )
 back_passed job _ cs l ls place t p tail j may here short z w = w
 
--- from a place on the head's path there is some way
+-- from a point of the head's path there is a remaining path
 way_ahead : (job : Job) → IsStep job.machine.step → (d : Action) (cs : List Command) (l : Queued) (ls : List Queued) (place : Point3) (t : ℕ) (p : StepPos) →
     AreArcs (ways_of (d ∷ actions_of cs)) → AreJoined place (ways_of (d ∷ actions_of cs)) → MayTake job d l.path → t ≤ millionths l →
     IsHere job place (l ∷ ls) t p →
@@ -244,7 +246,7 @@ some_way job s [] (l ∷ ls) t p arcs w = absurd w.fits
 some_way job s (c ∷ cs) (l ∷ ls) t p arcs w =
     let short = w.short in way_ahead job s c.action cs l ls w.place t p arcs w.joined w.fits.1 (omega (arith, short)) w.here
 
--- where nothing is left the position alone is the way
+-- if nothing remains, the position alone is the remaining path
 no_way : (job : Job) (left : List Command) (ring : List Queued) (t : ℕ) (p : StepPos) → left ≡ [] → Walks job left ring t p → WayFrom job left ring t p (p ∷ [])
 no_way job [] [] t p e w = refl
 no_way job [] (l ∷ ls) t p e w = absurd w.fits
@@ -332,7 +334,7 @@ kept job old new o (passes e) w =
     (after_pass job (left_of job old.done) (left_of job (suc old.done)) e.head e.others old.travelled old.position (next_left old.done job.commands) e.none
     (subst (WalksIn job) e.was w))
 
--- the way of the next state begins with its position
+-- the remaining path of the next state begins with its position
 abbrev WayOn : Job → List StepPos → Spot → Type 0
 WayOn job tail s = WayIn job s (s.position ∷ tail)
 
@@ -430,7 +432,7 @@ first_or_later : (o : Outcome) (os : List Outcome) → Contains (o ∷ os) the_e
 first_or_later o os (zero, l, e) = inl (ap tells_end e)
 first_or_later o os (suc k, l, e) = inr (k, omega (arith, l), e)
 
--- a run after which nothing is left
+-- a run after which nothing remains
 ended : (job : Job) (old : State) (es : List Event) (os : List Outcome) (states : List State) → IsMachine job.machine → EndIsLast job.commands →
     WalksIn job (spot old) →
     Run job old es os states → (left_of job old.done ≡ []) ⊎ Contains os the_end → WayOn job (positions os) (spot old)
@@ -465,7 +467,7 @@ pub way_begins : (machine : MachineFile) (commands : List Command) → IsMachine
 way_begins machine commands m arcs j events outcomes states r =
     begun (job_of machine commands) (opening machine) events outcomes states m arcs (opens machine commands j) r
 
--- When the end is told they are a whole path.
+-- When the end is reported they are a whole path.
 pub way_ended : (machine : MachineFile) (commands : List Command) → IsMachine machine → AreJoined machine.start (ways_of (actions_of commands)) →
     EndIsLast commands →
     (events : List Event) (outcomes : List Outcome) (states : List State) → Run (job_of machine commands) (opening machine) events outcomes states →

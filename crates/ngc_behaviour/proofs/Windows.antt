@@ -1,4 +1,4 @@
--- Windows over a list of rates, and over what is counted at them.
+-- Windows over a list of rates, and over the counts at them.
 use Rattle.std.proofs.Common.{◌≡◌, ℕ, zero, suc, ◌+◌, ◌*◌, ◌/◌, ◌<◌, ◌≤◌, ap, subst, sym, ◌∙◌, arith, refl, List, [], ◌∷◌, Bool, cond}
 use Rattle.std.specs.Prelude.{length, take, drop, count_by, slice_index_or}
 use Rattle.std.proofs.lemmas.List.{drop-drop, drop_more, length-drop}
@@ -6,8 +6,8 @@ use Rattle.std.proofs.lemmas.List.Sums.{sum_by-cons}
 use Rattle.ngc_fixed_length.specs.Limits.{MILLION}
 use Rattle.ngc_planner.specs.Pulses.{up_to_whole}
 
--- The rate v of a tick x, after a tick of rate r and after s millionths: by at most a from r. The test counts a tick in which one
--- more million is full.
+-- The rate v of a tick x, after a tick of rate r and after s millionths: it differs from r by at
+-- most a. The test counts a tick in which one more million is full.
 pub record IsPaced {X : Type 0} (test : X → Bool) (a s r v : ℕ) (x : X) : Type 0 where
   pub faster : v ≤ r + a
   pub slower : r ≤ v + a
@@ -60,7 +60,7 @@ counted test a s r (v ∷ vs) (x ∷ xs) p =
     let c = p.0.counts in let i = counted test a (s + v) v vs xs p.1 in
     omega (arith, c, i, sum_next v vs, sum_by-cons (λ y. cond (test y) 1 0) x xs)
 
--- a rate n places on
+-- a rate n positions further
 far : {X : Type 0} (test : X → Bool) (a s r n : ℕ) (vs : List ℕ) (xs : List X) → ArePaced test a s r vs xs → n < length vs →
     (slice_index_or vs n 0 ≤ r + suc n * a) × (r ≤ slice_index_or vs n 0 + suc n * a)
 far test a s r n [] [] p l = absurd (omega (arith, l))
@@ -113,7 +113,7 @@ first_two test a s r n vs xs p l =
     let q : n * n * a ≡ n * (n * a) = omega arith in
     (omega (arith, c, f, w.0, q), omega (arith, c, f, w.1, q))
 
--- two windows of n ticks, one after the other, have about as many
+-- two successive windows of n ticks have nearly the same number
 pub two_windows : {X : Type 0} (test : X → Bool) (a s r : ℕ) (vs : List ℕ) (xs : List X) → ArePaced test a s r vs xs → (i n : ℕ) → i + n + n ≤ length xs →
     AreClose (n * n * a) (count_by test (take n (drop (i + n) xs))) (count_by test (take n (drop i xs)))
 two_windows test a s r vs xs p i n l =

@@ -33,7 +33,7 @@ Headline = (program : Program) (setup : Setup) (c : CertificateData) → IsMachi
     meaning program setup block_delete ≡ Ok commands →
     RunsSafely (job_of setup.machine commands)
 
--- the same of what was accepted
+-- the same for an accepted program
 abbrev pub AcceptedRunsSafely : Type 0
 AcceptedRunsSafely = (a : AcceptedData) → IsAccepted a → (block_delete : Bool) →
     RunsSafely (job_of a.machine (commands_at block_delete a))
@@ -46,14 +46,14 @@ KeepRatesAlways = (job : Job) → IsMachine job.machine →
     Run job (opening job.machine) events outcomes states →
     KeepRates job (opening job.machine) events states
 
--- In every run a loaded command that comes to the head keeps its path.
+-- In every run a loaded command that reaches the head keeps its path.
 abbrev pub KeepPaths : Type 0
 KeepPaths = (job : Job) (events : List Event) (outcomes : List Outcome) (states : List State) →
     Run job (opening job.machine) events outcomes states →
     (k : ℕ) (l : Queued) → ComesToHead k l states → KeepsPath job k l states
 
 -- On every machine within its ranges, in every run that keeps going, a motion with path steps and a
--- least rate is done within so many free ticks.
+-- least rate is done within a bounded number of free ticks.
 abbrev pub EndsInTime : Type 0
 EndsInTime = (job : Job) → IsMachine job.machine →
     (events : List Event) (outcomes : List Outcome) (states : List State) →

@@ -1,4 +1,4 @@
--- How long a motion takes at the most. Our own.
+-- The greatest duration of a motion. Our own.
 use Rattle.std.specs.Prelude.{◌≡◌, ℕ, ◌+◌, ◌-◌, ◌/◌, ◌≤◌, ◌<◌, min, ◌==◌, nat_lt, List, [], ◌∷◌}
 use Rattle.std.specs.Prelude.{slice_get, Any, Some, Bool, true, false, not, ◌&&◌, if◌then◌else◌}
 use Rattle.ngc_planner.specs.Bounds.{least_travel}
@@ -16,8 +16,7 @@ pub record IsFree (s : State) : Type 0 where
   pub not_stopped : s.stopped ≡ false
   pub some_override : 0 < effective s
 
--- a tick that is given while it is free travels at least so much on a head with path steps, or all
--- that is left of it
+-- a free tick travels at least v on a head with path steps, or all of its rest
 abbrev pub TravelsAtLeast : Job → List Queued → State → ℕ → Type 0
 TravelsAtLeast job [] old v = Unit {0}
 TravelsAtLeast job (l ∷ ls) old v =
@@ -56,7 +55,7 @@ pub record KeepsPath (job : Job) (k : ℕ) (l : Queued) (states : List State) : 
   pub path : MayTake job l.command.action l.path
   pub no_other : (m : Queued) → ComesToHead k m states → m ≡ l
 
--- ---- the bound on ticks that follows
+-- ---- the resulting bound on ticks
 
 abbrev pub is_tick : Event → Bool
 is_tick Tick = true
@@ -87,15 +86,16 @@ free_ticks k old (e ∷ es) (new ∷ states) =
 abbrev pub ticks_for : ℕ → ℕ → ℕ
 ticks_for x m = (x + (m - 1)) / m
 
--- a loaded motion travels at least so much in a free tick, or all that is left of it
+-- a loaded motion travels at least at this rate in a free tick, or all of its rest
 abbrev pub least_rate : Job → Queued → ℕ
 least_rate job l = least_travel job.machine l.command.action (path_steps l)
 
--- how many free ticks a loaded motion takes at the most
+-- the greatest number of free ticks of a loaded motion
 abbrev pub most_ticks : Job → Queued → ℕ
 most_ticks job l = ticks_for (millionths l) (least_rate job l)
 
--- each motion with path steps that comes to the head in a run is done within so many free ticks
+-- each motion with path steps that reaches the head in a run is done within that number of free
+-- ticks
 abbrev pub IsDoneInTime : Job → List Event → List State → Type 0
 IsDoneInTime job events states =
     (k : ℕ) (l : Queued) → ComesToHead k l states → 1 ≤ path_steps l →

@@ -1,4 +1,4 @@
--- The rules of rates: millionths of a path step a tick. Our own.
+-- The rules of rates, in millionths of a path step per tick. Our own.
 use Rattle.std.specs.Prelude.{◌≡◌, ℕ, suc, ◌+◌, ◌-◌, ◌≤◌, ◌<◌, min, max, ◌==◌, List, [], ◌∷◌, true}
 use Rattle.std.specs.Prelude.{if◌then◌else◌}
 use Rattle.ngc_planner.specs.Braking.{braking}
@@ -10,7 +10,7 @@ use Rattle.ngc_behaviour.specs.State.{Job, Queued, State, path_steps, millionths
 use Rattle.ngc_behaviour.specs.State.{place_before, effective}
 use Rattle.ngc_behaviour.specs.Reach.{flows_into, reach, free}
 
--- the way goes on into the next motion, which is within its bounds too
+-- the axes continue into the next motion, and the rate is within its bounds too
 abbrev pub GoesOnInto : Job → ℕ → Queued → List Queued → Type 0
 GoesOnInto job v l [] = ⊥
 GoesOnInto job v l (k ∷ ks) =
@@ -27,13 +27,13 @@ pub record KeepsRateRules (job : Job) (l : Queued) (ls : List Queued) (s : State
   pub leaves : millionths l ≤ s.travelled + v → v ≤ joint_at job.machine job.commands s.done
   pub goes_on : millionths l < s.travelled + v → GoesOnInto job v l ls
 
--- what is to be travelled at the grid point that the head's path has reached; nothing while held
+-- the target rate at the grid point that the head's path has reached; 0 while the machine is held
 abbrev pub target : Job → Queued → State → ℕ
 target job l s = if s.held then 0 else
     target_on job.machine l.command.action (path_steps l) (effective s)
     (point l.path (place_before s))
 
--- in its first tick a motion is bound by the joint too
+-- in its first tick a motion is also bound by the joint
 abbrev pub head_bound : Job → Queued → State → ℕ
 head_bound job l s =
     if s.travelled == 0
@@ -41,11 +41,11 @@ head_bound job l s =
     (joint_before job.machine job.commands s.done)
     else bound_of job.machine l.command.action (path_steps l)
 
--- the rate that a tick has at least, where the way is free for it
+-- the least rate of a tick if the path is free for it
 abbrev pub pace : Job → Queued → State → ℕ
 pace job l s = min (min (s.rate + job.machine.change) (target job l s)) (head_bound job l s)
 
--- the rates that a tick may travel on the head
+-- the allowed rates of a tick on the head
 pub record MayTravel (job : Job) (l : Queued) (ls : List Queued) (s : State) (v : ℕ) : Type 0 where
   pub rules : KeepsRateRules job l ls s v
   pub brakes : braking v job.machine.change ≤ reach job l ls s

@@ -1,5 +1,5 @@
--- The ring's motions as the legs of a ramp: how far the way is loaded, and how far a rate may go
--- on. Our own.
+-- The ring's motions as the legs of a ramp: how far the path is loaded, and how far a rate may
+-- continue. Our own.
 use Rattle.std.specs.Prelude.{ℕ, suc, ◌-◌, nat_lt, List, [], ◌∷◌, Bool, false}
 use Rattle.std.specs.Prelude.{not, ◌&&◌, if◌then◌else◌}
 use Rattle.ngc_commands.specs.declared.command.Action.{Action}
@@ -15,8 +15,8 @@ abbrev pub stops : Action → Bool
 stops (Move m) = m.stop
 stops _ = false
 
--- the way goes on from a loaded command into the next one without a stop, where both are motions
--- with path steps
+-- the axes continue from a loaded command into the next one without a stop if both are motions with
+-- path steps
 abbrev pub flows_into : Queued → Queued → Bool
 flows_into l k =
     nat_lt 0 (path_steps l) && (not (stops l.command.action) && nat_lt 0 (path_steps k))
@@ -31,18 +31,18 @@ leg_of job k joined l = record {
   joined = joined;
 }
 
--- the legs of what is loaded behind l, of which the first is command k
+-- the legs of the commands loaded after l, the first of which is command k
 abbrev pub legs_behind : Job → ℕ → Queued → List Queued → List Leg
 legs_behind job k l [] = []
 legs_behind job k l (m ∷ ms) =
     if nat_lt 0 (path_steps m) then leg_of job k (flows_into l m) m ∷ legs_behind job (suc k) m ms
     else legs_behind job (suc k) m ms
 
--- what is left of the head
+-- the rest of the head
 abbrev pub rest : Queued → State → ℕ
 rest l s = millionths l - s.travelled
 
--- the way that is loaded, up to the first stop
+-- the distance that is loaded, up to the first stop
 abbrev pub reach : Job → Queued → List Queued → State → ℕ
 reach job l ls s = legs.reach (rest l s) (legs_behind job (suc s.done) l ls)
 

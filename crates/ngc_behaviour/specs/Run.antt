@@ -10,7 +10,7 @@ use Rattle.ngc_events.specs.declared.reply.Reply.TheVariants.{Overridden, Switch
 use Rattle.ngc_behaviour.specs.State.{Job, State}
 use Rattle.ngc_behaviour.specs.Step.{Outcome, Step}
 
--- one step after another: the outcome of each event, and the state after it
+-- one step after the other: the outcome of each event, and the state after it
 abbrev pub Run : Job → State → List Event → List Outcome → List State → Type 0
 Run job old [] [] [] = Unit {0}
 Run job old (e ∷ es) (o ∷ os) (new ∷ states) = Step job old e o new × Run job new es os states
@@ -23,9 +23,9 @@ Run job old (e ∷ es) (o ∷ os) [] = ⊥
 abbrev pub events_of : List EventLine → List Event
 events_of lines = flat_map (λ line. replicate line.times line.event) lines
 
--- ---- what the ticks of a run do
+-- ---- the effect of a run's ticks
 
--- the positions that pulses lead to
+-- the positions to which pulses lead
 abbrev pub position_in : Outcome → List StepPos
 position_in (Ok (Ticked (Some p) ending)) = p ∷ []
 position_in (Ok (Ticked None ending)) = []
@@ -40,11 +40,11 @@ position_in (Err e) = []
 abbrev pub positions : List Outcome → List StepPos
 positions outcomes = flat_map position_in outcomes
 
--- by how much each axis goes from p to q
+-- the movement of each axis from p to q
 abbrev pub step_to : StepPos → StepPos → StepPos
 step_to p q = record { x = q.x -ℤ p.x; y = q.y -ℤ p.y; z = q.z -ℤ p.z }
 
--- the pulse of each tick, 0 0 0 where there is none
+-- the pulse of each tick, 0 0 0 if there is none
 abbrev pub pulses : StepPos → List Event → List State → List StepPos
 pulses p [] states = []
 pulses p (e ∷ es) [] = []

@@ -1,4 +1,4 @@
--- When a run of the machine is safe. Our own.
+-- The definition of a safe run of the machine. Our own.
 use Rattle.std.specs.Prelude.{◌≡◌, ℕ, ◌≤◌, List, [], ◌∷◌, ◌++◌, Some, None, Ok, Contains}
 use Rattle.ngc_fixed_length.specs.declared.points.StepPos.{StepPos}
 use Rattle.ngc_fixed_length.specs.Grid.{grid}
@@ -54,7 +54,7 @@ AreWholePath job points =
 abbrev pub BeginPath : Job → List StepPos → Type 0
 BeginPath job points = (later : List StepPos) × AreWholePath job (points ++ later)
 
--- What the headline says of a run from the opening state.
+-- The headline's statement about a run from the opening state.
 pub record IsSafeRun (job : Job) (events : List Event) (outcomes : List Outcome)
     (states : List State) : Type 0 where
   pub safe : AreSafe job.machine (opening job.machine ∷ states)
@@ -62,6 +62,6 @@ pub record IsSafeRun (job : Job) (events : List Event) (outcomes : List Outcome)
   pub pulse_rules : KeepsPulseRules job.machine (pulses (start_of_job job) events states)
   -- the positions that are commanded begin a path of the program
   pub way : BeginPath job (start_of_job job ∷ positions outcomes)
-  -- and the end is told only when the whole path was commanded
+  -- and the end is reported only after the whole path was commanded
   pub ended : Contains outcomes (Ok (Ticked None (Some End))) →
       AreWholePath job (start_of_job job ∷ positions outcomes)

@@ -19,18 +19,18 @@ pub record Queued : Type 0 where
   pub path : List StepPos
 
 pub record State : Type 0 where
-  -- how many commands are done, and those that are loaded and not done
+  -- the number of commands that are done, and the commands that are loaded and not done
   pub done : ℕ
   pub ring : List Queued
-  -- of the first of these the millionths of a path step that were travelled, or the ticks that were
-  -- dwelt
+  -- for the first of these, the millionths of a path step that were travelled, or the ticks that
+  -- were dwelt
   pub travelled : ℕ
   pub dwelt : ℕ
   pub position : StepPos
   -- the rate of the last tick
   pub rate : ℕ
   pub tool : Option Tool
-  -- the override in percent, and whether it counts
+  -- the override in percent, and whether it is on
   pub percent : ℕ
   pub overrides : Bool
   pub held : Bool
@@ -60,17 +60,17 @@ loaded s = s.done + length s.ring
 abbrev pub command_at : Job → ℕ → Option Command
 command_at job k = slice_get job.commands k
 
--- how many path steps a loaded command has, and their millionths
+-- the number of path steps of a loaded command, and their millionths
 abbrev pub path_steps : Queued → ℕ
 path_steps l = length l.path - 1
 
 abbrev pub millionths : Queued → ℕ
 millionths l = path_steps l * MILLION
 
--- the place on the head's path
+-- the position on the head's path
 abbrev pub place_before : State → ℕ
 place_before s = s.travelled / MILLION
 
--- the percentage that counts
+-- the effective percentage
 abbrev pub effective : State → ℕ
 effective s = if s.overrides then s.percent else 100

@@ -52,13 +52,13 @@ pub record Rests (job : Job) (old : State) (outcome : Outcome) (new : State) : T
   pub quiet : outcome ≡ Ok (Ticked None None)
   pub stands : new ≡ record old { rate = 0 }
 
--- how many ticks an action takes that travels nothing
+-- the number of ticks of an action without travel
 abbrev pub ticks_of : Job → Action → ℕ
 ticks_of job (actions.Dwell n) =
     max 1 ((n * job.machine.ticks_per_second + (MILLION - 1)) / MILLION)
 ticks_of job _ = 1
 
--- what an action changes when it ends; an optional stop reads the switch then
+-- the changes that an action makes when it ends; an optional stop reads the switch then
 abbrev pub after : Action → State → State
 after (actions.Mount tool) s = record s { tool = tool }
 after (actions.Override on) s = record s { overrides = on }
@@ -72,12 +72,12 @@ ending actions.OptionalStop s = if s.stop_switch then Stopped s.done else Done s
 ending actions.End s = End
 ending _ s = Done s.done
 
--- the head leaves the ring, with so many millionths travelled on the next
+-- the head leaves the ring, with over millionths travelled on the next
 abbrev pub without_head : ℕ → State → State
 without_head over s =
     record s { done = suc s.done; ring = drop 1 s.ring; travelled = over; dwelt = 0 }
 
--- an action that travels nothing is done, or dwells on
+-- an action without travel is done, or continues to dwell
 pub record Finishes (job : Job) (action : Action) (old : State) (outcome : Outcome) (new : State) :
     Type 0 where
   pub slow : old.rate ≤ job.machine.change
@@ -94,7 +94,7 @@ Serves job action old outcome new =
     MatchBool (nat_lt (suc old.dwelt) (ticks_of job action)) (Dwells job old outcome new)
     (Finishes job action old outcome new)
 
--- the place on the head's path after v millionths more
+-- the position on the head's path after v more millionths
 abbrev pub place_after : Queued → State → ℕ → ℕ
 place_after l s v = min (s.travelled + v) (millionths l) / MILLION
 

@@ -6,12 +6,12 @@ use Rattle.ngc_behaviour.specs.Step.{Outcome}
 use Rattle.ngc_behaviour.specs.Run.{Run}
 use Rattle.ngc_behaviour.specs.Progress.{KeepGoing}
 
--- the last of these states, or s where there is none
+-- the last of these states, or s if there is none
 abbrev pub last_state : State → List State → State
 last_state s [] = s
 last_state s (t ∷ ts) = last_state t ts
 
--- these events lead from a state to another, and each tick that is free to goes on
+-- these events lead from a state to another, and each free tick travels
 pub record Stretch (job : Job) (old new : State) (events : List Event) (outcomes : List Outcome) :
     Type 0 where
   pub states : List State

@@ -1,4 +1,5 @@
-//! What a machine that runs a program may do at each event, and what holds of all its runs.
+//! The allowed behaviour of a machine that runs a program, at each event, and the properties of all
+//! its runs.
 #![tactic(auto)]
 
 pub mod laws;
