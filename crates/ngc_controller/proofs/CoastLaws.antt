@@ -1,4 +1,4 @@
--- Ticks in which nothing is told: many at once are as many one after another.
+-- Ticks with nothing to report: many at once are the same as many in order.
 use Rattle.std.proofs.Common.{◌≡◌, ℕ, zero, suc, ◌+◌, ◌-◌, ◌*◌, ◌/◌, ◌≤◌, ◌<◌, min, List, [], ◌∷◌, Option, None, Bool, false, cond, refl, ap, ap₂, sym, subst}
 use Rattle.std.proofs.Common.{◌∙◌, MatchBool, arith}
 use Rattle.std.specs.Prelude.{Ok, replicate, if◌then◌else◌}
@@ -31,7 +31,7 @@ use Rattle.ngc_controller.proofs.LegLaws.{moving_legs, moving_travelled}
 use Rattle.ngc_controller.specs.Coasting.{travelled_on, dwelt_on, coasted_on, coasted, CoastsFor}
 use Rattle.ngc_controller.proofs.TravelLaws.{IsTravel, has_travelled, goes_on}
 
--- ---- one tick after another
+-- ---- one tick after the other
 
 pub no_ticks : (job : Job) (s : State) → Stretch job s s [] []
 no_ticks job s = record { states = []; runs = tt; goes_on = tt; last = refl }
@@ -45,7 +45,7 @@ tick_more job old mid new e o es os step goes more = record {
   last = more.last;
 }
 
--- nothing is told of them
+-- they have nothing to report
 abbrev quiet : Outcome
 quiet = Ok (Ticked None None)
 
@@ -65,7 +65,7 @@ coasted_dwelt n l ls s some ring still =
 
 -- ---- ticks that travel
 
--- what is known where n ticks at the rate of the last one may follow
+-- what is known if n ticks at the rate of the last one may follow
 pub record IsEven (job : Job) (l : Queued) (ls : List Queued) (s : State) (r : RampState) (joined : Bool) (wish n : ℕ) : Type 0 where
   pub machine : IsMachine job.machine
   pub motion : IsMotion l.command.action
@@ -163,7 +163,7 @@ coasts_even (suc n) job l ls s r joined wish h =
     (tick_more job s mid (coasted n mid) Tick quiet (replicate n Tick) (replicate n quiet) (travels_step job l ls s mid travels h.moves h.runs h.ring) least
     (coasts_even n job l ls mid (one_less r) joined wish (even_on job l ls s r joined wish n h less place)))
 
--- ---- by what the fields keep
+-- ---- from the invariant of the fields
 
 -- what is known of the ramp and the ring
 pub record IsEvenOn (job : Job) (queue : List Queued) (s : State) (r : RampState) (wish aimed n place : ℕ) (p : StepPos) : Type 0 where
@@ -258,7 +258,7 @@ dwells_step job l ls s new dwells short still runs free ring =
     (subst (λ b. MatchBool b (Rests job s quiet new) (Serves job l.command.action s quiet new)) (sym free) serves) in
     subst (λ b. TickBy job b s.ring s quiet new) (sym runs) (subst (λ xs. TickBy job false xs s quiet new) (sym ring) head)
 
--- no least is travelled there
+-- there is no least travel
 still_goes : (job : Job) (l : Queued) (ls : List Queued) (s : State) (v : ℕ) → path_steps l ≤ 0 → TravelsAtLeast job (l ∷ ls) s v
 still_goes job l ls s v still = λ free some. absurd (omega (arith, some, still))
 

@@ -1,4 +1,4 @@
--- A tick on the motion at the head, by what the fields of a controller keep.
+-- A tick on the motion at the head, from the invariant of a controller's fields.
 use Rattle.std.proofs.Common.{◌≡◌, ℕ, suc, ◌+◌, ◌-◌, ◌/◌, ◌≤◌, ◌<◌, min, nat_le, List, [], ◌∷◌, length, drop, Option, Some, None, Bool, true, false, cond, refl}
 use Rattle.std.proofs.Common.{ap, sym, subst, ◌∙◌, arith}
 use Rattle.std.specs.Prelude.{Ok, not, if◌then◌else◌}
@@ -122,7 +122,7 @@ ends r s legs v ended test done e =
       room = ap (λ (x : RampState). x.room) whole;
     }
 
--- what a test of the end says
+-- the consequence of a test of the end
 pub goes_if : (ended : Bool) → not ended ≡ true → ended ≡ false
 goes_if true h = sym h
 goes_if false h = refl
@@ -131,7 +131,7 @@ pub ends_if : (ended : Bool) → not ended ≡ false → ended ≡ true
 ends_if true h = refl
 ends_if false h = sym h
 
--- ---- where the motion goes on
+-- ---- if the motion continues
 
 pub travel_goes_on : (job : Job) (ring : List Queued) (old new : State) (r s : RampState) (wish aimed v place : ℕ) (due ended : Bool) (next : ℕ) (p : StepPos)
     (t : ℕ) (xs : List Queued) → IsTravelOn job ring old r s wish aimed v place due ended next p →
@@ -149,7 +149,7 @@ travel_goes_on job (l ∷ ls) old new r s wish aimed v place due ended next p t 
       rw rate has.least,
     )
 
--- what the ramp and the ring keep
+-- the invariant of the ramp and the ring
 place_on : (job : Job) (ring : List Queued) (old : State) (r s : RampState) (wish aimed v place : ℕ) (due ended : Bool) (next : ℕ) (p : StepPos) →
     IsTravelOn job ring old r s wish aimed v place due ended next p → ended ≡ false →
     (next ≡ travelled_of ring s.rest / MILLION) × (s.legs ≡ r.legs) × (s.change ≡ r.change) × IsRest s.rest s.legs × (s.room ≡ r.room)
@@ -195,7 +195,7 @@ order_goes_on {A = A} job done ring after drive new dwelt panel old s wish v due
     } in
     rw (same_ring after ring.loaded after.place ring.room queue refl room, same_drive new s drive.flows_on drive.entry ramp flows entry) here
 
--- ---- where it ends
+-- ---- if it ends
 
 pub record EndsOn (job : Job) (done : ℕ) (ring : List Queued) (r s : RampState) (v : ℕ) : Type 0 where
   pub rate : s.rate ≡ v

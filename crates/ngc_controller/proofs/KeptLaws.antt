@@ -1,4 +1,4 @@
--- The last of a list, as more is added.
+-- The last elements of a list, as more are added.
 use Rattle.std.proofs.Common.{◌≡◌, ℕ, zero, suc, ◌+◌, ◌-◌, ◌≤◌, min, List, [], ◌∷◌, ◌++◌, length, drop, refl, ap, sym, ◌∙◌, inl, inr, arith, length-append}
 use Rattle.std.proofs.Common.{length-drop, drop-drop}
 use Rattle.std.specs.Prelude.{replicate, flat_map}
@@ -9,7 +9,7 @@ use Rattle.std.proofs.Math.Seq.{drop-append-add}
 use Rattle.circular_buffer.specs.Buffer.{keep_last}
 
 module _ {X : Type 0} where
-  -- to keep the last at once is to keep them before and after more are added
+  -- keeping the last once is the same as keeping them before and after more are added
   pub kept_twice : (k : ℕ) (xs ys : List X) → keep_last k (keep_last k xs ++ ys) ≡ keep_last k (xs ++ ys)
   kept_twice k xs ys =
       let d : ℕ = length xs - k in
@@ -19,14 +19,14 @@ module _ {X : Type 0} where
       let all : d + (length (drop d (xs ++ ys)) - k) ≡ length (xs ++ ys) - k = omega arith in
       ap (λ zs. keep_last k zs) first ∙ drop-drop (length (drop d (xs ++ ys)) - k) d (xs ++ ys) ∙ ap (λ m. drop m (xs ++ ys)) all
 
-  -- what has enough behind it isn't kept
+  -- an element with enough after it is not kept
   pub kept_behind : (k : ℕ) (xs ys : List X) → k ≤ length ys → keep_last k (xs ++ ys) ≡ keep_last k ys
   kept_behind k xs ys enough =
       let long = length-append xs ys in
       let at : length (xs ++ ys) - k ≡ length xs + (length ys - k) = omega arith in
       ap (λ m. drop m (xs ++ ys)) at ∙ drop-append-add xs ys (length ys - k)
 
-  -- of more than fit nothing else is kept
+  -- if there are more than fit, nothing else is kept
   kept_full : (k n : ℕ) (xs : List X) (x : X) → k ≤ n → keep_last k (xs ++ replicate n x) ≡ replicate k x
   kept_full k n xs x full =
       let many = length-replicate n x in
@@ -40,7 +40,7 @@ module _ {X : Type 0} where
     | inr less ↦ (let same : m ≡ n = omega arith in ap (λ j. keep_last k (xs ++ replicate j x)) same)
   ]
 
--- where each gives something, the last of them give the last of what they give
+-- if each has at least one result, the last of them have the last of the results
 module _ {X Y : Type 0} (f : Y → List X) (some : (y : Y) → 1 ≤ length (f y)) where
   gives_enough : (ys : List Y) → length ys ≤ length (flat_map f ys)
   gives_enough [] = omega arith

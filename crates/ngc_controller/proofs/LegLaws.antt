@@ -14,7 +14,7 @@ use Rattle.ngc_controller.specs.Drive.{flows_on, last_flows_on, legs_of, with_on
 use Rattle.ngc_controller.specs.Fields.{travelled_of}
 use Rattle.ngc_controller.specs.Ring.{IsMoving}
 
--- ---- by whether the head is a motion with path steps
+-- ---- whether or not the head is a motion with path steps
 
 pub moving_legs : (job : Job) (k : ℕ) (joined : Bool) (l : Queued) (ls : List Queued) → 1 ≤ path_steps l →
     legs_of job k joined (l ∷ ls) ≡ leg_of job k joined l ∷ legs_behind job (suc k) l ls
@@ -32,7 +32,7 @@ moving_travelled l ls rest some = ap (λ b. cond b (millionths l - rest) 0) (lt-
 pub still_travelled : (l : Queued) (ls : List Queued) (rest : ℕ) → path_steps l ≤ 0 → travelled_of (l ∷ ls) rest ≡ 0
 still_travelled l ls rest none = ap (λ b. cond b (millionths l - rest) 0) (le-ltb 0 (path_steps l) none)
 
--- ---- what is behind the head
+-- ---- what follows the head
 
 pub behind_is : (job : Job) (k : ℕ) (l : Queued) (ls : List Queued) → (joined : Bool) × (legs_behind job k l ls ≡ legs_of job k joined ls)
 behind_is job k l [] = (false, refl)
@@ -53,14 +53,14 @@ rest_by : (b : Bool) (m : Queued) (x : Leg) (xs : List Leg) (over : ℕ) → b �
 rest_by true m x xs over test same few h = let some : 0 < path_steps m = grind (arith, nat_tests) in (omega arith, omega arith)
 rest_by false m x xs over test same few h = h
 
--- something is left of the first leg behind the head, whatever a tick has beyond its end
+-- part of the first leg after the head remains, whatever a tick has beyond its end
 pub behind_left : (job : Job) (k : ℕ) (l : Queued) (ls : List Queued) (over : ℕ) → over < MILLION →
     IsRest (next_rest over (legs_behind job k l ls)) (legs_behind job k l ls)
 behind_left job k l [] over few = refl
 behind_left job k l (m ∷ ms) over few = rest_by (nat_lt 0 (path_steps m)) m (leg_of job k (flows_into l m) m) (legs_behind job (suc k) m ms) over refl refl few
     (behind_left job (suc k) m ms over few)
 
--- no leg is joined to the head where the next command is no motion with path steps
+-- no leg is joined to the head if the next command is no motion with path steps
 pub none_ahead : (job : Job) (k : ℕ) (l : Queued) (ls : List Queued) → (IsMoving ls → ⊥) → ahead (legs_behind job k l ls) ≡ 0
 none_ahead job k l [] still = refl
 none_ahead job k l (m ∷ ms) still =
@@ -68,7 +68,7 @@ none_ahead job k l (m ∷ ms) still =
     ap (λ b. ahead (cond b (leg_of job k (flows_into l m) m ∷ legs_behind job (suc k) m ms) (legs_behind job (suc k) m ms))) (le-ltb 0 (path_steps m) none)
     ∙ unjoined job (suc k) m ms (inl (omega (arith, none)))
 
--- ---- what is travelled of a head, where so much is travelled of the first leg
+-- ---- the distance travelled on a head, if this distance is travelled on the first leg
 
 pub travelled_over : (job : Job) (k : ℕ) (joined : Bool) (ring : List Queued) (r : RampState) (over : ℕ) → r.legs ≡ legs_of job k joined ring →
     r.rest ≡ next_rest over r.legs → over < MILLION → ((IsMoving ring → ⊥) → over ≡ 0) → travelled_of ring r.rest ≡ over
@@ -81,7 +81,7 @@ travelled_over job k joined (l ∷ ls) r over legs rest few slow = elim (cases_l
   | inr none ↦ (still_travelled l ls r.rest none ∙ sym (slow (λ h. omega (arith, h, none))))
 ]
 
--- ---- one command more
+-- ---- one more command
 
 moving_more : (job : Job) (k : ℕ) (joined : Bool) (q : Queued) (r : RampState) → 1 ≤ path_steps q →
     with_one_more job k joined q r ≡ loaded r (leg_of job k joined q)
@@ -90,7 +90,7 @@ moving_more job k joined q r some = ap (λ b. cond b (loaded r (leg_of job k joi
 still_more : (job : Job) (k : ℕ) (joined : Bool) (q : Queued) (r : RampState) → path_steps q ≤ 0 → with_one_more job k joined q r ≡ r
 still_more job k joined q r none = ap (λ b. cond b (loaded r (leg_of job k joined q)) r) (le-ltb 0 (path_steps q) none)
 
--- the last command says whether the way goes on
+-- the last command decides whether the axes continue
 last_is : (l : Queued) (ls : List Queued) → last_flows_on (flows_on l) ls ≡ flows_on (last_behind l ls)
 last_is l [] = refl
 last_is l (m ∷ ms) = last_is m ms
@@ -160,7 +160,7 @@ whole_with : (rest : ℕ) (legs : List Leg) (leg : Leg) → rest ≡ next_rest 0
 whole_with rest [] leg h = omega arith
 whole_with rest (x ∷ xs) leg h = h
 
--- the ramp with the leg of one command more, if it has one
+-- the ramp with the leg of one more command, if it has one
 pub record HasOneMore (r s : RampState) : Type 0 where
   pub change : s.change ≡ r.change
   pub places : s.room ≡ r.room

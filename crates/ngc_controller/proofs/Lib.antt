@@ -1,16 +1,16 @@
 -- The ring's motions as legs of the ramp.
 pub mod LegLaws
--- A tick on a motion: the ramp's rules give the machine's.
+-- A tick on a motion: the ramp's rules imply the machine's.
 pub mod TravelLaws
 -- The head of a ring leaves.
 pub mod RingLaws
--- What the fields of a controller keep.
+-- The invariant of a controller's fields.
 pub mod OrderLaws
--- A tick on the motion at the head, by what the fields of a controller keep.
+-- A tick on the motion at the head, from the invariant of a controller's fields.
 pub mod HeadLaws
--- The last of a list, as more is added.
+-- The last elements of a list, as more are added.
 pub mod KeptLaws
--- Ticks in which nothing is told: many at once are as many one after another.
+-- Ticks with nothing to report: many at once are the same as many in order.
 pub mod CoastLaws
--- The latest replies, and the one at a place before the last.
+-- The latest replies, and the one at a position before the last.
 pub mod RecentLaws

@@ -1,4 +1,4 @@
--- What the fields of a controller keep.
+-- The invariant of a controller's fields.
 use Rattle.std.proofs.Common.{◌≡◌, ℕ, suc, ◌+◌, ◌/◌, ◌≤◌, ◌<◌, nat_lt, List, [], ◌∷◌, ◌++◌, length, drop, Option, Some, Bool, true, false, refl, ap, ap₂, sym}
 use Rattle.std.proofs.Common.{subst, ◌∙◌, length-drop, length-append, MatchBool, arith}
 use Rattle.std.proofs.lemmas.Bool.{lt-ltb, le-ltb}
@@ -27,7 +27,7 @@ use Rattle.ngc_controller.specs.Ring.{RingData, IsMoving}
 use Rattle.ngc_controller.proofs.LegLaws.{still_legs, behind_is, travelled_over, few_legs, last_of_rest, last_of_more, legs_of_more, has_one_more}
 use Rattle.ngc_controller.proofs.LegLaws.{travelled_more}
 
--- what the ramp keeps
+-- the invariant of the ramp
 pub record IsLeft (job : Job) (done : ℕ) (ring : List Queued) (ramp : RampState) : Type 0 where
   pub change : ramp.change ≡ job.machine.change
   pub places : ramp.room ≡ job.machine.ring
@@ -90,7 +90,7 @@ pub target_as : (machine asked : MachineFile) (percent counted : ℕ) (ring : Li
     asked ≡ machine → counted ≡ percent → IsTarget machine percent ring place target
 target_as machine asked percent counted ring place target h e f = rw (sym e, sym f) h
 
--- ---- a command that travels nothing
+-- ---- a command without travel
 
 pub served_still : (ring : List Queued) (a : Action) → IsServed ring a → IsMoving ring → ⊥
 served_still [] a served moves = moves
@@ -169,7 +169,7 @@ pub serves_done : (job : Job) (a : Action) (old new : State) (outcome : Outcome)
     Finishes job a old outcome new → Serves job a old outcome new
 serves_done job a old new outcome over h = subst (λ t. MatchBool t (Dwells job old outcome new) (Finishes job a old outcome new)) (sym over) h
 
--- ---- a command more
+-- ---- one more command
 
 pub few_on : {A : Type 0} (job : Job) (done : ℕ) (ring : RingData) (drive : Drive A) (dwelt : ℕ) (panel : Panel) → IsInOrder job done ring drive dwelt panel →
     length ring.loaded < job.machine.ring → length drive.ramp.legs < drive.ramp.room
@@ -258,7 +258,7 @@ loads job done ring drive dwelt position tool panel c q k after d n o found room
     (sym (lt-ltb (length ring.loaded) job.machine.ring room))
     (q.path, takes, refl, whole))
 
--- where there is no room
+-- if the ring is full
 pub loads_not : (job : Job) (old new : State) (c : Command) (found : Option Command) → found ≡ Some c → job.machine.ring ≤ length old.ring → new ≡ old →
     LoadCommand job old found (Err RingFull) new
 loads_not job old new c found is full same =

@@ -1,4 +1,4 @@
--- The latest replies, and the one at a place before the last.
+-- The latest replies, and the one at a position before the last.
 use Rattle.std.proofs.Common.{◌≡◌, ℕ, suc, ◌+◌, ◌-◌, ◌≤◌, ◌<◌, min, cond, List, [], ◌∷◌, ◌++◌, length, get_or, nat_lt, take, drop, Some, None, ap, sym, ◌∙◌}
 use Rattle.std.proofs.Common.{inl, inr, arith, append_assoc, length-append, length-drop}
 use Rattle.std.specs.Prelude.{replicate, slice_get}
@@ -16,7 +16,7 @@ use Rattle.ngc_controller.specs.Controller.{KEPT, from_the_last}
 use Rattle.ngc_controller.specs.Recent.{with_quiet, replies, latest}
 use Rattle.ngc_controller.proofs.KeptLaws.{kept_twice, kept_min, kept_given}
 
--- ---- a place before the last of a list
+-- ---- a position before the last of a list
 
 at_place : (i : ℕ) (xs : List Reply) → i < length xs → from_the_last i xs ≡ slice_get xs (length xs - i - 1)
 at_place i xs within = ap (λ b. cond b (slice_get xs (length xs - i - 1)) None) (lt-ltb i (length xs) within)
@@ -58,7 +58,7 @@ in_kept i k xs within =
 
 -- ---- the latest replies
 
--- none further back are kept
+-- none further back are stored
 pub not_kept : (i q : ℕ) (told : List Told) → KEPT ≤ i → from_the_last i (latest told q) ≡ None
 not_kept i q told past =
     let all : List Reply = replies told ++ replicate q (Ticked None None) in
@@ -75,7 +75,7 @@ behind_quiet i q told kept past =
     let quiet : List Reply = replicate q (Ticked None None) in
     in_kept i KEPT (replies told ++ quiet) kept ∙ in_first i (i - q) (replies told) quiet (omega (arith, length-replicate q (Ticked None None)))
 
--- the one that was told last, and the quiet ones before it
+-- the last reply, and the quiet ones before it
 one_more : (told : List Told) (t : Told) → replies (told ++ t ∷ []) ≡ (replies told ++ replicate t.before (Ticked None None)) ++ t.reply ∷ []
 one_more told t =
     flat_map-append with_quiet told (t ∷ [])
@@ -105,7 +105,7 @@ told_before_it j told t past =
     let quiet : List Reply = replicate t.before (Ticked None None) in
     last_of j told t ∙ in_first j (j - t.before) (replies told) quiet (omega (arith, length-replicate t.before (Ticked None None)))
 
--- what is told at a place before the last
+-- the reply at a position before the last
 pub record IsTold (place k : ℕ) (told : List Told) (t : Told) : Type 0 where
   pub within : place < length told
   pub found : Some t ≡ cond (nat_lt place (length told)) (slice_get told (length told - place - 1)) None

@@ -4,7 +4,7 @@ use Rattle.std.specs.Prelude.{slice_get}
 use Rattle.ngc_controller.specs.Loaded.{LoadedData}
 use Rattle.ngc_controller.specs.Ring.{queue_of, IsRing}
 
--- the first that waits becomes the head
+-- the first waiting command becomes the head
 pub record IsLeft (head popped : Option LoadedData) (behind rest : List LoadedData) (capacity : ℕ) : Type 0 where
   pub ring : IsRing popped rest capacity
   pub queue : queue_of popped rest ≡ drop 1 (queue_of head behind)

@@ -1,4 +1,4 @@
--- A tick on a motion: the ramp's rules give the machine's.
+-- A tick on a motion: the ramp's rules imply the machine's.
 use Rattle.std.proofs.Common.{◌≡◌, ℕ, suc, ◌+◌, ◌-◌, ◌/◌, ◌≤◌, ◌<◌, min, nat_lt, nat_le, List, ◌∷◌, Option, Some, None, Bool, true, false, cond, refl, ap, ap₂}
 use Rattle.std.proofs.Common.{sym, ◌∙◌, drop, arith}
 use Rattle.std.proofs.lemmas.Bool.Decides.{nat_tests}
@@ -23,7 +23,7 @@ use Rattle.ngc_behaviour.specs.Step.{Outcome, Travels, place_after, pulse, ends_
 use Rattle.ngc_behaviour.proofs.RampFit.{may_travel, travels_at_least}
 use Rattle.ngc_controller.specs.Loaded.{next_place}
 
--- ---- the place on the path
+-- ---- the position on the path
 
 pub place_is : (t v m place : ℕ) (due : Bool) → place ≡ t / MILLION → t ≤ m → v ≤ MILLION → due ≡ nat_lt (t / MILLION) (min (t + v) m / MILLION) →
     next_place place due ≡ min (t + v) m / MILLION
@@ -59,7 +59,7 @@ travels_to job l ls old new outcome v may e says =
       goes_on = e ∙ ap (λ w. moved_by l old w) (sym rate);
     }
 
--- a motion's end is done
+-- the end of a motion is `Done`
 pub motion_done : (a : Action) (s : State) → IsMotion a → ending a s ≡ Done s.done
 motion_done (actions.Move m) s moves = refl
 motion_done _ s moves = let h = moves.1 in cc
@@ -74,7 +74,7 @@ done_with false s t e h = (cc, cc)
 
 -- ---- the whole tick
 
--- what is known of a tick of the ramp r to s, with the head l and the others behind it
+-- what is known of a tick of the ramp from r to s, with the head l and the others after it
 pub record IsTravel (job : Job) (l : Queued) (ls : List Queued) (old : State) (r s : RampState) (joined : Bool) (wish v place : ℕ) (due ended : Bool) (next : ℕ)
     (p : StepPos) : Type 0 where
   pub machine : IsMachine job.machine
@@ -92,7 +92,7 @@ pub record IsTravel (job : Job) (l : Queued) (ls : List Queued) (old : State) (r
   pub place_next : next ≡ next_place place due
   pub point_at : p ≡ point l.path next
 
--- what follows
+-- the consequences
 pub record HasTravelled (job : Job) (l : Queued) (ls : List Queued) (old : State) (v next : ℕ) (due : Bool) (p : StepPos) : Type 0 where
   pub may : MayTravel job l ls old v
   pub least : TravelsAtLeast job (l ∷ ls) old v
@@ -124,7 +124,7 @@ has_travelled job l ls old r s joined wish v place due ended next p h =
       says = pulse_is p (point l.path (place_after l old v)) due (nat_lt (old.travelled / MILLION) (place_after l old v)) told point_at;
     }
 
--- the motion goes on
+-- the motion continues
 pub goes_on : (job : Job) (l : Queued) (ls : List Queued) (old new : State) (r : RampState) (v next : ℕ) (due : Bool) (p : StepPos) (t : ℕ) (xs : List Queued)
     (w : ℕ) → HasTravelled job l ls old v next due p →
     old.travelled ≡ millionths l - r.rest → r.rest ≤ millionths l → v < r.rest → t ≡ old.travelled + v → xs ≡ old.ring → w ≡ v →

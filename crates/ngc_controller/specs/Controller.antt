@@ -1,18 +1,18 @@
--- What a controller stands for. Our own.
+-- The meaning of a controller. Our own.
 use Rattle.std.specs.Prelude.{ℕ, ◌-◌, List, length, nat_lt, Option, None, slice_get, if◌then◌else◌}
 use Rattle.ngc_checker.specs.Accepted.{AcceptedData}
 use Rattle.ngc_events.specs.declared.reply.Reply.{Reply}
 use Rattle.ngc_behaviour.specs.State.{Job, State}
 
--- what it runs, the machine's state, the latest replies to events that were taken, the last one
--- last, and what was accepted, from which the job is taken
+-- what it runs, the machine's state, the latest replies in order, and the accepted program, from
+-- which the job is taken
 pub record ControllerData : Type 0 where
   pub job : Job
   pub state : State
   pub recent : List Reply
   pub accepted : AcceptedData
 
--- how many replies are kept
+-- the number of replies that are stored
 abbrev pub KEPT : ℕ
 KEPT = 256
 

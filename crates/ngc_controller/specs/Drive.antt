@@ -1,4 +1,4 @@
--- The ramp of the motions in the ring, and the rate that the head is to reach. Our own.
+-- The ramp of the motions in the ring, and the target rate of the head. Our own.
 use Rattle.std.specs.Prelude.{◌≡◌, ℕ, suc, ◌≤◌, nat_lt, List, [], ◌∷◌, Bool, false, not, ◌&&◌}
 use Rattle.std.specs.Prelude.{if◌then◌else◌}
 use Rattle.ngc_machine.specs.Machine.{MachineFile}
@@ -9,35 +9,35 @@ use Rattle.ngc_planner.specs.Ramp.{RampState, loaded}
 use Rattle.ngc_behaviour.specs.State.{Job, Queued, path_steps}
 use Rattle.ngc_behaviour.specs.Reach.{stops, leg_of, legs_behind}
 
--- the way goes on from a command without a stop, where a motion with path steps follows
+-- the axes need not stop after a command if a motion with path steps follows
 abbrev pub flows_on : Queued → Bool
 flows_on l = nat_lt 0 (path_steps l) && not (stops l.command.action)
 
--- it goes on from the last of these, or did before them
+-- the same for the last of these, or for the command before them
 abbrev pub last_flows_on : Bool → List Queued → Bool
 last_flows_on before [] = before
 last_flows_on before (l ∷ ls) = last_flows_on (flows_on l) ls
 
--- the legs of a ring whose head is command k; whether the way came into the head without a stop is
--- past
+-- the legs of a ring whose head is command k; it no longer matters whether the axes reached the
+-- head without a stop
 abbrev pub legs_of : Job → ℕ → Bool → List Queued → List Leg
 legs_of job k joined [] = []
 legs_of job k joined (l ∷ ls) = if nat_lt 0 (path_steps l)
     then leg_of job k joined l ∷ legs_behind job (suc k) l ls else legs_behind job (suc k) l ls
 
--- command k is loaded: a motion with path steps comes onto the ramp
+-- command k is loaded: a motion with path steps is added to the ramp
 abbrev pub with_one_more : Job → ℕ → Bool → Queued → RampState → RampState
 with_one_more job k joined l ramp =
     if nat_lt 0 (path_steps l) then loaded ramp (leg_of job k joined l) else ramp
 
--- the target is that of the head at a place of its path
+-- the target is that of the head at a point of its path
 abbrev pub IsTarget : MachineFile → ℕ → List Queued → ℕ → ℕ → Type 0
 IsTarget machine percent [] place target = Unit {0}
 IsTarget machine percent (l ∷ ls) place target =
     1 ≤ path_steps l →
     target ≡ target_on machine l.command.action (path_steps l) percent (point l.path place)
 
--- it depends on that place
+-- it depends on that point
 abbrev pub is_head_by_place : MachineFile → List Queued → Bool
 is_head_by_place machine [] = false
 is_head_by_place machine (l ∷ ls) = is_by_place machine l.command.action

@@ -1,4 +1,4 @@
--- What the fields of a controller stand for, and what they keep. Our own.
+-- The meaning of a controller's fields, and their invariant. Our own.
 use Rattle.std.specs.Prelude.{◌≡◌, ℕ, ◌+◌, ◌-◌, ◌/◌, ◌^◌, ◌≤◌, List, [], ◌∷◌, length, Option}
 use Rattle.std.specs.Prelude.{nat_lt, Bool, true, if◌then◌else◌}
 use Rattle.ngc_fixed_length.specs.declared.points.StepPos.{StepPos}
@@ -18,8 +18,8 @@ use Rattle.ngc_controller.specs.Drive.{legs_of, last_flows_on, IsTarget}
 use Rattle.ngc_controller.specs.Panel.{effective_at}
 use Rattle.ngc_controller.specs.Ring.{RingData, IsMoving}
 
--- what is travelled of the head, with so much left of the ramp's first leg: that is the head's,
--- where it is a motion with path steps, and else nothing is travelled
+-- the distance travelled on the head, with this rest of the ramp's first leg: that leg is the
+-- head's if it is a motion with path steps, and otherwise nothing is travelled
 abbrev pub travelled_of : List Queued → ℕ → ℕ
 travelled_of [] rest = 0
 travelled_of (l ∷ ls) rest = if nat_lt 0 (path_steps l) then millionths l - rest else 0
@@ -45,9 +45,9 @@ state_of done ring drive dwelt position tool panel = record {
 abbrev pub DWELL_LIMIT : ℕ
 DWELL_LIMIT = 2 ^ 100
 
--- what the fields keep: the ramp is on the head, where that is a motion with path steps; otherwise
--- nothing travels, and the motions behind the head are still whole; ring and ramp have room for as
--- many as the machine's file says
+-- the invariant of the fields: the ramp is on the head if that is a motion with path steps;
+-- otherwise nothing travels, and nothing of the motions after the head is travelled; ring and ramp
+-- have the capacity of the machine file
 pub record IsInOrder {A : Type 0} (job : Job) (done : ℕ) (ring : RingData) (drive : Drive A)
     (dwelt : ℕ) (panel : Panel) : Type 0 where
   pub machine : IsMachine job.machine
@@ -67,7 +67,7 @@ pub record IsInOrder {A : Type 0} (job : Job) (done : ℕ) (ring : RingData) (dr
   pub brief : dwelt ≤ DWELL_LIMIT
   pub still : panel.stopped ≡ true → drive.ramp.rate ≡ 0
 
--- ---- ticks by the kind of the head
+-- ---- ticks, by the kind of the head
 
 -- the head is a motion with path steps, and travels
 abbrev pub TravelsOn : Job → List Queued → State → Outcome → State → Type 0
@@ -75,19 +75,19 @@ TravelsOn job [] old outcome new = ⊥
 TravelsOn job (l ∷ ls) old outcome new =
     Travels job l ls old outcome new × TravelsAtLeast job (l ∷ ls) old new.rate
 
--- the head does this, with no path step
+-- the head has this action, and no path step
 abbrev pub IsServed : List Queued → Action → Type 0
 IsServed [] action = ⊥
 IsServed (l ∷ ls) action = (l.command.action ≡ action) × (path_steps l ≡ 0)
 
--- what an action makes of the panel when it ends
+-- the panel after an action ends
 abbrev pub panel_after : Action → Panel → Panel
 panel_after (actions.Override on) p = record p { overrides = on }
 panel_after actions.Stop p = record p { stopped = true }
 panel_after actions.OptionalStop p = record p { stopped = p.stop_switch }
 panel_after _ p = p
 
--- and of the tool
+-- and the tool
 abbrev pub tool_after : Action → Option Tool → Option Tool
 tool_after (actions.Mount tool) t = tool
 tool_after _ t = t

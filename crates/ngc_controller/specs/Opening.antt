@@ -1,4 +1,4 @@
--- How far the machine is when it is started: nowhere. Our own.
+-- The machine's progress at its start: none. Our own.
 use Rattle.std.specs.Prelude.{◌≡◌, ℕ, []}
 use Rattle.ngc_fixed_length.specs.Limits.{MILLION}
 use Rattle.ngc_controller.specs.declared.progress.Progress.{Progress}

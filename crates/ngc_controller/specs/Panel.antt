@@ -1,4 +1,4 @@
--- The percentage that counts. Our own.
+-- The effective percentage. Our own.
 use Rattle.std.specs.Prelude.{ℕ, if◌then◌else◌}
 use Rattle.ngc_controller.specs.declared.panel.Panel.{Panel}
 

@@ -6,13 +6,13 @@ use Rattle.ngc_events.specs.declared.reply.Reply.TheVariants.{Ticked}
 use Rattle.ngc_controller.specs.declared.recent.Told.{Told}
 use Rattle.ngc_controller.specs.Controller.{KEPT}
 
--- a reply behind the quiet ones before it
+-- a reply after the quiet ones before it
 abbrev pub with_quiet : Told → List Reply
 with_quiet t = replicate t.before (Ticked None None) ++ t.reply ∷ []
 
 abbrev pub replies : List Told → List Reply
 replies told = flat_map with_quiet told
 
--- those that are kept, with so many quiet ones at the end
+-- the stored replies, with this number of quiet ones at the end
 abbrev pub latest : List Told → ℕ → List Reply
 latest told quiet = keep_last KEPT (replies told ++ replicate quiet (Ticked None None))

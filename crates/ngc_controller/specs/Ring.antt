@@ -9,8 +9,8 @@ use Rattle.ngc_planner.specs.Ramp.{MOST_LEGS}
 use Rattle.ngc_behaviour.specs.State.{Queued, path_steps}
 use Rattle.ngc_controller.specs.Loaded.{LoadedData}
 
--- what is loaded, the head first, the place on the head's path, and how many commands there may be;
--- all but the head are at the beginning of their paths
+-- the loaded commands, the head first, the position on the head's path, and the greatest number of
+-- commands; all but the head are at the beginning of their paths
 pub record RingData : Type 0 where
   pub loaded : List Queued
   pub place : ℕ
@@ -24,12 +24,12 @@ abbrev pub place_at : Option LoadedData → ℕ
 place_at None = 0
 place_at (Some head) = head.place
 
--- nothing waits behind no head
+-- nothing waits without a head
 abbrev pub IsLed : Option LoadedData → List LoadedData → Type 0
 IsLed None behind = behind ≡ []
 IsLed (Some head) behind = Unit {0}
 
--- what a ring keeps
+-- the invariant of a ring
 pub record IsRing (head : Option LoadedData) (behind : List LoadedData) (capacity : ℕ) :
     Type 0 where
   pub few : suc capacity ≤ MOST_LEGS
@@ -45,12 +45,12 @@ abbrev pub IsMoving : List Queued → Type 0
 IsMoving [] = ⊥
 IsMoving (l ∷ ls) = 1 ≤ path_steps l
 
--- the point at a place of the head's path
+-- the point at a position of the head's path
 abbrev pub IsPointOn : List Queued → ℕ → StepPos → Type 0
 IsPointOn [] place p = ⊥
 IsPointOn (l ∷ ls) place p = (p ≡ point l.path place) × IsMotion l.command.action
 
--- the head's path goes on
+-- the head's path has a next point
 abbrev pub HasNext : List Queued → ℕ → Type 0
 HasNext [] place = ⊥
 HasNext (l ∷ ls) place = place < path_steps l

@@ -29,8 +29,8 @@ use ngc_step_kernel::ArcKernel;
 use std::alloc::Allocator;
 use std::marker::Model;
 
-/// A machine that runs what was accepted, at a setting of block delete, driven by events. `K` leads
-/// its arcs over the grid.
+/// A machine that runs an accepted program at a setting of block delete. Events drive it. `K`
+/// computes its arcs on the grid.
 #[derive(Drop)]
 pub struct Controller<K: ArcKernel + Drop, A: Allocator> {
     accepted: Accepted<A>,
@@ -65,9 +65,9 @@ impl<K: ArcKernel + Drop, A: Allocator> Model for Controller<K, A> {
 }
 
 impl<K: ArcKernel + Drop, A: Allocator + Copy> Controller<K, A> {
-    /// A controller whose machine stands still at the start point, with nothing loaded and no tool
-    /// mounted. It takes all its memory here; where there is too little (900), what was accepted is
-    /// handed back.
+    /// Returns a controller whose machine is at rest at the start point, with nothing loaded and no
+    /// tool mounted. It allocates all its memory here. If there is too little (900), it gives back
+    /// the accepted program.
     pub fn new(
         alloc: A,
         accepted: Accepted<A>,
@@ -101,11 +101,10 @@ impl<K: ArcKernel + Drop, A: Allocator + Copy> Controller<K, A> {
         })
     }
 
-    /// Takes an event, and answers what the machine did. It takes no memory. A refused event leaves
-    /// the controller as it was, its latest replies too: an override over 200 percent (701), a load
-    /// while as many commands as the machine's ring takes are loaded and not done (702), or a load
-    /// behind the last command
-    /// (703).
+    /// Handles an event, and returns what the machine did. It allocates no memory. A refused event
+    /// changes nothing, not even the latest replies. It refuses an override over 200 percent (701),
+    /// a load while the machine's ring is full of loaded commands that are not done (702), and a
+    /// load after the last command (703).
     pub fn event(&mut self, event: Event) -> Result<Reply, EventFault>
         ensures job { self.new.job ≡ self.old.job }
         ensures accepted { self.new.accepted ≡ self.old.accepted }
@@ -123,9 +122,10 @@ impl<K: ArcKernel + Drop, A: Allocator + Copy> Controller<K, A> {
         outcome
     }
 
-    /// Gives ticks, at most so many, in which nothing is told: the motion at the head goes on at
-    /// the rate of the last tick and no pulse is due, or the dwell at the head goes on. Answers how
-    /// many were given, 0 where the next tick may tell something. It takes no memory.
+    /// Makes up to `most` ticks that have nothing to report: the motion at the head continues at
+    /// the rate of the last tick and no pulse is due, or the dwell at the head continues. Returns
+    /// the number of ticks, which is 0 if the next tick may report something. It allocates no
+    /// memory.
     pub fn coast(&mut self, most: u64) -> u64
         ensures job { self.new.job ≡ self.old.job }
         ensures accepted { self.new.accepted ≡ self.old.accepted }
@@ -141,7 +141,7 @@ impl<K: ArcKernel + Drop, A: Allocator + Copy> Controller<K, A> {
         ticks
     }
 
-    // Ticks by the kind of the head.
+    // Makes ticks, by the kind of the head.
     fn go_on(&mut self, most: u64) -> u64
         ensures job { self.new.job ≡ self.old.job }
         ensures accepted { self.new.accepted ≡ self.old.accepted }
@@ -165,7 +165,7 @@ impl<K: ArcKernel + Drop, A: Allocator + Copy> Controller<K, A> {
         }
     }
 
-    // The head is a motion with path steps, and goes on at the rate of the last tick.
+    // Makes ticks on a motion with path steps at the head, at the rate of the last tick.
     fn travel_on(&mut self, most: u64) -> u64
         requires moves { IsMoving self.old.state.ring }
         requires runs { self.old.state.stopped ≡ false }
@@ -185,7 +185,7 @@ impl<K: ArcKernel + Drop, A: Allocator + Copy> Controller<K, A> {
         ticks
     }
 
-    // The head travels nothing, and dwells on.
+    // Makes ticks of a dwell at the head.
     fn dwell_on(&mut self, action: Action, most: u64) -> u64
         requires head { IsServed self.old.state.ring action }
         requires runs { self.old.state.stopped ≡ false }
@@ -208,7 +208,7 @@ impl<K: ArcKernel + Drop, A: Allocator + Copy> Controller<K, A> {
         ticks
     }
 
-    // Does what an event asks for.
+    // Does what an event requests.
     fn take(&mut self, event: Event) -> Result<Reply, EventFault>
         ensures job { self.new.job ≡ self.old.job }
         ensures accepted { self.new.accepted ≡ self.old.accepted }
@@ -241,7 +241,7 @@ impl<K: ArcKernel + Drop, A: Allocator + Copy> Controller<K, A> {
         }
     }
 
-    // The next command comes into the ring.
+    // Loads the next command into the ring.
     fn load(&mut self) -> Result<Reply, EventFault>
         ensures job { self.new.job ≡ self.old.job }
         ensures accepted { self.new.accepted ≡ self.old.accepted }
@@ -266,7 +266,7 @@ impl<K: ArcKernel + Drop, A: Allocator + Copy> Controller<K, A> {
         Ok(Reply::Loaded(index))
     }
 
-    // One tick of the pulse clock.
+    // Makes one tick of the pulse clock.
     fn tick(&mut self) -> Reply
         ensures job { self.new.job ≡ self.old.job }
         ensures accepted { self.new.accepted ≡ self.old.accepted }
@@ -291,7 +291,7 @@ impl<K: ArcKernel + Drop, A: Allocator + Copy> Controller<K, A> {
         }
     }
 
-    // Nothing travels, and nothing is done.
+    // Makes a tick without travel, in which no command ends.
     fn rest(&mut self) -> Reply
         requires { IsMoving self.old.state.ring → self.old.state.stopped ≡ true }
         ensures job { self.new.job ≡ self.old.job }
@@ -303,7 +303,7 @@ impl<K: ArcKernel + Drop, A: Allocator + Copy> Controller<K, A> {
         QUIET
     }
 
-    // The head is a motion with path steps, and goes on.
+    // Makes a tick on a motion with path steps at the head.
     fn travel(&mut self) -> Reply
         requires moves { IsMoving self.old.state.ring }
         requires runs { self.old.state.stopped ≡ false }
@@ -332,7 +332,7 @@ impl<K: ArcKernel + Drop, A: Allocator + Copy> Controller<K, A> {
         Reply::Ticked { position, ending }
     }
 
-    // The head travels nothing: it dwells, or it is done.
+    // Makes a tick on a head without travel: it dwells, or it is done.
     fn serve(&mut self, action: Action) -> Reply
         requires head { IsServed self.old.state.ring action }
         requires runs { self.old.state.stopped ≡ false }
@@ -357,7 +357,7 @@ impl<K: ArcKernel + Drop, A: Allocator + Copy> Controller<K, A> {
         }
     }
 
-    // Another override, in percent.
+    // Sets the override, in percent.
     fn override_by(&mut self, percent: u8) -> Result<Reply, EventFault>
         ensures job { self.new.job ≡ self.old.job }
         ensures accepted { self.new.accepted ≡ self.old.accepted }
@@ -375,14 +375,15 @@ impl<K: ArcKernel + Drop, A: Allocator + Copy> Controller<K, A> {
         Ok(Reply::Overridden(percent))
     }
 
-    /// Ends the run, and hands back what was accepted, as [`Controller::new`] was given it.
+    /// Ends the run, and gives back the accepted program that [`Controller::new`] took.
     pub fn into_accepted(self) -> Accepted<A>
         ensures { result ≡ self.accepted }
     {
         self.accepted
     }
 
-    /// How many commands may be loaded and not done: what the machine's file says, 16 to 1,024.
+    /// Returns the greatest number of commands that are loaded and not done: that of the machine
+    /// file, 16 to 1,024.
     pub fn ring(&self) -> usize
         ensures value { result ≡ self.now.job.machine.ring }
         ensures least { 16 ≤ result }
@@ -391,29 +392,29 @@ impl<K: ArcKernel + Drop, A: Allocator + Copy> Controller<K, A> {
         self.accepted.machine().ring as usize
     }
 
-    /// The commands that it runs.
+    /// Returns the commands that it runs.
     pub fn commands(&self) -> &[Command]
         ensures { result.now ≡ self.now.job.commands }
     {
         self.accepted.commands(self.block_delete)
     }
 
-    /// The machine's position, in steps.
+    /// Returns the machine's position, in steps.
     pub fn position(&self) -> StepPos
         ensures { result ≡ self.now.state.position }
     {
         self.position
     }
 
-    /// The rate of the last tick, in millionths of a path step: 0 to 1,000,000, and 0 before the
-    /// first.
+    /// Returns the rate of the last tick, in millionths of a path step: 0 to 1,000,000, and 0
+    /// before the first.
     pub fn rate(&self) -> u64
         ensures { result ≡ self.now.state.rate }
     {
         self.progress.drive.ramp.rate()
     }
 
-    /// How many ticks the command at the head has dwelt, at most 2^100.
+    /// Returns how many ticks the command at the head has dwelt, at most 2^100.
     pub fn dwelt(&self) -> u128
         ensures value { result ≡ self.now.state.dwelt }
         ensures few { result ≤ DWELL_LIMIT }
@@ -421,15 +422,15 @@ impl<K: ArcKernel + Drop, A: Allocator + Copy> Controller<K, A> {
         self.progress.dwelt
     }
 
-    /// The tool that is mounted.
+    /// Returns the mounted tool.
     pub fn tool(&self) -> Option<Tool>
         ensures { result ≡ self.now.state.tool }
     {
         self.tool
     }
 
-    /// The reply to the event that was taken `index` events before the last one, 0 for the last one
-    /// itself. Those to the last 256 are kept, and refused events don't count.
+    /// Returns the reply to the event that was handled `index` events before the last one; 0 is the
+    /// last one. The replies to the last 256 events are stored, and refused events do not count.
     pub fn recent(&self, index: usize) -> Option<Reply>
         ensures { result ≡ from_the_last index self.now.recent }
     {

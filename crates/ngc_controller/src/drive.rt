@@ -1,4 +1,4 @@
-//! The ramp, and how motions come onto it.
+//! The ramp, and how motions are loaded onto it.
 ghost use Rattle.std.specs.Prelude.{◌≡◌, ◌≤◌, ◌<◌, ◌+◌, length};
 ghost use Rattle.ngc_machine.specs.Machine.{file_of};
 ghost use Rattle.ngc_planner.specs.Bounds.{bound_of};
@@ -16,21 +16,21 @@ use ngc_planner::{Leg, Ramp, bound_of, joint_at};
 use ngc_step_kernel::ArcKernel;
 use std::alloc::Allocator;
 
-/// The ramp of the motions in the ring, and the rate that the head is to reach.
+/// The ramp of the motions in the ring, and the target rate of the head.
 #[derive(Drop)]
 pub struct Drive<A: Allocator> {
     pub ramp: Ramp<A>,
-    /// In millionths of a path step a tick. It is kept, so that a tick need not compute it.
+    /// In millionths of a path step per tick. It is stored, so that a tick need not compute it.
     pub target: u64,
     /// The bound of the joint between the command that was loaded last and the next one, 1,000,000
-    /// before the first one. It is kept, so that it is computed once for both of them.
+    /// before the first one. It is stored, so that it is computed once for both of them.
     pub entry: u64,
-    /// Whether the command that was loaded last is a motion with path steps at whose end the axes
-    /// need not stop.
+    /// Whether the last loaded command is a motion with path steps at whose end the axes need not
+    /// stop.
     pub flows_on: bool,
 }
 
-// Whether the axes stop at the end of an action that is a motion.
+// Returns whether the axes stop at the end of an action that is a motion.
 fn stops(action: &Action) -> bool
     ensures { result ≡ stops action.now }
 {
@@ -40,8 +40,8 @@ fn stops(action: &Action) -> bool
     }
 }
 
-// A motion as a leg of the ramp, between two joints: whether the way comes into it without a stop
-// is `joined`.
+// Returns a motion as a leg of the ramp, between two joints. `joined` tells whether the axes reach
+// it without a stop.
 fn leg_between<K: ArcKernel + Drop, A: Allocator>(
     entry: u64,
     exit: u64,
@@ -74,8 +74,8 @@ fn leg_between<K: ArcKernel + Drop, A: Allocator>(
 }
 
 impl<A: Allocator> Drive<A> {
-    /// One more command is loaded, at an index. A motion with path steps comes onto the ramp, which
-    /// must have room.
+    /// Loads one more command, with its index. A motion with path steps is added to the ramp, which
+    /// must not be full.
     pub fn load<K: ArcKernel + Drop, B: Allocator>(
         &mut self,
         loaded: &Loaded<K>,
@@ -102,7 +102,7 @@ impl<A: Allocator> Drive<A> {
         self.flows_on = moves && !stops(&loaded.command().action);
     }
 
-    /// A tick in which nothing travels. The last rate must be at most the change.
+    /// Makes a tick without travel. The last rate must be at most the change.
     pub fn halt(&mut self)
         requires { self.old.ramp.rate ≤ self.old.ramp.change }
         ensures { self.new ≡ record self.old { ramp = record self.old.ramp { rate = 0 } } }

@@ -1,4 +1,4 @@
-//! How actions that travel nothing end, and what they leave.
+//! The end of actions without travel, and their effects.
 ghost use Rattle.std.specs.Prelude.{◌≡◌, ◌≤◌, ◌+◌, ◌-◌, suc, nat_lt, true, Option};
 ghost use Rattle.ngc_behaviour.specs.State.{Job, State};
 ghost use Rattle.ngc_behaviour.specs.Step.{ticks_of, ending};
@@ -9,7 +9,7 @@ use ngc_commands::Action;
 use ngc_events::Ending;
 use ngc_machine::Tool;
 
-/// Whether an action takes more ticks than one more than it has dwelt.
+/// Returns whether an action takes more than `dwelt + 1` ticks.
 pub fn dwells_on(action: &Action, dwelt: u128, ticks_per_second: u32) -> bool
     requires { dwelt ≤ DWELL_LIMIT }
     ensures value { (job : Job) → job.machine.ticks_per_second ≡ ticks_per_second →
@@ -25,7 +25,8 @@ pub fn dwells_on(action: &Action, dwelt: u128, ticks_per_second: u32) -> bool
     }
 }
 
-/// How many ticks an action that has dwelt so many dwells on, before the one in which it ends.
+/// Returns how many ticks an action still dwells after `dwelt` ticks, before the one in which it
+/// ends.
 pub fn dwell_left(action: &Action, dwelt: u128, ticks_per_second: u32) -> u128
     requires { dwelt ≤ DWELL_LIMIT }
     ensures value { (job : Job) → job.machine.ticks_per_second ≡ ticks_per_second →
@@ -42,7 +43,7 @@ pub fn dwell_left(action: &Action, dwelt: u128, ticks_per_second: u32) -> u128
     }
 }
 
-/// How a command with an action ends: its index, and the panel's stop switch.
+/// Returns how a command with an action ends, from its index and the panel's stop switch.
 pub fn ending_of(action: &Action, index: u32, stop_switch: bool) -> Ending
     ensures { (s : State) → s.done ≡ index → s.stop_switch ≡ stop_switch →
         result ≡ ending action.now s }
@@ -61,7 +62,7 @@ pub fn ending_of(action: &Action, index: u32, stop_switch: bool) -> Ending
     }
 }
 
-/// The panel after an action.
+/// Returns the panel after an action.
 pub fn panel_after(action: &Action, panel: Panel) -> Panel
     ensures { result ≡ panel_after action.now panel }
 {
@@ -82,7 +83,7 @@ pub fn panel_after(action: &Action, panel: Panel) -> Panel
     }
 }
 
-/// The tool that is mounted after an action.
+/// Returns the tool that is mounted after an action.
 pub fn tool_after(action: &Action, mounted: Option<Tool>) -> Option<Tool>
     ensures { result ≡ tool_after action.now mounted }
 {

@@ -1,4 +1,4 @@
-//! The controller of a machine: it takes events one by one, and answers what the machine did.
+//! The controller of a machine: it handles events one by one, and returns what the machine did.
 #![tactic(auto)]
 
 mod controller;

@@ -1,4 +1,4 @@
-//! What the panel has set.
+//! The settings of the panel.
 ghost use Rattle.std.specs.Prelude.{◌≡◌, true, false, if◌then◌else◌};
 ghost use Rattle.ngc_controller.specs.Panel.{effective_at};
 
@@ -7,18 +7,18 @@ ghost use Rattle.ngc_controller.specs.Panel.{effective_at};
 pub struct Panel {
     /// The feed override in percent, 0 to 200.
     pub percent: u8,
-    /// Whether the override counts.
+    /// Whether the override is on.
     pub overrides: bool,
-    /// Whether the machine is held: its rate falls to 0, and then nothing is begun.
+    /// Whether the machine is held: its rate falls to 0, and then nothing begins.
     pub held: bool,
-    /// Whether a stop has stopped the machine, and no start came since.
+    /// Whether a stop has stopped the machine, and no start has followed.
     pub stopped: bool,
     /// Whether an optional stop stops the machine.
     pub stop_switch: bool,
 }
 
 impl Panel {
-    /// The panel when the machine is started.
+    /// Returns the panel at the start of the machine.
     pub fn new() -> Panel
         ensures { result ≡ record {
           percent = 100;
@@ -37,14 +37,14 @@ impl Panel {
         }
     }
 
-    /// The percentage that counts: 100 while overrides are off.
+    /// Returns the effective percentage: 100 while overrides are off.
     pub fn effective(&self) -> u8
         ensures { result ≡ effective_at self.now }
     {
         if self.overrides { self.percent } else { 100 }
     }
 
-    /// The rate that is wished for a tick, of a motion with this target: none while held.
+    /// Returns the requested rate of a tick on a motion with this target: 0 while held.
     pub fn wish(&self, target: u64) -> u64
         ensures { result ≡ (if self.now.held then 0 else target) }
     {

@@ -1,4 +1,4 @@
-//! How far the machine is in its commands.
+//! The machine's progress in its commands.
 ghost use Rattle.std.specs.Prelude.{◌≡◌, ◌≤◌, ◌<◌, ◌+◌, ◌^◌, ◌++◌, ◌∷◌, [], length, drop, true};
 ghost use Rattle.std.specs.Prelude.{IfOk};
 ghost use Rattle.ngc_machine.specs.Machine.{file_of};
@@ -21,20 +21,21 @@ use ngc_planner::{Ramp, is_by_place, target_on};
 use ngc_step_kernel::ArcKernel;
 use std::alloc::{AllocError, Allocator};
 
-/// The commands that are done, those that are loaded, and what is done of the head.
+/// The commands that are done, those that are loaded, and the progress of the head.
 #[derive(Drop)]
 pub struct Progress<K: ArcKernel + Drop, A: Allocator> {
     pub ring: Ring<K, A>,
     pub drive: Drive<A>,
-    /// How many commands are done.
+    /// The number of commands that are done.
     pub done: u32,
     /// How many ticks the head has dwelt.
     pub dwelt: u128,
 }
 
 impl<K: ArcKernel + Drop, A: Allocator + Copy> Progress<K, A> {
-    /// Nothing is loaded, and nothing is done. All memory is taken here. The change is that of the
-    /// ramp, 1 to 1,000,000, and `ring` is how many commands may be loaded, 1 to 1,024.
+    /// Returns the progress with nothing loaded and nothing done. All memory is allocated here.
+    /// `change` is that of the ramp, 1 to 1,000,000, and `ring` is the greatest number of loaded
+    /// commands, 1 to 1,024.
     pub fn new(alloc: A, change: u64, ring: usize) -> Result<Progress<K, A>, AllocError>
         requires least { 1 ≤ change }
         requires greatest { change ≤ MILLION }
@@ -57,7 +58,7 @@ impl<K: ArcKernel + Drop, A: Allocator + Copy> Progress<K, A> {
         })
     }
 
-    /// What the command at the head does.
+    /// Returns the action of the command at the head.
     pub fn action(&self) -> Option<Action>
         ensures { result ≡ action_of self.now.ring.loaded }
     {
@@ -67,7 +68,7 @@ impl<K: ArcKernel + Drop, A: Allocator + Copy> Progress<K, A> {
         }
     }
 
-    /// Puts a command into the ring, which must have room.
+    /// Adds a command to the ring, which must not be full.
     pub fn load<B: Allocator>(
         &mut self,
         loaded: Loaded<K>,
@@ -107,8 +108,8 @@ impl<K: ArcKernel + Drop, A: Allocator + Copy> Progress<K, A> {
         }
     }
 
-    /// The head is done, and the next command becomes the head. What a tick travelled beyond the
-    /// end is on the ramp.
+    /// Removes the head, which is done; the next command becomes the head. The rest of a tick
+    /// beyond the end is on the ramp.
     pub fn leave<B: Allocator>(&mut self, percent: u8, machine: &Machine<B>)
         requires { self.old.done + 1 < 2 ^ 32 }
         ensures loaded { self.new.ring.loaded ≡ drop 1 self.old.ring.loaded }
@@ -128,7 +129,7 @@ impl<K: ArcKernel + Drop, A: Allocator + Copy> Progress<K, A> {
         self.aim(percent, machine);
     }
 
-    /// The head is to reach the rate of its place, at an override in percent.
+    /// Sets the target rate of the head to that of its place, at an override in percent.
     pub fn aim<B: Allocator>(&mut self, percent: u8, machine: &Machine<B>)
         ensures ring { self.new.ring ≡ self.old.ring }
         ensures done { self.new.done ≡ self.old.done }
@@ -151,7 +152,7 @@ impl<K: ArcKernel + Drop, A: Allocator + Copy> Progress<K, A> {
         }
     }
 
-    // Whether the target of the head depends on the place.
+    // Returns whether the target of the head depends on the place.
     fn is_by_place<B: Allocator>(&self, machine: &Machine<B>) -> bool
         ensures { result ≡ is_head_by_place (file_of machine.now) self.now.ring.loaded }
     {
@@ -161,9 +162,9 @@ impl<K: ArcKernel + Drop, A: Allocator + Copy> Progress<K, A> {
         }
     }
 
-    /// Goes one place on along the head's path, if it is due, and answers the point there. The head
-    /// must be a motion with path steps. The target stays that of the place, at an override in
-    /// percent.
+    /// Goes to the next point of the head's path, if it is due, and returns the current point. The
+    /// head must be a motion with path steps. The target is then that of the place, at an override
+    /// in percent.
     pub fn follow<B: Allocator>(&mut self, due: bool, percent: u8, machine: &Machine<B>) -> StepPos
         requires moves { IsMoving self.old.ring.loaded }
         requires room { due ≡ true → HasNext self.old.ring.loaded self.old.ring.place }

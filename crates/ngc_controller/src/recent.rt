@@ -11,28 +11,28 @@ use ngc_events::Reply;
 use std::alloc::{AllocError, Allocator};
 use std::marker::Model;
 
-/// How many replies are kept.
+/// The number of replies that are stored.
 const KEPT: usize = 256;
 
-/// The reply to a tick in which nothing was told.
+/// The reply to a tick with nothing to report.
 pub(crate) const QUIET: Reply = Reply::Ticked {
     position: None,
     ending: None,
 };
 
-/// A reply, and how many quiet ones came right before it.
+/// A reply, and the number of quiet ones directly before it.
 #[derive(Clone, Copy)]
 struct Told {
     before: u64,
     reply: Reply,
 }
 
-/// The replies to the last 256 events that were taken. Those to ticks in which nothing was told are
-/// counted, so that many of them are kept at once.
+/// The replies to the last 256 events that were handled. Replies to ticks with nothing to report
+/// are only counted, so that many of them are stored at once.
 #[derive(Drop)]
 pub struct Recent<A: Allocator> {
     told: HeapCircularBuffer<Told, A>,
-    /// How many quiet ones came last, at most as many as are kept.
+    /// The number of quiet ones at the end, at most the number that is stored.
     quiet: u64,
 }
 
@@ -49,8 +49,8 @@ impl<A: Allocator> Model for Recent<A> {
     ghost invariant = { λ r. (r.told.capacity ≡ KEPT) × (r.quiet ≤ KEPT) };
 }
 
-// The reply that is so many places before the last of those that were told, with the quiet ones
-// before each.
+// Returns the reply `index` positions before the last of these, counting the quiet ones before
+// each.
 fn told_before<A: Allocator>(told: &HeapCircularBuffer<Told, A>, index: u64) -> Option<Reply>
     ensures { result ≡ from_the_last index (replies told.now.items) }
 {
@@ -72,7 +72,7 @@ fn told_before<A: Allocator>(told: &HeapCircularBuffer<Told, A>, index: u64) -> 
 }
 
 impl<A: Allocator> Recent<A> {
-    /// No reply yet, with all the memory that is needed.
+    /// Returns an empty list of replies, with all the memory that it needs.
     pub fn new(alloc: A) -> Result<Recent<A>, AllocError>
         ensures { IfOk result (λ (r : List TheReply). r ≡ []) }
     {
@@ -80,7 +80,7 @@ impl<A: Allocator> Recent<A> {
         Ok(Recent { told, quiet: 0 })
     }
 
-    /// Keeps a reply.
+    /// Stores a reply.
     pub fn push(&mut self, reply: Reply)
         ensures { self.new ≡ keep_last KEPT (self.old ++ reply ∷ []) }
     {
@@ -93,7 +93,7 @@ impl<A: Allocator> Recent<A> {
         }
     }
 
-    // Keeps a reply behind the quiet ones.
+    // Stores a reply after the quiet ones.
     fn tell(&mut self, reply: Reply)
         ensures { self.new ≡ keep_last KEPT (self.old ++ reply ∷ []) }
     {
@@ -105,15 +105,15 @@ impl<A: Allocator> Recent<A> {
         self.quiet = 0;
     }
 
-    /// Keeps the replies to so many ticks in which nothing was told.
+    /// Stores the replies to `count` ticks with nothing to report.
     pub fn rest(&mut self, count: u64)
         ensures { self.new ≡ keep_last KEPT (self.old ++ replicate count (Ticked None None)) }
     {
-        // More of them would push each other out.
+        // More of them would remove each other.
         self.quiet = self.quiet.saturating_add(count).min(KEPT as u64);
     }
 
-    /// The reply that is so many places before the last one.
+    /// Returns the reply `index` positions before the last one.
     pub fn from_the_last(&self, index: usize) -> Option<Reply>
         ensures { result ≡ from_the_last index self.now }
     {

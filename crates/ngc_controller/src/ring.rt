@@ -12,8 +12,8 @@ use ngc_step_kernel::ArcKernel;
 use std::alloc::{AllocError, Allocator};
 use std::marker::Model;
 
-/// A ring of commands, as many as it has memory for. The head stands by itself, so that a tick
-/// reaches it at once.
+/// A ring of commands, as many as it has memory for. The head is stored separately, so that a tick
+/// finds it at once.
 #[derive(Drop)]
 pub struct Ring<K: ArcKernel + Drop, A: Allocator> {
     head: Option<Loaded<K>>,
@@ -35,7 +35,7 @@ impl<K: ArcKernel + Drop, A: Allocator> Model for Ring<K, A> {
     ghost invariant = { λ r. IsRing r.head r.behind.items r.behind.capacity };
 }
 
-// Puts a command behind others, where there is room.
+// Adds a command after others, if there is capacity.
 fn put<K: ArcKernel + Drop, A: Allocator>(
     behind: &mut HeapCircularBuffer<Loaded<K>, A>,
     loaded: Loaded<K>,
@@ -48,7 +48,7 @@ fn put<K: ArcKernel + Drop, A: Allocator>(
 }
 
 impl<K: ArcKernel + Drop, A: Allocator> Ring<K, A> {
-    /// An empty ring for so many commands, 1 to 1,024, with all its memory.
+    /// Returns an empty ring for `room` commands, 1 to 1,024, with all its memory.
     pub fn new(alloc: A, room: usize) -> Result<Ring<K, A>, AllocError>
         requires some { 1 ≤ room }
         requires few { room ≤ MOST_LEGS }
@@ -59,7 +59,7 @@ impl<K: ArcKernel + Drop, A: Allocator> Ring<K, A> {
         Ok(Ring { head: None, behind })
     }
 
-    /// How many commands are loaded, the head among them.
+    /// Returns the number of loaded commands, including the head.
     pub fn len(&self) -> u32
         ensures value { result ≡ length self.now.loaded }
         ensures few { result ≤ self.now.room }
@@ -70,7 +70,7 @@ impl<K: ArcKernel + Drop, A: Allocator> Ring<K, A> {
         }
     }
 
-    /// Puts a command behind the others. There must be room.
+    /// Adds a command after the others. The ring must not be full.
     pub fn push(&mut self, loaded: Loaded<K>)
         requires room { length self.old.loaded < self.old.room }
         requires beginning { loaded.place ≡ 0 }
@@ -85,14 +85,14 @@ impl<K: ArcKernel + Drop, A: Allocator> Ring<K, A> {
         }
     }
 
-    /// The command that is executed.
+    /// Returns the command that is executed.
     pub fn head(&self) -> Option<&Loaded<K>>
         ensures { option_copied result ≡ head_of self.now.loaded self.now.place }
     {
         self.head.as_ref()
     }
 
-    /// Whether the head is a motion with path steps.
+    /// Returns whether the head is a motion with path steps.
     pub fn moves(&self) -> bool
         ensures { IsTrue result ↔ IsMoving self.now.loaded }
     {
@@ -102,8 +102,8 @@ impl<K: ArcKernel + Drop, A: Allocator> Ring<K, A> {
         }
     }
 
-    /// Goes one place on along the head's path, if it is due, and answers the point there. The head
-    /// must be a motion with path steps.
+    /// Goes to the next point of the head's path, if it is due, and returns the current point. The
+    /// head must be a motion with path steps.
     pub fn follow(&mut self, due: bool) -> StepPos
         requires moves { IsMoving self.old.loaded }
         requires room { due ≡ true → HasNext self.old.loaded self.old.place }
@@ -118,7 +118,7 @@ impl<K: ArcKernel + Drop, A: Allocator> Ring<K, A> {
         head.follow(due)
     }
 
-    /// The head leaves the ring.
+    /// Removes the head from the ring.
     pub fn leave(&mut self)
         ensures loaded { self.new.loaded ≡ drop 1 self.old.loaded }
         ensures place { self.new.place ≡ 0 }

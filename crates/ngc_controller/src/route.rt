@@ -1,4 +1,4 @@
-//! What the controller keeps of a command that is loaded.
+//! A loaded command, its path, and the position on the path.
 ghost use Rattle.std.specs.Prelude.{◌≡◌, ◌≤◌, ◌<◌, ◌+◌, ◌-◌, length, true};
 ghost use Rattle.ngc_fixed_length.specs.Length.{IsStep};
 ghost use Rattle.ngc_fixed_length.specs.LinePath.{point};
@@ -15,7 +15,7 @@ use ngc_planner::helix_length;
 use ngc_step_kernel::{ArcKernel, LinePath, Path};
 use std::marker::Model;
 
-/// The path of a command, and the place on it. A command that is no motion stands still.
+/// The path of a command, and the position on it. A command that is no motion has no path.
 #[derive(Drop)]
 enum Route<K: ArcKernel + Drop> {
     Line(LinePath),
@@ -24,7 +24,7 @@ enum Route<K: ArcKernel + Drop> {
 }
 
 impl<K: ArcKernel + Drop> Route<K> {
-    /// A path of the action on a grid of this step, at its beginning.
+    /// Returns a path of the action on a grid of this step, at its beginning.
     fn of(action: &Action, step: Nm) -> Route<K>
         requires { IsStep step }
         ensures takes { (job : Job) → job.machine.step ≡ step →
@@ -41,7 +41,7 @@ impl<K: ArcKernel + Drop> Route<K> {
         }
     }
 
-    /// The number of path steps, at the beginning.
+    /// Returns the number of path steps, at the beginning of the path.
     fn path_steps(&self) -> u64
         requires { place_of K.place self.now ≡ 0 }
         ensures value { result ≡ length (points_of K.points self.now) - 1 }
@@ -54,7 +54,7 @@ impl<K: ArcKernel + Drop> Route<K> {
         }
     }
 
-    /// The point at the place; at no path it is zero.
+    /// Returns the current point, or zero if there is no path.
     fn position(&self) -> StepPos
         ensures { result ≡ point (points_of K.points self.now) (place_of K.place self.now) }
     {
@@ -65,7 +65,7 @@ impl<K: ArcKernel + Drop> Route<K> {
         }
     }
 
-    /// Goes one place on, if it is due, and answers the point there.
+    /// Goes to the next point, if it is due, and returns the current point.
     fn follow(&mut self, due: bool) -> StepPos
         requires moves { 1 < length (points_of K.points self.old) }
         requires room { due ≡ true → place_of K.place self.old + 1
@@ -92,14 +92,14 @@ impl<K: ArcKernel + Drop> Route<K> {
     }
 }
 
-/// A command that is loaded, with the path that was chosen for it and the place on that path.
+/// A loaded command, with the path that was chosen for it and the position on that path.
 #[derive(Drop)]
 pub struct Loaded<K: ArcKernel + Drop> {
     command: Command,
     route: Route<K>,
     steps: u64,
-    /// The step of the grid, and the length of a helix on it. It is kept, so that no tick takes a
-    /// root for it.
+    /// The step of the grid, and the length of a helix on it. It is stored, so that no tick
+    /// computes a root for it.
     step: Nm,
     length: u64,
 }
@@ -121,7 +121,7 @@ impl<K: ArcKernel + Drop> Model for Loaded<K> {
 }
 
 impl<K: ArcKernel + Drop> Loaded<K> {
-    /// The command at the beginning of a path on a grid of this step.
+    /// Returns a loaded command at the beginning of a path on a grid of this step.
     pub fn new(command: &Command, step: Nm) -> Loaded<K>
         requires { IsStep step }
         ensures command { result.queued.command ≡ command.now }
@@ -147,7 +147,7 @@ impl<K: ArcKernel + Drop> Loaded<K> {
         &self.command
     }
 
-    /// The number of steps of the path, at most 10^9: 0 for a command that is no motion.
+    /// Returns the number of steps of the path, at most 10^9: 0 for a command that is no motion.
     pub fn path_steps(&self) -> u64
         ensures value { result ≡ path_steps self.now.queued }
         ensures few { result ≤ STEPS_LIMIT }
@@ -156,8 +156,8 @@ impl<K: ArcKernel + Drop> Loaded<K> {
         self.steps
     }
 
-    /// The length of a helix on a grid of this step, as `helix_length` has it: 0 for any other
-    /// command. On the grid of its path it was computed when the command was loaded.
+    /// Returns the length of a helix on a grid of this step, as `helix_length` does: 0 for any
+    /// other command. On the grid of its path it was computed when the command was loaded.
     pub fn helix_length(&self, step: Nm) -> u64
         requires { IsStep step }
         ensures { result ≡ helix_length step self.now.queued.command.action
@@ -170,14 +170,14 @@ impl<K: ArcKernel + Drop> Loaded<K> {
         }
     }
 
-    /// The point of the path at the place, zero for a command that is no motion.
+    /// Returns the current point of the path, or zero for a command that is no motion.
     pub fn position(&self) -> StepPos
         ensures { result ≡ point self.now.queued.path self.now.place }
     {
         self.route.position()
     }
 
-    /// Goes one place on along the path, if it is due, and answers the point there.
+    /// Goes to the next point of the path, if it is due, and returns the current point.
     pub fn follow(&mut self, due: bool) -> StepPos
         requires moves { 1 ≤ path_steps self.old.queued }
         requires room { due ≡ true → self.old.place + 1 < length self.old.queued.path }
