@@ -1,4 +1,4 @@
--- Changes, added one after another.
+-- Changes, added in order.
 use Rattle.std.proofs.Common.{◌≡◌, ℕ, List, [], ◌∷◌, ◌++◌, refl, ap, sym, subst, ◌∙◌, arith}
 use Rattle.std.proofs.lemmas.List.{append_assoc, length-append}
 use Rattle.ngc_pulses.specs.Vcd.{Change, change_text, stamp_after, dumped}
@@ -23,7 +23,7 @@ both r cs ds x y z a b c p q = record {
   short = omega (arith, p.short, q.short, length-append cs ds);
 }
 
--- where the second are added at the rate that is left by the first
+-- if the second ones are added at the rate after the first ones
 pub adds_both : (r s : ℕ) (cs ds : List Change) (x y z : ℕ) (a b c : List ℕ) → s ≡ r → AddsChanges r cs x y a b → AddsChanges s ds y z b c →
     AddsChanges r (cs ++ ds) x z a c
 adds_both r s cs ds x y z a b c same p q = both r cs ds x y z a b c p (subst (λ n. AddsChanges n ds y z b c) same q)

@@ -1,12 +1,12 @@
--- Changes, added one after another.
+-- Changes, added in order.
 pub mod Adding
 -- A dump from tick to tick is that of all pulses.
 pub mod Dumps
--- A dump behind a tick with a pulse.
+-- A dump after a tick with a pulse.
 pub mod Stepped
--- Text that is collected and written, one part after another.
+-- Text that is collected and written, part by part.
 pub mod Repeating
 -- Samples from tick to tick are those of all pulses.
 pub mod Sampled
--- What hardware reads from samples are the pulses.
+-- Hardware reads the pulses from samples.
 pub mod ReadBack

@@ -1,4 +1,4 @@
--- What hardware reads from samples are the pulses.
+-- Hardware reads the pulses from samples.
 use Rattle.std.proofs.Common.{◌≡◌, ◌+◌, ◌*◌, ◌≤◌, ◌/◌, ◌%◌, ℕ, zero, suc, ℤ, pos, negsuc, List, [], ◌∷◌, ◌++◌, length, Bool, true, false, refl, ap, sym, ◌∙◌, arith}
 use Rattle.std.specs.Prelude.{if◌then◌else◌, bit_xor, nat_eq, nat_abs}
 use Rattle.std.specs.Int.Bits.{xor_assoc, xor_self, xor_zero_r}
@@ -29,7 +29,7 @@ is_bit : (n : ℕ) (b : Bool) → n ≡ as_number b → nat_eq n 1 ≡ b
 is_bit n true e = ap (λ k. nat_eq k 1) e
 is_bit n false e = ap (λ k. nat_eq k 1) e
 
--- the bits of a byte are those that it is made of
+-- the bits of a byte are those from which it is made
 record AreBits (byte : ℕ) (xs xd ys yd zs zd : Bool) : Type 0 where
   x_step : has_bit 1 byte ≡ xs
   x_up : has_bit 2 byte ≡ xd

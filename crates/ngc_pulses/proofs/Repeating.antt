@@ -1,4 +1,4 @@
--- Text that is collected and written, one part after another.
+-- Text that is collected and written, part by part.
 use Rattle.std.proofs.Common.{◌≡◌, ◌+◌, ◌-◌, ◌≤◌, ℕ, List, [], ◌++◌, replicate, min, Option, ap, sym, subst, ◌∙◌, arith}
 use Rattle.std.proofs.lemmas.List.{append_assoc, append-nil, replicate-append-replicate}
 use Rattle.std.specs.Io.KnownBytes.{Appends}
@@ -17,7 +17,7 @@ fronts_joined x y z a b c s t p q = (
   sym (append_assoc a s t) ∙ ap (λ l. l ++ t) p.2 ∙ append_assoc p.0 b t ∙ ap (λ l. p.0 ++ l) q.2 ∙ sym (append_assoc p.0 q.0 c),
 )
 
--- what is added to what is still collected
+-- a text is added to the rest of the collected text
 pub front_added : (x y : Option (List ℕ)) (a b c more : List ℕ) → WritesFront x y a b → c ≡ b ++ more → WritesFront x y (a ++ more) c
 front_added x y a b c more w e = (w.0, w.1, ap (λ l. l ++ more) w.2 ∙ append_assoc w.0 b more ∙ ap (λ l. w.0 ++ l) (sym e))
 

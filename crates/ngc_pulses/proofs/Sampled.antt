@@ -129,7 +129,7 @@ pub whole_samples : (inverted : ℕ) (position : StepPos) (ticks : List SampleTi
     ≡ samples inverted (pulses_over position (positions_of ticks)) (switches_of ticks)
 whole_samples inverted position ticks = all_whole ticks (first_samples inverted position)
 
--- ---- how many rest
+-- ---- the number of resting ticks
 
 one_rests : (s : SampleState) (t : SampleTick) (b : Bool) → (if b then rested 1 s else changed_by s t).resting ≤ s.resting + 1
 one_rests s t true = omega arith
@@ -139,7 +139,7 @@ pub few_rest : (s : SampleState) (ticks : List SampleTick) → (after_samples s 
 few_rest s [] = omega arith
 few_rest s (t ∷ ticks) = omega (arith, few_rest (after_sample s t) ticks, one_rests s t (is_rest t))
 
--- ---- samples that go on once the bytes of the ticks that rest are written
+-- ---- samples that continue after the bytes of the resting ticks are written
 
 one_settled : (s : SampleState) (t : SampleTick) (b : Bool) →
     settled (if b then rested 1 (settled s) else changed_by (settled s) t) ≡ settled (if b then rested 1 s else changed_by s t)

@@ -1,4 +1,4 @@
--- A dump behind a tick with a pulse.
+-- A dump after a tick with a pulse.
 use Rattle.std.proofs.Common.{◌≡◌, ◌+◌, ℕ, List, ◌++◌, Some, ap, ◌∙◌}
 use Rattle.ngc_fixed_length.specs.declared.points.StepPos.{StepPos}
 use Rattle.ngc_pulses.specs.declared.axis_step.Directions.{Directions}
@@ -10,7 +10,7 @@ abbrev state : ℕ → ℕ → StepPos → Directions → ℕ → DumpState
 state rate ticks position directions stamped =
     record { ticks_per_second = rate; ticks = ticks; position = position; directions = directions; stamped = stamped }
 
--- d is what is known before the tick, seen as v
+-- d is the state before the tick, seen as v
 pub stepped : (d v : DumpState) (q : StepPos) (steps : Steps) (rate stamped : ℕ) (directions : Directions) → v ≡ d →
     steps ≡ steps_of v.directions (step_between v.position q) → rate ≡ v.ticks_per_second → stamped ≡ last_half v.stamped (tick_changes v.ticks steps) →
     directions ≡ directions_after steps →

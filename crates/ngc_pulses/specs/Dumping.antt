@@ -1,4 +1,4 @@
--- A dump that goes on from tick to tick, as positions are commanded. Our own.
+-- A dump that continues from tick to tick, as positions are commanded. Our own.
 use Rattle.std.specs.Prelude.{◌≡◌, ℕ, ◌+◌, ◌*◌, ◌≤◌, ◌-ℤ◌, List, [], ◌∷◌, ◌++◌, length, Option}
 use Rattle.std.specs.Prelude.{Some, None}
 use Rattle.ngc_fixed_length.specs.declared.points.StepPos.{StepPos}
@@ -7,7 +7,7 @@ use Rattle.ngc_pulses.specs.declared.axis_step.Steps.{Steps}
 use Rattle.ngc_pulses.specs.Vcd.{Change, steps_of, directions_after, tick_changes, dumped, all_down}
 use Rattle.ngc_pulses.specs.Vcd.{stamp}
 
--- by how much each axis goes from p to q
+-- the movement of each axis from p to q
 abbrev pub step_between : StepPos → StepPos → StepPos
 step_between p q = record { x = q.x -ℤ p.x; y = q.y -ℤ p.y; z = q.z -ℤ p.z }
 
@@ -22,7 +22,7 @@ abbrev pub last_half : ℕ → List Change → ℕ
 last_half last [] = last
 last_half last (c ∷ cs) = last_half c.half cs
 
--- what a dump knows behind some ticks
+-- the state of a dump after some ticks
 pub record DumpState : Type 0 where
   pub ticks_per_second : ℕ
   pub ticks : ℕ

@@ -11,9 +11,9 @@ use Rattle.ngc_pulses.specs.declared.samples.Switch.{Switch}
 use Rattle.ngc_pulses.specs.declared.samples.Switch.TheVariants.{Nothing, Spindle, Coolant, AllOff}
 use Rattle.ngc_pulses.specs.Vcd.{steps_of, directions_after, all_down}
 
--- ---- what stays from tick to tick
+-- ---- the state from tick to tick
 
--- what the command that ends in a tick switches is so in that tick
+-- a switch by the command that ends in a tick is in effect in that tick
 abbrev pub switched : Levels → Switch → Levels
 switched l Nothing = l
 switched l (Spindle on) = record l { spindle = on }
@@ -42,13 +42,13 @@ abbrev pub step_bits : Steps → ℕ
 step_bits s = bit 1 s.x.steps + (bit 4 s.y.steps + bit 16 s.z.steps)
 
 -- a tick's first byte has its steps low, and its second byte has them high; in both, the bits of
--- the mask are turned over
+-- the mask are inverted
 abbrev pub tick_bytes : ℕ → Levels → Steps → List ℕ
 tick_bytes mask l steps =
     bit_xor (level_bits l) mask ∷ bit_xor (level_bits l + step_bits steps) mask ∷ []
 
--- The bytes of ticks, from the pulse of each, by how much each axis goes, and from what is switched
--- in it.
+-- The bytes of ticks, from the pulse of each, which is the movement of each axis, and from what is
+-- switched in it.
 abbrev pub samples_from : ℕ → Levels → List StepPos → List Switch → List ℕ
 samples_from mask l [] switches = []
 samples_from mask l (pulse ∷ pulses) [] = []
@@ -65,7 +65,7 @@ samples mask pulses switches = samples_from mask all_off pulses switches
 abbrev pub has_bit : ℕ → ℕ → Bool
 has_bit value byte = nat_eq (byte / value % 2) 1
 
--- by how much an axis goes, by the levels of its step and of its direction
+-- the movement of an axis, from the levels of its step and of its direction
 abbrev pub moved_by : Bool → Bool → ℤ
 moved_by steps up = if steps then (if up then pos 1 else negsuc 0) else pos 0
 
@@ -76,19 +76,19 @@ move_in byte = record {
   z = moved_by (has_bit 16 byte) (has_bit 32 byte);
 }
 
--- of two bytes a tick, in which the bits of the mask are turned over, the second one has the steps
+-- of a tick's two bytes, in which the bits of the mask are inverted, the second one has the steps
 abbrev pub moves_in : ℕ → List ℕ → List StepPos
 moves_in mask [] = []
 moves_in mask (first ∷ []) = []
 moves_in mask (first ∷ second ∷ bytes) = move_in (bit_xor second mask) ∷ moves_in mask bytes
 
--- each axis goes a step at most
+-- each axis moves at most a step
 pub record IsPathStep (pulse : StepPos) : Type 0 where
   pub x : nat_abs pulse.x ≤ 1
   pub y : nat_abs pulse.y ≤ 1
   pub z : nat_abs pulse.z ≤ 1
 
--- What hardware reads from the samples are the pulses.
+-- Hardware reads the pulses from the samples.
 abbrev pub ReadBack : Type 0
 ReadBack = (mask : ℕ) (pulses : List StepPos) (switches : List Switch) →
     AllByRecursion IsPathStep pulses → length switches ≡ length pulses →

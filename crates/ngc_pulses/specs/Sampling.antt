@@ -1,4 +1,4 @@
--- Samples that go on from tick to tick, as positions are commanded. Our own.
+-- Samples that continue from tick to tick, as positions are commanded. Our own.
 use Rattle.std.specs.Prelude.{◌≡◌, ℕ, ◌+◌, ◌*◌, List, [], ◌∷◌, ◌++◌, map, replicate, bit_xor}
 use Rattle.std.specs.Prelude.{Option, Some, None, is_none, Bool, true, false, ◌&&◌, if◌then◌else◌}
 use Rattle.ngc_fixed_length.specs.declared.points.StepPos.{StepPos}
@@ -10,7 +10,7 @@ use Rattle.ngc_pulses.specs.Vcd.{steps_of}
 use Rattle.ngc_pulses.specs.Dumping.{step_between}
 use Rattle.ngc_pulses.specs.Samples.{levels_in, level_bits, tick_bytes, all_off}
 
--- a tick of a run: where its pulse leads to, if it has one, and what is switched in it
+-- a tick of a run: the position to which its pulse leads, if it has one, and what is switched in it
 pub record SampleTick : Type 0 where
   pub position : Option StepPos
   pub switch : Switch
@@ -25,8 +25,8 @@ stays AllOff = false
 abbrev pub is_rest : SampleTick → Bool
 is_rest t = is_none t.position && stays t.switch
 
--- what is known after some ticks. The last ones, `resting` of them, changed nothing, and their bytes
--- aren't part of the text yet.
+-- The state after some ticks. The last ones, `resting` of them, changed nothing, and their bytes
+-- are not yet part of the text.
 pub record SampleState : Type 0 where
   pub inverted : ℕ
   pub position : StepPos
@@ -37,7 +37,7 @@ abbrev pub first_samples : ℕ → StepPos → SampleState
 first_samples inverted position =
     record { inverted = inverted; position = position; levels = all_off; resting = 0 }
 
--- the bytes of ticks that change nothing: two for each, all alike
+-- the bytes of ticks that change nothing: two for each, all the same
 abbrev pub rest_bytes : SampleState → List ℕ
 rest_bytes s = replicate (2 * s.resting) (bit_xor (level_bits s.levels) s.inverted)
 
@@ -65,11 +65,12 @@ changed_bytes s t = tick_bytes s.inverted (levels_in s.levels (sample_steps s t.
 abbrev pub rested : ℕ → SampleState → SampleState
 rested n s = record s { resting = s.resting + n }
 
--- the same once the bytes of the ticks that changed nothing are written
+-- the state after the bytes of the ticks that changed nothing are written
 abbrev pub settled : SampleState → SampleState
 settled s = record s { resting = 0 }
 
--- a tick that changes nothing is counted; before another the bytes of those that were counted come
+-- a tick that changes nothing is counted; before any other tick the bytes of the counted ones are
+-- added
 abbrev pub after_sample : SampleState → SampleTick → SampleState
 after_sample s t = if is_rest t then rested 1 s else changed_by s t
 

@@ -13,12 +13,12 @@ use Rattle.ngc_pulses.specs.declared.wire.Wire.TheVariants.{ZStep, ZDirection}
 
 -- ---- times
 
--- The nanosecond in which a half tick begins, each rounded down by itself. Times go no further than
--- 64 bits.
+-- The nanosecond in which a half tick begins, each rounded down by itself. Times are limited to 64
+-- bits.
 abbrev pub time_of : ℕ → ℕ → ℕ
 time_of ticks_per_second half = min (half * 1000000000 / (2 * ticks_per_second)) (2 ^ 64 - 1)
 
--- ---- what a tick changes
+-- ---- the changes of a tick
 
 -- at a half tick a wire goes high or low
 pub record Change : Type 0 where
@@ -26,7 +26,8 @@ pub record Change : Type 0 where
   pub wire : Wire
   pub high : Bool
 
--- an axis that goes by so much in a tick: the direction turns where it isn't already so
+-- the step of an axis with this movement in a tick: the direction turns if it is not already the
+-- same
 abbrev pub axis_step : Bool → ℤ → AxisStep
 axis_step up (pos zero) = record { steps = false; turns = false; up = up }
 axis_step up (pos (suc n)) = record { steps = true; turns = not up; up = true }
@@ -39,14 +40,14 @@ steps_of d pulse =
 abbrev pub directions_after : Steps → Directions
 directions_after s = record { x = s.x.up; y = s.y.up; z = s.z.up }
 
--- the direction, 1 for up, where it turns
+-- the direction, 1 for up, if it turns
 abbrev pub turn : ℕ → Wire → AxisStep → List Change
 turn half wire s = if s.turns then record { half = half; wire = wire; high = s.up } ∷ [] else []
 
 abbrev pub turns : ℕ → Steps → List Change
 turns half s = turn half XDirection s.x ++ (turn half YDirection s.y ++ turn half ZDirection s.z)
 
--- the step, where the axis steps
+-- the step, if the axis steps
 abbrev pub level : ℕ → Bool → Wire → AxisStep → List Change
 level half high wire s =
     if s.steps then record { half = half; wire = wire; high = high } ∷ [] else []
@@ -55,13 +56,13 @@ abbrev pub levels : ℕ → Bool → Steps → List Change
 levels half high s =
     level half high XStep s.x ++ (level half high YStep s.y ++ level half high ZStep s.z)
 
--- Tick n, the first being tick 1, sets the directions at half tick 2n - 1, the steps at 2n, and
--- takes them back at 2n + 1. Here `before` is n - 1.
+-- Tick n (the first is tick 1) sets the directions at half tick 2n - 1, the steps high at 2n, and
+-- low again at 2n + 1. Here `before` is n - 1.
 abbrev pub tick_changes : ℕ → Steps → List Change
 tick_changes before s =
     turns (2 * before + 1) s ++ (levels (2 * before + 2) true s ++ levels (2 * before + 3) false s)
 
--- the changes of ticks, from the pulse of each: by how much each axis goes
+-- the changes of ticks, from the pulse of each, which is the movement of each axis
 abbrev pub changes : ℕ → Directions → List StepPos → List Change
 changes before d [] = []
 changes before d (pulse ∷ pulses) = tick_changes before (steps_of d pulse)
@@ -91,7 +92,7 @@ abbrev pub stamp_after : ℕ → ℕ → ℕ → List ℕ
 stamp_after ticks_per_second last half =
     if nat_eq half last then [] else stamp ticks_per_second half
 
--- changes behind a half tick that was stamped last
+-- changes after a half tick that was stamped last
 abbrev pub dumped : ℕ → ℕ → List Change → List ℕ
 dumped ticks_per_second last [] = []
 dumped ticks_per_second last (c ∷ cs) =

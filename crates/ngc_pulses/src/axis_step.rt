@@ -4,18 +4,18 @@ ghost use Rattle.ngc_pulses.specs.Vcd.{axis_step, directions_after, steps_of};
 
 use ngc_fixed_length::StepPos;
 
-/// What a tick does to an axis.
+/// The effect of a tick on an axis.
 #[derive(Clone, Copy)]
 pub(crate) struct AxisStep {
-    /// It goes a step.
+    /// Whether it moves a step.
     pub(crate) steps: bool,
-    /// Its direction changes.
+    /// Whether its direction changes.
     pub(crate) turns: bool,
-    /// Its direction is up.
+    /// Whether its direction is up.
     pub(crate) up: bool,
 }
 
-/// Which axes' directions are up.
+/// The axes whose directions are up.
 #[derive(Clone, Copy, Drop)]
 pub(crate) struct Directions {
     pub(crate) x: bool,
@@ -23,7 +23,7 @@ pub(crate) struct Directions {
     pub(crate) z: bool,
 }
 
-/// What a tick does to the axes.
+/// The effect of a tick on the axes.
 #[derive(Clone, Copy)]
 pub(crate) struct Steps {
     pub(crate) x: AxisStep,
@@ -32,7 +32,8 @@ pub(crate) struct Steps {
 }
 
 impl AxisStep {
-    // From a coordinate to another, with the direction that was set before.
+    // Returns the effect of moving from a coordinate to another, with the direction that was set
+    // before.
     fn between(from: i32, to: i32, up: bool) -> AxisStep
         ensures { result ≡ axis_step up (to -ℤ from) }
     {
@@ -59,7 +60,8 @@ impl AxisStep {
 }
 
 impl Steps {
-    /// From a position to another, with the directions that were set before.
+    /// Returns the effect of moving from a position to another, with the directions that were set
+    /// before.
     pub(crate) fn between(from: &StepPos, to: &StepPos, directions: &Directions) -> Steps
         ensures { result ≡ steps_of directions.now (step_between from.now to.now) }
     {
@@ -70,7 +72,7 @@ impl Steps {
         }
     }
 
-    /// The directions that are set then.
+    /// Returns the directions that are set afterwards.
     pub(crate) fn directions(&self) -> Directions
         ensures { result ≡ directions_after self.now }
     {

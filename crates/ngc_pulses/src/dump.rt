@@ -31,11 +31,11 @@ $dumpvars
 $end
 ";
 
-/// The value change dump of a run's pulses, behind some of its ticks: a step and a direction of
-/// each axis, high for up.
+/// The value change dump of a run's pulses, after some of its ticks: a step and a direction of each
+/// axis, high for up.
 ///
-/// A tick sets the directions of the axes that step where they change, half a tick later the steps,
-/// and half a tick later takes the steps back. Times are whole nanoseconds, each rounded down.
+/// A tick sets the directions of the axes that step, if they change. Half a tick later it sets the
+/// steps high, and half a tick later low again. Times are whole nanoseconds, each rounded down.
 #[derive(Drop)]
 pub struct PulseDump {
     stamps: Stamps,
@@ -59,8 +59,8 @@ impl Model for PulseDump {
 }
 
 impl PulseDump {
-    /// A dump behind no ticks, with a machine that stands at a position, in steps. It ticks 1 to
-    /// 1,000,000 times a second.
+    /// Returns a dump after no ticks, of a machine at rest at a position, in steps. It ticks 1 to
+    /// 1,000,000 times per second.
     pub fn new(ticks_per_second: u32, position: StepPos) -> PulseDump
         requires { IsRate ticks_per_second }
         ensures { result ≡ first_state ticks_per_second position }
@@ -80,7 +80,7 @@ impl PulseDump {
         }
     }
 
-    /// Adds the header, for which there must be room.
+    /// Adds the header, for which there must be space.
     pub fn open(&self, chunk: &mut Chunk)
         requires { HasLineRoom chunk.old }
         ensures { chunk.new ≡ chunk.old ++ header }
@@ -111,7 +111,7 @@ impl PulseDump {
         self.directions = steps.directions();
     }
 
-    /// Adds the last time, that at which a next tick would set its steps.
+    /// Adds the last time: that at which a next tick would set its steps.
     pub fn close(&self, chunk: &mut Chunk)
         requires few { self.now.ticks ≤ 2 ^ 126 }
         requires room { HasLineRoom chunk.old }

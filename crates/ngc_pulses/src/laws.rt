@@ -1,8 +1,9 @@
-//! Laws about the definitions alone.
+//! Laws about the definitions only.
 ghost use Rattle.ngc_pulses.specs.Samples.{ReadBack};
 
-/// Where each axis goes a step at most in every tick, what hardware reads from the samples are the
-/// pulses, whatever the spindle, the coolant and the mask are: no step is lost, added or turned.
+/// States that hardware reads the pulses from the samples, if each axis moves at most a step in
+/// every tick, whatever the spindle, the coolant and the mask are: no step is lost, added or
+/// reversed.
 pub fn read_back()
     ensures { ReadBack }
 {}

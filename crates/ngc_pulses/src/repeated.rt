@@ -7,7 +7,7 @@ use ngc_text::{Chunk, Sink, WriteFault};
 
 const PIECE: usize = 512;
 
-// How many bytes come next, where so many are left.
+// Returns the number of bytes of the next piece, with `left` remaining.
 fn next_length(left: u128) -> usize
     ensures { result ≡ min left 512 }
 {
@@ -23,8 +23,8 @@ fn add_repeated(byte: u8, count: usize, chunk: &mut Chunk)
     chunk.add_text(&piece[..count]);
 }
 
-/// Writes a byte `count` times, the last of them into the chunk, in which there is room for a line
-/// then. After a fault a beginning of it is written, and the sink has counted the failure.
+/// Writes a byte `count` times, the last of them into the chunk, which then has space for a line.
+/// After a fault a prefix is written, and the sink has counted the failure.
 pub(crate) fn write_repeated<W: Sink>(
     byte: u8,
     count: u128,

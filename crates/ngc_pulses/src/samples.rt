@@ -27,7 +27,7 @@ pub enum Switch {
     AllOff,
 }
 
-/// What the wires show in a tick, but for the steps.
+/// The levels of the wires in a tick, except the steps.
 #[derive(Clone, Copy, Drop)]
 pub(crate) struct Levels {
     pub(crate) directions: Directions,
@@ -46,14 +46,14 @@ impl Switch {
     }
 }
 
-// A tick without a pulse, in which nothing is switched.
+// Returns whether a tick has no pulse, and nothing is switched in it.
 fn is_rest(position: Option<StepPos>, switch: Switch) -> bool
     ensures { result ≡ is_rest (record { position = position; switch = switch }) }
 {
     position.is_none() && switch.stays()
 }
 
-// The value of a bit.
+// Returns the value of a bit.
 fn bit(value: u8, on: bool) -> u8
     ensures is { result ≡ bit value on }
     ensures small { result ≤ value }
@@ -99,7 +99,7 @@ impl Levels {
         }
     }
 
-    // In a tick with these steps, in which a command that ends switches this.
+    // Returns the levels in a tick with these steps, in which a command that ends switches this.
     fn in_tick(self, steps: &Steps, switch: Switch) -> Levels
         ensures { result ≡ levels_in self steps.now switch }
     {
@@ -112,9 +112,9 @@ impl Levels {
 
 /// The samples of a run's pulses, after some of its ticks: two bytes for each tick.
 ///
-/// Bits 0, 2 and 4 are the steps of X, Y and Z, bits 1, 3 and 5 their directions, 1 for up, bit 6 is
-/// the spindle and bit 7 the coolant. The first byte of a tick has its steps low, the second has
-/// those that are due high. Ticks that change nothing are counted, and written in one go.
+/// Bits 0, 2 and 4 are the steps of X, Y and Z, bits 1, 3 and 5 their directions, 1 for up, bit 6
+/// is the spindle and bit 7 the coolant. The first byte of a tick has its steps low, the second has
+/// those that are due high. Ticks that change nothing are counted, and written together.
 #[derive(Drop)]
 pub struct PulseSamples {
     inverted: u8,
@@ -137,8 +137,8 @@ impl Model for PulseSamples {
 }
 
 impl PulseSamples {
-    /// Samples after no ticks, with a machine that stands at a position, in steps. Spindle and
-    /// coolant are off. In each byte the bits of `inverted` are turned over.
+    /// Returns the samples after no ticks, of a machine at rest at a position, in steps. Spindle
+    /// and coolant are off. The bits of `inverted` are inverted in each byte.
     pub fn new(inverted: u8, position: StepPos) -> PulseSamples
         ensures { result ≡ first_samples inverted position }
     {
@@ -166,9 +166,9 @@ impl PulseSamples {
         self.resting += u128::from(count);
     }
 
-    /// Writes what a tick adds, whose pulse leads to a position, in steps, or which has none, and in
-    /// which a command that ends switches something or nothing. After a fault a beginning of it is
-    /// written, and the sink has counted the failure.
+    /// Writes the bytes of a tick. Its pulse leads to a position, in steps, or it has none; a
+    /// command that ends in it switches something or nothing. After a fault a prefix is written,
+    /// and the sink has counted the failure.
     pub fn tick<W: Sink>(
         &mut self,
         position: Option<StepPos>,
@@ -200,7 +200,7 @@ impl PulseSamples {
         Ok(())
     }
 
-    // Adds a tick that comes after no rests.
+    // Adds a tick with no uncounted rests before it.
     fn change(&mut self, position: Option<StepPos>, switch: Switch, chunk: &mut Chunk)
         requires room { HasLineRoom chunk.old }
         ensures state { self.new
@@ -219,7 +219,7 @@ impl PulseSamples {
         self.resting = 0;
     }
 
-    /// Returns the samples as they go on once the bytes of the ticks that changed nothing are
+    /// Returns the samples as they continue after the bytes of the ticks that changed nothing are
     /// written.
     pub fn settled(&self) -> PulseSamples
         ensures { result ≡ settled self.now }
@@ -232,8 +232,8 @@ impl PulseSamples {
         }
     }
 
-    /// Writes the bytes of the ticks that were counted and changed nothing. There is room for a line
-    /// then. After a fault a beginning of it is written, and the sink has counted the failure.
+    /// Writes the bytes of the counted ticks that changed nothing. Then there is space for a line.
+    /// After a fault a prefix is written, and the sink has counted the failure.
     pub fn write_rests<W: Sink>(
         &mut self,
         chunk: &mut Chunk,

@@ -1,4 +1,4 @@
-//! Changes of wires, each behind its time.
+//! Changes of wires, each after its time.
 ghost use Rattle.std.specs.Prelude.{◌≡◌, ◌+◌, ◌≤◌, ◌^◌, ◌++◌, ◌∷◌, [], length, true, false};
 ghost use Rattle.ngc_machine.specs.Ranges.{IsRate};
 ghost use Rattle.ngc_text.specs.Collected.{CHUNK_SIZE};
@@ -11,7 +11,7 @@ use ngc_text::Chunk;
 
 const NANOSECONDS: u128 = 1_000_000_000;
 
-/// The nanosecond in which a half tick begins, rounded down, or the greatest that 64 bits hold.
+/// Returns the nanosecond in which a half tick begins, rounded down, or the greatest 64-bit number.
 fn time_of(ticks_per_second: u32, half: u128) -> u64
     requires { IsRate ticks_per_second }
     ensures { result ≡ time_of ticks_per_second half }
@@ -25,7 +25,7 @@ fn time_of(ticks_per_second: u32, half: u128) -> u64
     }
 }
 
-/// Times of half ticks, and the half tick that was stamped last.
+/// The times of half ticks, and the half tick that was stamped last.
 #[derive(Drop)]
 pub(crate) struct Stamps {
     pub(crate) ticks_per_second: u32,
@@ -107,7 +107,7 @@ impl Stamps {
         self.level(half, high, Wire::ZStep, &steps.z, chunk);
     }
 
-    /// Adds what the tick behind so many changes.
+    /// Adds the changes of the tick after `before` ticks.
     pub(crate) fn tick(&mut self, before: u128, steps: &Steps, chunk: &mut Chunk)
         requires few { before ≤ 2 ^ 126 }
         requires room { length chunk.old + 450 ≤ CHUNK_SIZE }

@@ -13,7 +13,7 @@ pub(crate) enum Wire {
 }
 
 impl Wire {
-    /// The line that says that it goes high or low.
+    /// Returns the line for its change to high or low.
     pub(crate) fn change(self, high: bool) -> &'static [u8]
         ensures text { result.now ≡ change_text self high }
         ensures short { length result.now ≡ 3 }
