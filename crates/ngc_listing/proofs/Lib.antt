@@ -1,2 +1,2 @@
--- How far a listing is written, where the next lines are collected first.
+-- A listing that is partly written; the next lines are collected first.
 pub mod Progress

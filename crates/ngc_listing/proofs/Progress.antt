@@ -1,4 +1,4 @@
--- How far a listing is written, where the next lines are collected first.
+-- A listing that is partly written; the next lines are collected first.
 use Rattle.std.proofs.Common.{◌≡◌, ◌+◌, ◌<◌, ◌≤◌, ℕ, ℤ, List, [], ◌++◌, length, get_or, drop, Option, ap, sym, subst, ◌∙◌}
 use Rattle.std.proofs.lemmas.List.{append_assoc, append-nil, drop_more}
 use Rattle.std.proofs.Math.ListN.{drop_of_length-le}
@@ -9,11 +9,11 @@ use Rattle.ngc_text.specs.Collected.{WritesFront}
 use Rattle.ngc_commands.specs.declared.command.Command.{Command}
 use Rattle.ngc_listing.specs.Listing.{listing_line, listing_from}
 
--- some bytes are written, then come those that are collected, and then the rest
+-- some bytes are written, then the collected ones follow, and then the rest
 abbrev pub Progress : Option (List ℕ) → Option (List ℕ) → List ℕ → List ℕ → List ℕ → Type 0
 Progress old now chunk rest whole = (bs : List ℕ) × Appends old now bs × (whole ≡ bs ++ (chunk ++ rest))
 
--- a beginning of what is collected is written
+-- a prefix of the collected text is written
 pub wrote_front : (old mid new : Option (List ℕ)) (before after rest whole : List ℕ) → Progress old mid before rest whole → WritesFront mid new before after →
     Progress old new after rest whole
 wrote_front old mid new before after rest whole done front =
@@ -42,11 +42,11 @@ one_more old now step commands index command before after whole h found done is 
     ∙ ap (λ l. l ++ rest) (sym (is ∙ ap (λ (x : Command). before ++ listing_line step index x) found)) in
     (done.0, done.1, done.2 ∙ ap (λ l. done.0 ++ l) joined)
 
--- behind the last line nothing is left
+-- after the last line nothing remains
 pub no_rest : (step : ℤ) (commands : List Command) (index : ℕ) → length commands ≤ index → listing_from index step (drop index commands) ≡ []
 no_rest step commands index h = ap (listing_from index step) (drop_of_length-le commands h)
 
--- what is collected was written in part
+-- a part of the collected text was written
 pub stopped : (old mid new : Option (List ℕ)) (chunk rest whole : List ℕ) → Progress old mid chunk rest whole → AppendsBeginning mid new chunk →
     AppendsBeginning old new whole
 stopped old mid new chunk rest whole done part =

@@ -28,7 +28,7 @@ use Rattle.ngc_commands.specs.declared.command.SpindleState.TheVariants as spind
 use Rattle.ngc_commands.specs.declared.command.CoolantState.{CoolantState}
 use Rattle.ngc_commands.specs.declared.command.CoolantState.TheVariants as coolants
 
--- three numbers, parted by one space
+-- three numbers, separated by one space
 abbrev pub triple : ℤ → ℤ → ℤ → List ℕ
 triple x y z = signed_decimal x ++ codes " " ++ signed_decimal y ++ codes " " ++ signed_decimal z
 
@@ -55,7 +55,7 @@ plane_text XY = codes "xy"
 plane_text ZX = codes "zx"
 plane_text YZ = codes "yz"
 
--- the sense of turning, the plane, and the centre by the plane's axes
+-- the direction of turning, the plane, and the centre in the plane's coordinates
 abbrev pub arc_text : ArcShape → List ℕ
 arc_text arc = turn_text arc.turn ++ codes " " ++ plane_text arc.plane ++ codes " "
     ++ signed_decimal arc.centre.u ++ codes " " ++ signed_decimal arc.centre.v
@@ -79,18 +79,18 @@ abbrev pub switch_text : Bool → List ℕ
 switch_text true = codes "on"
 switch_text false = codes "off"
 
--- what stands before the end of a motion
+-- the text before the end of a motion
 abbrev pub way_text : Way → Pace → List ℕ
 way_text (Line start end) paces.Rapid = codes " traverse "
 way_text (Line start end) (paces.Feed feed) = codes " feed "
 way_text (Arc arc) pace = codes " arc " ++ arc_text arc ++ codes " to "
 
--- and behind it
+-- and after it
 abbrev pub pace_text : Pace → List ℕ
 pace_text paces.Rapid = []
 pace_text (paces.Feed feed) = feed_text feed
 
--- what a command does
+-- the text of an action
 abbrev pub act_text : ℤ → Action → List ℕ
 act_text step (Move m) = way_text m.way m.pace ++ end_text step (end_of m.way) ++ pace_text m.pace
 act_text step (Dwell millionths) = codes " dwell " ++ decimal millionths
@@ -102,7 +102,7 @@ act_text step Stop = codes " stop"
 act_text step OptionalStop = codes " optional stop"
 act_text step End = codes " end"
 
--- a line of the listing: the command's index, its line in the program, and what it does
+-- a line of the listing: the command's index, its line in the program, and its action
 abbrev pub listing_line : ℤ → ℕ → Command → List ℕ
 listing_line step index command =
     decimal index ++ codes " " ++ decimal command.line ++ act_text step command.action ++ codes "\n"
@@ -112,6 +112,6 @@ listing_from index step [] = []
 listing_from index step (command ∷ commands) =
     listing_line step index command ++ listing_from (index + 1) step commands
 
--- the listing of a list of commands, whose indices count from 0
+-- the listing of a list of commands, whose indexes count from 0
 abbrev pub listing : ℤ → List Command → List ℕ
 listing step commands = listing_from 0 step commands

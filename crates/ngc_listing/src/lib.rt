@@ -1,4 +1,4 @@
-//! The listing: a program's commands as text, one a line.
+//! The listing: a program's commands as text, one per line.
 #![tactic(auto)]
 
 mod listing;

@@ -124,7 +124,7 @@ fn switch_word(on: bool) -> &'static [u8]
     if on { b"on" } else { b"off" }
 }
 
-// What stands before the end of a motion.
+// Adds the text before the end of a motion.
 fn add_way(chunk: &mut Chunk, way: &Way, pace: &Pace)
     requires { length chunk.old + 110 ≤ CHUNK_SIZE }
     ensures text { chunk.new ≡ chunk.old ++ way_text way.now pace.now }
@@ -141,7 +141,7 @@ fn add_way(chunk: &mut Chunk, way: &Way, pace: &Pace)
     }
 }
 
-// What stands behind it.
+// Adds the text after it.
 fn add_pace(chunk: &mut Chunk, pace: &Pace)
     requires { length chunk.old + 50 ≤ CHUNK_SIZE }
     ensures text { chunk.new ≡ chunk.old ++ pace_text pace.now }
@@ -166,7 +166,7 @@ fn add_motion(chunk: &mut Chunk, step: Nm, motion: &Motion)
     add_pace(chunk, &motion.pace);
 }
 
-// What a command does.
+// Adds the text of a command's action.
 fn add_act(chunk: &mut Chunk, step: Nm, action: &Action)
     requires room { length chunk.old + 420 ≤ CHUNK_SIZE }
     requires step { IsStep step }
@@ -216,7 +216,7 @@ fn add_line(chunk: &mut Chunk, step: Nm, index: usize, command: &Command)
 /// Writes the listing of commands: a line for each, with its index from 0, its line in the program,
 /// and the ideal end in nanometres with its grid point in steps of 500 to 50,000 nm.
 ///
-/// After a fault (902, and only where the sink failed) a beginning of the listing is written.
+/// After a fault (902, only if the sink failed) a prefix of the listing is written.
 pub fn write_list<W: Sink>(commands: &[Command], step: Nm, sink: &mut W) -> Result<(), WriteFault>
     requires { IsStep step }
     ensures ok { OnOk result
