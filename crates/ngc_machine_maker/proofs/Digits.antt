@@ -1,4 +1,4 @@
--- How many digits a text begins with, the number that they give, and numbers up to a limit.
+-- The number of leading digits of a text, the number that they write, and numbers up to a limit.
 use Rattle.std.proofs.Common.{◌≡◌, ℕ, ◌+◌, ◌*◌, ◌<◌, ◌≤◌, min, refl, arith}
 use Rattle.std.proofs.lemmas.List.Folds.{length-prefix_len}
 use Rattle.std.proofs.lemmas.List.Sums.{fold_more}

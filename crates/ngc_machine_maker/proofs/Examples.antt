@@ -1,5 +1,5 @@
--- Figures of three machines, and figures that are refused, worked by hand by dividing by the longer
--- of the file's step and the motor's.
+-- Figures of three machines, and figures that are refused. The expected values are computed with
+-- the longer of the file's step and the motor's.
 use Rattle.std.proofs.Common.{◌≡◌, ℕ, ◌*◌, Some, None, refl}
 use Rattle.std.specs.Prelude.{pos, neg_ℤ, Ok, Err, true, false}
 use Rattle.ngc_machine_maker.specs.declared.figures.Acceleration.{Acceleration}
@@ -17,7 +17,7 @@ use Rattle.ngc_machine_maker.specs.Numbers.{numbers_of, ring_of}
 abbrev pub three : {T : Type 0} → T → T → T → PerAxis T
 three x y z = record { x = x; y = y; z = z }
 
--- in whole millimetres, millimetres a minute, and millimetres per second squared
+-- in whole millimetres, millimetres per minute, and millimetres per second squared
 abbrev pub mm : ℕ → Length
 mm n = record { nanometres = n * 1000000 }
 
@@ -27,8 +27,8 @@ mm_a_minute n = record { micrometres_a_minute = n * 1000 }
 abbrev pub mm_a_second_squared : ℕ → Acceleration
 mm_a_second_squared n = record { micrometres_a_second_squared = n * 1000 }
 
--- 188.976 steps a millimetre are steps of 5,291.677 nm; 20 turns an inch with 1,600 steps a turn are
--- 1259.84252 steps a millimetre, and steps of 793.75 nm
+-- 188.976 steps per millimetre are steps of 5,291.677 nm; 20 turns per inch with 1,600 steps per
+-- turn are 1259.84252 steps per millimetre, and steps of 793.75 nm
 nearest_of_188_976 : nearest_step 188976000 ≡ 5292
 nearest_of_188_976 = refl
 
@@ -38,9 +38,9 @@ nearest_of_20_turns_an_inch = refl
 nearest_of_800 : nearest_step 800000000 ≡ 1250
 nearest_of_800 = refl
 
--- A small router with 800 steps a millimetre, 300 by 180 by 45 mm. 1,000 mm/min are 13,333.3 steps a
--- second, so 27,000 ticks, of which a step takes 0.493827. 20 mm/s^2 are 16,000 steps per second
--- squared, over 27,000 twice 21.95 millionths.
+-- A small router with 800 steps per millimetre, 300 by 180 by 45 mm. 1,000 mm/min are 13,333.3
+-- steps per second, so 27,000 ticks, of which a step takes 0.493827. 20 mm/s^2 are 16,000 steps per
+-- second squared, over 27,000 twice 21.95 millionths.
 abbrev pub small_router : Figures
 small_router = record {
   steps = record { millionths = 800000000 };
@@ -78,9 +78,9 @@ numbers_of_a_small_router : numbers_of small_router ≡ Ok (record {
 })
 numbers_of_a_small_router = refl
 
--- A mill with screws of 20 turns an inch and motors of 200 steps a turn at 8 microsteps, 220 by 127
--- by 159 mm, with zero at the high ends and a start 1 mm from there. The file's step of 794 nm is
--- longer than the motor's: X has 277,078 steps of it, 219.999932 mm.
+-- A mill with screws of 20 turns per inch and motors of 200 steps per turn at 8 microsteps, 220 by
+-- 127 by 159 mm, with zero at the high ends and a start 1 mm from there. The file's step of 794 nm
+-- is longer than the motor's: X has 277,078 steps of it, 219.999932 mm.
 abbrev bench_mill : Figures
 bench_mill = record {
   steps = record { millionths = 1259842520 };
@@ -118,9 +118,8 @@ numbers_of_a_bench_mill : numbers_of bench_mill ≡ Ok (record {
 })
 numbers_of_a_bench_mill = refl
 
--- A large router with 188.976 steps a millimetre, 800 by 600 by 100 mm, at 40,000 ticks a second,
--- with its start at the top of Z, a ring of 64
--- commands, and arcs at their feed.
+-- A large router with 188.976 steps per millimetre, 800 by 600 by 100 mm, at 40,000 ticks per
+-- second, with its start at the top of Z, a ring of 64 commands, and arcs at their feed.
 abbrev pub large_router : Figures
 large_router = record {
   steps = record { millionths = 188976000 };
@@ -158,14 +157,14 @@ numbers_of_a_large_router : numbers_of large_router ≡ Ok (record {
 })
 numbers_of_a_large_router = refl
 
--- 10 steps a millimetre are steps of 100,000 nm, and 2,100 are steps of 476 nm
+-- 10 steps per millimetre are steps of 100,000 nm, and 2,100 are steps of 476 nm
 long_step : numbers_of (record large_router { steps = record { millionths = 10000000 } }) ≡ Err refusals.Step
 long_step = refl
 
 short_step : numbers_of (record large_router { steps = record { millionths = 2100000000 } }) ≡ Err refusals.Step
 short_step = refl
 
--- 10,000 mm/min are 31,496 steps a second: more than 30,000 ticks
+-- 10,000 mm/min are 31,496 steps per second: more than 30,000 ticks
 few_ticks : numbers_of (record large_router { ticks = Some 30000 }) ≡ Err (refusals.FastFeed axes.X)
 few_ticks = refl
 

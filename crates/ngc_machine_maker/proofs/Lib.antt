@@ -1,14 +1,15 @@
--- Fewer steps are no more than the same amount, and steps no more than a larger one.
+-- Fewer steps are at most the same amount, and steps are at most a larger amount.
 pub mod SafeLaws
 -- The travel and the places in it, as nanometres of a file.
 pub mod PlaceLaws
--- Figures of three machines, and figures that are refused, worked by hand.
+-- Figures of three machines, and figures that are refused, with computed results.
 pub mod Examples
 -- The length of a travel in a machine file.
 pub mod UnitLaws
--- How many digits a text begins with, the number that they give, and numbers up to a limit.
+-- The number of leading digits of a text, the number that they write, and numbers up to a limit.
 pub mod Digits
--- The lines of a text, one after another.
+-- The lines of a text, in order.
 pub mod LineLaws
--- Texts worked by hand: a machine file, a note, options, and the settings of a controller with Grbl.
+-- Texts with computed results: a machine file, a note, options, and the settings of a controller
+-- with Grbl.
 pub mod TextExamples

@@ -1,4 +1,4 @@
--- The lines of a text, one after another.
+-- The lines of a text, in order.
 use Rattle.std.proofs.Common.{◌≡◌, ℕ, zero, suc, ◌+◌, ◌<◌, ◌≤◌, List, [], ◌∷◌, length, take, drop, refl, ap, arith, length-drop}
 use Rattle.std.specs.Prelude.{true, false, ◌==◌, Err}
 use Rattle.std.proofs.lemmas.Bool.Decides.{nat_tests}
@@ -9,7 +9,7 @@ use Rattle.ngc_machine_maker.specs.Grbl.{line_length, lines_within, lines_of, se
 some_bytes : (b : ℕ) (rest : List ℕ) → 0 < line_length (b ∷ rest)
 some_bytes b rest = grind (arith, nat_tests)
 
--- how many lines are allowed makes no difference, if they are enough
+-- any limit of lines that is large enough has the same result
 enough : (n m : ℕ) (text : List ℕ) → length text ≤ n → length text ≤ m → lines_within n text ≡ lines_within m text
 enough zero zero text p q = refl
 enough zero (suc m) [] p q = refl
@@ -51,7 +51,7 @@ pub setting_later : (number places at : ℕ) (text line : List ℕ) (rest : List
     → setting_in number places at (lines_of text) ≡ setting_in number places (at + 1) rest
 setting_later number places at text line rest e h = rw (e, h) refl
 
--- no line is left
+-- no line remains
 pub setting_end : (number places at : ℕ) (text : List ℕ) → length text ≡ 0 → setting_in number places at (lines_of text) ≡ Err (refusals.Missing number)
 setting_end number places at text h = rw (no_lines text h) refl
 

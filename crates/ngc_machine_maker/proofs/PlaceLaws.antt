@@ -18,7 +18,7 @@ use Rattle.ngc_machine_maker.specs.Places.{low_of, high_of, coordinate}
 use Rattle.ngc_machine_maker.specs.Ranges.{IsTravel, IsStop, IsScale, AreAllRates, IsRing}
 use Rattle.ngc_machine_maker.specs.Safe.{IsNoFarther, AreNoFarther, AreSafe}
 
--- no farther from zero than the travel is long
+-- the distance from zero is at most the travel
 pub stop_within : (stop travel step : ℕ) → stop ≤ travel → travel * step ≤ 1000000000 → stop * step ≤ 1000000000
 stop_within stop travel step h most = let p : stop * step ≤ travel * step = mul-le stop step travel step h (omega arith) in omega arith
 
@@ -35,7 +35,7 @@ travel_motor steps step length motor h =
     let r : steps * step * 1000000000000 ≡ steps * (1 * 1000000000000) * step = motor_order steps step in
     omega (arith, p, q, r)
 
--- the length of a travel, at either end of which zero is
+-- the length of a travel, with zero at either end
 span_length : (scale : Scale) (zero : End) (steps : ℕ) → unsigned_abs (high_of scale zero steps -ℤ low_of scale zero steps) ≡ steps * scale.step
 span_length scale ends.Low steps = omega (arith, ints)
 span_length scale ends.High steps = omega (arith, ints)
@@ -74,7 +74,7 @@ high_near : (scale : Scale) (zero : End) (travel : ℕ) → travel * scale.step 
 high_near scale ends.Low travel h = omega (arith, ints)
 high_near scale ends.High travel h = omega (arith, ints)
 
--- a travel and three stops in it are what a file may have
+-- a travel and three stops in it are allowed in a file
 pub axis_in_file : (scale : Scale) (zero : End) (travel start home28 home30 : ℕ) → IsScale scale → IsTravel scale travel → IsStop travel start → IsStop travel home28 → IsStop travel home30 →
     IsAxisInFile scale.step (low_of scale zero travel) (high_of scale zero travel) (coordinate scale zero start) (coordinate scale zero home28) (coordinate scale zero home30)
 axis_in_file scale zero travel start home28 home30 m t s a b =

@@ -1,4 +1,4 @@
--- Fewer steps are no more than the same amount, and steps no more than a larger one.
+-- Fewer steps are at most the same amount, and steps are at most a larger amount.
 use Rattle.std.proofs.Common.{ℕ, ◌≤◌, ◌*◌, arith}
 use Rattle.std.proofs.lemmas.Nat.{mul-le}
 use Rattle.ngc_machine_maker.specs.declared.scale.Scale.{Scale}

@@ -1,4 +1,4 @@
--- No number of a machine file is more than was asked: not by the file's step, and not by the
+-- No number of a machine file exceeds what was requested, either with the file's step or with the
 -- motor's.
 use Rattle.std.specs.Prelude.{◌≤◌, ◌*◌, ℤ, ◌-ℤ◌, unsigned_abs}
 use Rattle.ngc_machine_maker.specs.declared.figures.Figures.{Figures}
@@ -24,8 +24,8 @@ rates_in n =
       jump = n.jump;
     }
 
--- a travel is no longer than a length, in nanometres of the file; and so much more or less as the
--- motor's step is longer or shorter than the file's
+-- a travel is no longer than a length, in nanometres of the file, and also after it is scaled by
+-- the ratio of the motor's step to the file's
 pub record IsTravelWithin (scale : Scale) (low high : ℤ) (length : Length) : Type 0 where
   pub by_file : unsigned_abs (high -ℤ low) ≤ length.nanometres
   pub by_motor :

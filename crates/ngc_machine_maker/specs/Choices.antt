@@ -1,4 +1,4 @@
--- What may be chosen beside the figures of a machine.
+-- The optional settings of a machine, besides its figures.
 use Rattle.std.specs.Borrow.{Bor}
 use Rattle.std.specs.Prelude.{ℕ, ◌==◌, List, drop, Option, Some, None, Result, Ok, option_and_then}
 use Rattle.std.specs.Prelude.{◌||◌, if◌then◌else◌}
@@ -20,7 +20,7 @@ use Rattle.ngc_machine_maker.specs.Formulas.{and_then}
 use Rattle.ngc_machine_maker.specs.Options.{each_of, length_of, acceleration_of, read_by}
 use Rattle.ngc_machine_maker.specs.Options.{second_speed_in}
 
--- a speed in millimetres a second
+-- a speed in millimetres per second
 abbrev pub speed_by : Field → Speed → Option (Bor (List ℕ)) → Result Speed Refusal
 speed_by field otherwise None = Ok otherwise
 speed_by field otherwise (Some text) = second_speed_in field text.now
@@ -56,7 +56,7 @@ abbrev pub ring_by : Option ℕ → Option (Bor (List ℕ)) → Result (Option �
 ring_by otherwise None = Ok otherwise
 ring_by otherwise (Some text) = ring_in text.now
 
--- ---- places, by their coordinates in millimetres: where zero is at the high end of an axis, its
+-- ---- places, by their coordinates in millimetres: if zero is at the high end of an axis, its
 -- other coordinates have a minus sign
 
 abbrev pub zero_alone : ℕ → Option ℕ
@@ -65,7 +65,7 @@ zero_alone n = if n == 0 then Some 0 else None
 abbrev pub zero_in : List ℕ → Option ℕ
 zero_in text = option_and_then zero_alone (number_in 6 text)
 
--- how far a coordinate is from zero, into the travel
+-- the distance of a coordinate from zero, into the travel
 abbrev pub distance_in : End → List ℕ → Option ℕ
 distance_in ends.Low text = number_in 6 text
 distance_in ends.High text =
@@ -92,7 +92,7 @@ abbrev pub home_by : PerAxis End → Stop → Option (PerAxis Length) → Option
 home_by zero stop otherwise None = Ok otherwise
 home_by zero stop otherwise (Some text) = and_then (place_in zero stop text.now) some_place
 
--- ---- the figures with what is chosen
+-- ---- the figures with the choices
 
 abbrev pub chosen : Figures → Choices → Result Figures Refusal
 chosen f choices =

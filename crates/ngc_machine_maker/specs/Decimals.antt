@@ -1,4 +1,4 @@
--- Numbers as options and settings have them: digits, and at most one point among them, as 188.976.
+-- Numbers in options and settings: digits, with at most one point among them, as 188.976.
 use Rattle.std.specs.Prelude.{ℕ, ◌+◌, ◌-◌, ◌*◌, ◌^◌, ◌==◌, ◌&&◌, ◌||◌, nat_lt, nat_le, Bool, not}
 use Rattle.std.specs.Prelude.{List, length, take, drop, slice_index, fold, Option, Some, None}
 use Rattle.std.specs.Prelude.{if◌then◌else◌}
@@ -13,14 +13,14 @@ begins byte text = nat_lt 0 (length text) && (slice_index text 0 == byte)
 abbrev pub whole_digits : List ℕ → List ℕ
 whole_digits text = take (prefix_len is_ascii_digit text) text
 
--- what follows them: nothing, or a point and the decimals
+-- the rest: nothing, or a point and the decimals
 abbrev pub after_whole : List ℕ → List ℕ
 after_whole text = drop (prefix_len is_ascii_digit text) text
 
 abbrev pub decimals : List ℕ → List ℕ
 decimals text = drop 1 (after_whole text)
 
--- a text that is a number with at most so many decimals
+-- a text that is a number with at most `places` decimals
 abbrev pub is_number : ℕ → List ℕ → Bool
 is_number places text =
     ((length (after_whole text) == 0) || begins 46 (after_whole text))
@@ -28,7 +28,7 @@ is_number places text =
     && (nat_le (length (decimals text)) places
     && nat_lt 0 (length (whole_digits text) + length (decimals text))))
 
--- the number that digits give
+-- the number that digits write
 abbrev pub digits_value : List ℕ → ℕ
 digits_value digits = fold (λ n d. 10 * n + (d - 48)) 0 digits
 
@@ -38,13 +38,13 @@ value_in places text =
     digits_value (whole_digits text) * 10 ^ places
     + digits_value (decimals text) * 10 ^ (places - length (decimals text))
 
--- a number below 2 ^ 32 such units
+-- the number, if it is less than 2 ^ 32 such units
 unfoldable pub number_in : ℕ → List ℕ → Option ℕ
 number_in places text =
     if is_number places text && nat_lt (value_in places text) 4294967296
     then Some (value_in places text) else None
 
--- ---- three numbers, parted by commas
+-- ---- three numbers, separated by commas
 
 abbrev pub is_no_comma : ℕ → Bool
 is_no_comma b = not (b == 44)

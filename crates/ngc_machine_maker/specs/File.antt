@@ -16,7 +16,7 @@ heading =
     codes "# Made by `ngc machine`. Lengths are nanometres, rates are millionths of a step in a\n"
     ++ codes "# tick, three numbers are X, Y, Z, and remarks are in the units of a shop.\n"
 
--- ---- the motor's step, where it is no whole number of nanometres
+-- ---- the motor's step, if it is no whole number of nanometres
 
 abbrev pub direction_text : Bool → List ℕ
 direction_text short = if short then codes "less far" else codes "farther"
@@ -57,7 +57,7 @@ acceleration_lines n =
     line_text (codes "change") (values.Number n.change) (remarks.Acceleration (acceleration n))
     ++ line_text (codes "turn") (values.Number n.turn) (remarks.Arcs (arc_acceleration n))
 
--- keys that are written only where they are asked for
+-- keys that are written only on request
 abbrev pub ring_line : Option ℕ → List ℕ
 ring_line None = []
 ring_line (Some ring) = line_text (codes "ring") (values.Number ring) remarks.Ring
@@ -82,6 +82,6 @@ abbrev pub file_text : MachineNumbers → Figures → List ℕ
 file_text n f = heading ++ scale_after (codes "# ") n f ++ step_lines n ++ speed_lines n
     ++ acceleration_lines n ++ asked_lines n ++ place_lines n
 
--- the notes beside it
+-- the notes on it
 abbrev pub notes_text : MachineNumbers → Figures → List ℕ
 notes_text n f = scale_after (codes "note: ") n f

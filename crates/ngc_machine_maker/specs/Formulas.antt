@@ -1,7 +1,7 @@
 -- From a shop's figures to the numbers of a machine file. A step in the file is a whole number of
--- nanometres, and the motor's may be a little shorter or longer. What is a limit is counted in both
--- steps, and the fewer steps are taken: neither by the file nor by the motor is the machine faster
--- than asked, or does it go farther.
+-- nanometres, and the motor's may be a little shorter or longer. A limit is computed with both
+-- steps, and the lesser number of steps is used. So the machine is neither faster than requested
+-- nor goes farther, with the file's step or with the motor's.
 use Rattle.std.specs.Prelude.{ℕ, ◌+◌, ◌*◌, ◌/◌, ◌==◌, ◌||◌, nat_lt, min, max, Option, Some, None}
 use Rattle.std.specs.Prelude.{Result, Ok, Err, if◌then◌else◌}
 use Rattle.ngc_machine_maker.specs.declared.figures.Axis.{Axis}
@@ -16,40 +16,41 @@ use Rattle.ngc_machine_maker.specs.declared.refusal.Refusal.TheVariants as refus
 use Rattle.ngc_machine_maker.specs.declared.rates.Rates.{Rates}
 use Rattle.ngc_machine_maker.specs.declared.scale.Scale.{Scale}
 
--- the first refusal, or what follows from the value
+-- the first refusal, or the next result for the value
 abbrev pub and_then : {T U : Type 0} → Result T Refusal → (T → Result U Refusal) → Result U Refusal
 and_then (Err refusal) f = Err refusal
 and_then (Ok x) f = f x
 
--- a millimetre has 1,000,000 nm, and steps a millimetre are in millionths: the nearest whole number
--- of nanometres, halves upwards
+-- a millimetre has 1,000,000 nm, and steps per millimetre are in millionths: the nearest whole
+-- number of nanometres, halves upwards
 abbrev pub nearest_step : ℕ → ℕ
 nearest_step steps = (2000000000000 + steps) / (2 * steps)
 
--- a motor's step is from 500 to 50,000 nm where it has 20 to 2,000 steps a millimetre
+-- a motor's step is from 500 to 50,000 nm if it has 20 to 2,000 steps per millimetre
 abbrev pub scale_of : StepsPerMillimetre → Result Scale Refusal
 scale_of s =
     if nat_lt s.millionths 20000000 || nat_lt 2000000000 s.millionths then Err refusals.Step
     else Ok (record { steps = s.millionths; step = nearest_step s.millionths })
 
--- how many steps have the length of an amount of nanometres over a divisor, by the motor's step and
--- by the file's: the fewer
+-- the number of steps in a length, which is an amount of nanometres over a divisor: the lesser of
+-- the numbers with the motor's step and with the file's
 abbrev pub steps_in : Scale → ℕ → ℕ → ℕ
 steps_in scale amount divisor =
     min (amount * scale.steps / (divisor * 1000000000000)) (amount / (divisor * scale.step))
 
--- ---- rates, in millionths of a step a tick. A speed is in thousandths of a millimetre a minute,
--- and an acceleration in thousandths of a millimetre per second squared
+-- ---- rates, in millionths of a step per tick. A speed is in thousandths of a millimetre per
+-- minute, and an acceleration in thousandths of a millimetre per second squared
 
 abbrev pub rate_of : Scale → ℕ → Speed → ℕ
 rate_of scale ticks speed =
     steps_in scale (speed.micrometres_a_minute * 1000000000) (60 * ticks)
 
--- of how much the rate changes from a tick to the next
+-- the change of the rate from a tick to the next
 abbrev pub change_of : Scale → ℕ → ℕ → ℕ
 change_of scale ticks acceleration = steps_in scale (acceleration * 1000000000) (ticks * ticks)
 
--- half of what an arc has where it runs along an axis: where it runs diagonally it has twice that
+-- half of the value of an arc where it runs along an axis; where it runs diagonally it has twice
+-- that
 abbrev pub turn_of : Scale → ℕ → ℕ → ℕ
 turn_of scale ticks acceleration =
     steps_in scale (acceleration * 1000000000000000) (2 * (ticks * ticks))
@@ -81,7 +82,7 @@ ticks_by chosen (Some ticks) = given_ticks ticks
 abbrev pub ticks_of : Scale → Figures → Result ℕ Refusal
 ticks_of scale f = ticks_by (chosen_ticks scale f.feed) f.ticks
 
--- the rate of an axis: from a millionth of a step in a tick to a step
+-- the rate of an axis: from a millionth of a step to a step per tick
 abbrev pub rate_within : Axis → ℕ → Result ℕ Refusal
 rate_within axis rate =
     if rate == 0 then Err (refusals.SlowFeed axis) else (
@@ -90,7 +91,7 @@ rate_within axis rate =
 abbrev pub axis_rate : Scale → ℕ → Speed → Axis → Result ℕ Refusal
 axis_rate scale ticks speed axis = rate_within axis (rate_of scale ticks speed)
 
--- what is made of the value of each axis, or the first refusal
+-- the result for the value of each axis, or the first refusal
 abbrev pub each_axis : {T U : Type 0} → (T → Axis → Result U Refusal) → PerAxis T →
     Result (PerAxis U) Refusal
 each_axis f p =
@@ -107,7 +108,7 @@ greatest_of rates = max (max rates.x rates.y) rates.z
 abbrev pub some : Refusal → ℕ → Result ℕ Refusal
 some refusal n = if n == 0 then Err refusal else Ok n
 
--- no motion is faster than the greatest rate, so the corner's rate need not be
+-- no motion is faster than the greatest rate, so the corner's rate is limited to it
 abbrev pub corner_of : Scale → ℕ → ℕ → Speed → Result ℕ Refusal
 corner_of scale ticks most speed =
     some refusals.SlowCorner (min (rate_of scale ticks speed) most)
@@ -115,7 +116,7 @@ corner_of scale ticks most speed =
 abbrev pub jump_of : Scale → ℕ → Speed → ℕ
 jump_of scale ticks speed = min (rate_of scale ticks speed) 1000000
 
--- one change serves all axes: what the slowest follows
+-- one change serves all axes: the one that the slowest axis can follow
 abbrev pub limited_change : Scale → ℕ → PerAxis Acceleration → Result ℕ Refusal
 limited_change scale ticks accelerations =
     some refusals.LowAcceleration (min (change_of scale ticks (least accelerations)) 1000000)
@@ -128,7 +129,7 @@ abbrev pub arcs_by : ℕ → Option Acceleration → ℕ
 arcs_by otherwise None = otherwise
 arcs_by otherwise (Some a) = a.micrometres_a_second_squared
 
--- the greatest acceleration towards the centre of an arc: what is given, or that of the slowest
+-- the greatest acceleration towards the centre of an arc: the one given, or that of the slowest
 -- axis
 abbrev pub arcs_of : Figures → ℕ
 arcs_of f = arcs_by (least f.acceleration) f.arcs

@@ -22,7 +22,7 @@ use Rattle.ngc_machine_maker.specs.Options.{same_for_all, figures_by}
 abbrev pub is_no_feed : ℕ → Bool
 is_no_feed b = not (b == 10)
 
--- how many bytes the first line of a text has, with its line feed
+-- the number of bytes of a text's first line, with its line feed
 abbrev pub line_length : List ℕ → ℕ
 line_length text = min (prefix_len is_no_feed text + 1) (length text)
 
@@ -53,7 +53,7 @@ abbrev pub is_some_number : ℕ → Option ℕ → Bool
 is_some_number number None = false
 is_some_number number (Some n) = n == number
 
--- a line that has the setting with this number: $, the number, and what follows
+-- a line that has the setting with this number: $, the number, and the rest
 unfoldable pub has_setting : ℕ → List ℕ → Bool
 has_setting number line =
     begins 36 line && is_some_number number (number_in 0 (before_equals (drop 1 line)))
@@ -69,7 +69,7 @@ abbrev pub ends_well : List ℕ → Bool
 ends_well [] = true
 ends_well (b ∷ rest) = ends_value b
 
--- the value of a setting that a line has, in units of which 10 ^ places make one
+-- the value of the setting on a line, in units of which 10 ^ places make one
 unfoldable pub value_of : ℕ → List ℕ → Option ℕ
 value_of places line =
     let value = after_equals line in
@@ -80,7 +80,8 @@ abbrev pub value_by : ℕ → ℕ → Option ℕ → Result ℕ Refusal
 value_by number at None = Err (refusals.Setting number at)
 value_by number at (Some n) = Ok n
 
--- the value of a setting by the first of these lines that has it, of which the first is line `at`
+-- the value of a setting, from the first of these lines that has it; the first line has the number
+-- `at`
 abbrev pub setting_in : ℕ → ℕ → ℕ → List (List ℕ) → Result ℕ Refusal
 setting_in number places at [] = Err (refusals.Missing number)
 setting_in number places at (line ∷ rest) =
@@ -90,7 +91,7 @@ setting_in number places at (line ∷ rest) =
 unfoldable pub setting : List ℕ → ℕ → ℕ → Result ℕ Refusal
 setting text number places = setting_in number places 1 (lines_of text)
 
--- three settings in a row: X, Y and Z
+-- three successive settings: X, Y and Z
 abbrev pub three_settings : List ℕ → ℕ → ℕ → Result (PerAxis ℕ) Refusal
 three_settings text number places =
     and_then (setting text number places) (λ x.
@@ -105,8 +106,8 @@ abbrev pub common_steps : PerAxis ℕ → Result StepsPerMillimetre Refusal
 common_steps p =
     if p.x == p.y && p.y == p.z then Ok (steps p.x) else Err refusals.UnequalSteps
 
--- after homing an axis is off its end by the pull-off: its high end, where zero is, or its low end,
--- if its bit of the mask is 1
+-- after homing an axis is away from its end by the pull-off: from its high end, where zero is, or
+-- from its low end if its bit of the mask is 1
 abbrev pub homed : ℕ → ℕ → ℕ → ℕ
 homed bit pull_off travel = if bit == 1 then travel - pull_off else pull_off
 
@@ -137,8 +138,8 @@ with_start f start =
       home30 = f.home30;
     }
 
--- $100 to $102 are steps a millimetre, $110 to $112 the greatest speeds in millimetres a minute,
--- $120 to $122 accelerations in millimetres per second squared, $130 to $132 the travel in
+-- $100 to $102 are steps per millimetre, $110 to $112 the greatest speeds in millimetres per
+-- minute, $120 to $122 accelerations in millimetres per second squared, $130 to $132 the travel in
 -- millimetres, $23 the mask of axes that home to their low end, and $27 the pull-off in
 -- millimetres. Zero is at the high end of each axis, and the start is where homing ends
 abbrev pub figures_in : List ℕ → Result Figures Refusal

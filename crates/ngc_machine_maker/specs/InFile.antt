@@ -1,4 +1,4 @@
--- The numbers that a machine file may have, as docs/FORMATS.md says.
+-- The allowed numbers of a machine file, as in docs/FORMATS.md.
 use Rattle.std.specs.Prelude.{ℕ, ◌≤◌, ◌%◌, ◌≡◌, ℤ, ◌≤ℤ◌, unsigned_abs, IfSome}
 use Rattle.ngc_machine_maker.specs.declared.numbers.MachineNumbers.{MachineNumbers}
 use Rattle.ngc_machine_maker.specs.declared.numbers.Steps.{Steps}
@@ -36,7 +36,7 @@ pub record AreInFile (n : MachineNumbers) : Type 0 where
   pub ring : IfSome n.ring IsRing
   pub places : ArePlacesInFile n
 
--- steps of which such places are made
+-- the steps of such places
 pub record AreStepsWithin (scale : Scale) (steps : Steps) : Type 0 where
   pub travel : AreTravels scale steps.travel
   pub start : AreStops steps.travel steps.start

@@ -21,7 +21,7 @@ placed scale f =
     and_then (stops_by scale travel f.travel stops.Home30 start f.home30) (λ home30.
     Ok (record { travel = travel; start = start; home28 = home28; home30 = home30 })))))
 
--- a ring is from 16 to 1,024 commands, where one is asked for
+-- a ring is from 16 to 1,024 commands, if one is requested
 abbrev pub ring_of : Option ℕ → Result (Option ℕ) Refusal
 ring_of None = Ok None
 ring_of (Some ring) =

@@ -1,4 +1,4 @@
--- The figures that the texts of options give.
+-- The figures in the texts of options.
 use Rattle.std.specs.Borrow.{Bor}
 use Rattle.std.specs.Prelude.{ℕ, ◌*◌, nat_lt, List, codes, bytes_eq, Option, Some, None, Result}
 use Rattle.std.specs.Prelude.{Ok, Err, false, if◌then◌else◌}
@@ -40,26 +40,26 @@ each_of f p = record { x = f p.x; y = f p.y; z = f p.z }
 
 -- ---- their texts
 
--- what a text gives, or that it can't be read
+-- the value of a text, or that it can't be read
 abbrev pub read_by : {T U : Type 0} → Field → (T → U) → Option T → Result U Refusal
 read_by field f None = Err (refusals.Unread field)
 read_by field f (Some x) = Ok (f x)
 
--- steps a millimetre have up to six decimals, and so have lengths in millimetres
+-- steps per millimetre have up to six decimals, and so have lengths in millimetres
 abbrev pub steps_in : List ℕ → Result StepsPerMillimetre Refusal
 steps_in text = read_by fields.Steps steps (number_in 6 text)
 
 abbrev pub lengths_in : Field → List ℕ → Result (PerAxis Length) Refusal
 lengths_in field text = read_by field (each_of length_of) (numbers_in 6 text)
 
--- speeds in millimetres a minute have up to three decimals, and so have accelerations
+-- speeds in millimetres per minute have up to three decimals, and so have accelerations
 abbrev pub speeds_in : Field → List ℕ → Result (PerAxis Speed) Refusal
 speeds_in field text = read_by field (each_of speed_of) (numbers_in 3 text)
 
 abbrev pub accelerations_in : Field → List ℕ → Result (PerAxis Acceleration) Refusal
 accelerations_in field text = read_by field (each_of acceleration_of) (numbers_in 3 text)
 
--- a speed in millimetres a second, up to 71,582.788
+-- a speed in millimetres per second, up to 71,582.788
 abbrev pub seconds_within : Field → ℕ → Result Speed Refusal
 seconds_within field n =
     if nat_lt 71582788 n then Err (refusals.Unread field) else Ok (speed_of (60 * n))
@@ -71,8 +71,8 @@ seconds_by field (Some n) = seconds_within field n
 abbrev pub second_speed_in : Field → List ℕ → Result Speed Refusal
 second_speed_in field text = seconds_by field (number_in 3 text)
 
--- the ends at which zero is: as most mills have it, low on X and Y and high on Z, unless all are
--- low or all high
+-- the ends at which zero is: as on most mills, low on X and Y and high on Z, unless all are low or
+-- all high
 abbrev pub usual_frame : PerAxis End
 usual_frame = record { x = ends.Low; y = ends.Low; z = ends.High }
 

@@ -14,7 +14,7 @@ use Rattle.ngc_machine_maker.specs.declared.refusal.Stop.{Stop}
 use Rattle.ngc_machine_maker.specs.declared.scale.Scale.{Scale}
 use Rattle.ngc_machine_maker.specs.Formulas.{and_then, each_axis, steps_in}
 
--- the whole steps within a length
+-- the number of whole steps within a length
 abbrev pub length_in : Scale → Length → ℕ
 length_in scale length = steps_in scale length.nanometres 1
 
@@ -27,7 +27,7 @@ travel_of scale length axis =
 abbrev pub travels_of : Scale → PerAxis Length → Result (PerAxis ℕ) Refusal
 travels_of scale travel = each_axis (travel_of scale) travel
 
--- how many steps a place is from zero: it is within the length that was given for the travel, and
+-- the distance of a place from zero, in steps: the place is within the length of the travel, and
 -- within the steps of the travel
 abbrev pub stop_of : Scale → ℕ → Length → Length → Refusal → Result ℕ Refusal
 stop_of scale travel within stop refusal =
@@ -48,12 +48,12 @@ abbrev pub stops_by : Scale → PerAxis ℕ → PerAxis Length → Stop → PerA
 stops_by scale travel within stop start None = Ok start
 stops_by scale travel within stop start (Some p) = stops_of scale travel within stop p
 
--- the coordinate of a place so many steps from zero, into the travel
+-- the coordinate of a place at this number of steps from zero, into the travel
 abbrev pub coordinate : Scale → End → ℕ → ℤ
 coordinate scale ends.Low steps = pos (steps * scale.step)
 coordinate scale ends.High steps = neg_ℤ (pos (steps * scale.step))
 
--- the ends of a travel of so many steps
+-- the ends of a travel of this number of steps
 abbrev pub low_of : Scale → End → ℕ → ℤ
 low_of scale ends.Low travel = pos 0
 low_of scale ends.High travel = coordinate scale ends.High travel

@@ -1,4 +1,4 @@
--- How large the numbers of a machine file may be.
+-- The ranges of the numbers of a machine file.
 use Rattle.std.specs.Prelude.{ℕ, ◌≤◌, ◌*◌}
 use Rattle.ngc_machine_maker.specs.declared.figures.PerAxis.{PerAxis}
 use Rattle.ngc_machine_maker.specs.declared.rates.Rates.{Rates}
@@ -11,7 +11,7 @@ pub record IsScale (scale : Scale) : Type 0 where
   pub least : 500 ≤ scale.step
   pub greatest : scale.step ≤ 50000
 
--- a rate, a change of the rate, or a number of ticks a second
+-- a rate, a change of the rate, or a number of ticks per second
 pub record IsRate (rate : ℕ) : Type 0 where
   pub least : 1 ≤ rate
   pub greatest : rate ≤ 1000000
@@ -36,7 +36,7 @@ pub record AreAllRates (rates : Rates) : Type 0 where
   pub turn : IsTurn rates.turn
   pub jump : rates.jump ≤ 1000000
 
--- how many commands are loaded and not done at most
+-- the greatest number of loaded commands that are not done
 pub record IsRing (ring : ℕ) : Type 0 where
   pub least : 16 ≤ ring
   pub greatest : ring ≤ 1024

@@ -1,4 +1,4 @@
--- The safe side: what the file allows, converted back, is at most what was asked.
+-- The safe side: the limits in the file, converted back, are at most the requested ones.
 use Rattle.std.specs.Prelude.{ℕ, ◌≤◌, ◌*◌}
 use Rattle.ngc_machine_maker.specs.declared.figures.PerAxis.{PerAxis}
 use Rattle.ngc_machine_maker.specs.declared.figures.Speed.{Speed}
@@ -9,8 +9,8 @@ use Rattle.ngc_machine_maker.specs.declared.rates.Rates.{Rates}
 use Rattle.ngc_machine_maker.specs.declared.scale.Scale.{Scale}
 use Rattle.ngc_machine_maker.specs.Formulas.{arcs_of}
 
--- so many steps are no longer than an amount of nanometres over a divisor, by the file's step and
--- by the motor's
+-- a number of steps is no longer than an amount of nanometres over a divisor, with the file's step
+-- and with the motor's
 pub record IsNoMore (scale : Scale) (steps amount divisor : ℕ) : Type 0 where
   pub by_file : steps * (divisor * scale.step) ≤ amount
   pub by_motor : steps * (divisor * 1000000000000) ≤ amount * scale.steps
@@ -20,12 +20,12 @@ abbrev pub IsNoFaster : Scale → ℕ → ℕ → Speed → Type 0
 IsNoFaster scale ticks rate speed =
     IsNoMore scale rate (speed.micrometres_a_minute * 1000000000) (60 * ticks)
 
--- a change of the rate is no harder than an acceleration
+-- a change of the rate is no greater than an acceleration
 abbrev pub IsNoHarder : Scale → ℕ → ℕ → ℕ → Type 0
 IsNoHarder scale ticks change acceleration =
     IsNoMore scale change (acceleration * 1000000000) (ticks * ticks)
 
--- and what an arc has where it runs diagonally, which is twice its turn
+-- the same for an arc where it runs diagonally, which has twice its turn
 abbrev pub IsNoHarderOnArcs : Scale → ℕ → ℕ → ℕ → Type 0
 IsNoHarderOnArcs scale ticks turn acceleration =
     IsNoMore scale turn (acceleration * 1000000000000000) (2 * (ticks * ticks))
@@ -39,7 +39,7 @@ pub record AreNoFaster (scale : Scale) (ticks : ℕ) (rates : PerAxis ℕ) (feed
 abbrev pub IsFollowedBy : Scale → ℕ → ℕ → Acceleration → Type 0
 IsFollowedBy scale ticks change a = IsNoHarder scale ticks change a.micrometres_a_second_squared
 
--- rates are no faster and no harder than asked, on each axis
+-- rates and changes are no greater than requested, on each axis
 pub record AreSafe (scale : Scale) (rates : Rates) (f : Figures) : Type 0 where
   pub feed : AreNoFaster scale rates.ticks rates.axis_rate f.feed
   pub corner : IsNoFaster scale rates.ticks rates.corner f.corner
@@ -49,7 +49,7 @@ pub record AreSafe (scale : Scale) (rates : Rates) (f : Figures) : Type 0 where
   pub z_follows : IsFollowedBy scale rates.ticks rates.change f.acceleration.z
   pub arcs : IsNoHarderOnArcs scale rates.ticks rates.turn (arcs_of f)
 
--- so many steps are no longer than a length
+-- a number of steps is no longer than a length
 abbrev pub IsNoFarther : Scale → ℕ → Length → Type 0
 IsNoFarther scale steps length = IsNoMore scale steps length.nanometres 1
 

@@ -1,4 +1,4 @@
--- What a refusal says: what is wrong, and what to give instead.
+-- The texts of refusals: what is wrong, and what to enter instead.
 use Rattle.std.specs.Prelude.{ℕ, List, ◌++◌, codes, decimal}
 use Rattle.ngc_machine_maker.specs.declared.figures.Axis.{Axis}
 use Rattle.ngc_machine_maker.specs.declared.figures.Axis.TheVariants as axes

@@ -4,15 +4,15 @@ use Rattle.ngc_machine_maker.specs.declared.figures.Figures.{Figures}
 use Rattle.ngc_machine_maker.specs.declared.figures.PerAxis.{PerAxis}
 use Rattle.ngc_machine_maker.specs.declared.numbers.MachineNumbers.{MachineNumbers}
 
--- how many units a number has, to the nearest; halves go up
+-- the number of units in a number, to the nearest; halves go up
 abbrev pub rounded : ℕ → ℕ → ℕ
 rounded number unit = (2 * number + unit) / (2 * unit)
 
--- the speed of a step a tick, in nanometres a second
+-- the speed of a step per tick, in nanometres per second
 abbrev pub step_speed : MachineNumbers → ℕ
 step_speed n = n.step * n.ticks_per_second
 
--- the speed of a rate, in thousandths of a millimetre a minute
+-- the speed of a rate, in thousandths of a millimetre per minute
 abbrev pub speed : MachineNumbers → ℕ → ℕ
 speed n rate = rounded (60 * (rate * step_speed n)) 1000000000
 
@@ -20,7 +20,7 @@ abbrev pub speeds : MachineNumbers → PerAxis ℕ
 speeds n =
     record { x = speed n n.axis_rate.x; y = speed n n.axis_rate.y; z = speed n n.axis_rate.z }
 
--- so many steps a tick more in each tick, in nanometres per second squared
+-- the acceleration of `steps` steps per tick in each tick, in nanometres per second squared
 abbrev pub gain : MachineNumbers → ℕ → ℕ
 gain n steps = steps * (step_speed n * n.ticks_per_second)
 
@@ -32,7 +32,7 @@ acceleration n = rounded (gain n n.change) 1000000000
 abbrev pub arc_acceleration : MachineNumbers → ℕ
 arc_acceleration n = rounded (2 * gain n n.turn) 1000000000000000
 
--- ---- the motor's step beside the file's
+-- ---- the motor's step and the file's
 
 -- the motor's step, in thousandths of a nanometre
 abbrev pub motor_step : Figures → ℕ
@@ -45,15 +45,14 @@ file_step n f = n.step * f.steps.millionths
 abbrev pub is_whole : MachineNumbers → Figures → Bool
 is_whole n f = file_step n f == 1000000000000
 
--- where the file's step is the longer one, the axes go less far than the file says
+-- if the file's step is the longer one, the axes go less far than the file says
 abbrev pub is_short : MachineNumbers → Figures → Bool
 is_short n f = nat_lt 1000000000000 (file_step n f)
 
 abbrev pub difference : ℕ → ℕ → ℕ
 difference a b = (a - b) + (b - a)
 
--- over a distance in the file, how much farther or less far the motor goes, in nanometres, rounded
--- up
+-- over a distance in the file, the difference to the motor's distance, in nanometres, rounded up
 abbrev pub error_over : MachineNumbers → Figures → ℕ → ℕ
 error_over n f distance =
     (distance * difference (file_step n f) 1000000000000 + file_step n f - 1) / file_step n f

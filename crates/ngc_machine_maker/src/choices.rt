@@ -1,4 +1,4 @@
-//! What may be chosen beside the figures of a machine.
+//! The optional settings of a machine, besides its figures.
 ghost use Rattle.std.specs.Prelude.{◌≡◌};
 ghost use Rattle.ngc_machine_maker.specs.Choices as spec;
 ghost use Rattle.ngc_machine_maker.specs.Options.{second_speed_in};
@@ -7,29 +7,29 @@ use crate::decimal::{begins, number_in, split_three, without_first};
 use crate::figures::{Acceleration, End, Figures, Length, PerAxis, Speed};
 use crate::refusal::{Field, Refusal, Stop};
 
-/// The texts of the options that may be left out.
+/// The texts of the optional options.
 #[derive(Clone, Copy)]
 pub struct Choices<'a> {
-    /// The speed that an axis may take up at once, in millimetres a second. `None`: 5.
+    /// The speed that an axis may take up at once, in millimetres per second. `None`: 5.
     pub corner: Option<&'a [u8]>,
-    /// How much the speed of an axis may change where two motions meet, in millimetres a second.
-    /// `None`: 0, so that the corner speed alone rules.
+    /// The greatest change of an axis' speed where two motions meet, in millimetres per second.
+    /// `None`: 0, so that only the corner speed counts.
     pub jump: Option<&'a [u8]>,
     /// The greatest acceleration towards the centre of an arc, in millimetres per second squared.
     /// `None`: the least of the axes' accelerations.
     pub arcs: Option<&'a [u8]>,
-    /// Ticks a second. `None`: about two for each step of the fastest axis.
+    /// Ticks per second. `None`: about two for each step of the fastest axis.
     pub ticks: Option<&'a [u8]>,
-    /// How many commands are loaded and not done at most, 16 to 1,024. `None`: the file has no such
-    /// key, which stands for 16.
+    /// The greatest number of loaded commands that are not done, 16 to 1,024. `None`: the file has
+    /// no such key, which means 16.
     pub ring: Option<&'a [u8]>,
     /// Whether arcs run at their feed at every place.
     pub arc_feed: bool,
     /// The coordinates of the start in millimetres, as `0,0,-1`.
     pub start: Option<&'a [u8]>,
-    /// Those of the place where `G28` goes. `None`: the start.
+    /// The coordinates of the place to which `G28` goes. `None`: the start.
     pub home28: Option<&'a [u8]>,
-    /// Those of the place where `G30` goes. `None`: the start.
+    /// The coordinates of the place to which `G30` goes. `None`: the start.
     pub home30: Option<&'a [u8]>,
 }
 
@@ -121,7 +121,7 @@ fn zero_in(text: &[u8]) -> Option<u32>
     }
 }
 
-// How far a coordinate is from zero, into the travel.
+// Returns the distance of a coordinate from zero, into the travel.
 fn distance_in(zero: End, text: &[u8]) -> Option<u32>
     ensures { result ≡ spec.distance_in zero text.now }
 {
@@ -201,7 +201,7 @@ fn home_by(
 }
 
 impl Figures {
-    /// Returns the figures with what is chosen, or the first choice that can't be read.
+    /// Returns the figures with these choices, or the first choice that can't be read.
     pub fn with_choices(&self, choices: &Choices<'_>) -> Result<Figures, Refusal>
         ensures { result ≡ spec.chosen self.now choices.now }
     {

@@ -1,4 +1,4 @@
-//! Numbers as options and settings have them.
+//! Numbers in options and settings.
 ghost use Rattle.std.specs.Prelude.{◌≡◌, ◌+◌, ◌-◌, ◌*◌, ◌<◌, ◌≤◌, ◌^◌, min, length, take, drop};
 ghost use Rattle.std.specs.Prelude.{IsTrue};
 ghost use Rattle.std.specs.List.{list_all, prefix_len};
@@ -7,7 +7,7 @@ ghost use Rattle.ngc_machine_maker.specs.Decimals as spec;
 
 use crate::figures::PerAxis;
 
-// Numbers from 2^32 on are refused.
+// A number of at least 2^32 is refused.
 const LIMIT: u64 = 4_294_967_296;
 
 #[inline]
@@ -38,7 +38,7 @@ fn digit_count(text: &[u8]) -> usize
     text.iter().take_while(|b| b.is_ascii_digit()).count()
 }
 
-// The digits before the point, and what follows them.
+// Returns the digits before the point, and the rest.
 pub(crate) fn split_whole(text: &[u8]) -> (&[u8], &[u8])
     ensures before { result.0.now ≡ spec.whole_digits text.now }
     ensures after { result.1.now ≡ spec.after_whole text.now }
@@ -63,7 +63,7 @@ fn is_number(text: &[u8], places: usize) -> bool
         && (!whole.is_empty() || !decimals.is_empty())
 }
 
-// The number that digits give, or the limit where that is less.
+// Returns the number that digits write, at most the limit.
 #[tactic(auto, using(crate::proofs::Digits::valued))]
 fn limited_value(digits: &[u8]) -> u64
     ensures value { result ≡ min (spec.digits_value digits.now) 4294967296 }
@@ -93,7 +93,8 @@ fn power_of_ten(exponent: usize) -> u64
     }
 }
 
-// The value of a number in units of which 10 ^ places make one, or a number above the limit.
+// Returns the value of a number in units of which 10 ^ `places` make one, or a number above the
+// limit.
 #[tactic(auto, using(crate::proofs::Digits::limited_same, crate::proofs::Digits::limited_large))]
 fn value_in(text: &[u8], places: usize) -> u64
     requires places { places ≤ 6 }
@@ -107,7 +108,7 @@ fn value_in(text: &[u8], places: usize) -> u64
     limited_value(whole) * power_of_ten(places) + limited_value(decimals) * power_of_ten(missing)
 }
 
-/// Returns the number that a text is, in units of which 10 ^ `places` make one, if there are fewer
+/// Returns the number that a text writes, in units of which 10 ^ `places` make one, if it is less
 /// than 2^32 of them.
 #[tactic(auto, unfolding(crate::specs::Decimals::number_in))]
 pub(crate) fn number_in(text: &[u8], places: usize) -> Option<u32>
@@ -138,7 +139,7 @@ fn count_to_comma(text: &[u8]) -> usize
     text.iter().take_while(|b| is_no_comma(**b)).count()
 }
 
-// What is before the first comma, and what after it.
+// Returns the texts before and after the first comma.
 fn split_comma(text: &[u8]) -> (&[u8], &[u8])
     ensures before { result.0.now ≡ spec.before_comma text.now }
     ensures after { result.1.now ≡ spec.after_comma text.now }
@@ -147,8 +148,8 @@ fn split_comma(text: &[u8]) -> (&[u8], &[u8])
     (before, without_first(rest))
 }
 
-/// Returns the texts of X, Y and Z, which commas part. Without a comma the texts after it are
-/// empty.
+/// Returns the texts of X, Y and Z, which are separated by commas. Without a comma the texts after
+/// it are empty.
 pub(crate) fn split_three(text: &[u8]) -> (&[u8], &[u8], &[u8])
     ensures x { result.0.now ≡ (spec.three_texts text.now).x }
     ensures y { result.1.now ≡ (spec.three_texts text.now).y }
@@ -159,7 +160,7 @@ pub(crate) fn split_three(text: &[u8]) -> (&[u8], &[u8], &[u8])
     (x, y, z)
 }
 
-/// Returns three numbers that commas part, as `number_in` does.
+/// Returns three numbers that are separated by commas, as `number_in` does.
 pub(crate) fn numbers_in(text: &[u8], places: usize) -> Option<PerAxis<u32>>
     requires { places ≤ 6 }
     ensures { result ≡ spec.numbers_in places text.now }

@@ -1,4 +1,4 @@
-//! What a shop knows of its machine.
+//! The figures that a shop knows of its machine.
 
 /// An axis of the machine.
 #[derive(Clone, Copy)]
@@ -16,10 +16,10 @@ pub struct PerAxis<T> {
     pub z: T,
 }
 
-/// How many steps of a motor move an axis by a millimetre.
+/// The number of a motor's steps that move an axis by a millimetre.
 #[derive(Clone, Copy)]
 pub struct StepsPerMillimetre {
-    /// In millionths: 800,000,000 is 800 steps a millimetre.
+    /// In millionths: 800,000,000 is 800 steps per millimetre.
     pub millionths: u32,
 }
 
@@ -32,7 +32,7 @@ pub struct Length {
 /// A speed.
 #[derive(Clone, Copy)]
 pub struct Speed {
-    /// In thousandths of a millimetre a minute.
+    /// In thousandths of a millimetre per minute.
     pub micrometres_a_minute: u32,
 }
 
@@ -52,7 +52,7 @@ pub enum End {
     High,
 }
 
-/// The figures of a machine. A stop is how far an axis is from its zero, into the travel.
+/// The figures of a machine. A stop is the distance of an axis from its zero, into the travel.
 #[derive(Clone, Copy)]
 pub struct Figures {
     pub steps: StepsPerMillimetre,
@@ -63,21 +63,21 @@ pub struct Figures {
     pub acceleration: PerAxis<Acceleration>,
     /// The speed that an axis may take up or lose at once.
     pub corner: Speed,
-    /// How much the speed of an axis may change where two motions meet. 0: `corner` alone rules.
+    /// The greatest change of an axis' speed where two motions meet. 0: only `corner` counts.
     pub jump: Speed,
     /// The greatest acceleration towards the centre of an arc. `None`: the least of the axes'.
     pub arcs: Option<Acceleration>,
-    /// Ticks a second. `None`: about two for each step of the fastest axis.
+    /// Ticks per second. `None`: about two for each step of the fastest axis.
     pub ticks: Option<u32>,
-    /// How many commands are loaded and not done at most. `None`: the file has no such key.
+    /// The greatest number of loaded commands that are not done. `None`: the file has no such key.
     pub ring: Option<u32>,
     /// Whether arcs run at their feed at every place.
     pub arc_feed: bool,
     pub zero: PerAxis<End>,
-    /// Where the axes are when a program starts.
+    /// The position of the axes when a program starts.
     pub start: PerAxis<Length>,
-    /// Where `G28` goes. `None`: to the start.
+    /// The place to which `G28` goes. `None`: the start.
     pub home28: Option<PerAxis<Length>>,
-    /// Where `G30` goes. `None`: to the start.
+    /// The place to which `G30` goes. `None`: the start.
     pub home30: Option<PerAxis<Length>>,
 }

@@ -1,4 +1,4 @@
-//! How a machine file is written.
+//! The text of a machine file.
 ghost use Rattle.std.specs.Prelude.{◌≡◌, ◌+◌, ◌≤◌, ◌++◌, codes, length, OnOk, OnErr};
 ghost use Rattle.std.specs.Io.KnownBytes.{Appends};
 ghost use Rattle.ngc_text.specs.Collected.{CHUNK_SIZE};
@@ -68,7 +68,7 @@ fn direction(short: bool) -> &'static [u8]
     if short { b"less far" } else { b"farther" }
 }
 
-// Adds how the axes go where the motor's step is no whole number of nanometres.
+// Adds how far the axes go if the motor's step is no whole number of nanometres.
 #[tactic(auto, unfolding(crate::specs::File::scale_text))]
 fn add_scale(chunk: &mut Chunk, numbers: &MachineNumbers, figures: &Figures)
     requires room { length chunk.old + 500 ≤ CHUNK_SIZE }
@@ -85,7 +85,8 @@ fn add_scale(chunk: &mut Chunk, numbers: &MachineNumbers, figures: &Figures)
     chunk.add_text(b" than the file says\n");
 }
 
-// Adds a remark or a note, by its first word, on how the axes go, if there is anything to say.
+// Adds a remark or a note, after its first word, on how far the axes go, if there is anything to
+// say.
 #[tactic(auto, unfolding(crate::specs::File::scale_after))]
 fn add_scale_after(chunk: &mut Chunk, before: &[u8], numbers: &MachineNumbers, figures: &Figures)
     requires room { length chunk.old + 510 ≤ CHUNK_SIZE }
@@ -197,7 +198,7 @@ fn add_arc_feed(chunk: &mut Chunk, arc_feed: bool)
     }
 }
 
-// Adds the keys that are written only where they are asked for.
+// Adds the keys that are written only on request.
 #[tactic(auto, unfolding(crate::specs::File::asked_lines))]
 fn add_asked_lines(chunk: &mut Chunk, numbers: &MachineNumbers)
     requires { length chunk.old + 660 ≤ CHUNK_SIZE }
@@ -246,7 +247,7 @@ fn add_file(chunk: &mut Chunk, numbers: &MachineNumbers, figures: &Figures)
     add_place_lines(chunk, numbers);
 }
 
-/// Writes a machine file of version 2. After a fault a beginning of it is written, and the sink has
+/// Writes a machine file of version 2. After a fault a prefix of it is written, and the sink has
 /// counted the failure.
 pub fn write_machine_file<W: Sink>(
     numbers: &MachineNumbers,
@@ -266,9 +267,8 @@ pub fn write_machine_file<W: Sink>(
     chunk.write_out(sink)
 }
 
-/// Writes what to know beside the file: how far the axes go where the motors' step is no whole
-/// number of nanometres. After a fault a beginning of it is written, and the sink has counted the
-/// failure.
+/// Writes the notes on the file: how far the axes go if the motors' step is no whole number of
+/// nanometres. After a fault a prefix of them is written, and the sink has counted the failure.
 pub fn write_notes<W: Sink>(
     numbers: &MachineNumbers,
     figures: &Figures,

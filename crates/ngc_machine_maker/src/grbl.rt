@@ -23,7 +23,7 @@ fn count_to_feed(text: &[u8]) -> usize
     text.iter().take_while(|b| is_no_feed(**b)).count()
 }
 
-// How many bytes the first line of a text has, with its line feed.
+// Returns the number of bytes of a text's first line, with its line feed.
 fn line_length(text: &[u8]) -> usize
     ensures value { result ≡ spec.line_length text.now }
     ensures within { result ≤ length text.now }
@@ -37,7 +37,7 @@ fn line_length(text: &[u8]) -> usize
     }
 }
 
-// The first line of a text, and what follows it.
+// Returns the first line of a text, and the rest.
 #[tactic(auto, using(crate::proofs::LineLaws::lines_step))]
 fn split_line(text: &[u8]) -> (&[u8], &[u8])
     requires { 0 < length text.now }
@@ -118,7 +118,7 @@ fn ends_well(rest: &[u8]) -> bool
     }
 }
 
-// The value of a setting that a line has.
+// Returns the value of the setting on a line.
 #[tactic(auto, unfolding(crate::specs::Grbl::value_of))]
 fn value_of(line: &[u8], places: usize) -> Option<u32>
     requires { places ≤ 6 }
@@ -142,7 +142,7 @@ fn value_by(number: u32, at: usize, value: Option<u32>) -> Result<u32, Refusal>
     }
 }
 
-// The value of a setting, in units of which 10 ^ places make one.
+// Returns the value of a setting, in units of which 10 ^ `places` make one.
 #[tactic(auto, unfolding(crate::specs::Grbl::setting))]
 fn setting(text: &[u8], number: u32, places: usize) -> Result<u32, Refusal>
     requires { places ≤ 6 }
@@ -161,7 +161,7 @@ fn setting(text: &[u8], number: u32, places: usize) -> Result<u32, Refusal>
     Err(Refusal::Missing(number))
 }
 
-// Three settings in a row.
+// Returns the values of three successive settings.
 fn three_settings(text: &[u8], number: u32, places: usize) -> Result<PerAxis<u32>, Refusal>
     requires number { number ≤ 1000 }
     requires places { places ≤ 6 }
@@ -212,10 +212,10 @@ fn with_start(figures: &Figures, start: PerAxis<Length>) -> Figures
     Figures { start, ..*figures }
 }
 
-/// Returns the figures that the settings of a controller with Grbl give, as it prints them after
-/// `$$`: zero is at the high end of each axis, and the start is where homing ends. The first
-/// setting that is missing or can't be read is refused, and so are steps a millimetre that differ
-/// from axis to axis.
+/// Returns the figures in the settings of a controller with Grbl, as it prints them after `$$`.
+/// Zero is at the high end of each axis, and the start is where homing ends. It refuses the first
+/// setting that is missing or can't be read, and steps per millimetre that differ from axis to
+/// axis.
 pub fn read_grbl(text: &[u8]) -> Result<Figures, Refusal>
     ensures { result ≡ spec.figures_in text.now }
 {

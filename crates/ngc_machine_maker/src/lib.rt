@@ -1,4 +1,4 @@
-//! A machine file from the figures that a shop has at hand, each rounding to the safe side.
+//! A machine file from the figures that a shop has. Each number is rounded to the safe side.
 #![tactic(auto)]
 
 mod choices;

@@ -18,15 +18,15 @@ pub(crate) enum Value {
     Place(PerAxis<i64>),
 }
 
-/// What a key is in the units of a shop. What is rounded is in thousandths of the unit.
+/// A key's value in the units of a shop. Rounded values are in thousandths of the unit.
 #[derive(Clone, Copy)]
 pub(crate) enum Remark {
     /// A step, in nanometres.
     Step(u32),
     Ticks,
-    /// A speed, in millimetres a minute.
+    /// A speed, in millimetres per minute.
     Speed(u128),
-    /// A speed of each axis, in millimetres a minute.
+    /// A speed of each axis, in millimetres per minute.
     Speeds(PerAxis<u128>),
     /// An acceleration, in millimetres per second squared.
     Acceleration(u128),
@@ -166,7 +166,7 @@ fn add_remark(chunk: &mut Chunk, remark: &Remark)
     }
 }
 
-/// Adds a line with a key of at most 20 characters. Room for 330 bytes must be there.
+/// Adds a line with a key of at most 20 characters. Space for 330 bytes must be free.
 #[tactic(auto, unfolding(crate::specs::Texts::line_text))]
 pub(crate) fn add_line(chunk: &mut Chunk, key: &[u8], value: Value, remark: Remark)
     requires room { length chunk.old + 330 ≤ CHUNK_SIZE }

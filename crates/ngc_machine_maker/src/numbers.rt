@@ -12,8 +12,8 @@ use crate::rates::rates_of;
 use crate::refusal::{Refusal, Stop};
 use crate::scale::Scale;
 
-/// The numbers of a machine file, under the names of its keys. Lengths are nanometres, and rates
-/// millionths of a step in a tick.
+/// The numbers of a machine file, with the names of its keys. Lengths are in nanometres, and rates
+/// in millionths of a step per tick.
 #[derive(Clone, Copy)]
 pub struct MachineNumbers {
     pub step: u32,
@@ -26,7 +26,7 @@ pub struct MachineNumbers {
     pub jump: u32,
     /// `None`: the file has no such key.
     pub ring: Option<u32>,
-    /// Whether the file has this key, and there 1.
+    /// Whether the file has this key, with the value 1.
     pub arc_feed: bool,
     pub low: PerAxis<i64>,
     pub high: PerAxis<i64>,
@@ -90,7 +90,7 @@ fn ring_of(ring: Option<u32>) -> Result<Option<u32>, Refusal>
 
 /// Returns the numbers of a machine file for some figures, or the first refusal. The file's step is
 /// the motor's to the nearest nanometre. Rates, accelerations and the travel are rounded down, so
-/// that neither by the file's step nor by the motor's is one more than the figures say.
+/// that none exceeds the figures, either with the file's step or with the motor's.
 pub fn numbers_of(figures: &Figures) -> Result<MachineNumbers, Refusal>
     ensures value { result ≡ numbers_of figures.now }
     ensures range { IfOk result AreInFile }

@@ -7,14 +7,14 @@ use crate::decimal::{number_in, numbers_in};
 use crate::figures::{Acceleration, End, Figures, Length, PerAxis, Speed, StepsPerMillimetre};
 use crate::refusal::{Field, Refusal};
 
-/// The texts of the options that must be given, and of the frame.
+/// The texts of the required options, and of the frame.
 #[derive(Clone, Copy)]
 pub struct Options<'a> {
-    /// Steps a millimetre, as `800` or `188.976`: the same on all axes.
+    /// Steps per millimetre, as `800` or `188.976`: the same on all axes.
     pub steps_per_mm: &'a [u8],
     /// The travel of X, Y and Z in millimetres, as `300,180,45`.
     pub travel: &'a [u8],
-    /// The greatest speeds of X, Y and Z in millimetres a minute.
+    /// The greatest speeds of X, Y and Z in millimetres per minute.
     pub feed: &'a [u8],
     /// The accelerations of X, Y and Z in millimetres per second squared.
     pub acceleration: &'a [u8],
@@ -178,7 +178,7 @@ pub(crate) fn figures_by(
 }
 
 impl Figures {
-    /// Returns the figures that options give, or the first that can't be read.
+    /// Returns the figures in these options, or the first option that can't be read.
     pub fn from_options(options: &Options<'_>) -> Result<Figures, Refusal>
         ensures { result ≡ spec.figures_of options.now }
     {

@@ -10,7 +10,7 @@ use crate::figures::{Axis, End, Length, PerAxis};
 use crate::refusal::{Refusal, Stop};
 use crate::scale::Scale;
 
-// The whole steps within a length.
+// Returns the number of whole steps within a length.
 fn steps_within(scale: &Scale, length: Length) -> u32
     requires { IsScale scale.now }
     ensures value { result ≡ length_in scale.now length }
@@ -63,7 +63,7 @@ fn stop_of(
     Ok((stop.nanometres / scale.step).min(travel))
 }
 
-/// Returns how many steps a place is from the zero of each axis.
+/// Returns the distance of a place from the zero of each axis, in steps.
 pub(crate) fn stops_of(
     scale: &Scale,
     travel: &PerAxis<u32>,
@@ -119,7 +119,7 @@ pub(crate) fn stops_by(
     }
 }
 
-// The coordinate of a place that is so many steps from zero, into the travel.
+// Returns the coordinate of a place `steps` steps from zero, into the travel.
 fn coordinate(scale: &Scale, zero: End, steps: u32) -> i64
     requires scale { IsScale scale.now }
     requires few { steps * scale.now.step ≤ 1000000000 }
@@ -181,7 +181,7 @@ pub(crate) fn highs_of(scale: &Scale, zero: &PerAxis<End>, travel: &PerAxis<u32>
     }
 }
 
-/// Returns the coordinates of a place that is so many steps from zero, in nanometres.
+/// Returns the coordinates of a place `stops` steps from zero, in nanometres.
 #[tactic(auto, using(crate::proofs::PlaceLaws::stop_within))]
 pub(crate) fn place_of(
     scale: &Scale,

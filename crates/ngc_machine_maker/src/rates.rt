@@ -17,7 +17,7 @@ const GREATEST_RATE: u128 = 1_000_000;
 
 const GREATEST_TURN: u128 = 1_000_000_000_000;
 
-/// The rates of a machine file, in millionths of a step a tick.
+/// The rates of a machine file, in millionths of a step per tick.
 #[derive(Clone, Copy)]
 pub(crate) struct Rates {
     pub ticks: u32,
@@ -49,7 +49,7 @@ fn least(accelerations: &PerAxis<Acceleration>) -> u32
         .min(accelerations.z.micrometres_a_second_squared)
 }
 
-// About two ticks for each step of the fastest axis, in whole thousands.
+// Returns about two ticks for each step of the fastest axis, in whole thousands.
 fn chosen_ticks(scale: &Scale, feed: &PerAxis<Speed>) -> u32
     ensures value { result ≡ chosen_ticks scale.now feed.now }
     ensures range { IsRate result }
@@ -154,7 +154,7 @@ fn jump_of(scale: &Scale, ticks: u32, speed: Speed) -> u32
     rate_of(scale, ticks, speed).min(GREATEST_RATE) as u32
 }
 
-// A change at which the slowest axis follows, at most a step a tick in a tick.
+// Returns a change that the slowest axis can follow, at most a step per tick in each tick.
 fn limited_change(
     scale: &Scale,
     ticks: u32,
@@ -188,7 +188,7 @@ fn limited_turn(scale: &Scale, ticks: u32, acceleration: u32) -> Result<u64, Ref
     Ok(turn as u64)
 }
 
-// The greatest acceleration towards the centre of an arc that was asked.
+// Returns the requested acceleration towards the centre of an arc.
 fn arcs_of(figures: &Figures) -> u32
     ensures { result ≡ arcs_of figures.now }
 {

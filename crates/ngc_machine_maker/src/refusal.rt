@@ -1,4 +1,4 @@
-//! Why figures are refused.
+//! The reasons why figures are refused.
 
 use crate::figures::Axis;
 
@@ -26,24 +26,24 @@ pub enum Field {
     Stop(Stop),
 }
 
-/// Why no machine file is made of some figures.
+/// The reasons why no machine file is made of some figures.
 #[derive(Clone, Copy)]
 pub enum Refusal {
     /// The text of an option can't be read.
     Unread(Field),
     /// The step is not from 500 to 50,000 nm.
     Step,
-    /// The ticks a second are not from 1 to 1,000,000.
+    /// The ticks per second are not from 1 to 1,000,000.
     Ticks,
     /// The ring is not from 16 to 1,024 commands.
     Ring,
-    /// The axis has less than a millionth of a step in a tick.
+    /// The axis moves less than a millionth of a step per tick.
     SlowFeed(Axis),
-    /// The axis has more than a step in a tick.
+    /// The axis moves more than a step per tick.
     FastFeed(Axis),
-    /// The corner speed is less than a millionth of a step in a tick.
+    /// The corner speed is less than a millionth of a step per tick.
     SlowCorner,
-    /// The acceleration is less than a millionth of a step a tick in each tick.
+    /// The acceleration is less than a millionth of a step per tick in each tick.
     LowAcceleration,
     /// The acceleration on arcs rounds to nothing.
     LowArcs,
@@ -53,8 +53,8 @@ pub enum Refusal {
     Outside(Stop, Axis),
     /// The setting with this number is missing.
     Missing(u32),
-    /// The value of the setting with this number, on the line with that one, is no number.
+    /// The value of the setting with this number, on the line with that number, is no number.
     Setting(u32, usize),
-    /// The steps a millimetre differ from axis to axis.
+    /// The steps per millimetre differ from axis to axis.
     UnequalSteps,
 }

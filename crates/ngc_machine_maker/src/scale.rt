@@ -7,10 +7,10 @@ ghost use Rattle.ngc_machine_maker.specs.Safe.{IsNoMore};
 use crate::figures::StepsPerMillimetre;
 use crate::refusal::Refusal;
 
-/// A step as the motor has it and as the file has it.
+/// A step of the motor and of the file.
 #[derive(Clone, Copy)]
 pub(crate) struct Scale {
-    /// Steps a millimetre, in millionths.
+    /// Steps per millimetre, in millionths.
     pub steps: u32,
     /// The file's step, in nanometres.
     pub step: u32,
@@ -28,7 +28,7 @@ fn nearest_step(steps: u32) -> u32
 }
 
 impl Scale {
-    /// Returns the step of motors with so many steps a millimetre, to the nearest nanometre.
+    /// Returns the step of motors with these steps per millimetre, to the nearest nanometre.
     pub(crate) fn of(steps: StepsPerMillimetre) -> Result<Scale, Refusal>
         ensures value { result ≡ scale_of steps }
         ensures range { IfOk result IsScale }
@@ -44,7 +44,8 @@ impl Scale {
         })
     }
 
-    // How many steps have this length, by the motor's step and by the file's: the fewer.
+    // Returns the number of steps of a length: the lesser of the numbers with the motor's step and
+    // with the file's.
     pub(crate) fn steps_in(&self, amount: u128, divisor: u128) -> u128
         requires scale { IsScale self.now }
         requires amount { amount < 2 ^ 90 }

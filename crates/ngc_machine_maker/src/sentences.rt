@@ -1,4 +1,4 @@
-//! What a refusal says.
+//! The texts of refusals.
 ghost use Rattle.std.specs.Prelude.{◌≡◌, ◌+◌, ◌≤◌, ◌++◌, decimal, length, OnOk, OnErr};
 ghost use Rattle.std.specs.Io.KnownBytes.{Appends};
 ghost use Rattle.ngc_text.specs.Collected.{CHUNK_SIZE};
@@ -187,7 +187,7 @@ fn add_refusal_line(chunk: &mut Chunk, refusal: Refusal)
     chunk.add_text(b"\n");
 }
 
-/// Writes what is wrong and what to give instead, on a line. After a fault a beginning of it is
+/// Writes what is wrong and what to enter instead, on a line. After a fault a prefix of it is
 /// written, and the sink has counted the failure.
 pub fn write_refusal<W: Sink>(refusal: Refusal, sink: &mut W) -> Result<(), WriteFault>
     ensures ok { OnOk result

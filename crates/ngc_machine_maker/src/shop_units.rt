@@ -13,7 +13,7 @@ use crate::numbers::MachineNumbers;
 
 const MOTOR_STEPS: u64 = 1_000_000_000_000;
 
-// How many units a number has: to the nearest, halves upwards.
+// Returns the number of units in a number, to the nearest, halves upwards.
 fn rounded(number: u128, unit: u128) -> u128
     requires number { number < 2 ^ 120 }
     requires some { 0 < unit }
@@ -31,7 +31,7 @@ fn step_speed(numbers: &MachineNumbers) -> u64
     u64::from(numbers.step) * u64::from(numbers.ticks_per_second)
 }
 
-/// Returns the speed of a rate, in thousandths of a millimetre a minute.
+/// Returns the speed of a rate, in thousandths of a millimetre per minute.
 pub(crate) fn speed(numbers: &MachineNumbers, rate: u32) -> u128
     requires { AreInFile numbers.now }
     ensures { result ≡ speed numbers.now rate }
@@ -40,7 +40,7 @@ pub(crate) fn speed(numbers: &MachineNumbers, rate: u32) -> u128
     rounded(60 * speed, 1_000_000_000)
 }
 
-/// Returns the greatest speed of each axis, in thousandths of a millimetre a minute.
+/// Returns the greatest speed of each axis, in thousandths of a millimetre per minute.
 pub(crate) fn speeds(numbers: &MachineNumbers) -> PerAxis<u128>
     requires { AreInFile numbers.now }
     ensures { result ≡ speeds numbers.now }
@@ -52,7 +52,8 @@ pub(crate) fn speeds(numbers: &MachineNumbers) -> PerAxis<u128>
     }
 }
 
-// So many steps a tick more in each tick, in nanometres per second squared.
+// Returns the acceleration of `steps` steps per tick in each tick, in nanometres per second
+// squared.
 fn gain(numbers: &MachineNumbers, steps: u64) -> u128
     requires numbers { AreInFile numbers.now }
     requires steps { steps ≤ 1000000000000 }
@@ -130,8 +131,8 @@ fn travel_length(low: i64, high: i64) -> u64
     high.abs_diff(low)
 }
 
-/// Returns how much farther or less far than in the file each axis goes over its travel, in
-/// nanometres, rounded up.
+/// Returns the difference between each axis' real travel and that in the file, in nanometres,
+/// rounded up.
 #[tactic(auto, using(crate::proofs::UnitLaws::short_travel))]
 pub(crate) fn errors(numbers: &MachineNumbers, figures: &Figures) -> PerAxis<u128>
     requires numbers { AreInFile numbers.now }

@@ -1,4 +1,4 @@
--- value is what the digits so far give, or the limit.
+-- value is the number that the digits so far write, or the limit.
 use Rattle.std.proofs.Common.{◌≡◌, take, min}
 use Rattle.ngc_machine_maker.specs.Decimals.{digits_value}
 use Rattle.ngc_machine_maker.proofs.decimal.limited_value.Given as goal

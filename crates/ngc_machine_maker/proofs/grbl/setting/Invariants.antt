@@ -1,4 +1,4 @@
--- The value of the setting is that which the lines from here on give.
+-- The value of the setting is the one in the lines from here on.
 use Rattle.std.proofs.Common.{◌≡◌, ◌+◌, ◌≤◌, length}
 use Rattle.ngc_machine_maker.specs.Grbl.{lines_of, setting_in}
 use Rattle.ngc_machine_maker.proofs.grbl.setting.Given as goal
