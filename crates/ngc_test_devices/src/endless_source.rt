@@ -1,18 +1,19 @@
 use ngc_text::{DeviceFault, Source};
 
-/// Gives a text, and then the same byte without end. It fills each buffer, and never fails.
+/// A source of a text, and then of the same byte without end. It fills each buffer, and never
+/// fails.
 #[derive(Drop)]
 pub struct EndlessSource<'a> {
     text: &'a [u8],
     byte: u8,
-    /// How many pulls there were so far.
+    /// The number of pulls so far.
     pub pulls: u64,
-    /// How many bytes were given so far.
+    /// The number of bytes returned so far.
     pub given: u64,
 }
 
 impl<'a> EndlessSource<'a> {
-    /// Gives `text`, and then `byte` without end.
+    /// Returns a source of `text`, and then of `byte` without end.
     pub fn new(text: &'a [u8], byte: u8) -> EndlessSource<'a> {
         EndlessSource {
             text,

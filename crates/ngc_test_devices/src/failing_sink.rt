@@ -1,21 +1,21 @@
 use ngc_text::{DeviceFault, Sink};
 use std::alloc::Global;
 
-/// Takes bytes for so many calls, and fails at each later one.
+/// A sink that accepts bytes for a number of calls, and fails at each later one.
 #[derive(Drop)]
 pub struct FailingSink {
-    /// The bytes that were taken so far.
+    /// The bytes accepted so far.
     pub taken: Vec<u8>,
     most: usize,
     calls_left: usize,
-    /// How many pushes failed so far.
+    /// The number of pushes that failed so far.
     pub failures: u64,
 }
 
 impl FailingSink {
-    /// Takes at most `most` bytes a call, but at least one, for `calls_left` calls. A push of no
-    /// bytes is no call, and never fails. Where memory for what is taken is refused, it fails
-    /// before.
+    /// Returns a sink that accepts at most `most` bytes per call, but at least one, for
+    /// `calls_left` calls. A push of no bytes does not count as a call, and never fails. If memory
+    /// for the accepted bytes is refused, it fails earlier.
     pub fn new(alloc: Global, calls_left: usize, most: usize) -> FailingSink {
         FailingSink {
             taken: Vec::new(alloc),

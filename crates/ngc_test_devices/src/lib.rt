@@ -1,5 +1,5 @@
-//! Sources and sinks for tests, which are slow, endless or fail. The contracts know nothing of
-//! their bytes, so that a test over them shows what no clause says.
+//! Sources and sinks for tests that are slow, endless or fail. No contract knows their bytes, so a
+//! test with them shows behaviour that the contracts leave open.
 #![tactic(auto)]
 
 mod endless_source;

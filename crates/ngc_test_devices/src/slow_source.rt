@@ -1,19 +1,19 @@
 use ngc_text::{DeviceFault, Source};
 
-/// Gives a text slowly, and fails in place of one of its bytes or of its end.
+/// A source that returns a text slowly, and fails in place of one of its bytes or of its end.
 #[derive(Drop)]
 pub struct SlowSource<'a> {
     rest: &'a [u8],
     most: usize,
     failing: usize,
-    /// How many pulls failed so far.
+    /// The number of pulls that failed so far.
     pub failures: u64,
 }
 
 impl<'a> SlowSource<'a> {
-    /// Gives at most `most` bytes of `text` a pull, and fails in place of the byte at `failing`,
-    /// and at each pull from then on. At the text's length it fails in place of the end, and at a
-    /// greater number never.
+    /// Returns a source of `text`, at most `most` bytes per pull. It fails in place of the byte at
+    /// `failing`, and at each later pull. If `failing` is the text's length it fails in place of
+    /// the end, and if it is greater it never fails.
     pub fn new(text: &'a [u8], most: usize, failing: usize) -> SlowSource<'a> {
         SlowSource {
             rest: text,
