@@ -1,10 +1,10 @@
-//! Programs in the dialects of other controls, by the library alone.
+//! Programs in the dialects of other controls, using only the library.
 use crate::checks::same;
 use ngc_adapt::{Dialect, MOST_DROPPED, Options};
 use ngc_adapt_program::{Request, adapt_program};
 use std::test::Fail;
 
-// A dialect, a program in it, what is written, and the report. Lines after the end are copied.
+// A dialect, a program in it, the resulting text, and the report. Lines after the end are copied.
 const ROWS: &[(Dialect, &str, &str, &str)] = &[
     (Dialect::Mach3, "G1 X1 F100\nM2\n", "G1 X1 F100\nM2\n", ""),
     (

@@ -1,4 +1,4 @@
-//! Paths about arcs by columns, which no command takes, and how many roots the other ones take.
+//! Paths along arcs by columns, which no command uses, and the number of roots for the other ones.
 ghost use Rattle.std.specs.Prelude.{◌≡◌, ◌≤◌, unsigned_abs};
 ghost use Rattle.ngc_arc_geometry.specs.Shape.{IsNear};
 
@@ -28,7 +28,7 @@ fn point(rt: &impl Abort, place: (i64, i64, i64)) -> Point3
     }
 }
 
-// An arc clockwise from zero about a point on its first axis.
+// Returns an arc clockwise from zero about a point on its first axis.
 fn arc(rt: &impl Abort, plane: Plane, end: (i64, i64, i64), centre: i64) -> Result<Arc, Fail> {
     let ends = Ends {
         plane,
@@ -44,8 +44,8 @@ fn arc(rt: &impl Abort, plane: Plane, end: (i64, i64, i64), centre: i64) -> Resu
     Ok(Arc::centre_format(Units::Millimetres, &ends, &offsets)?)
 }
 
-// The plane, the end and the centre of an arc, and how many moves its path has at least, in steps of
-// 10,000 nm.
+// The plane, the end and the centre of an arc, and the least number of moves of its path, in steps
+// of 10,000 nm.
 const ARCS: &[(Plane, (i64, i64, i64), i64, u64)] = &[
     (Plane::XY, (10_000_000, 0, 0), 5_000_000, 1_000),
     (Plane::XY, (0, 0, 0), 50_000, 10),
@@ -75,7 +75,7 @@ fn arcs_by_columns(rt: HostRuntime) -> Result<(), Fail> {
     Ok(())
 }
 
-// Roots are taken for a half circle, and none on the way.
+// Roots are computed for a half circle at the start, and none on the way.
 #[test]
 fn roots_are_taken_at_first(rt: HostRuntime) -> Result<(), Fail> {
     let half = arc(&rt, Plane::XY, (10_000_000, 0, 0), 5_000_000)?;

@@ -1,5 +1,5 @@
-//! What no clause says: that certificates are read, checked, made, joined and drawn where there is
-//! memory, and that none stays in use.
+//! Behaviour that no clause states: certificates are read, checked, made, joined and drawn if there
+//! is memory, and no memory stays in use.
 use crate::checks::{holds, same};
 use crate::given::TOOLS;
 use linked_list_allocator::LocalHeap;
@@ -40,7 +40,7 @@ enum Job {
     Draw,
 }
 
-// Each with the bytes by which a heap is greater than the one before it.
+// Each job, with the number of bytes by which each heap is larger than the one before it.
 const JOBS: &[(Job, usize)] = &[
     (Job::Read, 16),
     (Job::Check, 288),
@@ -51,7 +51,7 @@ const JOBS: &[(Job, usize)] = &[
     (Job::Draw, 64),
 ];
 
-// On a machine with a fixture far from zero.
+// Returns a machine with a fixture far from zero.
 fn machine_in<A: Allocator>(alloc: A) -> Option<Machine<A>> {
     let mut machine = built_in_machine(alloc);
     let low = Nm::from_nanometres(200_000_000).ok()?;
@@ -85,7 +85,7 @@ fn traverse(start: Point3, end: Point3) -> Command {
     }
 }
 
-// From zero along X, and back.
+// Returns the motions from zero along X, and back.
 fn out_and_back(x: i128) -> Result<[Command; 2], Fail> {
     let zero = Nm::zero();
     let start = Point3 {
@@ -108,7 +108,7 @@ fn number_of_reading(heap: &LocalHeap) -> u16 {
     }
 }
 
-// None where the heap doesn't even hold what is checked.
+// Returns `None` if the heap is too small even for the inputs of the check.
 fn number_of_checking(heap: &LocalHeap) -> Option<u16> {
     let program = Program::read(heap, &mut Device::new(PROGRAM)).ok()?;
     let machine = machine_in(heap)?;
@@ -120,7 +120,7 @@ fn number_of_checking(heap: &LocalHeap) -> Option<u16> {
     }
 }
 
-// What is fed asks for no memory.
+// Feeding the reader allocates no memory.
 fn number_of_checking_in_pieces(rt: &impl Abort, heap: &LocalHeap) -> Option<u16> {
     let program = Program::read(heap, &mut Device::new(PROGRAM)).ok()?;
     let machine = machine_in(heap)?;
@@ -142,7 +142,7 @@ fn number_of_making(heap: &LocalHeap, commands: &[Command; 2]) -> u16 {
     }
 }
 
-// Where 96 bytes of the heap are taken; None where it doesn't have them.
+// Joins with 96 bytes of the heap in use; returns `None` if it doesn't have them.
 fn number_of_joining(
     alloc: Global,
     heap: &LocalHeap,
@@ -171,7 +171,7 @@ fn number_of_listing(heap: &LocalHeap, commands: &[Command; 2]) -> u16 {
 // Ten millimetres without a tool, and ten with one.
 const DRAWN: &[u8] = b"G0 X10\nT1 M6\nG0 X20\nM2\n";
 
-// Nothing is written where memory is refused.
+// Nothing is written if memory is refused.
 fn number_of_drawing(rt: &impl Abort, alloc: Global, heap: &LocalHeap) -> Result<u16, Fail> {
     let machine = built_in_machine(alloc);
     let program = Program::read(alloc, &mut Device::new(DRAWN))?;
@@ -212,7 +212,8 @@ fn number_of(
     })
 }
 
-// With little memory, and then with more and more: none, and from some size on yes.
+// Each job gets little memory, and then more and more: it is refused at first, and done from some
+// size on.
 #[test]
 fn refused_memory_is_told(rt: HostRuntime) -> Result<(), Fail> {
     for (job, step) in JOBS {

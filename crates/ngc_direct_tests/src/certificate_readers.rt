@@ -1,4 +1,4 @@
-//! Certificates that come in pieces of any size, a few bytes at a time, or without end.
+//! Certificates that arrive in pieces of any size, a few bytes at a time, or without end.
 use crate::checks::same;
 use ngc_certificate_text::{Certificate, CertificateFault, CertificateReader, Setting};
 use ngc_checker::{CheckFault, CheckReadFault, CheckReader, check_source};
@@ -75,7 +75,7 @@ fn number_of_check(fault: Option<CheckReadFault>) -> u16 {
 // The fault of a text, and the number of the check's fault.
 type Faults = (Option<CertificateFault>, u16);
 
-// The faults where what follows a fault is fed too, and pieces of no bytes.
+// Returns the faults if the text after a fault is fed too, and pieces of no bytes.
 fn in_pieces(alloc: Global, text: &[u8], size: usize) -> Result<Faults, Fail> {
     let program = Program::read(alloc, &mut Device::new(PROGRAM))?;
     let machine = built_in_machine(alloc);
@@ -91,7 +91,7 @@ fn in_pieces(alloc: Global, text: &[u8], size: usize) -> Result<Faults, Fail> {
     Ok((reader.finish().err(), number_of_check(judge.finish().err())))
 }
 
-// The same of a source that gives at most `most` bytes a pull.
+// Returns the same for a source that returns at most `most` bytes per pull.
 fn from_source(alloc: Global, text: &[u8], most: usize) -> Result<Faults, Fail> {
     let program = Program::read(alloc, &mut Device::new(PROGRAM))?;
     let machine = built_in_machine(alloc);
@@ -116,7 +116,7 @@ fn certificates_in_pieces(rt: HostRuntime) -> Result<(), Fail> {
     Ok(())
 }
 
-// What is fed, piece by piece, and the answer to each.
+// The pieces that are fed, and the result of each.
 const STAYING: &[(&str, Result<(), CertificateFault>)] = &[
     ("", Ok(())),
     ("ngc-certificate 1\nsetting off 1", Ok(())),

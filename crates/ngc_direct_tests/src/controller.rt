@@ -1,4 +1,4 @@
-//! The controller itself: its latest replies, its tool, and little memory for it.
+//! The controller itself: its latest replies, its tool, and too little memory for it.
 use crate::checks::{holds, same};
 use crate::given::{NO_MOTIONS, TOOLS};
 use linked_list_allocator::LocalHeap;
@@ -27,14 +27,14 @@ fn accepted_on<A: Allocator + Copy>(
     check(alloc, &program, &machine, tools, &certificate).ok()
 }
 
-// `event` without its clauses: they would make the proof of each test longer.
+// Calls `event` without its clauses: they would make the proof of each test longer.
 fn give<A: Allocator + Copy>(controller: &mut Controller<ArcPath, A>, events: &[Event]) {
     for event in events {
         let _ = controller.event(*event);
     }
 }
 
-// Whether the reply that is `index` places before the latest one is that to a hold.
+// Returns whether the reply `index` positions before the latest one is that to a hold.
 fn is_hold<A: Allocator + Copy>(controller: &Controller<ArcPath, A>, index: usize) -> bool {
     matches!(controller.recent(index), Some(Reply::Held))
 }
@@ -43,7 +43,7 @@ fn is_load<A: Allocator + Copy>(controller: &Controller<ArcPath, A>, index: usiz
     matches!(controller.recent(index), Some(Reply::Loaded(1)))
 }
 
-// The third load is refused, and isn't kept. The last 256 replies are.
+// The third load is refused, and its reply isn't stored. The last 256 replies are.
 fn tells(rt: &impl Abort, controller: &mut Controller<ArcPath, Global>) {
     holds(rt, &"no reply", controller.recent(0).is_none());
     give(controller, &[Event::Load]);
@@ -73,7 +73,7 @@ fn what_a_controller_tells(rt: HostRuntime) -> Result<(), Fail> {
     Ok(())
 }
 
-// Fills a heap with fillers of so many bytes, and then frees `spare` of them.
+// Fills a heap with fillers of `size` bytes, and then frees `spare` of them.
 fn fillers_of(
     alloc: Global,
     heap: &LocalHeap,
@@ -92,7 +92,7 @@ fn fillers_of(
     Ok(fillers)
 }
 
-// Whether there is memory for a controller over two commands.
+// Returns whether there is memory for a controller with two commands.
 fn is_made<'a>(rt: &impl Abort, heap: &'a LocalHeap, accepted: Accepted<&'a LocalHeap>) -> bool {
     match Controller::<ArcPath, _>::new(heap, accepted, true) {
         Ok(mut controller) => {
@@ -108,8 +108,8 @@ fn is_made<'a>(rt: &impl Abort, heap: &'a LocalHeap, accepted: Accepted<&'a Loca
     }
 }
 
-// Makes controllers in a heap of `heap_size` bytes, of which from 1 to 63 times `filler_size` bytes
-// are free: each growth of memory is refused in turn.
+// Makes controllers in a heap of `heap_size` bytes, of which 1 to 63 times `filler_size` bytes are
+// free. So each growth of memory is refused once.
 fn with_little_memory(
     rt: &impl Abort,
     alloc: Global,

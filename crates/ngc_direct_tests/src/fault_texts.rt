@@ -1,5 +1,5 @@
 //! Texts that no command prints: those of faults, which `ngc` reports by their numbers, and of a
-//! mistake in a file that has none.
+//! mistake in a file without a mistake.
 use crate::checks::same;
 use crate::given::{MACHINE, TOOLS};
 use ngc_command_line::UsageFault;
@@ -72,7 +72,7 @@ fn texts_of_faults(rt: HostRuntime) -> Result<(), Fail> {
     Ok(())
 }
 
-// What is written about mistakes in good files.
+// Returns the text about mistakes in good files.
 fn written(alloc: Global) -> Result<Vec<u8>, Fail> {
     let mut sink = Device::new(Vec::new(alloc));
     let machine = format!(in alloc; "{MACHINE}[[fixture]]\nlow = [0, 0, 0]\nhigh = [1, 1, 1]\n")?;
@@ -81,7 +81,7 @@ fn written(alloc: Global) -> Result<Vec<u8>, Fail> {
     Ok(sink.into_inner())
 }
 
-// A mistake that isn't there is reported by its number. A command does so where the file has changed
+// A mistake that isn't there is reported by its number. A command does so if the file has changed
 // between its two readings.
 #[test]
 fn mistakes_that_are_not_there(rt: HostRuntime) -> Result<(), Fail> {

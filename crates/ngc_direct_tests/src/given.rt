@@ -42,7 +42,7 @@ pub struct Shop<A: Allocator> {
     pub tools: Tools<A>,
 }
 
-/// With a certificate and events where it needs them.
+/// A command, with a certificate and events if it needs them.
 #[derive(Clone, Copy, Debug)]
 pub enum Job<'a> {
     List,
@@ -51,11 +51,11 @@ pub enum Job<'a> {
     Run(&'a [u8], &'a [u8]),
 }
 
-/// Or the number of a fault.
+/// `Ok`, or the number of a fault.
 pub type End = Result<(), u16>;
 
 impl Job<'_> {
-    /// Does it with the text of a program.
+    /// Runs the command with the text of a program.
     pub fn attempt<A: Allocator + Copy, W: Sink>(
         self,
         alloc: A,

@@ -6,7 +6,7 @@ use ngc_text::Device;
 use std::alloc::Global;
 use std::test::Fail;
 
-// The explanation of a fault; empty for a number that no fault has.
+// Returns the explanation of a fault; empty for a number that no fault has.
 fn explanation(alloc: Global, number: u16) -> Vec<u8> {
     let mut output = Device::new(Vec::new(alloc));
     let _ = explain(number, &mut output);
@@ -24,7 +24,7 @@ fn explanations_have_short_lines(rt: HostRuntime) -> Result<(), Fail> {
     Ok(())
 }
 
-// Words of a row are parted by blanks, so that none of them is empty.
+// Blanks separate the words of a row, so that none of them is empty.
 #[test]
 fn an_empty_word_is_no_command(rt: HostRuntime) {
     let found = help_text(rt.alloc(), Some(""));

@@ -1,4 +1,5 @@
-//! Each growth refused in turn: 900 with nothing written, and once there is memory the answer.
+//! Each growth of memory is refused in turn: the result is 900 with nothing written, and the wanted
+//! result when there is enough memory.
 use crate::checks::{holds, same};
 use crate::given::{End, Job, MACHINE, NO_MOTIONS, Shop, TOOLS};
 use bumpalo::Bump;
@@ -8,7 +9,7 @@ use std::alloc::Global;
 use std::process::Abort;
 use std::test::Fail;
 
-// How a job ends, and what it writes.
+// The end of a job, and its output.
 type Found = (End, Vec<u8>);
 
 fn found_with(alloc: Global, text: &str, shop: &Shop<Global>, job: Job<'_>) -> Found {
@@ -17,7 +18,7 @@ fn found_with(alloc: Global, text: &str, shop: &Shop<Global>, job: Job<'_>) -> F
     (end, output.into_inner())
 }
 
-// The same in the memory of an arena.
+// Returns the same with the memory of an arena.
 fn found_in(bump: &Bump, alloc: Global, text: &str, shop: &Shop<Global>, job: Job<'_>) -> Found {
     let mut output = Device::new(Vec::new(alloc));
     let end = match (shop.machine.copy(bump), shop.tools.copy(bump)) {
@@ -29,7 +30,8 @@ fn found_in(bump: &Bump, alloc: Global, text: &str, shop: &Shop<Global>, job: Jo
     (end, output.into_inner())
 }
 
-// Whether it isn't want of memory; then it is the wanted one, and else nothing is written.
+// Returns whether the result isn't lack of memory. Then it is the wanted one; otherwise nothing is
+// written.
 fn is_answered(rt: &impl Abort, row: &(&str, Job<'_>), found: &Found, wanted: &Found) -> bool {
     if found.0 == Err(900) {
         holds(rt, row, found.1.as_slice().is_empty());
@@ -42,8 +44,8 @@ fn is_answered(rt: &impl Abort, row: &(&str, Job<'_>), found: &Found, wanted: &F
 
 const ARENA: usize = 524_288;
 
-// Whether `bytes` bytes of an arena suffice, which takes back only what it gave last. Once there are
-// more, the job is done, and everything is given back afterwards.
+// Returns whether `bytes` bytes of an arena suffice. An arena takes back only what it returned
+// last. With enough bytes the job is done, and all memory is returned afterwards.
 fn do_bytes_suffice(
     rt: &impl Abort,
     alloc: Global,
@@ -95,7 +97,7 @@ low = [-20000000, -10000000, -100000000]
 high = [-2000000, 10000000, -30000000]
 ";
 
-// What is listed.
+// The programs that are listed.
 const LISTED: &[&str] = &[
     "#3=15\n#3=6 G0 X#3\nX#3\nM2\n",
     "G91 G81 X1 Z-2 R-1 F60\nM2\n",

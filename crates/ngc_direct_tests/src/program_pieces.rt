@@ -7,7 +7,7 @@ use std::alloc::Global;
 use std::process::Abort;
 use std::test::Fail;
 
-// Files of each shape, with numbers, comments and line ends to cut.
+// Files of each form, with numbers, comments and line ends to cut.
 const TEXTS: &[&str] = &[
     "",
     "\n",
@@ -34,7 +34,7 @@ const TEXTS: &[&str] = &[
 
 const SIZES: &[usize] = &[1, 2, 3, 255];
 
-// The answer where what follows a fault is fed too.
+// Returns the result if the text after a fault is fed too.
 fn read_pieces(alloc: Global, text: &[u8], size: usize) -> Result<Program<Global>, ReadFault> {
     let mut reader = ProgramReader::new(alloc);
     for piece in text.chunks(size.max(1)) {
@@ -53,7 +53,7 @@ fn are_same(one: &Program<Global>, other: &Program<Global>) -> bool {
     same_lines
 }
 
-// Whether two readings say the same.
+// Returns whether two readings have the same contents.
 fn agree(
     one: &Result<Program<Global>, ReadFault>,
     other: &Result<Program<Global>, ReadFault>,
@@ -76,7 +76,7 @@ fn pieces_change_nothing(rt: HostRuntime) {
     }
 }
 
-// After how many bytes, fed one by one, a fault is answered, and its number.
+// Returns the number of bytes, fed one by one, after which a fault is returned, and its number.
 fn first_fault(alloc: Global, text: &[u8]) -> Option<(usize, u16)> {
     let mut reader = ProgramReader::new(alloc);
     let mut fed = 0usize;
@@ -89,7 +89,7 @@ fn first_fault(alloc: Global, text: &[u8]) -> Option<(usize, u16)> {
     None
 }
 
-// Files by their beginning, how many spaces follow it, and their end.
+// Files with their beginning, the number of spaces after it, and their end.
 const PROMPT: &[(&str, usize, &str, Option<(usize, u16)>)] = &[
     ("G0 X1\nX1..2\nM2\n", 0, "", Some((12, 113))),
     ("G0\n", 257, "\n", Some((260, 111))),
@@ -118,7 +118,7 @@ const FAULT: ReadFault = ReadFault::Line(
     },
 );
 
-// Pieces that are fed in order, and their answers.
+// The pieces that are fed in order, and their results.
 const FED: &[(&str, Result<(), ReadFault>)] = &[
     ("", Ok(())),
     ("G0 X1\nX..", Ok(())),
@@ -137,7 +137,7 @@ fn a_fault_stays(rt: HostRuntime) {
     same(&rt, &"the end", &reader.finish().err(), &Some(FAULT));
 }
 
-// Whether a heap has too little memory for a line, which is answered again then.
+// Returns whether a heap has too little memory for a line. The fault is then returned again.
 fn is_refused_in(rt: &impl Abort, heap: &LocalHeap) -> bool {
     let mut reader = ProgramReader::new(heap);
     let answer = reader.feed(b"G0 X1\n");
@@ -146,7 +146,7 @@ fn is_refused_in(rt: &impl Abort, heap: &LocalHeap) -> bool {
     answer == Err(ReadFault::Memory)
 }
 
-// Heaps by their sizes, and whether that is too little.
+// Heaps with their sizes, and whether that is too little.
 const HEAPS: &[(usize, bool)] = &[(16, true), (4_096, false)];
 
 #[test]

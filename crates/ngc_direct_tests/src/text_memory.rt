@@ -1,4 +1,4 @@
-//! Memory that is refused to what reads texts and expands cycles, and sources without end.
+//! Refused memory for code that reads texts and expands cycles, and sources without end.
 use crate::checks::{holds, same};
 use linked_list_allocator::LocalHeap;
 use ngc_adapt::{Dialect, MOST_DROPPED, Options};
@@ -14,7 +14,7 @@ use std::alloc::{AllocError, Global};
 use std::process::Abort;
 use std::test::Fail;
 
-// What is done with the memory of a heap.
+// The use of a heap's memory.
 #[derive(Clone, Copy, Debug)]
 enum Job {
     Dialect,
@@ -23,9 +23,9 @@ enum Job {
     Program,
 }
 
-// Each job with its piece of text, how often that is repeated, how many bytes are written or how many
-// events, bytes or lines are read, and in which steps its heap grows. Of each line to adapt K0 and the
-// blank behind it are left out, and M2 is added.
+// Each job with its piece of text, the number of its repetitions, the number of bytes that are
+// written, or of events, bytes or lines that are read, and the increments of its heap. In each line
+// to adapt, K0 and the blank after it are left out, and M2 is added.
 const JOBS: &[(Job, &str, usize, usize, usize)] = &[
     (Job::Dialect, "G1 X1 K0 F100\n", 100, 1_103, 1_024),
     (Job::Events, "load\n", 1_000, 1_000, 2_048),
@@ -39,7 +39,7 @@ const JOBS: &[(Job, &str, usize, usize, usize)] = &[
     (Job::Program, "G1 X2 Y3 F100\nX4\n\n", 2, 6, 16),
 ];
 
-// How much was written or read; nothing where memory was refused.
+// Returns how much was written or read, or `None` if memory was refused.
 fn read_in(heap: &LocalHeap, job: Job, text: &[u8]) -> Option<usize> {
     match job {
         Job::Dialect => {
@@ -74,7 +74,8 @@ fn read_in(heap: &LocalHeap, job: Job, text: &[u8]) -> Option<usize> {
     }
 }
 
-// In heaps of more and more steps: refused at first, and from some heap on done. No memory is kept.
+// Runs a job in larger and larger heaps: it is refused at first, and done from some heap on. No
+// memory stays in use.
 fn grows(
     rt: &impl Abort,
     alloc: Global,
@@ -109,7 +110,7 @@ fn refused_memory_is_told(rt: HostRuntime) -> Result<(), Fail> {
     Ok(())
 }
 
-// How many moves a hole of a millimetre has, with pecks of a micrometre or in one.
+// Returns the number of moves of a hole of a millimetre, with pecks of a micrometre or in one.
 fn moves_in(heap: &LocalHeap, hole: Hole) -> Result<Result<usize, CycleFault>, Fail> {
     let cycle = Cycle {
         hole,
