@@ -1,11 +1,11 @@
-/// What a text is there for.
+/// The role of a text.
 #[derive(Clone, Copy, PartialEq, Eq)]
 pub enum Role {
     /// All later rows share it.
     Shared,
     /// It is a file of the row.
     File,
-    /// It is the whole of what must be printed.
+    /// It is all that must be printed.
     Is,
     /// Each of its lines must be a part of what is printed.
     Has,
@@ -13,18 +13,18 @@ pub enum Role {
     Lacks,
 }
 
-/// How a text begins.
+/// The first line of a text.
 #[derive(Clone, Copy)]
 pub struct Beginning<'a> {
     pub role: Role,
     pub name: &'a str,
-    /// The shared text that it begins with; else it is empty.
+    /// The shared text with which it begins; without one it begins empty.
     pub base: Option<&'a str>,
     /// Whether the lines that follow are changes.
     pub has_changes: bool,
 }
 
-/// What a line that begins with `@` says.
+/// The meaning of a line that begins with `@`.
 #[derive(Clone, Copy)]
 pub enum Directive<'a> {
     /// A row begins, with the words of a command line.
@@ -39,9 +39,9 @@ pub enum Directive<'a> {
     End,
     /// The exit status.
     Status(u8),
-    /// What the row prints is a shared text from then on.
+    /// From then on, the row's output is a shared text.
     Keep(&'a str),
-    /// What the row prints is a JSON document.
+    /// The row's output is a JSON document.
     Json,
     /// Reading the file fails in place of this byte; writing fails after this number of bytes.
     Fails(&'a str, usize),
@@ -50,7 +50,7 @@ pub enum Directive<'a> {
 }
 
 impl<'a> Directive<'a> {
-    /// Reads what follows the `@` of a line, or returns `None` where that is no directive.
+    /// Reads the text after the `@` of a line, or returns `None` if it is no directive.
     pub fn read(line: &'a str) -> Option<Directive<'a>> {
         let (word, rest) = line.split_once(' ').unwrap_or((line, ""));
         match word {

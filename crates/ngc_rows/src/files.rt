@@ -6,7 +6,7 @@ use ngc_simulator::Files;
 use ngc_test_devices::SlowSource;
 use std::alloc::Global;
 
-/// The files of a row and those that it shares, of which some fail or are there once.
+/// The files of a row and those that it shares. Some of them fail, or can be opened only once.
 #[derive(Drop)]
 pub struct RowFiles<'a> {
     row: &'a Row,
@@ -25,7 +25,7 @@ impl<'a> RowFiles<'a> {
         }
     }
 
-    // The file of that name: the row's own goes before one that rows share.
+    // Returns the file with that name: the row's own takes precedence over one that rows share.
     fn file(&self, name: &str) -> Option<&'a Text> {
         let own = self.row.texts.iter();
         let shared = self.shared.iter();
@@ -35,7 +35,7 @@ impl<'a> RowFiles<'a> {
     }
 }
 
-// Whether a file may be opened, which is noted.
+// Returns whether a file may be opened, and notes that it was.
 fn may_open<'a>(row: &Row, opened: &mut Vec<&'a str>, file: &'a Text) -> bool {
     let name = file.name.as_str();
     let is_opened = opened.iter().any(|it| **it == *name);

@@ -1,6 +1,7 @@
-//! Runs rows: of each the words of a command line, the files that it names, and what the program
-//! must print and answer. The arguments name files of rows, the first one with texts that all of
-//! them share. It prints each row whose answer is otherwise, and how many rows each file has.
+//! Runs rows. Each row has the words of a command line, the files that it names, and the output and
+//! status that the program must have. The arguments name files of rows, the first one with texts
+//! that all of them share. It prints each row with a different result, and the number of rows of
+//! each file.
 #![tactic(auto)]
 
 mod directive;
@@ -13,7 +14,8 @@ use crate::reader::Reader;
 use std::process::ExitCode;
 use std::{env, fs, io};
 
-// Runs the rows of a file, and returns how many there are and of how many the answer is otherwise.
+// Runs the rows of a file, and returns the number of rows and the number of those with a different
+// result.
 fn try_file(rt: &HostRuntime, reader: &mut Reader, name: &str) -> io::Result<(u32, u32)> {
     let text = fs::read_to_string(rt, name)?;
     reader.open(rt.alloc(), name)?;
@@ -26,7 +28,7 @@ fn try_file(rt: &HostRuntime, reader: &mut Reader, name: &str) -> io::Result<(u3
     Ok((rows, otherwise))
 }
 
-// Runs the rows of all files that are named, and returns of how many the answer is otherwise.
+// Runs the rows of all named files, and returns the number of those with a different result.
 fn try_all(rt: &HostRuntime) -> io::Result<u32> {
     let mut reader = Reader::new(rt.alloc());
     let (mut rows, mut otherwise) = (0u32, 0u32);

@@ -4,20 +4,20 @@ use crate::text::{Spelling, Text};
 use std::alloc::{AllocError, Global};
 use std::io;
 
-/// Reads files of rows line by line, and runs each row once the next one begins.
+/// Reads files of rows line by line, and runs each row when the next one begins.
 #[derive(Drop)]
 pub struct Reader {
-    /// The file that is read, and the line in it.
+    /// The current file, and the current line in it.
     name: String,
     line: u32,
     pub rows: u32,
-    /// Of how many rows the answer is otherwise, and how many lines can't be read.
+    /// The number of rows with a different result, and of lines that can't be read.
     pub otherwise: u32,
     shared: Vec<Text>,
-    /// How many texts the first file has: all files share them.
+    /// The number of texts in the first file: all files share them.
     common: usize,
     row: Option<Row>,
-    /// The text that the lines belong to.
+    /// The text to which the lines belong.
     text: Option<Text>,
 }
 
@@ -37,7 +37,7 @@ impl Reader {
         }
     }
 
-    /// Begins a file. Of the texts of earlier files those of the first one stay.
+    /// Begins a file. It drops the texts of earlier files, except those of the first one.
     pub fn open(&mut self, alloc: Global, name: &str) -> Result<(), AllocError> {
         if self.common == 0 {
             self.common = self.shared.len();
@@ -50,7 +50,7 @@ impl Reader {
         Ok(())
     }
 
-    /// Takes the next line of the file.
+    /// Reads the next line of the file.
     pub fn take(&mut self, rt: &HostRuntime, line: &str) -> io::Result<()> {
         self.line = self.line.saturating_add(1);
         let is_read = match line.strip_prefix('@') {
@@ -67,7 +67,7 @@ impl Reader {
         Ok(())
     }
 
-    // Takes a line of a text, or one between rows.
+    // Reads a line of a text, or one between rows.
     fn take_text(&mut self, alloc: Global, line: &str) -> Result<bool, AllocError> {
         match &mut self.text {
             Some(text) => text.take(alloc, line),
@@ -75,7 +75,7 @@ impl Reader {
         }
     }
 
-    // Does what a directive says, and returns whether it can stand there.
+    // Executes a directive, and returns whether it is allowed there.
     fn follow(&mut self, rt: &HostRuntime, line: &str) -> io::Result<bool> {
         let alloc = rt.alloc();
         let Some(directive) = Directive::read(line) else {
@@ -106,7 +106,7 @@ impl Reader {
         }
     }
 
-    // Begins a text, and returns whether it can stand there.
+    // Begins a text, and returns whether it is allowed there.
     fn begin(&mut self, alloc: Global, beginning: Beginning<'_>) -> Result<bool, AllocError> {
         let role = beginning.role;
         let Some(bytes) = base_of(self.shared.as_slice(), beginning.base) else {
@@ -124,7 +124,7 @@ impl Reader {
         Ok(true)
     }
 
-    // Reads the text's next lines in another way, and returns whether there is a text.
+    // Changes how the text's next lines are read, and returns whether there is a text.
     fn go_on(&mut self, alloc: Global, spelling: Spelling) -> Result<bool, AllocError> {
         match &mut self.text {
             Some(text) => {
@@ -135,7 +135,7 @@ impl Reader {
         }
     }
 
-    // Puts the text where it belongs.
+    // Stores the text in its row, or among the shared ones.
     fn end_text(&mut self, alloc: Global) -> Result<(), AllocError> {
         let Some(mut text) = self.text.take() else {
             return Ok(());
@@ -172,7 +172,7 @@ impl Reader {
     }
 }
 
-// The text that another one begins with, where rows share it.
+// Returns the text with which another one begins, if rows share it.
 fn base_of<'a>(shared: &'a [Text], base: Option<&str>) -> Option<&'a [u8]> {
     let Some(name) = base else {
         return Some(b"");
@@ -184,7 +184,7 @@ fn base_of<'a>(shared: &'a [Text], base: Option<&str>) -> Option<&'a [u8]> {
     Some(found.bytes.as_slice())
 }
 
-// Does what a directive says of a row, and returns whether it is one of these.
+// Executes a directive about a row, and returns whether it is one of these.
 fn follow_in_row(
     alloc: Global,
     row: &mut Row,
@@ -201,7 +201,7 @@ fn follow_in_row(
     Ok(true)
 }
 
-// Prints a row with another answer than the wanted one.
+// Prints a row whose result is not the wanted one.
 fn tell(rt: &HostRuntime, name: &str, row: &Row, found: &Outcome) -> io::Result<()> {
     println!(rt; "{name}:{}: ngc {}", row.line, row.words)?;
     println!(rt; "  status {}, and {} is wanted", found.status, row.status)?;

@@ -6,7 +6,7 @@ use ngc_test_devices::FailingSink;
 use serde_json::Value;
 use std::alloc::{AllocError, Global};
 
-/// What the program prints, and its status.
+/// The output of the program, and its status.
 #[derive(Drop)]
 pub struct Outcome {
     pub status: u8,
@@ -21,7 +21,7 @@ struct Failing {
     place: usize,
 }
 
-/// The words of a command line, the files that they name, and what is wanted.
+/// The words of a command line, the files that they name, and the wanted result.
 #[derive(Drop)]
 pub struct Row {
     /// The line on which the row begins.
@@ -30,13 +30,13 @@ pub struct Row {
     pub texts: Vec<Text>,
     pub status: u8,
     pub is_json: bool,
-    /// The name under which what the row prints is kept.
+    /// The name under which the row's output is stored.
     pub kept: Option<String>,
     failing: Vec<Failing>,
     once: Vec<String>,
 }
 
-// `answer` without its clauses: they would make the proofs of its callers longer.
+// Calls `answer` without its clauses: they would make the proofs of its callers longer.
 fn outcome_of(alloc: Global, row: &Row, shared: &[Text], options: &Options<'_>) -> Outcome {
     let mut files = RowFiles::new(alloc, row, shared);
     let mut output = sink(alloc, row.failing("output"));
@@ -49,13 +49,13 @@ fn outcome_of(alloc: Global, row: &Row, shared: &[Text], options: &Options<'_>) 
     }
 }
 
-// A sink that takes this number of bytes and then fails.
+// Returns a sink that accepts this number of bytes and then fails.
 fn sink(alloc: Global, bytes: usize) -> FailingSink {
     let most = if bytes == usize::MAX { bytes } else { 1 };
     FailingSink::new(alloc, bytes, most)
 }
 
-// Whether one of the lines of a text stands, or doesn't stand, in what was printed, as it should.
+// Returns whether each line of a text is in the output, or none is, as wanted.
 fn has_lines(found: &[u8], lines: &[u8], wanted: bool) -> bool {
     let lines = lines.strip_suffix(b"\n").unwrap_or(lines);
     lines
@@ -77,20 +77,20 @@ impl Row {
         })
     }
 
-    /// Lets the device of that name fail at a byte.
+    /// Makes the device with that name fail at a byte.
     pub fn fail(&mut self, alloc: Global, name: &str, place: usize) -> Result<(), AllocError> {
         let name = name.to_string(alloc)?;
         self.failing.push(Failing { name, place })?;
         Ok(())
     }
 
-    /// Lets the file of that name be opened once.
+    /// Makes the file with that name open only once.
     pub fn open_once(&mut self, alloc: Global, name: &str) -> Result<(), AllocError> {
         self.once.push(name.to_string(alloc)?)?;
         Ok(())
     }
 
-    /// The byte at which the device of that name fails.
+    /// Returns the byte at which the device with that name fails.
     pub fn failing(&self, name: &str) -> usize {
         self.failing
             .iter()
@@ -98,7 +98,7 @@ impl Row {
             .map_or(usize::MAX, |failing| failing.place)
     }
 
-    /// Whether the file of that name can be opened once.
+    /// Returns whether the file with that name opens only once.
     pub fn is_once(&self, name: &str) -> bool {
         self.once.iter().any(|once| once.as_str() == name)
     }
@@ -117,7 +117,7 @@ impl Row {
         }
     }
 
-    /// Whether a stream is what the row wants of it.
+    /// Returns whether a stream is what the row wants.
     pub fn is_wanted(&self, name: &str, found: &[u8]) -> bool {
         let mut is_named = found.is_empty();
         for text in self.texts.iter().filter(|text| text.name.as_str() == name) {
@@ -136,7 +136,7 @@ impl Row {
         is_named
     }
 
-    /// Whether what was printed is a document, where the row wants one.
+    /// Returns whether the output is a document, if the row wants one.
     pub fn is_document(&self, alloc: Global, found: &[u8]) -> bool {
         !self.is_json
             || std::str::from_utf8(found).is_ok_and(|text| Value::from_str(alloc, text).is_ok())

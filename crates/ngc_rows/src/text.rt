@@ -1,14 +1,14 @@
 use crate::directive::Role;
 use std::alloc::{AllocError, Global};
 
-/// How the lines of a text are read.
+/// The way in which the lines of a text are read.
 #[derive(Clone, Copy)]
 pub enum Spelling {
-    /// As they are, each with a line feed, repeated this number of times.
+    /// Unchanged, each with a line feed, repeated this number of times.
     Lines(u32),
     /// With escapes and without line feeds, repeated this number of times.
     Bytes(u32),
-    /// As changes of the text that is there, `OLD => NEW`.
+    /// As changes of the existing text, `OLD => NEW`.
     Changes,
 }
 
@@ -18,13 +18,13 @@ pub struct Text {
     pub role: Role,
     pub name: String,
     pub bytes: Vec<u8>,
-    /// Where the part begins that is repeated.
+    /// The start of the part that is repeated.
     start: usize,
     spelling: Spelling,
 }
 
 impl Text {
-    /// A text that begins with these bytes.
+    /// Returns a text that begins with these bytes.
     pub fn new(
         alloc: Global,
         role: Role,
@@ -41,12 +41,12 @@ impl Text {
         })
     }
 
-    /// Whether this is the text of that role and name.
+    /// Returns whether this is the text with that role and name.
     pub fn is(&self, role: Role, name: &str) -> bool {
         self.role == role && self.name.as_str() == name
     }
 
-    /// Repeats the lines since the last directive, and reads the next ones in this way.
+    /// Repeats the lines since the last directive, and changes how the next ones are read.
     pub fn go_on(&mut self, alloc: Global, spelling: Spelling) -> Result<(), AllocError> {
         let times = match self.spelling {
             Spelling::Lines(times) | Spelling::Bytes(times) => times,
@@ -69,7 +69,7 @@ impl Text {
         Ok(())
     }
 
-    /// Takes a line of the text, and returns whether it can be read.
+    /// Reads a line of the text, and returns whether it can be read.
     pub fn take(&mut self, alloc: Global, line: &str) -> Result<bool, AllocError> {
         match self.spelling {
             Spelling::Lines(_) => {
@@ -82,7 +82,7 @@ impl Text {
         }
     }
 
-    // Puts another piece in place of one that the text has exactly once.
+    // Replaces a piece that the text has exactly once with another.
     fn change(&mut self, alloc: Global, line: &str) -> Result<bool, AllocError> {
         let Some((old, new)) = line.split_once(" => ") else {
             return Ok(false);
@@ -107,7 +107,7 @@ impl Text {
     }
 }
 
-/// What stands before and after the first place of a piece, where the text has it.
+/// Returns the text before and after the first occurrence of a piece, if there is one.
 pub fn around<'a>(text: &'a [u8], piece: &[u8]) -> Option<(&'a [u8], &'a [u8])> {
     let at = memchr::memmem::find(text, piece)?;
     let (before, rest) = text.split_at_checked(at)?;
@@ -136,7 +136,7 @@ fn push_unescaped(bytes: &mut Vec<u8>, line: &str) -> Result<bool, AllocError> {
     Ok(true)
 }
 
-// The byte of an escape, and what follows it.
+// Returns the byte of an escape, and the rest.
 fn escape(text: &[u8]) -> Option<(u8, &[u8])> {
     let (letter, rest) = text.split_first()?;
     match letter {
