@@ -1,4 +1,4 @@
--- What a call is answered.
+-- The result of a call.
 use Rattle.std.specs.Prelude.{◌≡◌, ◌<◌, ℕ, List, [], ◌++◌, length, take, drop, min, Option, Some}
 use Rattle.std.specs.Prelude.{IfErr, Result}
 use Rattle.ngc_text.specs.declared.input_fault.InputFault.{InputFault}
@@ -15,12 +15,12 @@ abbrev pub SaysUnreadable : Option InputFault → Type 0
 SaysUnreadable (Some Device) = Unit {0}
 SaysUnreadable _ = ⊥
 
--- how many bytes of standard error are kept
+-- the number of bytes of standard error that are stored
 abbrev pub LINES_KEPT : ℕ
 LINES_KEPT = 65536
 
--- What `ngc` comes to with these options on these files: its output, the lines of its standard
--- error, of which the first 65,536 bytes are kept, and its status. No file is unreadable.
+-- The result of `ngc` with these options on these files: its output, the lines of its standard
+-- error, of which the first 65,536 bytes are stored, and its status. No file is unreadable.
 pub record Told (files : FileBytes) (options : Options) (output errors : List ℕ) (status : ℕ) :
     Type 0 where
   pub outcome : Result Done AnswerFault
@@ -32,12 +32,12 @@ pub record Told (files : FileBytes) (options : Options) (output errors : List �
       (record { old = Some []; new = Some errors; failures = 0; failures_now = failed })
   pub keeps : 0 < failed → length errors ≡ LINES_KEPT
 
--- the text stands at the front of what was there, as far as that reaches
+-- the text is at the front of the old contents, as far as these reach
 abbrev pub Holds : List ℕ → List ℕ → List ℕ → Type 0
 Holds old new text =
     new ≡ take (min (length text) (length old)) text ++ drop (min (length text) (length old)) old
 
--- the page's space for a text, before and after a call, and the length that it is told
+-- the page's space for a text, before and after a call, and the length that it receives
 pub record Space : Type 0 where
   pub old : List ℕ
   pub new : List ℕ
@@ -46,12 +46,12 @@ pub record Space : Type 0 where
 abbrev pub space : List ℕ → List ℕ → ℕ → Space
 space old new told = record { old = old; new = new; told = told }
 
--- a text is handed over: as much of it as there is space for, and the length of all of it
+-- a text is handed over: as much of it as there is space for, and its whole length
 pub record HandsOver (space : Space) (text : List ℕ) : Type 0 where
   pub holds : Holds space.old space.new text
   pub told : space.told ≡ length text
 
--- what `ngc` comes to with these options, with both texts handed over
+-- the result of `ngc` with these options, with both texts handed over
 pub record ToldIn (files : FileBytes) (options : Options) (output errors : Space) (status : ℕ) :
     Type 0 where
   pub text : List ℕ
@@ -60,7 +60,7 @@ pub record ToldIn (files : FileBytes) (options : Options) (output errors : Space
   pub text_handed : HandsOver output text
   pub lines_handed : HandsOver errors lines
 
--- the same with options that ask for this
+-- the same with options that request this
 pub record Answered (files : FileBytes) (Asks : Options → Type 0) (output errors : Space)
     (status : ℕ) : Type 0 where
   pub options : Options

@@ -1,4 +1,4 @@
--- What the calls ask for, by what the command line asks for.
+-- The requests of the calls, in terms of the command line's.
 use Rattle.std.specs.Prelude.{◌≡◌, ◌⊎◌, ◌==◌, ℕ, Bool, true, false, List, [], Option, Some, None, codes}
 use Rattle.std.specs.Prelude.{if◌then◌else◌}
 use Rattle.std.specs.Str.{IsUtf8}
@@ -59,7 +59,7 @@ abbrev pub control_name : ℕ → List ℕ
 control_name n = if n == 1 then codes "grbl" else if n == 2 then codes "mach3"
     else if n == 3 then codes "fanuc" else codes "linuxcnc"
 
--- a tool other than 0 is mounted in front
+-- a tool other than 0 is mounted at the start
 abbrev pub tool_asked : ℕ → Option ℕ
 tool_asked n = if n == 0 then None else Some n
 
@@ -74,6 +74,6 @@ pub record AsksAdapt (control tool : ℕ) (text : List ℕ) (options : Options) 
   pub asks : AsksForAdapt (control_name control) (Some (codes "machine")) (tool_asked tool) drop
       (Some (codes "program")) options
 
--- a machine file from the dump of GRBL's settings that is the file `program`
+-- a machine file from a dump of GRBL's settings, which is the file `program`
 abbrev pub AsksMachine : Options → Type 0
 AsksMachine = AsksForMachine (FromGrbl (codes "program")) None None None

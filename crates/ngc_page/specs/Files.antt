@@ -1,4 +1,4 @@
--- The files that a call holds.
+-- The files of a call.
 use Rattle.ngc_simulator.specs.Setups.{FileBytes}
 use Rattle.ngc_page.specs.Passed.{passed}
 use Rattle.ngc_page.specs.declared.files.PassedFiles.{PassedFiles}

@@ -3,7 +3,7 @@ use Rattle.std.specs.Prelude.{ℕ, List, [], Some, None, codes, if◌then◌else
 use Rattle.std.specs.Str.{bytes_eq}
 use Rattle.ngc_simulator.specs.Setups.{FileBytes}
 
--- The four files go by their names, and any other file and standard input are empty.
+-- The four files have their names, and any other file and standard input are empty.
 abbrev pub passed : List ℕ → List ℕ → List ℕ → List ℕ → FileBytes
 passed program machine tools certificate None = Some []
 passed program machine tools certificate (Some name) =

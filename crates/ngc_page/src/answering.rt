@@ -1,4 +1,4 @@
-//! What every call does once it is known what is asked.
+//! The common part of every call, after its options are known.
 ghost use Rattle.std.specs.Prelude.{◌≡◌, length};
 ghost use Rattle.ngc_page.specs.Answered.{Holds, Told, ToldIn, space};
 ghost use Rattle.ngc_page.specs.Files.{bytes_of};
@@ -10,14 +10,14 @@ use ngc_simulator::answer;
 use ngc_text::Device;
 use std::alloc::Global;
 
-/// The lengths of the two texts in bytes, which may be greater than the space there was for them.
+/// The lengths of the two texts in bytes, which may exceed the space for them.
 #[repr(C)]
 pub struct Lengths {
     pub output: usize,
     pub errors: usize,
 }
 
-/// What a command writes, and its exit status.
+/// The output of a command, and its exit status.
 #[derive(Drop)]
 struct Answer {
     output: Vec<u8>,
@@ -39,7 +39,7 @@ fn answer_in_memory(alloc: Global, options: &Options<'_>, mut files: PassedFiles
     }
 }
 
-// Copies as many bytes as both have.
+// Copies the front of the text, as far as there is space.
 fn copy_front(text: &[u8], space: &mut [u8])
     ensures { Holds space.old space.new text.now }
 {
@@ -47,8 +47,8 @@ fn copy_front(text: &[u8], space: &mut [u8])
     space[..count].copy_from_slice(&text[..count]);
 }
 
-/// Answers a command: its output and the lines of its standard error go to the front of the two
-/// slices, as far as there is space, and the exit status is returned.
+/// Executes a command. It writes its output and the lines of its standard error to the front of the
+/// two slices, as far as there is space, and returns the exit status.
 pub fn answer_into(
     alloc: Global,
     options: &Options<'_>,

@@ -1,4 +1,4 @@
-//! What each call asks for, in the terms of the command line. The files are named `program`,
+//! The options of each call, as the command line reads them. The files are named `program`,
 //! `machine`, `tools` and `certificate`.
 ghost use Rattle.std.specs.Prelude.{◌≡◌, option_map};
 ghost use Rattle.ngc_page.specs.Asked.{AreCodes, AsksAdapt, AsksCertify, AsksCheck, AsksDraw};
@@ -10,7 +10,7 @@ use ngc_command_line::{
     Options, Recording, ReportOptions, RunThroughOptions, ShowOptions,
 };
 
-/// The options of a report.
+/// Returns the options of a report.
 pub fn report_options(all: bool, json: bool) -> Options<'static>
     ensures { AsksReport all json result }
 {
@@ -34,7 +34,7 @@ fn view_name(view: u32) -> &'static str
     }
 }
 
-/// The options of a picture without a certificate.
+/// Returns the options of a picture without a certificate.
 pub fn draw_options(view: u32, delete: bool) -> Options<'static>
     ensures { AsksDraw view delete result }
 {
@@ -50,7 +50,7 @@ pub fn draw_options(view: u32, delete: bool) -> Options<'static>
     })
 }
 
-/// The options of a listing.
+/// Returns the options of a listing.
 pub fn list_options(delete: bool) -> Options<'static>
     ensures { AsksList delete result }
 {
@@ -68,7 +68,7 @@ fn format_asked(second: bool) -> Format
     if second { Format::Two } else { Format::One }
 }
 
-/// The options of a certificate, in version 2 of the text or in version 1.
+/// Returns the options of a certificate, in version 2 of the text or in version 1.
 pub fn certify_options(second: bool) -> Options<'static>
     ensures { AsksCertify second result }
 {
@@ -81,7 +81,7 @@ pub fn certify_options(second: bool) -> Options<'static>
     })
 }
 
-/// The options of a check.
+/// Returns the options of a check.
 pub fn check_options() -> Options<'static>
     ensures { AsksCheck result }
 {
@@ -93,7 +93,7 @@ pub fn check_options() -> Options<'static>
     })
 }
 
-/// The options of a run to the end whose pulses are written.
+/// Returns the options of a run to the end that writes its pulses.
 pub fn pulses_options(delete: bool) -> Options<'static>
     ensures { AsksPulses delete result }
 {
@@ -109,7 +109,7 @@ pub fn pulses_options(delete: bool) -> Options<'static>
     })
 }
 
-/// The options of a setup sheet.
+/// Returns the options of a setup sheet.
 pub fn show_options() -> Options<'static>
     ensures { AsksShow result }
 {
@@ -137,7 +137,7 @@ fn tool_asked(tool: u16) -> Option<u16>
     if tool == 0 { None } else { Some(tool) }
 }
 
-// A text that isn't UTF-8 is refused as one that is no list of codes.
+// A text that isn't UTF-8 is refused, because it is no list of codes.
 fn codes_asked(text: &[u8]) -> Option<&str>
     ensures { AreCodes text.now (option_map (λ codes. codes.now) result) }
 {
@@ -150,7 +150,7 @@ fn codes_asked(text: &[u8]) -> Option<&str>
     }
 }
 
-/// The options of adapting a program for another control.
+/// Returns the options to adapt a program for another control.
 pub fn adapt_options(control: u32, tool: u16, drop: &[u8]) -> Options<'_>
     ensures { AsksAdapt control tool drop.now result }
 {
@@ -163,7 +163,8 @@ pub fn adapt_options(control: u32, tool: u16, drop: &[u8]) -> Options<'_>
     })
 }
 
-/// The options of making a machine file from a dump of GRBL's settings, which is the file `program`.
+/// Returns the options to make a machine file from a dump of GRBL's settings, which is the file
+/// `program`.
 pub fn machine_options() -> Options<'static>
     ensures { AsksMachine result }
 {

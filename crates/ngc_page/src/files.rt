@@ -6,7 +6,7 @@ use ngc_simulator::Files;
 use ngc_text::{DeviceFault, Source};
 use std::io::Read;
 
-/// The bytes of a file that are left to read. Reading them never fails.
+/// The remaining bytes of a file. Reading them never fails.
 #[derive(Drop)]
 pub struct PassedSource<'a> {
     rest: &'a [u8],
@@ -27,8 +27,8 @@ impl Source for PassedSource<'_> {
     }
 }
 
-/// The files of a call, in memory. Any other file and standard input are empty, so that each file
-/// can be opened.
+/// The files of a call, in memory. Any other file and standard input are empty, so each file can be
+/// opened.
 #[derive(Drop)]
 pub struct PassedFiles<'a> {
     pub program: &'a [u8],
@@ -38,7 +38,7 @@ pub struct PassedFiles<'a> {
 }
 
 impl PassedFiles<'_> {
-    /// Empty files, for a command that reads none.
+    /// Returns empty files, for a command that reads none.
     pub fn none() -> PassedFiles<'static>
         ensures program { result.program.now ≡ [] }
         ensures machine { result.machine.now ≡ [] }

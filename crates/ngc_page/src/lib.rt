@@ -28,8 +28,8 @@ use crate::files::PassedFiles;
 use ngc_command_line::Options;
 use std::alloc::Global;
 
-/// Writes the report of a part program on a machine with its tools. With `all` every command that
-/// nothing clears is in it, and not the first alone; with `json` it is a JSON document.
+/// Writes the report of a part program on a machine with its tools. With `all` it has every command
+/// that isn't cleared, and not only the first one. With `json` it is a JSON document.
 #[unsafe(no_mangle)]
 pub extern "C" fn ngc_report(
     alloc: Global,
@@ -56,8 +56,8 @@ pub extern "C" fn ngc_report(
     answer_into(alloc, &options, files, output, errors, lengths)
 }
 
-/// Writes the picture of a part program at a setting of block delete: from the front where `view`
-/// is 1, from the side where it is 2, and else from the top.
+/// Writes the picture of a part program at a setting of block delete: from the front if `view` is
+/// 1, from the side if it is 2, and otherwise from the top.
 #[unsafe(no_mangle)]
 pub extern "C" fn ngc_draw(
     alloc: Global,
@@ -110,8 +110,8 @@ pub extern "C" fn ngc_list(
     answer_into(alloc, &options, files, output, errors, lengths)
 }
 
-/// Writes a certificate of a part program, in version 2 of the text where `second` is set, and else
-/// in version 1.
+/// Writes a certificate of a part program, in version 2 of the text if `second` is set, and
+/// otherwise in version 1.
 #[unsafe(no_mangle)]
 pub extern "C" fn ngc_certify(
     alloc: Global,
@@ -137,7 +137,7 @@ pub extern "C" fn ngc_certify(
     answer_into(alloc, &options, files, output, errors, lengths)
 }
 
-/// Checks a certificate of a part program, and writes that it is accepted.
+/// Checks a certificate of a part program, and writes if it is accepted.
 #[unsafe(no_mangle)]
 pub extern "C" fn ngc_check(
     alloc: Global,
@@ -191,7 +191,7 @@ pub extern "C" fn ngc_pulses(
     answer_into(alloc, &options, files, output, errors, lengths)
 }
 
-/// Writes what a machine file and a tool table say.
+/// Writes the setup sheet of a machine file and a tool table.
 #[unsafe(no_mangle)]
 pub extern "C" fn ngc_show(
     alloc: Global,
@@ -215,9 +215,10 @@ pub extern "C" fn ngc_show(
     answer_into(alloc, &options, files, output, errors, lengths)
 }
 
-/// Writes a part program for another control as one for this, and the changes to the errors: for GRBL
-/// where `control` is 1, Mach3 where it is 2, Fanuc where it is 3, and else LinuxCNC. A `tool` other
-/// than 0 is mounted in front, and `drop` lists M codes that the machine can do without, or is empty.
+/// Writes a part program for another control as one for this control, and the changes to the
+/// errors. The program is for GRBL if `control` is 1, Mach3 if it is 2, Fanuc if it is 3, and
+/// otherwise LinuxCNC. A `tool` other than 0 is mounted at the start. `drop` lists M codes that the
+/// machine doesn't need, or is empty.
 #[unsafe(no_mangle)]
 pub extern "C" fn ngc_adapt(
     alloc: Global,
@@ -244,7 +245,8 @@ pub extern "C" fn ngc_adapt(
     answer_into(alloc, &options, files, output, errors, lengths)
 }
 
-/// Writes a machine file from a dump of GRBL's settings, and how each number was rounded to the errors.
+/// Writes a machine file from a dump of GRBL's settings, and how each number is rounded to the
+/// errors.
 #[unsafe(no_mangle)]
 pub extern "C" fn ngc_machine(
     alloc: Global,
@@ -267,7 +269,7 @@ pub extern "C" fn ngc_machine(
     answer_into(alloc, &options, files, output, errors, lengths)
 }
 
-/// Writes what the fault with this number means.
+/// Writes the meaning of the fault with this number.
 #[unsafe(no_mangle)]
 pub extern "C" fn ngc_explain(
     alloc: Global,

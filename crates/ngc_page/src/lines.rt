@@ -5,11 +5,11 @@ ghost use Rattle.ngc_page.specs.declared.lines.TheConstants.{LINES_LIMIT};
 use arrayvec::ArrayVec;
 use ngc_text::{DeviceFault, Sink};
 
-/// How many bytes of standard error are kept. Those after them are lost.
+/// The number of bytes of standard error that are stored. Bytes after them are lost.
 pub const LINES_LIMIT: usize = 65_536;
 
-/// Standard error, in memory that is there from the beginning, so that a fault's line is there also
-/// where memory ends.
+/// Standard error, in memory that exists from the beginning, so that there is space for a fault's
+/// line even after memory has run out.
 #[derive(Drop)]
 pub struct Lines {
     pub taken: ArrayVec<u8, LINES_LIMIT>,
