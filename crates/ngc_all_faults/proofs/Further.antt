@@ -1,4 +1,4 @@
--- One fault more, and the last.
+-- One more fault, and the last.
 use Rattle.std.proofs.Common.{◌≡◌, ℕ, ◌+◌, ◌-◌, ◌<◌, ◌≤◌, List, [], ◌∷◌, ◌++◌, Option, Some, None, Bool, ap, subst, sym, ◌∙◌, arith}
 use Rattle.std.proofs.lemmas.List.{append_assoc, append-nil}
 use Rattle.ngc_canonical.specs.State.{Setup}
@@ -6,7 +6,7 @@ use Rattle.ngc_all_faults.specs.Faults.{AreFaults, HasFirst, after}
 use Rattle.ngc_all_faults.specs.declared.text_fault.TextFault.{TextFault}
 
 module _ (setup : Setup) (delete : Bool) (text : List ℕ) where
-  -- with the faults of the rest, what is found are the faults of the text
+  -- together with the faults of the rest, the faults found so far are the faults of the text
   abbrev pub Goes : ℕ → List ℕ → List TextFault → Type 0
   Goes most rest found = (fs : List TextFault) → AreFaults setup delete most (Some rest) fs → AreFaults setup delete 100 (Some text) (found ++ fs)
 

@@ -1,4 +1,4 @@
--- What the text of a source says, where the source holds these bytes.
+-- The text of a source, if the source contains these bytes.
 pub mod Texts
--- One fault more, and the last.
+-- One more fault, and the last.
 pub mod Further

@@ -1,4 +1,4 @@
--- What the text of a source says, where the source holds these bytes.
+-- The text of a source, if the source contains these bytes.
 use Rattle.std.proofs.Common.{◌≡◌, ℕ, List, Option, Some, Ok, IfSome, subst}
 use Rattle.ngc_line_reader.specs.ProgramText.{ProgramText, program_of}
 

@@ -1,8 +1,8 @@
 -- A text with a line that is emptied. Our own.
 use Rattle.std.specs.Prelude.{ℕ, ◌-◌, ◌==◌, List, [], ◌∷◌, Bool, not, ◌||◌, if◌then◌else◌}
 
--- How many lines further the line to empty is, after a byte; the line itself is 1 further, and 0
--- says that it is over.
+-- The number of lines to the line to empty, after a byte. The number is 1 within that line, and 0
+-- after it.
 abbrev pub left_after : ℕ → ℕ → ℕ
 left_after left b = if b == 10 then left - 1 else left
 

@@ -24,12 +24,12 @@ abbrev pub read_line_of : ReadFault → Option ℕ
 read_line_of (reads.Line n e) = Some n
 read_line_of _ = None
 
--- that a program has no end is in no line
+-- the fault that a program has no end is in no line
 abbrev pub refused_line_of : ℕ → Fault → Option ℕ
 refused_line_of n NoEnd = None
 refused_line_of n _ = Some n
 
--- the line that a fault is in
+-- the line of a fault
 abbrev pub line_of : TextFault → Option ℕ
 line_of (Unread e) = read_line_of e
 line_of (Refused n e) = refused_line_of n e
@@ -40,7 +40,7 @@ number_of (Refused n e) = fault_number e
 
 -- ---- the first fault
 
--- a text is a program, which means this
+-- a text is a program with this meaning
 pub record Means (setup : Setup) (block_delete : Bool) (bytes : List ℕ)
     (outcome : Result (List Command) ProgramFault) : Type 0 where
   pub text : ProgramText
@@ -61,12 +61,12 @@ IsFirst setup block_delete bytes (Some f) = HasFirst setup block_delete bytes f
 
 -- ---- all faults
 
--- the text with the line of a fault emptied, or none where it is in no line
+-- the text with the line of a fault emptied, or none if it is in no line
 abbrev pub after : TextFault → List ℕ → Option (List ℕ)
 after f bytes = option_map (λ n. emptied n bytes) (line_of f)
 
 -- The faults of a text, at most `most`: the first, and then those of the text after it. None is
--- left out: they end where the text has no fault, or where they are `most`.
+-- missing: they end if the text has no fault, or after `most` faults.
 abbrev pub AreFaults : Setup → Bool → ℕ → Option (List ℕ) → List TextFault → Type 0
 AreFaults setup block_delete most None [] = Unit {0}
 AreFaults setup block_delete most None (f ∷ fs) = ⊥

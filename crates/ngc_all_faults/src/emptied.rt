@@ -4,7 +4,7 @@ ghost use Rattle.ngc_all_faults.specs.Emptied.{emptied, kept, left_after};
 
 use std::alloc::{AllocError, Allocator};
 
-// How many lines further the line to empty is, after a byte; the line itself is 1 further.
+// Returns the number of lines to the line to empty, after a byte. The number is 1 within that line.
 fn left_after(left: u32, byte: u8) -> u32
     ensures { result ≡ left_after left byte }
 {
@@ -21,7 +21,7 @@ fn is_kept(left: u32, byte: u8) -> bool
     byte == b'\n' || left != 1
 }
 
-/// Returns a text without the bytes of a line, by its number from 1; its line feed stays.
+/// Returns a text without the bytes of the line with this number, from 1; its line feed stays.
 pub(crate) fn emptied<A: Allocator>(
     alloc: A,
     line: u32,

@@ -12,15 +12,15 @@ use ngc_text::Device;
 use std::alloc::Allocator;
 use thiserror::Error;
 
-/// How many faults are looked for at most.
+/// The greatest number of faults that the search returns.
 pub const MOST_FAULTS: usize = 100;
 
-/// There was no memory for the program or for the faults.
+/// There is no memory for the program or for the faults.
 #[derive(Clone, Copy, Debug, Error)]
 #[error("out of memory")]
 pub struct OutOfMemory;
 
-// The first fault of a text: why it can't be read, or else why the program is refused.
+// Returns the first fault of a text: why it can't be read, or else why the program is refused.
 fn first_fault<A: Allocator + Copy>(
     alloc: A,
     text: &[u8],

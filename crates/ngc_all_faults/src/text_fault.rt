@@ -14,8 +14,8 @@ pub enum TextFault {
 }
 
 impl TextFault {
-    /// The line that the fault is in, or `None` where it is in no line: a missing second `%` (121),
-    /// too many lines (122), and a program without an end (120).
+    /// Returns the line of the fault, or `None` if it is in no line: a missing second `%` (121),
+    /// too many lines (122), or a program without an end (120).
     pub fn line(&self) -> Option<u32>
         ensures { result ≡ line_of self.now }
     {
@@ -30,7 +30,7 @@ impl TextFault {
         }
     }
 
-    /// The fault's number.
+    /// Returns the fault's number.
     pub fn number(&self) -> u16
         ensures { result ≡ number_of self.now }
     {

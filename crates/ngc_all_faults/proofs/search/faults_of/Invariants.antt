@@ -1,4 +1,4 @@
--- What is found so far, with the faults of the rest, are the faults of the text.
+-- The faults found so far, with those of the rest, are the faults of the text.
 use Rattle.std.proofs.Common.{◌≡◌, ◌-◌, ◌++◌, List, Some}
 use Rattle.ngc_canonical.specs.Interpreter.{setup_of}
 use Rattle.ngc_all_faults.specs.Faults.{AreFaults}
