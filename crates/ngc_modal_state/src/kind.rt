@@ -42,42 +42,42 @@ impl MotionMode {
     ghost use Rattle.ngc_modal_state.specs.Kinds.{is_straight, is_arc, is_cycle, is_cancel, feeds};
     ghost use Rattle.ngc_modal_state.specs.Kinds.{dwells, pecks, begins_cycle};
 
-    // G0, G1
+    // Returns whether it is G0 or G1.
     pub(crate) fn is_straight(self) -> bool
         ensures { result ≡ is_straight self }
     {
         matches!(self, MotionMode::Traverse | MotionMode::Straight)
     }
 
-    // G2, G3
+    // Returns whether it is G2 or G3.
     pub(crate) fn is_arc(self) -> bool
         ensures { result ≡ is_arc self }
     {
         matches!(self, MotionMode::Arc(_))
     }
 
-    // G81 to G89
+    // Returns whether it is a cycle: G81 to G89.
     pub(crate) fn is_cycle(self) -> bool
         ensures { result ≡ is_cycle self }
     {
         matches!(self, MotionMode::Cycle(_))
     }
 
-    // G80
+    // Returns whether it is G80.
     pub(crate) fn is_cancel(self) -> bool
         ensures { result ≡ is_cancel self }
     {
         matches!(self, MotionMode::Cancel)
     }
 
-    // G1 to G3
+    // Returns whether it moves at a feed: G1 to G3.
     pub(crate) fn feeds(self) -> bool
         ensures { result ≡ feeds self }
     {
         matches!(self, MotionMode::Straight | MotionMode::Arc(_))
     }
 
-    // G82, G86, G89
+    // Returns whether it dwells: G82, G86, G89.
     pub(crate) fn dwells(self) -> bool
         ensures { result ≡ dwells self }
     {
@@ -87,7 +87,7 @@ impl MotionMode {
         }
     }
 
-    // G83
+    // Returns whether it pecks: G83.
     pub(crate) fn pecks(self) -> bool
         ensures { result ≡ pecks self }
     {
@@ -114,35 +114,35 @@ impl Block {
     ghost use Rattle.ngc_modal_state.specs.Kinds.{is_dwell, sets_origin, sets_offset};
     ghost use Rattle.ngc_modal_state.specs.Kinds.{is_machine_place, takes_axes, applies_length};
 
-    // G4
+    // Returns whether G4 is present.
     pub(crate) fn is_dwell(&self) -> bool
         ensures { result ≡ is_dwell self.now.once }
     {
         matches!(self.once, Some(Once::Dwell))
     }
 
-    // G10
+    // Returns whether G10 is present.
     pub(crate) fn sets_origin(&self) -> bool
         ensures { result ≡ sets_origin self.now.once }
     {
         matches!(self.once, Some(Once::SetOrigin))
     }
 
-    // G92
+    // Returns whether G92 is present.
     pub(crate) fn sets_offset(&self) -> bool
         ensures { result ≡ sets_offset self.now.once }
     {
         matches!(self.once, Some(Once::SetOffset))
     }
 
-    // G53
+    // Returns whether G53 is present.
     pub(crate) fn is_machine_place(&self) -> bool
         ensures { result ≡ is_machine_place self.now.once }
     {
         matches!(self.once, Some(Once::MachinePlace))
     }
 
-    // G10, G28, G30, G92
+    // Returns whether G10, G28, G30 or G92 is present.
     pub(crate) fn takes_axes(&self) -> bool
         ensures { result ≡ takes_axes self.now.once }
     {
@@ -152,7 +152,7 @@ impl Block {
         )
     }
 
-    // G43
+    // Returns whether G43 is present.
     pub(crate) fn applies_length(&self) -> bool
         ensures { result ≡ applies_length self.now.tool_length }
     {

@@ -82,14 +82,14 @@ impl Block {
         }
     }
 
-    // T
+    // Returns the effect of T.
     fn tool_effect(&self) -> Option<Effect>
         ensures { result ≡ option_map (λ v. acts.SelectTool (whole_part v)) self.now.t }
     {
         Some(Effect::SelectTool(whole(self.t?)))
     }
 
-    // G4
+    // Returns the effect of G4.
     fn dwell_effect(&self) -> Option<Effect>
         ensures { result ≡ dwell_effect self.now.once self.now }
     {
@@ -100,7 +100,7 @@ impl Block {
         }
     }
 
-    // G43 with its H, or G49.
+    // Returns the effect of G43 with its H, or of G49.
     fn length_effect(&self) -> Option<Effect>
         ensures { result ≡ length_effect self.now.tool_length self.now }
     {
@@ -110,7 +110,7 @@ impl Block {
         }
     }
 
-    // G10, G28, G30, G92 and its forms.
+    // Returns the effect of G10, G28, G30, G92 or one of its forms.
     fn frame_effect(&self) -> Option<Effect>
         ensures { result ≡ frame_effect self.now.once self.now }
     {
