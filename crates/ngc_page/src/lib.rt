@@ -1,10 +1,10 @@
-//! The program's commands as calls of a static library: files go in as bytes, and what the command
-//! writes comes out as bytes. A web page calls them as WebAssembly.
+//! The program's commands as calls of a static library: files go in as bytes, and the command's
+//! output comes out as bytes. A web page calls them as WebAssembly.
 //!
 //! Each call writes the command's output and the lines of its standard error to the front of two
-//! slices, as far as there is space, their lengths to `lengths`, and returns the exit status of the
-//! program: 0 for done, 1 where memory ends or a file is too long, 3 for a file or a program
-//! that is refused, 4 for a certificate that is refused or isn't made.
+//! slices, as far as there is space, and their lengths to `lengths`. It returns the exit status of
+//! the program: 0 for done, 1 if memory runs out or a file is too long, 3 if a file or a program is
+//! refused, 4 if a certificate is refused or isn't made.
 #![tactic(auto)]
 
 ghost use Rattle.std.specs.Prelude.{[]};
@@ -137,7 +137,7 @@ pub extern "C" fn ngc_certify(
     answer_into(alloc, &options, files, output, errors, lengths)
 }
 
-/// Checks a certificate of a part program, and writes if it is accepted.
+/// Checks a certificate of a part program. If it is accepted, the output says so.
 #[unsafe(no_mangle)]
 pub extern "C" fn ngc_check(
     alloc: Global,
