@@ -45,9 +45,9 @@ fn first_fault<A: Allocator + Copy>(
 }
 
 /// Returns the faults of a text on a machine with its tools, at a setting of block delete: the
-/// first, then the first of the text in which that line is empty, and so on. They are at most
-/// `MOST_FAULTS`, and there is none where the program has a meaning. First come the lines that
-/// can't be read, by their numbers, then those that are refused. A fault of no line is the last.
+/// first, then the first of the text in which that line is empty, and so on. There are at most
+/// `MOST_FAULTS`, and none if the program has a meaning. First come the lines that can't be read,
+/// by their numbers, then those that are refused. A fault of no line is the last.
 ///
 /// It reads and executes the program once for each fault.
 pub fn faults_of<A: Allocator + Copy>(
