@@ -51,5 +51,5 @@ pub mod Onward
 pub mod Straight
 -- The same for circles of less than eight steps: the joint is less than four steps from the end.
 pub mod NearlySmall
--- A short arc, where no walk begins, passes its quadrant point, if there is one, at the joint.
+-- A short arc, for which no walk begins, passes its quadrant point, if there is one, at the joint.
 pub mod OneAxis

@@ -1,4 +1,4 @@
--- A short arc, where no walk begins, passes its quadrant point, if there is one, at the joint.
+-- A short arc, for which no walk begins, passes its quadrant point, if there is one, at the joint.
 use Rattle.std.proofs.Common.{ℕ, zero, suc, ◌+◌, ◌-◌, ◌*◌, ◌<◌, ◌≤◌, min, inl, inr, sym, subst, arith}
 use Rattle.std.specs.Prelude.{Bool}
 use Rattle.ngc_wheel.specs.declared.spoke.Quadrant.{Quadrant}
