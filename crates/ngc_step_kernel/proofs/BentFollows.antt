@@ -1,4 +1,4 @@
--- A short arc, where no walk begins: through the joint straight to the end.
+-- A short arc, for which no walk begins: through the joint straight to the end.
 use Rattle.std.proofs.Common.{◌≡◌, ℕ, zero, suc, ◌*◌, ◌<◌, ◌≤◌, ℤ, pos, ◌+ℤ◌, ◌-ℤ◌, ◌*ℤ◌, ◌≤ℤ◌, ◌⊎◌, inl, inr, refl, sym, ◌∙◌, ap, subst, arith}
 use Rattle.std.specs.Prelude.{Bool, true, false, Some, None, int_lt}
 use Rattle.std.proofs.lemmas.Int.{ints}
