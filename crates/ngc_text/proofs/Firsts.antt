@@ -1,4 +1,4 @@
--- The first elements of a list, where there may be fewer.
+-- The first elements of a list, if there may be fewer.
 use Rattle.std.proofs.Common.{◌≡◌, ℕ, ◌≤◌, ◌⊎◌, inl, inr, List, length, take, min, ap, sym, ◌∙◌, arith}
 use Rattle.std.proofs.lemmas.List.{take_all}
 

@@ -9,7 +9,7 @@ pub mod DecimalLaws
 pub mod DigitLaws
 -- Texts that a byte separates.
 pub mod Splits
--- The first elements of a list, where there may be fewer.
+-- The first elements of a list, if there may be fewer.
 pub mod Firsts
 -- A number's text that is added with unused bytes after it.
 pub mod Spelled
