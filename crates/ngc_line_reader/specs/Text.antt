@@ -1,7 +1,7 @@
 -- The text of a line: it does not depend on white space and the case of letters (NISTIR 6556, 3.3:
--- spaces and tabs are allowed anywhere except in comments, also inside numbers, and the case of
--- letters outside comments does not matter). Our own: a carriage return is white space if it is the
--- line's last byte, and ';' outside parentheses begins a comment up to the line's end.
+-- outside comments, spaces and tabs may be anywhere, even inside numbers, and the case of letters
+-- does not matter). Our own: a carriage return is white space if it is the line's last byte, and
+-- ';' outside parentheses begins a comment up to the line's end.
 use Rattle.std.specs.Prelude.{ℕ, ◌-◌, ◌+◌, List, [], ◌∷◌, ◌++◌, length, Option, Some, None, Bool}
 use Rattle.std.specs.Prelude.{◌==◌, ◌&&◌, ◌||◌, nat_le, slice_index, if◌then◌else◌}
 use Rattle.std.specs.Option.{option_to_list, option_map}
