@@ -132,8 +132,9 @@ impl<'a, A: Allocator> Cutter<'a, A> {
 }
 
 /// Cuts an arc into at most `most` pieces that pass through the following quadrant directions, and
-/// puts them in `pieces`. Each is as long as clears and has its derived box. Returns whether
-/// several pieces reach the arc's end. If they do not, the contents of `pieces` have no meaning.
+/// puts them in `pieces`. Each piece is as long as it can be and still clear, and has its derived
+/// box. Returns whether several pieces reach the arc's end. If they do not, the contents of
+/// `pieces` have no meaning.
 pub(crate) fn cut_arc<A: Allocator>(
     machine: &Machine<A>,
     tool: &Option<Tool>,
