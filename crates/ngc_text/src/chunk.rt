@@ -20,7 +20,7 @@ const MOST_DIGITS: usize = 40;
 /// It holds at most 16,384 bytes. `make_room` leaves 512 of them free, enough for a line.
 #[derive(Drop)]
 pub struct Chunk {
-    // An array and a length, because an `ArrayVec` overwrites what is removed from it.
+    // An array and a length, because an `ArrayVec` wipes what is removed from it.
     bytes: [u8; MOST_TEXT],
     len: usize,
 }
