@@ -90,7 +90,7 @@ impl Block {
     pub(crate) fn kept_from(fixture: &Fixture, part: &Part, foot: i64) -> Block
         requires { unsigned_abs foot ≤ 500000000000 }
     {
-        let Fixture { low, high } = fixture;
+        let Fixture { low, high, .. } = fixture;
         let radius = part.radius.nanometres();
         let top = foot + part.length.nanometres();
         Block {

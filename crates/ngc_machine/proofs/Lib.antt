@@ -8,5 +8,7 @@ pub mod Ranges
 pub mod Good
 -- Files of white space and comments alone.
 pub mod Blank
+-- What is kept of a name.
+pub mod Named
 -- The first of a list, and the others after it.
 pub mod PartLists

@@ -1,8 +1,8 @@
 -- The first of a list, and the others after it.
-use Rattle.std.proofs.Common.{◌≡◌, ◌≤◌, ◌<◌, ◌-◌, ◌==◌, ℕ, List, [], ◌∷◌, length, take, drop, true, false, Some, slice_index_or, get_or, map, arith, refl, ◌∙◌}
-use Rattle.std.proofs.Common.{ap}
+use Rattle.std.proofs.Common.{◌≡◌, ◌≤◌, ◌<◌, ◌-◌, ◌==◌, ℕ, List, [], ◌∷◌, length, take, drop, false, Some, slice_index_or, get_or, map, arith, ◌∙◌}
+use Rattle.std.proofs.Common.{ap, ◌++◌, ◌+◌, sym}
 use Rattle.std.proofs.Math.Seq.{take-length}
-use Rattle.std.proofs.lemmas.List.{length-take, length-take-le, take_all}
+use Rattle.std.proofs.lemmas.List.{length-take, map_more, take_all}
 use Rattle.std.proofs.lemmas.Bool.Decides.{nat_tests}
 use Rattle.ngc_machine.specs.Parts.{one_to_four}
 use Rattle.ngc_machine.specs.declared.parts.Part.{Part}
@@ -40,3 +40,9 @@ mapped-rest f (y ∷ ys) d n h all =
 
 pub one_to_four-yes : (parts : List Part) → 1 ≤ length parts → length parts ≤ 4 → one_to_four parts ≡ Some parts
 one_to_four-yes parts least greatest = grind (arith, nat_tests)
+
+-- what was made of the first elements, and one more
+pub mapped_more : {X Y : Type 0} (f : X → Y) (xs : List X) (ys more : List Y) (i : ℕ) (x : X) → i < length xs → x ≡ get_or xs i x → ys ≡ map f (take i xs)
+    → more ≡ ys ++ f x ∷ [] → more ≡ map f (take (i + 1) xs)
+mapped_more f xs ys more i x inside at made pushed =
+    pushed ∙ ap (λ l. l ++ f x ∷ []) made ∙ ap (λ e. map f (take i xs) ++ f e ∷ []) at ∙ sym (map_more f xs i x inside)

@@ -1,4 +1,5 @@
 pub mod Numbers
+pub mod Names
 pub mod Parts
 pub mod Faults
 pub mod Ranges

@@ -1,5 +1,5 @@
 -- The parts of a tool. Our own.
-use Rattle.std.specs.Prelude.{ℕ, ◌≤◌, ◌-◌, ◌++◌, nat_le, pos, ◌≡◌, List, length, take, drop}
+use Rattle.std.specs.Prelude.{◌≤◌, ◌-◌, ◌++◌, nat_le, pos, ◌≡◌, List, length, take, drop}
 use Rattle.std.specs.Prelude.{replicate, Option, Some, None, ◌&&◌, if◌then◌else◌}
 use Rattle.std.proofs.Math.Path.{◌∙◌, ap, sym, subst}
 use Rattle.std.proofs.lemmas.List.{length-take-le, take-append-drop}

@@ -1,7 +1,7 @@
 -- What a tool table says. Our own.
 use Rattle.std.specs.Prelude.{ℕ, ◌≤◌, nat_le, ℤ, pos, negsuc, ◌-ℤ◌, unsigned_abs, List, [], ◌∷◌}
 use Rattle.std.specs.Prelude.{length, map, Option, Some, None, Result, Ok, Err, Bool, ◌&&◌, ◌||◌}
-use Rattle.std.specs.Prelude.{codes, if◌then◌else◌}
+use Rattle.std.specs.Prelude.{codes, if◌then◌else◌, is_some}
 use Rattle.std.specs.List.{All, list_all}
 use Rattle.std.specs.Ordering.{int_eq}
 use Rattle.toml.specs.Data.{Data, get}
@@ -13,10 +13,11 @@ use Rattle.ngc_machine.specs.declared.tool_contents.ToolEntry.{ToolEntry}
 use Rattle.ngc_machine.specs.declared.tool_contents.ToolContents.{ToolContents}
 use Rattle.ngc_machine.specs.declared.fault.FileFault.{FileFault}
 use Rattle.ngc_machine.specs.declared.fault.FileFault.TheVariants.{Version, Tools, Document}
+use Rattle.ngc_machine.specs.Names.{name_from}
 use Rattle.ngc_machine.specs.Numbers.{from_to, all_different, AreDifferent}
 use Rattle.ngc_machine.specs.Ranges.{IsFrom}
 use Rattle.ngc_machine.specs.Refusals.{◌>>◌, refuse_unless}
-use Rattle.ngc_machine.specs.Tree.{◌>>=◌, tree_of, known, whole_at, list_of, list_at}
+use Rattle.ngc_machine.specs.Tree.{◌>>=◌, tree_of, known, whole_at, list_of, list_at, name_at}
 
 -- ---- the values that the keys name
 
@@ -25,6 +26,7 @@ pub record ToolNumbers : Type 0 where
   pub offset : ℤ
   pub bottom : ℤ
   pub parts : List PartEntry
+  pub name : Option (List ℕ)
 
 pub record TableValues : Type 0 where
   pub version : ℤ
@@ -32,7 +34,13 @@ pub record TableValues : Type 0 where
 
 abbrev pub numbers_of : ToolEntry → ToolNumbers
 numbers_of t =
-    record { number = t.number; offset = t.offset; bottom = t.bottom; parts = t.parts.items }
+    record {
+      number = t.number;
+      offset = t.offset;
+      bottom = t.bottom;
+      parts = t.parts.items;
+      name = t.name;
+    }
 
 abbrev pub values_of : ToolContents → TableValues
 values_of c = record { version = c.version; tools = map numbers_of c.tools.items }
@@ -50,6 +58,7 @@ tool_of_length value = do
     offset = offset;
     bottom = pos 0 -ℤ l;
     parts = record { length = l; radius = radius } ∷ [];
+    name = Some [];
   })
 
 abbrev pub part_entry : Data → Option PartEntry
@@ -59,15 +68,17 @@ part_entry value = do
   radius ← whole_at (codes "radius") tree
   Some (record { length = l; radius = radius })
 
--- version 2: parts from the bottom up
+-- version 2: parts from the bottom up, and it may have a name
 abbrev pub tool_of_parts : Data → Option ToolNumbers
 tool_of_parts value = do
-  tree ← known (codes "number" ∷ codes "offset" ∷ codes "bottom" ∷ codes "parts" ∷ []) value
+  tree ← known (codes "number" ∷ codes "offset" ∷ codes "bottom" ∷ codes "parts" ∷ codes "name" ∷ [])
+      value
   number ← whole_at (codes "number") tree
   offset ← whole_at (codes "offset") tree
   bottom ← whole_at (codes "bottom") tree
   parts ← get (codes "parts") tree >>= list_of part_entry
-  Some (record { number = number; offset = offset; bottom = bottom; parts = parts })
+  name ← name_at tree
+  Some (record { number = number; offset = offset; bottom = bottom; parts = parts; name = name })
 
 -- a version that isn't known has the keys of version 1
 abbrev pub tool_numbers : ℤ → Data → Option ToolNumbers
@@ -89,10 +100,13 @@ good_part p = from_to (pos 0) (pos 1000000000) p.length && from_to (pos 0) (pos 
 abbrev pub good_parts : List PartEntry → Bool
 good_parts parts = nat_le 1 (length parts) && nat_le (length parts) 4 && list_all good_part parts
 
-abbrev pub good_tool : ToolNumbers → Bool
-good_tool t =
+abbrev pub good_numbers : ToolNumbers → Bool
+good_numbers t =
     from_to (pos 1) (pos 9999) t.number && is_within 1000000000 t.offset &&
-    from_to (negsuc 999999999) (pos 0) t.bottom && good_parts t.parts
+    from_to (negsuc 999999999) (pos 0) t.bottom
+
+abbrev pub good_tool : ToolNumbers → Bool
+good_tool t = good_numbers t && good_parts t.parts && is_some t.name
 
 abbrev pub tool_number : ToolNumbers → ℕ
 tool_number t = unsigned_abs t.number
@@ -118,6 +132,7 @@ tool_of t = record {
   offset = t.offset;
   bottom = t.bottom;
   parts = map part_of t.parts;
+  name = name_from t.name;
 }
 
 -- the same as facts

@@ -25,12 +25,12 @@ pub enum FileFault {
     /// 266: over 10^9 nm in size.
     #[error("a home position or an origin is out of range")]
     Places,
-    /// 267: over 4*10^9 nm in size, a low corner that is not below the high one, or over 256
-    /// fixtures.
+    /// 267: over 4*10^9 nm in size, a low corner that is not below the high one, a name that isn't 1
+    /// to 40 printable ASCII characters, or over 256 fixtures.
     #[error("a fixture is out of range, or there are too many")]
     Fixtures,
-    /// 268: a number out of range or given twice, a tool without parts or with over four, or over
-    /// 1,000 tools.
+    /// 268: a number out of range or given twice, a tool without parts or with over four, a name as
+    /// for 267, or over 1,000 tools.
     #[error("a tool is out of range or given twice, or there are too many")]
     Tools,
     /// 269: not a TOML document, or a key that is unknown, missing or of the wrong kind or length.

@@ -21,7 +21,7 @@ fn read_contents(alloc: Global, bytes: &[u8]) -> Result<Option<MachineContents>,
 }
 
 impl Machine<Global> {
-    /// Reads a machine file, version 1 or 2: a TOML document of whole numbers.
+    /// Reads a machine file, version 1 or 2: a TOML document of whole numbers and names.
     ///
     /// It is refused with 269 where it is no such document or a key is unknown, missing or of the
     /// wrong kind or length, and else with the first of 261 to 267 that holds; with 900 where

@@ -1,4 +1,4 @@
-ghost use Rattle.std.specs.Prelude.{◌≡◌, IfOk, IfErr, IsSome, codes, map, pos, ◌-ℤ◌, ◌∷◌, []};
+ghost use Rattle.std.specs.Prelude.{◌≡◌, IfOk, IfErr, IsSome, codes, map, pos, ◌-ℤ◌, ◌∷◌, [], Some};
 ghost use Rattle.std.specs.Prelude.{option_map};
 ghost use Rattle.toml.specs.Data.{get};
 ghost use Rattle.toml.specs.View.{view, items_view};
@@ -6,7 +6,8 @@ ghost use Rattle.ngc_machine.specs.Tree.{each, list_at};
 ghost use Rattle.ngc_machine.specs.ToolText.{values_of, numbers_of, part_entry, tool_of_length};
 ghost use Rattle.ngc_machine.specs.ToolText.{tool_of_parts, tool_numbers, table_values};
 
-use crate::tree::{Entry, entries_at, has_only, whole_at};
+use crate::name::Name;
+use crate::tree::{Entry, entries_at, has_only, name_at, whole_at};
 use std::alloc::{AllocError, Global};
 use toml::Value;
 
@@ -25,6 +26,8 @@ pub struct ToolEntry {
     /// Wide enough for a length of version 1 below zero.
     pub bottom: i128,
     pub parts: Vec<PartEntry>,
+    /// Without characters where it has none, and `None` where its text is no name.
+    pub name: Option<Name>,
 }
 
 /// What stands in a tool table, of any size.
@@ -35,9 +38,9 @@ pub struct ToolContents {
 }
 
 impl Entry for PartEntry {
-    ghost reading = { part_entry };
+    ghost reading = { λ version. part_entry };
 
-    fn read(value: &Value) -> Option<PartEntry> {
+    fn read(_version: i64, value: &Value) -> Option<PartEntry> {
         if !has_only(value, &["length", "radius"]) {
             return None;
         }
@@ -69,6 +72,7 @@ impl ToolEntry {
               offset = offset;
               bottom = pos 0 -ℤ part.length;
               parts = part ∷ [];
+              name = Some [];
             }) }
     {
         let parts = Vec::from_slice(alloc, &[part])?;
@@ -77,6 +81,7 @@ impl ToolEntry {
             offset,
             bottom: below_zero(part.length),
             parts,
+            name: Some(Name::none()),
         })
     }
 }
@@ -106,22 +111,28 @@ fn tool_of_length(alloc: Global, value: &Value) -> Result<Option<ToolEntry>, All
 fn tool_of_parts(alloc: Global, value: &Value) -> Result<Option<ToolEntry>, AllocError>
     ensures { IfOk result (λ o. option_map numbers_of o ≡ tool_of_parts (view value.now)) }
 {
-    if !has_only(value, &["number", "offset", "bottom", "parts"]) || value.get("parts").is_none() {
+    if !has_only(value, &["number", "offset", "bottom", "parts", "name"])
+        || value.get("parts").is_none()
+    {
         return Ok(None);
     }
-    let parts = entries_at(alloc, value, "parts")?;
+    let parts = entries_at(alloc, 2, value, "parts")?;
     match (
         whole_at(value, "number"),
         whole_at(value, "offset"),
         whole_at(value, "bottom"),
         parts,
+        name_at(value),
     ) {
-        (Some(number), Some(offset), Some(bottom), Some(parts)) => Ok(Some(ToolEntry {
-            number,
-            offset,
-            bottom: i128::from(bottom),
-            parts,
-        })),
+        (Some(number), Some(offset), Some(bottom), Some(parts), Some(name)) => Ok(Some(
+            ToolEntry {
+                number,
+                offset,
+                bottom: i128::from(bottom),
+                parts,
+                name,
+            },
+        )),
         _ => Ok(None),
     }
 }

@@ -2,12 +2,13 @@ ghost use Rattle.std.specs.Prelude.{◌≡◌, ◌≤◌, map, IfOk};
 ghost use Rattle.std.specs.List.{list_all};
 ghost use Rattle.ngc_machine.specs.Numbers.{has_number, all_different};
 ghost use Rattle.ngc_machine.specs.Tools.{tools_of};
-ghost use Rattle.ngc_machine.specs.ToolText.{values_of, numbers_of, good_part, good_parts};
+ghost use Rattle.ngc_machine.specs.ToolText.{values_of, numbers_of, good_part, good_parts, good_numbers};
 ghost use Rattle.ngc_machine.specs.ToolText.{good_tool, good_tools, tool_number, table_ranges};
 ghost use Rattle.ngc_machine.specs.ToolText.{part_of, tool_of, IsPartEntry, ArePartEntries};
 ghost use Rattle.ngc_machine.specs.ToolText.{IsEntry, AreEntries};
 
 use crate::fault::FileFault;
+use crate::name::name_from;
 use crate::numbers::{is_from_to, length};
 use crate::parts::{Part, Parts};
 use crate::tool_contents::{PartEntry, ToolContents, ToolEntry};
@@ -32,14 +33,19 @@ fn are_parts_good(parts: &[PartEntry]) -> bool
     1 <= parts.len() && parts.len() <= 4 && is_each_part_good(parts)
 }
 
-fn is_tool_good(tool: &ToolEntry) -> bool
-    ensures { result ≡ good_tool (numbers_of tool.now) }
+fn are_numbers_good(tool: &ToolEntry) -> bool
+    ensures { result ≡ good_numbers (numbers_of tool.now) }
 {
     is_from_to(1, 9_999, tool.number)
         && tool.offset.unsigned_abs() <= 1_000_000_000
         && -1_000_000_000 <= tool.bottom
         && tool.bottom <= 0
-        && are_parts_good(tool.parts.as_slice())
+}
+
+fn is_tool_good(tool: &ToolEntry) -> bool
+    ensures { result ≡ good_tool (numbers_of tool.now) }
+{
+    are_numbers_good(tool) && are_parts_good(tool.parts.as_slice()) && tool.name.is_some()
 }
 
 fn is_each_tool_good(tools: &[ToolEntry]) -> bool
@@ -111,6 +117,7 @@ fn tool(entry: &ToolEntry) -> Tool
         offset: length(entry.offset),
         bottom: length(entry.bottom as i64),
         parts: parts(entry.parts.as_slice()),
+        name: name_from(&entry.name),
     }
 }
 

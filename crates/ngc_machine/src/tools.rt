@@ -1,5 +1,6 @@
 ghost use Rattle.ngc_machine.specs.Ranges.{AreTools};
 
+use crate::name::Name;
 use crate::parts::Parts;
 use ngc_fixed_length::Nm;
 use std::alloc::{AllocError, Allocator};
@@ -15,6 +16,7 @@ pub struct Tool {
     pub bottom: Nm,
     /// The body, from the bottom up.
     pub parts: Parts,
+    pub name: Name,
 }
 
 /// A tool table: at most 1,000 tools, their numbers all different.

@@ -1,4 +1,4 @@
-use Rattle.std.proofs.Common.{◌∙◌, ◌++◌, ap, sym, take, drop, length, ◌-◌}
+use Rattle.std.proofs.Common.{◌∙◌, sym}
 use Rattle.ngc_machine.proofs.PartLists.{room, take-bound, first-rest, nonempty, one_to_four-yes}
 use Rattle.ngc_machine.proofs.parts.Parts.of.Goals as goal
 
