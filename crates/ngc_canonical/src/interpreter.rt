@@ -10,7 +10,7 @@ ghost use Rattle.ngc_commands.specs.Movement.{end_of};
 use crate::fault::Fault;
 use crate::state::{Interpreter, Kept, Refusal};
 use ngc_commands::{Action, Command, CoolantState, Motion, Pace, Way};
-use ngc_fixed_length::{Nm, Point3, Value};
+use ngc_fixed_length::{Nm, Point3, Units, Value};
 use ngc_machine::Machine;
 use ngc_modal_state::{Modes, PathControl};
 use ngc_offsets::Frames;
@@ -20,8 +20,9 @@ use std::alloc::{AllocError, Allocator};
 const COMMANDS: usize = 1_000_000;
 
 impl<A: Allocator> Interpreter<A> {
-    /// The state at the start.
-    pub(crate) fn new(alloc: A, machine: &Machine<A>) -> Result<Interpreter<A>, AllocError>
+    /// Makes the state before the first line: the axes are at the machine's start point, G54 is
+    /// selected with the machine file's origins, and there is no offset.
+    pub fn new(alloc: A, machine: &Machine<A>) -> Result<Interpreter<A>, AllocError>
     where
         A: Copy,
         ensures { IfOk result (λ i. state_of i ≡ start_state (file_of machine.now)) }
@@ -51,6 +52,35 @@ impl<A: Allocator> Interpreter<A> {
             ended: false,
             alloc,
         })
+    }
+
+    /// Returns the coordinate systems and offsets in force.
+    pub fn frames(&self) -> &Frames
+        ensures { result.now ≡ (state_of self.now).frames }
+    {
+        &self.frames
+    }
+
+    /// Returns the unit of the program's lengths: inches after G20, millimetres after G21.
+    pub fn length_unit(&self) -> Units
+        ensures { result ≡ (state_of self.now).modes.units }
+    {
+        self.modes.units
+    }
+
+    /// Returns where the axes are, in machine coordinates.
+    pub fn place(&self) -> Point3
+        ensures value { result ≡ (state_of self.now).place }
+        ensures range { IsMachinePlace result }
+    {
+        self.place
+    }
+
+    /// Returns whether M2 or M30 was executed, after which no line is.
+    pub fn is_ended(&self) -> bool
+        ensures { result ≡ (state_of self.now).ended }
+    {
+        self.ended
     }
 
     /// One command more, of the line that is executed.

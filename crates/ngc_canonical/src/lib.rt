@@ -18,4 +18,5 @@ pub use deleted::has_deleted_lines;
 pub use fault::{Fault, ProgramFault};
 pub use ngc_commands::{Action, Command, CoolantState, Feed, Motion, Pace, SpindleState, Way};
 pub use ngc_machine::{FileFault, Fixture, Machine, Tool, Tools, built_in_machine};
-pub use program::interpret;
+pub use program::{Work, interpret};
+pub use state::Interpreter;

@@ -33,9 +33,20 @@ use std::alloc::Allocator;
 /// room that is made once.
 #[derive(Drop)]
 pub struct Work {
-    pub line: Line,
-    pub values: LineValues,
-    pub effects: ArrayVec<Effect, 24>,
+    pub(crate) line: Line,
+    pub(crate) values: LineValues,
+    pub(crate) effects: ArrayVec<Effect, 24>,
+}
+
+impl Work {
+    /// Makes the room, which has no line yet.
+    pub fn new() -> Work {
+        Work {
+            line: Line::empty(),
+            values: LineValues::empty(),
+            effects: ArrayVec::new(),
+        }
+    }
 }
 
 impl<A: Allocator + Copy> Interpreter<A> {
@@ -141,9 +152,10 @@ impl<A: Allocator + Copy> Interpreter<A> {
         self.line = line;
     }
 
-    /// Executes a line of the program, unless block delete takes it out. `work` is where what it
-    /// says, its values and its effects are found.
-    pub(crate) fn take_line(
+    /// Executes a line of the program, by its index from 0, unless block delete takes it out. A
+    /// fault is the program's first one, or 900. `work` is where what the line says, its values and
+    /// its effects are found.
+    pub fn take_line(
         &mut self,
         machine: &Machine<A>,
         tools: &Tools<A>,
@@ -238,11 +250,7 @@ pub fn interpret<A: Allocator + Copy>(
     let Ok(mut interpreter) = Interpreter::new(alloc, machine) else {
         return Err(ProgramFault::Memory);
     };
-    let mut work = Work {
-        line: Line::empty(),
-        values: LineValues::empty(),
-        effects: ArrayVec::new(),
-    };
+    let mut work = Work::new();
     for index in 0..program.len() {
         match interpreter.take_line(machine, tools, program, index, &mut work, block_delete) {
             Ok(()) => {}

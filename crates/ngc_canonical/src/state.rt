@@ -28,27 +28,27 @@ pub struct Kept {
     pub peck: Nm,
 }
 
-/// What holds between two effects of a program, and the commands so far.
+/// Executes a program line by line: what holds between two lines, and the commands so far.
 #[derive(Drop)]
 pub struct Interpreter<A: Allocator> {
-    pub line: u32,
-    pub modes: Modes,
-    pub frames: Frames,
-    pub store: Store<A>,
-    pub place: Point3,
+    pub(crate) line: u32,
+    pub(crate) modes: Modes,
+    pub(crate) frames: Frames,
+    pub(crate) store: Store<A>,
+    pub(crate) place: Point3,
     /// In nanometres a minute.
-    pub feed: u64,
+    pub(crate) feed: u64,
     /// In millionths of a turn a minute.
-    pub speed: u64,
-    pub spindle: Option<Turn>,
-    pub coolant: CoolantState,
-    pub selected: u32,
-    pub kept: Kept,
+    pub(crate) speed: u64,
+    pub(crate) spindle: Option<Turn>,
+    pub(crate) coolant: CoolantState,
+    pub(crate) selected: u32,
+    pub(crate) kept: Kept,
     /// The machine's height before the series of canned cycles, if one is under way.
-    pub series: Option<Nm>,
-    pub commands: Vec<Command, A>,
-    pub ended: bool,
-    pub alloc: A,
+    pub(crate) series: Option<Nm>,
+    pub(crate) commands: Vec<Command, A>,
+    pub(crate) ended: bool,
+    pub(crate) alloc: A,
     ghost place_in_range: { IsMachinePlace place },
     ghost series_in_range: { IfSome series (λ h. unsigned_abs h ≤ MACHINE_LIMIT) } by { Prim.hlevel props },
 }
