@@ -95,8 +95,8 @@ impl Place {
             (record { low = place_of self.now; high = place_of self.now })).low }
     {
         Place {
-            x: lowered(self.x, part.radius),
-            y: lowered(self.y, part.radius),
+            x: lowered(self.x, part.radius.length()),
+            y: lowered(self.y, part.radius.length()),
             z: foot_at(self.z, foot),
         }
     }
@@ -111,9 +111,9 @@ impl Place {
             (record { low = place_of self.now; high = place_of self.now })).high }
     {
         Place {
-            x: raised(self.x, part.radius),
-            y: raised(self.y, part.radius),
-            z: raised(foot_at(self.z, foot), part.length),
+            x: raised(self.x, part.radius.length()),
+            y: raised(self.y, part.radius.length()),
+            z: raised(foot_at(self.z, foot), part.length.length()),
         }
     }
 

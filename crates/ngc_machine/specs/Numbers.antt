@@ -2,6 +2,10 @@
 use Rattle.std.specs.Prelude.{ℕ, ℤ, int_le, ◌==◌, List, [], ◌∷◌, Bool, true, false, not, ◌&&◌, ◌||◌}
 use Rattle.std.specs.Prelude.{IsTrue}
 
+-- the greatest length and radius of a part of a tool, in nanometres
+abbrev pub PART_LIMIT : ℕ
+PART_LIMIT = 1000000000
+
 abbrev pub from_to : ℤ → ℤ → ℤ → Bool
 from_to low high z = int_le low z && int_le z high
 

@@ -1,16 +1,14 @@
 ghost use Rattle.std.specs.Prelude.{◌≡◌, ◌≤◌, ◌<◌, ◌∷◌, [], ◌++◌, length};
 
-use ngc_fixed_length::Nm;
+use crate::part_length::PartLength;
 use std::marker::Model;
 
 /// A part of a tool: a box of this length, and of twice the radius on X and Y. Lengths are
 /// nanometres.
 #[derive(Clone, Copy)]
 pub struct Part {
-    /// 0 to 10^9.
-    pub length: Nm,
-    /// 0 to 10^9.
-    pub radius: Nm,
+    pub length: PartLength,
+    pub radius: PartLength,
 }
 
 /// One to four parts, the lowest first: each stands on the one before.
@@ -46,8 +44,8 @@ impl Part {
         ensures { result ≡ unused }
     {
         Part {
-            length: Nm::zero(),
-            radius: Nm::zero(),
+            length: PartLength::new(0),
+            radius: PartLength::new(0),
         }
     }
 }

@@ -1,4 +1,4 @@
-ghost use Rattle.std.specs.Prelude.{◌≡◌, ◌≤◌, map, IfOk};
+ghost use Rattle.std.specs.Prelude.{◌≡◌, ◌≤◌, map, pos, IfOk};
 ghost use Rattle.std.specs.List.{list_all};
 ghost use Rattle.ngc_machine.specs.Numbers.{has_number, all_different};
 ghost use Rattle.ngc_machine.specs.Tools.{tools_of};
@@ -6,10 +6,12 @@ ghost use Rattle.ngc_machine.specs.ToolText.{values_of, numbers_of, good_part, g
 ghost use Rattle.ngc_machine.specs.ToolText.{good_tool, good_tools, tool_number, table_ranges};
 ghost use Rattle.ngc_machine.specs.ToolText.{part_of, tool_of, IsPartEntry, ArePartEntries};
 ghost use Rattle.ngc_machine.specs.ToolText.{IsEntry, AreEntries};
+ghost use Rattle.ngc_machine.specs.Ranges.{IsFrom};
 
 use crate::fault::FileFault;
 use crate::name::name_from;
 use crate::numbers::{is_from_to, length};
+use crate::part_length::PartLength;
 use crate::parts::{Part, Parts};
 use crate::tool_contents::{PartEntry, ToolContents, ToolEntry};
 use crate::tools::{Tool, Tools};
@@ -87,13 +89,20 @@ fn are_tools_good(tools: &[ToolEntry]) -> bool
     tools.len() <= 1_000 && is_each_tool_good(tools) && are_different(tools)
 }
 
+fn part_length(nanometres: i64) -> PartLength
+    requires { IsFrom (pos 0) (pos 1000000000) nanometres }
+    ensures { result ≡ nanometres }
+{
+    PartLength::new(nanometres as u32)
+}
+
 fn part(entry: &PartEntry) -> Part
     requires { IsPartEntry entry.now }
     ensures { result ≡ part_of entry.now }
 {
     Part {
-        length: length(entry.length),
-        radius: length(entry.radius),
+        length: part_length(entry.length),
+        radius: part_length(entry.radius),
     }
 }
 
