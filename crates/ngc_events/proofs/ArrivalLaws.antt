@@ -119,7 +119,7 @@ pub long_begun : (text piece : List ℕ) (lines : List EventLine) (old : Arrivin
 long_begun text piece lines old at h feedless long is =
     subst (IsWrongAfter (text ++ piece) lines) (sym is) (wrong_line text piece lines old h (record {
       line = old.begun ++ piece;
-      behind = [];
+      after = [];
       splits = sym (append-nil (old.begun ++ piece));
       feedless = both_feedless old.begun piece h.feedless feedless;
       wrong = inl long;
@@ -129,7 +129,7 @@ no_event : (begun piece part rest : List ℕ) → is_feedless begun ≡ true →
     (LONGEST_LINE < length (begun ++ part)) ⊎ (event_said (begun ++ part) ≡ None) → IsNoEvent (begun ++ piece)
 no_event begun piece part rest feedless split wrong = record {
   line = begun ++ part;
-  behind = 10 ∷ rest;
+  after = 10 ∷ rest;
   splits = ap (λ l. begun ++ l) split.parts ∙ sym (append_assoc begun part (10 ∷ rest));
   feedless = both_feedless begun part feedless split.feedless;
   wrong = elim wrong [ inl long ↦ inl long | inr none ↦ inr (none, rest, refl) ];
@@ -143,17 +143,17 @@ wrong_ended text piece part rest lines old at h split wrong is =
 -- ---- the lines that a text begins with
 
 pub arrived_begins : (text : List ℕ) (lines : List EventLine) (now : Arriving) → HaveArrived text lines now → Begins text lines
-arrived_begins text lines now h = record { behind = now.begun; spelled = h.spelled; given = h.given }
+arrived_begins text lines now h = record { after = now.begun; spelled = h.spelled; given = h.given }
 
 pub longer_begins : (text more : List ℕ) (lines : List EventLine) → Begins text lines → Begins (text ++ more) lines
 longer_begins text more lines h = record {
-  behind = h.behind ++ more;
-  spelled = ap (λ l. l ++ more) h.spelled ∙ append_assoc (events_text lines) h.behind more;
+  after = h.after ++ more;
+  spelled = ap (λ l. l ++ more) h.spelled ∙ append_assoc (events_text lines) h.after more;
   given = h.given;
 }
 
 pub stopped_begins : (text : List ℕ) (lines : List EventLine) (fault : EventsFault) → StopsAfter text lines fault → Begins text lines
-stopped_begins text lines (BadLine number) h = record { behind = h.wrong; spelled = h.spelled; given = h.given }
+stopped_begins text lines (BadLine number) h = record { after = h.wrong; spelled = h.spelled; given = h.given }
 stopped_begins text lines TooManyLines h = h.0
 stopped_begins text lines Memory h = absurd h
 

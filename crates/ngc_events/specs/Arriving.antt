@@ -17,10 +17,10 @@ LONGEST_LINE = 12
 abbrev pub is_feedless : List ℕ → Bool
 is_feedless text = list_all (λ b. not (b == 10)) text
 
--- bytes that a line feed parts
-pub record IsSplit (bytes line behind : List ℕ) : Type 0 where
+-- bytes that a line feed splits
+pub record IsSplit (bytes line after : List ℕ) : Type 0 where
   pub feedless : IsTrue (is_feedless line)
-  pub parts : bytes ≡ line ++ 10 ∷ behind
+  pub parts : bytes ≡ line ++ 10 ∷ after
 
 -- how many lines are complete, and what has arrived of the next one
 pub record Arriving : Type 0 where
@@ -37,18 +37,18 @@ pub record HaveArrived (text : List ℕ) (lines : List EventLine) (now : Arrivin
 
 -- a text begins with the lines of these events
 pub record Begins (text : List ℕ) (lines : List EventLine) : Type 0 where
-  pub behind : List ℕ
-  pub spelled : text ≡ events_text lines ++ behind
+  pub after : List ℕ
+  pub spelled : text ≡ events_text lines ++ after
   pub given : IsTrue (list_all (λ (line : EventLine). is_given line.event line.times) lines)
 
 -- the first line of a text says no event, whatever follows the text
 pub record IsNoEvent (text : List ℕ) : Type 0 where
   pub line : List ℕ
-  pub behind : List ℕ
-  pub splits : text ≡ line ++ behind
+  pub after : List ℕ
+  pub splits : text ≡ line ++ after
   pub feedless : IsTrue (is_feedless line)
   pub wrong : (LONGEST_LINE < length line) ⊎
-      ((event_said line ≡ None) × (rest : List ℕ) × (behind ≡ 10 ∷ rest))
+      ((event_said line ≡ None) × (rest : List ℕ) × (after ≡ 10 ∷ rest))
 
 -- a text is the lines of these events, and then a line that says no event: the line of this number
 pub record IsWrongAfter (text : List ℕ) (lines : List EventLine) (at : ℕ) : Type 0 where
@@ -62,21 +62,21 @@ pub record IsWrongAfter (text : List ℕ) (lines : List EventLine) (at : ℕ) : 
 abbrev pub MOST_LINES : ℕ
 MOST_LINES = 2 ^ 64 - 1
 
--- why no more events are read behind these
+-- why no more events are read after these
 abbrev pub StopsAfter : List ℕ → List EventLine → EventsFault → Type 0
 StopsAfter text lines (BadLine number) = IsWrongAfter text lines number
 StopsAfter text lines TooManyLines = Begins text lines × (length lines ≡ MOST_LINES)
 StopsAfter text lines Memory = ⊥
 
--- the most bytes that have come by what is known, if each line is as long as one may be
+-- the most bytes that may have arrived: each complete line as long as a line may be
 abbrev pub filled : Arriving → ℕ
 filled now = (LONGEST_LINE + 1) * now.complete + length now.begun
 
--- and that may come
+-- and that may arrive at all
 abbrev pub MOST_TEXT : ℕ
 MOST_TEXT = (LONGEST_LINE + 1) * MOST_LINES + LONGEST_LINE
 
--- the first line that a piece completes, and the bytes behind it
+-- the first line that a piece completes, and the bytes after it
 pub record TakesOne (text piece : List ℕ) (lines : List EventLine) (line : EventLine)
     (rest : List ℕ) (new : Arriving) : Type 0 where
   pub front : List ℕ
@@ -99,7 +99,7 @@ pub record IsUnended (text : List ℕ) (lines : List EventLine) (at : ℕ) : Typ
   pub some : 0 < length begun
   pub number : at ≡ length lines + 1
 
--- what a text comes to of which no more arrives
+-- the answer once no more of a text arrives
 abbrev pub Ends : List ℕ → List EventLine → Result (Unit {0}) EventsFault → Type 0
 Ends text lines (Ok done) = text ≡ events_text lines
 Ends text lines (Err (BadLine number)) = IsUnended text lines number

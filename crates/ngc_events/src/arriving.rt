@@ -126,8 +126,8 @@ impl EventLines {
         }
     }
 
-    /// Whether the text is complete, where no more of it arrives: a last line without its line feed
-    /// is 711.
+    /// Returns whether the text is complete, where no more of it arrives: a last line without its line
+    /// feed is 711.
     pub fn finish(&self) -> Result<(), EventsFault>
         ensures { (text : List ℕ) (lines : List Line) → HaveArrived text lines self.now →
             Ends text lines result }
