@@ -68,7 +68,8 @@ quote_from header key ahead number (line ∷ lines) =
 
 abbrev pub header_text : Section → List ℕ
 header_text sections.Machine = codes "[[fixture]]"
-header_text (sections.Fixture n) = codes "[[fixture]]"
+header_text (sections.FirstFixture n) = codes "[[fixture]]"
+header_text (sections.SecondFixture n) = codes "[[fixture]]"
 header_text sections.Tools = codes "[[tool]]"
 header_text (sections.FirstTool n) = codes "[[tool]]"
 header_text (sections.SecondTool n) = codes "[[tool]]"
@@ -76,7 +77,8 @@ header_text (sections.SecondTool n) = codes "[[tool]]"
 -- how many headers come before it
 abbrev pub headers : Section → ℕ
 headers sections.Machine = 0
-headers (sections.Fixture n) = n + 1
+headers (sections.FirstFixture n) = n + 1
+headers (sections.SecondFixture n) = n + 1
 headers sections.Tools = 0
 headers (sections.FirstTool n) = n + 1
 headers (sections.SecondTool n) = n + 1

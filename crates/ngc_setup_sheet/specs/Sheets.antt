@@ -125,7 +125,7 @@ machine_lines m r =
 
 abbrev pub fixture_facts : ℕ → Fixture → List Line
 fixture_facts i f =
-    lines.Fixture i ∷ from (facts.Extent axes.X) f.low.x f.high.x
+    lines.Fixture i f.name ∷ from (facts.Extent axes.X) f.low.x f.high.x
     ∷ from (facts.Extent axes.Y) f.low.y f.high.y ∷
     from (facts.Extent axes.Z) f.low.z f.high.z ∷ []
 
@@ -153,7 +153,8 @@ part_lines foot [] = []
 part_lines foot (part ∷ parts) = part_line foot part ∷ part_lines (foot +ℤ part.length) parts
 
 abbrev pub tool_facts : Tool → List Line
-tool_facts t = lines.Tool t.number ∷ lines.Fact facts.Offset (figures.Length t.offset) ∷ []
+tool_facts t =
+    lines.Tool t.number t.name ∷ lines.Fact facts.Offset (figures.Length t.offset) ∷ []
 
 abbrev pub tool_lines : Tool → List Line
 tool_lines t =

@@ -1,6 +1,6 @@
 -- How the lines of a setup sheet are spelled. Our own.
-use Rattle.std.specs.Prelude.{ℕ, ◌*◌, ◌/◌, ◌%◌, ◌-ℤ◌, unsigned_abs, List, ◌++◌, flat_map, codes}
-use Rattle.std.specs.Prelude.{decimal}
+use Rattle.std.specs.Prelude.{ℕ, ◌*◌, ◌/◌, ◌%◌, ◌-ℤ◌, unsigned_abs, List, [], ◌++◌, flat_map, codes}
+use Rattle.std.specs.Prelude.{decimal, length, ◌==◌, if◌then◌else◌}
 use Rattle.ngc_fixed_length.specs.declared.modes.System.{System}
 use Rattle.ngc_fixed_length.specs.declared.modes.System.TheVariants as systems
 use Rattle.ngc_fixed_length.specs.declared.points.Point3.{Point3}
@@ -118,10 +118,15 @@ warning_object w = codes ",\n{\"fact\":\"warning\",\"text\":\"" ++ warning_text 
 abbrev pub warning_remark : Warning → List ℕ
 warning_remark w = codes "# Warning: " ++ warning_text w ++ codes "\n"
 
+-- a name after a number, where there is one
+abbrev pub bracketed : List ℕ → List ℕ
+bracketed name = if length name == 0 then [] else codes " (" ++ name ++ codes ")"
+
 abbrev pub line_text : Line → List ℕ
 line_text lines.Machine = codes "machine\n"
-line_text (lines.Fixture n) = codes "fixture " ++ decimal n ++ codes "\n"
-line_text (lines.Tool n) = codes "tool " ++ decimal n ++ codes "\n"
+line_text (lines.Fixture n name) =
+    codes "fixture " ++ decimal n ++ bracketed name ++ codes "\n"
+line_text (lines.Tool n name) = codes "tool " ++ decimal n ++ bracketed name ++ codes "\n"
 line_text (lines.Fact f figure) = fact_text f ++ figure_text figure ++ codes "\n"
 line_text (lines.Warning w) = codes "warning: " ++ warning_text w ++ codes "\n"
 line_text (lines.WarningFact w) = warning_object w

@@ -1,4 +1,5 @@
 use ngc_fixed_length::{Point3, System};
+use ngc_machine::Name;
 
 #[derive(Clone, Copy)]
 pub enum Axis {
@@ -96,10 +97,10 @@ pub enum Warning {
 pub enum Line {
     /// What follows is of the machine.
     Machine,
-    /// What follows is of the fixture with this number.
-    Fixture(usize),
-    /// What follows is of the tool with this number.
-    Tool(u32),
+    /// What follows is of the fixture with this number and name.
+    Fixture(usize, Name),
+    /// What follows is of the tool with this number and name.
+    Tool(u32, Name),
     Fact(Fact, Figure),
     Warning(Warning),
     /// The warning as an object of a JSON document.

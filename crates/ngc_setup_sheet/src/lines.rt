@@ -270,9 +270,9 @@ pub(crate) fn machine_lines<A: Allocator>(machine: &Machine<A>, reach: &Reach) -
 fn fixture_facts(number: usize, fixture: &Fixture) -> [Line; 4]
     ensures { result ≡ fixture_facts number fixture.now }
 {
-    let Fixture { low, high } = *fixture;
+    let Fixture { low, high, name } = *fixture;
     [
-        Line::Fixture(number),
+        Line::Fixture(number, name),
         from(Fact::Extent(Axis::X), low.x, high.x),
         from(Fact::Extent(Axis::Y), low.y, high.y),
         from(Fact::Extent(Axis::Z), low.z, high.z),
@@ -326,7 +326,7 @@ fn tool_facts(tool: &Tool) -> [Line; 2]
     ensures { result ≡ tool_facts tool.now }
 {
     [
-        Line::Tool(tool.number),
+        Line::Tool(tool.number, tool.name),
         Line::Fact(Fact::Offset, Figure::Length(tool.offset.nanometres())),
     ]
 }

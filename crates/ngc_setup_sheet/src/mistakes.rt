@@ -5,7 +5,7 @@ ghost use Rattle.ngc_setup_sheet.specs.Asks.{unknown_in};
 ghost use Rattle.ngc_setup_sheet.specs.Mistakes.{keys_of, complaint, table_mistake, items_at};
 ghost use Rattle.ngc_setup_sheet.specs.Mistakes.{numbered, first_in, is_again, stands_again};
 ghost use Rattle.ngc_setup_sheet.specs.Mistakes.{first_again, machine_mistake_in, first_tool};
-ghost use Rattle.ngc_setup_sheet.specs.Mistakes.{tool_mistake, tools_mistake_in};
+ghost use Rattle.ngc_setup_sheet.specs.Mistakes.{tool_mistake, tools_mistake_in, first_fixture};
 
 use crate::mistake::{Mistake, Rule, Section, Word};
 use crate::rows::{key, unmet};
@@ -28,10 +28,14 @@ fn unknown(section: Section, tree: &Value) -> Option<Word>
 {
     match section {
         Section::Machine => unknown_key(tree, &MACHINE_KEYS),
-        Section::Fixture(_) => unknown_key(tree, &["low", "high"]),
+        Section::FirstFixture(_) => unknown_key(tree, &["low", "high"]),
+        Section::SecondFixture(_) => unknown_key(tree, &["low", "high", "name"]),
         Section::Tools => unknown_key(tree, &["version", "tool"]),
         Section::FirstTool(_) => unknown_key(tree, &["number", "length", "radius", "offset"]),
-        Section::SecondTool(_) => unknown_key(tree, &["number", "offset", "bottom", "parts"]),
+        Section::SecondTool(_) => unknown_key(
+            tree,
+            &["number", "offset", "bottom", "parts", "name"],
+        ),
     }
 }
 
@@ -62,7 +66,8 @@ fn numbered(section: Section, number: usize) -> Section
     ensures { result ≡ numbered section number }
 {
     match section {
-        Section::Fixture(_) => Section::Fixture(number),
+        Section::FirstFixture(_) => Section::FirstFixture(number),
+        Section::SecondFixture(_) => Section::SecondFixture(number),
         Section::FirstTool(_) => Section::FirstTool(number),
         Section::SecondTool(_) => Section::SecondTool(number),
         Section::Machine | Section::Tools => section,
@@ -80,13 +85,23 @@ fn first_in(fault: FileFault, section: Section, values: &[Value]) -> Option<Mist
     None
 }
 
+fn first_fixture(tree: &Value) -> Section
+    ensures { result ≡ first_fixture (view tree.now) }
+{
+    if is_second(tree) {
+        Section::SecondFixture(0)
+    } else {
+        Section::FirstFixture(0)
+    }
+}
+
 /// The first mistake of a machine file that is a document.
 pub(crate) fn machine_mistake_in(fault: FileFault, tree: &Value) -> Mistake
     ensures { result ≡ machine_mistake_in fault (view tree.now) }
 {
     match table_mistake(fault, Section::Machine, tree) {
         Some(mistake) => mistake,
-        None => match first_in(fault, Section::Fixture(0), values_at(tree, "fixture")) {
+        None => match first_in(fault, first_fixture(tree), values_at(tree, "fixture")) {
             Some(mistake) => mistake,
             None => Mistake::Other(fault),
         },

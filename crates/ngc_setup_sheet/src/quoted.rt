@@ -104,7 +104,7 @@ fn header(section: Section) -> &'static [u8]
     ensures { result.now ≡ header_text section }
 {
     match section {
-        Section::Machine | Section::Fixture(_) => b"[[fixture]]",
+        Section::Machine | Section::FirstFixture(_) | Section::SecondFixture(_) => b"[[fixture]]",
         Section::Tools | Section::FirstTool(_) | Section::SecondTool(_) => b"[[tool]]",
     }
 }
@@ -114,8 +114,10 @@ fn headers(section: Section) -> u128
 {
     match section {
         Section::Machine | Section::Tools => 0,
-        Section::Fixture(number) | Section::FirstTool(number) | Section::SecondTool(number) =>
-            number as u128 + 1,
+        Section::FirstFixture(number)
+        | Section::SecondFixture(number)
+        | Section::FirstTool(number)
+        | Section::SecondTool(number) => number as u128 + 1,
     }
 }
 

@@ -155,7 +155,7 @@ pub(crate) fn is_out_of_reach<A: Allocator>(
     requires { IsReach reach.now }
     ensures { result ≡ is_out_of_reach (file_of machine.now) reach.now fixture.now }
 {
-    let Fixture { low, high } = *fixture;
+    let Fixture { low, high, .. } = *fixture;
     is_beside(machine.low.x, machine.high.x, reach, low.x, high.x)
         || is_beside(machine.low.y, machine.high.y, reach, low.y, high.y)
         || is_above_or_below(machine.low.z, machine.high.z, reach, low.z, high.z)

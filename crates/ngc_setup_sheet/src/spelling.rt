@@ -5,11 +5,12 @@ ghost use Rattle.ngc_text.specs.Millimetres.{mm_text};
 ghost use Rattle.ngc_setup_sheet.specs.Spelling.{thousandths_text, span_text, place_text};
 ghost use Rattle.ngc_setup_sheet.specs.Spelling.{system_text, origin_text, fact_text};
 ghost use Rattle.ngc_setup_sheet.specs.Spelling.{figure_text, warning_text};
-ghost use Rattle.ngc_setup_sheet.specs.Spelling.{warning_object, warning_remark, line_text};
+ghost use Rattle.ngc_setup_sheet.specs.Spelling.{warning_object, warning_remark, bracketed, line_text};
 
 use crate::line::{Axis, Fact, Figure, Line, Span, Warning};
 use itoa::Integer;
 use ngc_fixed_length::{Point3, System};
+use ngc_machine::Name;
 use ngc_text::Chunk;
 
 fn add_thousandths(chunk: &mut Chunk, number: u128)
@@ -269,6 +270,33 @@ fn add_warning_remark(chunk: &mut Chunk, warning: &Warning)
     chunk.add_text(b"\n");
 }
 
+/// Adds a name after a number, where there is one.
+fn add_bracketed(chunk: &mut Chunk, name: &Name)
+    requires { length chunk.old + 60 ≤ CHUNK_SIZE }
+    ensures text { chunk.new ≡ chunk.old ++ bracketed name.now }
+    ensures short { length chunk.new ≤ length chunk.old + 60 }
+{
+    let name = name.as_bytes();
+    if !name.is_empty() {
+        chunk.add_text(b" (");
+        chunk.add_text(name);
+        chunk.add_text(b")");
+    }
+}
+
+/// Adds the line above what is told of a fixture or a tool.
+fn add_heading<I: Integer>(chunk: &mut Chunk, kind: &[u8], number: I, name: &Name)
+    requires room { HasLineRoom chunk.old }
+    requires kind { length kind.now ≤ 20 }
+    ensures { chunk.new ≡ chunk.old
+        ++ (kind.now ++ I.text number ++ bracketed name.now ++ codes "\n") }
+{
+    chunk.add_text(kind);
+    chunk.add_number(number);
+    add_bracketed(chunk, name);
+    chunk.add_text(b"\n");
+}
+
 /// Adds the text of a line.
 pub(crate) fn add_line(chunk: &mut Chunk, line: &Line)
     requires { HasLineRoom chunk.old }
@@ -276,8 +304,8 @@ pub(crate) fn add_line(chunk: &mut Chunk, line: &Line)
 {
     match line {
         Line::Machine => chunk.add_text(b"machine\n"),
-        Line::Fixture(number) => add_numbered(chunk, b"fixture ", *number, b"\n"),
-        Line::Tool(number) => add_numbered(chunk, b"tool ", *number, b"\n"),
+        Line::Fixture(number, name) => add_heading(chunk, b"fixture ", *number, name),
+        Line::Tool(number, name) => add_heading(chunk, b"tool ", *number, name),
         Line::Fact(fact, figure) => add_fact(chunk, fact, figure),
         Line::Warning(warning) => add_warned(chunk, warning),
         Line::WarningFact(warning) => add_warning_object(chunk, warning),

@@ -60,8 +60,8 @@ fn is_warning(line: &Line) -> bool
     match line {
         Line::Warning(_) => true,
         Line::Machine
-        | Line::Fixture(_)
-        | Line::Tool(_)
+        | Line::Fixture(..)
+        | Line::Tool(..)
         | Line::Fact(_, _)
         | Line::WarningFact(_)
         | Line::WarningRemark(_) => false,
@@ -74,8 +74,8 @@ fn as_fact(line: &Line) -> Line
     match line {
         Line::Warning(warning) => Line::WarningFact(*warning),
         Line::Machine
-        | Line::Fixture(_)
-        | Line::Tool(_)
+        | Line::Fixture(..)
+        | Line::Tool(..)
         | Line::Fact(_, _)
         | Line::WarningFact(_)
         | Line::WarningRemark(_) => *line,
@@ -88,8 +88,8 @@ fn as_remark(line: &Line) -> Line
     match line {
         Line::Warning(warning) => Line::WarningRemark(*warning),
         Line::Machine
-        | Line::Fixture(_)
-        | Line::Tool(_)
+        | Line::Fixture(..)
+        | Line::Tool(..)
         | Line::Fact(_, _)
         | Line::WarningFact(_)
         | Line::WarningRemark(_) => *line,
