@@ -1,0 +1,6 @@
+pub mod Frame
+pub mod Changes
+pub mod InForce
+pub mod Laws
+pub mod Words
+pub mod Facts

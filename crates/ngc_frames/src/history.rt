@@ -1,0 +1,107 @@
+//! The frame at the start of a program, and each change of it.
+ghost use Rattle.std.specs.Prelude.{◌≡◌, ◌++◌, List, IfOk, OnOk};
+ghost use Rattle.ngc_canonical.specs.Interpreter.{setup_of, state_of};
+ghost use Rattle.ngc_canonical.specs.Meaning.{with_readings};
+ghost use Rattle.ngc_line_reader.specs.Grammar.{Reading};
+ghost use Rattle.ngc_line_reader.specs.ProgramText.{AreReadings};
+ghost use Rattle.ngc_line_reader.specs.ProgramView.{text_in};
+ghost use Rattle.ngc_frames.specs.Changes.{change_at, frame_changes, frame_of, start_frame};
+
+use crate::change::FrameChange;
+use crate::frame::{Frame, is_same_frame};
+use crate::in_force::{FrameInForce, frame_in_force};
+use ngc_canonical::{Interpreter, ProgramFault, Work};
+use ngc_line_reader::Program;
+use ngc_machine::{Machine, Tools};
+use std::alloc::Allocator;
+use thiserror::Error;
+
+/// There was no memory for the execution of the program or for the changes.
+#[derive(Clone, Copy, Debug, Error)]
+#[error("out of memory")]
+pub struct OutOfMemory;
+
+/// The frame in force at the start of a program, and each change of it, in the order of execution.
+#[derive(Drop)]
+pub struct FrameHistory<A: Allocator> {
+    pub start: Frame,
+    pub changes: Vec<FrameChange, A>,
+}
+
+fn frame_of<A: Allocator>(interpreter: &Interpreter<A>) -> Frame
+    ensures { result ≡ frame_of (state_of interpreter.now) }
+{
+    Frame {
+        frames: *interpreter.frames(),
+        unit: interpreter.length_unit(),
+    }
+}
+
+fn add_change<A: Allocator>(
+    changes: &mut Vec<FrameChange, A>,
+    line: u32,
+    old: &Frame,
+    new: &Frame,
+) -> Result<(), OutOfMemory>
+    ensures { OnOk result (changes.new.items ≡ changes.old.items ++ change_at line old.now new.now) }
+{
+    if is_same_frame(old, new) {
+        return Ok(());
+    }
+    match changes.push(FrameChange { line, frame: *new }) {
+        Ok(()) => Ok(()),
+        Err(_) => Err(OutOfMemory),
+    }
+}
+
+/// Returns the frame in force at the start of a program on a machine with its tools, at a setting of
+/// block delete, and each executed line after which another is in force, up to the end or the first
+/// line that is refused.
+///
+/// It executes the program once.
+pub fn frame_history<A: Allocator + Copy>(
+    alloc: A,
+    program: &Program<A>,
+    machine: &Machine<A>,
+    tools: &Tools<A>,
+    block_delete: bool,
+) -> Result<FrameHistory<A>, OutOfMemory>
+    ensures start { IfOk result (λ h. h.start ≡ start_frame (setup_of machine.now tools.now)) }
+    // Whatever the lines' readings are: each line has one, and only one.
+    ensures changes { IfOk result (λ h. (rs : List Reading) →
+        AreReadings (text_in program.now).lines rs →
+        h.changes.items ≡ frame_changes (setup_of machine.now tools.now)
+        (with_readings (text_in program.now).lines rs) block_delete) }
+{
+    let Ok(mut interpreter) = Interpreter::new(alloc, machine) else {
+        return Err(OutOfMemory);
+    };
+    let start = frame_of(&interpreter);
+    let mut changes = Vec::new(alloc);
+    let mut work = Work::new();
+    for index in 0..program.len() {
+        let before = frame_of(&interpreter);
+        match interpreter.take_line(machine, tools, program, index, &mut work, block_delete) {
+            Ok(()) => {}
+            Err(ProgramFault::At { .. }) => return Ok(FrameHistory { start, changes }),
+            Err(ProgramFault::Memory) => return Err(OutOfMemory),
+        }
+        let after = frame_of(&interpreter);
+        add_change(&mut changes, program.number(index), &before, &after)?;
+        if interpreter.is_ended() {
+            return Ok(FrameHistory { start, changes });
+        }
+    }
+    Ok(FrameHistory { start, changes })
+}
+
+impl<A: Allocator> FrameHistory<A> {
+    ghost use Rattle.ngc_frames.specs.InForce.{frame_in_force};
+
+    /// Returns the frame by which a line's motions are executed, with the lines that set its parts.
+    pub fn in_force(&self, line: u32) -> FrameInForce
+        ensures { result ≡ frame_in_force self.now.start self.now.changes.items line }
+    {
+        frame_in_force(&self.start, self.changes.as_slice(), line)
+    }
+}

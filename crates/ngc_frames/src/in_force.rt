@@ -1,0 +1,76 @@
+//! The frame in force at a line, and the lines that set its parts.
+ghost use Rattle.std.specs.Prelude.{◌≡◌, nat_le};
+ghost use Rattle.ngc_frames.specs.InForce.{frame_at, line_that_set, frame_in_force};
+
+use crate::change::FrameChange;
+use crate::frame::{Frame, FramePart, is_same_part};
+
+/// The frame by which a line's motions are executed, and for each of its parts the line that set it
+/// last: 0 where it is as at the start, by the machine file.
+#[derive(Clone, Copy)]
+pub struct FrameInForce {
+    pub frame: Frame,
+    /// The line of G54 to G59.3.
+    pub selection_line: u32,
+    /// The line of the G10 that set the origin of the selected coordinate system.
+    pub origin_line: u32,
+    /// The line of G92 to G92.3.
+    pub axis_offset_line: u32,
+    /// The line of G43 or G49.
+    pub tool_length_line: u32,
+    /// The line of G20 or G21.
+    pub unit_line: u32,
+}
+
+fn is_up_to(change: &FrameChange, line: u32) -> bool
+    ensures { result ≡ nat_le change.now.line line }
+{
+    change.line <= line
+}
+
+/// Returns the frame by which a line's motions are executed: after the last change on the line or
+/// before it, since a line sets its frame before it moves. NISTIR 6556, 3.8.
+pub fn frame_at(start: &Frame, changes: &[FrameChange], line: u32) -> Frame
+    ensures { result ≡ frame_at start.now changes.now line }
+{
+    let mut frame = *start;
+    for change in changes {
+        if is_up_to(change, line) {
+            frame = change.frame;
+        }
+    }
+    frame
+}
+
+/// Returns the last line, up to this one, that changed a part of the frame; 0 where none did.
+pub fn line_that_set(part: FramePart, start: &Frame, changes: &[FrameChange], line: u32) -> u32
+    ensures { result ≡ line_that_set part line 0 start.now changes.now }
+{
+    let mut set = 0;
+    let mut frame = *start;
+    for change in changes {
+        if is_up_to(change, line) {
+            if !is_same_part(part, &frame, &change.frame) {
+                set = change.line;
+            }
+            frame = change.frame;
+        }
+    }
+    set
+}
+
+/// Returns the frame by which a line's motions are executed, with the lines that set its parts.
+pub fn frame_in_force(start: &Frame, changes: &[FrameChange], line: u32) -> FrameInForce
+    ensures { result ≡ frame_in_force start.now changes.now line }
+{
+    let frame = frame_at(start, changes, line);
+    let origin = FramePart::Origin(frame.frames.active);
+    FrameInForce {
+        frame,
+        selection_line: line_that_set(FramePart::Selection, start, changes, line),
+        origin_line: line_that_set(origin, start, changes, line),
+        axis_offset_line: line_that_set(FramePart::AxisOffset, start, changes, line),
+        tool_length_line: line_that_set(FramePart::ToolLength, start, changes, line),
+        unit_line: line_that_set(FramePart::Unit, start, changes, line),
+    }
+}

@@ -1,0 +1,20 @@
+//! The coordinates that the lines of a part program are written in: which coordinate system and
+//! offsets are in force, and the lines that set them.
+#![tactic(auto)]
+
+mod change;
+mod facts;
+mod frame;
+mod history;
+mod in_force;
+pub mod laws;
+mod place;
+mod words;
+
+pub use change::FrameChange;
+pub use facts::add_motion_fact;
+pub use frame::{Frame, FramePart, is_same_part};
+pub use history::{FrameHistory, OutOfMemory, frame_history};
+pub use in_force::{FrameInForce, frame_at, frame_in_force, line_that_set};
+pub use place::program_point;
+pub use words::add_motion_words;

@@ -1,0 +1,201 @@
+//! A motion in the program's coordinates, in words and millimetres.
+ghost use Rattle.std.specs.Prelude.{◌≡◌, ◌+◌, ◌≤◌, ◌++◌, codes, length};
+ghost use Rattle.ngc_collision.specs.Inside.{place_of};
+ghost use Rattle.ngc_text.specs.Collected.{CHUNK_SIZE};
+ghost use Rattle.ngc_text.specs.Millimetres.{mm_text};
+ghost use Rattle.ngc_frames.specs.Words.{axis_offset_words, ends_words, length_offset_words};
+ghost use Rattle.ngc_frames.specs.Words.{line_if_set, line_text, motion_words, offsets_words};
+ghost use Rattle.ngc_frames.specs.Words.{origin_source, origin_words, place_text, system_text};
+ghost use Rattle.ngc_frames.specs.Words.{system_words, tool_length_words, unit_words};
+
+use crate::in_force::FrameInForce;
+use crate::place::as_place;
+use ngc_collision::Place;
+use ngc_fixed_length::{System, Units};
+use ngc_text::Chunk;
+
+#[tactic(auto, unfolding(crate::specs::Words::system_text))]
+pub(crate) fn system_name(system: System) -> &'static [u8]
+    ensures text { result.now ≡ system_text system }
+    ensures short { length result.now ≤ 5 }
+{
+    match system {
+        System::First => b"G54",
+        System::Second => b"G55",
+        System::Third => b"G56",
+        System::Fourth => b"G57",
+        System::Fifth => b"G58",
+        System::Sixth => b"G59",
+        System::Seventh => b"G59.1",
+        System::Eighth => b"G59.2",
+        System::Ninth => b"G59.3",
+    }
+}
+
+fn add_coordinate(chunk: &mut Chunk, coordinate: i64)
+    requires { length chunk.old + 51 ≤ CHUNK_SIZE }
+    ensures text { chunk.new ≡ chunk.old ++ mm_text coordinate }
+    ensures short { length chunk.new ≤ length chunk.old + 51 }
+{
+    chunk.add_millimetres(i128::from(coordinate));
+}
+
+#[tactic(auto, unfolding(crate::specs::Words::place_text))]
+fn add_place(chunk: &mut Chunk, place: &Place)
+    requires { length chunk.old + 163 ≤ CHUNK_SIZE }
+    ensures text { chunk.new ≡ chunk.old ++ place_text (place_of place.now) }
+    ensures short { length chunk.new ≤ length chunk.old + 163 }
+{
+    chunk.add_text(b"X ");
+    add_coordinate(chunk, place.x);
+    chunk.add_text(b", Y ");
+    add_coordinate(chunk, place.y);
+    chunk.add_text(b", Z ");
+    add_coordinate(chunk, place.z);
+}
+
+#[tactic(auto, unfolding(crate::specs::Words::line_text))]
+fn add_line(chunk: &mut Chunk, line: u32)
+    requires { length chunk.old + 49 ≤ CHUNK_SIZE }
+    ensures text { chunk.new ≡ chunk.old ++ line_text line }
+    ensures short { length chunk.new ≤ length chunk.old + 49 }
+{
+    chunk.add_text(b" of line ");
+    chunk.add_number(line);
+}
+
+#[tactic(auto, unfolding(crate::specs::Words::line_if_set))]
+fn add_line_if_set(chunk: &mut Chunk, line: u32)
+    requires { length chunk.old + 49 ≤ CHUNK_SIZE }
+    ensures text { chunk.new ≡ chunk.old ++ line_if_set line }
+    ensures short { length chunk.new ≤ length chunk.old + 49 }
+{
+    if line == 0 {
+        chunk.add_text(b"");
+    } else {
+        add_line(chunk, line);
+    }
+}
+
+#[tactic(auto, unfolding(crate::specs::Words::origin_source))]
+fn add_origin_source(chunk: &mut Chunk, line: u32)
+    requires { length chunk.old + 49 ≤ CHUNK_SIZE }
+    ensures text { chunk.new ≡ chunk.old ++ origin_source line }
+    ensures short { length chunk.new ≤ length chunk.old + 49 }
+{
+    if line == 0 {
+        chunk.add_text(b" of the machine file");
+    } else {
+        add_line(chunk, line);
+    }
+}
+
+fn add_system(chunk: &mut Chunk, frame: &FrameInForce)
+    requires { length chunk.old + 60 ≤ CHUNK_SIZE }
+    ensures text { chunk.new ≡ chunk.old ++ system_words frame.now }
+    ensures short { length chunk.new ≤ length chunk.old + 60 }
+{
+    chunk.add_text(b"In ");
+    chunk.add_text(system_name(frame.frame.system()));
+    add_line_if_set(chunk, frame.selection_line);
+}
+
+fn add_ends(chunk: &mut Chunk, from: &Place, to: &Place)
+    requires { length chunk.old + 350 ≤ CHUNK_SIZE }
+    ensures text { chunk.new ≡ chunk.old ++ ends_words (place_of from.now) (place_of to.now) }
+    ensures short { length chunk.new ≤ length chunk.old + 350 }
+{
+    chunk.add_text(b" it goes from ");
+    add_place(chunk, from);
+    chunk.add_text(b" to ");
+    add_place(chunk, to);
+}
+
+fn add_origin(chunk: &mut Chunk, frame: &FrameInForce)
+    requires { length chunk.old + 250 ≤ CHUNK_SIZE }
+    ensures text { chunk.new ≡ chunk.old ++ origin_words frame.now }
+    ensures short { length chunk.new ≤ length chunk.old + 250 }
+{
+    let origin = as_place(&frame.frame.selected_origin());
+    chunk.add_text(b".\nThe origin is ");
+    add_place(chunk, &origin);
+    add_origin_source(chunk, frame.origin_line);
+}
+
+fn add_axis_offset(chunk: &mut Chunk, frame: &FrameInForce)
+    requires { length chunk.old + 250 ≤ CHUNK_SIZE }
+    ensures text { chunk.new ≡ chunk.old ++ axis_offset_words frame.now }
+    ensures short { length chunk.new ≤ length chunk.old + 250 }
+{
+    if frame.axis_offset_line == 0 {
+        chunk.add_text(b"");
+    } else {
+        let offset = as_place(&frame.frame.frames.axis_offset);
+        chunk.add_text(b", the axis offset ");
+        add_place(chunk, &offset);
+        add_line(chunk, frame.axis_offset_line);
+    }
+}
+
+fn add_length_offset(chunk: &mut Chunk, frame: &FrameInForce)
+    requires { length chunk.old + 150 ≤ CHUNK_SIZE }
+    ensures text { chunk.new ≡ chunk.old ++ length_offset_words frame.now }
+    ensures short { length chunk.new ≤ length chunk.old + 150 }
+{
+    chunk.add_text(b", the tool length offset ");
+    add_coordinate(chunk, frame.frame.tool_length());
+    add_line(chunk, frame.tool_length_line);
+}
+
+fn add_tool_length(chunk: &mut Chunk, frame: &FrameInForce)
+    requires { length chunk.old + 150 ≤ CHUNK_SIZE }
+    ensures text { chunk.new ≡ chunk.old ++ tool_length_words frame.now }
+    ensures short { length chunk.new ≤ length chunk.old + 150 }
+{
+    if frame.tool_length_line == 0 {
+        chunk.add_text(b", and there is no tool length offset");
+    } else {
+        add_length_offset(chunk, frame);
+    }
+}
+
+fn add_unit(chunk: &mut Chunk, line: u32, unit: Units)
+    requires { length chunk.old + 100 ≤ CHUNK_SIZE }
+    ensures text { chunk.new ≡ chunk.old ++ unit_words line unit }
+    ensures short { length chunk.new ≤ length chunk.old + 100 }
+{
+    match unit {
+        Units::Millimetres => chunk.add_text(b""),
+        Units::Inches => {
+            chunk.add_text(b", and lengths are in inches since line ");
+            chunk.add_number(line);
+        }
+    }
+}
+
+#[tactic(auto, unfolding(crate::specs::Words::offsets_words))]
+fn add_offsets(chunk: &mut Chunk, frame: &FrameInForce)
+    requires { length chunk.old + 750 ≤ CHUNK_SIZE }
+    ensures text { chunk.new ≡ chunk.old ++ offsets_words frame.now }
+    ensures short { length chunk.new ≤ length chunk.old + 750 }
+{
+    add_origin(chunk, frame);
+    add_axis_offset(chunk, frame);
+    add_tool_length(chunk, frame);
+    add_unit(chunk, frame.unit_line, frame.frame.unit);
+}
+
+/// Adds in words from where to where a motion goes by the program's coordinates, and which
+/// coordinates these are, with the lines that set them. Room for 1200 bytes must be there.
+#[tactic(auto, unfolding(crate::specs::Words::motion_words))]
+pub fn add_motion_words(chunk: &mut Chunk, frame: &FrameInForce, from: &Place, to: &Place)
+    requires { length chunk.old + 1200 ≤ CHUNK_SIZE }
+    ensures text { chunk.new ≡ chunk.old
+        ++ motion_words frame.now (place_of from.now) (place_of to.now) }
+    ensures short { length chunk.new ≤ length chunk.old + 1200 }
+{
+    add_system(chunk, frame);
+    add_ends(chunk, from, to);
+    add_offsets(chunk, frame);
+    chunk.add_text(b".\n");
+}
