@@ -1,0 +1,65 @@
+-- A program whose work origin is shifted: the motions whose ends move with the origin, and those
+-- that the machine fixes (G28, G30, G53). Our own.
+use Rattle.std.specs.Prelude.{◌≡◌, ℤ, pos, List, [], ◌∷◌, Bool, true, false}
+use Rattle.ngc_fixed_length.specs.Places.{plus, shifted as moved, in_plane}
+use Rattle.ngc_fixed_length.specs.declared.points.GridBox.{GridBox}
+use Rattle.ngc_fixed_length.specs.declared.points.Point3.{Point3}
+use Rattle.ngc_fixed_length.specs.declared.points.StepPos.{StepPos}
+use Rattle.ngc_arc_geometry.specs.Shape.{ArcShape}
+use Rattle.ngc_collision.specs.Body.{nanometres_of}
+use Rattle.ngc_commands.specs.declared.command.Action.{Action}
+use Rattle.ngc_commands.specs.declared.command.Action.TheVariants.{Move}
+use Rattle.ngc_commands.specs.declared.command.Command.{Command}
+use Rattle.ngc_commands.specs.declared.movement.Way.{Way}
+use Rattle.ngc_commands.specs.declared.movement.Way.TheVariants.{Line, Arc}
+use Rattle.ngc_commands.specs.Movement.{actions_of}
+use Rattle.ngc_place.specs.declared.axis.Axis.{Axis}
+use Rattle.ngc_place.specs.declared.axis.Axis.TheVariants.{X, Y, Z}
+
+-- so many steps along one axis
+abbrev pub along : Axis → ℤ → StepPos
+along X n = record { x = n; y = pos 0; z = pos 0 }
+along Y n = record { x = pos 0; y = n; z = pos 0 }
+along Z n = record { x = pos 0; y = pos 0; z = n }
+
+-- the shifts along one axis from one to another
+abbrev pub shifts_along : Axis → ℤ → ℤ → GridBox
+shifts_along axis from to = record { low = along axis from; high = along axis to }
+
+-- a point, which moves with the origin or doesn't
+abbrev pub shifted : ℤ → StepPos → Bool → Point3 → Point3
+shifted step n true p = plus p (nanometres_of step n)
+shifted step n false p = p
+
+-- an arc, both of whose ends move
+abbrev pub arc_shifted : ℤ → StepPos → Bool → ArcShape → ArcShape
+arc_shifted step n true a = record {
+  plane = a.plane;
+  turn = a.turn;
+  start = plus a.start (nanometres_of step n);
+  end = plus a.end (nanometres_of step n);
+  centre = moved a.centre (in_plane a.plane (nanometres_of step n));
+}
+arc_shifted step n false a = a
+
+-- a way, by whether its start and its end move
+abbrev pub way_shifted : ℤ → StepPos → Bool → Bool → Way → Way
+way_shifted step n start end (Line p q) = Line (shifted step n start p) (shifted step n end q)
+way_shifted step n start end (Arc a) = Arc (arc_shifted step n end a)
+
+-- Actions, each with whether its end moves where it is a motion. A motion's start moves as the end
+-- of the motion before it does.
+abbrev pub actions_shifted : ℤ → StepPos → Bool → List Bool → List Action → List Action
+actions_shifted step n start moving [] = []
+actions_shifted step n start [] (action ∷ actions) = action ∷ actions
+actions_shifted step n start (end ∷ moving) (Move m ∷ actions) =
+    Move (record { way = way_shifted step n start end m.way; pace = m.pace; stop = m.stop })
+    ∷ actions_shifted step n end moving actions
+actions_shifted step n start (end ∷ moving) (action ∷ actions) =
+    action ∷ actions_shifted step n start moving actions
+
+-- Other commands are these with the origin shifted, apart from the lines that give them. At first the
+-- axes stand at the machine's start, which doesn't move.
+abbrev pub AreShifted : ℤ → StepPos → List Bool → List Command → List Command → Type 0
+AreShifted step n moving commands others =
+    actions_of others ≡ actions_shifted step n false moving (actions_of commands)

@@ -1,0 +1,7 @@
+/// An axis of the machine.
+#[derive(Clone, Copy, PartialEq, Eq)]
+pub enum Axis {
+    X,
+    Y,
+    Z,
+}
