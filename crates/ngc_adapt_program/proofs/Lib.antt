@@ -6,6 +6,10 @@ mod Ends
 mod Feeds
 -- What is left at the end, and whole reports.
 mod Wholes
+-- Items that T and H don't begin.
+mod NoTools
+-- What is read of a line.
+mod ReadLaws
 -- Texts in which no rule applies.
 mod KeptLaws
 -- Lines that are plain.

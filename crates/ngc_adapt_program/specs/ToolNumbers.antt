@@ -1,5 +1,5 @@
 -- The tools that a program names, and a table that has them. Our own.
-use Rattle.std.specs.Prelude.{ℕ, ◌+◌, ◌-◌, ◌*◌, ◌==◌, ◌&&◌, nat_le, nat_lt, min, Bool, true, false, List, []}
+use Rattle.std.specs.Prelude.{ℕ, ◌+◌, ◌-◌, ◌*◌, ◌==◌, ◌&&◌, ◌||◌, nat_le, nat_lt, min, Bool, true, false, List, []}
 use Rattle.std.specs.Prelude.{◌∷◌, ◌++◌, length, fold, codes, decimal, Option, Some, None, if◌then◌else◌}
 use Rattle.std.specs.List.{list_any, flat_map}
 use Rattle.std.specs.Char.{is_ascii_digit}
@@ -22,6 +22,11 @@ abbrev pub names_tool : Letter → Bool
 names_tool letters.T = true
 names_tool letters.H = true
 names_tool _ = false
+
+-- T or H is the first byte of an item
+abbrev pub begins_tool : List ℕ → Bool
+begins_tool [] = false
+begins_tool (b ∷ rest) = (b == 84) || ((b == 116) || ((b == 72) || (b == 104)))
 
 -- T or H with a number in digits
 abbrev pub is_tool_word : Item → Bool

@@ -615,6 +615,10 @@ fn add_read<A: Allocator + Copy>(
         let after = add_parts(alloc, number, progress, body, body, lacks_feed, out)?;
         return Ok(after);
     }
+    if is_plain(progress.levels, body) {
+        let after = add_parts(alloc, number, progress, body, body, lacks_feed, out)?;
+        return Ok(after);
+    }
     let mut plain = Vec::new(alloc);
     add_plain_line(alloc, progress.levels, body, &mut plain)?;
     let read = plain.as_slice();

@@ -31,10 +31,25 @@ fn is_tool_word(item: &[u8]) -> bool
     }
 }
 
-// The number of a tool, 1 to 9,999, that an item names.
+// Whether T or H begins an item.
+fn begins_tool(item: &[u8]) -> bool
+    ensures { result ≡ spec.begins_tool item.now }
+{
+    match item {
+        [first, ..] => matches!(*first, b'T' | b't' | b'H' | b'h'),
+        [] => false,
+    }
+}
+
+// The number of a tool, 1 to 9,999, that an item names. Most items name none, which their first byte
+// tells.
+#[tactic(auto, using(crate::proofs::NoTools::no_tool))]
 fn tool_number(item: &[u8]) -> Option<u16>
     ensures { result ≡ spec.tool_number item.now }
 {
+    if !begins_tool(item) {
+        return None;
+    }
     let number = number_in(item);
     if is_tool_word(item) && number >= 1 && number <= 9_999 {
         Some(number)
