@@ -57,7 +57,7 @@ third_broken old a b new x y z first second part = broken_behind old a new x (y 
 -- the texts of a row's beginning, by what they are
 abbrev beginning : List ℕ → List ℕ → List ℕ → List ℕ → List ℕ → List ℕ
 beginning number title rule example answer = joined (codes "Fault " ∷ number ∷ codes " (" ∷ title ∷ codes ")\n\n"
-    ∷ rule ∷ codes "\n\nExample: " ∷ example ∷ codes "\nAnswer: " ∷ answer ∷ codes "\n" ∷ [])
+    ∷ rule ∷ codes "\n\nExample: " ∷ example ∷ codes "\nMessage: " ∷ answer ∷ codes "\n" ∷ [])
 
 pub beginning_same : (number title rule example answer a b c d e : List ℕ) → a ≡ number → b ≡ title → c ≡ rule → d ≡ example → e ≡ answer
     → beginning a b c d e ≡ beginning number title rule example answer

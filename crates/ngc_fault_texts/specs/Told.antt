@@ -1,4 +1,4 @@
--- What is told of a fault.
+-- What is written of a fault.
 use Rattle.std.specs.Prelude.{◌≡◌, ◌==◌, ℕ, List, [], ◌∷◌, ◌++◌, Option, Some, Result, Ok, Err, map}
 use Rattle.std.specs.Prelude.{codes, decimal, if◌then◌else◌}
 use Rattle.std.specs.Borrow.{Bor}
@@ -16,7 +16,7 @@ abbrev pub numbers_of : List Part → List ℕ
 numbers_of [] = []
 numbers_of (part ∷ parts) = map (λ (row : Row). row.number) part.rows.now ++ numbers_of parts
 
--- texts one behind the other
+-- texts one after the other
 abbrev pub joined : List (List ℕ) → List ℕ
 joined [] = []
 joined (text ∷ texts) = text ++ joined texts
@@ -31,14 +31,14 @@ column_line (Some column) (Some place) =
     joined (column.now ∷ codes ": " ∷ place.now ∷ codes "\n" ∷ [])
 column_line column place = []
 
--- what stands before it in a row, in the part of the page that the row stands in
+-- what is before it in a row, in the part of the page that the row is in
 abbrev pub beginning_of : Part → Row → List ℕ
 beginning_of part row =
     joined (codes "Fault " ∷ decimal row.number ∷ codes " (" ∷ part.title.now ∷ codes ")\n\n"
-    ∷ row.rule.now ∷ codes "\n\nExample: " ∷ row.example.now ∷ codes "\nAnswer: " ∷ row.answer.now
+    ∷ row.rule.now ∷ codes "\n\nExample: " ∷ row.example.now ∷ codes "\nMessage: " ∷ row.answer.now
     ∷ codes "\n" ∷ [])
 
--- and behind it
+-- and after it
 abbrev pub mend_of : Row → List ℕ
 mend_of row = joined (codes "\n" ∷ row.mend.now ∷ codes "\n\n" ∷ [])
 
@@ -57,7 +57,7 @@ abbrev pub told : ℕ → List Part → List ℕ
 told number [] = []
 told number (part ∷ parts) = told_in number part part.rows.now ++ told number parts
 
--- the text is what a page with all faults tells of the number
+-- the text is what a page with all faults says of the number
 abbrev pub IsExplanation : ℕ → List ℕ → Type 0
 IsExplanation number text =
     (parts : List Part) × (numbers_of parts ≡ fault_numbers) × (text ≡ told number parts)
@@ -66,7 +66,7 @@ IsExplanation number text =
 abbrev pub Explains : (List ℕ → Type 0) → ℕ → Type 0
 Explains Holds number = (text : List ℕ) × IsExplanation number text × Holds text
 
--- What is written of a number: what is told of it, or a beginning where the sink failed. An unknown
+-- What is written of a number: its rows, or a prefix of them where the sink failed. An unknown
 -- number leaves what was written.
 abbrev pub Tells : ℕ → Option (List ℕ) → Option (List ℕ) → Result (Unit {0}) ExplainFault → Type 0
 Tells number old new (Ok u) = Explains (Appends old new) number

@@ -1,6 +1,6 @@
-//! What is told of each fault: its rule, an example with its answer, and what to do.
+//! What is wrong in each fault, what to write instead, and an example with its message.
 //!
-//! The tables of the page docs/FAULTS.md and the text of `ngc explain` are made of it.
+//! The tables of the page docs/FAULTS.md and the text of `ngc explain` are printed from it.
 #![tactic(auto)]
 
 mod parts;

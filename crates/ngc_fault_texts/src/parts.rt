@@ -8,20 +8,20 @@ use crate::runs::{events, log, shell};
 use crate::setups::{certificates, setup};
 use crate::shapes::{arcs, cycles};
 
-/// What is told of a fault at one place of the page. The lines of a text are at most 96 characters
-/// long, where the example's and the answer's first lines have their words in front.
+/// A row of the page: what it says of a fault. The lines of a text are at most 96 characters long,
+/// where the first lines of example, message and place have their words before them.
 #[derive(Clone, Copy)]
 pub struct Row {
     pub number: u16,
-    /// What must hold.
+    /// What is wrong and what to write instead, and then the rule.
     pub rule: &'static str,
-    /// What breaks the rule.
+    /// What has the fault.
     pub example: &'static str,
-    /// What the program says to the example.
+    /// The message for the example.
     pub answer: &'static str,
-    /// What the part's `column` tells of it.
+    /// What the part's `column` has: where the fault is, or the exit status.
     pub place: Option<&'static str>,
-    /// What to do.
+    /// How to fix it: what helps beyond the first sentence.
     pub mend: &'static str,
 }
 
@@ -29,7 +29,7 @@ pub struct Row {
 #[derive(Clone, Copy)]
 pub struct Part {
     pub title: &'static str,
-    /// What the table tells beside rule, example and answer: the column, the place or the status.
+    /// The table's further column: where the fault is, or the exit status.
     pub column: Option<&'static str>,
     pub rows: &'static [Row],
 }
@@ -41,12 +41,12 @@ pub fn page() -> [Part; 12]
     [
         Part {
             title: "Reading a line",
-            column: Some("The column"),
+            column: Some("Column"),
             rows: lines(),
         },
         Part {
             title: "Reading a file",
-            column: Some("The place"),
+            column: Some("Where"),
             rows: files(),
         },
         Part {

@@ -12,43 +12,48 @@ pub(crate) fn values() -> &'static [Row]
     const ROWS: &[Row] = &[
         Row {
             number: 101,
-            rule: "A result, also one on the way, is at most 1,000,000,000 in size (our own).",
+            rule: "A computed value is too large: look for a wrong factor or parameter.\n\
+             The limit is 1,000,000,000 either way, also for results in between (our own).",
             example: "`G0 X[1000000000+1]`",
             answer: "`ngc: fault 101 line 1`",
             place: None,
-            mend: "Look for a factor or a parameter that is wrong.",
+            mend: "Look at the parameters that the line uses: one may be set wrong on a line before.",
         },
         Row {
             number: 102,
-            rule: "Nothing is divided by zero.",
+            rule: "This line divides by zero: change the divisor.",
             example: "`G0 X[1/0]`",
             answer: "`ngc: fault 102 line 1`",
             place: None,
-            mend: "A parameter that was never set is 0; set it on a line before.",
+            mend: "A parameter that was never set is 0: set it on a line before.",
         },
         Row {
             number: 131,
-            rule: "A parameter's number is exactly whole (our own; the manual allows a difference of 0.0001).",
+            rule: "The number after `#` isn't whole: write a whole number.\n\
+             It must be exactly whole (our own; the manual allows a difference of 0.0001).",
             example: "`G0 X#1.5`",
             answer: "`ngc: fault 131 line 1`",
             place: None,
-            mend: "Write a whole number.",
+            mend: "Write `#1` or `#2` for `#1.5`. In a computed number look for a division.",
         },
         Row {
             number: 132,
-            rule: "A parameter's number is from 1 to 5160 (our own; the manual has more).",
+            rule: "There is no parameter with this number: use `#1` to `#5160`.\n\
+             The manual has more parameters (our own).",
             example: "`G0 X#0`",
             answer: "`ngc: fault 132 line 1`",
             place: None,
-            mend: "Use another parameter. `##1` needs a `#1` that was set before.",
+            mend: "In `##1` the value of `#1` is the number: set it on a line before. Origins aren't parameters:\n\
+             set them with `G10` or in the machine file.",
         },
         Row {
             number: 133,
-            rule: "At most 16 brackets and `#` stand inside one another in one value (our own).",
+            rule: "Brackets and `#` are nested too deep in this value: compute a part of it on a line before.\n\
+             At most 16 can be inside one another (our own).",
             example: "`G0 X[[[[[[[[[[[[[[[[[1]]]]]]]]]]]]]]]]]`",
             answer: "`ngc: fault 133 line 1`",
             place: None,
-            mend: "Set a parameter to a part of it on a line before.",
+            mend: "Set a parameter to the inner part, as `#1=[2+3]`, and write `#1` in its place.",
         },
     ];
     ROWS
@@ -61,90 +66,100 @@ pub(crate) fn words() -> &'static [Row]
     const ROWS: &[Row] = &[
         Row {
             number: 201,
-            rule: "A line has one code of each modal group; `M7` and `M8` may stand together (our own).",
+            rule: "Two codes of one modal group are on this line: take one out, or write two lines.\n\
+             Of one group only `M7` and `M8` can be together (our own).",
             example: "`G0 G80`",
             answer: "`ngc: fault 201 line 1`",
             place: None,
-            mend: "Take one out, or write two lines. The groups are in docs/LANGUAGE.md.",
+            mend: "`G80` and `G0` are both motion codes: write `G80` on a line of its own. The groups are in\n\
+             docs/LANGUAGE.md.",
         },
         Row {
             number: 202,
-            rule: "A line has at most four M words.",
+            rule: "This line has more than four M words: write two lines.",
             example: "`M3 M8 M48 M6 M0`",
             answer: "`ngc: fault 202 line 1`",
             place: None,
-            mend: "Write two lines.",
+            mend: "For the example write `M6 M3 M8 M48`, and `M0` on the next line: that is the order in which they\n\
+             take effect.",
         },
         Row {
             number: 203,
-            rule: "A letter other than G and M stands once on a line.",
+            rule: "A letter is on this line twice: take one word out, or write two lines.\n\
+             Only `G` and `M` can be there more than once.",
             example: "`G0 X1 X2`",
             answer: "`ngc: fault 203 line 1`",
             place: None,
-            mend: "Take one out, or write two lines.",
+            mend: "Write `G0 X1` and then `X2` on a line of its own, if both moves are meant.",
         },
         Row {
             number: 204,
-            rule: "A G or M word is a code of this language. Its value must be exact (our own).",
+            rule: "This G or M code is unknown: take it out, or write one that `ngc` has.\n\
+             The value of a code must be exact (our own).",
             example: "`G5 X1`",
             answer: "`ngc: fault 204 line 1`",
             place: None,
-            mend: "See the list for CAM programs in docs/LANGUAGE.md.",
+            mend: "`ngc adapt` rewrites programs for other controls. docs/LANGUAGE.md lists what to write for the\n\
+             codes of CAM programs.",
         },
         Row {
             number: 205,
-            rule: "A B C D and G38.2 G41 G42 G84 G87 G88 are left out (our own).",
+            rule: "This code or axis isn't supported: program three axes and the path of the cutter's centre.\n\
+             Left out are `A B C D` and `G38.2 G41 G42 G84 G87 G88` (our own).",
             example: "`G0 A90`",
             answer: "`ngc: fault 205 line 1`",
             place: None,
-            mend: "Write the program for three axes and for the cutter's middle.",
+            mend: "Choose a post-processor for three axes, and compensation in the computer, not in the control.\n\
+             There is no probing and no tapping.",
         },
         Row {
             number: 206,
-            rule: "A word has one use on its line (our own): axis words have two where `G10`, `G28`, `G30` or `G92`\n\
-             and a motion code are written, `P` where `G4` and a cycle use it, and an arc takes `R` or `I J\n\
-             K`.",
+            rule: "A word on this line has two uses: write two lines (our own).\n\
+             Axis words have two beside a motion code and `G10`, `G28`, `G30` or `G92`, and `P` beside `G4`\n\
+             and a cycle. An arc can't have both `R` and `I`, `J` or `K`.",
             example: "`G0 G92 X5`",
             answer: "`ngc: fault 206 line 1`",
             place: None,
-            mend: "Write two lines.",
+            mend: "`G28` and `G92` need no `G0`: write `G92 X5`. In an arc take out `R`, or else `I`, `J` and `K`.",
         },
         Row {
             number: 207,
-            rule: "Each word has a code on the line, or in force, that uses it (our own).",
+            rule: "No code uses this word: write the code that is missing, or take the word out.\n\
+             Each word needs a code that uses it, on its line or in force (our own).",
             example: "`X1`",
             answer: "`ngc: fault 207 line 1`",
             place: None,
-            mend: "Write `G0` or `G1` in front of the first motion and behind `G80`; put `H` on the line of `G43`;\n\
-             take other letters out, such as a `K0` of an arc in `G17` or the `P` of a `G81`.",
+            mend: "Write `G0` or `G1` before the first motion and after `G80`. Write `H` on the line of `G43`. Take\n\
+             out the `K0` of an arc in `G17`, or the `P` of a `G81`.",
         },
         Row {
             number: 208,
-            rule: "A code has the words that it needs (our own).",
+            rule: "A word is missing that a code on this line needs: add it (our own).",
             example: "`G43`",
             answer: "`ngc: fault 208 line 1`",
             place: None,
-            mend: "Write the word: `P` for `G4`, `L` and `P` for `G10`, `H` for `G43`, an axis word for `G53` and\n\
-             `G92`, `F` for a `G1` motion or an arc in `G93`; an axis word beside a cycle's code; `R` and the\n\
-             depth on a cycle's first line, also behind another cycle, there also `P` for `G82`, `G86`, `G89`\n\
-             and `Q` for `G83`.",
+            mend: "`G4`: `P`. `G10`: `L` and `P`. `G43`: `H`. `G53`, `G92`, a cycle's code: an axis word. `G1` and\n\
+             arcs in `G93`: `F`. The first line of a cycle, also after another one: `R` and the depth; for\n\
+             `G82`, `G86`, `G89` also `P`, for `G83` also `Q`.",
         },
         Row {
             number: 209,
-            rule: "`F`, `S` and the `P` of `G4` aren't negative; `T` and `H` are whole and not negative; the `L` of\n\
-             `G10` is 2 and its `P` 1 to 9. The words of cycles have 231 to 234.",
+            rule: "The number of a word on this line is out of its range: write another one.\n\
+             `F`, `S` and the `P` of `G4`: 0 or more. `T` and `H`: whole, 0 or more. `G10`: `L` is 2, and `P`\n\
+             is whole, 1 to 9.",
             example: "`T1.5`",
             answer: "`ngc: fault 209 line 1`",
             place: None,
-            mend: "Mend the number.",
+            mend: "Write `T1` or `T2` for `T1.5`. The words of cycles have faults of their own, 231 to 234.",
         },
         Row {
             number: 210,
-            rule: "`G53` has `G0` or `G1` on its line or in force.",
+            rule: "`G53` works only with `G0` or `G1`: write one of them on this line.\n\
+             It may also be in force from a line before.",
             example: "`G53 X1`",
             answer: "`ngc: fault 210 line 1`",
             place: None,
-            mend: "Write `G53 G0 X1`.",
+            mend: "Write `G53 G0 X1`. This ends a cycle that is in force.",
         },
     ];
     ROWS
@@ -157,46 +172,53 @@ pub(crate) fn places() -> &'static [Row]
     const ROWS: &[Row] = &[
         Row {
             number: 101,
-            rule: "The length that a word gives is at most 100,000 mm (our own).",
+            rule: "This length is too great: write a smaller number.\n\
+             The limit is 100,000 mm (our own).",
             example: "`G0 X200000`",
             answer: "`ngc: fault 101 line 1`",
             place: None,
-            mend: "Write a smaller number; look for a missing point.",
+            mend: "Look for a missing decimal point, and for `G20` (inches) where millimetres are meant.",
         },
         Row {
             number: 221,
-            rule: "A coordinate that words give, in `G91` the sum, is at most 1,000 mm either way, in a cycle also\n\
-             `R`, the bottom and the place of each hole; an origin and an axis offset at most 4,000 mm (our\n\
-             own).",
+            rule: "This coordinate is too far out: write a smaller number.\n\
+             The limit is 1,000 mm either way, in `G91` for the sum, also for `R`, bottom and holes of a\n\
+             cycle; 4,000 mm for origins and axis offsets (our own).",
             example: "`G0 X1000.000001`",
             answer: "`ngc: fault 221 line 1`",
             place: None,
-            mend: "Write a smaller number. The travel of the machine isn't tested here.",
+            mend: "Look for a missing decimal point, or for `G91` where `G90` is meant. The travel of the machine\n\
+             isn't tested here: `ngc report` does that.",
         },
         Row {
             number: 222,
-            rule: "A tool that `M6` mounts, or `G43 H` names, stands in the tool table; 0 is no tool (our own: one\n\
-             that is only selected needn't).",
+            rule: "This tool isn't in the tool table: name the table with `--tools`, or add the tool to it.\n\
+             `M6` and `G43 H` need it there; 0 is no tool (our own: a tool that is only selected needn't be\n\
+             there).",
             example: "`T1 M6`",
             answer: "`ngc: fault 222 line 1`",
             place: None,
-            mend: "Name the tool table with `--tools`, or put the tool into it.",
+            mend: "Each tool is a table `[[tool]]` of the file: docs/FORMATS.md has its keys.",
         },
         Row {
             number: 251,
-            rule: "A program has at most 1,000,000 commands (our own).",
+            rule: "The program has too many commands: split it, or look for an `L` that is too great.\n\
+             The limit is 1,000,000 (our own).",
             example: "whole file: 26 lines `G91 G81 X0.001 Z-0.1 R-0.1 F60 L9999`, then `M2`",
             answer: "`ngc: fault 251 line 26`",
             place: None,
-            mend: "Break the program in parts; look for an `L` that is too great.",
+            mend: "A hole of a cycle is three commands or more, and `L` repeats it. Give each part its modes, its\n\
+             tool, its feed and its `M2`.",
         },
         Row {
             number: 252,
-            rule: "A `G1` motion, an arc and a cycle have a feed above 0.",
+            rule: "No feed is set yet: write `F` with a feed rate in mm/min on this line or before it.\n\
+             A `G1` motion, an arc and a cycle need a feed above 0.",
             example: "`G1 X1`",
             answer: "`ngc: fault 252 line 1`",
             place: None,
-            mend: "Write `F` on the line or before it. In `G93` it must stand on the line.",
+            mend: "For example `G1 X1 F100`; in `G20` the rate is in inches per minute. In `G93` `F` must be on the\n\
+             line itself.",
         },
     ];
     ROWS

@@ -12,20 +12,22 @@ pub(crate) fn events() -> &'static [Row]
     const ROWS: &[Row] = &[
         Row {
             number: 711,
-            rule: "Each line of the events file says an event, and ends with a line feed.",
+            rule: "This line of the events file is no event, or has no line feed at its end: correct it.\n\
+             Events are `load`, `tick N`, `hold`, `resume`, `start`, `override N`, `switch on` and\n\
+             `switch off`.",
             example: "events `load`, `tick 0`",
             answer: "`ngc: fault 711 events line 2`",
             place: None,
-            mend: "Look for a misspelt word, two spaces, a number with a leading zero, or a last line without its\n\
-             line feed.",
+            mend: "Look for a misspelt word, two spaces, or a leading zero. N is 1 to 1,000,000 for `tick` and 0 to\n\
+             255 for `override`.",
         },
         Row {
             number: 712,
-            rule: "There are at most 1,000,000 lines.",
+            rule: "The events file has more than 1,000,000 lines: write `tick N` for N lines `tick 1`.",
             example: "an events file of 1,000,001 lines `load`",
             answer: "`ngc: fault 712`",
             place: None,
-            mend: "Write `tick N` in place of N lines `tick 1`.",
+            mend: "For example `tick 1000` for a thousand of them.",
         },
     ];
     ROWS
@@ -38,28 +40,30 @@ pub(crate) fn log() -> &'static [Row]
     const ROWS: &[Row] = &[
         Row {
             number: 701,
-            rule: "An override is at most 200 percent (our own).",
+            rule: "The override is too high: write at most 200 (our own).",
             example: "events `override 201`",
             answer: "`refused 701`",
             place: None,
-            mend: "Write a smaller number.",
+            mend: "It is in percent. The override before it stays.",
         },
         Row {
             number: 702,
-            rule: "A load comes while fewer commands are loaded and not done than the machine's `ring`, 16 where\n\
-             the key is missing (our own).",
+            rule: "This load is too early: give ticks before it, until a command is done.\n\
+             At most `ring` commands may be loaded and not done, 16 where the machine file has no such key\n\
+             (our own).",
             example: "no `ring`, events of seventeen lines `load`, and a program of as many commands",
             answer: "`refused 702`",
             place: None,
-            mend: "Give ticks before the next load, until a command is done.",
+            mend: "Or write a greater `ring` into the machine file, up to 1,024 (version 2).",
         },
         Row {
             number: 703,
-            rule: "A command is loaded only where one is left; 703 goes before 702 (our own).",
+            rule: "No command is left to load: take this load out.\n\
+             703 takes precedence over 702 (our own).",
             example: "events `load`, `load`, `load`",
             answer: "`refused 703`",
             place: None,
-            mend: "Take the load out; a program has as many commands as `ngc list` has lines.",
+            mend: "A program has as many commands as `ngc list` has lines: that of the example has two.",
         },
     ];
     ROWS
@@ -72,103 +76,103 @@ pub(crate) fn shell() -> &'static [Row]
     const ROWS: &[Row] = &[
         Row {
             number: 720,
-            rule: "The command line is as `ngc --help` and the help of each command say (our own). A call for help\n\
-             counts as 720 too.",
+            rule: "The command line is wrong: write it as `ngc --help` and the help of each command say (our own).\n\
+             A call for help counts as 720 too.",
             example: "command `ngc list plate.ngc`",
-            answer: "a text on standard error that begins with `error: unexpected argument`; the number isn't\n\
-             written",
+            answer: "a text on standard error that begins with `error: unexpected argument`; the number\n\
+             isn't written",
             place: Some("2"),
-            mend: "Name the file with `--program`.",
+            mend: "Name the file with `--program`: `ngc list --program plate.ngc`.",
         },
         Row {
             number: 721,
-            rule: "The number that `ngc explain` is given is one of this page (our own).",
+            rule: "No fault has this number: write the one after the word `fault` in the message (our own).",
             example: "command `ngc explain 999`",
             answer: "`ngc: fault 721`",
             place: Some("3"),
-            mend: "Look for the number that the line of the fault has behind the word `fault`.",
+            mend: "docs/FAULTS.md has all of them.",
         },
         Row {
             number: 722,
-            rule: "The name that `ngc help` is given is that of a command (our own).",
+            rule: "`ngc` has no command of this name: `ngc help` lists them (our own).",
             example: "command `ngc help print`",
             answer: "`ngc: fault 722`",
             place: Some("3"),
-            mend: "`ngc help` lists the commands.",
+            mend: "For example `ngc help list`.",
         },
         Row {
             number: 723,
-            rule: "The view that `ngc draw` is given is `top`, `front` or `side` (our own).",
+            rule: "`ngc draw` has no view of this name: write `top`, `front` or `side` (our own).",
             example: "command `ngc draw --view above --machine mill.toml --tools tools.toml`",
             answer: "`ngc: fault 723`",
             place: Some("3"),
-            mend: "Write one of the three names; without `--view` it is `top`.",
+            mend: "Without `--view` it is `top`.",
         },
         Row {
             number: 724,
-            rule: "The control that `ngc adapt` is given is `linuxcnc`, `grbl`, `mach3` or `fanuc` (our own).",
+            rule: "`ngc adapt` has no control of this name: write `linuxcnc`, `grbl`, `mach3` or `fanuc` (our own).",
             example: "command `ngc adapt --from haas --program part.nc`",
             answer: "`ngc: fault 724`",
             place: Some("3"),
-            mend: "Write one of the four names: `fanuc` for Fanuc and Haas, `mach3` for Mach3 and Mach4, `grbl` for\n\
-             GRBL and its relatives, `linuxcnc` for LinuxCNC and PathPilot.",
+            mend: "`fanuc` is for Fanuc and Haas, `mach3` for Mach3 and Mach4, `grbl` for GRBL and its relatives,\n\
+             `linuxcnc` for LinuxCNC and PathPilot.",
         },
         Row {
             number: 725,
-            rule: "What `ngc adapt` is given to drop are 1 to 16 M codes separated by commas, each `M` and a whole\n\
-             number from 0 to 999 (our own).",
+            rule: "`ngc adapt` can't drop this: write 1 to 16 M codes, separated by commas (our own).\n\
+             Each is `M` and a whole number from 0 to 999.",
             example: "command `ngc adapt --from linuxcnc --drop G64 --program part.ngc`",
             answer: "`ngc: fault 725`",
             place: Some("3"),
-            mend: "Write the codes as in `--drop M64,M65`; only M codes can be dropped.",
+            mend: "For example `--drop M64,M65`.",
         },
         Row {
             number: 726,
-            rule: "`ngc machine` is given either a dump of GRBL's settings, `--grbl`, or all of `--steps-per-mm`,\n\
-             `--travel`, `--feed` and `--acceleration` (our own).",
+            rule: "`ngc machine` needs `--grbl`, or all of `--steps-per-mm`, `--travel`, `--feed` and\n\
+             `--acceleration`: write one or the other (our own).",
             example: "command `ngc machine --steps-per-mm 800`",
             answer: "`ngc: fault 726`",
             place: Some("3"),
-            mend: "Give the file of what GRBL prints for `$$`, and none of the four nor `--frame`; or all four\n\
-             figures.",
+            mend: "`--grbl` names a file with what GRBL prints for `$$`. None of the four is written beside it, and\n\
+             no `--frame`.",
         },
         Row {
             number: 727,
-            rule: "The form that `ngc run` is given is `log` or `samples`, that of `ngc pulses` is `vcd` or\n\
-             `samples` (our own).",
+            rule: "The command has no output of this name: write `log` or `samples` for `ngc run`, `vcd` or\n\
+             `samples` for `ngc pulses` (our own).",
             example: "command `ngc run --output vcd` with a machine file, a tool table and a certificate",
             answer: "`ngc: fault 727`",
             place: Some("3"),
-            mend: "Write one of the command's two names; without `--output` it is the first of them.",
+            mend: "Without `--output` it is the first of the two.",
         },
         Row {
             number: 900,
-            rule: "There is enough memory for the files and the commands (our own).",
+            rule: "There isn't enough memory for the files and the commands: give `ngc` more (our own).",
             example: "command `ngc list` in a shell after `ulimit -v 8000`, with a program of 100,000 lines",
             answer: "`ngc: fault 900`",
             place: Some("1"),
-            mend: "Give it more memory: 100,000 short lines need about 20 MB, lines of full length up to 180 MB,\n\
-             and 1,000,000 commands about 95 MB.",
+            mend: "100,000 short lines need about 20 MB, lines of full length up to 180 MB, and 1,000,000 commands\n\
+             about 95 MB.",
         },
         Row {
             number: 901,
-            rule: "The part program, the machine file, the tool table, the certificate and the events file can be\n\
-             opened and read; machine file, tool table and events file have at most 20,000,000 bytes (our\n\
-             own).",
+            rule: "A file can't be opened or read: correct its name or its permissions (our own).\n\
+             A machine file, a tool table, an events file and a program for `ngc adapt` have at most\n\
+             20,000,000 bytes.",
             example: "command `ngc list --program none.ngc`",
             answer: "`ngc: fault 901`",
             place: Some("1"),
-            mend: "Mend the name; it isn't told which of them it is. A folder can't be read, and `-` is a name like\n\
-             any other; for standard input leave `--program` out.",
+            mend: "The message doesn't say which file it is. A folder can't be read. `-` is a name like any other:\n\
+             for standard input leave `--program` out.",
         },
         Row {
             number: 902,
-            rule: "What is to be written can be written (our own).",
+            rule: "The output can't be written: make space on the disk, or write to another file (our own).",
             example: "command `ngc list >/dev/full`",
             answer: "`ngc: fault 902`",
             place: Some("1"),
-            mend: "Make room on the disk. What was written is a beginning of it. Where a pipe was closed, as by\n\
-             `head`, the status is the same, but no line is written.",
+            mend: "What was written is a prefix of the output. Where a pipe was closed, as by `head`, the status is\n\
+             the same, but no line is written.",
         },
     ];
     ROWS

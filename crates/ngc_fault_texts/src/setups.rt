@@ -12,98 +12,110 @@ pub(crate) fn setup() -> &'static [Row]
     const ROWS: &[Row] = &[
         Row {
             number: 261,
-            rule: "The version is 1 or 2.",
+            rule: "The version of this machine file is unknown: write `version = 1`, or 2 with `axis_rate`.",
             example: "machine file `version = 3`",
             answer: "`ngc: fault 261 machine`",
             place: None,
-            mend: "Write `version = 1`, or 2 with `axis_rate`.",
+            mend: "Only version 2 has `axis_rate`, `jump`, `ring` and `arc_feed`.",
         },
         Row {
             number: 261,
-            rule: "The same of a tool table.",
+            rule: "The version of this tool table is unknown: write `version = 1`, or 2 where tools have parts.",
             example: "tool table `version = 3`",
             answer: "`ngc: fault 261 tools`",
             place: None,
-            mend: "Write `version = 1`, or `version = 2` where tools have parts.",
+            mend: "In version 1 a tool has `length` and `radius`, in version 2 `bottom` and `parts`.",
         },
         Row {
             number: 262,
-            rule: "`step` is 500 to 50,000 nm.",
+            rule: "`step` is out of its range: write 500 to 50,000, in nanometres.",
             example: "machine file `step = 499`",
             answer: "`ngc: fault 262 machine`",
             place: None,
-            mend: "Give the step in nanometres: 0.01 mm is 10000.",
+            mend: "A step of 0.01 mm is `step = 10000`.",
         },
         Row {
             number: 263,
-            rule: "`ticks_per_second` is 1 to 1,000,000.",
+            rule: "`ticks_per_second` is out of its range: write 1 to 1,000,000.",
             example: "machine file `ticks_per_second = 0`",
             answer: "`ngc: fault 263 machine`",
             place: None,
-            mend: "Mend the number.",
+            mend: "`ngc machine` computes it from the figures of your machine.",
         },
         Row {
             number: 264,
-            rule: "`max_rate`, `axis_rate`, `change` and `corner` are 1 to 1,000,000, `jump` is 0 to 1,000,000,\n\
-             `turn` is 1 to 1,000,000,000,000, `ring` is 16 to 1,024, `arc_feed` is 0 or 1.",
+            rule: "A number of the machine file is out of its range: `ngc show` says which key it is, and what to\n\
+             write.\n\
+             `max_rate`, `axis_rate`, `change`, `corner`: 1 to 1,000,000. `jump`: 0 to 1,000,000. `turn`: 1\n\
+             to 1,000,000,000,000. `ring`: 16 to 1,024. `arc_feed`: 0 or 1.",
             example: "machine file `corner = 0`",
             answer: "`ngc: fault 264 machine`",
             place: None,
-            mend: "Rates are millionths of a step a tick.",
+            mend: "Rates are millionths of a step a tick: `ngc machine` computes them from the figures of your\n\
+             machine.",
         },
         Row {
             number: 265,
-            rule: "`low` and `high` are at most 1,000,000,000 nm in size, `low` at most `high` on each axis;\n\
-             `start` lies from `low` to `high` and on whole steps.",
+            rule: "The travel or the start point is wrong: `low` can't be above `high`, and `start` must be between\n\
+             them, on a whole step.\n\
+             `low` and `high` are at most 1,000,000,000 nm either way.",
             example: "machine file `start = [5, 0, 0]`",
             answer: "`ngc: fault 265 machine`",
             place: None,
-            mend: "Give `start` in whole multiples of `step`.",
+            mend: "Write `start` as a multiple of `step`: with `step = 10000` it can be 0 or 10000, and not 5.",
         },
         Row {
             number: 266,
-            rule: "Home positions and origins are at most 1,000,000,000 nm in size.",
+            rule: "A home position or an origin is too far out: write at most 1,000,000,000 nm either way.",
             example: "machine file `home28 = [1000000001, 0, 0]`",
             answer: "`ngc: fault 266 machine`",
             place: None,
-            mend: "Mend the number.",
+            mend: "That is 1 m: a millimetre is 1,000,000 nm.",
         },
         Row {
             number: 267,
-            rule: "The corners of a fixture are at most 4,000,000,000 nm in size, `low` below `high` on each axis;\n\
-             there are at most 256.",
+            rule: "A fixture has no size on some axis, or is too far out: put its lower corner into `low`, and the\n\
+             other into `high`.\n\
+             Corners are at most 4,000,000,000 nm either way; there are at most 256 fixtures.",
             example: "machine file `fixture = [{low = [0, 0, 0], high = [1, 1, 0]}]`",
             answer: "`ngc: fault 267 machine`",
             place: None,
-            mend: "A box has some size on each axis. Put the lower corner into `low`.",
+            mend: "In the example Z has no size: with `high = [1, 1, 1]` it would have.",
         },
         Row {
             number: 268,
-            rule: "A tool's number is 1 to 9,999 and stands once; `length` and `radius` are 0 to 1,000,000,000 nm,\n\
-             `offset` is at most that in size, `bottom` is -1,000,000,000 to 0 nm; a tool of version 2 has\n\
-             one to four parts; there are at most 1,000 tools.",
-            example: "tool table `version = 1`, `[[tool]]`, `number = 0`, `length = 0`, `radius = 0`, `offset\n\
-             = 0`",
+            rule: "A number of the tool table is out of its range, or a tool is there twice: `ngc show` says which\n\
+             key it is.\n\
+             `number`: 1 to 9,999. `length`, `radius`: 0 to 1,000,000,000 nm. `offset`: at most that either\n\
+             way. `bottom`: -1,000,000,000 to 0 nm. A tool has one to four parts; there are at most 1,000\n\
+             tools.",
+            example: "tool table `version = 1`, `[[tool]]`, `number = 0`, `length = 0`, `radius = 0`,\n\
+             `offset = 0`",
             answer: "`ngc: fault 268 tools`",
             place: None,
-            mend: "Mend the number; look for a tool that stands twice.",
+            mend: "Give each tool a number of its own, from 1 up.",
         },
         Row {
             number: 269,
-            rule: "The file is a TOML document; each key is known, stands where it must, and has whole numbers,\n\
-             three of them for a place and for `axis_rate`, which stands in version 2 alone.",
+            rule: "The machine file isn't TOML, or a key is missing, unknown or has a value of the wrong kind:\n\
+             `ngc show` says which key it is.\n\
+             Numbers are whole, three of them for a position and for `axis_rate`, which is in version 2\n\
+             alone.",
             example: "machine file `step = 0.01`",
             answer: "`ngc: fault 269 machine`",
             place: None,
-            mend: "Write lengths in whole nanometres, and look for a key that is misspelt or missing.",
+            mend: "Write lengths in whole nanometres: `step = 10000` for 0.01 mm.",
         },
         Row {
             number: 269,
-            rule: "The same in a tool table.",
+            rule: "The tool table isn't TOML, or a key is missing, unknown or has a value of the wrong kind:\n\
+             `ngc show` says which key it is.\n\
+             Each tool has the four keys of the table's version, and no others.",
             example: "tool table `version = 1`, `[[tool]]`, `number = 1`",
             answer: "`ngc: fault 269 tools`",
             place: None,
-            mend: "Give each tool the four keys of the table's version, and no others.",
+            mend: "They are `number`, `length`, `radius`, `offset` in version 1, and `number`, `offset`, `bottom`,\n\
+             `parts` in version 2.",
         },
     ];
     ROWS
@@ -116,106 +128,118 @@ pub(crate) fn certificates() -> &'static [Row]
     const ROWS: &[Row] = &[
         Row {
             number: 301,
-            rule: "A line of the certificate is spelled as the format says, `end` stands, and nothing stands behind\n\
-             it.",
+            rule: "The certificate is damaged or cut off: make it again with `ngc certify`.\n\
+             A line isn't in the format, `end` is missing, or something follows it.",
             example: "`line 65536 0 0 0 03 0 0`",
             answer: "`ngc: fault 301 certificate line 4`",
             place: None,
-            mend: "Make the certificate anew with `ngc certify`; look for a copy that was cut off.",
+            mend: "Look for a copy that was cut off. docs/FORMATS.md has the format.",
         },
         Row {
             number: 302,
-            rule: "The certificate's first line is `ngc-certificate 1` or `ngc-certificate 2`.",
+            rule: "This file isn't a certificate, or is empty: make one with `ngc certify`, and name it with\n\
+             `--certificate`.\n\
+             Its first line is `ngc-certificate 1` or `ngc-certificate 2`.",
             example: "a certificate that is empty",
             answer: "`ngc: fault 302 certificate line 1`",
             place: None,
-            mend: "Mostly the file is empty, since `ngc certify > file` was refused: look at what it said. Else\n\
-             name the certificate with `--certificate`; look for another file's name.",
+            mend: "If it is empty, `ngc certify > file` was refused: look at its message. Else look for another\n\
+             file's name.",
         },
         Row {
             number: 303,
-            rule: "Each number of the certificate is in its range, and no box is inside out.",
+            rule: "A number of the certificate is out of its range, or a box is inside out: make it again with\n\
+             `ngc certify`.",
             example: "`line 70000 0 0 0 3 0 0`",
             answer: "`ngc: fault 303 certificate line 4`",
             place: None,
-            mend: "Make it anew.",
+            mend: "docs/FORMATS.md has the ranges.",
         },
         Row {
             number: 304,
-            rule: "With at most `--cuts` pieces a motion, the travel limits and fixtures are kept, and tool changes\n\
-             and the start point are clear.",
+            rule: "This move leaves the travel or hits a fixture, or is too close to tell with this many cuts:\n\
+             `ngc report` says which.\n\
+             It can also be a tool change or the start point that isn't clear of a fixture.",
             example: "command `ngc certify`, program `G0 X301`, `M2`",
             answer: "`ngc: fault 304 setting off command 0`",
             place: None,
-            mend: "Look for the command in `ngc list`: its second number is the line of the program. Change the\n\
-             way, or give more `--cuts` to a long slanted line.",
+            mend: "Change the path, or give more `--cuts` to a long slanted line or an arc. In `ngc list` the\n\
+             second number of the command is the line of the program.",
         },
         Row {
             number: 311,
-            rule: "The program has a meaning at both settings of block delete.",
+            rule: "The program itself has a fault: look up the second number of the message.\n\
+             It must be correct at both settings of block delete.",
             example: "program `/G1 X1`, `M2`",
             answer: "`ngc: fault 311 setting off fault 252 line 1`",
             place: None,
-            mend: "Look the program's own fault up on this page. With `setting on` the lines that begin with `/`\n\
-             are left out. The status is 3.",
+            mend: "In the example that is 252 in line 1. With `setting on` the lines that begin with `/` are left\n\
+             out. The status is 3.",
         },
         Row {
             number: 312,
-            rule: "The certificate has the motions of the program.",
+            rule: "The certificate has other motions than the program: make it again with `ngc certify`.",
             example: "program `G0 X0.03`, `X0`, `M2`",
             answer: "`ngc: fault 312 setting off command 1`",
             place: None,
-            mend: "The program was changed since: make the certificate anew.",
+            mend: "Look for a program that was changed since, or for the certificate of another one.",
         },
         Row {
             number: 313,
-            rule: "The pieces of a motion follow each other, up to its end; each piece of an arc turns on by at\n\
-             most a quarter, within one quadrant.",
+            rule: "The pieces of this motion don't fit together: make the certificate again with `ngc certify`.\n\
+             They follow each other up to its end; each piece of an arc turns by at most a quarter, within\n\
+             one quadrant.",
             example: "`line 32768 0 0 0 3 0 0`",
             answer: "`ngc: fault 313 setting off command 0 piece 0`",
             place: None,
-            mend: "Make it anew.",
+            mend: "Look for a program or a certificate that was changed since.",
         },
         Row {
             number: 314,
-            rule: "The box of a piece holds all positions that the piece may take.",
+            rule: "A box of the certificate is too small for its motion: make the certificate again with\n\
+             `ngc certify`.\n\
+             The box of a piece holds all positions that the piece may take.",
             example: "`line 65536 0 0 0 2 0 0`",
             answer: "`ngc: fault 314 setting off command 0 piece 0`",
             place: None,
-            mend: "Program, machine file or tool table were changed since: make it anew.",
+            mend: "Look for a program, a machine file or a tool table that was changed since.",
         },
         Row {
             number: 315,
-            rule: "The box lies within the travel.",
+            rule: "This motion or its box leaves the travel: change the path, or make the certificate again with\n\
+             `ngc certify`.",
             example: "`line 65536 -1 0 0 3 0 0`",
             answer: "`ngc: fault 315 setting off command 0 piece 0`",
             place: None,
-            mend: "Look for a motion that leaves the travel, or make the certificate anew.",
+            mend: "`ngc report` says how far the program goes beyond the travel, and on which line.",
         },
         Row {
             number: 316,
-            rule: "Over the box the mounted tool's body is clear of every fixture.",
+            rule: "The tool meets a fixture on this motion, or the motion's box is too large: change the path, or\n\
+             make the certificate again.\n\
+             Over the box the body of the mounted tool must be clear of every fixture.",
             example: "machine file with FIXTURE",
             answer: "`ngc: fault 316 setting off command 0 piece 0 fixture 0`",
             place: None,
-            mend: "docs/CHECKING.md tells how to read it.",
+            mend: "docs/CHECKING.md says how to read the message. `ngc report` has the line of the program, and the\n\
+             fixture with its corners.",
         },
         Row {
             number: 317,
-            rule: "Where a tool is mounted its body is clear of every fixture.",
+            rule: "The new tool meets a fixture where it is mounted: change the tool at another position.",
             example: "program `T1 M6`, `M2`, tool table with TOOL, machine file with VISE, certificate\n\
              without motions",
             answer: "`ngc: fault 317 setting off command 0 fixture 0`",
             place: None,
-            mend: "Change the tool at another place.",
+            mend: "Write a traverse to a clear position before the `M6`, which moves no axis.",
         },
         Row {
             number: 318,
-            rule: "The start point is clear of every fixture.",
+            rule: "The start point is inside a fixture: correct `start` or the fixture in the machine file.",
             example: "program `M2`, machine file with BLOCK, certificate without motions",
             answer: "`ngc: fault 318 fixture 0`",
             place: None,
-            mend: "Mend `start` or the fixture in the machine file.",
+            mend: "Only the spindle nose is tested there, as a single point, since no tool is mounted yet.",
         },
     ];
     ROWS

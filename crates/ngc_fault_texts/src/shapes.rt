@@ -12,76 +12,83 @@ pub(crate) fn cycles() -> &'static [Row]
     const ROWS: &[Row] = &[
         Row {
             number: 231,
-            rule: "`R` isn't below the bottom of the hole. In `G91` the bottom counts from `R` down: its word isn't\n\
-             above 0.",
+            rule: "`R` is below the bottom of the hole: exchange the two numbers, or correct a sign.\n\
+             The cycle feeds from `R` down to the bottom.",
             example: "`G81 X1 Z-5 R-10 F60`",
             answer: "`ngc: fault 231 line 1`",
             place: None,
-            mend: "Exchange the two, or mend a sign.",
+            mend: "For example `G81 X1 Z-10 R-5 F60`.",
         },
         Row {
             number: 231,
-            rule: "The same in `G91`.",
+            rule: "In `G91` the depth of this hole is above 0: write it below 0, as in `Z-5`.\n\
+             There the bottom is counted from `R`.",
             example: "`G91 G81 X1 Z5 R-10 F60`",
             answer: "`ngc: fault 231 line 1`",
             place: None,
-            mend: "Write the depth of the hole below `R`: `Z-5`.",
+            mend: "`Z-5 R-10` feeds from 10 mm below the current point, and 5 mm deep.",
         },
         Row {
             number: 232,
-            rule: "The `L` of a cycle is whole and 1 to 9,999 (the upper bound is our own).",
+            rule: "The `L` of this cycle isn't a whole number from 1 to 9,999: correct it, or take it out (the\n\
+             upper bound is our own).",
             example: "`G81 X1 Z-15 R-10 L0 F60`",
             answer: "`ngc: fault 232 line 1`",
             place: None,
-            mend: "Take out `L0`. For more holes write two lines.",
+            mend: "Without `L` the hole is made once. For `L0` write the line where the first hole is to be, and\n\
+             for more holes write two lines.",
         },
         Row {
             number: 233,
-            rule: "The `Q` of `G83` is above 0, and the hole has at most 10,000 pecks (our own).",
+            rule: "The depth of a peck, `Q`, isn't above 0: write it without a sign.",
             example: "`G83 X1 Z-15 R-10 Q0 F60`",
             answer: "`ngc: fault 233 line 1`",
             place: None,
-            mend: "Write the depth of a peck, without a sign.",
+            mend: "For example `Q2` for pecks of 2 mm.",
         },
         Row {
             number: 233,
-            rule: "The same for too many pecks.",
+            rule: "The depth of a peck, `Q`, is too small for this hole: write a greater one.\n\
+             A hole has at most 10,000 pecks (our own).",
             example: "`G83 X1 Z-15 R-10 Q0.0004 F60`",
             answer: "`ngc: fault 233 line 1`",
             place: None,
-            mend: "Write a greater `Q`.",
+            mend: "The example is 5 mm deep: 10,000 pecks need `Q0.0005`.",
         },
         Row {
             number: 234,
-            rule: "The `P` of `G82`, `G86` and `G89` isn't negative.",
+            rule: "The dwell `P` is negative: write the seconds without a sign.\n\
+             It is that of `G82`, `G86` or `G89`.",
             example: "`G82 X1 Z-15 R-10 P-1 F60`",
             answer: "`ngc: fault 234 line 1`",
             place: None,
-            mend: "Write the seconds, without a sign.",
+            mend: "For example `P0.5` for half a second.",
         },
         Row {
             number: 235,
-            rule: "The spindle turns where `G86` begins; a speed of 0 will do (our own).",
+            rule: "The spindle is off, and `G86` needs it on: write `M3` or `M4` on this line or before it.\n\
+             A speed of 0 will do (our own).",
             example: "`G86 X1 Z-15 R-10 P1 F60`",
             answer: "`ngc: fault 235 line 1`",
             place: None,
-            mend: "Write `M3` before it. Mind that `M6` turns the spindle off.",
+            mend: "`M6` turns the spindle off: write `M3` after it.",
         },
         Row {
             number: 236,
-            rule: "No cycle stands in `G93`.",
+            rule: "A cycle doesn't work in `G93`: write `G94`, and the feed rate in mm/min.",
             example: "`G93 G81 X1 Z-15 R-10 F60`",
             answer: "`ngc: fault 236 line 1`",
             place: None,
-            mend: "Write `G94`, and the feed a minute.",
+            mend: "For example `G94 G81 X1 Z-15 R-10 F60`, and `G93` again on a line after the cycles.",
         },
         Row {
             number: 252,
-            rule: "A cycle has a feed above 0.",
+            rule: "No feed is set for this cycle: write `F` with a feed rate in mm/min on this line or before it.\n\
+             A cycle needs a feed above 0.",
             example: "`G81 X1 Z-15 R-10`",
             answer: "`ngc: fault 252 line 1`",
             place: None,
-            mend: "Write `F` on the line or before it.",
+            mend: "For example `G81 X1 Z-15 R-10 F60`; in `G20` the rate is in inches per minute.",
         },
     ];
     ROWS
@@ -94,79 +101,88 @@ pub(crate) fn arcs() -> &'static [Row]
     const ROWS: &[Row] = &[
         Row {
             number: 241,
-            rule: "An arc has an axis word of its plane.",
+            rule: "This arc has no axis word: write where it ends, also for a full circle.\n\
+             It needs `X` or `Y` in `G17`, `Z` or `X` in `G18`, `Y` or `Z` in `G19`.",
             example: "`G2 I5 F60`",
             answer: "`ngc: fault 241 line 1`",
             place: None,
-            mend: "For a full circle write the axis where it stands: `G2 X0 I5`.",
+            mend: "For a full circle write an axis at its current position: `G2 X0 I5`.",
         },
         Row {
             number: 241,
-            rule: "The third axis isn't one of the plane.",
+            rule: "This arc has a word of the third axis only: write an axis word of its plane too.",
             example: "`G2 Z-1 I5 F60`",
             answer: "`ngc: fault 241 line 1`",
             place: None,
-            mend: "The same; or look for a `G17`, `G18` or `G19` that is missing.",
+            mend: "For a full turn of a helix write `G2 X0 Z-1 I5`. Or look for a missing `G17`, `G18` or `G19`.",
         },
         Row {
             number: 242,
-            rule: "An arc has one of the offsets of its plane, or `R`. They aren't kept.",
+            rule: "This arc has no centre and no radius: write `I` and `J`, or `R`.\n\
+             Each arc needs an offset of its plane or `R`: they aren't kept from line to line.",
             example: "`F60 G2 X10`",
             answer: "`ngc: fault 242 line 1`",
             place: None,
-            mend: "Write `I` and `J`, or `R`, on each line; write `G1` if a straight line is meant.",
+            mend: "The offsets are `I` and `K` in `G18`, and `J` and `K` in `G19`. If a straight line is meant,\n\
+             write `G1`.",
         },
         Row {
             number: 243,
-            rule: "The distances of start and end from the centre differ by at most 0.002 mm in `G21` and 0.0002\n\
-             inch in `G20`.",
+            rule: "The start and the end of this arc aren't equally far from its centre: correct its end or its\n\
+             offsets.\n\
+             The two radii differ by at most 0.002 mm in `G21` and 0.0002 inch in `G20`.",
             example: "`G2 X10.003 I5 F60`",
             answer: "`ngc: fault 243 line 1`",
             place: None,
-            mend: "Write more decimals. Offsets are from the start of the arc; look for a wrong sign, or a line\n\
-             before it that ends elsewhere.",
+            mend: "Write more decimals. Offsets are counted from the start of the arc: look for a wrong sign, or a\n\
+             line before it that ends elsewhere.",
         },
         Row {
             number: 244,
-            rule: "In radius format the radius reaches from start to end, to within the same tolerance (the\n\
-             tolerance here is our own).",
+            rule: "The radius is too small to reach from start to end: write a greater `R`.\n\
+             The least is half the distance between them, less 0.002 mm in `G21` and 0.0002 inch in `G20`\n\
+             (our own).",
             example: "`G2 X10 R4.997 F60`",
             answer: "`ngc: fault 244 line 1`",
             place: None,
-            mend: "Half the way from start to end is the least radius: write a greater one.",
+            mend: "The example needs `R5`: its ends are 10 mm apart.",
         },
         Row {
             number: 245,
-            rule: "In radius format start and end differ in the plane.",
+            rule: "This arc with `R` ends where it starts: write a full circle with `I` and `J`.\n\
+             With `R` the two must differ in the plane.",
             example: "`G2 X0 R5 F60`",
             answer: "`ngc: fault 245 line 1`",
             place: None,
-            mend: "Write a full circle with `I` and `J`.",
+            mend: "For example `G2 X0 I5`. If no full circle is meant, correct the end.",
         },
         Row {
             number: 246,
-            rule: "A radius is 1 nm to 2,000 mm: in centre format the distances of start and end from the centre,\n\
-             in radius format the word `R`; and the centre falls on neither end (our own).",
+            rule: "The radius of this arc is 0 or too large: correct its offsets.\n\
+             Start and end are 1 nm to 2,000 mm from the centre (our own).",
             example: "`G2 X10 I0 F60`",
             answer: "`ngc: fault 246 line 1`",
             place: None,
-            mend: "Look for an offset that is missing, or a point.",
+            mend: "Look for a missing offset, or for a missing decimal point.",
         },
         Row {
             number: 246,
-            rule: "The same in radius format.",
+            rule: "The radius of this arc is 0 or too large: write another `R`.\n\
+             It is 1 nm to 2,000 mm either way, and the centre isn't at the start or the end (our own).",
             example: "`G2 X10 R0 F60`",
             answer: "`ngc: fault 246 line 1`",
             place: None,
-            mend: "Write the radius.",
+            mend: "For example `G2 X10 R5`. With a negative `R` the arc goes the long way round.",
         },
         Row {
             number: 252,
-            rule: "An arc has a feed above 0.",
+            rule: "No feed is set for this arc: write `F` with a feed rate in mm/min on this line or before it.\n\
+             An arc needs a feed above 0.",
             example: "`G2 X10 I5`",
             answer: "`ngc: fault 252 line 1`",
             place: None,
-            mend: "Write `F` on the line or before it. In `G93` it must stand on the line.",
+            mend: "For example `G2 X10 I5 F60`; in `G20` the rate is in inches per minute. In `G93` `F` must be on\n\
+             the line itself.",
         },
     ];
     ROWS

@@ -36,7 +36,7 @@ impl ExplainFault {
     }
 }
 
-// Writes texts one behind the other.
+// Writes texts one after the other.
 fn write_texts<W: Sink>(texts: &[&[u8]], output: &mut W) -> Result<(), WriteFault>
     ensures ok { OnOk result
         (Appends (W.written output.old) (W.written output.new) (all_of texts.now)) }
@@ -89,7 +89,7 @@ fn write_beginning<W: Sink>(part: &Part, row: &Row, output: &mut W) -> Result<()
         row.rule.as_bytes(),
         b"\n\nExample: ",
         row.example.as_bytes(),
-        b"\nAnswer: ",
+        b"\nMessage: ",
         row.answer.as_bytes(),
         b"\n",
     ];
@@ -175,13 +175,13 @@ fn is_on(parts: &[Part], number: u16) -> bool
     parts.iter().any(|part| is_in(part.rows, number))
 }
 
-/// Writes what the page docs/FAULTS.md tells of a fault: some ten lines for each of its rows, of at
+/// Writes what the page docs/FAULTS.md says of a fault: some ten lines for each of its rows, of at
 /// most 96 characters.
 pub fn explain<W: Sink>(number: u16, output: &mut W) -> Result<(), ExplainFault>
     // Only a number that no fault has is unknown.
     ensures unknown { (result ≡ Err ExplainFault.Unknown) ↔ (is_fault number ≡ false) }
-    // What is written are the rows with this number of a page that has all faults, or a beginning
-    // where a write failed.
+    // What is written are the rows with this number of a page that has all faults, or a prefix of
+    // them where a write failed.
     ensures tells { Tells number (W.written output.old) (W.written output.new) result }
     // A fault of writing comes only from a sink that failed.
     ensures sink { FailsByWriting result (W.failures output.old) (W.failures output.new) }
