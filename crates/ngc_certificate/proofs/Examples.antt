@@ -36,7 +36,7 @@ abbrev line : ℕ → GridBox → Piece
 line t b = record { end = Part t; bounds = b }
 
 abbrev with_fixture : Point3 → Point3 → MachineFile
-with_fixture low high = record built_in_machine { fixtures = record { low = low; high = high } ∷ [] }
+with_fixture low high = record built_in_machine { fixtures = record { low = low; high = high; name = [] } ∷ [] }
 
 -- from zero, along X to x
 abbrev along_x : ℤ → Way
@@ -155,7 +155,7 @@ mounted number bottom length =
     record {
       line = 1;
       action =
-          Mount (Some (record { number = number; offset = pos 0; bottom = bottom; parts = record { length = length; radius = pos 3000000 } ∷ [] }));
+          Mount (Some (record { number = number; offset = pos 0; bottom = bottom; parts = record { length = length; radius = pos 3000000 } ∷ []; name = [] }));
     } ∷ []
 
 -- a tool of 60 mm extends into the fixture, one of 20 mm does not
