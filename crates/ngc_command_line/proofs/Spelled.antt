@@ -17,21 +17,21 @@ use Rattle.std.proofs.lemmas.Str.Parse.{digit_from_value}
 use Rattle.clap.specs.declared.builder.value_parser.ValueParser.TheVariants.{Unsigned}
 use Rattle.clap.proofs.ValueTestLemmas.{Accepts-accepts}
 use Rattle.ngc_command_line.specs.CommandLine.{MachineSource, FromGrbl, FromFigures, adapt_words, machine_words}
-use Rattle.ngc_command_line.specs.CommandLine.{certify_words, check_words, draw_words, format_text, help_words, list_words, ngc_app, report_words, run_name}
+use Rattle.ngc_command_line.specs.CommandLine.{certify_words, check_words, draw_words, format_text, help_words, list_words, live_words, ngc_app, report_words, run_name}
 use Rattle.ngc_command_line.specs.CommandLine.{run_words, show_words}
 use Rattle.ngc_command_line.specs.Meant.{AreCommands, AreCuts, AreCutsInRange, AreOptions, AsksForCertify, AsksForCheck, AsksForDraw, AsksForHelp, AsksForList}
-use Rattle.ngc_command_line.specs.Meant.{AsksForAdapt, AsksForMachine, acceleration_in, feed_in, grbl_in, steps_in, travel_in}
+use Rattle.ngc_command_line.specs.Meant.{AsksForAdapt, AsksForLive, AsksForMachine, acceleration_in, feed_in, grbl_in, steps_in, travel_in}
 use Rattle.ngc_command_line.specs.Meant.{AsksForReport, AsksForRun, AsksForShow, IsFormat, IsMask, IsTaken, IsTool, IsToolInRange, is_set}
 use Rattle.ngc_command_line.specs.declared.options.Format.{Format}
 use Rattle.ngc_command_line.specs.declared.options.Format.TheVariants.{One, Two}
 use Rattle.ngc_command_line.specs.declared.options.Options.{Options}
 use Rattle.ngc_command_line.specs.declared.options.Options.TheVariants.{Adapt as ToAdapt, Machine as ToMachine}
-use Rattle.ngc_command_line.specs.declared.options.Options.TheVariants.{Certify as ToCertify, Check as ToCheck, Draw as ToDraw, Explain as ToExplain}
+use Rattle.ngc_command_line.specs.declared.options.Options.TheVariants.{Certify as ToCertify, Check as ToCheck, Draw as ToDraw, Explain as ToExplain, Live as ToLive}
 use Rattle.ngc_command_line.specs.declared.options.Options.TheVariants.{Help as ToHelp, List as ToList, Report as ToReport, Run as ToRun}
 use Rattle.ngc_command_line.specs.declared.options.Options.TheVariants.{RunThrough as ToRunThrough, Show as ToShow, Version as ToVersion}
 use Rattle.ngc_command_line.specs.declared.options.Recording.{Recording}
 use Rattle.ngc_command_line.specs.declared.options.Recording.TheVariants.{Log, Pulses}
-use Rattle.ngc_command_line.proofs.Whole.{no_run, other_letter, other_name, report_is_no_run}
+use Rattle.ngc_command_line.proofs.Whole.{no_run, other_letter, other_name, other_third, report_is_no_run}
 
 -- the words are taken, and this holds of the subcommand that they name
 abbrev Spells : List Text → (Option (Text × List Row) → Type 0) → Type 0
@@ -76,6 +76,8 @@ list_asked program machine tools delete (Some found) (ToRun run) finds are =
     no_run (codes "list") run.recording (sym finds.0 ∙ are.0) (λ three. omega (arith, three)) (λ six. omega (arith, six))
 list_asked program machine tools delete (Some found) (ToRunThrough run) finds are =
     no_run (codes "list") run.recording (sym finds.0 ∙ are.0) (λ three. omega (arith, three)) (λ six. omega (arith, six))
+list_asked program machine tools delete (Some found) (ToLive live) finds are =
+    other_third (codes "list") (codes "live") (sym finds.0 ∙ are.0) (λ thirds. omega (arith, thirds))
 list_asked program machine tools delete (Some found) (ToDraw draw) finds are =
     other_letter (codes "list") (codes "draw") (sym finds.0 ∙ are.0) (λ letters. omega (arith, letters))
 list_asked program machine tools delete (Some found) (ToShow show) finds are =
@@ -131,6 +133,8 @@ check_asked machine tools certificate program (Some found) (ToRun run) finds are
     no_run (codes "check") run.recording (sym finds.0 ∙ are.0) (λ three. omega (arith, three)) (λ six. omega (arith, six))
 check_asked machine tools certificate program (Some found) (ToRunThrough run) finds are =
     no_run (codes "check") run.recording (sym finds.0 ∙ are.0) (λ three. omega (arith, three)) (λ six. omega (arith, six))
+check_asked machine tools certificate program (Some found) (ToLive live) finds are =
+    other_letter (codes "check") (codes "live") (sym finds.0 ∙ are.0) (λ letters. omega (arith, letters))
 check_asked machine tools certificate program (Some found) (ToDraw draw) finds are =
     other_name (codes "check") (codes "draw") (sym finds.0 ∙ are.0) (λ lengths. omega (arith, lengths))
 check_asked machine tools certificate program (Some found) (ToShow show) finds are =
@@ -252,6 +256,8 @@ run_asked recording machine tools certificate events program delete output (Some
     no_run (codes "certify") recording (sym (are.0) ∙ finds.0) (λ three. omega (arith, three)) (λ six. omega (arith, six))
 run_asked recording machine tools certificate events program delete output (Some found) (ToCheck check) finds are =
     no_run (codes "check") recording (sym (are.0) ∙ finds.0) (λ three. omega (arith, three)) (λ six. omega (arith, six))
+run_asked recording machine tools certificate events program delete output (Some found) (ToLive live) finds are =
+    no_run (codes "live") recording (sym (are.0) ∙ finds.0) (λ three. omega (arith, three)) (λ six. omega (arith, six))
 run_asked recording machine tools certificate events program delete output (Some found) (ToDraw draw) finds are =
     no_run (codes "draw") recording (sym (are.0) ∙ finds.0) (λ three. omega (arith, three)) (λ six. omega (arith, six))
 run_asked recording machine tools certificate events program delete output (Some found) (ToShow show) finds are =
@@ -279,6 +285,80 @@ pub run_read : (words : List Text) (recording : Recording) (machine tools certif
 run_read words recording machine tools certificate events program delete output options spelled are =
     let Are : List Text → Type 0 = λ ws. AreOptions (subcommand_of ngc_app ws) options in
     run_asked recording machine tools certificate events program delete output _ options (run_spells recording machine tools certificate events program delete output).1
+    (subst Are spelled are)
+
+-- the values of `live` that were found are these
+abbrev FindsLive : Text → Text → Text → Text → Bool → Option Text → Bool → Option (Text × List Row) → Type 0
+FindsLive machine tools certificate program delete output feed_ring None = ⊥
+FindsLive machine tools certificate program delete output feed_ring (Some found) = (found.0 ≡ codes "live") × (first_of (codes "machine") found.1 ≡ Some machine)
+    × (first_of (codes "tools") found.1 ≡ Some tools) × (first_of (codes "certificate") found.1 ≡ Some certificate)
+    × (first_of (codes "program") found.1 ≡ Some program) × (is_set (codes "delete") found.1 ≡ delete)
+    × (first_of (codes "output") found.1 ≡ output) × (first_of (codes "inverted") found.1 ≡ None) × (is_set (codes "feed-ring") found.1 ≡ feed_ring)
+
+live_spells : (machine tools certificate program : Text) (delete : Bool) (output : Option Text) (feed_ring : Bool)
+    → Spells (live_words machine tools certificate program delete output feed_ring) (FindsLive machine tools certificate program delete output feed_ring)
+unfolding clap_on_literals
+live_spells machine tools certificate program false None false = (refl, (refl, refl, refl, refl, refl, refl, refl, refl, refl))
+live_spells machine tools certificate program false None true = (refl, (refl, refl, refl, refl, refl, refl, refl, refl, refl))
+live_spells machine tools certificate program false (Some output) false = (refl, (refl, refl, refl, refl, refl, refl, refl, refl, refl))
+live_spells machine tools certificate program false (Some output) true = (refl, (refl, refl, refl, refl, refl, refl, refl, refl, refl))
+live_spells machine tools certificate program true None false = (refl, (refl, refl, refl, refl, refl, refl, refl, refl, refl))
+live_spells machine tools certificate program true None true = (refl, (refl, refl, refl, refl, refl, refl, refl, refl, refl))
+live_spells machine tools certificate program true (Some output) false = (refl, (refl, refl, refl, refl, refl, refl, refl, refl, refl))
+live_spells machine tools certificate program true (Some output) true = (refl, (refl, refl, refl, refl, refl, refl, refl, refl, refl))
+
+live_asked : (machine tools certificate program : Text) (delete : Bool) (output : Option Text) (feed_ring : Bool) (found : Option (Text × List Row)) (options : Options)
+    → FindsLive machine tools certificate program delete output feed_ring found → AreOptions found options →
+    AsksForLive machine tools certificate program delete output feed_ring options
+live_asked machine tools certificate program delete output feed_ring None options finds are = absurd finds
+live_asked machine tools certificate program delete output feed_ring (Some found) (ToLive live) finds are = (
+  same_text _ _ _ are.1.machine finds.1,
+  same_text _ _ _ are.1.tools finds.2,
+  same_text _ _ _ are.1.certificate finds.3,
+  same_text _ _ _ are.1.program finds.4,
+  are.1.delete ∙ finds.5,
+  are.1.output ∙ finds.6,
+  no_mask _ live.inverted are.1.inverted finds.7,
+  are.1.feed_ring ∙ finds.8,
+)
+live_asked machine tools certificate program delete output feed_ring (Some found) (ToList list) finds are =
+    other_third (codes "live") (codes "list") (sym finds.0 ∙ are.0) (λ thirds. omega (arith, thirds))
+live_asked machine tools certificate program delete output feed_ring (Some found) (ToCertify certify) finds are =
+    other_letter (codes "live") (codes "certify") (sym finds.0 ∙ are.0) (λ letters. omega (arith, letters))
+live_asked machine tools certificate program delete output feed_ring (Some found) (ToCheck check) finds are =
+    other_letter (codes "live") (codes "check") (sym finds.0 ∙ are.0) (λ letters. omega (arith, letters))
+live_asked machine tools certificate program delete output feed_ring (Some found) (ToRun run) finds are =
+    no_run (codes "live") run.recording (sym finds.0 ∙ are.0) (λ three. omega (arith, three)) (λ six. omega (arith, six))
+live_asked machine tools certificate program delete output feed_ring (Some found) (ToRunThrough run) finds are =
+    no_run (codes "live") run.recording (sym finds.0 ∙ are.0) (λ three. omega (arith, three)) (λ six. omega (arith, six))
+live_asked machine tools certificate program delete output feed_ring (Some found) (ToDraw draw) finds are =
+    other_letter (codes "live") (codes "draw") (sym finds.0 ∙ are.0) (λ letters. omega (arith, letters))
+live_asked machine tools certificate program delete output feed_ring (Some found) (ToShow show) finds are =
+    other_letter (codes "live") (codes "show") (sym finds.0 ∙ are.0) (λ letters. omega (arith, letters))
+live_asked machine tools certificate program delete output feed_ring (Some found) (ToReport report) finds are =
+    other_letter (codes "live") (codes "report") (sym finds.0 ∙ are.0) (λ letters. omega (arith, letters))
+live_asked machine tools certificate program delete output feed_ring (Some found) (ToAdapt adapt) finds are =
+    other_letter (codes "live") (codes "adapt") (sym finds.0 ∙ are.0) (λ letters. omega (arith, letters))
+live_asked machine tools certificate program delete output feed_ring (Some found) (ToMachine made) finds are =
+    other_letter (codes "live") (codes "machine") (sym finds.0 ∙ are.0) (λ letters. omega (arith, letters))
+live_asked machine tools certificate program delete output feed_ring (Some found) (ToExplain number) finds are =
+    other_letter (codes "live") (codes "explain") (sym finds.0 ∙ are.0) (λ letters. omega (arith, letters))
+live_asked machine tools certificate program delete output feed_ring (Some found) (ToHelp command) finds are =
+    other_letter (codes "live") (codes "help") (sym finds.0 ∙ are.0) (λ letters. omega (arith, letters))
+live_asked machine tools certificate program delete output feed_ring (Some found) ToVersion finds are =
+    other_letter (codes "live") (codes "version") (sym finds.0 ∙ are) (λ letters. omega (arith, letters))
+
+pub live_taken : (words : List Text) (machine tools certificate program : Text) (delete : Bool) (output : Option Text) (feed_ring : Bool)
+    → words ≡ live_words machine tools certificate program delete output feed_ring → IsTaken words
+live_taken words machine tools certificate program delete output feed_ring spelled =
+    subst IsTaken (sym spelled) (live_spells machine tools certificate program delete output feed_ring).0
+
+pub live_read : (words : List Text) (machine tools certificate program : Text) (delete : Bool) (output : Option Text) (feed_ring : Bool) (options : Options)
+    → words ≡ live_words machine tools certificate program delete output feed_ring → AreOptions (subcommand_of ngc_app words) options
+    → AsksForLive machine tools certificate program delete output feed_ring options
+live_read words machine tools certificate program delete output feed_ring options spelled are =
+    let Are : List Text → Type 0 = λ ws. AreOptions (subcommand_of ngc_app ws) options in
+    live_asked machine tools certificate program delete output feed_ring _ options (live_spells machine tools certificate program delete output feed_ring).1
     (subst Are spelled are)
 
 -- the values of `draw` that were found are these
@@ -372,6 +452,8 @@ draw_asked machine tools certificate program view delete bodies whole (Some foun
   are.1.bodies ∙ finds.7,
   are.1.whole ∙ finds.8,
 )
+draw_asked machine tools certificate program view delete bodies whole (Some found) (ToLive live) finds are =
+    other_letter (codes "draw") (codes "live") (sym finds.0 ∙ are.0) (λ letters. omega (arith, letters))
 draw_asked machine tools certificate program view delete bodies whole (Some found) (ToList list) finds are =
     other_letter (codes "draw") (codes "list") (sym finds.0 ∙ are.0) (λ letters. omega (arith, letters))
 draw_asked machine tools certificate program view delete bodies whole (Some found) (ToCertify certify) finds are =
@@ -433,6 +515,8 @@ show_asked machine tools warnings (Some found) (ToCertify certify) finds are =
     other_letter (codes "show") (codes "certify") (sym finds.0 ∙ are.0) (λ letters. omega (arith, letters))
 show_asked machine tools warnings (Some found) (ToCheck check) finds are =
     other_letter (codes "show") (codes "check") (sym finds.0 ∙ are.0) (λ letters. omega (arith, letters))
+show_asked machine tools warnings (Some found) (ToLive live) finds are =
+    other_letter (codes "show") (codes "live") (sym finds.0 ∙ are.0) (λ letters. omega (arith, letters))
 show_asked machine tools warnings (Some found) (ToDraw draw) finds are =
     other_letter (codes "show") (codes "draw") (sym finds.0 ∙ are.0) (λ letters. omega (arith, letters))
 show_asked machine tools warnings (Some found) (ToReport report) finds are =
@@ -578,6 +662,8 @@ certify_asked machine tools program cuts format (Some found) (ToRun run) range f
     no_run (codes "certify") run.recording (sym finds.0 ∙ are.0) (λ three. omega (arith, three)) (λ six. omega (arith, six))
 certify_asked machine tools program cuts format (Some found) (ToRunThrough run) range finds are =
     no_run (codes "certify") run.recording (sym finds.0 ∙ are.0) (λ three. omega (arith, three)) (λ six. omega (arith, six))
+certify_asked machine tools program cuts format (Some found) (ToLive live) range finds are =
+    other_letter (codes "certify") (codes "live") (sym finds.0 ∙ are.0) (λ letters. omega (arith, letters))
 certify_asked machine tools program cuts format (Some found) (ToDraw draw) range finds are =
     other_name (codes "certify") (codes "draw") (sym finds.0 ∙ are.0) (λ lengths. omega (arith, lengths))
 certify_asked machine tools program cuts format (Some found) (ToShow show) range finds are =
@@ -682,6 +768,8 @@ report_asked machine tools program cuts all json (Some found) (ToCheck check) ra
     other_name (codes "report") (codes "check") (sym finds.0 ∙ are.0) (λ lengths. omega (arith, lengths))
 report_asked machine tools program cuts all json (Some found) (ToRun run) range finds are = report_is_no_run run.recording (sym finds.0 ∙ are.0)
 report_asked machine tools program cuts all json (Some found) (ToRunThrough run) range finds are = report_is_no_run run.recording (sym finds.0 ∙ are.0)
+report_asked machine tools program cuts all json (Some found) (ToLive live) range finds are =
+    other_letter (codes "report") (codes "live") (sym finds.0 ∙ are.0) (λ letters. omega (arith, letters))
 report_asked machine tools program cuts all json (Some found) (ToDraw draw) range finds are =
     other_name (codes "report") (codes "draw") (sym finds.0 ∙ are.0) (λ lengths. omega (arith, lengths))
 report_asked machine tools program cuts all json (Some found) (ToShow show) range finds are =
@@ -794,6 +882,8 @@ adapt_asked from machine tool drop program (Some found) (ToCertify certify) rang
     other_letter (codes "adapt") (codes "certify") (sym finds.0 ∙ are.0) (λ letters. omega (arith, letters))
 adapt_asked from machine tool drop program (Some found) (ToCheck check) range finds are =
     other_letter (codes "adapt") (codes "check") (sym finds.0 ∙ are.0) (λ letters. omega (arith, letters))
+adapt_asked from machine tool drop program (Some found) (ToLive live) range finds are =
+    other_letter (codes "adapt") (codes "live") (sym finds.0 ∙ are.0) (λ letters. omega (arith, letters))
 adapt_asked from machine tool drop program (Some found) (ToDraw draw) range finds are =
     other_letter (codes "adapt") (codes "draw") (sym finds.0 ∙ are.0) (λ letters. omega (arith, letters))
 adapt_asked from machine tool drop program (Some found) (ToShow show) range finds are =
@@ -880,6 +970,8 @@ machine_asked source corner ticks frame (Some found) (ToCertify certify) finds a
     other_letter (codes "machine") (codes "certify") (sym finds.0 ∙ are.0) (λ letters. omega (arith, letters))
 machine_asked source corner ticks frame (Some found) (ToCheck check) finds are =
     other_letter (codes "machine") (codes "check") (sym finds.0 ∙ are.0) (λ letters. omega (arith, letters))
+machine_asked source corner ticks frame (Some found) (ToLive live) finds are =
+    other_letter (codes "machine") (codes "live") (sym finds.0 ∙ are.0) (λ letters. omega (arith, letters))
 machine_asked source corner ticks frame (Some found) (ToDraw draw) finds are =
     other_letter (codes "machine") (codes "draw") (sym finds.0 ∙ are.0) (λ letters. omega (arith, letters))
 machine_asked source corner ticks frame (Some found) (ToShow show) finds are =
@@ -928,15 +1020,16 @@ help_spells (Some command) among = elim among [
   | inr (inr (inl same)) ↦ help_on command (codes "check") same (refl, (refl, refl))
   | inr (inr (inr (inl same))) ↦ help_on command (codes "run") same (refl, (refl, refl))
   | inr (inr (inr (inr (inl same)))) ↦ help_on command (codes "pulses") same (refl, (refl, refl))
-  | inr (inr (inr (inr (inr (inl same))))) ↦ help_on command (codes "draw") same (refl, (refl, refl))
-  | inr (inr (inr (inr (inr (inr (inl same)))))) ↦ help_on command (codes "show") same (refl, (refl, refl))
-  | inr (inr (inr (inr (inr (inr (inr (inl same))))))) ↦ help_on command (codes "report") same (refl, (refl, refl))
-  | inr (inr (inr (inr (inr (inr (inr (inr (inl same)))))))) ↦ help_on command (codes "adapt") same (refl, (refl, refl))
-  | inr (inr (inr (inr (inr (inr (inr (inr (inr (inl same))))))))) ↦ help_on command (codes "machine") same (refl, (refl, refl))
-  | inr (inr (inr (inr (inr (inr (inr (inr (inr (inr (inl same)))))))))) ↦ help_on command (codes "explain") same (refl, (refl, refl))
-  | inr (inr (inr (inr (inr (inr (inr (inr (inr (inr (inr (inl same))))))))))) ↦ help_on command (codes "help") same (refl, (refl, refl))
-  | inr (inr (inr (inr (inr (inr (inr (inr (inr (inr (inr (inr (inl same)))))))))))) ↦ help_on command (codes "version") same (refl, (refl, refl))
-  | inr (inr (inr (inr (inr (inr (inr (inr (inr (inr (inr (inr (inr none)))))))))))) ↦ absurd none
+  | inr (inr (inr (inr (inr (inl same))))) ↦ help_on command (codes "live") same (refl, (refl, refl))
+  | inr (inr (inr (inr (inr (inr (inl same)))))) ↦ help_on command (codes "draw") same (refl, (refl, refl))
+  | inr (inr (inr (inr (inr (inr (inr (inl same))))))) ↦ help_on command (codes "show") same (refl, (refl, refl))
+  | inr (inr (inr (inr (inr (inr (inr (inr (inl same)))))))) ↦ help_on command (codes "report") same (refl, (refl, refl))
+  | inr (inr (inr (inr (inr (inr (inr (inr (inr (inl same))))))))) ↦ help_on command (codes "adapt") same (refl, (refl, refl))
+  | inr (inr (inr (inr (inr (inr (inr (inr (inr (inr (inl same)))))))))) ↦ help_on command (codes "machine") same (refl, (refl, refl))
+  | inr (inr (inr (inr (inr (inr (inr (inr (inr (inr (inr (inl same))))))))))) ↦ help_on command (codes "explain") same (refl, (refl, refl))
+  | inr (inr (inr (inr (inr (inr (inr (inr (inr (inr (inr (inr (inl same)))))))))))) ↦ help_on command (codes "help") same (refl, (refl, refl))
+  | inr (inr (inr (inr (inr (inr (inr (inr (inr (inr (inr (inr (inr (inl same))))))))))))) ↦ help_on command (codes "version") same (refl, (refl, refl))
+  | inr (inr (inr (inr (inr (inr (inr (inr (inr (inr (inr (inr (inr (inr none))))))))))))) ↦ absurd none
 ]
 
 help_asked : (command : Option Text) (found : Option (Text × List Row)) (options : Options) → FindsHelp command found → AreOptions found options →
@@ -951,6 +1044,8 @@ help_asked command (Some found) (ToRun run) finds are =
     no_run (codes "help") run.recording (sym finds.0 ∙ are.0) (λ three. omega (arith, three)) (λ six. omega (arith, six))
 help_asked command (Some found) (ToRunThrough run) finds are =
     no_run (codes "help") run.recording (sym finds.0 ∙ are.0) (λ three. omega (arith, three)) (λ six. omega (arith, six))
+help_asked command (Some found) (ToLive live) finds are =
+    other_letter (codes "help") (codes "live") (sym finds.0 ∙ are.0) (λ letters. omega (arith, letters))
 help_asked command (Some found) (ToDraw draw) finds are = other_letter (codes "help") (codes "draw") (sym finds.0 ∙ are.0) (λ letters. omega (arith, letters))
 help_asked command (Some found) (ToShow show) finds are = other_letter (codes "help") (codes "show") (sym finds.0 ∙ are.0) (λ letters. omega (arith, letters))
 help_asked command (Some found) (ToReport report) finds are =
@@ -992,6 +1087,8 @@ version_asked (Some found) (ToRun run) finds are =
     no_run (codes "version") run.recording (sym finds ∙ are.0) (λ three. omega (arith, three)) (λ six. omega (arith, six))
 version_asked (Some found) (ToRunThrough run) finds are =
     no_run (codes "version") run.recording (sym finds ∙ are.0) (λ three. omega (arith, three)) (λ six. omega (arith, six))
+version_asked (Some found) (ToLive live) finds are =
+    other_letter (codes "version") (codes "live") (sym finds ∙ are.0) (λ letters. omega (arith, letters))
 version_asked (Some found) (ToDraw draw) finds are = other_name (codes "version") (codes "draw") (sym finds ∙ are.0) (λ lengths. omega (arith, lengths))
 version_asked (Some found) (ToShow show) finds are = other_letter (codes "version") (codes "show") (sym finds ∙ are.0) (λ letters. omega (arith, letters))
 version_asked (Some found) (ToReport report) finds are = other_name (codes "version") (codes "report") (sym finds ∙ are.0) (λ lengths. omega (arith, lengths))

@@ -92,6 +92,7 @@ shape_is_plain named.Certify = refl
 shape_is_plain named.Check = refl
 shape_is_plain named.Run = refl
 shape_is_plain named.Pulses = refl
+shape_is_plain named.Live = refl
 shape_is_plain named.Draw = refl
 shape_is_plain named.Show = refl
 shape_is_plain named.Report = refl

@@ -12,7 +12,7 @@ use Rattle.clap.specs.Simple.{built, entered, label_of, names_of, new_shape, row
 use Rattle.clap.specs.Walk.{answers_to, nothing_held, rows_after, stop_after}
 use Rattle.ngc_command_line.specs.CommandLine.{ngc_app}
 use Rattle.ngc_command_line.specs.CommandLine.{run_name}
-use Rattle.ngc_command_line.specs.Meant.{HasAdaptValues, HasCertifyValues, HasCheckValues, HasDrawValues, HasExplainValues}
+use Rattle.ngc_command_line.specs.Meant.{HasAdaptValues, HasCertifyValues, HasCheckValues, HasDrawValues, HasExplainValues, HasLiveValues}
 use Rattle.ngc_command_line.specs.Meant.{HasReportValues, HasRunValues, HasShowValues}
 use Rattle.ngc_command_line.specs.Meant.{IsTaken, IsWhole}
 use Rattle.ngc_command_line.specs.declared.options.Recording.{Recording}
@@ -56,20 +56,23 @@ run_shape = slice_index_or (built ngc_app).subs 3 (new_shape [])
 abbrev pulses_shape : Shape
 pulses_shape = slice_index_or (built ngc_app).subs 4 (new_shape [])
 
+abbrev live_shape : Shape
+live_shape = slice_index_or (built ngc_app).subs 5 (new_shape [])
+
 abbrev draw_shape : Shape
-draw_shape = slice_index_or (built ngc_app).subs 5 (new_shape [])
+draw_shape = slice_index_or (built ngc_app).subs 6 (new_shape [])
 
 abbrev show_shape : Shape
-show_shape = slice_index_or (built ngc_app).subs 6 (new_shape [])
+show_shape = slice_index_or (built ngc_app).subs 7 (new_shape [])
 
 abbrev report_shape : Shape
-report_shape = slice_index_or (built ngc_app).subs 7 (new_shape [])
+report_shape = slice_index_or (built ngc_app).subs 8 (new_shape [])
 
 abbrev adapt_shape : Shape
-adapt_shape = slice_index_or (built ngc_app).subs 8 (new_shape [])
+adapt_shape = slice_index_or (built ngc_app).subs 9 (new_shape [])
 
 abbrev explain_shape : Shape
-explain_shape = slice_index_or (built ngc_app).subs 10 (new_shape [])
+explain_shape = slice_index_or (built ngc_app).subs 11 (new_shape [])
 
 explain_sound : AreSound FitsNumber explain_shape.rules
 explain_sound =
@@ -178,6 +181,33 @@ pulses_values words none =
       found_fits (codes "inverted") (IsUnsignedIn 0 255) rows filled,
     )
 
+live_sound : AreSound FitsMask live_shape.rules
+live_sound =
+    let machine = set_is_sound FitsMask _ refl refl refl (λ v none. no_mask (codes "machine") v refl) in
+    let tools = set_is_sound FitsMask _ refl refl refl (λ v none. no_mask (codes "tools") v refl) in
+    let certificate = set_is_sound FitsMask _ refl refl refl (λ v none. no_mask (codes "certificate") v refl) in
+    let program = set_is_sound FitsMask _ refl refl refl (λ v none. no_mask (codes "program") v refl) in
+    let delete = flag_is_sound FitsMask _ (codes "true") (codes "false") refl refl refl (λ v. no_mask (codes "delete") v refl) in
+    let output = set_is_sound FitsMask _ refl refl refl (λ v none. no_mask (codes "output") v refl) in
+    let inverted = set_is_sound FitsMask _ refl refl refl (λ v none same. mask_fits v none) in
+    let feeds = flag_is_sound FitsMask _ (codes "true") (codes "false") refl refl refl (λ v. no_mask (codes "feed-ring") v refl) in
+    (machine, (tools, (certificate, (program, (delete, (output, (inverted, (feeds, (help_is_sound FitsMask _ refl refl, tt)))))))))
+
+live_values : (words : List Text) → level_fault live_shape [] nothing_held words false [] ≡ [] → HasLiveValues (rows_after live_shape.rules [] words)
+live_values words none =
+    let rows = rows_after live_shape.rules [] words in
+    let (filled, required) = level_is_filled FitsMask live_shape live_sound words none in
+    let (machine, others) = neither_true _ _ required in
+    let (tools, more) = neither_true _ _ others in
+    let (certificate, further) = neither_true _ _ more in
+    let (program, rest) = neither_true _ _ further in (
+      given_has_value FitsMask (codes "machine") rows filled (is_true _ machine),
+      given_has_value FitsMask (codes "tools") rows filled (is_true _ tools),
+      given_has_value FitsMask (codes "certificate") rows filled (is_true _ certificate),
+      given_has_value FitsMask (codes "program") rows filled (is_true _ program),
+      found_fits (codes "inverted") (IsUnsignedIn 0 255) rows filled,
+    )
+
 draw_sound : AreSound FitsCuts draw_shape.rules
 draw_sound =
     let machine = set_is_sound FitsCuts _ refl refl refl (λ v none. no_cuts (codes "machine") v refl) in
@@ -270,6 +300,10 @@ other_letter a b same differ = absurd (differ (ap (λ name. get_or name 0 0) sam
 pub other_name : {X : Type 0} (a b : Text) → a ≡ b → (length a ≡ length b → ⊥) → X
 other_name a b same differ = absurd (differ (ap length same))
 
+-- names that differ in their third letter are other names
+pub other_third : {X : Type 0} (a b : Text) → a ≡ b → (get_or a 2 0 ≡ get_or b 2 0 → ⊥) → X
+other_third a b same differ = absurd (differ (ap (λ name. get_or name 2 0) same))
+
 -- names that aren't as long as `run` and `pulses`
 pub no_run : {X : Type 0} (a : Text) (recording : Recording) → a ≡ run_name recording → (length a ≡ 3 → ⊥) → (length a ≡ 6 → ⊥) → X
 no_run a Log same three six = absurd (three (ap length same))
@@ -287,6 +321,7 @@ one_whole found one = elim one [
     certify = λ same. other_name (codes "list") (codes "certify") same (λ lengths. omega (arith, lengths));
     check = λ same. other_name (codes "list") (codes "check") same (λ lengths. omega (arith, lengths));
     run = λ recording same. no_run (codes "list") recording same (λ three. omega (arith, three)) (λ six. omega (arith, six));
+    live = λ same. other_third (codes "list") (codes "live") same (λ thirds. omega (arith, thirds));
     draw = λ same. other_letter (codes "list") (codes "draw") same (λ letters. omega (arith, letters));
     show = λ same. other_letter (codes "list") (codes "show") same (λ letters. omega (arith, letters));
     report = λ same. other_name (codes "list") (codes "report") same (λ lengths. omega (arith, lengths));
@@ -298,6 +333,7 @@ one_whole found one = elim one [
     certify = λ same. certify_values certify.0 certify.2;
     check = λ same. other_name (codes "certify") (codes "check") same (λ lengths. omega (arith, lengths));
     run = λ recording same. no_run (codes "certify") recording same (λ three. omega (arith, three)) (λ six. omega (arith, six));
+    live = λ same. other_letter (codes "certify") (codes "live") same (λ letters. omega (arith, letters));
     draw = λ same. other_name (codes "certify") (codes "draw") same (λ lengths. omega (arith, lengths));
     show = λ same. other_letter (codes "certify") (codes "show") same (λ letters. omega (arith, letters));
     report = λ same. other_name (codes "certify") (codes "report") same (λ lengths. omega (arith, lengths));
@@ -309,6 +345,7 @@ one_whole found one = elim one [
     certify = λ same. other_name (codes "check") (codes "certify") same (λ lengths. omega (arith, lengths));
     check = λ same. check_values check.0 check.2;
     run = λ recording same. no_run (codes "check") recording same (λ three. omega (arith, three)) (λ six. omega (arith, six));
+    live = λ same. other_letter (codes "check") (codes "live") same (λ letters. omega (arith, letters));
     draw = λ same. other_name (codes "check") (codes "draw") same (λ lengths. omega (arith, lengths));
     show = λ same. other_letter (codes "check") (codes "show") same (λ letters. omega (arith, letters));
     report = λ same. other_name (codes "check") (codes "report") same (λ lengths. omega (arith, lengths));
@@ -320,6 +357,7 @@ one_whole found one = elim one [
     certify = λ same. other_name (codes "run") (codes "certify") same (λ lengths. omega (arith, lengths));
     check = λ same. other_name (codes "run") (codes "check") same (λ lengths. omega (arith, lengths));
     run = λ recording same. run_values run.0 run.2;
+    live = λ same. other_letter (codes "run") (codes "live") same (λ letters. omega (arith, letters));
     draw = λ same. other_name (codes "run") (codes "draw") same (λ lengths. omega (arith, lengths));
     show = λ same. other_letter (codes "run") (codes "show") same (λ letters. omega (arith, letters));
     report = λ same. other_name (codes "run") (codes "report") same (λ lengths. omega (arith, lengths));
@@ -331,101 +369,122 @@ one_whole found one = elim one [
     certify = λ same. other_name (codes "pulses") (codes "certify") same (λ lengths. omega (arith, lengths));
     check = λ same. other_name (codes "pulses") (codes "check") same (λ lengths. omega (arith, lengths));
     run = λ recording same. pulses_values pulses.0 pulses.2;
+    live = λ same. other_letter (codes "pulses") (codes "live") same (λ letters. omega (arith, letters));
     draw = λ same. other_name (codes "pulses") (codes "draw") same (λ lengths. omega (arith, lengths));
     show = λ same. other_letter (codes "pulses") (codes "show") same (λ letters. omega (arith, letters));
     report = λ same. other_letter (codes "pulses") (codes "report") same (λ letters. omega (arith, letters));
     adapt = λ same. other_letter (codes "pulses") (codes "adapt") same (λ letters. omega (arith, letters));
     explain = λ same. other_name (codes "pulses") (codes "explain") same (λ lengths. omega (arith, lengths));
   })
-  | inr (inr (inr (inr (inr (inl draw))))) ↦ subst (λ (f : Text × List Row). IsWhole f.0 f.1) draw.1 (record {
+  | inr (inr (inr (inr (inr (inl live))))) ↦ subst (λ (f : Text × List Row). IsWhole f.0 f.1) live.1 (record {
     named = inr (inr (inr (inr (inr (inl refl)))));
+    certify = λ same. other_letter (codes "live") (codes "certify") same (λ letters. omega (arith, letters));
+    check = λ same. other_letter (codes "live") (codes "check") same (λ letters. omega (arith, letters));
+    run = λ recording same. no_run (codes "live") recording same (λ three. omega (arith, three)) (λ six. omega (arith, six));
+    live = λ same. live_values live.0 live.2;
+    draw = λ same. other_letter (codes "live") (codes "draw") same (λ letters. omega (arith, letters));
+    show = λ same. other_letter (codes "live") (codes "show") same (λ letters. omega (arith, letters));
+    report = λ same. other_letter (codes "live") (codes "report") same (λ letters. omega (arith, letters));
+    adapt = λ same. other_letter (codes "live") (codes "adapt") same (λ letters. omega (arith, letters));
+    explain = λ same. other_letter (codes "live") (codes "explain") same (λ letters. omega (arith, letters));
+  })
+  | inr (inr (inr (inr (inr (inr (inl draw)))))) ↦ subst (λ (f : Text × List Row). IsWhole f.0 f.1) draw.1 (record {
+    named = inr (inr (inr (inr (inr (inr (inl refl))))));
     certify = λ same. other_name (codes "draw") (codes "certify") same (λ lengths. omega (arith, lengths));
     check = λ same. other_name (codes "draw") (codes "check") same (λ lengths. omega (arith, lengths));
     run = λ recording same. no_run (codes "draw") recording same (λ three. omega (arith, three)) (λ six. omega (arith, six));
+    live = λ same. other_letter (codes "draw") (codes "live") same (λ letters. omega (arith, letters));
     draw = λ same. draw_values draw.0 draw.2;
     show = λ same. other_letter (codes "draw") (codes "show") same (λ letters. omega (arith, letters));
     report = λ same. other_name (codes "draw") (codes "report") same (λ lengths. omega (arith, lengths));
     adapt = λ same. other_letter (codes "draw") (codes "adapt") same (λ letters. omega (arith, letters));
     explain = λ same. other_name (codes "draw") (codes "explain") same (λ lengths. omega (arith, lengths));
   })
-  | inr (inr (inr (inr (inr (inr (inl show)))))) ↦ subst (λ (f : Text × List Row). IsWhole f.0 f.1) show.1 (record {
-    named = inr (inr (inr (inr (inr (inr (inl refl))))));
+  | inr (inr (inr (inr (inr (inr (inr (inl show))))))) ↦ subst (λ (f : Text × List Row). IsWhole f.0 f.1) show.1 (record {
+    named = inr (inr (inr (inr (inr (inr (inr (inl refl)))))));
     certify = λ same. other_letter (codes "show") (codes "certify") same (λ letters. omega (arith, letters));
     check = λ same. other_letter (codes "show") (codes "check") same (λ letters. omega (arith, letters));
     run = λ recording same. no_run (codes "show") recording same (λ three. omega (arith, three)) (λ six. omega (arith, six));
+    live = λ same. other_letter (codes "show") (codes "live") same (λ letters. omega (arith, letters));
     draw = λ same. other_letter (codes "show") (codes "draw") same (λ letters. omega (arith, letters));
     show = λ same. show_values show.0 show.2;
     report = λ same. other_name (codes "show") (codes "report") same (λ lengths. omega (arith, lengths));
     adapt = λ same. other_letter (codes "show") (codes "adapt") same (λ letters. omega (arith, letters));
     explain = λ same. other_letter (codes "show") (codes "explain") same (λ letters. omega (arith, letters));
   })
-  | inr (inr (inr (inr (inr (inr (inr (inl report))))))) ↦ subst (λ (f : Text × List Row). IsWhole f.0 f.1) report.1 (record {
-    named = inr (inr (inr (inr (inr (inr (inr (inl refl)))))));
+  | inr (inr (inr (inr (inr (inr (inr (inr (inl report)))))))) ↦ subst (λ (f : Text × List Row). IsWhole f.0 f.1) report.1 (record {
+    named = inr (inr (inr (inr (inr (inr (inr (inr (inl refl))))))));
     certify = λ same. other_name (codes "report") (codes "certify") same (λ lengths. omega (arith, lengths));
     check = λ same. other_name (codes "report") (codes "check") same (λ lengths. omega (arith, lengths));
     run = λ recording same. report_is_no_run recording same;
+    live = λ same. other_letter (codes "report") (codes "live") same (λ letters. omega (arith, letters));
     draw = λ same. other_name (codes "report") (codes "draw") same (λ lengths. omega (arith, lengths));
     show = λ same. other_name (codes "report") (codes "show") same (λ lengths. omega (arith, lengths));
     report = λ same. report_values report.0 report.2;
     adapt = λ same. other_letter (codes "report") (codes "adapt") same (λ letters. omega (arith, letters));
     explain = λ same. other_name (codes "report") (codes "explain") same (λ lengths. omega (arith, lengths));
   })
-  | inr (inr (inr (inr (inr (inr (inr (inr (inl adapt)))))))) ↦ subst (λ (f : Text × List Row). IsWhole f.0 f.1) adapt.1 (record {
-    named = inr (inr (inr (inr (inr (inr (inr (inr (inl refl))))))));
+  | inr (inr (inr (inr (inr (inr (inr (inr (inr (inl adapt))))))))) ↦ subst (λ (f : Text × List Row). IsWhole f.0 f.1) adapt.1 (record {
+    named = inr (inr (inr (inr (inr (inr (inr (inr (inr (inl refl)))))))));
     certify = λ same. other_letter (codes "adapt") (codes "certify") same (λ letters. omega (arith, letters));
     check = λ same. other_letter (codes "adapt") (codes "check") same (λ letters. omega (arith, letters));
     run = λ recording same. no_run (codes "adapt") recording same (λ three. omega (arith, three)) (λ six. omega (arith, six));
+    live = λ same. other_letter (codes "adapt") (codes "live") same (λ letters. omega (arith, letters));
     draw = λ same. other_letter (codes "adapt") (codes "draw") same (λ letters. omega (arith, letters));
     show = λ same. other_letter (codes "adapt") (codes "show") same (λ letters. omega (arith, letters));
     report = λ same. other_letter (codes "adapt") (codes "report") same (λ letters. omega (arith, letters));
     adapt = λ same. adapt_values adapt.0 adapt.2;
     explain = λ same. other_letter (codes "adapt") (codes "explain") same (λ letters. omega (arith, letters));
   })
-  | inr (inr (inr (inr (inr (inr (inr (inr (inr (inl machine))))))))) ↦ subst (λ (f : Text × List Row). IsWhole f.0 f.1) machine.1 (record {
-    named = inr (inr (inr (inr (inr (inr (inr (inr (inr (inl refl)))))))));
+  | inr (inr (inr (inr (inr (inr (inr (inr (inr (inr (inl machine)))))))))) ↦ subst (λ (f : Text × List Row). IsWhole f.0 f.1) machine.1 (record {
+    named = inr (inr (inr (inr (inr (inr (inr (inr (inr (inr (inl refl))))))))));
     certify = λ same. other_letter (codes "machine") (codes "certify") same (λ letters. omega (arith, letters));
     check = λ same. other_letter (codes "machine") (codes "check") same (λ letters. omega (arith, letters));
     run = λ recording same. no_run (codes "machine") recording same (λ three. omega (arith, three)) (λ six. omega (arith, six));
+    live = λ same. other_letter (codes "machine") (codes "live") same (λ letters. omega (arith, letters));
     draw = λ same. other_letter (codes "machine") (codes "draw") same (λ letters. omega (arith, letters));
     show = λ same. other_letter (codes "machine") (codes "show") same (λ letters. omega (arith, letters));
     report = λ same. other_letter (codes "machine") (codes "report") same (λ letters. omega (arith, letters));
     adapt = λ same. other_letter (codes "machine") (codes "adapt") same (λ letters. omega (arith, letters));
     explain = λ same. other_letter (codes "machine") (codes "explain") same (λ letters. omega (arith, letters));
   })
-  | inr (inr (inr (inr (inr (inr (inr (inr (inr (inr (inl explain)))))))))) ↦ subst (λ (f : Text × List Row). IsWhole f.0 f.1) explain.1 (record {
-    named = inr (inr (inr (inr (inr (inr (inr (inr (inr (inr (inl refl))))))))));
+  | inr (inr (inr (inr (inr (inr (inr (inr (inr (inr (inr (inl explain))))))))))) ↦ subst (λ (f : Text × List Row). IsWhole f.0 f.1) explain.1 (record {
+    named = inr (inr (inr (inr (inr (inr (inr (inr (inr (inr (inr (inl refl)))))))))));
     certify = λ same. other_letter (codes "explain") (codes "certify") same (λ letters. omega (arith, letters));
     check = λ same. other_name (codes "explain") (codes "check") same (λ lengths. omega (arith, lengths));
     run = λ recording same. no_run (codes "explain") recording same (λ three. omega (arith, three)) (λ six. omega (arith, six));
+    live = λ same. other_letter (codes "explain") (codes "live") same (λ letters. omega (arith, letters));
     draw = λ same. other_name (codes "explain") (codes "draw") same (λ lengths. omega (arith, lengths));
     show = λ same. other_letter (codes "explain") (codes "show") same (λ letters. omega (arith, letters));
     report = λ same. other_name (codes "explain") (codes "report") same (λ lengths. omega (arith, lengths));
     adapt = λ same. other_letter (codes "explain") (codes "adapt") same (λ letters. omega (arith, letters));
     explain = λ same. explain_values explain.0 explain.2;
   })
-  | inr (inr (inr (inr (inr (inr (inr (inr (inr (inr (inr (inl help))))))))))) ↦ subst (λ (f : Text × List Row). IsWhole f.0 f.1) help.1 (record {
-    named = inr (inr (inr (inr (inr (inr (inr (inr (inr (inr (inr (inl refl)))))))))));
+  | inr (inr (inr (inr (inr (inr (inr (inr (inr (inr (inr (inr (inl help)))))))))))) ↦ subst (λ (f : Text × List Row). IsWhole f.0 f.1) help.1 (record {
+    named = inr (inr (inr (inr (inr (inr (inr (inr (inr (inr (inr (inr (inl refl))))))))))));
     certify = λ same. other_name (codes "help") (codes "certify") same (λ lengths. omega (arith, lengths));
     check = λ same. other_name (codes "help") (codes "check") same (λ lengths. omega (arith, lengths));
     run = λ recording same. no_run (codes "help") recording same (λ three. omega (arith, three)) (λ six. omega (arith, six));
+    live = λ same. other_letter (codes "help") (codes "live") same (λ letters. omega (arith, letters));
     draw = λ same. other_letter (codes "help") (codes "draw") same (λ letters. omega (arith, letters));
     show = λ same. other_letter (codes "help") (codes "show") same (λ letters. omega (arith, letters));
     report = λ same. other_name (codes "help") (codes "report") same (λ lengths. omega (arith, lengths));
     adapt = λ same. other_letter (codes "help") (codes "adapt") same (λ letters. omega (arith, letters));
     explain = λ same. other_name (codes "help") (codes "explain") same (λ lengths. omega (arith, lengths));
   })
-  | inr (inr (inr (inr (inr (inr (inr (inr (inr (inr (inr (inr (inl version)))))))))))) ↦ subst (λ (f : Text × List Row). IsWhole f.0 f.1) version.1 (record {
-    named = inr (inr (inr (inr (inr (inr (inr (inr (inr (inr (inr (inr (inl refl))))))))))));
+  | inr (inr (inr (inr (inr (inr (inr (inr (inr (inr (inr (inr (inr (inl version))))))))))))) ↦ subst (λ (f : Text × List Row). IsWhole f.0 f.1) version.1 (record {
+    named = inr (inr (inr (inr (inr (inr (inr (inr (inr (inr (inr (inr (inr (inl refl)))))))))))));
     certify = λ same. other_letter (codes "version") (codes "certify") same (λ letters. omega (arith, letters));
     check = λ same. other_name (codes "version") (codes "check") same (λ lengths. omega (arith, lengths));
     run = λ recording same. no_run (codes "version") recording same (λ three. omega (arith, three)) (λ six. omega (arith, six));
+    live = λ same. other_letter (codes "version") (codes "live") same (λ letters. omega (arith, letters));
     draw = λ same. other_name (codes "version") (codes "draw") same (λ lengths. omega (arith, lengths));
     show = λ same. other_letter (codes "version") (codes "show") same (λ letters. omega (arith, letters));
     report = λ same. other_name (codes "version") (codes "report") same (λ lengths. omega (arith, lengths));
     adapt = λ same. other_letter (codes "version") (codes "adapt") same (λ letters. omega (arith, letters));
     explain = λ same. other_letter (codes "version") (codes "explain") same (λ letters. omega (arith, letters));
   })
-  | inr (inr (inr (inr (inr (inr (inr (inr (inr (inr (inr (inr (inr none)))))))))))) ↦ absurd none
+  | inr (inr (inr (inr (inr (inr (inr (inr (inr (inr (inr (inr (inr (inr none))))))))))))) ↦ absurd none
 ]
 
 -- the subcommand that taken words name

@@ -74,6 +74,15 @@ run_app = with_run_rules (new_app (codes "run"))
 abbrev pub pulses_app : App
 pulses_app = with_run_rules (new_app (codes "pulses"))
 
+-- `live --machine FILE --tools FILE --certificate FILE --program FILE [--delete] [--output FORM]
+-- [--inverted MASK] [--feed-ring]`
+abbrev pub live_app : App
+live_app = fold with_rule (new_app (codes "live"))
+    (required_file (codes "machine") ∷ required_file (codes "tools")
+    ∷ required_file (codes "certificate") ∷ required_file (codes "program")
+    ∷ flag (codes "delete") ∷ file_option (codes "output") ∷ inverted_option
+    ∷ flag (codes "feed-ring") ∷ [])
+
 -- `draw --machine FILE --tools FILE [--certificate FILE] [--program FILE] [--view VIEW] [--delete]
 -- [--bodies] [--whole]`
 abbrev pub draw_app : App
@@ -153,8 +162,8 @@ abbrev pub certifying_shapes : List Shape
 certifying_shapes = list_app.top ∷ certify_app.top ∷ check_app.top ∷ []
 
 abbrev pub running_shapes : List Shape
-running_shapes = run_app.top ∷ pulses_app.top ∷ draw_app.top ∷ show_app.top ∷ report_app.top
-    ∷ adapt_app.top ∷ machine_app.top ∷ []
+running_shapes = run_app.top ∷ pulses_app.top ∷ live_app.top ∷ draw_app.top ∷ show_app.top
+    ∷ report_app.top ∷ adapt_app.top ∷ machine_app.top ∷ []
 
 abbrev pub guide_shapes : List Shape
 guide_shapes = explain_app.top ∷ help_app.top ∷ (new_app (codes "version")).top ∷ []
@@ -267,3 +276,11 @@ run_words recording machine tools certificate events program delete output = run
     ∷ (codes "--certificate=" ++ certificate)
     ∷ (file_words (codes "--events=") events ++ file_words (codes "--program=") program
     ++ flag_words (codes "--delete") delete ++ file_words (codes "--output=") output)
+
+-- the words of `ngc live` with these options, in one spelling
+abbrev pub live_words : Text → Text → Text → Text → Bool → Option Text → Bool → List Text
+live_words machine tools certificate program delete output feed_ring = codes "live"
+    ∷ (codes "--machine=" ++ machine) ∷ (codes "--tools=" ++ tools)
+    ∷ (codes "--certificate=" ++ certificate) ∷ (codes "--program=" ++ program)
+    ∷ (flag_words (codes "--delete") delete ++ file_words (codes "--output=") output
+    ++ flag_words (codes "--feed-ring") feed_ring)

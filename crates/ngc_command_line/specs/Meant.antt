@@ -13,6 +13,7 @@ use Rattle.ngc_command_line.specs.declared.options.DrawOptions.{DrawOptions}
 use Rattle.ngc_command_line.specs.declared.options.Format.{Format}
 use Rattle.ngc_command_line.specs.declared.options.Format.TheVariants.{One, Two}
 use Rattle.ngc_command_line.specs.declared.options.ListOptions.{ListOptions}
+use Rattle.ngc_command_line.specs.declared.options.LiveOptions.{LiveOptions}
 use Rattle.ngc_command_line.specs.declared.options.MachineOptions.{MachineOptions}
 use Rattle.ngc_command_line.specs.declared.options.Recording.{Recording}
 use Rattle.ngc_command_line.specs.declared.options.ReportOptions.{ReportOptions}
@@ -25,6 +26,7 @@ use Rattle.ngc_command_line.specs.declared.options.RunThroughOptions.{RunThrough
 use Rattle.ngc_command_line.specs.declared.options.Options.TheVariants.{Check as ToCheck}
 use Rattle.ngc_command_line.specs.declared.options.Options.TheVariants.{Run as ToRun}
 use Rattle.ngc_command_line.specs.declared.options.Options.TheVariants.{RunThrough as ToRunThrough}
+use Rattle.ngc_command_line.specs.declared.options.Options.TheVariants.{Live as ToLive}
 use Rattle.ngc_command_line.specs.declared.options.Options.TheVariants.{Draw as ToDraw}
 use Rattle.ngc_command_line.specs.declared.options.Options.TheVariants.{Show as ToShow}
 use Rattle.ngc_command_line.specs.declared.options.Options.TheVariants.{Adapt as ToAdapt, Machine as ToMachine}
@@ -128,6 +130,17 @@ AreRunsOptions recording rows (ToRunThrough run) =
     (run.recording ≡ recording) × AreRunThroughOptions rows run
 AreRunsOptions recording rows other = ⊥
 
+-- each option of `live` by the first value that was found under its own name
+pub record AreLiveOptions (rows : List Row) (options : LiveOptions) : Type 0 where
+  pub machine : Some options.machine.now ≡ first_of (codes "machine") rows
+  pub tools : Some options.tools.now ≡ first_of (codes "tools") rows
+  pub certificate : Some options.certificate.now ≡ first_of (codes "certificate") rows
+  pub program : Some options.program.now ≡ first_of (codes "program") rows
+  pub delete : options.delete ≡ is_set (codes "delete") rows
+  pub output : option_map (λ name. name.now) options.output ≡ first_of (codes "output") rows
+  pub inverted : IsMask (first_of (codes "inverted") rows) options.inverted
+  pub feed_ring : options.feed_ring ≡ is_set (codes "feed-ring") rows
+
 -- each option of `draw` by the first value that was found under its own name
 pub record AreDrawOptions (rows : List Row) (options : DrawOptions) : Type 0 where
   pub machine : Some options.machine.now ≡ first_of (codes "machine") rows
@@ -211,6 +224,12 @@ HasRunValues rows = HasValue (codes "machine") rows × HasValue (codes "tools") 
     × HasValue (codes "certificate") rows
     × IfSome (first_of (codes "inverted") rows) (IsUnsignedIn 0 255)
 
+-- what is found for `live` where the words are taken
+abbrev pub HasLiveValues : List Row → Type 0
+HasLiveValues rows = HasValue (codes "machine") rows × HasValue (codes "tools") rows
+    × HasValue (codes "certificate") rows × HasValue (codes "program") rows
+    × IfSome (first_of (codes "inverted") rows) (IsUnsignedIn 0 255)
+
 -- what is found for `draw` where the words are taken
 abbrev pub HasDrawValues : List Row → Type 0
 HasDrawValues rows = HasValue (codes "machine") rows × HasValue (codes "tools") rows
@@ -245,6 +264,7 @@ pub record IsWhole (name : Text) (rows : List Row) : Type 0 where
   pub certify : name ≡ codes "certify" → HasCertifyValues rows
   pub check : name ≡ codes "check" → HasCheckValues rows
   pub run : (recording : Recording) → name ≡ run_name recording → HasRunValues rows
+  pub live : name ≡ codes "live" → HasLiveValues rows
   pub draw : name ≡ codes "draw" → HasDrawValues rows
   pub show : name ≡ codes "show" → HasShowValues rows
   pub report : name ≡ codes "report" → HasReportValues rows
@@ -261,6 +281,7 @@ AreOptions (Some found) (ToCheck check) = (found.0 ≡ codes "check") × AreChec
 AreOptions (Some found) (ToRun run) = (found.0 ≡ run_name run.recording) × AreRunOptions found.1 run
 AreOptions (Some found) (ToRunThrough run) =
     (found.0 ≡ run_name run.recording) × AreRunThroughOptions found.1 run
+AreOptions (Some found) (ToLive live) = (found.0 ≡ codes "live") × AreLiveOptions found.1 live
 AreOptions (Some found) (ToDraw draw) = (found.0 ≡ codes "draw") × AreDrawOptions found.1 draw
 AreOptions (Some found) (ToShow show) = (found.0 ≡ codes "show") × AreShowOptions found.1 show
 AreOptions (Some found) (ToReport report) =
@@ -313,6 +334,15 @@ AsksForRun recording machine tools certificate None program delete output (ToRun
     × (option_map (λ name. name.now) run.program ≡ program) × (run.delete ≡ delete)
     × (option_map (λ name. name.now) run.output ≡ output) × (run.inverted ≡ 0)
 AsksForRun recording machine tools certificate events program delete output other = ⊥
+
+-- `live` is asked for, with these options, and no bits are turned over
+abbrev pub AsksForLive : Text → Text → Text → Text → Bool → Option Text → Bool → Options → Type 0
+AsksForLive machine tools certificate program delete output feed_ring (ToLive live) =
+    (live.machine.now ≡ machine) × (live.tools.now ≡ tools)
+    × (live.certificate.now ≡ certificate) × (live.program.now ≡ program)
+    × (live.delete ≡ delete) × (option_map (λ name. name.now) live.output ≡ output)
+    × (live.inverted ≡ 0) × (live.feed_ring ≡ feed_ring)
+AsksForLive machine tools certificate program delete output feed_ring other = ⊥
 
 -- `draw` is asked for, with these options
 abbrev pub AsksForDraw : Text → Text → Option Text → Option Text → Option Text → Bool → Bool →

@@ -4,7 +4,7 @@ use Rattle.clap.specs.Words.{App, Rule, Shape, new_app, new_rule, with_rule}
 use Rattle.clap.specs.declared.builder.action.ArgAction.TheVariants.{Set, SetTrue}
 use Rattle.clap.specs.declared.builder.value_parser.ValueParser.TheVariants.{Unsigned}
 use Rattle.ngc_command_line.specs.CommandLine.{certify_app, check_app, draw_app, explain_app}
-use Rattle.ngc_command_line.specs.CommandLine.{adapt_app, help_app, list_app, machine_app}
+use Rattle.ngc_command_line.specs.CommandLine.{adapt_app, help_app, list_app, live_app, machine_app}
 use Rattle.ngc_command_line.specs.CommandLine.{pulses_app, report_app, run_app, show_app}
 use Rattle.ngc_command_line.specs.declared.commands.Subcommand.{Subcommand}
 use Rattle.ngc_command_line.specs.declared.commands.Subcommand.TheVariants as named
@@ -35,6 +35,7 @@ app_named named.Certify = certify_app
 app_named named.Check = check_app
 app_named named.Run = run_app
 app_named named.Pulses = pulses_app
+app_named named.Live = live_app
 app_named named.Draw = draw_app
 app_named named.Show = show_app
 app_named named.Report = report_app

@@ -13,6 +13,7 @@ use crate::draw::DRAW;
 use crate::explain::EXPLAIN;
 use crate::guide::{HELP, VERSION};
 use crate::list::LIST;
+use crate::live::LIVE;
 use crate::machine::MACHINE;
 use crate::report::REPORT;
 use crate::run::{PULSES, RUN};
@@ -27,6 +28,7 @@ enum Subcommand {
     Check,
     Run,
     Pulses,
+    Live,
     Draw,
     Show,
     Report,
@@ -38,12 +40,13 @@ enum Subcommand {
 }
 
 // In the order of the help.
-const SUBCOMMANDS: [Subcommand; 13] = [
+const SUBCOMMANDS: [Subcommand; 14] = [
     Subcommand::List,
     Subcommand::Certify,
     Subcommand::Check,
     Subcommand::Run,
     Subcommand::Pulses,
+    Subcommand::Live,
     Subcommand::Draw,
     Subcommand::Show,
     Subcommand::Report,
@@ -64,6 +67,7 @@ fn row_named(subcommand: &Subcommand) -> &'static SubcommandRow<'static>
         Subcommand::Check => &CHECK,
         Subcommand::Run => &RUN,
         Subcommand::Pulses => &PULSES,
+        Subcommand::Live => &LIVE,
         Subcommand::Draw => &DRAW,
         Subcommand::Show => &SHOW,
         Subcommand::Report => &REPORT,

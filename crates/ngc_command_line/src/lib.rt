@@ -12,10 +12,10 @@ ghost use Rattle.ngc_command_line.specs.CommandLine.{certify_words, check_words,
 ghost use Rattle.ngc_command_line.specs.CommandLine.{help_words, list_words, show_words};
 ghost use Rattle.ngc_command_line.specs.CommandLine.{ngc_app, run_words};
 ghost use Rattle.ngc_command_line.specs.CommandLine.{MachineSource, adapt_words, machine_words};
-ghost use Rattle.ngc_command_line.specs.CommandLine.{report_words};
+ghost use Rattle.ngc_command_line.specs.CommandLine.{live_words, report_words};
 ghost use Rattle.ngc_command_line.specs.Meant.{AreCutsInRange, AreOptions, AsksForCertify};
 ghost use Rattle.ngc_command_line.specs.Meant.{AsksForCheck, AsksForDraw, AsksForList, AsksForRun};
-ghost use Rattle.ngc_command_line.specs.Meant.{AsksForShow, AsksForHelp};
+ghost use Rattle.ngc_command_line.specs.Meant.{AsksForLive, AsksForShow, AsksForHelp};
 ghost use Rattle.ngc_command_line.specs.Meant.{AreCommands, AsksForReport, help_fault_number};
 ghost use Rattle.ngc_command_line.specs.Meant.{AsksForAdapt, AsksForMachine, IsTaken, IsToolInRange, IsWhole};
 ghost use Rattle.ngc_command_line.specs.Meant.{usage_fault_number};
@@ -29,6 +29,7 @@ mod draw;
 mod explain;
 mod guide;
 mod list;
+mod live;
 mod machine;
 mod options;
 mod report;
@@ -46,10 +47,11 @@ use draw::draw_options;
 use explain::explained_number;
 use guide::topic;
 use list::list_options;
+use live::live_options;
 use machine::machine_options;
 pub use options::{
-    AdaptOptions, CertifyOptions, CheckOptions, DrawOptions, Format, ListOptions, MachineOptions,
-    Options, Recording, ReportOptions, RunOptions, RunThroughOptions, ShowOptions,
+    AdaptOptions, CertifyOptions, CheckOptions, DrawOptions, Format, ListOptions, LiveOptions,
+    MachineOptions, Options, Recording, ReportOptions, RunOptions, RunThroughOptions, ShowOptions,
 };
 use report::report_options;
 use run::run_options;
@@ -127,6 +129,7 @@ fn options_of<'a>(name: &str, found: &ArgMatches<'a>) -> Options<'a>
         "check" => Options::Check(check_options(found)),
         "run" => run_options(Recording::Log, found),
         "pulses" => run_options(Recording::Pulses, found),
+        "live" => Options::Live(live_options(found)),
         "draw" => Options::Draw(draw_options(found)),
         "show" => Options::Show(show_options(found)),
         "report" => Options::Report(report_options(found)),
@@ -181,6 +184,15 @@ pub fn read_options<'a>(alloc: Global, words: &'a [&'a str]) -> Result<Options<'
         ≡ run_words recording machine tools certificate events program delete output
         → MatchResult result
         (AsksForRun recording machine tools certificate events program delete output)
+        (λ fault. fault ≡ UsageFault.Memory) }
+    // `live --machine=FILE --tools=FILE --certificate=FILE --program=FILE --delete --output=FORM
+    // --feed-ring` is read as it is spelled, where the last three may be left out.
+    ensures spelled_live { (machine tools certificate program : Text) (delete : Bool)
+        (output : Option Text) (feed_ring : Bool)
+        → texts words.entry.now
+        ≡ live_words machine tools certificate program delete output feed_ring
+        → MatchResult result
+        (AsksForLive machine tools certificate program delete output feed_ring)
         (λ fault. fault ≡ UsageFault.Memory) }
     // `draw --machine=FILE --tools=FILE --certificate=FILE --program=FILE --view=VIEW --delete
     // --bodies --whole` is read as it is spelled, where the last six may be left out.

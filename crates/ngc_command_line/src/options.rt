@@ -16,6 +16,8 @@ pub enum Options<'a> {
     Run(RunOptions<'a>),
     /// `ngc run` and `ngc pulses` without events: run a part program through to its end.
     RunThrough(RunThroughOptions<'a>),
+    /// `ngc live`: run a part program on the machine over events that arrive while it goes on.
+    Live(LiveOptions<'a>),
     /// `ngc draw`: draw a part program on the machine.
     Draw(DrawOptions<'a>),
     /// `ngc show`: print what a machine file and a tool table say.
@@ -139,6 +141,27 @@ pub struct RunThroughOptions<'a> {
     pub output: Option<&'a str>,
     /// The bits that are turned over in each byte of the samples. Where none are given it is 0.
     pub inverted: u8,
+}
+
+/// The options of `ngc live`. Its events arrive on standard input.
+#[derive(Clone, Copy)]
+pub struct LiveOptions<'a> {
+    /// The machine file.
+    pub machine: &'a str,
+    /// The file of the tool table.
+    pub tools: &'a str,
+    /// The file of the certificate.
+    pub certificate: &'a str,
+    /// The file of the part program.
+    pub program: &'a str,
+    /// Whether block delete is on, so that lines that begin with `/` are left out.
+    pub delete: bool,
+    /// The name of the form: `log` or `samples`, and else none has it. With none given it is the log.
+    pub output: Option<&'a str>,
+    /// The bits that are turned over in each byte of the samples. Where none are given it is 0.
+    pub inverted: u8,
+    /// Whether commands are loaded before each tick, while the ring has room.
+    pub feed_ring: bool,
 }
 
 /// The options of `ngc draw`.

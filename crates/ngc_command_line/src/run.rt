@@ -20,7 +20,7 @@ const EVENTS: Argument<'static> = Argument {
     help: "List of events: what is done at the panel, and when\n[default: run the program through]",
 };
 
-const LOG_OUTPUT: Argument<'static> = Argument {
+pub(crate) const LOG_OUTPUT: Argument<'static> = Argument {
     name: "output",
     is_named: true,
     is_required: false,
@@ -36,7 +36,7 @@ const PULSES_OUTPUT: Argument<'static> = Argument {
     help: "What to print: vcd, or samples, which are two bytes\nfor each tick [default: vcd]",
 };
 
-const INVERTED: Argument<'static> = Argument {
+pub(crate) const INVERTED: Argument<'static> = Argument {
     name: "inverted",
     is_named: true,
     is_required: false,
@@ -92,7 +92,7 @@ fn mask_in(text: &str) -> u8
     }
 }
 
-fn mask_of(found: &ArgMatches<'_>) -> u8
+pub(crate) fn mask_of(found: &ArgMatches<'_>) -> u8
     requires { IfSome (first_of (codes "inverted") (rows_of (found_of found.now)))
         (IsUnsignedIn 0 255) }
     ensures { IsMask (first_of (codes "inverted") (rows_of (found_of found.now))) result }

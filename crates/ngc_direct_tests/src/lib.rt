@@ -21,6 +21,8 @@ mod given;
 #[cfg(test)]
 mod guides;
 #[cfg(test)]
+mod living;
+#[cfg(test)]
 mod memory;
 #[cfg(test)]
 mod program_pieces;

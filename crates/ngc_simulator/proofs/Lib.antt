@@ -16,6 +16,8 @@ pub mod JudgingLaws
 pub mod MakingLaws
 -- What running a program over events, or to its end, comes to, from what its parts come to.
 pub mod RunLaws
+-- What a run comes to whose events arrive from a source, from what its parts come to.
+pub mod LiveLaws
 -- What drawing a program comes to, from what its parts come to.
 pub mod DrawLaws
 -- Which file of a run isn't read, from what is told of each.

@@ -73,7 +73,7 @@ means_at : (program : ProgramLines) (setup : Setup) (block_delete : Bool) (a : A
 means_at program setup false a keeps = keeps.off
 means_at program setup true a keeps = keeps.on
 
-accepted_job : (setup : Setup) (bytes text : List ℕ) (block_delete : Bool) (verdict : Verdict) (a : AcceptedData)
+pub accepted_job : (setup : Setup) (bytes text : List ℕ) (block_delete : Bool) (verdict : Verdict) (a : AcceptedData)
     → IsVerdict setup bytes text verdict → verdict ≡ Ok a → IsAcceptedJob setup bytes text block_delete (job_of a.machine (commands_at block_delete a))
 accepted_job setup bytes text block_delete verdict a is accepts =
     let checked = subst (Answers (λ x. x) is.program setup is.certificate) accepts is.answers in record {

@@ -13,7 +13,7 @@ use Rattle.ngc_machine.specs.MachineText.{machine_file}
 use Rattle.ngc_machine.specs.ToolText.{tool_table}
 use Rattle.ngc_simulator.specs.Setups.{FileBytes, IfMachine, KeepsFiles}
 use Rattle.ngc_simulator.specs.Shops.{GivesShop}
-use Rattle.ngc_simulator.specs.Faults.{OfCertifying, OfChecking, OfDrawing, OfListing, OfRunning}
+use Rattle.ngc_simulator.specs.Faults.{OfCertifying, OfChecking, OfDrawing, OfListing, OfLiving, OfRunning}
 use Rattle.ngc_simulator.specs.Unread.{Kind, OfMachine, OfTools, OfProgram, OfCertificate, OfEvents, OfSource, IsReadAs, Input, setup_input, shop_inputs, AtFirst}
 use Rattle.ngc_simulator.specs.Unread.{TellsKindUnread, TellsFirstUnread, FailsBy, FailsByInput, program_unread, certificate_unread, unread_by}
 use Rattle.ngc_simulator.specs.declared.fault.AnswerFault.{AnswerFault}
@@ -209,6 +209,18 @@ run_told fails bytes files old new (answers.Check e) of same = same
 run_told fails bytes files old new answers.Memory of same = same
 run_told fails bytes files old new (answers.Write e) of same = same
 run_told fails bytes files old new _ of same = absurd of
+
+-- the source of events is the last one
+pub live_told : (fails : Option (List ℕ) → Type 0) (bytes : FileBytes) (files : List Input) (old new : ℕ) (fault : AnswerFault)
+    → OfLiving fault → AllRead bytes files → new ≡ old → (fault ≡ answers.Input inputs.Device → fails (bytes None)) →
+    Told fails bytes (files ++ record { kind = OfSource; name = None } ∷ []) old new (unread_by fault)
+live_told fails bytes files old new (answers.Input inputs.Device) of all same failed =
+    told_behind fails bytes bytes files OfSource None [] old old new (Some inputs.Device) all refl refl (inl (inr (same, failed refl)))
+live_told fails bytes files old new (answers.Events e) of all same failed = same
+live_told fails bytes files old new (answers.Check e) of all same failed = same
+live_told fails bytes files old new answers.Memory of all same failed = same
+live_told fails bytes files old new (answers.Write e) of all same failed = same
+live_told fails bytes files old new _ of all same failed = absurd of
 
 pub draw_told : (fails : Option (List ℕ) → Type 0) (bytes : FileBytes) (files : List Input) (old new : ℕ) (fault : AnswerFault)
     → OfDrawing fault → new ≡ old → Told fails bytes files old new (unread_by fault)

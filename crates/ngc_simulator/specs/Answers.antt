@@ -8,6 +8,7 @@ use Rattle.ngc_command_line.specs.declared.options.AdaptOptions.{AdaptOptions}
 use Rattle.ngc_command_line.specs.declared.options.CertifyOptions.{CertifyOptions}
 use Rattle.ngc_command_line.specs.declared.options.CheckOptions.{CheckOptions}
 use Rattle.ngc_command_line.specs.declared.options.DrawOptions.{DrawOptions}
+use Rattle.ngc_command_line.specs.declared.options.LiveOptions.{LiveOptions}
 use Rattle.ngc_command_line.specs.declared.options.MachineOptions.{MachineOptions}
 use Rattle.ngc_command_line.specs.declared.options.ReportOptions.{ReportOptions}
 use Rattle.ngc_command_line.specs.declared.options.RunOptions.{RunOptions}
@@ -29,7 +30,7 @@ use Rattle.ngc_simulator.specs.declared.done.Done.TheVariants.{Quietly, RunThrou
 use Rattle.ngc_program_report.specs.declared.run_time.RunTime.{RunTime}
 use Rattle.ngc_simulator.specs.Guides.{Guides, version_text}
 use Rattle.ngc_simulator.specs.Faults.{FailsByOutput, OfCertifying, OfChecking, OfDrawing}
-use Rattle.ngc_simulator.specs.Faults.{OfListing, OfReporting, OfRunning, OfTelling, OfWriting}
+use Rattle.ngc_simulator.specs.Faults.{OfListing, OfLiving, OfReporting, OfRunning, OfTelling, OfWriting}
 use Rattle.ngc_simulator.specs.Faults.{OrOfReading, answer_status, fault_line}
 use Rattle.ngc_simulator.specs.declared.writing.Writing.{Writing}
 use Rattle.ngc_simulator.specs.Writing.{writing_named}
@@ -42,6 +43,8 @@ use Rattle.ngc_report.specs.declared.form.Form.TheVariants.{Words, Json}
 use Rattle.ngc_simulator.specs.Reporting.{Reports}
 use Rattle.ngc_program_report.specs.declared.request.ReportRequest.{ReportRequest}
 use Rattle.ngc_simulator.specs.Jobs.{Certifies, Checks}
+use Rattle.ngc_run_log.specs.declared.live_form.LiveForm.{LiveForm}
+use Rattle.ngc_simulator.specs.Lives.{Lives, live_named}
 use Rattle.ngc_simulator.specs.Running.{Runs, RunsThrough}
 use Rattle.ngc_canonical.specs.State.{Setup}
 use Rattle.ngc_simulator.specs.Setups.{FileBytes, OnSetup}
@@ -268,6 +271,29 @@ RunThroughComes bytes options (Some writing) old new (Err fault) =
     StopsEarly bytes (Some options.machine.now) (Some options.tools.now) old new fault
     ⊎ (OrOfReading OfRunning fault × RunsThroughOn bytes options writing old new (Err fault))
 
+-- ---- events on standard input
+
+abbrev pub live_asked : LiveOptions → Option LiveForm
+live_asked options =
+    live_named (option_map (λ name. name.now) options.output) options.inverted
+
+abbrev pub LivesOnFiles : FileBytes → LiveOptions → LiveForm → Option (List ℕ) →
+    Option (List ℕ) → Result (Unit {0}) AnswerFault → Type 0
+LivesOnFiles bytes options form old new outcome =
+    OnSetup bytes (Some options.machine.now) (Some options.tools.now) (λ setup.
+    IfSome (bytes (Some options.program.now)) (λ text.
+    IfSome (bytes (Some options.certificate.now))
+    (λ certificate. (rest : Option (List ℕ)) ×
+    Lives form options.feed_ring setup text certificate options.delete (bytes None) rest old new outcome)))
+
+-- a form that isn't known is answered before a file is read
+abbrev pub LiveComes : FileBytes → LiveOptions → Option LiveForm → Option (List ℕ) →
+    Option (List ℕ) → Result Done AnswerFault → Type 0
+LiveComes bytes options None old new outcome = (outcome ≡ Err answers.UnknownForm) × Keeps old new
+LiveComes bytes options (Some form) old new outcome =
+    Comes (StopsEarly bytes (Some options.machine.now) (Some options.tools.now) old new)
+    (OrOfReading OfLiving) (LivesOnFiles bytes options form old new) outcome
+
 -- ---- programs for other controls
 
 -- options that ask of a program what isn't known leave what was written as it was
@@ -348,6 +374,8 @@ ComesBy bytes (commands.Run options) old new outcome =
     RunComes bytes options (run_writing options) old new outcome
 ComesBy bytes (commands.RunThrough options) old new outcome =
     RunThroughComes bytes options (run_through_writing options) old new outcome
+ComesBy bytes (commands.Live options) old new outcome =
+    LiveComes bytes options (live_asked options) old new outcome
 ComesBy bytes (commands.Draw options) old new outcome =
     DrawComes bytes options (view_named (option_map (λ name. name.now) options.view))
     old new outcome
@@ -402,6 +430,14 @@ run_through_inputs options (Some writing) =
     ++ program_input (option_map (λ name. name.now) options.program)
     ∷ certificate_input options.certificate.now ∷ []
 
+abbrev pub live_inputs : LiveOptions → Option LiveForm → List Input
+live_inputs options None = []
+live_inputs options (Some form) =
+    shop_inputs (Some options.machine.now) (Some options.tools.now)
+    ++ program_input (Some options.program.now)
+    ∷ certificate_input options.certificate.now
+    ∷ record { kind = OfSource; name = None } ∷ []
+
 abbrev pub certificate_inputs : Option (List ℕ) → List Input
 certificate_inputs None = []
 certificate_inputs (Some name) = certificate_input name ∷ []
@@ -447,6 +483,7 @@ inputs_of (commands.Check options) = check_inputs options
 inputs_of (commands.Run options) = run_inputs options (run_writing options)
 inputs_of (commands.RunThrough options) =
     run_through_inputs options (run_through_writing options)
+inputs_of (commands.Live options) = live_inputs options (live_asked options)
 inputs_of (commands.Draw options) =
     draw_inputs options (view_named (option_map (λ name. name.now) options.view))
 inputs_of (commands.Show options) = show_inputs options
@@ -488,6 +525,7 @@ IsQuiet (commands.Certify options) = Unit {0}
 IsQuiet (commands.Check options) = Unit {0}
 IsQuiet (commands.Run options) = Unit {0}
 IsQuiet (commands.RunThrough options) = ⊥
+IsQuiet (commands.Live options) = Unit {0}
 IsQuiet (commands.Draw options) = Unit {0}
 IsQuiet (commands.Show options) = Unit {0}
 IsQuiet (commands.Report options) = Unit {0}

@@ -25,12 +25,15 @@ use Rattle.ngc_events.specs.declared.fault.EventsFault.{EventsFault}
 use Rattle.ngc_events.specs.declared.fault.EventsFault.TheVariants as events
 use Rattle.ngc_text.specs.Failures.{Rises}
 use Rattle.ngc_text.specs.Input.{number_of as input_number}
+use Rattle.ngc_text.specs.declared.input_fault.InputFault.TheVariants as inputs
 use Rattle.ngc_line_reader.specs.ReadFaults.{number_of as read_number}
 use Rattle.ngc_line_reader.specs.declared.program.fault.ReadFault.{ReadFault}
 use Rattle.ngc_line_reader.specs.declared.program.fault.ReadFault.TheVariants as reads
 use Rattle.ngc_machine.specs.Faults.{number_of as file_number}
 use Rattle.ngc_machine.specs.declared.fault.FileFault.{FileFault}
 use Rattle.ngc_machine.specs.declared.fault.FileFault.TheVariants as files
+use Rattle.ngc_run_log.specs.declared.live_fault.LiveFault.{LiveFault}
+use Rattle.ngc_run_log.specs.declared.live_fault.LiveFault.TheVariants as live
 use Rattle.ngc_run_log.specs.declared.report.RunFault.{RunFault}
 use Rattle.ngc_run_log.specs.declared.report.RunFault.TheVariants as runs
 use Rattle.ngc_program_report.specs.declared.report_fault.ReportFault.{ReportFault}
@@ -206,6 +209,11 @@ abbrev pub of_run : RunFault → AnswerFault
 of_run runs.Memory = answers.Memory
 of_run (runs.Write e) = answers.Write e
 
+abbrev pub of_live : LiveFault → AnswerFault
+of_live (live.Events e) = answers.Events e
+of_live live.Read = answers.Input inputs.Device
+of_live (live.Write e) = answers.Write e
+
 -- what is answered where a report isn't written whole
 abbrev pub of_report : ReportFault → AnswerFault
 of_report reports.Memory = answers.Make makes.Memory
@@ -251,6 +259,11 @@ OfRunning (answers.Check e) = Unit {0}
 OfRunning answers.Memory = Unit {0}
 OfRunning (answers.Write e) = Unit {0}
 OfRunning _ = ⊥
+
+-- of a run over events that arrive, of which only a device's failure ends the reading
+abbrev pub OfLiving : AnswerFault → Type 0
+OfLiving (answers.Input inputs.Device) = Unit {0}
+OfLiving fault = OfRunning fault
 
 abbrev pub OfDrawing : AnswerFault → Type 0
 OfDrawing (answers.Program e) = Unit {0}

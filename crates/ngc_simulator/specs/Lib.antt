@@ -3,6 +3,7 @@ pub mod Lists
 pub mod Guides
 pub mod Jobs
 pub mod Judging
+pub mod Lives
 pub mod Running
 pub mod Writing
 pub mod Drawing

@@ -2,7 +2,7 @@
 ghost use Rattle.std.specs.Prelude.{◌≡◌};
 ghost use Rattle.ngc_simulator.specs.Faults.{answer_number, answer_status, check_status};
 ghost use Rattle.ngc_simulator.specs.Faults.{events_status, file_status, make_status, of_picture};
-ghost use Rattle.ngc_simulator.specs.Faults.{of_report, of_run, program_status, read_status, text_status};
+ghost use Rattle.ngc_simulator.specs.Faults.{of_live, of_report, of_run, program_status, read_status, text_status};
 ghost use Rattle.ngc_simulator.specs.declared.fault.AnswerFault.TheVariants as answers;
 
 use ngc_canonical::ProgramFault;
@@ -14,7 +14,7 @@ use ngc_events::EventsFault;
 use ngc_line_reader::ReadFault;
 use ngc_machine::FileFault;
 use ngc_program_report::ReportFault;
-use ngc_run_log::RunFault;
+use ngc_run_log::{LiveFault, RunFault};
 use ngc_text::{InputFault, WriteFault};
 use thiserror::Error;
 
@@ -274,6 +274,18 @@ impl From<RunFault> for AnswerFault {
         match fault {
             RunFault::Memory => AnswerFault::Memory,
             RunFault::Write(fault) => AnswerFault::Write(fault),
+        }
+    }
+}
+
+impl From<LiveFault> for AnswerFault {
+    ghost from_gives = { λ fault answer. answer ≡ of_live fault };
+
+    fn from(fault: LiveFault) -> AnswerFault {
+        match fault {
+            LiveFault::Events(fault) => AnswerFault::Events(fault),
+            LiveFault::Read => AnswerFault::Input(InputFault::Device),
+            LiveFault::Write(fault) => AnswerFault::Write(fault),
         }
     }
 }

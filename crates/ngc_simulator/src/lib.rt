@@ -15,6 +15,7 @@ mod files;
 mod guide;
 mod judging;
 mod lister;
+mod living;
 mod making;
 mod mistaken_files;
 mod opening;
@@ -36,6 +37,7 @@ pub use fault::AnswerFault;
 pub use files::Files;
 pub use judging::{Verdict, judge};
 pub use lister::list;
+pub use living::run_live;
 pub use ngc_canonical::{
     Action, Command, CoolantState, Fault, Feed, Motion, Pace, ProgramFault, SpindleState, Way,
     interpret,
@@ -45,8 +47,8 @@ pub use ngc_certificate_text::{Certificate, CertificateFault};
 pub use ngc_checker::{Accepted, CheckFault, check};
 pub use ngc_command_line::{
     AdaptOptions, CertifyOptions, CheckOptions, DrawOptions, Format, HelpFault, ListOptions,
-    MachineOptions, Options, Recording, ReportOptions, RunOptions, RunThroughOptions, ShowOptions,
-    UsageFault, help_text, read_options,
+    LiveOptions, MachineOptions, Options, Recording, ReportOptions, RunOptions, RunThroughOptions,
+    ShowOptions, UsageFault, help_text, read_options,
 };
 pub use ngc_controller::{Controller, MemoryFault};
 pub use ngc_drawing::{DrawFault, Refusal, View, write_svg};
@@ -57,8 +59,8 @@ pub use ngc_machine::{FileFault, Fixture, Machine, Tool, Tools, built_in_machine
 pub use ngc_program_report::{ReportRequest, RunTime};
 pub use ngc_report::Form;
 pub use ngc_run_log::{
-    Report, RunFault, run, run_through, write_pulses, write_pulses_through, write_samples,
-    write_samples_through,
+    LiveFault, LiveForm, LiveRun, Report, RunFault, feed_from, run, run_through, write_pulses,
+    write_pulses_through, write_samples, write_samples_through,
 };
 pub use ngc_setup_sheet::write_sheet;
 pub use ngc_step_kernel::{ArcKernel, ArcPath};

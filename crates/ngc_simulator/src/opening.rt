@@ -40,6 +40,7 @@ pub fn read_program<F: Files>(
     ensures text { IfSome (F.bytes files.old (option_map (λ n. n.now) name.entry))
         (λ bytes. OutcomeIs result (program_of bytes)) }
     ensures readings { IfOk result (λ p. HaveReadings (text_in p).lines) }
+    ensures keeps { IsSome name.entry → KeepsFiles (F.bytes files.old) (F.bytes files.new) }
     ensures named { KeepsNamed (F.bytes files.old) (F.bytes files.new) }
     // 901 comes only where the file can't be opened or its source fails.
     ensures unread { FailsBy program_unread (SourceFails F.R.remaining F.R.failures)

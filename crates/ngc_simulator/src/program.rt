@@ -14,6 +14,7 @@ use crate::fault_line::add_fault_line;
 use crate::files::Files;
 use crate::guide::{write_help, write_version};
 use crate::lister::list_files;
+use crate::living::live_asked;
 use crate::making::machine_files;
 use crate::reporting_files::report_files;
 use crate::running::run_asked;
@@ -43,6 +44,7 @@ fn run_command<F: Files, W: Sink>(
         Options::Check(options) => check_files(alloc, options, files, output),
         Options::Run(options) => run_asked(alloc, options, files, output),
         Options::RunThrough(options) => run_through_asked(alloc, options, files, output),
+        Options::Live(options) => live_asked(alloc, options, files, output),
         Options::Draw(options) => draw_files(alloc, options, files, output),
         Options::Show(options) => show_files(alloc, options, files, output),
         Options::Report(options) => report_files(alloc, options, files, output),

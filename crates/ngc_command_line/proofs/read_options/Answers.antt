@@ -5,7 +5,7 @@ use Rattle.ngc_command_line.specs.Meant.{AreOptions}
 use Rattle.ngc_command_line.proofs.Found.{found_from_parts}
 use Rattle.ngc_command_line.proofs.Simple.{ngc_is_free, ngc_is_simple, taken_is_memory}
 use Rattle.ngc_command_line.proofs.Spelled.{adapt_read, adapt_taken, certify_read, certify_taken, check_read, check_taken, draw_read, draw_taken, help_read, help_taken, list_read, machine_read, machine_taken}
-use Rattle.ngc_command_line.proofs.Spelled.{list_taken, report_read, report_taken, run_read, run_taken, show_read, show_taken, version_read, version_taken}
+use Rattle.ngc_command_line.proofs.Spelled.{list_taken, live_read, live_taken, report_read, report_taken, run_read, run_taken, show_read, show_taken, version_read, version_taken}
 use Rattle.ngc_command_line.proofs.Whole.{taken_is_whole}
 use Rattle.ngc_command_line.proofs.read_options.Goals as goal
 
@@ -46,6 +46,10 @@ returns-clause-spelled_check c =
 pub returns-clause-spelled_run : goal.returns-clause-spelled_run
 returns-clause-spelled_run c = λ recording machine tools certificate events program delete output spelled.
     run_read _ recording machine tools certificate events program delete output _ spelled (returns-clause-options c)
+
+pub returns-clause-spelled_live : goal.returns-clause-spelled_live
+returns-clause-spelled_live c = λ machine tools certificate program delete output feed_ring spelled.
+    live_read _ machine tools certificate program delete output feed_ring _ spelled (returns-clause-options c)
 
 pub returns-clause-spelled_draw : goal.returns-clause-spelled_draw
 returns-clause-spelled_draw c =
@@ -92,6 +96,12 @@ pub returns-in-Err-clause-spelled_run : goal.returns-in-Err-clause-spelled_run
 returns-in-Err-clause-spelled_run c = λ recording machine tools certificate events program delete output spelled.
     c.usage_fault.ensures
     (taken_is_memory _ _ c.in-Err.error c.in-Ok.ensures (run_taken _ recording machine tools certificate events program delete output spelled)
+    c.in-Err.ensures.kinds)
+
+pub returns-in-Err-clause-spelled_live : goal.returns-in-Err-clause-spelled_live
+returns-in-Err-clause-spelled_live c = λ machine tools certificate program delete output feed_ring spelled.
+    c.usage_fault.ensures
+    (taken_is_memory _ _ c.in-Err.error c.in-Ok.ensures (live_taken _ machine tools certificate program delete output feed_ring spelled)
     c.in-Err.ensures.kinds)
 
 pub returns-in-Err-clause-spelled_draw : goal.returns-in-Err-clause-spelled_draw

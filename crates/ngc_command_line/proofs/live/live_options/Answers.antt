@@ -1,0 +1,16 @@
+use Rattle.std.proofs.Common.{◌∙◌, codes}
+use Rattle.clap.specs.Words.{found_of}
+use Rattle.clap.proofs.WalkLemmas.{first_value-rows}
+use Rattle.ngc_command_line.proofs.live.live_options.Goals as goal
+
+pub returns : goal.returns
+returns c = record {
+  machine = c.required.ensures;
+  tools = c.required-2.ensures;
+  certificate = c.required-3.ensures;
+  program = c.required-4.ensures;
+  delete = c.flag_is_set.ensures;
+  output = c.get_str.ensures ∙ first_value-rows (found_of c.args.found.now) (codes "output");
+  inverted = c.mask_of.ensures;
+  feed_ring = c.flag_is_set-2.ensures;
+}

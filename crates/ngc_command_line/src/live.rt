@@ -1,0 +1,63 @@
+//! `ngc live`.
+
+ghost use Rattle.clap.specs.Words.{found_of, rows_of};
+ghost use Rattle.ngc_command_line.specs.Meant.{AreLiveOptions, HasLiveValues};
+
+use crate::arguments::{
+    DELETE, REQUIRED_CERTIFICATE, REQUIRED_MACHINE, REQUIRED_TOOLS, flag_is_set, help_end, required,
+};
+use crate::options::LiveOptions;
+use crate::run::{INVERTED, LOG_OUTPUT, mask_of};
+use crate::table::{Argument, SubcommandRow, Takes};
+use clap::ArgMatches;
+
+const REQUIRED_PROGRAM: Argument<'static> = Argument {
+    name: "program",
+    is_named: true,
+    is_required: true,
+    takes: Takes::Text("FILE"),
+    help: "Part program to run. Standard input has the events",
+};
+
+const FEED_RING: Argument<'static> = Argument {
+    name: "feed-ring",
+    is_named: true,
+    is_required: false,
+    takes: Takes::Nothing,
+    help: "Load commands before each tick, while the ring\nhas room [default: events load them]",
+};
+
+pub(crate) static LIVE: SubcommandRow<'static> = SubcommandRow {
+    name: "live",
+    about: "Run a part program over events as they arrive on standard input",
+    help_end: help_end!(
+        "  ngc live --program examples/slot.ngc --certificate slot.cert \\
+    --machine examples/clamped_mill.toml --tools examples/tools.toml"
+    ),
+    arguments: &[
+        REQUIRED_MACHINE,
+        REQUIRED_TOOLS,
+        REQUIRED_CERTIFICATE,
+        REQUIRED_PROGRAM,
+        DELETE,
+        LOG_OUTPUT,
+        INVERTED,
+        FEED_RING,
+    ],
+};
+
+pub(crate) fn live_options<'a>(found: &ArgMatches<'a>) -> LiveOptions<'a>
+    requires { HasLiveValues (rows_of (found_of found.now)) }
+    ensures { AreLiveOptions (rows_of (found_of found.now)) result }
+{
+    LiveOptions {
+        machine: required(found, "machine"),
+        tools: required(found, "tools"),
+        certificate: required(found, "certificate"),
+        program: required(found, "program"),
+        delete: flag_is_set(found, "delete"),
+        output: found.get_str("output"),
+        inverted: mask_of(found),
+        feed_ring: flag_is_set(found, "feed-ring"),
+    }
+}

@@ -1,0 +1,63 @@
+use Rattle.std.proofs.Common.{◌≡◌, ◌∙◌, Ok, Err, IfErr}
+use Rattle.ngc_text.specs.Failures.{Rises}
+use Rattle.ngc_text.specs.declared.input_fault.InputFault.TheVariants as inputs
+use Rattle.ngc_simulator.specs.Faults.{FailsByOutput, OfLiving, of_live, of_run}
+use Rattle.ngc_simulator.specs.Lives.{Lives}
+use Rattle.ngc_simulator.specs.declared.fault.AnswerFault.TheVariants as answers
+use Rattle.ngc_program_report.proofs.WrittenLaws.{turned}
+use Rattle.ngc_simulator.proofs.LiveLaws.{device_failed, live_failed, live_refused, live_unmade, lived, of_living, output_failed}
+use Rattle.ngc_simulator.proofs.living.run_live.Goals as goal
+
+pub returns-in_err-accepted-clause-lives : goal.returns-in_err-accepted-clause-lives
+returns-in_err-accepted-clause-lives g c setup bytes text is =
+    turned _ (answers.Check c.in_err-accepted.field-0.0)
+    (λ r. Lives c.args.form c.args.feeds_ring setup bytes text c.args.block_delete (g.S.Source.remaining c.args.source.now) (g.S.Source.remaining c.args.source.now)
+    (g.W.Sink.written c.args.output.now) (g.W.Sink.written c.args.output.now) r) c.from_residual.ensures.1
+    (live_refused c.args.form c.args.feeds_ring setup bytes text c.args.block_delete (g.S.Source.remaining c.args.source.now) (g.S.Source.remaining c.args.source.now)
+    (g.W.Sink.written c.args.output.now) c.args.verdict c.in_err-accepted.field-0.0 is c.in_err-accepted.was)
+
+pub returns-in_err-live-clause-lives : goal.returns-in_err-live-clause-lives
+returns-in_err-live-clause-lives g c setup bytes text is =
+    turned _ (of_run c.in_err-live.field-0.0)
+    (λ r. Lives c.args.form c.args.feeds_ring setup bytes text c.args.block_delete (g.S.Source.remaining c.args.source.now) (g.S.Source.remaining c.args.source.now)
+    (g.W.Sink.written c.args.output.now) (g.W.Sink.written c.args.output.now) r) c.from_residual-in_err-live.ensures.1
+    (live_unmade c.args.form c.args.feeds_ring setup bytes text c.args.block_delete (g.S.Source.remaining c.args.source.now) (g.S.Source.remaining c.args.source.now)
+    (g.W.Sink.written c.args.output.now) c.args.verdict c.in_ok-accepted.accepted c.in_err-live.field-0.0
+    is c.in_ok-accepted.was c.in_err-live.ensures.memory)
+
+pub returns-in_err-feed_from-clause-lives : goal.returns-in_err-feed_from-clause-lives
+returns-in_err-feed_from-clause-lives g c setup bytes text is =
+    let fault = c.in_err-feed_from.field-0.0 in
+    turned _ (of_live fault)
+    (λ r. Lives c.args.form c.args.feeds_ring setup bytes text c.args.block_delete (g.S.Source.remaining c.args.source.now) (g.S.Source.remaining c.feed_from.new.source)
+    (g.W.Sink.written c.args.output.now) (g.W.Sink.written c.feed_from.new.sink) r) c.from_residual-in_err-feed_from.ensures.1
+    (live_failed c.args.form c.args.feeds_ring setup bytes text c.args.block_delete _ _ _ _ fault
+    (lived c.args.form c.args.feeds_ring setup bytes text c.args.block_delete _ _ _ _ c.args.verdict c.in_ok-accepted.accepted _ (Err fault) is c.in_ok-accepted.was
+    (c.in_err-feed_from.ensures.job ∙ c.in_ok-live.ensures.job) (c.in_err-feed_from.ensures.feeds_ring ∙ c.in_ok-live.ensures.feeds) (c.in_err-feed_from.ensures.lives c.args.form _ (c.in_ok-live.ensures.live _))))
+
+pub returns-clause-lives : goal.returns-clause-lives
+returns-clause-lives g c setup bytes text is = (
+  lived c.args.form c.args.feeds_ring setup bytes text c.args.block_delete _ _ _ _ c.args.verdict c.in_ok-accepted.accepted _ _ is c.in_ok-accepted.was
+      (c.in_ok-feed_from.ensures.job ∙ c.in_ok-live.ensures.job) (c.in_ok-feed_from.ensures.feeds_ring ∙ c.in_ok-live.ensures.feeds) (c.in_ok-feed_from.ensures.lives c.args.form _ (c.in_ok-live.ensures.live _)),
+  c.in_ok-feed_from.ensures.end,
+)
+
+pub returns-in_err-feed_from-clause-source : goal.returns-in_err-feed_from-clause-source
+returns-in_err-feed_from-clause-source g c =
+    let fault = c.in_err-feed_from.field-0.0 in
+    turned _ (of_live fault)
+    (λ r. r ≡ Err (answers.Input inputs.Device) → Rises (g.S.Source.failures c.args.source.now) (g.S.Source.failures c.feed_from.new.source))
+    c.from_residual-in_err-feed_from.ensures.1
+    (λ is. device_failed fault (g.S.Source.failures c.args.source.now) (g.S.Source.failures c.feed_from.new.source) c.in_err-feed_from.ensures.source (cc is))
+
+pub returns-in_err-feed_from-clause-sink : goal.returns-in_err-feed_from-clause-sink
+returns-in_err-feed_from-clause-sink g c =
+    let fault = c.in_err-feed_from.field-0.0 in
+    turned _ (of_live fault)
+    (λ r. FailsByOutput r (g.W.Sink.failures c.args.output.now) (g.W.Sink.failures c.feed_from.new.sink)) c.from_residual-in_err-feed_from.ensures.1
+    (output_failed fault (g.W.Sink.failures c.args.output.now) (g.W.Sink.failures c.feed_from.new.sink) c.in_err-feed_from.ensures.failures)
+
+pub returns-in_err-feed_from-clause-faults : goal.returns-in_err-feed_from-clause-faults
+returns-in_err-feed_from-clause-faults g c =
+    let fault = c.in_err-feed_from.field-0.0 in
+    turned _ (of_live fault) (λ r. IfErr r OfLiving) c.from_residual-in_err-feed_from.ensures.1 (of_living fault)

@@ -1,0 +1,60 @@
+-- What a run comes to whose events arrive from a source. Our own.
+use Rattle.std.specs.Prelude.{◌≡◌, ℕ, List, Option, Some, None, Result, Ok, Err, Bool, codes}
+use Rattle.std.specs.Prelude.{if◌then◌else◌}
+use Rattle.std.specs.Io.KnownBytes.{IsAtEnd, Keeps}
+use Rattle.std.specs.Str.{bytes_eq}
+use Rattle.ngc_canonical.specs.State.{Setup}
+use Rattle.ngc_line_reader.specs.ProgramText.{program_of}
+use Rattle.ngc_line_reader.specs.ProgramView.{FaultIs}
+use Rattle.ngc_behaviour.specs.State.{Job}
+use Rattle.ngc_run_log.specs.declared.live_fault.LiveFault.{LiveFault}
+use Rattle.ngc_run_log.specs.declared.live_fault.LiveFault.TheVariants as live
+use Rattle.ngc_run_log.specs.declared.live_form.LiveForm.{LiveForm}
+use Rattle.ngc_run_log.specs.declared.live_form.LiveForm.TheVariants as forms
+use Rattle.ngc_run_log.specs.Living.{LiveData, LivesOn}
+use Rattle.ngc_simulator.specs.declared.fault.AnswerFault.{AnswerFault}
+use Rattle.ngc_simulator.specs.declared.fault.AnswerFault.TheVariants as answers
+use Rattle.ngc_simulator.specs.Jobs.{IsNoCertificate}
+use Rattle.ngc_simulator.specs.Running.{IsAcceptedJob, IsRefusedWhole}
+
+-- the form that has this name, if one has; the log where none is named
+abbrev pub live_named : Option (List ℕ) → ℕ → Option LiveForm
+live_named None inverted = Some forms.Log
+live_named (Some name) inverted =
+    if bytes_eq name (codes "samples") then Some (forms.Samples inverted) else
+    if bytes_eq name (codes "log") then Some forms.Log else None
+
+-- The job of a program's file and a certificate's file was run over the events that a source gave,
+-- of which `source` was left at the beginning and `rest` is left now; where the ring is fed, with
+-- loads that come before ticks.
+pub record LivesAt (form : LiveForm) (feeds : Bool) (setup : Setup) (bytes text : List ℕ) (block_delete : Bool)
+    (source rest old new : Option (List ℕ)) (result : Result (Unit {0}) LiveFault) : Type 0 where
+  pub job : Job
+  pub accepted : IsAcceptedJob setup bytes text block_delete job
+  pub live : LiveData
+  pub is_job : live.job ≡ job
+  pub is_fed : live.feeds ≡ feeds
+  pub lives : LivesOn form live source rest old new result
+
+-- Of a program's file, a certificate's file, a source of events and a sink: the run of the events of
+-- all lines that came was written, to the end of the source or up to a fault; where there is no run,
+-- what was written is as it was.
+abbrev pub Lives : LiveForm → Bool → Setup → List ℕ → List ℕ → Bool → Option (List ℕ) →
+    Option (List ℕ) → Option (List ℕ) → Option (List ℕ) → Result (Unit {0}) AnswerFault → Type 0
+Lives form feeds setup bytes text block_delete source rest old new (Ok done) =
+    LivesAt form feeds setup bytes text block_delete source rest old new (Ok done) × IsAtEnd rest
+Lives form feeds setup bytes text block_delete source rest old new (Err (answers.Read fault)) =
+    FaultIs fault (program_of bytes) × Keeps old new
+Lives form feeds setup bytes text block_delete source rest old new (Err (answers.Certificate fault)) =
+    IsNoCertificate text fault × Keeps old new
+Lives form feeds setup bytes text block_delete source rest old new (Err (answers.Check fault)) =
+    IsRefusedWhole setup bytes text fault × Keeps old new
+Lives form feeds setup bytes text block_delete source rest old new (Err answers.Memory) =
+    ((job : Job) × IsAcceptedJob setup bytes text block_delete job) × Keeps old new
+Lives form feeds setup bytes text block_delete source rest old new (Err (answers.Events fault)) =
+    LivesAt form feeds setup bytes text block_delete source rest old new (Err (live.Events fault))
+Lives form feeds setup bytes text block_delete source rest old new (Err (answers.Input fault)) =
+    LivesAt form feeds setup bytes text block_delete source rest old new (Err live.Read)
+Lives form feeds setup bytes text block_delete source rest old new (Err (answers.Write fault)) =
+    LivesAt form feeds setup bytes text block_delete source rest old new (Err (live.Write fault))
+Lives form feeds setup bytes text block_delete source rest old new (Err _) = ⊥

@@ -1,0 +1,121 @@
+//! `ngc live`: a run over events that arrive on standard input.
+ghost use Rattle.std.specs.Prelude.{◌≡◌, ℕ, List, IfErr, Err, Some, option_map};
+ghost use Rattle.ngc_canonical.specs.State.{Setup};
+ghost use Rattle.ngc_text.specs.Failures.{Rises};
+ghost use Rattle.ngc_simulator.specs.Answers.{LiveComes, live_asked, live_inputs};
+ghost use Rattle.ngc_simulator.specs.Faults.{FailsByOutput, OfLiving};
+ghost use Rattle.ngc_simulator.specs.Judging.{IsVerdict};
+ghost use Rattle.ngc_simulator.specs.Lives.{Lives, live_named};
+ghost use Rattle.ngc_simulator.specs.Unread.{FailsByInput, SourceFails};
+
+use crate::done::Done;
+use crate::fault::AnswerFault;
+use crate::files::Files;
+use crate::judging::{Verdict, judge_file};
+use crate::opening::{open_file, read_program};
+use crate::setup::read_shop;
+use ngc_command_line::LiveOptions;
+use ngc_run_log::{LiveForm, LiveRun, feed_from};
+use ngc_text::{InputFault, Sink, Source};
+use std::alloc::{Allocator, Global};
+
+// The form with this name, if one has it.
+fn live_form(output: Option<&str>, inverted: u8) -> Option<LiveForm>
+    ensures { result ≡ live_named (option_map (λ name. name.now) output.entry) inverted }
+{
+    match output {
+        None => Some(LiveForm::Log),
+        Some(name) => {
+            if name == "samples" {
+                Some(LiveForm::Samples(inverted))
+            } else if name == "log" {
+                Some(LiveForm::Log)
+            } else {
+                None
+            }
+        }
+    }
+}
+
+/// Runs a program at a setting of block delete over the events that a source gives, as it gives
+/// them, and writes all that comes of them before it reads on. Where `feeds_ring` is set, loads come
+/// before each tick while the ring has room for a command that is left.
+///
+/// `verdict` is what `check` or `judge` returned for the program. A program that is refused isn't
+/// run, and nothing is read or written. A line that says no event (711) ends the run; what came of
+/// the lines before it is written. Where a write fails, a prefix of the output is written.
+pub fn run_live<A: Allocator + Copy, S: Source, W: Sink>(
+    alloc: A,
+    verdict: Verdict<A>,
+    source: &mut S,
+    block_delete: bool,
+    form: LiveForm,
+    feeds_ring: bool,
+    output: &mut W,
+) -> Result<(), AnswerFault>
+    // Whatever files the verdict is on: the answer is that of these and of what the source gives.
+    ensures lives { (setup : Setup) (bytes text : List ℕ) → IsVerdict setup bytes text verdict →
+        Lives form feeds_ring setup bytes text block_delete (S.remaining source.old) (S.remaining source.new)
+        (W.written output.old) (W.written output.new) result }
+    // The source failed where the answer says so.
+    ensures source { result ≡ Err (AnswerFault.Input InputFault.Device) →
+        Rises (S.failures source.old) (S.failures source.new) }
+    ensures sink { FailsByOutput result (W.failures output.old) (W.failures output.new) }
+    ensures faults { IfErr result OfLiving }
+{
+    let accepted = verdict?;
+    let mut live = LiveRun::new(alloc, accepted, block_delete, form, feeds_ring)?;
+    feed_from(&mut live, source, output)?;
+    Ok(())
+}
+
+// A live run in this form. Each file is read before the next one is opened, and standard input is
+// opened once all are read.
+fn live_files<F: Files, W: Sink>(
+    alloc: Global,
+    options: &LiveOptions<'_>,
+    form: LiveForm,
+    files: &mut F,
+    output: &mut W,
+) -> Result<Done, AnswerFault>
+    ensures comes { LiveComes (F.bytes files.old) options.now (Some form) (W.written output.old)
+        (W.written output.new) result }
+    ensures unread { FailsByInput (SourceFails F.R.remaining F.R.failures) (F.bytes files.old)
+        (live_inputs options.now (Some form)) (F.failures files.old) (F.failures files.new) result }
+    ensures sink { FailsByOutput result (W.failures output.old) (W.failures output.new) }
+{
+    let shop = read_shop(alloc, Some(options.machine), Some(options.tools), files)?;
+    let program = read_program(alloc, Some(options.program), files)?;
+    let verdict = judge_file(alloc, &program, &shop, options.certificate, files)?;
+    let mut events = open_file(None, files)?;
+    run_live(
+        alloc,
+        verdict,
+        &mut events,
+        options.delete,
+        form,
+        options.feed_ring,
+        output,
+    )?;
+    Ok(Done::Quietly)
+}
+
+/// A live run in the form that is asked for. The form is looked up before a file is read.
+pub(crate) fn live_asked<F: Files, W: Sink>(
+    alloc: Global,
+    options: &LiveOptions<'_>,
+    files: &mut F,
+    output: &mut W,
+) -> Result<Done, AnswerFault>
+    ensures comes { LiveComes (F.bytes files.old) options.now (live_asked options.now)
+        (W.written output.old) (W.written output.new) result }
+    ensures unread { FailsByInput (SourceFails F.R.remaining F.R.failures) (F.bytes files.old)
+        (live_inputs options.now (live_asked options.now)) (F.failures files.old)
+        (F.failures files.new) result }
+    ensures sink { FailsByOutput result (W.failures output.old) (W.failures output.new) }
+{
+    let Some(form) = live_form(options.output, options.inverted) else {
+        return Err(AnswerFault::UnknownForm);
+    };
+    live_files(alloc, options, form, files, output)
+}
