@@ -76,7 +76,8 @@ pub(crate) fn setup() -> &'static [Row]
             number: 267,
             rule: "A fixture has no size on some axis, or is too far out: put its lower corner into `low`, and the\n\
              other into `high`.\n\
-             Corners are at most 4,000,000,000 nm either way; there are at most 256 fixtures.",
+             Corners are at most 4,000,000,000 nm either way; a `name` has 1 to 40 printable ASCII\n\
+             characters; there are at most 256 fixtures.",
             example: "machine file `fixture = [{low = [0, 0, 0], high = [1, 1, 0]}]`",
             answer: "`ngc: fault 267 machine`",
             place: None,
@@ -87,8 +88,8 @@ pub(crate) fn setup() -> &'static [Row]
             rule: "A number of the tool table is out of its range, or a tool is there twice: `ngc show` says which\n\
              key it is.\n\
              `number`: 1 to 9,999. `length`, `radius`: 0 to 1,000,000,000 nm. `offset`: at most that either\n\
-             way. `bottom`: -1,000,000,000 to 0 nm. A tool has one to four parts; there are at most 1,000\n\
-             tools.",
+             way. `bottom`: -1,000,000,000 to 0 nm. `name`: 1 to 40 printable ASCII characters. A tool has\n\
+             one to four parts; there are at most 1,000 tools.",
             example: "tool table `version = 1`, `[[tool]]`, `number = 0`, `length = 0`, `radius = 0`,\n\
              `offset = 0`",
             answer: "`ngc: fault 268 tools`",
@@ -110,7 +111,7 @@ pub(crate) fn setup() -> &'static [Row]
             number: 269,
             rule: "The tool table isn't TOML, or a key is missing, unknown or has a value of the wrong kind:\n\
              `ngc show` says which key it is.\n\
-             Each tool has the four keys of the table's version, and no others.",
+             Each tool has the four keys of the table's version, and in version 2 it may have a `name`.",
             example: "tool table `version = 1`, `[[tool]]`, `number = 1`",
             answer: "`ngc: fault 269 tools`",
             place: None,
