@@ -27,8 +27,10 @@ use Rattle.ngc_certificate.specs.DerivedBox.{line_box}
 use Rattle.ngc_certificate.specs.PieceFault.{pieces_fault, place_fault}
 use Rattle.ngc_certificate.specs.Made.{tries, powers_of_two, pieces_of, cleared, with_pieces, unless_met, MayFind, IsMadeFrom, from_start, join_settings}
 use Rattle.ngc_certificate.proofs.Truths.{both, and, no_truth}
-use Rattle.ngc_place.specs.Shifts.{shifted, way_shifted, actions_shifted}
-use Rattle.ngc_place.specs.Holds.{over, is_clear, pieces_clear, way_clear, place_clear, holds_from, holds, HoldsIsMade, HoldsIsCertified, HoldsWithin}
+use Rattle.ngc_place.specs.Shifts.{shifted, way_shifted, end_moves, actions_shifted}
+use Rattle.ngc_commands.specs.Reached.{after, at_start}
+use Rattle.ngc_commands.specs.declared.reached.Reached.{Reached}
+use Rattle.ngc_place.specs.Holds.{action_clear, over, is_clear, pieces_clear, way_clear, place_clear, holds_from, holds, HoldsIsMade, HoldsIsCertified, HoldsWithin}
 use Rattle.ngc_place.proofs.Rounded.{scale_by, sum_up}
 use Rattle.ngc_place.proofs.Within.{clear_within, unmet_within}
 use Rattle.ngc_place.proofs.Rising.{IsUnder, WayRises, within_over, line_rises, place_rises, stays}
@@ -149,29 +151,31 @@ place_within machine tool p p' q' q step hp hq h =
     (within_over (only (grid machine.step p)) (only (grid machine.step p')) (only (grid machine.step q')) (only (grid machine.step q))
     (place_rises machine.step p p' step hp) (place_rises machine.step q' q step hq)) h
 
-within_from : (machine : MachineFile) (most : ℕ) (outer inner : GridBox) (tool : Option Tool) (start : Bool) (place : Point3) (moving : List Bool)
-    (actions : List Action) → IsStep machine.step → 1 ≤ most → most ≤ 65535 → IsUnder outer.low inner.low → IsUnder inner.high outer.high →
-    IsTrue (holds_from machine most outer tool start place moving actions) → IsTrue (holds_from machine most inner tool start place moving actions)
-within_from machine most outer inner tool start place moving [] step least greatest low high h = refl
-within_from machine most outer inner tool start place [] (action ∷ actions) step least greatest low high h = absurd (no_truth h)
-within_from machine most outer inner tool start place (end ∷ moving) (Mount new ∷ actions) step least greatest low high h =
+action_within : (machine : MachineFile) (most : ℕ) (outer inner : GridBox) (r : Reached) (start end : Bool) (action : Action) → IsStep machine.step →
+    1 ≤ most → most ≤ 65535 → IsUnder outer.low inner.low → IsUnder inner.high outer.high →
+    IsTrue (action_clear machine most outer r start end action) → IsTrue (action_clear machine most inner r start end action)
+action_within machine most outer inner r start end (Mount new) step least greatest low high h =
+    place_within machine new (shifted machine.step outer.low start r.place) (shifted machine.step inner.low start r.place)
+    (shifted machine.step inner.high start r.place) (shifted machine.step outer.high start r.place) step
+    (point_rises machine.step outer.low inner.low start r.place step low) (point_rises machine.step inner.high outer.high start r.place step high) h
+action_within machine most outer inner r start end (Move m) step least greatest low high h =
     let e = both _ _ h in
-    and _ _
-    (place_within machine new (shifted machine.step outer.low start place) (shifted machine.step inner.low start place)
-    (shifted machine.step inner.high start place) (shifted machine.step outer.high start place) step
-    (point_rises machine.step outer.low inner.low start place step low) (point_rises machine.step inner.high outer.high start place step high) e.0)
-    (within_from machine most outer inner new start place moving actions step least greatest low high e.1)
-within_from machine most outer inner tool start place (end ∷ moving) (Move m ∷ actions) step least greatest low high h =
-    let e = both _ _ h in
-    let f = both _ _ e.0 in
-    and _ _
-    (and _ _ f.0
-    (way_within machine most tool (way_shifted machine.step outer.low start end m.way) (way_shifted machine.step inner.low start end m.way)
+    and _ _ e.0
+    (way_within machine most r.tool (way_shifted machine.step outer.low start end m.way) (way_shifted machine.step inner.low start end m.way)
     (way_shifted machine.step inner.high start end m.way) (way_shifted machine.step outer.high start end m.way) step least greatest
-    (way_rises machine.step outer.low inner.low start end m.way step low) (way_rises machine.step inner.high outer.high start end m.way step high) f.1))
-    (within_from machine most outer inner tool end (end_of m.way) moving actions step least greatest low high e.1)
-within_from machine most outer inner tool start place (end ∷ moving) (_ ∷ actions) step least greatest low high h =
-    within_from machine most outer inner tool start place moving actions step least greatest low high h
+    (way_rises machine.step outer.low inner.low start end m.way step low) (way_rises machine.step inner.high outer.high start end m.way step high) e.1)
+action_within machine most outer inner r start end _ step least greatest low high h = refl
+
+within_from : (machine : MachineFile) (most : ℕ) (outer inner : GridBox) (r : Reached) (start : Bool) (moving : List Bool)
+    (actions : List Action) → IsStep machine.step → 1 ≤ most → most ≤ 65535 → IsUnder outer.low inner.low → IsUnder inner.high outer.high →
+    IsTrue (holds_from machine most outer r start moving actions) → IsTrue (holds_from machine most inner r start moving actions)
+within_from machine most outer inner r start moving [] step least greatest low high h = refl
+within_from machine most outer inner r start [] (action ∷ actions) step least greatest low high h = absurd (no_truth h)
+within_from machine most outer inner r start (end ∷ moving) (action ∷ actions) step least greatest low high h =
+    let e = both _ _ h in
+    and _ _
+    (action_within machine most outer inner r start end action step least greatest low high e.0)
+    (within_from machine most outer inner (after r action) (end_moves start end action) moving actions step least greatest low high e.1)
 
 under : (b : GridBox) (n : StepPos) → IsIn b n → IsUnder b.low n
 under b n h = record { x = h.x_low; y = h.y_low; z = h.z_low }
@@ -183,7 +187,7 @@ pub within_law : HoldsWithin
 within_law machine most outer inner moving commands step least greatest low high h =
     let e = both _ _ h in
     and _ _ e.0
-    (within_from machine most outer inner None false machine.start moving (actions_of commands) step least greatest (under outer inner.low low)
+    (within_from machine most outer inner (at_start machine) false moving (actions_of commands) step least greatest (under outer inner.low low)
     (above outer inner.high high) e.1)
 
 -- ---- at one shift
@@ -227,29 +231,29 @@ end_shifted step n start end (Line p q) = refl
 end_shifted step n start true (Arc a) = refl
 end_shifted step n start false (Arc a) = refl
 
-made_from : (machine : MachineFile) (most k : ℕ) (n : StepPos) (tool : Option Tool) (start : Bool) (place : Point3) (moving : List Bool)
+made_from : (machine : MachineFile) (most k : ℕ) (n : StepPos) (r : Reached) (start : Bool) (moving : List Bool)
     (actions : List Action) (says : Result (List Entry) ℕ) → 1 ≤ most → most ≤ 65535 →
-    IsTrue (holds_from machine most (only n) tool start place moving actions) →
-    IsMadeFrom machine most k tool (shifted machine.step n start place) (actions_shifted machine.step n start moving actions) says → IsList says
-made_from machine most k n tool start place moving [] says least greatest h made = ([], made)
-made_from machine most k n tool start place [] (action ∷ actions) says least greatest h made = absurd (no_truth h)
-made_from machine most k n tool start place (end ∷ moving) (Mount new ∷ actions) says least greatest h made =
+    IsTrue (holds_from machine most (only n) r start moving actions) →
+    IsMadeFrom machine most k r.tool (shifted machine.step n start r.place) (actions_shifted machine.step n start moving actions) says → IsList says
+made_from machine most k n r start moving [] says least greatest h made = ([], made)
+made_from machine most k n r start [] (action ∷ actions) says least greatest h made = absurd (no_truth h)
+made_from machine most k n r start (end ∷ moving) (Mount new ∷ actions) says least greatest h made =
     let e = both _ _ h in
-    let rest = made_from machine most (k + 1) n new start place moving actions made.0 least greatest e.1 made.1 in
-    let met = place_fault machine new (grid machine.step (shifted machine.step n start place)) in
+    let rest = made_from machine most (k + 1) n (after r (Mount new)) start moving actions made.0 least greatest e.1 made.1 in
+    let met = place_fault machine new (grid machine.step (shifted machine.step n start r.place)) in
     (rest.0, made.2 ∙ ap (λ o. unless_met o k made.0) (none_of met e.0) ∙ rest.1)
-made_from machine most k n tool start place (end ∷ moving) (Move m ∷ actions) says least greatest h made =
+made_from machine most k n r start (end ∷ moving) (Move m ∷ actions) says least greatest h made =
     let e = both _ _ h in
     let f = both _ _ e.0 in
     let w = way_shifted machine.step n start end m.way in
-    let later = subst (λ p. IsMadeFrom machine most (k + 1) tool p (actions_shifted machine.step n end moving actions) made.1)
+    let later = subst (λ p. IsMadeFrom machine most (k + 1) r.tool p (actions_shifted machine.step n end moving actions) made.1)
     (end_shifted machine.step n start end m.way) made.3 in
-    let rest = made_from machine most (k + 1) n tool end (end_of m.way) moving actions made.1 least greatest e.1 later in
-    let found = way_found machine most tool w made.0 least greatest f.1 made.2 in
+    let rest = made_from machine most (k + 1) n (after r (Move m)) end moving actions made.1 least greatest e.1 later in
+    let found = way_found machine most r.tool w made.0 least greatest f.1 made.2 in
     let more = list_more k found.0 made.0 made.1 found.1 rest in
     (more.0, made.4 ∙ more.1)
-made_from machine most k n tool start place (end ∷ moving) (_ ∷ actions) says least greatest h made =
-    made_from machine most (k + 1) n tool start place moving actions says least greatest h made
+made_from machine most k n r start (end ∷ moving) (_ ∷ actions) says least greatest h made =
+    made_from machine most (k + 1) n r start moving actions says least greatest h made
 
 at_one : (machine : MachineFile) (most : ℕ) (shifts : GridBox) (n : StepPos) (moving : List Bool) (commands : List Command) → IsStep machine.step →
     1 ≤ most → most ≤ 65535 → IsIn shifts n → IsTrue (holds machine most shifts moving commands) → IsTrue (holds machine most (only n) moving commands)
@@ -259,7 +263,7 @@ at_one machine most shifts n moving commands step least greatest inside h =
 pub made_law : HoldsIsMade
 made_law machine most shifts n moving commands others says step least greatest inside h same made =
     let e = both _ _ (at_one machine most shifts n moving commands step least greatest inside h) in
-    made_from machine most 0 n None false machine.start moving (actions_of commands) says least greatest e.1
+    made_from machine most 0 n (at_start machine) false moving (actions_of commands) says least greatest e.1
     (subst (λ actions. IsMadeFrom machine most 0 None machine.start actions says) same made)
 
 pub certified_law : HoldsIsCertified

@@ -10,3 +10,7 @@ pub mod ArcShifts
 pub mod ClearPieces
 -- What holds over a box of shifts holds over each box within it, and is made at each of its shifts.
 pub mod HoldsLaws
+-- Quotients by a step, and what 32 bits make of them.
+pub mod Quotients
+-- Worked programs on a mill with steps of 0.01 mm, by computing the definitions.
+mod Examples

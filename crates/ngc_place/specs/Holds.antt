@@ -20,13 +20,15 @@ use Rattle.ngc_commands.specs.declared.command.Action.TheVariants.{Move, Mount}
 use Rattle.ngc_commands.specs.declared.command.Command.{Command}
 use Rattle.ngc_commands.specs.declared.movement.Way.{Way}
 use Rattle.ngc_commands.specs.declared.movement.Way.TheVariants.{Line, Arc}
-use Rattle.ngc_commands.specs.Movement.{actions_of, end_of}
+use Rattle.ngc_commands.specs.Movement.{actions_of}
+use Rattle.ngc_commands.specs.Reached.{after, at_start}
+use Rattle.ngc_commands.specs.declared.reached.Reached.{Reached}
 use Rattle.ngc_certificate_text.specs.Certificate.{WHOLE, Entry, CertificateData}
 use Rattle.ngc_certificate.specs.declared.fault.MakeFault.{MakeFault}
 use Rattle.ngc_certificate.specs.DerivedBox.{line_box}
 use Rattle.ngc_certificate.specs.Made.{tries, IsSettingMade, IsMade}
 use Rattle.ngc_certificate.specs.PieceFault.{place_fault}
-use Rattle.ngc_place.specs.Shifts.{shifted, way_shifted, AreShifted}
+use Rattle.ngc_place.specs.Shifts.{shifted, way_shifted, end_moves, AreShifted}
 
 -- from the lowest corner of one box to the highest of another
 abbrev pub over : GridBox → GridBox → GridBox
@@ -69,28 +71,30 @@ place_clear machine tool p q =
     is_none (first_met machine tool
     (over (only (grid machine.step p)) (only (grid machine.step q))))
 
--- With the tool mounted and the place reached so far, which moves with the origin or doesn't: each
--- motion and each tool change is clear at all shifts of a box. Each command needs its mark.
-abbrev pub holds_from : MachineFile → ℕ → GridBox → Option Tool → Bool → Point3 → List Bool →
-    List Action → Bool
-holds_from machine most shifts tool start place moving [] = true
-holds_from machine most shifts tool start place [] (action ∷ actions) = false
-holds_from machine most shifts tool start place (end ∷ moving) (Mount new ∷ actions) =
-    place_clear machine new (shifted machine.step shifts.low start place)
-    (shifted machine.step shifts.high start place)
-    && holds_from machine most shifts new start place moving actions
-holds_from machine most shifts tool start place (end ∷ moving) (Move m ∷ actions) =
-    (keeps_shape start end m.way
-    && way_clear machine most tool (way_shifted machine.step shifts.low start end m.way)
-    (way_shifted machine.step shifts.high start end m.way))
-    && holds_from machine most shifts tool end (end_of m.way) moving actions
-holds_from machine most shifts tool start place (end ∷ moving) (_ ∷ actions) =
-    holds_from machine most shifts tool start place moving actions
+-- an action that ends where the origin moves it or doesn't, with the tool mounted and the place
+-- reached so far, which moves or doesn't
+abbrev pub action_clear : MachineFile → ℕ → GridBox → Reached → Bool → Bool → Action → Bool
+action_clear machine most shifts r start end (Mount new) =
+    place_clear machine new (shifted machine.step shifts.low start r.place)
+    (shifted machine.step shifts.high start r.place)
+action_clear machine most shifts r start end (Move m) =
+    keeps_shape start end m.way
+    && way_clear machine most r.tool (way_shifted machine.step shifts.low start end m.way)
+    (way_shifted machine.step shifts.high start end m.way)
+action_clear machine most shifts r start end _ = true
+
+-- Each action is clear at all shifts of a box. Each needs its mark, whether its end moves.
+abbrev pub holds_from : MachineFile → ℕ → GridBox → Reached → Bool → List Bool → List Action → Bool
+holds_from machine most shifts r start moving [] = true
+holds_from machine most shifts r start [] (action ∷ actions) = false
+holds_from machine most shifts r start (end ∷ moving) (action ∷ actions) =
+    action_clear machine most shifts r start end action
+    && holds_from machine most shifts (after r action) (end_moves start end action) moving actions
 
 abbrev pub holds : MachineFile → ℕ → GridBox → List Bool → List Command → Bool
 holds machine most shifts moving commands =
     is_none (place_fault machine None (grid machine.step machine.start))
-    && holds_from machine most shifts None false machine.start moving (actions_of commands)
+    && holds_from machine most shifts (at_start machine) false moving (actions_of commands)
 
 -- ---- the laws
 

@@ -1,6 +1,6 @@
 -- A program whose work origin is shifted: the motions whose ends move with the origin, and those
 -- that the machine fixes (G28, G30, G53). Our own.
-use Rattle.std.specs.Prelude.{◌≡◌, ℤ, pos, List, [], ◌∷◌, Bool, true, false}
+use Rattle.std.specs.Prelude.{◌≡◌, ℕ, ◌≤◌, ℤ, pos, unsigned_abs, List, [], ◌∷◌, Bool, true, false}
 use Rattle.ngc_fixed_length.specs.Places.{plus, shifted as moved, in_plane}
 use Rattle.ngc_fixed_length.specs.declared.points.GridBox.{GridBox}
 use Rattle.ngc_fixed_length.specs.declared.points.Point3.{Point3}
@@ -21,6 +21,20 @@ abbrev pub along : Axis → ℤ → StepPos
 along X n = record { x = n; y = pos 0; z = pos 0 }
 along Y n = record { x = pos 0; y = n; z = pos 0 }
 along Z n = record { x = pos 0; y = pos 0; z = n }
+
+-- how far an origin may be shifted along each axis, in steps: no travel is longer
+abbrev pub SHIFT_LIMIT : ℕ
+SHIFT_LIMIT = 4000000
+
+pub record IsShift (n : StepPos) : Type 0 where
+  pub x : unsigned_abs n.x ≤ SHIFT_LIMIT
+  pub y : unsigned_abs n.y ≤ SHIFT_LIMIT
+  pub z : unsigned_abs n.z ≤ SHIFT_LIMIT
+
+-- the shifts of a box are in range
+pub record AreShifts (b : GridBox) : Type 0 where
+  pub low : IsShift b.low
+  pub high : IsShift b.high
 
 -- the shifts along one axis from one to another
 abbrev pub shifts_along : Axis → ℤ → ℤ → GridBox
@@ -47,16 +61,24 @@ abbrev pub way_shifted : ℤ → StepPos → Bool → Bool → Way → Way
 way_shifted step n start end (Line p q) = Line (shifted step n start p) (shifted step n end q)
 way_shifted step n start end (Arc a) = Arc (arc_shifted step n end a)
 
+-- whether the place that is reached moves, after an action whose end moves if it is a motion
+abbrev pub end_moves : Bool → Bool → Action → Bool
+end_moves start end (Move m) = end
+end_moves start end _ = start
+
+abbrev pub action_shifted : ℤ → StepPos → Bool → Bool → Action → Action
+action_shifted step n start end (Move m) =
+    Move (record { way = way_shifted step n start end m.way; pace = m.pace; stop = m.stop })
+action_shifted step n start end action = action
+
 -- Actions, each with whether its end moves where it is a motion. A motion's start moves as the end
 -- of the motion before it does.
 abbrev pub actions_shifted : ℤ → StepPos → Bool → List Bool → List Action → List Action
 actions_shifted step n start moving [] = []
 actions_shifted step n start [] (action ∷ actions) = action ∷ actions
-actions_shifted step n start (end ∷ moving) (Move m ∷ actions) =
-    Move (record { way = way_shifted step n start end m.way; pace = m.pace; stop = m.stop })
-    ∷ actions_shifted step n end moving actions
 actions_shifted step n start (end ∷ moving) (action ∷ actions) =
-    action ∷ actions_shifted step n start moving actions
+    action_shifted step n start end action
+    ∷ actions_shifted step n (end_moves start end action) moving actions
 
 -- Other commands are these with the origin shifted, apart from the lines that give them. At first the
 -- axes stand at the machine's start, which doesn't move.

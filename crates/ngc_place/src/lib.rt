@@ -2,6 +2,9 @@
 #![tactic(auto)]
 
 mod axis;
+mod grid;
 pub mod laws;
+mod spots;
+mod straight;
 
 pub use axis::Axis;
