@@ -23,7 +23,7 @@ use Rattle.ngc_drawing.specs.Holes.{holes}
 use Rattle.ngc_drawing.specs.Sheets.{frame, is_in, is_within, unit_of, sheet, pane}
 use Rattle.ngc_drawing.specs.Spelling.{shapes_text}
 use Rattle.ngc_drawing.specs.Strokes.{stroke, strokes}
-use Rattle.ngc_drawing.specs.Tools.{used, number_of, eye_of}
+use Rattle.ngc_drawing.specs.Tools.{used, number_of, name_of, eye_of}
 use Rattle.ngc_drawing.specs.Views.{spot, tip_spot, rectangle, micrometres}
 use Rattle.ngc_drawing.specs.declared.eye.Eye.{Eye}
 use Rattle.ngc_drawing.specs.declared.look.Look.{Look}
@@ -38,10 +38,11 @@ use Rattle.ngc_drawing.specs.declared.spot.Spot.{Spot}
 use Rattle.ngc_drawing.specs.declared.sweep.Sweep.{Sweep}
 use Rattle.ngc_drawing.specs.declared.view.View.{View}
 
--- a fixture and its number
+-- a fixture, and its label: its number and its name
 abbrev pub fixture : View → ℕ → Fixture → List Shape
 fixture view i f =
-    shapes.Fixture (rectangle view f.low f.high) ∷ shapes.FixtureNumber (spot view f.low) i ∷ []
+    shapes.Fixture (rectangle view f.low f.high) ∷ shapes.FixtureNumber (spot view f.low) i
+    ∷ shapes.Name f.name ∷ shapes.LabelEnd ∷ []
 
 abbrev pub fixtures_from : View → ℕ → List Fixture → List Shape
 fixtures_from view i [] = []
@@ -94,7 +95,9 @@ parts None = []
 parts (Some tool) = map part tool.parts
 
 abbrev pub tool_row : ℕ → Option Tool → List Shape
-tool_row rank tool = shapes.Tool rank (number_of tool) ∷ (parts tool ++ shapes.ToolEnd ∷ [])
+tool_row rank tool =
+    shapes.Tool rank (number_of tool) ∷ shapes.Name (name_of tool)
+    ∷ (parts tool ++ shapes.ToolEnd ∷ [])
 
 abbrev pub tool_rows : ℕ → List (Option Tool) → List Shape
 tool_rows rank [] = []

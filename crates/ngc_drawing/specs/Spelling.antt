@@ -1,6 +1,7 @@
 -- The text of what is drawn: SVG 1.1, in millimetres. Our own use of it.
 use Rattle.std.specs.Prelude.{ℕ, ◌+◌, ◌-◌, nat_lt, ◌/◌, ◌%◌, ◌==◌, ℤ, pos, ◌-ℤ◌, ◌*ℤ◌, unsigned_abs, List, []}
 use Rattle.std.specs.Prelude.{◌∷◌, ◌++◌, flat_map, codes, decimal, Bool, true, false, if◌then◌else◌}
+use Rattle.std.specs.Prelude.{length}
 use Rattle.ngc_text.specs.Millimetres.{sign_text}
 use Rattle.ngc_drawing.specs.declared.view.View.{View}
 use Rattle.ngc_drawing.specs.declared.view.View.TheVariants.{Top, Front, Side}
@@ -64,6 +65,11 @@ sign_at unit at sign =
     codes "<g stroke-width=\".1\" transform=\"translate(" ++ spot_text at ++ codes ") scale("
     ++ length_text unit ++ codes ")\">" ++ sign ++ codes "</g>\n"
 
+abbrev pub sign_begin : ℤ → Spot → List ℕ
+sign_begin unit at =
+    codes "<g stroke-width=\".1\" transform=\"translate(" ++ spot_text at ++ codes ") scale("
+    ++ length_text unit ++ codes ")\">"
+
 unfoldable pub axes_text : View → List ℕ
 axes_text Top = codes "X</text><text x=\"-7.2\" y=\"-3.7\" fill=\"#808080\" stroke=\"none\">Y"
 axes_text Front = codes "X</text><text x=\"-7.2\" y=\"-3.7\" fill=\"#808080\" stroke=\"none\">Z"
@@ -110,15 +116,25 @@ window_text p =
     ++ codes " " ++ length_text p.width ++ codes " " ++ length_text p.height ++ codes "\">\n"
 
 abbrev pub scale_text : ℤ → Spot → ℕ → List ℕ
-scale_text unit at length =
+scale_text unit at bar =
     codes "<path transform=\"translate(0 " ++ length_text (pos 6 *ℤ unit) ++ codes ")\" d=\"M"
     ++ spot_text at ++ codes "v-" ++ length_text unit ++
-    codes "v" ++ length_text unit ++ codes "h" ++ size_text length ++ codes "v-" ++ length_text unit
+    codes "v" ++ length_text unit ++ codes "h" ++ size_text bar ++ codes "v-" ++ length_text unit
     ++ codes "\"/>\n"
 
 -- a number of a tool; no tool is 0
 unfoldable pub tool_text : ℕ → List ℕ
 tool_text number = if number == 0 then codes "no tool" else codes "T" ++ decimal number
+
+-- a character of a text (XML 1.0, section 2.4)
+abbrev pub escaped : ℕ → List ℕ
+escaped c =
+    if c == 38 then codes "&amp;" else (if c == 60 then codes "&lt;"
+    else (if c == 62 then codes "&gt;" else (if c == 34 then codes "&quot;" else c ∷ [])))
+
+-- a name after a number, where there is one
+unfoldable pub name_text : List ℕ → List ℕ
+name_text name = if length name == 0 then [] else codes " " ++ flat_map escaped name
 
 abbrev pub shape_text : ℤ → Shape → List ℕ
 shape_text unit (shapes.Begin sheet) = begin_text sheet
@@ -132,9 +148,10 @@ shape_text unit shapes.WindowEnd = codes "</svg>\n"
 shape_text unit (shapes.Fixture r) =
     codes "<path fill=\"#808080\" fill-opacity=\".3\" d=\"" ++ area_text r ++ codes "\"/>\n"
 shape_text unit (shapes.FixtureNumber at number) =
-    sign_at unit at
-    (codes "<text x=\".5\" y=\"-.5\" fill=\"#808080\" stroke=\"none\">" ++ decimal number
-    ++ codes "</text>")
+    sign_begin unit at
+    ++ (codes "<text x=\".5\" y=\"-.5\" fill=\"#808080\" stroke=\"none\">" ++ decimal number)
+shape_text unit (shapes.Name name) = name_text name
+shape_text unit shapes.LabelEnd = codes "</text></g>\n"
 shape_text unit (shapes.FaultFixture r) =
     codes "<path stroke=\"#E60000\" fill=\"#E60000\" fill-opacity=\".3\" d=\"" ++ area_text r
     ++ codes "\"/>\n"
@@ -157,19 +174,19 @@ shape_text unit (shapes.FaultNumber at fault) =
     sign_at unit at
     (codes "<text x=\"1\" y=\"1\" fill=\"#E60000\" stroke=\"none\">" ++ decimal fault
     ++ codes "</text>")
-shape_text unit (shapes.Scale at length) = scale_text unit at length
-shape_text unit (shapes.ScaleLength at length) =
+shape_text unit (shapes.Scale at bar) = scale_text unit at bar
+shape_text unit (shapes.ScaleLength at bar) =
     sign_at unit at
     (codes "<text x=\"0\" y=\"8.4\" fill=\"#808080\" stroke=\"none\">"
-    ++ decimal (length / 1000) ++ codes " mm</text>")
+    ++ decimal (bar / 1000) ++ codes " mm</text>")
 shape_text unit (shapes.Legend at) =
     codes "<g transform=\"translate(" ++ spot_text at ++ codes ") scale(" ++ length_text unit ++
     codes ")\"><text y=\"8.4\" fill=\"#808080\" stroke=\"none\">\n<tspan x=\"0\" dy=\"3\">solid: feeds, dashed: traverses, both at the tip of the mounted tool</tspan>\n<tspan x=\"0\" dy=\"3\">start, G28, G30: the spindle nose; tools: each part's diameter x length</tspan>\n"
 shape_text unit (shapes.Tool rank number) =
     codes "<tspan x=\"0\" dy=\"3\" fill=\"" ++ colour_text rank ++ codes "\">&#9632; "
     ++ tool_text number
-shape_text unit (shapes.Part diameter length) =
-    codes ", " ++ length_text diameter ++ codes " x " ++ length_text length
+shape_text unit (shapes.Part diameter long) =
+    codes ", " ++ length_text diameter ++ codes " x " ++ length_text long
 shape_text unit shapes.ToolEnd = codes "</tspan>\n"
 shape_text unit (shapes.FaultLine fault command) =
     codes "<tspan x=\"0\" dy=\"3\" fill=\"#E60000\">fault " ++ decimal fault ++ codes " at command "

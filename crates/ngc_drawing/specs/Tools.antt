@@ -13,6 +13,11 @@ abbrev pub number_of : Option Tool → ℕ
 number_of None = 0
 number_of (Some tool) = tool.number
 
+-- no tool has no name
+abbrev pub name_of : Option Tool → List ℕ
+name_of None = []
+name_of (Some tool) = tool.name
+
 -- how high the tip of a tool is above the spindle nose, in nanometres, at most 0: there its lowest
 -- part begins; without a tool the tip is the nose itself
 abbrev pub tip_of : Option Tool → ℤ

@@ -34,7 +34,7 @@ use crate::sheet::{Unit, frame, pane, sheet, unit_of};
 use crate::spot::{Rectangle, Spot};
 use crate::strokes::{draw_action, draw_stroke};
 use crate::sweep::{Sweep, sweeps};
-use crate::tools::{number_of, rank_of, used};
+use crate::tools::{name_of, number_of, rank_of, used};
 use crate::view::{View, to_micrometres};
 use arrayvec::ArrayVec;
 use ngc_certificate_text::Motions;
@@ -83,6 +83,8 @@ fn draw_fixtures<W: Sink>(
         let shapes = [
             Shape::Fixture(view.rectangle(&fixture.low, &fixture.high)),
             Shape::FixtureNumber(view.spot(&fixture.low), i),
+            Shape::Name(fixture.name),
+            Shape::LabelEnd,
         ];
         match draw_all(chunk, unit, &shapes, sink) {
             Ok(()) => {}
@@ -187,7 +189,11 @@ fn draw_tool<W: Sink>(
         (W.written sink.new) chunk.old chunk.new result (tool_row rank tool.now) }
     ensures counts { CountsFailure (W.failures sink.old) (W.failures sink.new) result }
 {
-    match draw_all(chunk, unit, &[Shape::Tool(rank, number_of(tool))], sink) {
+    let called = [
+        Shape::Tool(rank, number_of(tool)),
+        Shape::Name(name_of(tool)),
+    ];
+    match draw_all(chunk, unit, &called, sink) {
         Ok(()) => {}
         Err(fault) => return Err(fault),
     }

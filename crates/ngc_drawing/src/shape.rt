@@ -1,5 +1,6 @@
 use crate::spot::{Rectangle, Spot};
 use crate::view::View;
+use ngc_machine::Name;
 
 /// With what a path is drawn: the colour of the tool that is mounted then, by its rank among the
 /// tools that the program uses, dashed where the motion is a traverse; or the red of a fault.
@@ -63,8 +64,12 @@ pub enum Shape {
     WindowEnd,
     /// A fixture.
     Fixture(Rectangle),
-    /// The number of a fixture.
+    /// The number of a fixture, which begins its label.
     FixtureNumber(Spot, usize),
+    /// The name of a fixture or a tool, after its number.
+    Name(Name),
+    /// The label of a fixture ends.
+    LabelEnd,
     /// A fixture that a fault names.
     FaultFixture(Rectangle),
     /// A box that the tool fills at the end of a refused motion.

@@ -1,4 +1,5 @@
 ghost use Rattle.std.specs.Prelude.{◌≡◌, ◌+◌, ◌*◌, ◌<◌, ◌≤◌, ◌++◌, codes, decimal, length};
+ghost use Rattle.std.specs.Prelude.{flat_map};
 ghost use Rattle.ngc_text.specs.Collected.{CHUNK_SIZE, HasLineRoom};
 ghost use Rattle.ngc_drawing.specs.Units.{IsUnit};
 ghost use Rattle.ngc_drawing.specs.declared.shape.Shape.TheVariants as shapes;
@@ -6,10 +7,12 @@ ghost use Rattle.ngc_drawing.specs.Spelling.{decimals, size_text, length_text, d
 ghost use Rattle.ngc_drawing.specs.Spelling.{spot_text, area_text, colour_text, ink_text, sign_at};
 ghost use Rattle.ngc_drawing.specs.Spelling.{axes_text, mark_text, turn_text, begin_text};
 ghost use Rattle.ngc_drawing.specs.Spelling.{system_text, window_text, scale_text, tool_text, shape_text};
+ghost use Rattle.ngc_drawing.specs.Spelling.{escaped, name_text};
 
 use crate::shape::{Ink, Mark, Pane, Shape, Sheet};
 use crate::spot::{Rectangle, Spot};
 use crate::view::View;
+use ngc_machine::Name;
 use ngc_text::Chunk;
 
 fn decimals(thousandths: u64) -> [u8; 4]
@@ -282,8 +285,48 @@ fn add_fixture_number(chunk: &mut Chunk, unit: i64, at: &Spot, number: usize)
     begin_sign(chunk, unit, at);
     chunk.add_text(b"<text x=\".5\" y=\"-.5\" fill=\"#808080\" stroke=\"none\">");
     chunk.add_number(number);
-    chunk.add_text(b"</text>");
-    chunk.add_text(b"</g>\n");
+}
+
+fn add_escaped(chunk: &mut Chunk, character: u8)
+    requires { length chunk.old + 6 ≤ CHUNK_SIZE }
+    ensures text { chunk.new ≡ chunk.old ++ escaped character }
+    ensures short { length chunk.new ≤ length chunk.old + 6 }
+{
+    if character == b'&' {
+        chunk.add_text(b"&amp;");
+    } else if character == b'<' {
+        chunk.add_text(b"&lt;");
+    } else if character == b'>' {
+        chunk.add_text(b"&gt;");
+    } else if character == b'"' {
+        chunk.add_text(b"&quot;");
+    } else {
+        chunk.add_text(&[character]);
+    }
+}
+
+/// Adds a text whose characters are escaped.
+fn add_string(chunk: &mut Chunk, text: &[u8])
+    requires { length chunk.old + 6 * length text.now ≤ CHUNK_SIZE }
+    ensures text { chunk.new ≡ chunk.old ++ flat_map escaped text.now }
+    ensures short { length chunk.new ≤ length chunk.old + 6 * length text.now }
+{
+    for character in text {
+        add_escaped(chunk, *character);
+    }
+}
+
+/// Adds a name after a number, where there is one.
+#[tactic(auto, unfolding(crate::specs::Spelling::name_text))]
+fn add_name(chunk: &mut Chunk, name: &Name)
+    requires { HasLineRoom chunk.old }
+    ensures { chunk.new ≡ chunk.old ++ name_text name.now }
+{
+    let name = name.as_bytes();
+    if !name.is_empty() {
+        chunk.add_text(b" ");
+        add_string(chunk, name);
+    }
 }
 
 fn add_fault_number(chunk: &mut Chunk, unit: i64, at: &Spot, fault: u16)
@@ -473,6 +516,8 @@ pub(crate) fn add_shape(chunk: &mut Chunk, unit: i64, shape: &Shape)
         }
         Shape::FaultTool(area) => add_outline(chunk, b"<path stroke=\"#E60000\" d=\"", area),
         Shape::FixtureNumber(at, number) => add_fixture_number(chunk, unit, at, *number),
+        Shape::Name(name) => add_name(chunk, name),
+        Shape::LabelEnd => chunk.add_text(b"</text></g>\n"),
         Shape::FaultNumber(at, fault) => add_fault_number(chunk, unit, at, *fault),
         Shape::Mark(mark, at) => add_marked(chunk, unit, mark, at),
         Shape::ScaleLength(at, bar) => add_scale_length(chunk, unit, at, *bar),

@@ -1,8 +1,8 @@
 ghost use Rattle.std.specs.Prelude.{◌≡◌, IfOk, length};
-ghost use Rattle.ngc_drawing.specs.Tools.{number_of, rank_of, with_tool, mounted, used_by, used};
+ghost use Rattle.ngc_drawing.specs.Tools.{number_of, name_of, rank_of, with_tool, mounted, used_by, used};
 
 use ngc_commands::{Action, Command};
-use ngc_machine::Tool;
+use ngc_machine::{Name, Tool};
 use std::alloc::{AllocError, Allocator};
 
 /// The number of a tool; no tool is 0.
@@ -12,6 +12,16 @@ pub(crate) fn number_of(tool: &Option<Tool>) -> u32
     match tool {
         None => 0,
         Some(tool) => tool.number,
+    }
+}
+
+/// The name of a tool; no tool has none.
+pub(crate) fn name_of(tool: &Option<Tool>) -> Name
+    ensures { result ≡ name_of tool.now }
+{
+    match tool {
+        None => Name::none(),
+        Some(tool) => tool.name,
     }
 }
 

@@ -1,5 +1,4 @@
 use Rattle.std.proofs.Common.{rules}
-use Rattle.std.proofs.lemmas.List.{get_or_default}
 use Rattle.ngc_certificate_text.proofs.Fronts.{one_more, stopped_at}
 use Rattle.ngc_drawing.specs.Spelling.{shape_text}
 use Rattle.ngc_drawing.proofs.drawer.draw_all.Goals as goal
@@ -7,11 +6,11 @@ use Rattle.ngc_drawing.proofs.drawer.draw_all.Goals as goal
 pub returns-in-Err-clause-drawn : goal.returns-in-Err-clause-drawn
 returns-in-Err-clause-drawn g c =
     stopped_at (shape_text c.args.unit.now.micrometres) c.args.shapes.now c.loop-shape.shape-index _ _ _ _ _ _ c.loop-shape-test.true
-    (get_or_default _ _ _ _ c.loop-shape-test.true) c.loop-shape.invariant.front c.in-Err.ensures.text
+    c.shape-item.is c.loop-shape.invariant.front c.in-Err.ensures.text
 
 pub loop-shape-preserved : goal.loop-shape-preserved
 loop-shape-preserved g c = record {
   front = one_more (shape_text c.args.unit.now.micrometres) c.args.shapes.now c.loop-shape.shape-index _ _ _ _ _ _ _ c.loop-shape-test.true
-      (get_or_default _ _ _ _ c.loop-shape-test.true) c.loop-shape.invariant.front c.in-Ok.ensures.text;
+      c.shape-item.is c.loop-shape.invariant.front c.in-Ok.ensures.text;
   failures = search rules;
 }
