@@ -1,6 +1,16 @@
 -- The texts of a job, from those of what was accepted of it.
-use Rattle.std.proofs.Common.{◌≡◌, ℕ, List, Option, Some, None, Bool, false, ap, refl, subst, sym, ◌∙◌}
-use Rattle.std.specs.Prelude.{is_some, true}
+use Rattle.std.proofs.Common.{◌≡◌, ℕ, List, Option, Some, None, Bool, false, ap, ap₂, refl, subst, sym, ◌∙◌}
+use Rattle.std.specs.Prelude.{is_some, slice_get, true}
+use Rattle.ngc_canonical.specs.Meaning.{with_readings}
+use Rattle.ngc_canonical.specs.State.{Setup}
+use Rattle.ngc_frames.specs.Changes.{frame_changes, start_frame}
+use Rattle.ngc_frames.specs.InForce.{frame_in_force}
+use Rattle.ngc_frames.specs.declared.change.FrameChange.{FrameChange}
+use Rattle.ngc_frames.specs.declared.frame.Frame.{Frame}
+use Rattle.ngc_frames.specs.declared.in_force.FrameInForce.{FrameInForce}
+use Rattle.ngc_line_reader.specs.Grammar.{Reading}
+use Rattle.ngc_line_reader.specs.ProgramText.{AreReadings}
+use Rattle.ngc_machine.specs.declared.tools.Tool.{Tool}
 use Rattle.ngc_commands.specs.declared.command.Command.{Command}
 use Rattle.ngc_certificate.specs.Uncleared.{AreUncleared}
 use Rattle.ngc_certificate_text.specs.declared.piece.Setting.{Setting}
@@ -12,7 +22,7 @@ use Rattle.ngc_checker.specs.Accepted.{AcceptedData, commands_at}
 use Rattle.ngc_checker.specs.Held.{accepted_of}
 use Rattle.ngc_job.specs.Job.{JobData, commands_in, on_or}
 use Rattle.ngc_report.specs.declared.form.Form.{Form}
-use Rattle.ngc_program_report.specs.JobReports.{IsFitText, IsRefusalsText, IsStartClear, OffBegins, OnBegins, first_text, setup_in}
+use Rattle.ngc_program_report.specs.JobReports.{IsFitText, IsFrameAt, IsRefusalsText, IsStartClear, OffBegins, OnBegins, first_text, line_of, setup_in}
 use Rattle.ngc_program_report.specs.Texts.{LastsFor, accepted_text, fits_text, is_on, refusal_text, refusals_text}
 use Rattle.ngc_program_report.specs.Times.{ProgramTimeData}
 
@@ -53,12 +63,33 @@ fit_text j c form apart a off_time on_time lines is_apart is off_lasts on_lasts 
 
 -- ---- what is in the way
 
-pub first_as : (j : JobData) (form : Form) (s : Setting) (k : ℕ) (lines : List Line) (named : Bool) (m : MachineFile) (b : Bool) (cs : List Command)
-    → named ≡ is_some j.on → m ≡ j.machine → b ≡ is_on s → cs ≡ commands_in b j → refusal_text form named s m cs k lines ≡ first_text j form s k lines
-first_as j form s k lines named m b cs is_named is_machine is_set are =
-    ap (λ (d : Bool). refusal_text form d s m cs k lines) is_named
-    ∙ ap (λ (x : MachineFile). refusal_text form (is_some j.on) s x cs k lines) is_machine
-    ∙ ap (λ (l : List Command). refusal_text form (is_some j.on) s j.machine l k lines) (are ∙ ap (λ (x : Bool). commands_in x j) is_set)
+pub first_as : (j : JobData) (form : Form) (s : Setting) (k : ℕ) (lines : List Line) (frame : FrameInForce) (named : Bool) (m : MachineFile) (b : Bool)
+    (cs : List Command) → named ≡ is_some j.on → m ≡ j.machine → b ≡ is_on s → cs ≡ commands_in b j
+    → refusal_text form named s m cs k lines frame ≡ first_text j form s k lines frame
+first_as j form s k lines frame named m b cs is_named is_machine is_set are =
+    ap (λ (d : Bool). refusal_text form d s m cs k lines frame) is_named
+    ∙ ap (λ (x : MachineFile). refusal_text form (is_some j.on) s x cs k lines frame) is_machine
+    ∙ ap (λ (l : List Command). refusal_text form (is_some j.on) s j.machine l k lines frame) (are ∙ ap (λ (x : Bool). commands_in x j) is_set)
+
+-- the frame of a command, from what was worked out of it
+pub frame_as : (j : JobData) (s : Setting) (k : ℕ) (lines : List Line) (m : MachineFile) (tools : List Tool) (b : Bool) (cs : List Command) (n : ℕ)
+    (start : Frame) (changes : List FrameChange) (frame : FrameInForce)
+    → m ≡ j.machine → tools ≡ j.tools → b ≡ is_on s → cs ≡ commands_in b j → n ≡ line_of (slice_get cs k)
+    → start ≡ start_frame (record { machine = m; tools = tools })
+    → ((rs : List Reading) → AreReadings lines rs → changes ≡ frame_changes (record { machine = m; tools = tools }) (with_readings lines rs) b)
+    → frame ≡ frame_in_force start changes n → IsFrameAt j s k lines frame
+frame_as j s k lines m tools b cs n start changes frame is_machine are_tools is_set are is_line is_start are_changes is rs readings =
+    let setup : Setup = record { machine = m; tools = tools } in
+    let same : setup ≡ setup_in j = ap₂ (λ (x : MachineFile) (t : List Tool). record { machine = x; tools = t }) is_machine are_tools in
+    let line : n ≡ line_of (slice_get (commands_in (is_on s) j) k) =
+    is_line ∙ ap (λ (l : List Command). line_of (slice_get l k)) (are ∙ ap (λ (x : Bool). commands_in x j) is_set) in
+    is
+    ∙ ap (λ (f : Frame). frame_in_force f changes n) (is_start ∙ ap (λ (x : Setup). start_frame x) same)
+    ∙ ap (λ (l : List FrameChange). frame_in_force (start_frame (setup_in j)) l n)
+    (are_changes rs readings
+    ∙ ap (λ (x : Setup). frame_changes x (with_readings lines rs) b) same
+    ∙ ap (λ (x : Bool). frame_changes (setup_in j) (with_readings lines rs) x) is_set)
+    ∙ ap (λ (x : ℕ). frame_in_force (start_frame (setup_in j)) (frame_changes (setup_in j) (with_readings lines rs) (is_on s)) x) line
 
 pub all_text : (j : JobData) (cuts : ℕ) (s : Setting) (k : ℕ) (form : Form) (named : Bool) (m : MachineFile) (off on : List Command) (off_ks on_ks : List ℕ)
     → named ≡ is_some j.on → m ≡ j.machine → off ≡ j.off → on ≡ commands_in true j

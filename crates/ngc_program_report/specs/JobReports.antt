@@ -1,12 +1,18 @@
 -- What the report of a job says. Our own.
-use Rattle.std.specs.Prelude.{◌≡◌, ℕ, List, [], Option, None, is_some, Result, Ok, Err, Bool, true}
-use Rattle.std.specs.Prelude.{false, IsTrue}
+use Rattle.std.specs.Prelude.{◌≡◌, ℕ, List, [], Option, Some, None, is_some, Result, Ok, Err, Bool}
+use Rattle.std.specs.Prelude.{true, false, IsTrue, slice_get}
 use Rattle.std.specs.List.{list_all}
 use Rattle.std.specs.Io.KnownBytes.{Appends, Keeps}
 use Rattle.ngc_text.specs.Failures.{Rises}
 use Rattle.ngc_text.specs.Written.{AppendsBeginning}
+use Rattle.ngc_line_reader.specs.Grammar.{Reading}
 use Rattle.ngc_line_reader.specs.Program.{Line}
+use Rattle.ngc_line_reader.specs.ProgramText.{AreReadings}
+use Rattle.ngc_canonical.specs.Meaning.{with_readings}
 use Rattle.ngc_canonical.specs.State.{Setup}
+use Rattle.ngc_frames.specs.Changes.{frame_changes, start_frame}
+use Rattle.ngc_frames.specs.InForce.{frame_in_force}
+use Rattle.ngc_frames.specs.declared.in_force.FrameInForce.{FrameInForce}
 use Rattle.ngc_fixed_length.specs.Grid.{grid}
 use Rattle.ngc_machine.specs.Machine.{MachineFile}
 use Rattle.ngc_machine.specs.MachineRanges.{IsMachine}
@@ -75,16 +81,34 @@ pub record IsRefusalsText (j : JobData) (cuts : ℕ) (s : Setting) (k : ℕ) (fo
       off_ks on_ks
 
 -- the report of command k alone, which isn't cleared at a setting
-abbrev pub first_text : JobData → Form → Setting → ℕ → List Line → List ℕ
-first_text j form s k lines =
-    refusal_text form (is_some j.on) s j.machine (commands_in (is_on s) j) k lines
+abbrev pub first_text : JobData → Form → Setting → ℕ → List Line → FrameInForce → List ℕ
+first_text j form s k lines frame =
+    refusal_text form (is_some j.on) s j.machine (commands_in (is_on s) j) k lines frame
+
+-- the line that gives command k
+abbrev pub line_of : Option Command → ℕ
+line_of None = 0
+line_of (Some c) = c.line
+
+-- by this frame command k is executed at a setting, whatever the readings of the program's lines are
+abbrev pub IsFrameAt : JobData → Setting → ℕ → List Line → FrameInForce → Type 0
+IsFrameAt j s k lines frame = (rs : List Reading) → AreReadings lines rs →
+    frame ≡ frame_in_force (start_frame (setup_in j))
+    (frame_changes (setup_in j) (with_readings lines rs) (is_on s))
+    (line_of (slice_get (commands_in (is_on s) j) k))
+
+pub record IsFirstText (j : JobData) (form : Form) (s : Setting) (k : ℕ) (lines : List Line)
+    (text : List ℕ) : Type 0 where
+  pub frame : FrameInForce
+  pub executed : IsFrameAt j s k lines frame
+  pub tells : text ≡ first_text j form s k lines frame
 
 -- the report of one of which command k isn't cleared: of all such commands, or of that one alone
 abbrev pub IsRefusalText : Bool → JobData → ReportRequest → Setting → ℕ → List Line → List ℕ →
     Type 0
 IsRefusalText true j request s k lines text =
     IsRefusalsText j request.cuts s k request.form text
-IsRefusalText false j request s k lines text = text ≡ first_text j request.form s k lines
+IsRefusalText false j request s k lines text = IsFirstText j request.form s k lines text
 
 -- such a text was written, or a beginning of one where the sink failed; or memory ran out, and
 -- nothing was written

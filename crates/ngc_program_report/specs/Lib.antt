@@ -1,6 +1,7 @@
 -- Reports of programs.
 pub mod Times
 pub mod Met
+pub mod Coordinates
 pub mod Texts
 pub mod FaultTexts
 pub mod JobReports

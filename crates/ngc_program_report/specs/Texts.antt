@@ -18,6 +18,7 @@ use Rattle.ngc_certificate.specs.PieceFault.{place_fault}
 use Rattle.ngc_checker.specs.Accepted.{AcceptedData}
 use Rattle.ngc_behaviour.specs.Headline.{job_of}
 use Rattle.ngc_run_log.specs.Parts.{IsTimedThrough}
+use Rattle.ngc_frames.specs.declared.in_force.FrameInForce.{FrameInForce}
 use Rattle.ngc_report.specs.Forms.{closing, opening, report_text}
 use Rattle.ngc_report.specs.Marks.{named_line}
 use Rattle.ngc_report.specs.Quotes.{quoted}
@@ -28,6 +29,7 @@ use Rattle.ngc_report.specs.declared.form.Form.TheVariants.{Words, Json}
 use Rattle.ngc_word_warnings.specs.Spelling.{word_warnings}
 use Rattle.ngc_setup_sheet.specs.Sheets.{warning_facts, warnings_text}
 use Rattle.ngc_program_report.specs.declared.run_time.RunTime.{RunTime}
+use Rattle.ngc_program_report.specs.Coordinates.{coordinates_text, told_way}
 use Rattle.ngc_program_report.specs.Met.{met_at}
 use Rattle.ngc_program_report.specs.Times.{ProgramTimeData, seconds_text, time_text, uses_text}
 
@@ -137,20 +139,22 @@ abbrev pub quoted_if : Form → Option ℕ → List Line → List ℕ
 quoted_if form None lines = []
 quoted_if form (Some number) lines = quoted form number lines
 
--- what is in the way of a command, and its line
-abbrev pub cause_text : Form → MachineFile → List Command → Option ℕ → Option ℕ → List Line → List ℕ
-cause_text form machine commands told fixture lines =
+-- what is in the way of a command, its line, and where it goes by the program
+abbrev pub cause_text : Form → MachineFile → List Command → Option ℕ → Option ℕ → List Line →
+    FrameInForce → List ℕ
+cause_text form machine commands told fixture lines frame =
     report_text form (refusal_lines machine commands told fixture)
-    ++ (quoted_if form (told_number commands told) lines ++ ending form 304)
+    ++ (quoted_if form (told_number commands told) lines
+    ++ (coordinates_text form frame (told_way commands told) ++ ending form 304))
 
 -- what is in the way of command k at a setting
 abbrev pub refusal_text : Form → Bool → Setting → MachineFile → List Command → ℕ →
-    List Line → List ℕ
-refusal_text form named s machine commands k lines =
+    List Line → FrameInForce → List ℕ
+refusal_text form named s machine commands k lines frame =
     heading form true named s
     ++ cause_text form machine commands
     (told_command (place_fault machine None (grid machine.step machine.start)) k)
-    (met_at machine commands k) lines
+    (met_at machine commands k) lines frame
 
 -- all that is in the way at a setting
 abbrev pub setting_refusals : Form → Bool → Bool → Setting → MachineFile → List Command →

@@ -1,5 +1,5 @@
 //! The reports of jobs: of those that fit, and of those that don't.
-ghost use Rattle.std.specs.Prelude.{◌≡◌, ◌≤◌, is_some, Err, IfOk, OnErr, OnOk, true};
+ghost use Rattle.std.specs.Prelude.{◌≡◌, ◌≤◌, is_some, slice_get, Err, IfOk, OnErr, OnOk, true};
 ghost use Rattle.std.specs.Io.KnownBytes.{Appends};
 ghost use Rattle.ngc_certificate.specs.Made.{IsMade};
 ghost use Rattle.ngc_certificate.specs.Uncleared.{AreUncleared};
@@ -9,9 +9,10 @@ ghost use Rattle.ngc_job.specs.Job.{commands_in};
 ghost use Rattle.ngc_text.specs.Failures.{CountsFailure};
 ghost use Rattle.ngc_text.specs.Written.{AppendsBeginning};
 ghost use Rattle.ngc_line_reader.specs.ProgramView.{text_in};
-ghost use Rattle.ngc_program_report.specs.JobReports.{FailsByWriting, IsFitText, IsRefusalText};
-ghost use Rattle.ngc_program_report.specs.JobReports.{IsRefusalsText, IsStartClear, OffBegins};
-ghost use Rattle.ngc_program_report.specs.JobReports.{OnBegins, Tells, first_text};
+ghost use Rattle.ngc_program_report.specs.JobReports.{FailsByWriting, IsFitText, IsFrameAt};
+ghost use Rattle.ngc_program_report.specs.JobReports.{IsRefusalText, IsRefusalsText, IsStartClear};
+ghost use Rattle.ngc_program_report.specs.JobReports.{OffBegins, OnBegins, Tells, first_text};
+ghost use Rattle.ngc_program_report.specs.JobReports.{line_of};
 
 use crate::fit_writer::{is_on, write_both, write_once};
 use crate::refusal_writer::{is_start_refused, write_all_both, write_all_once, write_refused};
@@ -20,6 +21,8 @@ use crate::request::ReportRequest;
 use crate::timing::{accept, time_of};
 use ngc_certificate::{MakeFault, MemoryFault, Setting, uncleared, uncleared_from};
 use ngc_certificate_text::Certificate;
+use ngc_commands::Command;
+use ngc_frames::{FrameInForce, OutOfMemory, frame_history};
 use ngc_job::Job;
 use ngc_line_reader::Program;
 use ngc_report::Form;
@@ -66,21 +69,47 @@ pub fn report_fit<A: Allocator + Copy, W: Sink>(
     Ok(())
 }
 
+fn line_of(commands: &[Command], command: usize) -> u32
+    ensures { result ≡ line_of (slice_get commands.now command) }
+{
+    match commands.get(command) {
+        None => 0,
+        Some(command) => command.line,
+    }
+}
+
+// The frame by which a command is executed at a setting.
+fn frame_at<A: Allocator + Copy>(
+    alloc: A,
+    program: &Program<A>,
+    job: &Job<A>,
+    setting: Setting,
+    command: u32,
+) -> Result<FrameInForce, OutOfMemory>
+    ensures { IfOk result (IsFrameAt job.now setting command (text_in program.now).lines) }
+{
+    let on = is_on(setting);
+    let history = frame_history(alloc, program, job.machine(), job.tools(), on)?;
+    let line = line_of(job.commands(on), command as usize);
+    Ok(history.in_force(line))
+}
+
 // The report of a command that isn't cleared at a setting.
 fn report_first<A: Allocator, W: Sink>(
     program: &Program<A>,
     job: &Job<A>,
     setting: Setting,
     command: u32,
+    frame: &FrameInForce,
     form: Form,
     output: &mut W,
 ) -> Result<(), WriteFault>
     ensures ok { OnOk result
         (Appends (W.written output.old) (W.written output.new)
-        (first_text job.now form setting command (text_in program.now).lines)) }
+        (first_text job.now form setting command (text_in program.now).lines frame.now)) }
     ensures fault { OnErr result
         (AppendsBeginning (W.written output.old) (W.written output.new)
-        (first_text job.now form setting command (text_in program.now).lines)) }
+        (first_text job.now form setting command (text_in program.now).lines frame.now)) }
     ensures counts { CountsFailure (W.failures output.old) (W.failures output.new) result }
 {
     write_refused(
@@ -91,6 +120,7 @@ fn report_first<A: Allocator, W: Sink>(
         setting,
         job.commands(is_on(setting)),
         command,
+        frame,
         output,
     )
 }
@@ -191,8 +221,8 @@ fn report_all<A: Allocator + Copy, W: Sink>(
 }
 
 /// Writes the report of a job for which no certificate is made, because a command, counted from 0,
-/// isn't cleared at a setting of block delete: what is in the way of that command, or of all that
-/// aren't cleared. Nothing is written for want of memory (900); where a write fails (902), a
+/// isn't cleared at a setting of block delete: what is in the way of that command, and where it goes
+/// by the program's coordinates; or what is in the way of all that aren't cleared. Nothing is written for want of memory (900); where a write fails (902), a
 /// beginning is written.
 pub fn report_refusal<A: Allocator + Copy, W: Sink>(
     alloc: A,
@@ -213,6 +243,10 @@ pub fn report_refusal<A: Allocator + Copy, W: Sink>(
     if request.all {
         return report_all(alloc, job, setting, command, request, output);
     }
-    report_first(program, job, setting, command, request.form, output)?;
+    let frame = match frame_at(alloc, program, job, setting, command) {
+        Ok(frame) => frame,
+        Err(_) => return Err(ReportFault::Memory),
+    };
+    report_first(program, job, setting, command, &frame, request.form, output)?;
     Ok(())
 }

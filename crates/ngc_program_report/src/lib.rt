@@ -2,6 +2,7 @@
 //! way.
 #![tactic(auto)]
 
+mod coordinates;
 mod fault_writer;
 mod fit_writer;
 mod job_report;

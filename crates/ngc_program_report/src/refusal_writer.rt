@@ -9,15 +9,18 @@ ghost use Rattle.ngc_fixed_length.specs.Grid.{grid};
 ghost use Rattle.ngc_line_reader.specs.ProgramView.{text_in};
 ghost use Rattle.ngc_machine.specs.Machine.{file_of};
 ghost use Rattle.ngc_report.specs.Marks.{named_line};
+ghost use Rattle.ngc_program_report.specs.Coordinates.{coordinates_text};
 ghost use Rattle.ngc_program_report.specs.Texts.{cause_text, ending, quoted_if, refusal_text};
 ghost use Rattle.ngc_program_report.specs.Texts.{refusals_text, refused_line, rejection_text};
 ghost use Rattle.ngc_program_report.specs.Texts.{setting_refusals, told_command, told_number};
 
+use crate::coordinates::{told_way, write_coordinates};
 use crate::met::met_at;
 use crate::report_frame::{write_ending, write_heading};
 use ngc_canonical::Fault;
 use ngc_certificate::{Setting, place_fault};
-use ngc_commands::Command;
+use ngc_commands::{Command, Way};
+use ngc_frames::FrameInForce;
 use ngc_line_reader::Program;
 use ngc_machine::Machine;
 use ngc_report::{Form, write_line, write_named, write_refusal, write_refusals};
@@ -69,23 +72,47 @@ fn write_told_line<A: Allocator, W: Sink>(
     }
 }
 
-// The line of the program that gives the command which is told, and the end.
-fn write_cause_end<A: Allocator, W: Sink>(
+// Where the command which is told goes by the program, and the end.
+fn write_way_end<W: Sink>(
     form: Form,
-    program: &Program<A>,
-    number: Option<u32>,
+    frame: &FrameInForce,
+    way: &Option<Way>,
     output: &mut W,
 ) -> Result<(), WriteFault>
     ensures ok { OnOk result
         (Appends (W.written output.old) (W.written output.new)
-        (quoted_if form number (text_in program.now).lines ++ ending form 304)) }
+        (coordinates_text form frame.now way.now ++ ending form 304)) }
     ensures fault { OnErr result
         (AppendsBeginning (W.written output.old) (W.written output.new)
-        (quoted_if form number (text_in program.now).lines ++ ending form 304)) }
+        (coordinates_text form frame.now way.now ++ ending form 304)) }
+    ensures counts { CountsFailure (W.failures output.old) (W.failures output.new) result }
+{
+    write_coordinates(form, frame, way, output)?;
+    write_ending(form, 304, output)
+}
+
+// The line of the program that gives the command which is told, where that goes by the program, and
+// the end.
+fn write_cause_end<A: Allocator, W: Sink>(
+    form: Form,
+    program: &Program<A>,
+    number: Option<u32>,
+    frame: &FrameInForce,
+    way: &Option<Way>,
+    output: &mut W,
+) -> Result<(), WriteFault>
+    ensures ok { OnOk result
+        (Appends (W.written output.old) (W.written output.new)
+        (quoted_if form number (text_in program.now).lines
+        ++ (coordinates_text form frame.now way.now ++ ending form 304))) }
+    ensures fault { OnErr result
+        (AppendsBeginning (W.written output.old) (W.written output.new)
+        (quoted_if form number (text_in program.now).lines
+        ++ (coordinates_text form frame.now way.now ++ ending form 304))) }
     ensures counts { CountsFailure (W.failures output.old) (W.failures output.new) result }
 {
     write_told_line(form, program, number, output)?;
-    write_ending(form, 304, output)
+    write_way_end(form, frame, way, output)
 }
 
 // What is in the way of a command, and its line.
@@ -96,20 +123,23 @@ fn write_cause<A: Allocator, W: Sink>(
     commands: &[Command],
     told: Option<usize>,
     fixture: Option<u32>,
+    frame: &FrameInForce,
     output: &mut W,
 ) -> Result<(), WriteFault>
     ensures ok { OnOk result
         (Appends (W.written output.old) (W.written output.new)
         (cause_text form (file_of machine.now) commands.now told fixture
-        (text_in program.now).lines)) }
+        (text_in program.now).lines frame.now)) }
     ensures fault { OnErr result
         (AppendsBeginning (W.written output.old) (W.written output.new)
         (cause_text form (file_of machine.now) commands.now told fixture
-        (text_in program.now).lines)) }
+        (text_in program.now).lines frame.now)) }
     ensures counts { CountsFailure (W.failures output.old) (W.failures output.new) result }
 {
     write_refusal(form, machine, commands, told, fixture, output)?;
-    write_cause_end(form, program, told_number(commands, told), output)
+    let number = told_number(commands, told);
+    let way = told_way(commands, told);
+    write_cause_end(form, program, number, frame, &way, output)
 }
 
 // What is in the way of a command at a setting.
@@ -121,22 +151,23 @@ pub(crate) fn write_refused<A: Allocator, W: Sink>(
     setting: Setting,
     commands: &[Command],
     command: u32,
+    frame: &FrameInForce,
     output: &mut W,
 ) -> Result<(), WriteFault>
     ensures ok { OnOk result
         (Appends (W.written output.old) (W.written output.new)
         (refusal_text form named setting (file_of machine.now) commands.now command
-        (text_in program.now).lines)) }
+        (text_in program.now).lines frame.now)) }
     ensures fault { OnErr result
         (AppendsBeginning (W.written output.old) (W.written output.new)
         (refusal_text form named setting (file_of machine.now) commands.now command
-        (text_in program.now).lines)) }
+        (text_in program.now).lines frame.now)) }
     ensures counts { CountsFailure (W.failures output.old) (W.failures output.new) result }
 {
     write_heading(form, true, named, setting, output)?;
     let told = told_command(machine, command);
     let fixture = met_at(machine, commands, command as usize);
-    write_cause(form, program, machine, commands, told, fixture, output)
+    write_cause(form, program, machine, commands, told, fixture, frame, output)
 }
 
 // Whether a fixture is met at the start.

@@ -6,8 +6,8 @@ pub returns-in_err-write_told_line-clause-fault : goal.returns-in_err-write_told
 returns-in_err-write_told_line-clause-fault g c = on_err _ _ (begins_first _ _ _ _ c.in_err-write_told_line.ensures.fault)
 
 pub returns-clause-ok : goal.returns-clause-ok
-returns-clause-ok g c = ok_weaker c.write_ending.result _ _ (λ wrote. appends_both _ _ _ _ _ c.in_ok-write_told_line.ensures.ok wrote) c.write_ending.ensures.ok
+returns-clause-ok g c = ok_weaker c.write_way_end.result _ _ (λ wrote. appends_both _ _ _ _ _ c.in_ok-write_told_line.ensures.ok wrote) c.write_way_end.ensures.ok
 
 pub returns-clause-fault : goal.returns-clause-fault
 returns-clause-fault g c =
-    err_weaker c.write_ending.result _ _ (λ wrote. begins_last _ _ _ _ _ c.in_ok-write_told_line.ensures.ok wrote) c.write_ending.ensures.fault
+    err_weaker c.write_way_end.result _ _ (λ wrote. begins_last _ _ _ _ _ c.in_ok-write_told_line.ensures.ok wrote) c.write_way_end.ensures.fault

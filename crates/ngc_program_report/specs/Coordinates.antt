@@ -1,0 +1,34 @@
+-- The motion that a report is about, in the program's coordinates. Our own.
+use Rattle.std.specs.Prelude.{◌≡◌, ℕ, List, [], slice_get, Option, Some, None, option_and_then}
+use Rattle.ngc_fixed_length.specs.declared.points.Point3.{Point3}
+use Rattle.ngc_offsets.specs.Frames.{to_program}
+use Rattle.ngc_commands.specs.Movement.{start_of, end_of}
+use Rattle.ngc_commands.specs.declared.command.Action.{Action}
+use Rattle.ngc_commands.specs.declared.command.Action.TheVariants.{Move}
+use Rattle.ngc_commands.specs.declared.command.Command.{Command}
+use Rattle.ngc_commands.specs.declared.movement.Way.{Way}
+use Rattle.ngc_frames.specs.Facts.{motion_fact}
+use Rattle.ngc_frames.specs.Words.{motion_words}
+use Rattle.ngc_frames.specs.declared.in_force.FrameInForce.{FrameInForce}
+use Rattle.ngc_report.specs.declared.form.Form.{Form}
+use Rattle.ngc_report.specs.declared.form.Form.TheVariants.{Words, Json}
+
+abbrev pub way_of : Action → Option Way
+way_of (Move m) = Some m.way
+way_of _ = None
+
+-- the way of the motion that is reported, where a motion is
+abbrev pub told_way : List Command → Option ℕ → Option Way
+told_way commands None = None
+told_way commands (Some k) = option_and_then (λ c. way_of c.action) (slice_get commands k)
+
+unfoldable pub motion_text : Form → FrameInForce → Point3 → Point3 → List ℕ
+motion_text Words f from to = motion_words f from to
+motion_text Json f from to = motion_fact f from to
+
+-- where it begins and ends by the program
+unfoldable pub coordinates_text : Form → FrameInForce → Option Way → List ℕ
+coordinates_text form f None = []
+coordinates_text form f (Some way) =
+    motion_text form f (to_program f.frame.frames (start_of way))
+    (to_program f.frame.frames (end_of way))
