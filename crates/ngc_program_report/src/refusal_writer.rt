@@ -167,7 +167,9 @@ pub(crate) fn write_refused<A: Allocator, W: Sink>(
     write_heading(form, true, named, setting, output)?;
     let told = told_command(machine, command);
     let fixture = met_at(machine, commands, command as usize);
-    write_cause(form, program, machine, commands, told, fixture, frame, output)
+    write_cause(
+        form, program, machine, commands, told, fixture, frame, output,
+    )
 }
 
 // Whether a fixture is met at the start.

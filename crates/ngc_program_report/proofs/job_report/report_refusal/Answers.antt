@@ -16,8 +16,7 @@ returns-in_err-report_first-clause-tells g c =
     (λ r. Tells (IsRefusalText c.args.request.all j c.args.request c.args.setting c.args.command lines) old new r)
     c.from_residual.ensures.1
     (subst (λ (all : Bool). Tells (IsRefusalText all j c.args.request c.args.setting c.args.command lines) old new (Err (faults.Write fault)))
-    (sym c.if-request.false)
-    (
+    (sym c.if-request.false) (
       first_text j c.args.request.form c.args.setting c.args.command lines c.in-Ok-frame.frame,
       record { frame = c.in-Ok-frame.frame; executed = c.in-Ok-frame.ensures; tells = refl },
       c.in_err-report_first.ensures.fault,
