@@ -62,7 +62,7 @@ pub record IsFedShort (feeds : Bool) (job : Job) (old : State) (before : Recorde
   pub are_begun : AreBegun feeds job old sent given stretch.states
   pub begun : AppendsBeginning written now (before.chunk ++ trace_text before.trace outcomes)
 
--- so many loads were given that come before a tick, whatever comes behind it
+-- `count` loads were given that come before a tick, whatever follows the tick
 pub record IsLoaded (job : Job) (old new : State) (before after : Recorder)
     (written now : Option (List ℕ)) (count : ℕ) : Type 0 where
   pub few : count ≤ 1024

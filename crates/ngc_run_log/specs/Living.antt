@@ -41,7 +41,7 @@ form_of (live.Samples inverted) = forms.Samples inverted
 
 -- ---- the samples between two pieces
 
--- what is known of the samples behind a trace whose text is all written
+-- what is kept of the samples of a trace whose text is all written
 abbrev pub samples_of : Trace → Option SampleState
 samples_of Log = None
 samples_of (Pulses d) = None
@@ -62,7 +62,7 @@ paused live.Log position list outcomes = None
 paused (live.Samples inverted) position list outcomes =
     Some (settled (after_samples (first_samples inverted position) (samples_in list outcomes)))
 
--- ---- what has come of the events
+-- ---- the run so far
 
 -- what is known of a live run: its job, the machine's state, what has arrived, what the commands
 -- switch, the samples so far, and whether the ring is fed
@@ -83,8 +83,8 @@ pub record IsReady (form : LiveForm) (job : Job) (list : List Switch) : Type 0 w
   pub are : AreSwitches (form_of form) job.commands list
 
 -- The events of these lines were given, with the loads that come before ticks where the ring is fed.
--- What was written since the beginning is the text of their
--- run, which is a safe one; and that is where the machine stands.
+-- The text of their run, which is a safe one, was written since the beginning, and the machine is in
+-- the run's last state.
 pub record HasRun (form : LiveForm) (live : LiveData) (lines : List EventLine)
     (first now : Option (List ℕ)) : Type 0 where
   pub given : List Event
@@ -98,15 +98,15 @@ pub record HasRun (form : LiveForm) (live : LiveData) (lines : List EventLine)
   pub samples : live.samples ≡ paused form (start_of_job live.job) live.switches outcomes
 
 -- This text has arrived since the beginning, and the events of all lines that are complete in it
--- were given, and all that came of them was written.
+-- were given, and the whole text of their run was written.
 pub record IsLive (form : LiveForm) (live : LiveData) (text : List ℕ)
     (first now : Option (List ℕ)) : Type 0 where
   pub lines : List EventLine
   pub arrived : HaveArrived text lines live.arriving
   pub has_run : HasRun form live lines first now
 
--- A line of the text says no event. The events of the lines before it were given, and all that came
--- of them was written.
+-- A line of the text says no event. The events of the lines before it were given, and the whole text
+-- of their run was written.
 pub record IsStopped (form : LiveForm) (live : LiveData) (text : List ℕ)
     (first now : Option (List ℕ)) (fault : EventsFault) : Type 0 where
   pub lines : List EventLine
@@ -125,7 +125,7 @@ pub record IsBrokenLive (form : LiveForm) (feeds : Bool) (job : Job) (text : Lis
   pub are_begun : AreBegun feeds job (opening job.machine) (events_of lines) given run.states
   pub written : AppendsBeginning first now (text_as (form_of form) job given outcomes run.states)
 
--- what the text that has arrived comes to, with the piece that was fed last
+-- the result of the text that has arrived, with the piece that was fed last
 abbrev pub Feeds : LiveForm → LiveData → List ℕ → Option (List ℕ) → Option (List ℕ) →
     Result (Unit {0}) LiveFault → Type 0
 Feeds form live text first now (Ok done) = IsLive form live text first now
@@ -142,7 +142,7 @@ FailsLive (Err (Write fault)) old new = Rises old new
 
 -- ---- events from a source
 
--- What a source gave comes to: it ended behind the last line; or a line of it says no event, or
+-- The result of what a source gave: it ended after the last line; or a line of it says no event, or
 -- lacks its line feed at the end; or it failed; or a write did.
 abbrev pub LiveEnds : LiveForm → LiveData → List ℕ → Option (List ℕ) → Option (List ℕ) →
     Result (Unit {0}) LiveFault → Type 0
@@ -154,7 +154,7 @@ LiveEnds form live text first now (Err (Events fault)) =
 LiveEnds form live text first now (Err Read) = IsLive form live text first now
 LiveEnds form live text first now (Err (Write fault)) = IsBrokenLive form live.feeds live.job text first now
 
--- this text was read of the source, and that is what it comes to
+-- this text was read of the source, with this result
 pub record LivesOn (form : LiveForm) (live : LiveData) (source rest first now : Option (List ℕ))
     (result : Result (Unit {0}) LiveFault) : Type 0 where
   pub text : List ℕ
@@ -194,7 +194,7 @@ pub record GivesPiece (feeds : Bool) (job : Job) (old new : State) (before after
   pub fed : IsFed feeds job old new before after written now (events_of more)
   pub reaches : Reaches text (lines ++ more) arriving result
 
--- a write failed in the midst of that
+-- a write failed before all was given
 pub record CutsPiece (feeds : Bool) (job : Job) (old : State) (before : Recorder) (written now : Option (List ℕ))
     (text : List ℕ) (lines : List EventLine) : Type 0 where
   pub more : List EventLine

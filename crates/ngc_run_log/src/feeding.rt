@@ -76,7 +76,7 @@ fn feed_tick<A: Allocator + Copy, W: Sink>(
     }
 }
 
-// Gives so many ticks, before each of which the ring is fed.
+// Gives `times` ticks, before each of which the ring is fed.
 fn feed_ticks<A: Allocator + Copy, W: Sink>(
     controller: &mut Controller<ArcPath, A>,
     times: u32,

@@ -167,10 +167,10 @@ impl<A: Allocator + Copy> LiveRun<A> {
     }
 
     /// Takes a piece of the text of events, gives the event of each line that is complete now, and
-    /// writes all that comes of them.
+    /// writes all that results from them.
     ///
     /// Each line says an event as in an events file, and there is no limit on their number. A line that says none
-    /// stops the run with 711 and its number, when its line feed or its 13th byte arrives; what came
+    /// stops the run with 711 and its number, when its line feed or its 13th byte arrives; the text
     /// of the lines before it is written. Where a write fails (902), a prefix of the text is
     /// written. After a fault nothing more is fed.
     pub fn feed<W: Sink>(&mut self, piece: &[u8], sink: &mut W) -> Result<(), LiveFault>
@@ -212,8 +212,8 @@ impl<A: Allocator + Copy> LiveRun<A> {
         ended(taken)
     }
 
-    /// Whether the text of events is complete, where no more of it arrives: a last line without its
-    /// line feed is 711.
+    /// Returns whether the text of events is complete, where no more of it arrives: a last line without
+    /// its line feed is 711.
     pub fn finish(&self) -> Result<(), EventsFault>
         ensures { (text : List ℕ) (lines : List Line) → HaveArrived text lines self.now.arriving →
             Ends text lines result }

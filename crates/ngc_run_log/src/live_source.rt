@@ -12,11 +12,11 @@ use std::alloc::Allocator;
 // How many bytes are pulled from a source at once.
 const PIECE_SIZE: usize = 4_096;
 
-/// Feeds a run what a source gives, as it gives it, until the source ends. All that comes of the
-/// events in what was pulled is written before more is pulled.
+/// Feeds a run what a source gives, as it gives it, until the source ends. All that results from
+/// the events in what was pulled is written before more is pulled.
 ///
 /// A source that fails is 901. A line that says no event (711) ends the run, and so does a last line
-/// without its line feed; what came of the lines before it is written. Where a write fails (902), a
+/// without its line feed; the text of the lines before it is written. Where a write fails (902), a
 /// prefix of the text is written.
 pub fn feed_from<A: Allocator + Copy, S: Source, W: Sink>(
     live: &mut LiveRun<A>,
