@@ -25,7 +25,7 @@ pub(crate) const LOG_OUTPUT: Argument<'static> = Argument {
     is_named: true,
     is_required: false,
     takes: Takes::Text("FORM"),
-    help: "What to print: log, or samples, which are two bytes\nfor each tick [default: log]",
+    help: "What to print: log; times, the log with the ticks\nbefore each line; or samples, which are two bytes\nfor each tick [default: log]",
 };
 
 const PULSES_OUTPUT: Argument<'static> = Argument {

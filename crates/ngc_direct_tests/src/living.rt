@@ -4,7 +4,7 @@ use crate::given::{MACHINE, TOOLS};
 use ngc_line_reader::Program;
 use ngc_simulator::{
     Accepted, Certificate, EventsFault, Format, LiveFault, LiveForm, LiveRun, Machine, Tools,
-    certify, check, feed_from, read_events, run, write_samples,
+    certify, check, feed_from, read_events, run, write_samples, write_timed_log,
 };
 use ngc_test_devices::{FailingSink, SlowSource};
 use ngc_text::Device;
@@ -47,6 +47,7 @@ fn run_over(alloc: Global, events: &[u8], form: LiveForm) -> Result<Vec<u8>, Fai
     let accepted = accepted(alloc)?;
     match form {
         LiveForm::Log => run(alloc, accepted, false, lines.as_slice(), &mut sink)?,
+        LiveForm::Times => { write_timed_log(alloc, accepted, false, lines.as_slice(), &mut sink)? }
         LiveForm::Samples(inverted) => {
             write_samples(
                 alloc,
@@ -73,7 +74,12 @@ fn fed(alloc: Global, events: &[u8], form: LiveForm, size: usize) -> Result<Vec<
 #[test]
 fn pieces_of_any_size_give_what_a_run_gives(rt: HostRuntime) -> Result<(), Fail> {
     let events = EVENTS.as_bytes();
-    for form in [LiveForm::Log, LiveForm::Samples(0), LiveForm::Samples(85)] {
+    for form in [
+        LiveForm::Log,
+        LiveForm::Times,
+        LiveForm::Samples(0),
+        LiveForm::Samples(85),
+    ] {
         let wanted = run_over(rt.alloc(), events, form)?;
         holds(&rt, &"something", wanted.len() > 40);
         for size in [1, 7, 100_000usize] {
@@ -88,7 +94,7 @@ fn pieces_of_any_size_give_what_a_run_gives(rt: HostRuntime) -> Result<(), Fail>
 #[test]
 fn each_line_is_answered_before_the_next(rt: HostRuntime) -> Result<(), Fail> {
     let events = EVENTS.as_bytes();
-    for form in [LiveForm::Log, LiveForm::Samples(0)] {
+    for form in [LiveForm::Log, LiveForm::Times, LiveForm::Samples(0)] {
         let mut live = LiveRun::new(rt.alloc(), accepted(rt.alloc())?, false, form, false)?;
         let mut sink = FailingSink::new(rt.alloc(), 1_000, 100_000);
         let mut end = 0usize;

@@ -138,12 +138,12 @@ pub(crate) fn shell() -> &'static [Row]
         },
         Row {
             number: 727,
-            rule: "The command has no output of this name: write `log` or `samples` for `ngc run`, `vcd` or\n\
-             `samples` for `ngc pulses` (our own).",
+            rule: "The command has no output of this name: write `log`, `times` or `samples` for `ngc run`\n\
+             and `ngc live`, `vcd` or `samples` for `ngc pulses` (our own).",
             example: "command `ngc run --output vcd` with a machine file, a tool table and a certificate",
             answer: "`ngc: fault 727`",
             place: Some("3"),
-            mend: "Without `--output` it is the first of the two.",
+            mend: "Without `--output` it is the first of them.",
         },
         Row {
             number: 900,

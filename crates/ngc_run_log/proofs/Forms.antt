@@ -29,9 +29,10 @@ use Rattle.ngc_run_log.specs.declared.report.Report.{Report}
 use Rattle.ngc_run_log.specs.declared.report.RunFault.{RunFault}
 use Rattle.ngc_run_log.specs.declared.report.RunFault.TheVariants.{Memory, Write}
 use Rattle.ngc_run_log.specs.declared.trace.Form.{Form}
-use Rattle.ngc_run_log.specs.declared.trace.Form.TheVariants.{Log, Pulses, Samples}
+use Rattle.ngc_run_log.specs.declared.trace.Form.TheVariants.{Log, Times, Pulses, Samples}
 use Rattle.ngc_run_log.specs.declared.trace.Trace.{Trace}
 use Rattle.ngc_run_log.specs.Log.{log}
+use Rattle.ngc_run_log.specs.Times.{timed_log}
 use Rattle.ngc_run_log.specs.Tracing.{tick_in, ticks_in, sample_in, samples_in, switches_in, trace_of, ticks_of, whole_text}
 use Rattle.ngc_run_log.specs.Runs.{ComesTo}
 use Rattle.ngc_run_log.specs.Through.{GoesThrough}
@@ -72,6 +73,7 @@ pub none_ticked : (form : Form) (trace : Trace) (rate : ℕ) (position : StepPos
 none_ticked form trace rate position list is = ap ticks_of is ∙ none form where
   none : (form : Form) → ticks_of (trace_of form rate position list) ≡ 0
   none Log = refl
+  none Times = refl
   none (Samples inverted) = refl
   none Pulses = refl
 
@@ -98,6 +100,7 @@ first_text : (form : Form) (job : Job) (list : Switches) (es : List Event) (os :
     AreJoined job.machine.start (ways_of (actions_of job.commands)) → AreSwitches form job.commands list.list.now → Run job (opening job.machine) es os xs →
     whole_text (trace_of form job.machine.ticks_per_second (start_of_job job) list) os ≡ text_as form job es os xs
 first_text Log job list es os xs machine joined are r = append-nil (log os)
+first_text Times job list es os xs machine joined are r = append-nil (timed_log 0 os)
 first_text (Samples inverted) job list es os xs machine joined are r =
     whole_samples inverted (start_of_job job) (samples_in list.list.now os)
     ∙ ap (λ ticks. samples inverted (pulses_over (start_of_job job) ticks) (switches_in list.list.now os)) (sampled_places list.list.now os)

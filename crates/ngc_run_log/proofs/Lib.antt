@@ -1,5 +1,7 @@
 -- A text that is written in two parts.
 pub mod Added
+-- The log with ticks of more outcomes.
+pub mod Timed
 -- What outcomes add to a text, one after another.
 pub mod Traces
 -- Ticks of which nothing is told, as they are recorded.

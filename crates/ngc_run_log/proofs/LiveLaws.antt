@@ -30,8 +30,12 @@ use Rattle.ngc_run_log.specs.declared.report.Report.{Report}
 use Rattle.ngc_run_log.specs.declared.switches.Switches.{Switches}
 use Rattle.ngc_run_log.specs.declared.trace.Trace.{Trace}
 use Rattle.ngc_run_log.specs.Forms.{text_as}
-use Rattle.ngc_run_log.specs.Living.{form_of, samples_of, trace_from, first_paused, paused, LiveData, IsReady, HasRun, IsLive, IsBrokenLive}
+use Rattle.ngc_run_log.specs.declared.text_state.TextState.{TextState}
+use Rattle.ngc_run_log.specs.declared.text_state.TextState.TheVariants as texts
+use Rattle.ngc_run_log.specs.Living.{form_of, paused_at, trace_from, first_paused, paused, LiveData, IsReady, HasRun, IsLive, IsBrokenLive}
 use Rattle.ngc_run_log.specs.Log.{log, text_of}
+use Rattle.ngc_run_log.specs.Times.{ticks_after, timed_log}
+use Rattle.ngc_run_log.proofs.Timed.{ticks_after-append, timed_log-append}
 use Rattle.ngc_run_log.specs.Feeding.{AreBegun, AreGiven, IsFed, IsFedShort}
 use Rattle.ngc_run_log.specs.Recording.{HasFew}
 use Rattle.ngc_run_log.specs.Runs.{IsRun}
@@ -44,16 +48,18 @@ use Rattle.ngc_run_log.proofs.Joined.{stretches_joined}
 
 -- ---- the trace that goes on
 
-pub opens_empty : (o : Option SampleState) (s : Switches) → opening_text (trace_from o s) ≡ []
-opens_empty None s = refl
-opens_empty (Some d) s = refl
+pub opens_empty : (o : TextState) (s : Switches) → opening_text (trace_from o s) ≡ []
+opens_empty texts.Log s = refl
+opens_empty (texts.Times ticks) s = refl
+opens_empty (texts.Samples d) s = refl
 
-pub none_ticked_yet : (o : Option SampleState) (s : Switches) → ticks_of (trace_from o s) ≡ 0
-none_ticked_yet None s = refl
-none_ticked_yet (Some d) s = refl
+pub none_ticked_yet : (o : TextState) (s : Switches) → ticks_of (trace_from o s) ≡ 0
+none_ticked_yet texts.Log s = refl
+none_ticked_yet (texts.Times ticks) s = refl
+none_ticked_yet (texts.Samples d) s = refl
 
 -- nothing is counted yet
-pub none_counted_yet : (a : Recorder) (o : Option SampleState) (s : Switches) (position : StepPos) →
+pub none_counted_yet : (a : Recorder) (o : TextState) (s : Switches) (position : StepPos) →
     a.report ≡ record { ticks = 0; path_steps = 0; refused = 0; position = position } → a.trace ≡ trace_from o s → HasFew 0 a
 none_counted_yet a o s position report same = record {
   report = record {
@@ -71,6 +77,9 @@ more_text : (form : LiveForm) (rate : ℕ) (start : StepPos) (s : Switches) (os 
     ≡ whole_text (trace_of (form_of form) rate start s) os ++ whole_text (trace_from (paused form start s.list.now os) s) ps
 more_text live.Log rate start s os ps =
     append-nil (log (os ++ ps)) ∙ flat_map-append text_of os ps ∙ ap₂ (λ a b. a ++ b) (sym (append-nil (log os))) (sym (append-nil (log ps)))
+more_text live.Times rate start s os ps =
+    append-nil (timed_log 0 (os ++ ps)) ∙ timed_log-append 0 os ps
+    ∙ ap₂ (λ a b. a ++ b) (sym (append-nil (timed_log 0 os))) (sym (append-nil (timed_log (ticks_after 0 os) ps)))
 more_text (live.Samples inverted) rate start s os ps =
     let list : List Switch = s.list.now in
     let first : SampleState = first_samples inverted start in
@@ -83,15 +92,16 @@ more_text (live.Samples inverted) rate start s os ps =
     ∙ ap (λ t. samples_text first xs ++ t) (whole_settled mid ys)
     ∙ sym (append_assoc (samples_text first xs) (rest_bytes mid) (samples_text (settled mid) ys ++ rest_bytes (after_samples (settled mid) ys)))
 
-more_samples : (form : LiveForm) (start : StepPos) (s : Switches) (os ps : List Outcome) →
-    samples_of (trace_after (trace_from (paused form start s.list.now os) s) ps) ≡ paused form start s.list.now (os ++ ps)
-more_samples live.Log start s os ps = refl
-more_samples (live.Samples inverted) start s os ps =
+more_paused : (form : LiveForm) (start : StepPos) (s : Switches) (os ps : List Outcome) →
+    paused_at (trace_after (trace_from (paused form start s.list.now os) s) ps) ≡ paused form start s.list.now (os ++ ps)
+more_paused live.Log start s os ps = refl
+more_paused live.Times start s os ps = ap texts.Times (sym (ticks_after-append 0 os ps))
+more_paused (live.Samples inverted) start s os ps =
     let list : List Switch = s.list.now in
     let first : SampleState = first_samples inverted start in
     let xs : List SampleTick = samples_in list os in
     let ys : List SampleTick = samples_in list ps in
-    ap Some
+    ap texts.Samples
     (after_settled (after_samples first xs) ys
     ∙ sym (ap settled (ap (after_samples first) (flat_map-append (sample_in list) os ps) ∙ after_samples-append first xs ys)))
 
@@ -116,9 +126,9 @@ abbrev pub behind : LiveForm → LiveData → Switches → List Outcome → Trac
 behind form live s outcomes = trace_from (paused form (start_of_job live.job) s.list.now outcomes) s
 
 goes_on : (form : LiveForm) (live : LiveData) (lines : List EventLine) (first x : Option (List ℕ)) (s : Switches) (h : HasRun form live lines first x) →
-    s.list.now ≡ live.switches → trace_from live.samples s ≡ behind form live s h.outcomes
+    s.list.now ≡ live.switches → trace_from live.paused s ≡ behind form live s h.outcomes
 goes_on form live lines first x s h same =
-    ap (λ o. trace_from o s) (h.samples ∙ ap (λ l. paused form (start_of_job live.job) l h.outcomes) (sym same))
+    ap (λ o. trace_from o s) (h.paused ∙ ap (λ l. paused form (start_of_job live.job) l h.outcomes) (sym same))
 
 wrote_before : (form : LiveForm) (live : LiveData) (lines : List EventLine) (first x : Option (List ℕ)) (s : Switches) (h : HasRun form live lines first x) →
     s.list.now ≡ live.switches → Appends first x (whole_text (began form live.job s) h.outcomes)
@@ -156,11 +166,11 @@ text_with form live lines first x s h events ps states same runs =
     (is_began form live.job live.switches s h.ready same) runs
 
 -- all is written
-runs_on : (form : LiveForm) (live : LiveData) (t : State) (arriving : Arriving) (o : Option SampleState) (lines more : List EventLine)
+runs_on : (form : LiveForm) (live : LiveData) (t : State) (arriving : Arriving) (o : TextState) (lines more : List EventLine)
     (first x y z : Option (List ℕ)) (s : Switches) (a b : Recorder) → HasRun form live lines first x →
-    s.list.now ≡ live.switches → a.trace ≡ trace_from live.samples s → a.chunk ≡ opening_text (trace_from live.samples s) →
-    IsFed live.feeds live.job live.state t a b x y (events_of more) → Appends y z (b.chunk ++ last_text b.trace) → o ≡ samples_of b.trace →
-    HasRun form (record { job = live.job; state = t; arriving = arriving; switches = live.switches; samples = o; feeds = live.feeds }) (lines ++ more) first z
+    s.list.now ≡ live.switches → a.trace ≡ trace_from live.paused s → a.chunk ≡ opening_text (trace_from live.paused s) →
+    IsFed live.feeds live.job live.state t a b x y (events_of more) → Appends y z (b.chunk ++ last_text b.trace) → o ≡ paused_at b.trace →
+    HasRun form (record { job = live.job; state = t; arriving = arriving; switches = live.switches; paused = o; feeds = live.feeds }) (lines ++ more) first z
 runs_on form live t arriving o lines more first x y z s a b h same trace chunk done wrote settles =
     let job : Job = live.job in
     let os : List Outcome = h.outcomes in
@@ -170,7 +180,7 @@ runs_on form live t arriving o lines more first x y z s a b h same trace chunk d
     stretches_joined job (opening job.machine) live.state t h.given done.given os ps (stretch_of form live lines first x h) done.stretch in
     let G : State → Type 0 = λ k. AreGiven live.feeds job k (events_of more) done.given done.stretch.states in
     let E : List Event → Type 0 = λ es. AreGiven live.feeds job (opening job.machine) es given (h.run.states ++ done.stretch.states) in
-    let on : trace_from live.samples s ≡ behind form live s os = goes_on form live lines first x s h same in
+    let on : trace_from live.paused s ≡ behind form live s os = goes_on form live lines first x s h same in
     let now : Appends x z (whole_text (behind form live s os) ps) =
     all_written (behind form live s os) a b x y z done.given ps (trace ∙ on) (chunk ∙ ap opening_text on) done.records wrote in
     record {
@@ -186,34 +196,34 @@ runs_on form live t arriving o lines more first x y z s a b h same trace chunk d
           (appends_both first x z (whole_text (began form job s) os) (whole_text (behind form live s os) ps) (wrote_before form live lines first x s h same) now);
       reached = stretch.last;
       ready = h.ready;
-      samples =
-          settles ∙ ap samples_of (done.records.trace ∙ ap (λ (k : Trace). trace_after k ps) (trace ∙ on))
-          ∙ more_samples form (start_of_job job) s os ps ∙ ap (λ l. paused form (start_of_job job) l (os ++ ps)) same;
+      paused =
+          settles ∙ ap paused_at (done.records.trace ∙ ap (λ (k : Trace). trace_after k ps) (trace ∙ on))
+          ∙ more_paused form (start_of_job job) s os ps ∙ ap (λ l. paused form (start_of_job job) l (os ++ ps)) same;
     }
 
 -- of a run whose parts are the same
 same_parts : (form : LiveForm) (live new : LiveData) (lines : List EventLine) (first z : Option (List ℕ)) → new.job ≡ live.job → new.switches ≡ live.switches →
     new.feeds ≡ live.feeds →
-    HasRun form (record { job = live.job; state = new.state; arriving = new.arriving; switches = live.switches; samples = new.samples; feeds = live.feeds }) lines first z →
+    HasRun form (record { job = live.job; state = new.state; arriving = new.arriving; switches = live.switches; paused = new.paused; feeds = live.feeds }) lines first z →
     HasRun form new lines first z
 same_parts form live new lines first z job switches feeds h =
     let J : Job → Type 0 = λ j.
-    HasRun form (record { job = j; state = new.state; arriving = new.arriving; switches = live.switches; samples = new.samples; feeds = live.feeds }) lines first z in
+    HasRun form (record { job = j; state = new.state; arriving = new.arriving; switches = live.switches; paused = new.paused; feeds = live.feeds }) lines first z in
     let L : List Switch → Type 0 = λ l.
-    HasRun form (record { job = new.job; state = new.state; arriving = new.arriving; switches = l; samples = new.samples; feeds = live.feeds }) lines first z in
+    HasRun form (record { job = new.job; state = new.state; arriving = new.arriving; switches = l; paused = new.paused; feeds = live.feeds }) lines first z in
     let F : Bool → Type 0 = λ b.
-    HasRun form (record { job = new.job; state = new.state; arriving = new.arriving; switches = new.switches; samples = new.samples; feeds = b }) lines first z in
+    HasRun form (record { job = new.job; state = new.state; arriving = new.arriving; switches = new.switches; paused = new.paused; feeds = b }) lines first z in
     subst F (sym feeds) (subst L (sym switches) (subst J (sym job) h))
 
 pub has_run : (form : LiveForm) (live new : LiveData) (lines more : List EventLine)
     (first x y z : Option (List ℕ)) (s : Switches) (a b : Recorder) → HasRun form live lines first x →
-    s.list.now ≡ live.switches → a.trace ≡ trace_from live.samples s → a.chunk ≡ opening_text (trace_from live.samples s) →
+    s.list.now ≡ live.switches → a.trace ≡ trace_from live.paused s → a.chunk ≡ opening_text (trace_from live.paused s) →
     IsFed live.feeds live.job live.state new.state a b x y (events_of more) → Appends y z (b.chunk ++ last_text b.trace) →
-    new.job ≡ live.job → new.switches ≡ live.switches → new.feeds ≡ live.feeds → new.samples ≡ samples_of b.trace →
+    new.job ≡ live.job → new.switches ≡ live.switches → new.feeds ≡ live.feeds → new.paused ≡ paused_at b.trace →
     HasRun form new (lines ++ more) first z
 has_run form live new lines more first x y z s a b h same trace chunk done wrote job switches feeds settles =
     same_parts form live new (lines ++ more) first z job switches feeds
-    (runs_on form live new.state new.arriving new.samples lines more first x y z s a b h same trace chunk done wrote settles)
+    (runs_on form live new.state new.arriving new.paused lines more first x y z s a b h same trace chunk done wrote settles)
 
 -- ---- a write failed
 
@@ -249,11 +259,11 @@ breaks form live t lines more first x z s text given ps h same begins stretch ar
 
 -- before all of a piece was given
 pub broken_within : (form : LiveForm) (live : LiveData) (job : Job) (feeds : Bool) (lines more : List EventLine) (first x z : Option (List ℕ)) (s : Switches)
-    (a : Recorder) (text : List ℕ) → HasRun form live lines first x → s.list.now ≡ live.switches → a.trace ≡ trace_from live.samples s →
-    a.chunk ≡ opening_text (trace_from live.samples s) → Begins text (lines ++ more) → IsFedShort live.feeds live.job live.state a x z (events_of more) →
+    (a : Recorder) (text : List ℕ) → HasRun form live lines first x → s.list.now ≡ live.switches → a.trace ≡ trace_from live.paused s →
+    a.chunk ≡ opening_text (trace_from live.paused s) → Begins text (lines ++ more) → IsFedShort live.feeds live.job live.state a x z (events_of more) →
     job ≡ live.job → feeds ≡ live.feeds → IsBrokenLive form feeds job text first z
 broken_within form live job feeds lines more first x z s a text h same trace chunk begins cut is are =
-    let on : trace_from live.samples s ≡ behind form live s h.outcomes = goes_on form live lines first x s h same in
+    let on : trace_from live.paused s ≡ behind form live s h.outcomes = goes_on form live lines first x s h same in
     subst (λ b. IsBrokenLive form b job text first z) (sym are)
     (subst (λ (j : Job). IsBrokenLive form live.feeds j text first z) (sym is)
     (breaks form live cut.reached lines more first x z s text cut.given cut.outcomes h same begins cut.stretch cut.are_begun
@@ -261,11 +271,11 @@ broken_within form live job feeds lines more first x z s a text h same trace chu
 
 -- and after it
 pub broken_behind : (form : LiveForm) (live : LiveData) (job : Job) (feeds : Bool) (t : State) (lines more : List EventLine) (first x y z : Option (List ℕ))
-    (s : Switches) (a b : Recorder) (text : List ℕ) → HasRun form live lines first x → s.list.now ≡ live.switches → a.trace ≡ trace_from live.samples s →
-    a.chunk ≡ opening_text (trace_from live.samples s) → Begins text (lines ++ more) → IsFed live.feeds live.job live.state t a b x y (events_of more) →
+    (s : Switches) (a b : Recorder) (text : List ℕ) → HasRun form live lines first x → s.list.now ≡ live.switches → a.trace ≡ trace_from live.paused s →
+    a.chunk ≡ opening_text (trace_from live.paused s) → Begins text (lines ++ more) → IsFed live.feeds live.job live.state t a b x y (events_of more) →
     AppendsBeginning y z (b.chunk ++ last_text b.trace) → job ≡ live.job → feeds ≡ live.feeds → IsBrokenLive form feeds job text first z
 broken_behind form live job feeds t lines more first x y z s a b text h same trace chunk begins done wrote is are =
-    let on : trace_from live.samples s ≡ behind form live s h.outcomes = goes_on form live lines first x s h same in
+    let on : trace_from live.paused s ≡ behind form live s h.outcomes = goes_on form live lines first x s h same in
     subst (λ k. IsBrokenLive form k job text first z) (sym are)
     (subst (λ (j : Job). IsBrokenLive form live.feeds j text first z) (sym is)
     (breaks form live t lines more first x z s text done.given done.outcomes h same begins done.stretch
@@ -276,10 +286,12 @@ broken_behind form live job feeds t lines more first x y z s a b text h same tra
 
 no_text : (form : LiveForm) (job : Job) → text_as (form_of form) job [] [] [] ≡ []
 no_text live.Log job = refl
+no_text live.Times job = refl
 no_text (live.Samples inverted) job = refl
 
 first_is : (form : LiveForm) (start : StepPos) (list : List Switch) → first_paused form start ≡ paused form start list []
 first_is live.Log start list = refl
+first_is live.Times start list = refl
 first_is (live.Samples inverted) start list = refl
 
 joined_of : (a : AcceptedData) (block_delete : Bool) → IsAccepted a → AreJoined a.machine.start (ways_of (actions_of (commands_at block_delete a)))
@@ -288,7 +300,7 @@ joined_of a true ok = ok.on_commands.joined
 
 pub nothing_fed : (form : LiveForm) (a : AcceptedData) (block_delete : Bool) (live : LiveData) (position : StepPos) (commands : List Command) (xs : List Switch)
     (written : Option (List ℕ)) → IsAccepted a → live.job ≡ job_of a.machine (commands_at block_delete a) → live.state ≡ opening a.machine →
-    position ≡ live.state.position → live.samples ≡ first_paused form position → commands ≡ commands_at block_delete a →
+    position ≡ live.state.position → live.paused ≡ first_paused form position → commands ≡ commands_at block_delete a →
     AreSwitches (form_of form) commands xs → live.switches ≡ xs → HaveArrived [] [] live.arriving → IsLive form live [] written written
 nothing_fed form a block_delete live position commands xs written ok job opens place samples cs are list arrived =
     let asked : Job = job_of a.machine (commands_at block_delete a) in
@@ -314,6 +326,6 @@ nothing_fed form a block_delete live position commands xs written ok job opens p
           are = subst (λ (j : Job). AreSwitches (form_of form) j.commands live.switches) (sym job)
               (are_switches (form_of form) commands (commands_at block_delete a) xs live.switches cs list are);
         };
-        samples = samples ∙ ap (first_paused form) start ∙ first_is form (start_of_job live.job) live.switches;
+        paused = samples ∙ ap (first_paused form) start ∙ first_is form (start_of_job live.job) live.switches;
       };
     }

@@ -19,13 +19,15 @@ use Rattle.ngc_run_log.specs.declared.switches.Switches.{Switches}
 use Rattle.ngc_run_log.specs.declared.recorder.Recorder.{Recorder}
 use Rattle.ngc_run_log.specs.declared.report.Report.{Report}
 use Rattle.ngc_run_log.specs.declared.trace.Trace.{Trace}
-use Rattle.ngc_run_log.specs.declared.trace.Trace.TheVariants.{Log, Pulses, Samples, Untold}
+use Rattle.ngc_run_log.specs.declared.trace.Trace.TheVariants.{Log, Times, Pulses, Samples, Untold}
 use Rattle.ngc_run_log.specs.Log.{log}
 use Rattle.ngc_run_log.specs.Recording.{Records, IsRecorded}
 use Rattle.ngc_run_log.specs.Runs.{is_refusal, last_position}
 use Rattle.ngc_run_log.specs.Through.{IsLoadTickOrStart}
 use Rattle.ngc_run_log.specs.Tracing.{ticks_in, samples_in, trace_text, trace_after}
+use Rattle.ngc_run_log.specs.Times.{ticks_after}
 use Rattle.ngc_run_log.proofs.Joined.{count_by-append}
+use Rattle.ngc_run_log.proofs.Timed.{quiet_counted, quiet_timed}
 
 abbrev pub quiet : Outcome
 quiet = Ok (Ticked None None)
@@ -78,6 +80,7 @@ none_after (suc n) d =
 
 quiet_text : (t : Trace) (n : ℕ) → trace_text t (replicate n quiet) ≡ []
 quiet_text Log n = quiet_log n
+quiet_text (Times ticks) n = quiet_timed ticks n
 quiet_text (Pulses d) n = ap (ticks_text d) (quiet_in n) ∙ none_text n d
 quiet_text (Samples d s) n = ap (samples_text d) (quiet_sampled s.list.now n) ∙ rests_text n d
 quiet_text Untold n = refl

@@ -13,12 +13,14 @@ use Rattle.ngc_pulses.specs.Sampling.{SampleState, sample_text, samples_text, af
 use Rattle.ngc_pulses.proofs.Sampled.{samples_text-append, after_samples-append, few_rest}
 use Rattle.ngc_pulses.proofs.Dumps.{ticks_text-append, after_ticks-append, ticks_after}
 use Rattle.ngc_run_log.specs.declared.trace.Trace.{Trace}
-use Rattle.ngc_run_log.specs.declared.trace.Trace.TheVariants.{Log, Pulses, Samples, Untold}
+use Rattle.ngc_run_log.specs.declared.trace.Trace.TheVariants.{Log, Times, Pulses, Samples, Untold}
 use Rattle.ngc_run_log.specs.Log.{text_of}
+use Rattle.ngc_run_log.proofs.Timed.{ticks_after-append, timed_log-append}
 use Rattle.ngc_run_log.specs.Tracing.{tick_in, ticks_in, sampled, sample_in, samples_in, trace_text, trace_after, ticks_of}
 
 pub trace_text-append : (t : Trace) (os ps : List Outcome) → trace_text t (os ++ ps) ≡ trace_text t os ++ trace_text (trace_after t os) ps
 trace_text-append Log os ps = flat_map-append text_of os ps
+trace_text-append (Times ticks) os ps = timed_log-append ticks os ps
 trace_text-append (Pulses d) os ps = ap (ticks_text d) (flat_map-append tick_in os ps) ∙ ticks_text-append d (ticks_in os) (ticks_in ps)
 trace_text-append (Samples d s) os ps =
     ap (samples_text d) (flat_map-append (sample_in s.list.now) os ps) ∙ samples_text-append d (samples_in s.list.now os) (samples_in s.list.now ps)
@@ -26,6 +28,7 @@ trace_text-append Untold os ps = refl
 
 pub trace_after-append : (t : Trace) (os ps : List Outcome) → trace_after t (os ++ ps) ≡ trace_after (trace_after t os) ps
 trace_after-append Log os ps = refl
+trace_after-append (Times ticks) os ps = ap Times (ticks_after-append ticks os ps)
 trace_after-append (Pulses d) os ps = ap Pulses (ap (after_ticks d) (flat_map-append tick_in os ps) ∙ after_ticks-append d (ticks_in os) (ticks_in ps))
 trace_after-append (Samples d s) os ps =
     ap (λ k. Samples k s) (ap (after_samples d) (flat_map-append (sample_in s.list.now) os ps) ∙ after_samples-append d (samples_in s.list.now os) (samples_in s.list.now ps))
@@ -33,12 +36,14 @@ trace_after-append Untold os ps = refl
 
 pub trace_text-none : (t : Trace) → trace_text t [] ≡ []
 trace_text-none Log = refl
+trace_text-none (Times ticks) = refl
 trace_text-none (Pulses d) = refl
 trace_text-none (Samples d s) = refl
 trace_text-none Untold = refl
 
 pub trace_after-none : (t : Trace) → trace_after t [] ≡ t
 trace_after-none Log = refl
+trace_after-none (Times ticks) = refl
 trace_after-none (Pulses d) = refl
 trace_after-none (Samples d s) = refl
 trace_after-none Untold = refl
@@ -75,6 +80,7 @@ few_sampled list (o ∷ os) = omega (arith, one_sample list o, few_sampled list 
 
 pub few_ticks : (t : Trace) (os : List Outcome) → ticks_of (trace_after t os) ≤ ticks_of t + length os
 few_ticks Log os = omega arith
+few_ticks (Times ticks) os = omega arith
 few_ticks (Pulses d) os = omega (arith, ticks_after d (ticks_in os), few_in os)
 few_ticks (Samples d s) os = omega (arith, few_rest d (samples_in s.list.now os), few_sampled s.list.now os)
 few_ticks Untold os = omega arith

@@ -14,9 +14,10 @@ use Rattle.ngc_run_log.specs.declared.report.Report.{Report}
 use Rattle.ngc_run_log.specs.declared.report.RunFault.{RunFault}
 use Rattle.ngc_run_log.specs.declared.report.RunFault.TheVariants.{Memory, Write}
 use Rattle.ngc_run_log.specs.declared.trace.Form.{Form}
-use Rattle.ngc_run_log.specs.declared.trace.Form.TheVariants.{Log, Pulses, Samples}
+use Rattle.ngc_run_log.specs.declared.trace.Form.TheVariants.{Log, Times, Pulses, Samples}
 use Rattle.ngc_run_log.specs.declared.trace.Trace.{Trace}
 use Rattle.ngc_run_log.specs.Log.{log}
+use Rattle.ngc_run_log.specs.Times.{timed_log}
 use Rattle.ngc_run_log.specs.Tracing.{switches_in, whole_text}
 use Rattle.ngc_behaviour.specs.Stretch.{last_state}
 use Rattle.ngc_run_log.specs.Policy.{next_event}
@@ -24,10 +25,11 @@ use Rattle.ngc_run_log.specs.Switching.{switches}
 use Rattle.ngc_run_log.specs.Runs.{IsRun, Reports}
 use Rattle.ngc_run_log.specs.Through.{IsSmoothRun, TellsEnd}
 
--- the log of a run's outcomes, or the dump or the samples of its ticks' pulses: of the very pulses
--- that a safe run bounds
+-- the log of a run's outcomes, without ticks or with them, or the dump or the samples of its ticks'
+-- pulses: of the very pulses that a safe run bounds
 abbrev pub text_as : Form → Job → List Event → List Outcome → List State → List ℕ
 text_as Log job events outcomes states = log outcomes
+text_as Times job events outcomes states = timed_log 0 outcomes
 text_as Pulses job events outcomes states =
     vcd job.machine.ticks_per_second (pulses (start_of_job job) events states)
 text_as (Samples inverted) job events outcomes states =
@@ -87,6 +89,16 @@ abbrev pub GoesThroughAs : Form → Job → Option (List ℕ) → Option (List �
 GoesThroughAs form job old new (Ok report) = IsWrittenThrough form job old new report
 GoesThroughAs form job old new (Err (Write fault)) = IsWrittenOff form job old new
 GoesThroughAs form job old new (Err Memory) = Keeps old new
+
+-- ---- the log with ticks
+
+abbrev pub TimesCome : Job → List EventLine → Option (List ℕ) → Option (List ℕ) →
+    Result Report RunFault → Type 0
+TimesCome = ComesAs Times
+
+abbrev pub TimesGoThrough : Job → Option (List ℕ) → Option (List ℕ) →
+    Result Report RunFault → Type 0
+TimesGoThrough = GoesThroughAs Times
 
 -- ---- the pulses
 

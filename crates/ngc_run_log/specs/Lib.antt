@@ -1,4 +1,5 @@
 pub mod Log
+pub mod Times
 pub mod Switching
 pub mod Tracing
 pub mod Recording

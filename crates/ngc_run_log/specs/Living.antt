@@ -1,5 +1,5 @@
 -- A run whose events arrive while it goes on. Our own.
-use Rattle.std.specs.Prelude.{◌≡◌, ◌⊎◌, ℕ, List, ◌++◌, Option, Some, None, Result, Ok, Err, Bool}
+use Rattle.std.specs.Prelude.{◌≡◌, ◌⊎◌, ℕ, List, ◌++◌, Option, Result, Ok, Err, Bool}
 use Rattle.std.specs.Io.KnownBytes.{Appends, Consumes}
 use Rattle.ngc_text.specs.Failures.{Rises}
 use Rattle.ngc_text.specs.Written.{AppendsBeginning}
@@ -17,61 +17,70 @@ use Rattle.ngc_behaviour.specs.Run.{events_of}
 use Rattle.ngc_behaviour.specs.Safety.{start_of_job}
 use Rattle.ngc_behaviour.specs.Stretch.{last_state}
 use Rattle.ngc_pulses.specs.declared.samples.Switch.{Switch}
-use Rattle.ngc_pulses.specs.Sampling.{SampleState, after_samples, first_samples, settled}
+use Rattle.ngc_pulses.specs.Sampling.{after_samples, first_samples, settled}
 use Rattle.ngc_run_log.specs.declared.live_fault.LiveFault.{LiveFault}
 use Rattle.ngc_run_log.specs.declared.live_fault.LiveFault.TheVariants.{Events, Read, Write}
 use Rattle.ngc_run_log.specs.declared.live_form.LiveForm.{LiveForm}
 use Rattle.ngc_run_log.specs.declared.live_form.LiveForm.TheVariants as live
 use Rattle.ngc_run_log.specs.declared.recorder.Recorder.{Recorder}
 use Rattle.ngc_run_log.specs.declared.switches.Switches.{Switches}
+use Rattle.ngc_run_log.specs.declared.text_state.TextState.{TextState}
+use Rattle.ngc_run_log.specs.declared.text_state.TextState.TheVariants as texts
 use Rattle.ngc_run_log.specs.declared.trace.Form.{Form}
 use Rattle.ngc_run_log.specs.declared.trace.Form.TheVariants as forms
 use Rattle.ngc_run_log.specs.declared.trace.Trace.{Trace}
-use Rattle.ngc_run_log.specs.declared.trace.Trace.TheVariants.{Log, Pulses, Samples, Untold}
+use Rattle.ngc_run_log.specs.declared.trace.Trace.TheVariants.{Log, Times, Pulses, Samples, Untold}
 use Rattle.ngc_run_log.specs.Forms.{text_as}
 use Rattle.ngc_run_log.specs.Feeding.{AreBegun, AreGiven, IsFed, IsFedShort}
 use Rattle.ngc_run_log.specs.Runs.{IsRun}
 use Rattle.ngc_run_log.specs.Switching.{AreSwitches}
+use Rattle.ngc_run_log.specs.Times.{ticks_after}
 use Rattle.ngc_run_log.specs.Tracing.{samples_in}
 
 -- in which form the run is written
 abbrev pub form_of : LiveForm → Form
 form_of live.Log = forms.Log
+form_of live.Times = forms.Times
 form_of (live.Samples inverted) = forms.Samples inverted
 
--- ---- the samples between two pieces
+-- ---- the text between two pieces
 
--- what is kept of the samples of a trace whose text is all written
-abbrev pub samples_of : Trace → Option SampleState
-samples_of Log = None
-samples_of (Pulses d) = None
-samples_of (Samples d s) = Some (settled d)
-samples_of Untold = None
+-- what is kept of a trace once all its text is written
+abbrev pub paused_at : Trace → TextState
+paused_at Log = texts.Log
+paused_at (Times ticks) = texts.Times ticks
+paused_at (Pulses d) = texts.Log
+paused_at (Samples d s) = texts.Samples (settled d)
+paused_at Untold = texts.Log
 
 -- and the trace that goes on there
-abbrev pub trace_from : Option SampleState → Switches → Trace
-trace_from None s = Log
-trace_from (Some d) s = Samples (settled d) s
+abbrev pub trace_from : TextState → Switches → Trace
+trace_from texts.Log s = Log
+trace_from (texts.Times ticks) s = Times ticks
+trace_from (texts.Samples d) s = Samples (settled d) s
 
-abbrev pub first_paused : LiveForm → StepPos → Option SampleState
-first_paused live.Log position = None
-first_paused (live.Samples inverted) position = Some (first_samples inverted position)
+-- what is kept before the first event, and after outcomes
+abbrev pub first_paused : LiveForm → StepPos → TextState
+first_paused live.Log position = texts.Log
+first_paused live.Times position = texts.Times 0
+first_paused (live.Samples inverted) position = texts.Samples (first_samples inverted position)
 
-abbrev pub paused : LiveForm → StepPos → List Switch → List Outcome → Option SampleState
-paused live.Log position list outcomes = None
-paused (live.Samples inverted) position list outcomes =
-    Some (settled (after_samples (first_samples inverted position) (samples_in list outcomes)))
+abbrev pub paused : LiveForm → StepPos → List Switch → List Outcome → TextState
+paused live.Log position list outcomes = texts.Log
+paused live.Times position list outcomes = texts.Times (ticks_after 0 outcomes)
+paused (live.Samples inverted) position list outcomes = texts.Samples
+    (settled (after_samples (first_samples inverted position) (samples_in list outcomes)))
 
 -- ---- the run so far
 
 -- what is known of a live run: its job, the machine's state, what has arrived, what the commands
--- switch, the samples so far, and whether the ring is fed
+-- switch, what is kept of the text so far, and whether the ring is fed
 pub record LiveData : Type 0 where
   pub job : Job
   pub state : State
   pub arriving : Arriving
   pub switches : List Switch
-  pub samples : Option SampleState
+  pub paused : TextState
   pub feeds : Bool
 
 -- what makes each run of a job a safe one, which is done in time, and its text that of its pulses
@@ -83,8 +92,8 @@ pub record IsReady (form : LiveForm) (job : Job) (list : List Switch) : Type 0 w
   pub are : AreSwitches (form_of form) job.commands list
 
 -- The events of these lines were given, with the loads that come before ticks where the ring is fed.
--- The text of their run, which is a safe one, was written since the beginning, and the machine is in
--- the run's last state.
+-- The text of their run, which is a safe one, was written since the beginning, and the machine is
+-- in the run's last state.
 pub record HasRun (form : LiveForm) (live : LiveData) (lines : List EventLine)
     (first now : Option (List ℕ)) : Type 0 where
   pub given : List Event
@@ -95,7 +104,7 @@ pub record HasRun (form : LiveForm) (live : LiveData) (lines : List EventLine)
   pub written : Appends first now (text_as (form_of form) live.job given outcomes run.states)
   pub reached : live.state ≡ last_state (opening live.job.machine) run.states
   pub ready : IsReady form live.job live.switches
-  pub samples : live.samples ≡ paused form (start_of_job live.job) live.switches outcomes
+  pub paused : live.paused ≡ paused form (start_of_job live.job) live.switches outcomes
 
 -- This text has arrived since the beginning, and the events of all lines that are complete in it
 -- were given, and the whole text of their run was written.

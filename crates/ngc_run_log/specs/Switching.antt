@@ -50,5 +50,6 @@ switch_in list (Some End) = AllOff
 -- what is known of these where a run is written in a form
 abbrev pub AreSwitches : Form → List Command → List Switch → Type 0
 AreSwitches forms.Log commands list = Unit {0}
+AreSwitches forms.Times commands list = Unit {0}
 AreSwitches forms.Pulses commands list = Unit {0}
 AreSwitches (forms.Samples inverted) commands list = list ≡ switches commands

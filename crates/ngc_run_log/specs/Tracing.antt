@@ -15,8 +15,9 @@ use Rattle.ngc_run_log.specs.declared.switches.Switches.{Switches}
 use Rattle.ngc_run_log.specs.declared.trace.Form.{Form}
 use Rattle.ngc_run_log.specs.declared.trace.Form.TheVariants as forms
 use Rattle.ngc_run_log.specs.declared.trace.Trace.{Trace}
-use Rattle.ngc_run_log.specs.declared.trace.Trace.TheVariants.{Log, Pulses, Samples, Untold}
+use Rattle.ngc_run_log.specs.declared.trace.Trace.TheVariants.{Log, Times, Pulses, Samples, Untold}
 use Rattle.ngc_run_log.specs.Log.{log}
+use Rattle.ngc_run_log.specs.Times.{ticks_after, timed_log}
 use Rattle.ngc_run_log.specs.Switching.{switch_in}
 
 -- the ticks among outcomes: where the pulse of each leads to, if it has one
@@ -67,12 +68,14 @@ switches_in list outcomes = switches_of (samples_in list outcomes)
 -- before the first event
 abbrev pub trace_of : Form → ℕ → StepPos → Switches → Trace
 trace_of forms.Log ticks_per_second position s = Log
+trace_of forms.Times ticks_per_second position s = Times 0
 trace_of forms.Pulses ticks_per_second position s = Pulses (first_state ticks_per_second position)
 trace_of (forms.Samples inverted) ticks_per_second position s =
     Samples (first_samples inverted position) s
 
 abbrev pub opening_text : Trace → List ℕ
 opening_text Log = []
+opening_text (Times ticks) = []
 opening_text (Pulses d) = header
 opening_text (Samples d s) = []
 opening_text Untold = []
@@ -87,19 +90,22 @@ dump_after d outcomes = after_ticks d (ticks_in outcomes)
 -- what these outcomes add
 abbrev pub trace_text : Trace → List Outcome → List ℕ
 trace_text Log outcomes = log outcomes
+trace_text (Times ticks) outcomes = timed_log ticks outcomes
 trace_text (Pulses d) outcomes = dump_text d outcomes
 trace_text (Samples d s) outcomes = samples_text d (samples_in s.list.now outcomes)
 trace_text Untold outcomes = []
 
 abbrev pub trace_after : Trace → List Outcome → Trace
 trace_after Log outcomes = Log
+trace_after (Times ticks) outcomes = Times (ticks_after ticks outcomes)
 trace_after (Pulses d) outcomes = Pulses (dump_after d outcomes)
 trace_after (Samples d s) outcomes = Samples (after_samples d (samples_in s.list.now outcomes)) s
 trace_after Untold outcomes = Untold
 
--- how many ticks it has counted: of samples those that aren't written yet
+-- how many ticks it has counted whose number is bounded: of samples those that aren't written yet
 abbrev pub ticks_of : Trace → ℕ
 ticks_of Log = 0
+ticks_of (Times ticks) = 0
 ticks_of (Pulses d) = d.ticks
 ticks_of (Samples d s) = d.resting
 ticks_of Untold = 0
@@ -112,6 +118,7 @@ switched_by _ _ = Nothing
 -- behind the last event
 abbrev pub last_text : Trace → List ℕ
 last_text Log = []
+last_text (Times ticks) = []
 last_text (Pulses d) = closing_text d
 last_text (Samples d s) = rest_bytes d
 last_text Untold = []

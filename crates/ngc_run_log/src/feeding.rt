@@ -104,7 +104,7 @@ fn feed_ticks<A: Allocator + Copy, W: Sink>(
     Ok(())
 }
 
-// Whether loads come before an event.
+// Returns whether loads come before an event.
 fn takes_loads(feeds: bool, event: Event) -> bool
     ensures { result ≡ (is_tick event && feeds) }
 {

@@ -11,6 +11,7 @@ mod recorder;
 mod report;
 mod runner;
 mod switches;
+mod text_state;
 mod through;
 mod timing;
 mod trace;
@@ -20,6 +21,8 @@ pub use live_fault::LiveFault;
 pub use live_form::LiveForm;
 pub use live_source::feed_from;
 pub use report::{Report, RunFault};
-pub use runner::{run, write_pulses, write_samples};
-pub use through::{run_through, write_pulses_through, write_samples_through};
+pub use runner::{run, write_pulses, write_samples, write_timed_log};
+pub use through::{
+    run_through, write_pulses_through, write_samples_through, write_timed_log_through,
+};
 pub use timing::{Timing, time_through};

@@ -17,6 +17,7 @@ use crate::live_form::LiveForm;
 use crate::recorder::Recorder;
 use crate::report::RunFault;
 use crate::switches::{Switches, switches_for};
+use crate::text_state::TextState;
 use crate::trace::{Form, Trace};
 use ngc_checker::Accepted;
 use ngc_controller::Controller;
@@ -36,8 +37,7 @@ pub struct LiveRun<A: Allocator> {
     controller: Controller<ArcPath, A>,
     lines: EventLines,
     switches: Vec<Switch, A>,
-    // Of a run that is written as samples.
-    samples: Option<PulseSamples>,
+    paused: TextState,
     // Whether loads come before ticks while the ring has room.
     feeds_ring: bool,
 }
@@ -52,7 +52,7 @@ impl<A: Allocator> Model for LiveRun<A> {
       state = l.controller.state;
       arriving = l.lines;
       switches = l.switches.items;
-      samples = l.samples;
+      paused = l.paused;
       feeds = l.feeds_ring;
     } };
 
@@ -64,16 +64,18 @@ fn form_of(form: LiveForm) -> Form
 {
     match form {
         LiveForm::Log => Form::Log,
+        LiveForm::Times => Form::Times,
         LiveForm::Samples(inverted) => Form::Samples(inverted),
     }
 }
 
-fn first_samples(form: LiveForm, position: StepPos) -> Option<PulseSamples>
+fn first_paused(form: LiveForm, position: StepPos) -> TextState
     ensures { result ≡ first_paused form position }
 {
     match form {
-        LiveForm::Log => None,
-        LiveForm::Samples(inverted) => Some(PulseSamples::new(inverted, position)),
+        LiveForm::Log => TextState::Log,
+        LiveForm::Times => TextState::Times(0),
+        LiveForm::Samples(inverted) => { TextState::Samples(PulseSamples::new(inverted, position)) }
     }
 }
 
@@ -156,12 +158,12 @@ impl<A: Allocator + Copy> LiveRun<A> {
             Ok(controller) => controller,
             Err(_) => return Err(RunFault::Memory),
         };
-        let samples = first_samples(form, controller.position());
+        let paused = first_paused(form, controller.position());
         Ok(LiveRun {
             controller,
             lines: EventLines::new(),
             switches,
-            samples,
+            paused,
             feeds_ring,
         })
     }
@@ -191,7 +193,7 @@ impl<A: Allocator + Copy> LiveRun<A> {
         let switches = Switches {
             list: self.switches.as_slice(),
         };
-        let trace = Trace::going_on(&self.samples, switches);
+        let trace = Trace::going_on(&self.paused, switches);
         let mut recorder = Recorder::new(trace, self.controller.position());
         let taken = match give_lines(
             &mut self.controller,
@@ -204,7 +206,7 @@ impl<A: Allocator + Copy> LiveRun<A> {
             Ok(taken) => taken,
             Err(fault) => return Err(LiveFault::Write(fault)),
         };
-        self.samples = recorder.samples();
+        self.paused = recorder.paused();
         match recorder.finish(sink) {
             Ok(_) => {}
             Err(fault) => return Err(LiveFault::Write(fault)),

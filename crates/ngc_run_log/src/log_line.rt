@@ -3,6 +3,7 @@ ghost use Rattle.std.specs.Prelude.{◌≡◌, ◌+◌, ◌≤◌, ◌++◌, len
 ghost use Rattle.ngc_text.specs.Collected.{CHUNK_SIZE, HasLineRoom};
 ghost use Rattle.ngc_run_log.specs.Log.{numbered_line, ending_text, position_text, switch_text};
 ghost use Rattle.ngc_run_log.specs.Log.{text_of};
+ghost use Rattle.ngc_run_log.specs.Times.{time_text, timed_ending, timed_position, timed_text};
 
 use ngc_events::{Ending, EventFault, Reply};
 use ngc_fixed_length::StepPos;
@@ -88,5 +89,70 @@ pub(crate) fn add_outcome(chunk: &mut Chunk, outcome: &Result<Reply, EventFault>
     match outcome {
         Ok(reply) => add_reply(chunk, reply),
         Err(fault) => add_numbered(chunk, b"refused", u32::from(fault.number())),
+    }
+}
+
+// How many ticks were given.
+fn add_time(chunk: &mut Chunk, ticks: u64)
+    requires { length chunk.old + 100 ≤ CHUNK_SIZE }
+    ensures text { chunk.new ≡ chunk.old ++ time_text ticks }
+    ensures short { length chunk.new ≤ length chunk.old + 41 }
+{
+    chunk.add_number(ticks);
+    chunk.add_text(b" ");
+}
+
+fn add_timed_position(chunk: &mut Chunk, ticks: u64, position: &Option<StepPos>)
+    requires { length chunk.old + 200 ≤ CHUNK_SIZE }
+    ensures text { chunk.new ≡ chunk.old ++ timed_position ticks position.now }
+    ensures short { length chunk.new ≤ length chunk.old + 168 }
+{
+    if let Some(position) = position {
+        add_time(chunk, ticks);
+        add_position(chunk, position);
+    }
+}
+
+fn add_timed_ending(chunk: &mut Chunk, ticks: u64, ending: &Option<Ending>)
+    requires { length chunk.old + 150 ≤ CHUNK_SIZE }
+    ensures text { chunk.new ≡ chunk.old ++ timed_ending ticks ending.now }
+    ensures short { length chunk.new ≤ length chunk.old + 93 }
+{
+    if let Some(ending) = ending {
+        add_time(chunk, ticks);
+        add_ending(chunk, ending);
+    }
+}
+
+fn add_timed_reply(chunk: &mut Chunk, ticks: u64, reply: &Reply)
+    requires { length chunk.old + 400 ≤ CHUNK_SIZE }
+    ensures text { chunk.new ≡ chunk.old ++ timed_text ticks (Ok reply.now) }
+    ensures short { length chunk.new ≤ length chunk.old + 300 }
+{
+    match reply {
+        Reply::Ticked { position, ending } => {
+            add_timed_position(chunk, ticks, position);
+            add_timed_ending(chunk, ticks, ending);
+        }
+        _ => {
+            add_time(chunk, ticks);
+            add_reply(chunk, reply);
+        }
+    }
+}
+
+/// Adds what the log says of an outcome, as `add_outcome` does; each line begins with how many ticks
+/// were given before.
+pub(crate) fn add_timed_outcome(chunk: &mut Chunk, ticks: u64, outcome: &Result<Reply, EventFault>)
+    requires { HasLineRoom chunk.old }
+    ensures text { chunk.new ≡ chunk.old ++ timed_text ticks outcome.now }
+    ensures short { length chunk.new ≤ length chunk.old + 300 }
+{
+    match outcome {
+        Ok(reply) => add_timed_reply(chunk, ticks, reply),
+        Err(fault) => {
+            add_time(chunk, ticks);
+            add_numbered(chunk, b"refused", u32::from(fault.number()));
+        }
     }
 }

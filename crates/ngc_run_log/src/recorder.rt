@@ -6,15 +6,15 @@ ghost use Rattle.ngc_events.specs.declared.event.Event.TheVariants.{Tick};
 ghost use Rattle.ngc_events.specs.declared.reply.Reply.TheVariants.{Ticked};
 ghost use Rattle.ngc_text.specs.Failures.{CountsFailure};
 ghost use Rattle.ngc_text.specs.Written.{AppendsBeginning};
-ghost use Rattle.ngc_run_log.specs.Living.{samples_of};
+ghost use Rattle.ngc_run_log.specs.Living.{paused_at};
 ghost use Rattle.ngc_run_log.specs.Recording.{HasFew, Records};
 ghost use Rattle.ngc_run_log.specs.Tracing.{last_text, opening_text, trace_text};
 
 use crate::report::Report;
+use crate::text_state::TextState;
 use crate::trace::Trace;
 use ngc_events::{Event, EventFault, Reply};
 use ngc_fixed_length::StepPos;
-use ngc_pulses::PulseSamples;
 use ngc_text::{Chunk, Sink, WriteFault};
 
 /// The report so far, and what its text has beyond what is written.
@@ -96,11 +96,11 @@ impl<'s> Recorder<'s> {
         self.report.ticks
     }
 
-    /// Returns the samples as they go on once all text is written, or `None` where there are none.
-    pub(crate) fn samples(&self) -> Option<PulseSamples>
-        ensures { result ≡ samples_of self.now.trace }
+    /// Returns what is kept of the text once all of it is written.
+    pub(crate) fn paused(&self) -> TextState
+        ensures { result ≡ paused_at self.now.trace }
     {
-        self.trace.samples()
+        self.trace.paused()
     }
 
     /// Writes the rest of the text, and answers the report.

@@ -5,7 +5,7 @@ ghost use Rattle.ngc_behaviour.specs.State.{opening};
 ghost use Rattle.ngc_checker.specs.Accepted.{commands_at};
 ghost use Rattle.ngc_text.specs.Failures.{CountsFailure};
 ghost use Rattle.ngc_run_log.specs.Forms.{ComesAs, IsTracedRun, IsUntracedRun, PulsesCome};
-ghost use Rattle.ngc_run_log.specs.Forms.{SamplesCome};
+ghost use Rattle.ngc_run_log.specs.Forms.{SamplesCome, TimesCome};
 ghost use Rattle.ngc_run_log.specs.Recording.{HasFew, IsCutShort, IsRecorded};
 ghost use Rattle.ngc_run_log.specs.Runs.{ComesTo, FailsByWriting};
 ghost use Rattle.ngc_run_log.specs.Tracing.{ticks_of};
@@ -152,6 +152,22 @@ pub fn run<A: Allocator + Copy, W: Sink>(
     ensures counts { FailsByWriting result (W.failures sink.old) (W.failures sink.new) }
 {
     run_as(alloc, accepted, block_delete, lines, Form::Log, sink)
+}
+
+/// Runs what was accepted over events as [`run`] does, and writes the log with ticks: each line begins
+/// with how many ticks were given before its event took effect. After 2^64 - 1 ticks the number stays.
+pub fn write_timed_log<A: Allocator + Copy, W: Sink>(
+    alloc: A,
+    accepted: Accepted<A>,
+    block_delete: bool,
+    lines: &[EventLine],
+    sink: &mut W,
+) -> Result<Report, RunFault>
+    ensures comes { TimesCome (job_of accepted.machine (commands_at block_delete accepted)) lines.now
+        (W.written sink.old) (W.written sink.new) result }
+    ensures counts { FailsByWriting result (W.failures sink.old) (W.failures sink.new) }
+{
+    run_as(alloc, accepted, block_delete, lines, Form::Times, sink)
 }
 
 /// Runs what was accepted, at a setting of block delete, over events in their order, and writes the

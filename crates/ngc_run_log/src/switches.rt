@@ -59,7 +59,7 @@ pub(crate) fn switches_for<A: Allocator + Copy>(
     ensures memory { IfErr result (λ fault. fault ≡ RunFault.Memory) }
 {
     match form {
-        Form::Log | Form::Pulses => Ok(Vec::new(alloc)),
+        Form::Log | Form::Times | Form::Pulses => Ok(Vec::new(alloc)),
         Form::Samples(_) => switches_of(alloc, commands),
     }
 }

@@ -9,7 +9,7 @@ ghost use Rattle.ngc_checker.specs.Accepted.{commands_at};
 ghost use Rattle.ngc_text.specs.Failures.{CountsFailure};
 ghost use Rattle.ngc_machine.specs.MachineRanges.{IsMachine};
 ghost use Rattle.ngc_run_log.specs.Forms.{GoesThroughAs, IsTracedThrough, IsTracedOff};
-ghost use Rattle.ngc_run_log.specs.Forms.{PulsesGoThrough, SamplesGoThrough};
+ghost use Rattle.ngc_run_log.specs.Forms.{PulsesGoThrough, SamplesGoThrough, TimesGoThrough};
 ghost use Rattle.ngc_run_log.specs.Policy.{next_event};
 ghost use Rattle.ngc_run_log.specs.Recording.{HasFew};
 ghost use Rattle.ngc_run_log.specs.Runs.{FailsByWriting};
@@ -418,6 +418,23 @@ pub fn run_through<A: Allocator + Copy, W: Sink>(
     ensures counts { FailsByWriting result (W.failures sink.old) (W.failures sink.new) }
 {
     go_through_as(alloc, accepted, block_delete, Form::Log, sink)
+}
+
+/// Runs what was accepted through to its end as [`run_through`] does, and writes the log with ticks:
+/// each line begins with how many ticks were given before its event took effect. After 2^64 - 1 ticks
+/// the number stays.
+pub fn write_timed_log_through<A: Allocator + Copy, W: Sink>(
+    alloc: A,
+    accepted: Accepted<A>,
+    block_delete: bool,
+    sink: &mut W,
+) -> Result<Report, RunFault>
+    ensures goes_through { TimesGoThrough
+        (job_of accepted.machine (commands_at block_delete accepted)) (W.written sink.old)
+        (W.written sink.new) result }
+    ensures counts { FailsByWriting result (W.failures sink.old) (W.failures sink.new) }
+{
+    go_through_as(alloc, accepted, block_delete, Form::Times, sink)
 }
 
 /// Runs what was accepted through to its end as [`run_through`] does, and writes the pulses of all

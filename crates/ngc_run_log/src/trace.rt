@@ -8,14 +8,16 @@ ghost use Rattle.ngc_text.specs.Failures.{CountsFailure};
 ghost use Rattle.ngc_text.specs.Written.{AppendsBeginning};
 ghost use Rattle.ngc_pulses.specs.Dumping.{after_tick, closing_text, tick_text};
 ghost use Rattle.ngc_pulses.specs.Sampling.{after_samples, rest_bytes, samples_text};
-ghost use Rattle.ngc_run_log.specs.Living.{samples_of, trace_from};
+ghost use Rattle.ngc_run_log.specs.Living.{paused_at, trace_from};
 ghost use Rattle.ngc_run_log.specs.Log.{log};
+ghost use Rattle.ngc_run_log.specs.Times.{ticks_after, ticks_with, timed_log};
 ghost use Rattle.ngc_run_log.specs.Tracing.{dump_after, dump_text, last_text, opening_text};
 ghost use Rattle.ngc_run_log.specs.Tracing.{sampled, switched_by, ticks_of, trace_after, trace_of};
 ghost use Rattle.ngc_run_log.specs.Tracing.{trace_text};
 
-use crate::log_line::add_outcome;
+use crate::log_line::{add_outcome, add_timed_outcome};
 use crate::switches::Switches;
+use crate::text_state::TextState;
 use ngc_events::{EventFault, Reply};
 use ngc_fixed_length::StepPos;
 use ngc_pulses::{PulseDump, PulseSamples, Switch};
@@ -26,16 +28,20 @@ use ngc_text::{Chunk, Sink, WriteFault};
 pub(crate) enum Form {
     /// What came of each event.
     Log,
+    /// The same, each line of which begins with how many ticks were given before its event.
+    Times,
     /// The pulses of its ticks as a value change dump.
     Pulses,
     /// The pulses of its ticks as samples, in which the bits of a mask are turned over.
     Samples(u8),
 }
 
-/// What is known of the text behind some events.
+/// What is known of the text after some events.
 #[derive(Drop)]
 pub(crate) enum Trace<'s> {
     Log,
+    // How many ticks were given.
+    Times(u64),
     Pulses(PulseDump),
     Samples(PulseSamples, Switches<'s>),
     Untold,
@@ -95,6 +101,48 @@ fn write_outcome<W: Sink>(
         Err(fault) => return Err(fault),
     }
     add_outcome(chunk, outcome);
+    Ok(())
+}
+
+// How many ticks were given once ticks follow in which nothing was commanded and nothing ended.
+fn after_quiet(ticks: u64, count: u64) -> u64
+    ensures { result ≡ ticks_after ticks (replicate count (Ok (Ticked None None))) }
+{
+    ticks.saturating_add(count)
+}
+
+// Counts an outcome's tick, if it is one.
+fn count_tick(ticks: u64, outcome: &Result<Reply, EventFault>) -> u64
+    ensures { result ≡ ticks_with ticks outcome.now }
+{
+    match outcome {
+        Ok(Reply::Ticked { .. }) => ticks.saturating_add(1),
+        _ => ticks,
+    }
+}
+
+// Adds what the log with ticks says of an outcome, after what the chunk has no room for.
+fn write_timed<W: Sink>(
+    ticks: &mut u64,
+    outcome: &Result<Reply, EventFault>,
+    chunk: &mut Chunk,
+    sink: &mut W,
+) -> Result<(), WriteFault>
+    ensures state { OnOk result (ticks.new ≡ ticks_after ticks.old (outcome.now ∷ [])) }
+    ensures text { OnOk result
+        (WritesFront (W.written sink.old) (W.written sink.new)
+        (chunk.old ++ timed_log ticks.old (outcome.now ∷ [])) chunk.new) }
+    ensures fault { OnErr result
+        (AppendsBeginning (W.written sink.old) (W.written sink.new)
+        (chunk.old ++ timed_log ticks.old (outcome.now ∷ []))) }
+    ensures failures { CountsFailure (W.failures sink.old) (W.failures sink.new) result }
+{
+    match chunk.make_room(sink) {
+        Ok(()) => {}
+        Err(fault) => return Err(fault),
+    }
+    add_timed_outcome(chunk, *ticks, outcome);
+    *ticks = count_tick(*ticks, outcome);
     Ok(())
 }
 
@@ -205,6 +253,7 @@ impl<'s> Trace<'s> {
     {
         match form {
             Form::Log => Trace::Log,
+            Form::Times => Trace::Times(0),
             Form::Pulses => Trace::Pulses(PulseDump::new(ticks_per_second, position)),
             Form::Samples(inverted) => {
                 Trace::Samples(PulseSamples::new(inverted, position), switches)
@@ -212,23 +261,25 @@ impl<'s> Trace<'s> {
         }
     }
 
-    /// After some events of which all text is written: of a log, or of samples that go on.
-    pub(crate) fn going_on(samples: &Option<PulseSamples>, switches: Switches<'s>) -> Trace<'s>
-        ensures { result ≡ trace_from samples.now switches.entry }
+    /// After some events of which all text is written.
+    pub(crate) fn going_on(paused: &TextState, switches: Switches<'s>) -> Trace<'s>
+        ensures { result ≡ trace_from paused.now switches.entry }
     {
-        match samples {
-            None => Trace::Log,
-            Some(samples) => Trace::Samples(samples.settled(), switches),
+        match paused {
+            TextState::Log => Trace::Log,
+            TextState::Times(ticks) => Trace::Times(*ticks),
+            TextState::Samples(samples) => Trace::Samples(samples.settled(), switches),
         }
     }
 
-    /// Returns the samples as they go on once all text is written, or `None` where there are none.
-    pub(crate) fn samples(&self) -> Option<PulseSamples>
-        ensures { result ≡ samples_of self.now }
+    /// Returns what is kept of the text once all of it is written.
+    pub(crate) fn paused(&self) -> TextState
+        ensures { result ≡ paused_at self.now }
     {
         match self {
-            Trace::Log | Trace::Pulses(_) | Trace::Untold => None,
-            Trace::Samples(samples, _) => Some(samples.settled()),
+            Trace::Log | Trace::Pulses(_) | Trace::Untold => TextState::Log,
+            Trace::Times(ticks) => TextState::Times(*ticks),
+            Trace::Samples(samples, _) => TextState::Samples(samples.settled()),
         }
     }
 
@@ -238,7 +289,7 @@ impl<'s> Trace<'s> {
         ensures { chunk.new ≡ chunk.old ++ opening_text self.now }
     {
         match self {
-            Trace::Log | Trace::Samples(_, _) | Trace::Untold => {}
+            Trace::Log | Trace::Times(_) | Trace::Samples(_, _) | Trace::Untold => {}
             Trace::Pulses(dump) => dump.open(chunk),
         }
     }
@@ -250,6 +301,7 @@ impl<'s> Trace<'s> {
     {
         match self {
             Trace::Log | Trace::Untold => {}
+            Trace::Times(ticks) => *ticks = after_quiet(*ticks, count),
             Trace::Pulses(dump) => rest_for(dump, count),
             Trace::Samples(samples, _) => samples.rest(count),
         }
@@ -285,6 +337,7 @@ impl<'s> Trace<'s> {
         let switch = self.switched_by(outcome);
         match self {
             Trace::Log => write_outcome(outcome, chunk, sink),
+            Trace::Times(ticks) => write_timed(ticks, outcome, chunk, sink),
             Trace::Pulses(dump) => write_changes(dump, outcome, chunk, sink),
             Trace::Samples(samples, _) => write_tick(samples, switch, outcome, chunk, sink),
             Trace::Untold => Ok(()),
@@ -308,7 +361,7 @@ impl<'s> Trace<'s> {
         ensures failures { CountsFailure (W.failures sink.old) (W.failures sink.new) result }
     {
         match self {
-            Trace::Log | Trace::Untold => Ok(()),
+            Trace::Log | Trace::Times(_) | Trace::Untold => Ok(()),
             Trace::Pulses(dump) => close_dump(dump, chunk, sink),
             Trace::Samples(samples, _) => samples.write_rests(chunk, sink),
         }

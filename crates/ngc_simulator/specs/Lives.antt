@@ -22,7 +22,8 @@ abbrev pub live_named : Option (List ℕ) → ℕ → Option LiveForm
 live_named None inverted = Some forms.Log
 live_named (Some name) inverted =
     if bytes_eq name (codes "samples") then Some (forms.Samples inverted) else
-    if bytes_eq name (codes "log") then Some forms.Log else None
+    if bytes_eq name (codes "log") then Some forms.Log else
+    if bytes_eq name (codes "times") then Some forms.Times else None
 
 -- The job of a program's file and a certificate's file was run over the events that a source gave,
 -- of which `source` was left at the beginning and `rest` is left now; where the ring is fed, with

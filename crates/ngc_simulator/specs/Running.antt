@@ -20,24 +20,27 @@ use Rattle.ngc_run_log.specs.declared.report.Report.{Report}
 use Rattle.ngc_run_log.specs.declared.report.RunFault.{RunFault}
 use Rattle.ngc_run_log.specs.declared.report.RunFault.TheVariants as runs
 use Rattle.ngc_run_log.specs.Forms.{PulsesCome, PulsesGoThrough, SamplesCome, SamplesGoThrough}
+use Rattle.ngc_run_log.specs.Forms.{TimesCome, TimesGoThrough}
 use Rattle.ngc_run_log.specs.Runs.{ComesTo}
 use Rattle.ngc_run_log.specs.Through.{GoesThrough}
 use Rattle.ngc_simulator.specs.declared.fault.AnswerFault.{AnswerFault}
 use Rattle.ngc_simulator.specs.declared.fault.AnswerFault.TheVariants as answers
 use Rattle.ngc_simulator.specs.declared.writing.Writing.{Writing}
-use Rattle.ngc_simulator.specs.declared.writing.Writing.TheVariants.{Log, Dump, Samples}
+use Rattle.ngc_simulator.specs.declared.writing.Writing.TheVariants.{Log, Times, Dump, Samples}
 use Rattle.ngc_simulator.specs.Jobs.{AreGiven, IsNoCertificate}
 
 -- what a run over events comes to by what is written of it, and what a run to the end comes to
 abbrev pub RecordsRun : Writing → Job → List EventLine → Option (List ℕ) → Option (List ℕ) →
     Result Report RunFault → Type 0
 RecordsRun Log = ComesTo
+RecordsRun Times = TimesCome
 RecordsRun Dump = PulsesCome
 RecordsRun (Samples inverted) = SamplesCome inverted
 
 abbrev pub RecordsThrough : Writing → Job → Option (List ℕ) → Option (List ℕ) →
     Result Report RunFault → Type 0
 RecordsThrough Log = GoesThrough
+RecordsThrough Times = TimesGoThrough
 RecordsThrough Dump = PulsesGoThrough
 RecordsThrough (Samples inverted) = SamplesGoThrough inverted
 

@@ -60,7 +60,8 @@ pub use ngc_program_report::{ReportRequest, RunTime};
 pub use ngc_report::Form;
 pub use ngc_run_log::{
     LiveFault, LiveForm, LiveRun, Report, RunFault, feed_from, run, run_through, write_pulses,
-    write_pulses_through, write_samples, write_samples_through,
+    write_pulses_through, write_samples, write_samples_through, write_timed_log,
+    write_timed_log_through,
 };
 pub use ngc_setup_sheet::write_sheet;
 pub use ngc_step_kernel::{ArcKernel, ArcPath};

@@ -30,6 +30,8 @@ fn live_form(output: Option<&str>, inverted: u8) -> Option<LiveForm>
                 Some(LiveForm::Samples(inverted))
             } else if name == "log" {
                 Some(LiveForm::Log)
+            } else if name == "times" {
+                Some(LiveForm::Times)
             } else {
                 None
             }

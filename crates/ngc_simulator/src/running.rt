@@ -19,7 +19,7 @@ use crate::writing::{Writing, writing_of};
 use ngc_checker::Accepted;
 use ngc_command_line::RunOptions;
 use ngc_events::{EventLine, read_events};
-use ngc_run_log::{Report, RunFault, run, write_pulses, write_samples};
+use ngc_run_log::{Report, RunFault, run, write_pulses, write_samples, write_timed_log};
 use ngc_text::Sink;
 use std::alloc::{Allocator, Global};
 
@@ -39,6 +39,7 @@ fn record_run<A: Allocator + Copy, W: Sink>(
 {
     match writing {
         Writing::Log => run(alloc, accepted, block_delete, lines, output),
+        Writing::Times => write_timed_log(alloc, accepted, block_delete, lines, output),
         Writing::Dump => write_pulses(alloc, accepted, block_delete, lines, output),
         Writing::Samples(inverted) => {
             write_samples(alloc, accepted, block_delete, lines, inverted, output)

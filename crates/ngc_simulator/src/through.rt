@@ -19,7 +19,10 @@ use crate::writing::{Writing, writing_of};
 use ngc_checker::Accepted;
 use ngc_command_line::RunThroughOptions;
 use ngc_program_report::RunTime;
-use ngc_run_log::{Report, RunFault, run_through, write_pulses_through, write_samples_through};
+use ngc_run_log::{
+    Report, RunFault, run_through, write_pulses_through, write_samples_through,
+    write_timed_log_through,
+};
 use ngc_text::Sink;
 use std::alloc::{Allocator, Global};
 
@@ -38,6 +41,7 @@ fn record_through<A: Allocator + Copy, W: Sink>(
 {
     match writing {
         Writing::Log => run_through(alloc, accepted, block_delete, output),
+        Writing::Times => write_timed_log_through(alloc, accepted, block_delete, output),
         Writing::Dump => write_pulses_through(alloc, accepted, block_delete, output),
         Writing::Samples(inverted) => {
             write_samples_through(alloc, accepted, block_delete, inverted, output)

@@ -1,6 +1,6 @@
 //! What is written of a run, from the options.
 ghost use Rattle.std.specs.Prelude.{◌≡◌, option_map};
-ghost use Rattle.ngc_simulator.specs.Writing.{is_own_name, own_writing, writing_named};
+ghost use Rattle.ngc_simulator.specs.Writing.{is_own_name, own_writing, timed_writing, writing_named};
 
 use ngc_command_line::Recording;
 
@@ -9,6 +9,8 @@ use ngc_command_line::Recording;
 pub enum Writing {
     /// The log.
     Log,
+    /// The log, each line of which begins with how many ticks were given before its event.
+    Times,
     /// The pulses as a value change dump.
     Dump,
     /// The pulses as samples: two bytes for each tick, in which the bits of a mask are turned over.
@@ -34,6 +36,22 @@ fn is_own_name(recording: Recording, name: &str) -> bool
     }
 }
 
+// The log with ticks, if this is its name.
+fn timed_writing(recording: Recording, name: &str) -> Option<Writing>
+    ensures { result ≡ timed_writing recording name.now }
+{
+    match recording {
+        Recording::Log => {
+            if name == "times" {
+                Some(Writing::Times)
+            } else {
+                None
+            }
+        }
+        Recording::Pulses => None,
+    }
+}
+
 /// What a command that records this writes in the form with this name, if it has one.
 pub(crate) fn writing_of(
     recording: Recording,
@@ -50,7 +68,7 @@ pub(crate) fn writing_of(
             } else if is_own_name(recording, name) {
                 Some(own_writing(recording))
             } else {
-                None
+                timed_writing(recording, name)
             }
         }
     }

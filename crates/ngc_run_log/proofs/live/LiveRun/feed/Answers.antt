@@ -32,4 +32,4 @@ returns-clause-feeds g c = λ form text first h.
     fed_all form _ (text ++ c.args.piece.now) first _ (is.lines ++ given.more) c.in-Ok.taken _
     (has_run form _ _ is.lines given.more first _ _ _ _ c.new-recorder.result c.give_lines.new.recorder is.has_run c.as_slice.ensures.value
     (c.new-recorder.ensures.trace ∙ c.going_on-trace.ensures) (c.new-recorder.ensures.chunk ∙ ap opening_text c.going_on-trace.ensures)
-    given.fed c.in-Ok-finish.ensures.ok c.in-Ok.ensures.job refl refl c.samples-self-inside.ensures) given.reaches c.ended.ensures.is
+    given.fed c.in-Ok-finish.ensures.ok c.in-Ok.ensures.job refl refl c.paused-self-inside.ensures) given.reaches c.ended.ensures.is
