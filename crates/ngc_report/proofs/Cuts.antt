@@ -5,7 +5,7 @@ use Rattle.ngc_text.proofs.Firsts.{enough}
 use Rattle.ngc_machine.specs.Machine.{MachineFile}
 use Rattle.ngc_certificate_text.specs.Certificate.{Entry}
 use Rattle.ngc_report.specs.Nearing.{nearest}
-use Rattle.ngc_report.specs.Reports.{use_lines, motions_in}
+use Rattle.ngc_report.specs.Reports.{use_lines, near_line, motions_in}
 use Rattle.ngc_report.specs.declared.line.Line.TheVariants as lines
 use Rattle.ngc_report.specs.declared.uses.ToolUse.{ToolUse}
 
@@ -24,7 +24,7 @@ gone n k xs is = elim (enough n (length xs)) [
 -- the next use, of the motions from `first` on
 pub next_use : (machine : MachineFile) (left : List ToolUse) (u : ToolUse) (us : List ToolUse) (motions : List Entry) (first k end : ℕ) → left ≡ u ∷ us
     → first ≤ length motions → k ≡ min (motions_in u) (length motions - first) → end ≡ first + k
-    → use_lines machine left (drop first motions) ≡ (lines.Use u (nearest machine u.tool (drop first (take end motions))) ∷ [])
+    → use_lines machine left (drop first motions) ≡ (lines.Use u ∷ near_line machine (nearest machine u.tool (drop first (take end motions))) ∷ [])
     ++ use_lines machine us (drop end motions)
 next_use machine left u us motions first k end is inside short ends =
     let rest : List Entry = drop first motions in
@@ -34,5 +34,5 @@ next_use machine left u us motions first k end is inside short ends =
     let left_over : drop (motions_in u) rest ≡ drop end motions =
     sym (gone (motions_in u) k rest some) ∙ drop-drop k first motions ∙ ap (λ i. drop i motions) (sym ends) in
     ap (λ (l : List ToolUse). use_lines machine l rest) is
-    ∙ ap (λ (l : List Entry). lines.Use u (nearest machine u.tool l) ∷ use_lines machine us (drop (motions_in u) rest)) taken
-    ∙ ap (λ (l : List Entry). lines.Use u (nearest machine u.tool (drop first (take end motions))) ∷ use_lines machine us l) left_over
+    ∙ ap (λ (l : List Entry). lines.Use u ∷ near_line machine (nearest machine u.tool l) ∷ use_lines machine us (drop (motions_in u) rest)) taken
+    ∙ ap (λ (l : List Entry). lines.Use u ∷ near_line machine (nearest machine u.tool (drop first (take end motions))) ∷ use_lines machine us l) left_over

@@ -1,10 +1,12 @@
 -- The lines of a report as facts: objects of one JSON document (RFC 8259), each behind a comma, on
 -- a line of its own. Lengths are in nanometres. Our own.
-use Rattle.std.specs.Prelude.{ℕ, ℤ, List, ◌++◌, codes, decimal, Option, Some, None}
+use Rattle.std.specs.Prelude.{ℕ, ℤ, List, [], ◌++◌, codes, decimal, Option, Some, None, length}
+use Rattle.std.specs.Prelude.{◌==◌, flat_map, if◌then◌else◌}
 use Rattle.std.specs.Fmt.{signed_decimal}
 use Rattle.ngc_fixed_length.specs.declared.points.Point3.{Point3}
 use Rattle.ngc_machine.specs.declared.tools.Tool.{Tool}
 use Rattle.ngc_collision.specs.Inside.{place_of}
+use Rattle.ngc_report.specs.Quotes.{escaped}
 use Rattle.ngc_report.specs.Words.{axis_text, concern_text}
 use Rattle.ngc_report.specs.declared.line.Along.{Along}
 use Rattle.ngc_report.specs.declared.line.Line.{Line}
@@ -22,19 +24,27 @@ use Rattle.ngc_report.specs.declared.warnings.Warning.{Warning}
 
 -- ---- values
 
--- a tool's number, or null without one
+-- a name beside a number, where there is one
+unfoldable pub name_fact : List ℕ → List ℕ → List ℕ
+name_fact key name =
+    if length name == 0 then []
+    else codes ",\"" ++ key ++ codes "\":\"" ++ flat_map escaped name ++ codes "\""
+
+-- a tool's number and name, or null without a tool
 unfoldable pub tool_fact : Option Tool → List ℕ
 tool_fact None = codes "null"
-tool_fact (Some tool) = decimal tool.number
+tool_fact (Some tool) = decimal tool.number ++ name_fact (codes "tool_name") tool.name
 
 unfoldable pub triple : Point3 → List ℕ
 triple p = codes "[" ++ signed_decimal p.x ++ codes "," ++ signed_decimal p.y ++ codes ","
     ++ signed_decimal p.z ++ codes "]"
 
-unfoldable pub nearest_fact : Option Nearest → List ℕ
-nearest_fact None = codes "null,\"distance\":null}"
-nearest_fact (Some n) =
-    decimal n.fixture ++ codes ",\"distance\":" ++ signed_decimal n.distance ++ codes "}"
+-- the nearest fixture, with its name
+unfoldable pub nearest_fact : Option Nearest → List ℕ → List ℕ
+nearest_fact None name = codes ",\"nearest_fixture\":null,\"distance\":null}"
+nearest_fact (Some n) name =
+    codes ",\"nearest_fixture\":" ++ decimal n.fixture ++ name_fact (codes "fixture_name") name
+    ++ codes ",\"distance\":" ++ signed_decimal n.distance ++ codes "}"
 
 abbrev pub side_fact : Side → List ℕ
 side_fact Below = codes "below"
@@ -54,14 +64,14 @@ along_fact a =
     ++ codes ",\"left_above\":" ++
     signed_decimal a.room.above ++ codes "}"
 
-abbrev pub use_fact : ToolUse → Option Nearest → List ℕ
-use_fact u n =
+abbrev pub use_fact : ToolUse → List ℕ
+use_fact u =
     codes ",\n{\"fact\":\"use\",\"tool\":" ++ tool_fact u.tool ++ codes ",\"traverses\":"
     ++ decimal u.traverses ++ codes ",\"traverse_way\":" ++
     decimal u.traverse_way ++ codes ",\"feeds\":" ++ decimal u.feeds ++ codes ",\"feed_way\":"
     ++ decimal u.feed_way ++ codes ",\"arcs\":" ++
     decimal u.arcs ++ codes ",\"dwells\":" ++ decimal u.dwells ++ codes ",\"stops\":"
-    ++ decimal u.stops ++ codes ",\"nearest_fixture\":" ++ nearest_fact n
+    ++ decimal u.stops
 
 abbrev pub start_fact : Scene → List ℕ
 start_fact s = codes ",\n{\"fact\":\"start\",\"at\":" ++ triple (place_of s.from) ++ codes "}"
@@ -82,7 +92,7 @@ travel_fact m =
 abbrev pub fixture_fact : Met → List ℕ
 fixture_fact m =
     codes ",\n{\"fact\":\"obstacle\",\"kind\":\"fixture\",\"fixture\":" ++ decimal m.number
-    ++ codes ",\"low\":" ++ triple m.fixture.low ++
+    ++ name_fact (codes "fixture_name") m.fixture.name ++ codes ",\"low\":" ++ triple m.fixture.low ++
     codes ",\"high\":" ++ triple m.fixture.high ++ codes ",\"over_from_z\":" ++ over_fact m.over
 
 unfoldable pub obstacle_fact : Option Obstacle → List ℕ
@@ -110,7 +120,8 @@ unfoldable pub line_fact : Line → List ℕ
 line_fact (lines.Fits nose) = fits_fact nose
 line_fact lines.Refused = codes ",\n{\"fact\":\"verdict\",\"fits\":false}"
 line_fact (lines.Along a) = along_fact a
-line_fact (lines.Use u n) = use_fact u n
+line_fact (lines.Use u) = use_fact u
+line_fact (lines.Near n name) = nearest_fact n name
 line_fact (lines.Start s) = start_fact s
 line_fact (lines.Command k s) = command_fact k s
 line_fact (lines.InTheWay o) = obstacle_fact o

@@ -1,9 +1,10 @@
 -- How near the bodies of tools come to fixtures. Our own.
 use Rattle.std.specs.Prelude.{ℕ, ◌+◌, nat_lt, int_lt, List, [], ◌∷◌, fold, flat_map, Option, Some}
-use Rattle.std.specs.Prelude.{None, Bool, ◌&&◌, ◌||◌, if◌then◌else◌}
+use Rattle.std.specs.Prelude.{None, Bool, ◌&&◌, ◌||◌, if◌then◌else◌, option_map, slice_get}
 use Rattle.std.specs.Ordering.{int_eq}
 use Rattle.ngc_fixed_length.specs.declared.points.GridBox.{GridBox}
 use Rattle.ngc_machine.specs.Machine.{MachineFile}
+use Rattle.ngc_machine.specs.Names.{name_from}
 use Rattle.ngc_machine.specs.declared.machine.Fixture.{Fixture}
 use Rattle.ngc_machine.specs.declared.tools.Tool.{Tool}
 use Rattle.ngc_certificate_text.specs.Certificate.{Entry}
@@ -39,3 +40,11 @@ over_motion machine tool e = over_pieces machine tool e.pieces
 -- the nearest of all
 abbrev pub nearest : MachineFile → Option Tool → List Entry → Option Nearest
 nearest machine tool motions = fold nearer None (flat_map (over_motion machine tool) motions)
+
+-- the name of a fixture by its number, without characters where it has none
+abbrev pub fixture_name : MachineFile → ℕ → List ℕ
+fixture_name machine i = name_from (option_map (λ f. f.name) (slice_get machine.fixtures i))
+
+abbrev pub nearest_name : MachineFile → Option Nearest → List ℕ
+nearest_name machine None = []
+nearest_name machine (Some n) = fixture_name machine n.fixture

@@ -13,7 +13,7 @@ use Rattle.ngc_certificate_text.specs.Collects.{Collects}
 use Rattle.ngc_certificate_text.specs.declared.piece.Piece.{Piece}
 use Rattle.ngc_collision.specs.Body.{is_in_travel}
 use Rattle.ngc_report.specs.Extents.{extent, fit_extent, extent_in_travel}
-use Rattle.ngc_report.specs.Nearing.{nearest}
+use Rattle.ngc_report.specs.Nearing.{nearest, nearest_name}
 use Rattle.ngc_report.specs.Rooms.{room, is_inside_on}
 use Rattle.ngc_report.specs.Scenes.{start_scene, scene_at, obstacle}
 use Rattle.ngc_report.specs.Uses.{tool_uses}
@@ -22,6 +22,7 @@ use Rattle.ngc_report.specs.Forms.{report_text}
 use Rattle.ngc_report.specs.declared.form.Form.{Form}
 use Rattle.ngc_report.specs.declared.line.Line.{Line}
 use Rattle.ngc_report.specs.declared.line.Line.TheVariants as lines
+use Rattle.ngc_report.specs.declared.nearest.Nearest.{Nearest}
 use Rattle.ngc_report.specs.declared.margins.Axis.{Axis}
 use Rattle.ngc_report.specs.declared.margins.Axis.TheVariants.{X, Y, Z}
 use Rattle.ngc_report.specs.declared.scene.Scene.{Scene}
@@ -50,12 +51,16 @@ alongs machine b =
 abbrev pub motions_in : ToolUse → ℕ
 motions_in u = u.traverses + u.feeds + u.arcs
 
+-- the nearest fixture, with its name
+abbrev pub near_line : MachineFile → Option Nearest → Line
+near_line machine n = lines.Near n (nearest_name machine n)
+
 -- each use, with what it comes nearest to; a certificate's motions go with those of the uses in
 -- order
 abbrev pub use_lines : MachineFile → List ToolUse → List Entry → List Line
 use_lines machine [] motions = []
 use_lines machine (u ∷ us) motions =
-    lines.Use u (nearest machine u.tool (take (motions_in u) motions))
+    lines.Use u ∷ near_line machine (nearest machine u.tool (take (motions_in u) motions))
     ∷ use_lines machine us (drop (motions_in u) motions)
 
 -- ---- reports

@@ -1,6 +1,6 @@
 -- The lines of a report, in words and millimetres. Our own.
-use Rattle.std.specs.Prelude.{ℕ, ℤ, pos, negsuc, unsigned_abs, List, ◌++◌, codes, decimal, Option}
-use Rattle.std.specs.Prelude.{Some, None}
+use Rattle.std.specs.Prelude.{ℕ, ℤ, pos, negsuc, unsigned_abs, List, [], ◌++◌, codes, decimal}
+use Rattle.std.specs.Prelude.{Option, Some, None, length, ◌==◌, if◌then◌else◌}
 use Rattle.ngc_fixed_length.specs.declared.points.Point3.{Point3}
 use Rattle.ngc_text.specs.Millimetres.{size_text, mm_text}
 use Rattle.ngc_machine.specs.declared.tools.Tool.{Tool}
@@ -53,10 +53,20 @@ unfoldable pub tool_text : Option Tool → List ℕ
 tool_text None = codes "no tool"
 tool_text (Some tool) = codes "tool " ++ decimal tool.number
 
-unfoldable pub nearest_text : Option Nearest → List ℕ
-nearest_text None = codes ".\n"
-nearest_text (Some n) = codes "; nearest fixture " ++ decimal n.fixture ++ codes ", "
-    ++ mm_text n.distance ++ codes " away.\n"
+-- a name after a number, where there is one
+unfoldable pub bracketed : List ℕ → List ℕ
+bracketed name = if length name == 0 then [] else codes " (" ++ name ++ codes ")"
+
+-- a tool by its number and its name
+unfoldable pub called_text : Option Tool → List ℕ
+called_text None = codes "no tool"
+called_text (Some tool) = codes "tool " ++ decimal tool.number ++ bracketed tool.name
+
+-- the nearest fixture, with its name
+unfoldable pub nearest_text : Option Nearest → List ℕ → List ℕ
+nearest_text None name = codes ".\n"
+nearest_text (Some n) name = codes "; nearest fixture " ++ decimal n.fixture ++ bracketed name
+    ++ codes ", " ++ mm_text n.distance ++ codes " away.\n"
 
 abbrev pub along_text : Along → List ℕ
 along_text a =
@@ -64,18 +74,18 @@ along_text a =
     ++ codes ", " ++ room_text a.room.below ++ codes " below and " ++
     room_text a.room.above ++ codes " above.\n"
 
-abbrev pub use_text : ToolUse → Option Nearest → List ℕ
-use_text u n =
-    codes "With " ++ tool_text u.tool ++ codes ": traverses " ++ decimal u.traverses
+abbrev pub use_text : ToolUse → List ℕ
+use_text u =
+    codes "With " ++ called_text u.tool ++ codes ": traverses " ++ decimal u.traverses
     ++ codes " along " ++ size_text u.traverse_way ++
     codes " mm, feeds " ++ decimal u.feeds ++ codes " along " ++ size_text u.feed_way
     ++ codes " mm, arcs " ++ decimal u.arcs ++ codes ", dwells " ++ decimal u.dwells
-    ++ codes ", stops " ++ decimal u.stops ++ nearest_text n
+    ++ codes ", stops " ++ decimal u.stops
 
 abbrev pub command_text : ℕ → Scene → List ℕ
 command_text k s =
     codes "Command " ++ decimal k ++ codes " of line " ++ decimal s.line ++ codes ", with "
-    ++ tool_text s.tool ++ codes ", from " ++ place_text (place_of s.from) ++
+    ++ called_text s.tool ++ codes ", from " ++ place_text (place_of s.from) ++
     codes " to " ++ place_text (place_of s.to) ++ codes ".\n"
 
 -- the height from which on a fixture is passed over, where the travel has it
@@ -85,7 +95,8 @@ over_text (Some height) = codes "; from Z " ++ mm_text height ++ codes " up it p
 
 abbrev pub met_text : Met → List ℕ
 met_text m =
-    codes "It meets fixture " ++ decimal m.number ++ codes ", from " ++ place_text m.fixture.low
+    codes "It meets fixture " ++ decimal m.number ++ bracketed m.fixture.name ++ codes ", from "
+    ++ place_text m.fixture.low
     ++ codes " to " ++ place_text m.fixture.high ++
     over_text m.over
 
@@ -126,7 +137,8 @@ unfoldable pub line_text : Line → List ℕ
 line_text (lines.Fits nose) = fits_text nose
 line_text lines.Refused = codes "The program does not fit.\n"
 line_text (lines.Along a) = along_text a
-line_text (lines.Use u n) = use_text u n
+line_text (lines.Use u) = use_text u
+line_text (lines.Near n name) = nearest_text n name
 line_text (lines.Start s) =
     codes "The start is refused, at " ++ place_text (place_of s.from) ++ codes ".\n"
 line_text (lines.Command k s) = command_text k s

@@ -3,7 +3,8 @@ ghost use Rattle.std.specs.Prelude.{◌≡◌, ◌+◌, ◌≤◌, ◌++◌, cod
 ghost use Rattle.std.specs.Fmt.{signed_decimal};
 ghost use Rattle.ngc_collision.specs.Inside.{place_of};
 ghost use Rattle.ngc_text.specs.Collected.{CHUNK_SIZE, HasLineRoom};
-ghost use Rattle.ngc_report.specs.Facts.{tool_fact, triple, nearest_fact, along_fact, use_fact};
+ghost use Rattle.ngc_report.specs.Facts.{name_fact, tool_fact, triple, nearest_fact, along_fact};
+ghost use Rattle.ngc_report.specs.Facts.{use_fact};
 ghost use Rattle.ngc_report.specs.Facts.{side_fact, start_fact, command_fact, over_fact};
 ghost use Rattle.ngc_report.specs.Facts.{travel_fact, fixture_fact, obstacle_fact, warning_fact};
 ghost use Rattle.ngc_report.specs.Facts.{nose_fact, fits_fact, line_fact};
@@ -12,23 +13,45 @@ ghost use Rattle.ngc_report.specs.Words.{concern_text};
 use crate::line::{Along, Line};
 use crate::margins::{Margin, Side};
 use crate::nearest::Nearest;
+use crate::quotes::add_string;
 use crate::scene::{Met, Obstacle, Scene};
 use crate::uses::ToolUse;
 use crate::warnings::Warning;
 use crate::words::{add_count, axis_name, concern_words};
 use ngc_collision::Place;
-use ngc_machine::Tool;
+use ngc_machine::{Name, Tool};
 use ngc_text::Chunk;
+
+/// Adds a name beside a number, where there is one.
+#[tactic(auto, unfolding(crate::specs::Facts::name_fact))]
+fn add_name(chunk: &mut Chunk, key: &[u8], name: &Name)
+    requires room { length chunk.old + 100 ≤ CHUNK_SIZE }
+    requires key { length key.now ≤ 12 }
+    ensures text { chunk.new ≡ chunk.old ++ name_fact key.now name.now }
+    ensures short { length chunk.new ≤ length chunk.old + 100 }
+{
+    let name = name.as_bytes();
+    if !name.is_empty() {
+        chunk.add_text(b",\"");
+        chunk.add_text(key);
+        chunk.add_text(b"\":\"");
+        add_string(chunk, name);
+        chunk.add_text(b"\"");
+    }
+}
 
 #[tactic(auto, unfolding(crate::specs::Facts::tool_fact))]
 fn add_tool(chunk: &mut Chunk, tool: &Option<Tool>)
-    requires { length chunk.old + 40 ≤ CHUNK_SIZE }
+    requires { length chunk.old + 120 ≤ CHUNK_SIZE }
     ensures text { chunk.new ≡ chunk.old ++ tool_fact tool.now }
-    ensures short { length chunk.new ≤ length chunk.old + 40 }
+    ensures short { length chunk.new ≤ length chunk.old + 120 }
 {
     match tool {
         None => chunk.add_text(b"null"),
-        Some(tool) => chunk.add_number(tool.number),
+        Some(tool) => {
+            add_count(chunk, tool.number as usize);
+            add_name(chunk, b"tool_name", &tool.name);
+        }
     }
 }
 
@@ -55,26 +78,29 @@ fn add_triple(chunk: &mut Chunk, place: &Place)
     chunk.add_text(b"]");
 }
 
-fn add_distance(chunk: &mut Chunk, nearest: &Nearest)
-    requires { length chunk.old + 120 ≤ CHUNK_SIZE }
+fn add_distance(chunk: &mut Chunk, nearest: &Nearest, name: &Name)
+    requires { HasLineRoom chunk.old }
     ensures { chunk.new ≡ chunk.old
-        ++ (decimal nearest.now.fixture ++ codes ",\"distance\":"
+        ++ (codes ",\"nearest_fixture\":" ++ decimal nearest.now.fixture
+        ++ name_fact (codes "fixture_name") name.now ++ codes ",\"distance\":"
         ++ signed_decimal nearest.now.distance ++ codes "}") }
 {
+    chunk.add_text(b",\"nearest_fixture\":");
     chunk.add_number(nearest.fixture);
+    add_name(chunk, b"fixture_name", name);
     chunk.add_text(b",\"distance\":");
     chunk.add_number(nearest.distance);
     chunk.add_text(b"}");
 }
 
 #[tactic(auto, unfolding(crate::specs::Facts::nearest_fact))]
-fn add_nearest(chunk: &mut Chunk, nearest: &Option<Nearest>)
-    requires { length chunk.old + 120 ≤ CHUNK_SIZE }
-    ensures { chunk.new ≡ chunk.old ++ nearest_fact nearest.now }
+fn add_nearest(chunk: &mut Chunk, nearest: &Option<Nearest>, name: &Name)
+    requires { HasLineRoom chunk.old }
+    ensures { chunk.new ≡ chunk.old ++ nearest_fact nearest.now name.now }
 {
     match nearest {
-        None => chunk.add_text(b"null,\"distance\":null}"),
-        Some(nearest) => add_distance(chunk, nearest),
+        None => chunk.add_text(b",\"nearest_fixture\":null,\"distance\":null}"),
+        Some(nearest) => add_distance(chunk, nearest, name),
     }
 }
 
@@ -95,9 +121,9 @@ fn add_along(chunk: &mut Chunk, along: &Along)
     chunk.add_text(b"}");
 }
 
-fn add_use(chunk: &mut Chunk, one: &ToolUse, nearest: &Option<Nearest>)
+fn add_use(chunk: &mut Chunk, one: &ToolUse)
     requires { HasLineRoom chunk.old }
-    ensures { chunk.new ≡ chunk.old ++ use_fact one.now nearest.now }
+    ensures { chunk.new ≡ chunk.old ++ use_fact one.now }
 {
     chunk.add_text(b",\n{\"fact\":\"use\",\"tool\":");
     add_tool(chunk, &one.tool);
@@ -115,8 +141,6 @@ fn add_use(chunk: &mut Chunk, one: &ToolUse, nearest: &Option<Nearest>)
     add_count(chunk, one.dwells);
     chunk.add_text(b",\"stops\":");
     add_count(chunk, one.stops);
-    chunk.add_text(b",\"nearest_fixture\":");
-    add_nearest(chunk, nearest);
 }
 
 fn add_start(chunk: &mut Chunk, scene: &Scene)
@@ -187,7 +211,8 @@ fn add_fixture(chunk: &mut Chunk, met: &Met)
     ensures { chunk.new ≡ chunk.old ++ fixture_fact met.now }
 {
     chunk.add_text(b",\n{\"fact\":\"obstacle\",\"kind\":\"fixture\",\"fixture\":");
-    chunk.add_number(met.number);
+    add_count(chunk, met.number as usize);
+    add_name(chunk, b"fixture_name", &met.fixture.name);
     chunk.add_text(b",\"low\":");
     add_triple(chunk, &Place::at(&met.fixture.low));
     chunk.add_text(b",\"high\":");
@@ -256,7 +281,8 @@ pub(crate) fn add_fact(chunk: &mut Chunk, line: &Line)
         Line::Fits(nose) => add_fits(chunk, nose),
         Line::Refused => chunk.add_text(b",\n{\"fact\":\"verdict\",\"fits\":false}"),
         Line::Along(along) => add_along(chunk, along),
-        Line::Use(one, nearest) => add_use(chunk, one, nearest),
+        Line::Use(one) => add_use(chunk, one),
+        Line::Near(nearest, name) => add_nearest(chunk, nearest, name),
         Line::Start(scene) => add_start(chunk, scene),
         Line::Command(command, scene) => add_command(chunk, *command, scene),
         Line::InTheWay(obstacle) => add_obstacle(chunk, obstacle),

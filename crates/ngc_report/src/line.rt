@@ -4,6 +4,7 @@ use crate::scene::{Obstacle, Scene};
 use crate::travel::AxisRoom;
 use crate::uses::ToolUse;
 use crate::warnings::Warning;
+use ngc_machine::Name;
 
 /// How far a program goes along an axis, in nanometres, and what is left there.
 #[derive(Clone, Copy)]
@@ -24,8 +25,10 @@ pub enum Line {
     Refused,
     /// How far it goes along an axis.
     Along(Along),
-    /// The use of a tool, and what it comes nearest to.
-    Use(ToolUse, Option<Nearest>),
+    /// The use of a tool.
+    Use(ToolUse),
+    /// The fixture that it comes nearest to, with its name.
+    Near(Option<Nearest>, Name),
     /// The start, which is refused.
     Start(Scene),
     /// The command that is refused, by its index from 0.

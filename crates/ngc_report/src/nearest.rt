@@ -4,12 +4,13 @@ ghost use Rattle.std.specs.Prelude.{drop};
 ghost use Rattle.ngc_collision.specs.Inside.{solid_of};
 ghost use Rattle.ngc_machine.specs.Machine.{file_of};
 ghost use Rattle.ngc_report.specs.Nearing.{is_nearer, nearer, distances, around, over_pieces};
+ghost use Rattle.ngc_report.specs.Nearing.{fixture_name, nearest_name};
 
 use crate::gaps::gap;
 use ngc_certificate_text::{Motions, Piece};
 use ngc_collision::Solid;
 use ngc_fixed_length::GridBox;
-use ngc_machine::{Machine, Tool};
+use ngc_machine::{Machine, Name, Tool};
 use std::alloc::Allocator;
 
 /// The fixture that is nearest, by its number from 0, and its distance in nanometres. It is below
@@ -82,6 +83,25 @@ fn nearest_over<A: Allocator>(
         nearest = nearest_around(machine, *tool, &piece.bounds, nearest);
     }
     nearest
+}
+
+fn fixture_name<A: Allocator>(machine: &Machine<A>, number: u32) -> Name
+    ensures { result ≡ fixture_name (file_of machine.now) number }
+{
+    match machine.fixtures.get(number as usize) {
+        Some(fixture) => fixture.name,
+        None => Name::none(),
+    }
+}
+
+/// The name of the nearest fixture, without characters where there is none.
+pub(crate) fn nearest_name<A: Allocator>(machine: &Machine<A>, nearest: &Option<Nearest>) -> Name
+    ensures { result ≡ nearest_name (file_of machine.now) nearest.now }
+{
+    match nearest {
+        Some(nearest) => fixture_name(machine, nearest.fixture),
+        None => Name::none(),
+    }
 }
 
 impl Nearest {

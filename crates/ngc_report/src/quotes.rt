@@ -38,7 +38,8 @@ fn add_escaped(chunk: &mut Chunk, byte: u8)
     }
 }
 
-fn add_string(chunk: &mut Chunk, text: &[u8])
+/// Adds a text whose quotation marks and backslashes are escaped.
+pub(crate) fn add_string(chunk: &mut Chunk, text: &[u8])
     requires { length chunk.old + 2 * length text.now ≤ CHUNK_SIZE }
     ensures text { chunk.new ≡ chunk.old ++ flat_map escaped text.now }
     ensures short { length chunk.new ≤ length chunk.old + 2 * length text.now }

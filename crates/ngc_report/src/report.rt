@@ -9,7 +9,7 @@ ghost use Rattle.ngc_machine.specs.Machine.{file_of};
 ghost use Rattle.ngc_text.specs.Collected.{HasLineRoom};
 ghost use Rattle.ngc_report.specs.Reports.{Tells, motions_in, along, alongs, use_lines, fit_lines};
 ghost use Rattle.ngc_report.specs.Reports.{start_lines, scene_lines, cause_lines, refusal_lines};
-ghost use Rattle.ngc_report.specs.Reports.{fit_line};
+ghost use Rattle.ngc_report.specs.Reports.{fit_line, near_line};
 ghost use Rattle.ngc_report.specs.Uses.{tool_uses};
 ghost use Rattle.ngc_report.specs.Forms.{spelled, report_text};
 
@@ -18,7 +18,7 @@ use crate::facts::add_fact;
 use crate::form::Form;
 use crate::line::{Along, Line};
 use crate::margins::Axis;
-use crate::nearest::Nearest;
+use crate::nearest::{Nearest, nearest_name};
 use crate::scene::Scene;
 use crate::travel::{AxisRoom, Room};
 use crate::uses::{ToolUse, ToolUses};
@@ -108,6 +108,12 @@ fn motions_up_to(one: &ToolUse, most: usize) -> usize
         .min(most)
 }
 
+fn near_line<A: Allocator>(machine: &Machine<A>, nearest: &Option<Nearest>) -> Line
+    ensures { result ≡ near_line (file_of machine.now) nearest.now }
+{
+    Line::Near(*nearest, nearest_name(machine, nearest))
+}
+
 fn tell_uses<A: Allocator, B: Allocator, W: Sink>(
     chunk: &mut Chunk,
     form: Form,
@@ -125,7 +131,8 @@ fn tell_uses<A: Allocator, B: Allocator, W: Sink>(
     while let Some(one) = uses.next_use() {
         let end = first + motions_up_to(&one, motions.len() - first);
         let nearest = Nearest::over(machine, &one.tool, motions, first, end);
-        match tell_all(chunk, form, &[Line::Use(one, nearest)], sink) {
+        let lines = [Line::Use(one), near_line(machine, &nearest)];
+        match tell_all(chunk, form, &lines, sink) {
             Ok(()) => {}
             Err(fault) => return Err(fault),
         }

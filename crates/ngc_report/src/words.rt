@@ -4,7 +4,7 @@ ghost use Rattle.ngc_text.specs.Collected.{CHUNK_SIZE, HasLineRoom};
 ghost use Rattle.ngc_collision.specs.Inside.{place_of};
 ghost use Rattle.ngc_text.specs.Millimetres.{mm_text};
 ghost use Rattle.ngc_report.specs.Words.{room_words, room_text, place_text, axis_text, side_text};
-ghost use Rattle.ngc_report.specs.Words.{tool_text, nearest_text, along_text, use_text};
+ghost use Rattle.ngc_report.specs.Words.{bracketed, called_text, nearest_text, along_text, use_text};
 ghost use Rattle.ngc_report.specs.Words.{command_text, over_text, met_text, obstacle_text};
 ghost use Rattle.ngc_report.specs.Words.{concern_text, warning_text, nose_text, fits_text};
 ghost use Rattle.ngc_report.specs.Words.{line_text};
@@ -16,7 +16,7 @@ use crate::scene::{Met, Obstacle, Scene};
 use crate::uses::ToolUse;
 use crate::warnings::{Concern, Warning};
 use ngc_collision::Place;
-use ngc_machine::Tool;
+use ngc_machine::{Name, Tool};
 use ngc_text::Chunk;
 
 /// Adds a count, of 20 digits at most.
@@ -95,42 +95,67 @@ fn side_name(side: Side) -> &'static [u8]
     }
 }
 
-#[tactic(auto, unfolding(crate::specs::Words::tool_text))]
+/// Adds a name after a number, where there is one.
+#[tactic(auto, unfolding(crate::specs::Words::bracketed))]
+fn add_bracketed(chunk: &mut Chunk, name: &Name)
+    requires { length chunk.old + 43 ≤ CHUNK_SIZE }
+    ensures text { chunk.new ≡ chunk.old ++ bracketed name.now }
+    ensures short { length chunk.new ≤ length chunk.old + 43 }
+{
+    let name = name.as_bytes();
+    if !name.is_empty() {
+        chunk.add_text(b" (");
+        chunk.add_text(name);
+        chunk.add_text(b")");
+    }
+}
+
+fn add_numbered(chunk: &mut Chunk, number: usize, name: &Name)
+    requires { length chunk.old + 63 ≤ CHUNK_SIZE }
+    ensures text { chunk.new ≡ chunk.old ++ (decimal number ++ bracketed name.now) }
+    ensures short { length chunk.new ≤ length chunk.old + 63 }
+{
+    add_count(chunk, number);
+    add_bracketed(chunk, name);
+}
+
+#[tactic(auto, unfolding(crate::specs::Words::called_text))]
 fn add_tool(chunk: &mut Chunk, tool: &Option<Tool>)
-    requires { length chunk.old + 45 ≤ CHUNK_SIZE }
-    ensures text { chunk.new ≡ chunk.old ++ tool_text tool.now }
-    ensures short { length chunk.new ≤ length chunk.old + 45 }
+    requires { length chunk.old + 68 ≤ CHUNK_SIZE }
+    ensures text { chunk.new ≡ chunk.old ++ called_text tool.now }
+    ensures short { length chunk.new ≤ length chunk.old + 68 }
 {
     match tool {
         None => chunk.add_text(b"no tool"),
         Some(tool) => {
             chunk.add_text(b"tool ");
-            chunk.add_number(tool.number);
+            add_numbered(chunk, tool.number as usize, &tool.name);
         }
     }
 }
 
-fn add_distance(chunk: &mut Chunk, nearest: &Nearest)
-    requires { length chunk.old + 120 ≤ CHUNK_SIZE }
+fn add_distance(chunk: &mut Chunk, nearest: &Nearest, name: &Name)
+    requires { HasLineRoom chunk.old }
     ensures { chunk.new ≡ chunk.old
-        ++ (codes "; nearest fixture " ++ decimal nearest.now.fixture ++ codes ", "
-        ++ mm_text nearest.now.distance ++ codes " away.\n") }
+        ++ (codes "; nearest fixture " ++ decimal nearest.now.fixture ++ bracketed name.now
+        ++ codes ", " ++ mm_text nearest.now.distance ++ codes " away.\n") }
 {
     chunk.add_text(b"; nearest fixture ");
     chunk.add_number(nearest.fixture);
+    add_bracketed(chunk, name);
     chunk.add_text(b", ");
     chunk.add_millimetres(nearest.distance);
     chunk.add_text(b" away.\n");
 }
 
 #[tactic(auto, unfolding(crate::specs::Words::nearest_text))]
-fn add_nearest(chunk: &mut Chunk, nearest: &Option<Nearest>)
-    requires { length chunk.old + 120 ≤ CHUNK_SIZE }
-    ensures { chunk.new ≡ chunk.old ++ nearest_text nearest.now }
+fn add_nearest(chunk: &mut Chunk, nearest: &Option<Nearest>, name: &Name)
+    requires { HasLineRoom chunk.old }
+    ensures { chunk.new ≡ chunk.old ++ nearest_text nearest.now name.now }
 {
     match nearest {
         None => chunk.add_text(b".\n"),
-        Some(nearest) => add_distance(chunk, nearest),
+        Some(nearest) => add_distance(chunk, nearest, name),
     }
 }
 
@@ -150,9 +175,9 @@ fn add_along(chunk: &mut Chunk, along: &Along)
     chunk.add_text(b" above.\n");
 }
 
-fn add_use(chunk: &mut Chunk, one: &ToolUse, nearest: &Option<Nearest>)
+fn add_use(chunk: &mut Chunk, one: &ToolUse)
     requires { HasLineRoom chunk.old }
-    ensures { chunk.new ≡ chunk.old ++ use_text one.now nearest.now }
+    ensures { chunk.new ≡ chunk.old ++ use_text one.now }
 {
     chunk.add_text(b"With ");
     add_tool(chunk, &one.tool);
@@ -170,7 +195,6 @@ fn add_use(chunk: &mut Chunk, one: &ToolUse, nearest: &Option<Nearest>)
     add_count(chunk, one.dwells);
     chunk.add_text(b", stops ");
     add_count(chunk, one.stops);
-    add_nearest(chunk, nearest);
 }
 
 fn add_start(chunk: &mut Chunk, scene: &Scene)
@@ -241,7 +265,7 @@ fn add_fixture(chunk: &mut Chunk, met: &Met)
     ensures { chunk.new ≡ chunk.old ++ met_text met.now }
 {
     chunk.add_text(b"It meets fixture ");
-    chunk.add_number(met.number);
+    add_numbered(chunk, met.number as usize, &met.fixture.name);
     chunk.add_text(b", from ");
     add_place(chunk, &Place::at(&met.fixture.low));
     chunk.add_text(b" to ");
@@ -330,7 +354,8 @@ pub(crate) fn add_line(chunk: &mut Chunk, line: &Line)
         Line::Fits(nose) => add_fits(chunk, nose),
         Line::Refused => chunk.add_text(b"The program does not fit.\n"),
         Line::Along(along) => add_along(chunk, along),
-        Line::Use(one, nearest) => add_use(chunk, one, nearest),
+        Line::Use(one) => add_use(chunk, one),
+        Line::Near(nearest, name) => add_nearest(chunk, nearest, name),
         Line::Start(scene) => add_start(chunk, scene),
         Line::Command(command, scene) => add_command(chunk, *command, scene),
         Line::InTheWay(obstacle) => add_obstacle(chunk, obstacle),

@@ -12,6 +12,7 @@ returns c =
       c.add_triple.ensures.text,
       c.at.ensures,
       c.add_text-2.ensures,
-      c.add_number.ensures.text,
+      c.add_name.ensures.text,
+      c.add_count.ensures.text,
       c.add_text.ensures,
     ) (simp append_assoc)

@@ -1,7 +1,7 @@
 use Rattle.std.proofs.Common.{◌+◌, ◌∷◌, [], List, drop, take, sym, subst, refl, rules, arith}
 use Rattle.ngc_machine.specs.Machine.{file_of}
 use Rattle.ngc_report.specs.Nearing.{nearest}
-use Rattle.ngc_report.specs.Reports.{use_lines}
+use Rattle.ngc_report.specs.Reports.{use_lines, near_line}
 use Rattle.ngc_report.specs.Uses.{tool_uses, uses_left}
 use Rattle.ngc_report.specs.declared.line.Line.{Line}
 use Rattle.ngc_report.specs.declared.line.Line.TheVariants as lines
@@ -28,7 +28,7 @@ returns-in-Err-clause-told g c =
     let m = file_of c.args.machine.now in
     let ms = c.args.motions.now in
     let end = c.loop-one.first + c.motions_up_to.result in
-    let one : List Line = lines.Use c.in-Some.one (nearest m c.in-Some.one.tool (drop c.loop-one.first (take end ms))) ∷ [] in
+    let one : List Line = lines.Use c.in-Some.one ∷ near_line m (nearest m c.in-Some.one.tool (drop c.loop-one.first (take end ms))) ∷ [] in
     let step =
     next_use m (uses_left c.loop-one.uses) c.in-Some.one (uses_left c.next_use.new.self) ms c.loop-one.first c.motions_up_to.result end
     c.in-Some.ensures c.loop-one.invariant.inside (rw c.len.ensures.value at c.motions_up_to.ensures) refl in
@@ -36,14 +36,14 @@ returns-in-Err-clause-told g c =
     (g.W.Sink.written c.tell_all.new.sink) c.args.chunk.now c.loop-one.chunk
     one (use_lines m (uses_left c.next_use.new.self) (drop end ms)) (use_lines m (uses_left c.loop-one.uses) (drop c.loop-one.first ms))
     (use_lines m (tool_uses c.args.commands.now) ms)
-    step c.loop-one.invariant.ahead (rw c.over-nearest.ensures at c.in-Err.ensures.told)
+    step c.loop-one.invariant.ahead (rw (c.near_line.ensures, c.over-nearest.ensures) at c.in-Err.ensures.told)
 
 pub loop-one-preserved : goal.loop-one-preserved
 loop-one-preserved g c =
     let m = file_of c.args.machine.now in
     let ms = c.args.motions.now in
     let end = c.loop-one.first + c.motions_up_to.result in
-    let one : List Line = lines.Use c.in-Some.one (nearest m c.in-Some.one.tool (drop c.loop-one.first (take end ms))) ∷ [] in
+    let one : List Line = lines.Use c.in-Some.one ∷ near_line m (nearest m c.in-Some.one.tool (drop c.loop-one.first (take end ms))) ∷ [] in
     let step =
     next_use m (uses_left c.loop-one.uses) c.in-Some.one (uses_left c.next_use.new.self) ms c.loop-one.first c.motions_up_to.result end
     c.in-Some.ensures c.loop-one.invariant.inside (rw c.len.ensures.value at c.motions_up_to.ensures) refl in
@@ -52,7 +52,7 @@ loop-one-preserved g c =
     (g.W.Sink.written c.tell_all.new.sink) c.args.chunk.now c.loop-one.chunk c.tell_all.new.chunk
     one (use_lines m (uses_left c.next_use.new.self) (drop end ms)) (use_lines m (uses_left c.loop-one.uses) (drop c.loop-one.first ms))
     (use_lines m (tool_uses c.args.commands.now) ms)
-    step c.loop-one.invariant.ahead (rw c.over-nearest.ensures at c.in-Ok.ensures.told) in
+    step c.loop-one.invariant.ahead (rw (c.near_line.ensures, c.over-nearest.ensures) at c.in-Ok.ensures.told) in
     record {
       ahead = ahead;
       inside = omega (arith, c.motions_up_to.ensures, c.len.ensures.value);

@@ -7,4 +7,4 @@ use Rattle.ngc_report.proofs.words.add_distance.Goals as goal
 pub returns : goal.returns
 returns c =
     let v0 : to_z w128 (of_z w128 c.args.nearest.now.distance) ≡ c.args.nearest.now.distance = omega (arith, ints) in
-    rw (c.add_text-3.ensures, c.add_millimetres.ensures.text, v0, c.add_text-2.ensures, c.add_number.ensures.text, c.add_text.ensures) (simp append_assoc)
+    rw (c.add_text-3.ensures, c.add_millimetres.ensures.text, v0, c.add_text-2.ensures, c.add_bracketed.ensures.text, c.add_number.ensures.text, c.add_text.ensures) (simp append_assoc)

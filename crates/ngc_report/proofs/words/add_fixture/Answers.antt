@@ -11,6 +11,6 @@ returns c =
       c.add_place.ensures.text,
       c.at.ensures,
       c.add_text-2.ensures,
-      c.add_number.ensures.text,
+      c.add_numbered.ensures.text,
       c.add_text.ensures,
     ) (simp append_assoc)

@@ -4,7 +4,6 @@ use Rattle.ngc_report.proofs.words.add_use.Goals as goal
 pub returns : goal.returns
 returns c =
     rw (
-      c.add_nearest.ensures,
       c.add_count-5.ensures.text,
       c.add_text-8.ensures,
       c.add_count-4.ensures.text,
