@@ -1,14 +1,16 @@
 -- What telling whether a program fits comes to, from what its parts come to.
 use Rattle.std.proofs.Common.{◌≡◌, ℕ, List, Option, Some, Bool, true, false, Result, Ok, Err, IfSome, ap, ap₂, inl, inr, refl, subst, sym}
 use Rattle.std.proofs.Common.{◌∙◌}
-use Rattle.std.specs.Prelude.{is_some, option_map}
+use Rattle.std.specs.Prelude.{is_some, option_map, slice_get}
+use Rattle.ngc_frames.specs.Changes.{frame_changes, start_frame}
+use Rattle.ngc_frames.specs.InForce.{frame_in_force}
 use Rattle.std.specs.Io.KnownBytes.{Appends, Keeps}
 use Rattle.ngc_text.specs.Written.{AppendsBeginning}
 use Rattle.ngc_text.specs.declared.writing.WriteFault.{WriteFault}
 use Rattle.ngc_line_reader.specs.Grammar.{Reading}
 use Rattle.ngc_line_reader.specs.ProgramText.{ProgramText, program_of, AreReadings, HaveReadings}
 use Rattle.ngc_canonical.specs.Interpreter.{setup_of}
-use Rattle.ngc_canonical.specs.Meaning.{Program as ProgramLines, has_deleted, program_said}
+use Rattle.ngc_canonical.specs.Meaning.{Program as ProgramLines, has_deleted, program_said, with_readings}
 use Rattle.ngc_canonical.specs.State.{Setup}
 use Rattle.ngc_commands.specs.declared.command.Command.{Command}
 use Rattle.ngc_canonical.specs.declared.fault.Fault.{Fault}
@@ -24,7 +26,7 @@ use Rattle.ngc_command_line.specs.declared.options.ReportOptions.{ReportOptions}
 use Rattle.ngc_machine.specs.Machine.{MachineFile}
 use Rattle.ngc_machine.specs.declared.tools.Tool.{Tool}
 use Rattle.ngc_simulator.specs.Answers.{ReportsOn, request_of}
-use Rattle.ngc_program_report.specs.JobReports.{IsFitText, IsRefusalText, IsRefusalsText, IsStartClear, OffBegins, Tells, first_text, setup_in}
+use Rattle.ngc_program_report.specs.JobReports.{IsFirstText, IsFitText, IsRefusalText, IsRefusalsText, IsStartClear, OffBegins, Tells, line_of, setup_in}
 use Rattle.ngc_simulator.specs.Jobs.{IsMadeOf, IsProgram, IsUnmade, WhyNotMade}
 use Rattle.ngc_simulator.specs.Reporting.{IsAllReport, IsFirstReport, IsFitReport, IsReportOf, IsRejectionReport, Reports}
 use Rattle.ngc_program_report.specs.Texts.{LastsFor}
@@ -90,18 +92,24 @@ module _ (setup : Setup) (bytes : List ℕ) (request : ReportRequest) (text : Pr
   refused_made s k is =
       subst (λ (m : MachineFile). IsMade m request.cuts j.off (commands_in true j) (Err (NotCleared s k))) the_job.machine is
 
-  first_report : (s : Setting) (k : ℕ) (t : List ℕ) → IsUnmade j request.cuts (NotCleared s k) → t ≡ first_text j request.form s k text.lines
+  first_report : (s : Setting) (k : ℕ) (t : List ℕ) → IsUnmade j request.cuts (NotCleared s k) → IsFirstText j request.form s k text.lines t
       → IsFirstReport setup bytes request s k t
   first_report s k t unmade is = record {
     off = j.off;
     on = commands_in true j;
     means = means_job setup bytes text j is_text have is_job;
     made = refused_made s k unmade;
-    tells = is
-        ∙ ap (λ (cs : List Command). refusal_text request.form (is_some j.on) s j.machine cs k text.lines) (at_setting s)
-        ∙ ap (λ (d : Bool). refusal_text request.form d s j.machine (commands_of s j.off (commands_in true j)) k text.lines) the_job.apart
+    frame = is.frame;
+    executed = is.executed have.readings have.are
+        ∙ ap (λ (of : Setup). frame_in_force (start_frame of) (frame_changes of (with_readings text.lines have.readings) (is_on s))
+        (line_of (slice_get (commands_in (is_on s) j) k))) same_setup
+        ∙ ap (λ (cs : List Command). frame_in_force (start_frame setup) (frame_changes setup (with_readings text.lines have.readings) (is_on s))
+        (line_of (slice_get cs k))) (at_setting s);
+    tells = is.tells
+        ∙ ap (λ (cs : List Command). refusal_text request.form (is_some j.on) s j.machine cs k text.lines is.frame) (at_setting s)
+        ∙ ap (λ (d : Bool). refusal_text request.form d s j.machine (commands_of s j.off (commands_in true j)) k text.lines is.frame) the_job.apart
         ∙ ap (λ (m : MachineFile). refusal_text request.form (has_deleted (program_said text have.readings).lines) s m
-        (commands_of s j.off (commands_in true j)) k text.lines) the_job.machine;
+        (commands_of s j.off (commands_in true j)) k text.lines is.frame) the_job.machine;
   }
 
   all_report : (s : Setting) (k : ℕ) (t : List ℕ) → IsUnmade j request.cuts (NotCleared s k) → IsRefusalsText j request.cuts s k request.form t

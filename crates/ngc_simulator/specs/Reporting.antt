@@ -1,6 +1,6 @@
 -- What telling whether a program fits comes to. Our own.
 use Rattle.std.specs.Prelude.{◌≡◌, ◌⊎◌, ℕ, List, Option}
-use Rattle.std.specs.Prelude.{Result, Ok, Err, Bool, true, false}
+use Rattle.std.specs.Prelude.{Result, Ok, Err, Bool, true, false, slice_get}
 use Rattle.std.specs.Io.KnownBytes.{Appends, Keeps}
 use Rattle.ngc_text.specs.Written.{AppendsBeginning}
 use Rattle.ngc_line_reader.specs.ProgramText.{program_of}
@@ -17,8 +17,11 @@ use Rattle.ngc_certificate.specs.Uncleared.{AreUncleared}
 use Rattle.ngc_simulator.specs.declared.fault.AnswerFault.{AnswerFault}
 use Rattle.ngc_simulator.specs.declared.fault.AnswerFault.TheVariants as answers
 use Rattle.ngc_simulator.specs.Jobs.{AreMeanings, IsMadeFor, IsProgram, IsRefusedAt}
-use Rattle.ngc_program_report.specs.JobReports.{IsStartClear, OffBegins, OnBegins}
-use Rattle.ngc_program_report.specs.Texts.{LastsFor, commands_of, fault_text, fits_text}
+use Rattle.ngc_frames.specs.Changes.{frame_changes, start_frame}
+use Rattle.ngc_frames.specs.InForce.{frame_in_force}
+use Rattle.ngc_frames.specs.declared.in_force.FrameInForce.{FrameInForce}
+use Rattle.ngc_program_report.specs.JobReports.{IsStartClear, OffBegins, OnBegins, line_of}
+use Rattle.ngc_program_report.specs.Texts.{LastsFor, commands_of, fault_text, fits_text, is_on}
 use Rattle.ngc_program_report.specs.Texts.{refusal_text, refusals_text}
 use Rattle.ngc_program_report.specs.Times.{ProgramTimeData}
 use Rattle.ngc_program_report.specs.declared.request.ReportRequest.{ReportRequest}
@@ -43,8 +46,13 @@ pub record IsFirstReport (setup : Setup) (bytes : List ℕ) (request : ReportReq
   pub on : List Command
   pub means : AreMeanings setup bytes off on
   pub made : IsMade setup.machine request.cuts off on (Err (NotCleared s k))
+  -- the frame in which command k is executed
+  pub frame : FrameInForce
+  pub executed : frame ≡ frame_in_force (start_frame setup)
+      (frame_changes setup means.program.lines (is_on s))
+      (line_of (slice_get (commands_of s off on) k))
   pub tells : text ≡ refusal_text request.form (has_deleted means.program.lines) s setup.machine
-      (commands_of s off on) k means.is_program.text.lines
+      (commands_of s off on) k means.is_program.text.lines frame
 
 -- the report of all commands that aren't cleared, at either setting: at least command k of that
 -- setting, or the start point
