@@ -16,7 +16,7 @@ use Rattle.ngc_adapt.specs.declared.rule.Cycle.TheVariants as cycles
 use Rattle.ngc_adapt.specs.declared.options.Options.{Options}
 use Rattle.ngc_adapt.specs.declared.facts.Facts.{Facts}
 use Rattle.ngc_adapt.specs.declared.facts.Levels.TheVariants as levels
-use Rattle.ngc_adapt.specs.declared.refusal.Refusal.TheVariants as refusals
+use Rattle.ngc_adapt.specs.declared.refusal.WordRefusal.TheVariants as refusals
 use Rattle.ngc_adapt.specs.Facts.{no_facts, facts_of}
 use Rattle.ngc_adapt.specs.Rules.{start_modes}
 use Rattle.ngc_adapt.specs.Numbers.{number_of, code_of, is_zero, is_long}

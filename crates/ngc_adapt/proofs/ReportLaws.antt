@@ -3,7 +3,7 @@ use Rattle.std.proofs.Common.{◌≡◌, ℕ, suc, ◌+◌, ◌<◌, drop, get_o
 use Rattle.std.specs.Prelude.{map}
 use Rattle.std.specs.List.{filter_map, flat_map}
 use Rattle.std.proofs.Math.Seq.{drop-cons}
-use Rattle.ngc_adapt.specs.declared.refusal.Refusal.{Refusal}
+use Rattle.ngc_adapt.specs.declared.refusal.WordRefusal.{WordRefusal}
 use Rattle.ngc_adapt.specs.declared.item.Word.{Word}
 use Rattle.ngc_adapt.specs.declared.rule.Rule.{Rule}
 use Rattle.ngc_adapt.specs.declared.rule.Modes.{Modes}
@@ -34,10 +34,10 @@ pub items_end : (number written : ℕ) (unnamed : Bool) (modes : Modes) (words :
 items_end number written unnamed modes words rest h = ap (items_report number written unnamed modes words) (nothing rest h)
 
 -- the refusal at i, and those after it
-pub refusals_step : (f : Refusal → List ℕ) (refusals : List Refusal) (i : ℕ) (r : Refusal) → i < length refusals → r ≡ get_or refusals i r
+pub refusals_step : (f : WordRefusal → List ℕ) (refusals : List WordRefusal) (i : ℕ) (r : WordRefusal) → i < length refusals → r ≡ get_or refusals i r
     → flat_map f (drop i refusals) ≡ f r ++ flat_map f (drop (i + 1) refusals)
 refusals_step f refusals i r h e =
-    rw add-one (ap (flat_map f) (drop-cons refusals i r h) ∙ ap (λ (v : Refusal). f v ++ flat_map f (drop (suc i) refusals)) (sym e))
+    rw add-one (ap (flat_map f) (drop-cons refusals i r h) ∙ ap (λ (v : WordRefusal). f v ++ flat_map f (drop (suc i) refusals)) (sym e))
 
 -- the count of the rule at i, and those of the rules after it
 pub counts_step : (f : Rule → List ℕ) (rules : List Rule) (i : ℕ) (r : Rule) → i < length rules → r ≡ get_or rules i r

@@ -9,7 +9,7 @@ use Rattle.ngc_adapt.specs.declared.item.Word.{Word}
 use Rattle.ngc_adapt.specs.declared.rule.Rule.{Rule}
 use Rattle.ngc_adapt.specs.declared.rule.Rule.TheVariants as rules
 use Rattle.ngc_adapt.specs.declared.rule.Modes.{Modes}
-use Rattle.ngc_adapt.specs.declared.refusal.Refusal.{Refusal}
+use Rattle.ngc_adapt.specs.declared.refusal.WordRefusal.{WordRefusal}
 use Rattle.ngc_adapt.specs.Items.{items_of, item_of, word_in, words_of, may_be_deleted}
 use Rattle.ngc_adapt.specs.Rules.{rule_for, front, replacement, is_axis, is_first_traverse}
 use Rattle.ngc_adapt.specs.Rules.{modes_after, modes_either, lost_modes, is_m_code}
@@ -111,5 +111,5 @@ unfoldable pub is_end : Modes → List ℕ → Bool
 is_end modes line = has_end modes (words_of line) && not (may_be_deleted line)
 
 -- what stands in the way on a line
-unfoldable pub refusals_of : Modes → List ℕ → List Refusal
+unfoldable pub refusals_of : Modes → List ℕ → List WordRefusal
 refusals_of modes line = refusals_by modes line (words_of line)

@@ -12,14 +12,14 @@ use Rattle.ngc_adapt.specs.declared.number.Number.{Number}
 use Rattle.ngc_adapt.specs.declared.rule.Modes.{Modes}
 use Rattle.ngc_adapt.specs.declared.rule.Motion.{Motion}
 use Rattle.ngc_adapt.specs.declared.rule.Motion.TheVariants as motions
-use Rattle.ngc_adapt.specs.declared.refusal.Refusal.{Refusal}
-use Rattle.ngc_adapt.specs.declared.refusal.Refusal.TheVariants as refusals
+use Rattle.ngc_adapt.specs.declared.refusal.WordRefusal.{WordRefusal}
+use Rattle.ngc_adapt.specs.declared.refusal.WordRefusal.TheVariants as refusals
 use Rattle.ngc_adapt.specs.Numbers.{has_byte}
 use Rattle.ngc_adapt.specs.Rules.{is_one_of, is_own, is_known, is_fanuc, has, has_unknown, rule_of}
 use Rattle.ngc_adapt.specs.Rules.{motion_after}
 use Rattle.ngc_adapt.specs.Rules.{sets_origin, has_offset_number}
 
-abbrev pub refuse : Bool → Refusal → Option Refusal
+abbrev pub refuse : Bool → WordRefusal → Option WordRefusal
 refuse holds refusal = if holds then Some refusal else None
 
 -- a code that our language doesn't have
@@ -28,7 +28,7 @@ is_foreign modes code =
     is_one_of codes.IDLE code || is_own modes.dialect code || not (is_known modes.dialect code)
 
 -- a code of a family that our language doesn't have
-abbrev pub family_refusal : Option ℕ → Option Refusal
+abbrev pub family_refusal : Option ℕ → Option WordRefusal
 family_refusal code =
     if is_one_of codes.COMPENSATION code then Some refusals.CutterCompensation else (
     if is_one_of codes.PROBING code then Some refusals.Probing else (
@@ -43,7 +43,7 @@ family_refusal code =
     if is_one_of codes.MACRO_CALLS code then Some refusals.Subprogram else None))))))))))
 
 -- any other code: G10 that sets no origin, G43 without H, or one that isn't known
-abbrev pub own_refusal : Modes → List Word → Option ℕ → Option Refusal
+abbrev pub own_refusal : Modes → List Word → Option ℕ → Option WordRefusal
 own_refusal modes words code =
     if is_one_of codes.SETTING code
     then refuse (not (sets_origin modes words)) refusals.ToolTable else (
@@ -51,10 +51,10 @@ own_refusal modes words code =
     then refuse (not (has_offset_number words)) refusals.ToolOffset
     else refuse (is_foreign modes code) refusals.UnknownCode)
 
-abbrev pub g_refusal : Modes → List Word → Option ℕ → Option Refusal
+abbrev pub g_refusal : Modes → List Word → Option ℕ → Option WordRefusal
 g_refusal modes words code = option_or (family_refusal code) (own_refusal modes words code)
 
-abbrev pub m_refusal : Option ℕ → Option Refusal
+abbrev pub m_refusal : Option ℕ → Option WordRefusal
 m_refusal code =
     if is_one_of codes.CALLS code || is_one_of codes.SUBPROGRAM_END code
     then Some refusals.Subprogram
@@ -67,7 +67,7 @@ may_be_cycle motions.Unknown = true
 may_be_cycle _ = false
 
 -- P of fanuc whose unit isn't known: it is computed, or the cycle that takes it isn't known
-abbrev pub time_refusal : Modes → List Word → Number → Option Refusal
+abbrev pub time_refusal : Modes → List Word → Number → Option WordRefusal
 time_refusal modes words number =
     refuse
     (is_fanuc modes.dialect && not number.has_point && not (has_unknown modes words)
@@ -76,13 +76,13 @@ time_refusal modes words number =
     refusals.UnknownTime
 
 -- P0 of G10 L2 where it isn't known which coordinate system it names
-abbrev pub p_refusal : Modes → List Word → Number → Option Refusal
+abbrev pub p_refusal : Modes → List Word → Number → Option WordRefusal
 p_refusal modes words number =
     if number.is_zero && sets_origin modes words then Some refusals.UnknownSystem
     else time_refusal modes words number
 
 -- what stands in the way of a word that no rule changes
-abbrev pub letter_refusal : Modes → List Word → Letter → Number → Option Refusal
+abbrev pub letter_refusal : Modes → List Word → Letter → Number → Option WordRefusal
 letter_refusal modes words letters.A number = Some refusals.RotaryAxis
 letter_refusal modes words letters.B number = Some refusals.RotaryAxis
 letter_refusal modes words letters.C number = Some refusals.RotaryAxis
@@ -97,27 +97,27 @@ letter_refusal modes words letters.P number = p_refusal modes words number
 letter_refusal modes words _ number = None
 
 -- what stands in the way of a word: its letter or code, or a function in its value
-abbrev pub word_refusal : Modes → List Word → Word → Option Refusal
+abbrev pub word_refusal : Modes → List Word → Word → Option WordRefusal
 word_refusal modes words w =
     option_or (letter_refusal modes words w.letter w.number)
     (refuse w.number.has_name refusals.Function)
 
 -- what stands in the way of a word, unless a rule changes it by its letter
-unfoldable pub refusal_for : Modes → List Word → Word → Option Refusal
+unfoldable pub refusal_for : Modes → List Word → Word → Option WordRefusal
 refusal_for modes words w =
     if is_some (rule_of modes words w.letter w.number) then None else word_refusal modes words w
 
 -- a line that can't be read; a name in angle brackets is a parameter's
-abbrev pub unread_refusal : List ℕ → Refusal
+abbrev pub unread_refusal : List ℕ → WordRefusal
 unread_refusal line = if has_byte 60 line then refusals.NamedParameter else refusals.Unread
 
 -- what stands in the way on a line
-abbrev pub refusals_by : Modes → List ℕ → Option (List Word) → List Refusal
+abbrev pub refusals_by : Modes → List ℕ → Option (List Word) → List WordRefusal
 refusals_by modes line None = unread_refusal line ∷ []
 refusals_by modes line (Some words) = filter_map (refusal_for modes words) words
 
 -- the name under which it is reported
-abbrev pub refusal_name : Refusal → List ℕ
+abbrev pub refusal_name : WordRefusal → List ℕ
 refusal_name refusals.CutterCompensation = codes_of "cutter_compensation"
 refusal_name refusals.RotaryAxis = codes_of "rotary_axis"
 refusal_name refusals.MoreAxes = codes_of "more_axes"
@@ -143,7 +143,7 @@ refusal_name refusals.ToolOffset = codes_of "tool_offset"
 refusal_name refusals.Unread = codes_of "unread"
 
 -- what it is, and the way out
-abbrev pub sentence : Refusal → List ℕ
+abbrev pub sentence : WordRefusal → List ℕ
 sentence refusals.CutterCompensation =
     codes_of "let the CAM program compensate for the cutter: in computer"
 sentence refusals.RotaryAxis = codes_of "there are no rotary axes: post for three axes"

@@ -4,7 +4,7 @@ use Rattle.std.specs.Prelude.{length, reverse}
 use Rattle.std.specs.Prelude.{take, drop, codes, decimal, count_by, Option, Some, None}
 use Rattle.std.specs.Prelude.{if◌then◌else◌}
 use Rattle.std.specs.List.{prefix_len, flat_map}
-use Rattle.ngc_adapt.specs.declared.refusal.Refusal.{Refusal}
+use Rattle.ngc_adapt.specs.declared.refusal.WordRefusal.{WordRefusal}
 use Rattle.ngc_adapt.specs.declared.item.Word.{Word}
 use Rattle.ngc_adapt.specs.declared.rule.Rule.{Rule}
 use Rattle.ngc_adapt.specs.declared.rule.Rule.TheVariants as rules
@@ -111,7 +111,7 @@ items_report number written unnamed modes words (item ∷ rest) =
     ++ items_report number written (unnamed && not (is_axis_item item)) modes words rest)
 
 -- line N: NAME left: what it is, and the way out
-abbrev pub refusal_text : ℕ → Refusal → List ℕ
+abbrev pub refusal_text : ℕ → WordRefusal → List ℕ
 refusal_text number refusal =
     codes "line " ++ decimal number ++ codes ": " ++ refusal_name refusal ++ codes " left: "
     ++ sentence refusal ++ codes "\n"

@@ -11,7 +11,7 @@ use crate::line::{
     MOST_REFUSALS, MOST_RULES, add_item, add_traverse, ends_program, modes_after, refusals_among,
     rule_and_axis, rules_among,
 };
-use crate::refusal::{Refusal, unread_refusal};
+use crate::refusal::{WordRefusal, unread_refusal};
 use crate::report::{add_item_change, add_refusal, add_refusals, add_traverse_change};
 use crate::rule::{Modes, Rule};
 use arrayvec::ArrayVec;
@@ -23,7 +23,7 @@ pub struct AdaptedLine {
     /// The rules that changed it: the first traverse, and those of its words from left to right.
     pub rules: ArrayVec<Rule, MOST_RULES>,
     /// What stands in the way: that the line can't be read, or its words from left to right.
-    pub refusals: ArrayVec<Refusal, MOST_REFUSALS>,
+    pub refusals: ArrayVec<WordRefusal, MOST_REFUSALS>,
     /// What the line leaves in force.
     pub modes: Modes,
     /// Whether the line ends the program, and block delete can't take it out.
@@ -31,7 +31,7 @@ pub struct AdaptedLine {
 }
 
 // The only thing that stands in the way on a line that can't be read.
-fn one_refusal(refusal: Refusal) -> ArrayVec<Refusal, MOST_REFUSALS>
+fn one_refusal(refusal: WordRefusal) -> ArrayVec<WordRefusal, MOST_REFUSALS>
     ensures { result.items ≡ refusal ∷ [] }
 {
     let mut refusals = ArrayVec::new();

@@ -34,7 +34,7 @@ pub use number::{
 };
 pub use options::{MOST_DROPPED, Options};
 pub use plain::{MOST_PLAIN_RULES, add_plain_line, is_idle, is_plain, plain_rules};
-pub use refusal::Refusal;
+pub use refusal::WordRefusal;
 pub use report::{add_counts, add_idle_report, add_plain_report};
 pub use rule::{Cycle, Modes, Motion, Plane, Rule, is_one_of};
 pub use source::{body_length, split_line};

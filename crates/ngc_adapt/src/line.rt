@@ -8,7 +8,7 @@ ghost use Rattle.ngc_adapt.specs.Rules.{modes_after, modes_either};
 
 use crate::code;
 use crate::item::{Item, MOST_WORDS, Word, item_of, may_be_deleted};
-use crate::refusal::Refusal;
+use crate::refusal::WordRefusal;
 use crate::replacement::{add_front, add_replacement};
 use crate::rule::{Modes, Rule, is_axis, is_m_code};
 use arrayvec::ArrayVec;
@@ -57,7 +57,7 @@ pub(crate) fn rules_among(modes: &Modes, words: &[Word]) -> ArrayVec<Rule, MOST_
 }
 
 // What stands in the way of these words of a line.
-pub(crate) fn refusals_among(modes: &Modes, words: &[Word]) -> ArrayVec<Refusal, MOST_REFUSALS>
+pub(crate) fn refusals_among(modes: &Modes, words: &[Word]) -> ArrayVec<WordRefusal, MOST_REFUSALS>
     requires { length words.now ≤ 64 }
     ensures { result.items ≡ filter_map (refusal_for modes.now words.now) words.now }
 {

@@ -1,6 +1,6 @@
 ghost use Rattle.std.specs.Prelude.{◌≡◌};
 ghost use Rattle.ngc_adapt.specs.Refusals as spec;
-ghost use Rattle.ngc_adapt.specs.declared.refusal.Refusal.TheVariants as refusals;
+ghost use Rattle.ngc_adapt.specs.declared.refusal.WordRefusal.TheVariants as refusals;
 
 use crate::code;
 use crate::item::{Letter, Word};
@@ -9,7 +9,7 @@ use crate::rule::{Modes, Motion, has, has_offset_number, is_known, is_one_of, is
 
 /// What no rule rewrites.
 #[derive(Clone, Copy, PartialEq, Eq)]
-pub enum Refusal {
+pub enum WordRefusal {
     /// G41 or G42.
     CutterCompensation,
     /// A, B or C.
@@ -58,15 +58,15 @@ pub enum Refusal {
     Unread,
 }
 
-impl Default for Refusal {
+impl Default for WordRefusal {
     ghost is_default = { λ r. r ≡ refusals.Unread };
 
-    fn default() -> Refusal {
-        Refusal::Unread
+    fn default() -> WordRefusal {
+        WordRefusal::Unread
     }
 }
 
-impl Refusal {
+impl WordRefusal {
     ghost use Rattle.ngc_adapt.specs.Refusals.{refusal_name, sentence};
 
     /// Returns the name under which it is reported.
@@ -74,29 +74,29 @@ impl Refusal {
         ensures { result.now ≡ refusal_name self }
     {
         match self {
-            Refusal::CutterCompensation => "cutter_compensation",
-            Refusal::RotaryAxis => "rotary_axis",
-            Refusal::MoreAxes => "more_axes",
-            Refusal::Probing => "probing",
-            Refusal::Tapping => "tapping",
-            Refusal::Thread => "thread",
-            Refusal::BackBoring => "back_boring",
-            Refusal::ToolTable => "tool_table",
-            Refusal::Rotation => "rotation",
-            Refusal::Scaling => "scaling",
-            Refusal::Polar => "polar",
-            Refusal::MoreSystems => "more_systems",
-            Refusal::FeedPerTurn => "feed_per_turn",
-            Refusal::Subprogram => "subprogram",
-            Refusal::ProgramWord => "program_word",
-            Refusal::NamedParameter => "named_parameter",
-            Refusal::Function => "function",
-            Refusal::UnknownCode => "unknown_code",
-            Refusal::UnknownMachineCode => "unknown_machine_code",
-            Refusal::UnknownTime => "unknown_time",
-            Refusal::UnknownSystem => "unknown_system",
-            Refusal::ToolOffset => "tool_offset",
-            Refusal::Unread => "unread",
+            WordRefusal::CutterCompensation => "cutter_compensation",
+            WordRefusal::RotaryAxis => "rotary_axis",
+            WordRefusal::MoreAxes => "more_axes",
+            WordRefusal::Probing => "probing",
+            WordRefusal::Tapping => "tapping",
+            WordRefusal::Thread => "thread",
+            WordRefusal::BackBoring => "back_boring",
+            WordRefusal::ToolTable => "tool_table",
+            WordRefusal::Rotation => "rotation",
+            WordRefusal::Scaling => "scaling",
+            WordRefusal::Polar => "polar",
+            WordRefusal::MoreSystems => "more_systems",
+            WordRefusal::FeedPerTurn => "feed_per_turn",
+            WordRefusal::Subprogram => "subprogram",
+            WordRefusal::ProgramWord => "program_word",
+            WordRefusal::NamedParameter => "named_parameter",
+            WordRefusal::Function => "function",
+            WordRefusal::UnknownCode => "unknown_code",
+            WordRefusal::UnknownMachineCode => "unknown_machine_code",
+            WordRefusal::UnknownTime => "unknown_time",
+            WordRefusal::UnknownSystem => "unknown_system",
+            WordRefusal::ToolOffset => "tool_offset",
+            WordRefusal::Unread => "unread",
         }
     }
 
@@ -105,110 +105,111 @@ impl Refusal {
         ensures { result.now ≡ sentence self }
     {
         match self {
-            Refusal::CutterCompensation => {
+            WordRefusal::CutterCompensation => {
                 "let the CAM program compensate for the cutter: in computer"
             }
-            Refusal::RotaryAxis => "there are no rotary axes: post for three axes",
-            Refusal::MoreAxes => "there are no E, U, V and W axes: post for X, Y and Z",
-            Refusal::Probing => "there is no probe: set the origin before the program",
-            Refusal::Tapping => "there is no tapping: drill here, and tap by hand",
-            Refusal::Thread => "there are no threads: mill them by arcs",
-            Refusal::BackBoring => "there is no G87 and G88: write the moves of the cycle out",
-            Refusal::ToolTable => {
+            WordRefusal::RotaryAxis => "there are no rotary axes: post for three axes",
+            WordRefusal::MoreAxes => "there are no E, U, V and W axes: post for X, Y and Z",
+            WordRefusal::Probing => "there is no probe: set the origin before the program",
+            WordRefusal::Tapping => "there is no tapping: drill here, and tap by hand",
+            WordRefusal::Thread => "there are no threads: mill them by arcs",
+            WordRefusal::BackBoring => "there is no G87 and G88: write the moves of the cycle out",
+            WordRefusal::ToolTable => {
                 "only G10 L2 is known: set tools and origins in the tool table and the machine file"
             }
-            Refusal::Rotation => "nothing is rotated: rotate the part in the CAM program",
-            Refusal::Scaling => "nothing is scaled: scale the part in the CAM program",
-            Refusal::Polar => "there are no polar coordinates: post X and Y",
-            Refusal::MoreSystems => "there are nine coordinate systems: use G54 to G59.3",
-            Refusal::FeedPerTurn => {
+            WordRefusal::Rotation => "nothing is rotated: rotate the part in the CAM program",
+            WordRefusal::Scaling => "nothing is scaled: scale the part in the CAM program",
+            WordRefusal::Polar => "there are no polar coordinates: post X and Y",
+            WordRefusal::MoreSystems => "there are nine coordinate systems: use G54 to G59.3",
+            WordRefusal::FeedPerTurn => {
                 "F is a feed a minute and S is turns a minute: post with G94 and G97"
             }
-            Refusal::Subprogram => {
+            WordRefusal::Subprogram => {
                 "there are no subprograms: post without them, or write the lines out"
             }
-            Refusal::ProgramWord => {
+            WordRefusal::ProgramWord => {
                 "there are no O words: write loops and calls out, or leave the program's name out"
             }
-            Refusal::NamedParameter => "parameters have numbers alone: number this one",
-            Refusal::Function => "there are no functions: write the value",
-            Refusal::UnknownCode => "this code isn't known: leave it out if the part needs none",
-            Refusal::UnknownMachineCode => {
+            WordRefusal::NamedParameter => "parameters have numbers alone: number this one",
+            WordRefusal::Function => "there are no functions: write the value",
+            WordRefusal::UnknownCode =>
+                "this code isn't known: leave it out if the part needs none",
+            WordRefusal::UnknownMachineCode => {
                 "this M code isn't known: name it after --drop if the machine can do without"
             }
-            Refusal::UnknownTime => {
+            WordRefusal::UnknownTime => {
                 "it isn't known whether P is in milliseconds: write it with a point, in seconds"
             }
-            Refusal::UnknownSystem => {
+            WordRefusal::UnknownSystem => {
                 "it isn't known which coordinate system P0 names: write its number after P"
             }
-            Refusal::ToolOffset => {
+            WordRefusal::ToolOffset => {
                 "it isn't known which tool is mounted: write its number after H"
             }
-            Refusal::Unread => "this line can't be read: correct it or leave it out",
+            WordRefusal::Unread => "this line can't be read: correct it or leave it out",
         }
     }
 }
 
-fn refuse(holds: bool, refusal: Refusal) -> Option<Refusal>
+fn refuse(holds: bool, refusal: WordRefusal) -> Option<WordRefusal>
     ensures { result ≡ spec.refuse holds refusal }
 {
     if holds { Some(refusal) } else { None }
 }
 
 // What stands in the way of an M code.
-fn m_refusal(code: Option<u16>) -> Option<Refusal>
+fn m_refusal(code: Option<u16>) -> Option<WordRefusal>
     ensures { result ≡ spec.m_refusal code }
 {
     if is_one_of(&code::CALLS, code) || is_one_of(&code::SUBPROGRAM_END, code) {
-        Some(Refusal::Subprogram)
+        Some(WordRefusal::Subprogram)
     } else {
         refuse(
             !is_one_of(&code::MACHINE_CODES, code),
-            Refusal::UnknownMachineCode,
+            WordRefusal::UnknownMachineCode,
         )
     }
 }
 
 // What stands in the way of a code that a whole family of codes shares.
-fn family_refusal(code: Option<u16>) -> Option<Refusal>
+fn family_refusal(code: Option<u16>) -> Option<WordRefusal>
     ensures { result ≡ spec.family_refusal code }
 {
     if is_one_of(&code::COMPENSATION, code) {
-        Some(Refusal::CutterCompensation)
+        Some(WordRefusal::CutterCompensation)
     } else if is_one_of(&code::PROBING, code) {
-        Some(Refusal::Probing)
+        Some(WordRefusal::Probing)
     } else if is_one_of(&code::TAPPING, code) {
-        Some(Refusal::Tapping)
+        Some(WordRefusal::Tapping)
     } else if is_one_of(&code::THREADS, code) {
-        Some(Refusal::Thread)
+        Some(WordRefusal::Thread)
     } else if is_one_of(&code::BACK_BORING, code) {
-        Some(Refusal::BackBoring)
+        Some(WordRefusal::BackBoring)
     } else if is_one_of(&code::ROTATION, code) {
-        Some(Refusal::Rotation)
+        Some(WordRefusal::Rotation)
     } else if is_one_of(&code::SCALING, code) {
-        Some(Refusal::Scaling)
+        Some(WordRefusal::Scaling)
     } else if is_one_of(&code::POLAR, code) {
-        Some(Refusal::Polar)
+        Some(WordRefusal::Polar)
     } else if is_one_of(&code::MORE_SYSTEMS, code) {
-        Some(Refusal::MoreSystems)
+        Some(WordRefusal::MoreSystems)
     } else if is_one_of(&code::FEED_PER_TURN, code) {
-        Some(Refusal::FeedPerTurn)
+        Some(WordRefusal::FeedPerTurn)
     } else if is_one_of(&code::MACRO_CALLS, code) {
-        Some(Refusal::Subprogram)
+        Some(WordRefusal::Subprogram)
     } else {
         None
     }
 }
 
 /// What stands in the way on a line that can't be read.
-pub(crate) fn unread_refusal(line: &[u8]) -> Refusal
+pub(crate) fn unread_refusal(line: &[u8]) -> WordRefusal
     ensures { result ≡ spec.unread_refusal line.now }
 {
     if has_byte(b'<', line) {
-        Refusal::NamedParameter
+        WordRefusal::NamedParameter
     } else {
-        Refusal::Unread
+        WordRefusal::Unread
     }
 }
 
@@ -235,27 +236,27 @@ impl Modes {
     }
 
     // What stands in the way of a code of no such family.
-    fn own_refusal(&self, words: &[Word], code: Option<u16>) -> Option<Refusal>
+    fn own_refusal(&self, words: &[Word], code: Option<u16>) -> Option<WordRefusal>
         ensures { result ≡ own_refusal self.now words.now code }
     {
         if is_one_of(&code::SETTING, code) {
-            refuse(!self.sets_origin(words), Refusal::ToolTable)
+            refuse(!self.sets_origin(words), WordRefusal::ToolTable)
         } else if is_one_of(&code::TOOL_LENGTH, code) {
-            refuse(!has_offset_number(words), Refusal::ToolOffset)
+            refuse(!has_offset_number(words), WordRefusal::ToolOffset)
         } else {
-            refuse(self.is_foreign(code), Refusal::UnknownCode)
+            refuse(self.is_foreign(code), WordRefusal::UnknownCode)
         }
     }
 
     // What stands in the way of a code.
-    fn g_refusal(&self, words: &[Word], code: Option<u16>) -> Option<Refusal>
+    fn g_refusal(&self, words: &[Word], code: Option<u16>) -> Option<WordRefusal>
         ensures { result ≡ g_refusal self.now words.now code }
     {
         family_refusal(code).or(self.own_refusal(words, code))
     }
 
     // What stands in the way of a P whose unit isn't known.
-    fn time_refusal(&self, words: &[Word], number: &Number) -> Option<Refusal>
+    fn time_refusal(&self, words: &[Word], number: &Number) -> Option<WordRefusal>
         ensures { result ≡ time_refusal self.now words.now number.now }
     {
         refuse(
@@ -264,29 +265,29 @@ impl Modes {
                 && !self.has_unknown(words)
                 && (has(&code::DWELL, words) || self.motion.after(words).may_be_cycle())
                 && !has(&code::SETTING, words),
-            Refusal::UnknownTime,
+            WordRefusal::UnknownTime,
         )
     }
 
     // What stands in the way of P.
-    fn p_refusal(&self, words: &[Word], number: &Number) -> Option<Refusal>
+    fn p_refusal(&self, words: &[Word], number: &Number) -> Option<WordRefusal>
         ensures { result ≡ p_refusal self.now words.now number.now }
     {
         if number.is_zero && self.sets_origin(words) {
-            Some(Refusal::UnknownSystem)
+            Some(WordRefusal::UnknownSystem)
         } else {
             self.time_refusal(words, number)
         }
     }
 
     // What stands in the way of a word by its letter.
-    fn letter_refusal(&self, words: &[Word], letter: Letter, number: &Number) -> Option<Refusal>
+    fn letter_refusal(&self, words: &[Word], letter: Letter, number: &Number) -> Option<WordRefusal>
         ensures { result ≡ letter_refusal self.now words.now letter number.now }
     {
         match letter {
-            Letter::A | Letter::B | Letter::C => Some(Refusal::RotaryAxis),
-            Letter::E | Letter::U | Letter::V | Letter::W => Some(Refusal::MoreAxes),
-            Letter::O => Some(Refusal::ProgramWord),
+            Letter::A | Letter::B | Letter::C => Some(WordRefusal::RotaryAxis),
+            Letter::E | Letter::U | Letter::V | Letter::W => Some(WordRefusal::MoreAxes),
+            Letter::O => Some(WordRefusal::ProgramWord),
             Letter::G => self.g_refusal(words, number.code),
             Letter::M => m_refusal(number.code),
             Letter::P => self.p_refusal(words, number),
@@ -295,16 +296,16 @@ impl Modes {
     }
 
     // What stands in the way of a word that no rule changes.
-    fn word_refusal(&self, words: &[Word], word: &Word) -> Option<Refusal>
+    fn word_refusal(&self, words: &[Word], word: &Word) -> Option<WordRefusal>
         ensures { result ≡ word_refusal self.now words.now word.now }
     {
         self.letter_refusal(words, word.letter, &word.number)
-            .or(refuse(word.number.has_name, Refusal::Function))
+            .or(refuse(word.number.has_name, WordRefusal::Function))
     }
 
     /// Returns what stands in the way of a word of a line, unless a rule changes it by its letter.
     #[tactic(auto, unfolding(crate::specs::Refusals::refusal_for))]
-    pub fn refusal_for(&self, words: &[Word], word: &Word) -> Option<Refusal>
+    pub fn refusal_for(&self, words: &[Word], word: &Word) -> Option<WordRefusal>
         ensures { result ≡ refusal_for self.now words.now word.now }
     {
         match self.rule_of(words, word) {

@@ -15,7 +15,7 @@ use crate::number::{is_blank, without_first};
 use crate::plain::{
     add_without_level, after_comment, has_idle_level, has_long_comment, slash_and_level, slash_of,
 };
-use crate::refusal::Refusal;
+use crate::refusal::WordRefusal;
 use crate::replacement::{add_front, add_replacement};
 use crate::rule::{Modes, Rule};
 use itoa::Buffer;
@@ -381,7 +381,7 @@ pub(crate) fn add_traverse_change<A: Allocator>(
 
 pub(crate) fn add_refusal<A: Allocator>(
     number: usize,
-    refusal: Refusal,
+    refusal: WordRefusal,
     report: &mut Vec<u8, A>,
 ) -> Result<(), AllocError>
     ensures { IfOk result
@@ -402,7 +402,7 @@ pub(crate) fn add_refusal<A: Allocator>(
 #[tactic(auto, using(crate::proofs::ReportLaws::refusals_step))]
 pub(crate) fn add_refusals<A: Allocator>(
     number: usize,
-    refusals: &[Refusal],
+    refusals: &[WordRefusal],
     report: &mut Vec<u8, A>,
 ) -> Result<(), AllocError>
     ensures { IfOk result (λ _. report.new.items ≡ report.old.items

@@ -17,7 +17,7 @@ use Rattle.ngc_adapt_moves.specs.declared.places.ArcDistance.TheVariants as arcs
 use Rattle.ngc_adapt_moves.specs.declared.places.Homes.{Homes}
 use Rattle.ngc_adapt_moves.specs.declared.places.Places.{Places}
 use Rattle.ngc_adapt_moves.specs.declared.rule.Rule.TheVariants as rules
-use Rattle.ngc_adapt_moves.specs.declared.rule.Refusal.TheVariants as refusals
+use Rattle.ngc_adapt_moves.specs.declared.rule.MoveRefusal.TheVariants as refusals
 use Rattle.ngc_adapt_moves.specs.Axes.{nowhere}
 use Rattle.ngc_adapt_moves.specs.Values.{value_of}
 use Rattle.ngc_adapt_moves.specs.Texts.{value_text}

@@ -18,7 +18,7 @@ use Rattle.ngc_adapt_moves.specs.declared.places.Motion.TheVariants as motions
 use Rattle.ngc_adapt_moves.specs.declared.places.ArcDistance.{ArcDistance}
 use Rattle.ngc_adapt_moves.specs.declared.places.ArcDistance.TheVariants as arcs
 use Rattle.ngc_adapt_moves.specs.declared.places.Places.{Places}
-use Rattle.ngc_adapt_moves.specs.declared.rule.Refusal.TheVariants as refusals
+use Rattle.ngc_adapt_moves.specs.declared.rule.MoveRefusal.TheVariants as refusals
 use Rattle.ngc_adapt_moves.specs.declared.word.Word.{Word}
 use Rattle.ngc_adapt_moves.specs.declared.code.TheConstants as codes
 use Rattle.ngc_adapt_moves.specs.Axes.{along}

@@ -14,7 +14,7 @@ use Rattle.ngc_adapt_moves.specs.declared.homing.Homing.{Homing}
 use Rattle.ngc_adapt_moves.specs.declared.homing.Homing.TheVariants as homings
 use Rattle.ngc_adapt_moves.specs.declared.places.Homes.{Homes}
 use Rattle.ngc_adapt_moves.specs.declared.places.Places.{Places}
-use Rattle.ngc_adapt_moves.specs.declared.rule.Refusal.TheVariants as refusals
+use Rattle.ngc_adapt_moves.specs.declared.rule.MoveRefusal.TheVariants as refusals
 use Rattle.ngc_adapt_moves.specs.declared.word.Word.{Word}
 use Rattle.ngc_adapt_moves.specs.declared.code.TheConstants as codes
 use Rattle.ngc_adapt_moves.specs.Axes.{along}

@@ -11,8 +11,8 @@ use Rattle.ngc_adapt_moves.specs.declared.radii.Balance.{Balance}
 use Rattle.ngc_adapt_moves.specs.declared.radii.Balance.TheVariants as balances
 use Rattle.ngc_adapt_moves.specs.declared.rule.Rule.{Rule}
 use Rattle.ngc_adapt_moves.specs.declared.rule.Rule.TheVariants as rules
-use Rattle.ngc_adapt_moves.specs.declared.rule.Refusal.{Refusal}
-use Rattle.ngc_adapt_moves.specs.declared.rule.Refusal.TheVariants as refusals
+use Rattle.ngc_adapt_moves.specs.declared.rule.MoveRefusal.{MoveRefusal}
+use Rattle.ngc_adapt_moves.specs.declared.rule.MoveRefusal.TheVariants as refusals
 use Rattle.ngc_adapt_moves.specs.declared.word.Word.{Word}
 use Rattle.ngc_adapt_moves.specs.Lines.{rewritten}
 use Rattle.ngc_adapt_moves.specs.Plans.{plan_of, is_homed, is_named, is_circled, is_first, is_origin}
@@ -65,12 +65,12 @@ changes_text number written_number plan line =
     ++ (change_if (is_first plan.feeding) number written_number rules.FeedFirst plan line
     ++ moved_if plan.balance number written_number plan line)))))
 
-unfoldable pub refusal_text : ℕ → Refusal → List ℕ
+unfoldable pub refusal_text : ℕ → MoveRefusal → List ℕ
 refusal_text number refusal =
     codes "line " ++ (decimal number ++ (codes ": " ++ (refusal_name refusal ++ (codes " left: "
     ++ (sentence refusal ++ codes "\n")))))
 
-abbrev pub refusal_if : ℕ → Option Refusal → List ℕ
+abbrev pub refusal_if : ℕ → Option MoveRefusal → List ℕ
 refusal_if number (Some refusal) = refusal_text number refusal
 refusal_if number None = []
 

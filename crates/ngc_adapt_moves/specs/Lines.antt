@@ -13,8 +13,8 @@ use Rattle.ngc_adapt_moves.specs.declared.places.Motion.TheVariants as motions
 use Rattle.ngc_adapt_moves.specs.declared.places.Places.{Places}
 use Rattle.ngc_adapt_moves.specs.declared.plan.Plan.{Plan}
 use Rattle.ngc_adapt_moves.specs.declared.rule.Rule.{Rule}
-use Rattle.ngc_adapt_moves.specs.declared.rule.Refusal.{Refusal}
-use Rattle.ngc_adapt_moves.specs.declared.rule.Refusal.TheVariants as refusals
+use Rattle.ngc_adapt_moves.specs.declared.rule.MoveRefusal.{MoveRefusal}
+use Rattle.ngc_adapt_moves.specs.declared.rule.MoveRefusal.TheVariants as refusals
 use Rattle.ngc_adapt_moves.specs.declared.text.Text.{Text}
 use Rattle.ngc_adapt_moves.specs.declared.word.Word.{Word}
 use Rattle.ngc_adapt_moves.specs.LineWords.{has_motion, has_unknown, is_f, is_of_place}
@@ -146,7 +146,7 @@ abbrev pub next_places : Places → Plan → List Word → Bool → Places
 next_places places plan words deletable =
     with_again (is_again places plan words deletable) (after_line places words deletable)
 
-abbrev pub not_read : List Refusal
+abbrev pub not_read : List MoveRefusal
 not_read = refusals.NotRead ∷ []
 
 abbrev pub written_by : Places → List ℕ → Option (List Word) → List ℕ
@@ -157,7 +157,7 @@ abbrev pub rules_by : Places → Option (List Word) → List Rule
 rules_by places None = []
 rules_by places (Some words) = rules_of (plan_of places words)
 
-abbrev pub refusals_by : Places → Option (List Word) → List Refusal
+abbrev pub refusals_by : Places → Option (List Word) → List MoveRefusal
 refusals_by places None = not_read
 refusals_by places (Some words) = refusals_of (plan_of places words)
 
@@ -181,7 +181,7 @@ written places line = written_by places line (words_of line)
 unfoldable pub rules_for : Places → List ℕ → List Rule
 rules_for places line = rules_by places (words_of line)
 
-unfoldable pub refusals_for : Places → List ℕ → List Refusal
+unfoldable pub refusals_for : Places → List ℕ → List MoveRefusal
 refusals_for places line = refusals_by places (words_of line)
 
 -- what a line leaves

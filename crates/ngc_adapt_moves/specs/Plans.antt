@@ -26,8 +26,8 @@ use Rattle.ngc_adapt_moves.specs.declared.radii.Balance.{Balance}
 use Rattle.ngc_adapt_moves.specs.declared.radii.Balance.TheVariants as balances
 use Rattle.ngc_adapt_moves.specs.declared.rule.Rule.{Rule}
 use Rattle.ngc_adapt_moves.specs.declared.rule.Rule.TheVariants as rules
-use Rattle.ngc_adapt_moves.specs.declared.rule.Refusal.{Refusal}
-use Rattle.ngc_adapt_moves.specs.declared.rule.Refusal.TheVariants as refusals
+use Rattle.ngc_adapt_moves.specs.declared.rule.MoveRefusal.{MoveRefusal}
+use Rattle.ngc_adapt_moves.specs.declared.rule.MoveRefusal.TheVariants as refusals
 use Rattle.ngc_adapt_moves.specs.declared.text.Text.{Text}
 use Rattle.ngc_adapt_moves.specs.declared.text.Text.TheVariants as texts
 use Rattle.ngc_adapt_moves.specs.declared.word.Letter.{Letter}
@@ -150,36 +150,36 @@ rules_of plan =
     ++ rule_if (is_first plan.feeding) rules.FeedFirst)
     ++ rule_if (is_moved plan.balance) rules.MovedCentre
 
-abbrev pub homing_refusal : Homing → Option Refusal
+abbrev pub homing_refusal : Homing → Option MoveRefusal
 homing_refusal (homings.Left refusal) = Some refusal
 homing_refusal _ = None
 
-abbrev pub naming_refusal : Naming → Option Refusal
+abbrev pub naming_refusal : Naming → Option MoveRefusal
 naming_refusal namings.Left = Some refusals.MotionNotKnown
 naming_refusal _ = None
 
-abbrev pub circle_refusal : Circle → Option Refusal
+abbrev pub circle_refusal : Circle → Option MoveRefusal
 circle_refusal (circles.Left refusal) = Some refusal
 circle_refusal _ = None
 
-abbrev pub centre_refusal : Centre → Option Refusal
+abbrev pub centre_refusal : Centre → Option MoveRefusal
 centre_refusal (centres.Left refusal) = Some refusal
 centre_refusal _ = None
 
-abbrev pub feeding_refusal : Feeding → Option Refusal
+abbrev pub feeding_refusal : Feeding → Option MoveRefusal
 feeding_refusal feedings.Left = Some refusals.FeedNotKnown
 feeding_refusal _ = None
 
-abbrev pub balance_refusal : Balance → Option Refusal
+abbrev pub balance_refusal : Balance → Option MoveRefusal
 balance_refusal (balances.Left refusal) = Some refusal
 balance_refusal _ = None
 
-abbrev pub refusal_if : Option Refusal → List Refusal
+abbrev pub refusal_if : Option MoveRefusal → List MoveRefusal
 refusal_if (Some refusal) = refusal ∷ []
 refusal_if None = []
 
 -- why the line is left, if it is
-abbrev pub refusals_of : Plan → List Refusal
+abbrev pub refusals_of : Plan → List MoveRefusal
 refusals_of plan =
     ((((refusal_if (homing_refusal plan.homing) ++ refusal_if (naming_refusal plan.naming))
     ++ refusal_if (circle_refusal plan.circle)) ++ refusal_if (centre_refusal plan.centre))

@@ -20,7 +20,7 @@ use Rattle.ngc_adapt_moves.specs.declared.radii.Sweep.{Sweep}
 use Rattle.ngc_adapt_moves.specs.declared.axis.Axis.{Axis}
 use Rattle.ngc_adapt_moves.specs.declared.axis.Place.{Place}
 use Rattle.ngc_adapt_moves.specs.declared.places.Places.{Places}
-use Rattle.ngc_adapt_moves.specs.declared.rule.Refusal.TheVariants as refusals
+use Rattle.ngc_adapt_moves.specs.declared.rule.MoveRefusal.TheVariants as refusals
 use Rattle.ngc_adapt_moves.specs.declared.text.Text.{Text}
 use Rattle.ngc_adapt_moves.specs.declared.text.Text.TheVariants as texts
 use Rattle.ngc_adapt_moves.specs.declared.word.Word.{Word}

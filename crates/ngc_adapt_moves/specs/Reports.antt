@@ -2,8 +2,8 @@
 use Rattle.std.specs.Prelude.{ℕ, List, codes}
 use Rattle.ngc_adapt_moves.specs.declared.rule.Rule.{Rule}
 use Rattle.ngc_adapt_moves.specs.declared.rule.Rule.TheVariants as rules
-use Rattle.ngc_adapt_moves.specs.declared.rule.Refusal.{Refusal}
-use Rattle.ngc_adapt_moves.specs.declared.rule.Refusal.TheVariants as refusals
+use Rattle.ngc_adapt_moves.specs.declared.rule.MoveRefusal.{MoveRefusal}
+use Rattle.ngc_adapt_moves.specs.declared.rule.MoveRefusal.TheVariants as refusals
 
 abbrev pub rule_name : Rule → List ℕ
 rule_name rules.PartHome = codes "part_home"
@@ -24,7 +24,7 @@ class_of rules.MotionApart = codes "exact"
 class_of rules.FeedFirst = codes "exact"
 class_of rules.MovedCentre = codes "bound"
 
-abbrev pub refusal_name : Refusal → List ℕ
+abbrev pub refusal_name : MoveRefusal → List ℕ
 refusal_name refusals.NotRead = codes "not_read"
 refusal_name refusals.HomesNotGiven = codes "part_home"
 refusal_name refusals.HomingNotAlone = codes "part_home"
@@ -39,7 +39,7 @@ refusal_name refusals.FeedNotKnown = codes "feed_first"
 refusal_name refusals.RadiiDiffer = codes "moved_centre"
 
 -- what is wrong, and the way out
-abbrev pub sentence : Refusal → List ℕ
+abbrev pub sentence : MoveRefusal → List ℕ
 sentence refusals.NotRead = codes "the line can't be read as words: write it in another way"
 sentence refusals.HomesNotGiven =
     codes "only the axes named go home in the source, all three here: name the machine file by --machine"

@@ -8,7 +8,7 @@ use crate::line_words::{
     has, has_offsets, has_radius, has_unknown, is_same_axis, names, names_offset, offset_along,
 };
 use crate::places::{ArcDistance, Motion, Places, hole_axis, start_along};
-use crate::rule::Refusal;
+use crate::rule::MoveRefusal;
 use crate::value::known;
 use crate::word::Word;
 use ngc_fixed_length::{Distance, Plane, Value};
@@ -19,7 +19,7 @@ pub enum Circle {
     /// The line is none that lacks an axis word.
     Other,
     /// It is left as it is.
-    Left(Refusal),
+    Left(MoveRefusal),
     /// The axis word of its start, on the first axis of the plane.
     From(Axis, Value),
 }
@@ -30,7 +30,7 @@ pub enum Centre {
     /// They lead from the current point.
     Other,
     /// They are left as they are.
-    Left(Refusal),
+    Left(MoveRefusal),
     /// They lead from the current point as these.
     By(Place),
 }
@@ -79,7 +79,7 @@ fn from(axis: Axis, value: Option<Value>) -> Circle
 {
     match value {
         Some(value) => Circle::From(axis, value),
-        None => Circle::Left(Refusal::CircleNotKnown),
+        None => Circle::Left(MoveRefusal::CircleNotKnown),
     }
 }
 
@@ -117,7 +117,7 @@ pub(crate) fn circle_of(places: &Places, after: &Places, words: &[Word]) -> Circ
     }
     match after.plane {
         Some(plane) => circle_in(plane, places, after, words),
-        None => Circle::Left(Refusal::CircleNotKnown),
+        None => Circle::Left(MoveRefusal::CircleNotKnown),
     }
 }
 
@@ -171,7 +171,7 @@ fn centre_in(plane: Plane, places: &Places, words: &[Word]) -> Centre
     if offsets.along(first_axis(plane)).is_some() && offsets.along(second_axis(plane)).is_some() {
         Centre::By(offsets)
     } else {
-        Centre::Left(Refusal::ArcPlaceNotKnown)
+        Centre::Left(MoveRefusal::ArcPlaceNotKnown)
     }
 }
 
@@ -184,10 +184,10 @@ pub(crate) fn centre_of(places: &Places, after: &Places, words: &[Word]) -> Cent
     }
     match after.arc_distance {
         Some(ArcDistance::Point) => Centre::Other,
-        None => Centre::Left(Refusal::ArcDistanceNotKnown),
+        None => Centre::Left(MoveRefusal::ArcDistanceNotKnown),
         Some(ArcDistance::Origin) => match after.plane {
             Some(plane) => centre_in(plane, places, words),
-            None => Centre::Left(Refusal::ArcPlaceNotKnown),
+            None => Centre::Left(MoveRefusal::ArcPlaceNotKnown),
         },
     }
 }

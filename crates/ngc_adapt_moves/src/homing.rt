@@ -8,7 +8,7 @@ use crate::line_words::{
     has, has_all_axes, has_axes, has_m, has_unknown, names, one_line_codes, value_along,
 };
 use crate::places::{Homes, Places, distance_after, units_after};
-use crate::rule::Refusal;
+use crate::rule::MoveRefusal;
 use crate::value::{known, signed};
 use crate::word::Word;
 use ngc_fixed_length::{Distance, Units, Value};
@@ -19,7 +19,7 @@ pub enum Homing {
     /// The line is none.
     Other,
     /// It is left as it is.
-    Left(Refusal),
+    Left(MoveRefusal),
     /// The axes go straight to these places of the machine.
     Direct(Place),
     /// The axes go to the place that the line names, and then to these places of the machine.
@@ -159,11 +159,11 @@ fn homing_to(distance: Option<Distance>, place: Place, words: &[Word]) -> Homing
     ensures { result ≡ spec.homing_to distance place words.now }
 {
     if !has_targets(&place, words) {
-        Homing::Left(Refusal::HomeNotWhole)
+        Homing::Left(MoveRefusal::HomeNotWhole)
     } else if is_direct(distance, words) {
         Homing::Direct(place)
     } else if has_m(&code::STOPS, words) {
-        Homing::Left(Refusal::StopBesideHoming)
+        Homing::Left(MoveRefusal::StopBesideHoming)
     } else {
         Homing::Between(place)
     }
@@ -177,13 +177,13 @@ pub(crate) fn homing_of(places: &Places, words: &[Word]) -> Homing
         return Homing::Other;
     }
     if !is_alone(words) {
-        return Homing::Left(Refusal::HomingNotAlone);
+        return Homing::Left(MoveRefusal::HomingNotAlone);
     }
     let Some(homes) = places.homes else {
-        return Homing::Left(Refusal::HomesNotGiven);
+        return Homing::Left(MoveRefusal::HomesNotGiven);
     };
     let Some(units) = units_after(places.units, words) else {
-        return Homing::Left(Refusal::UnitsNotKnown);
+        return Homing::Left(MoveRefusal::UnitsNotKnown);
     };
     let place = targets(units, home_of(&homes, words), words);
     homing_to(distance_after(places.distance, words), place, words)

@@ -25,7 +25,7 @@ pub use places::{ArcDistance, Homes, Motion, Places};
 pub use plan::{Feeding, MOST_RULES, Naming, Plan};
 pub use radii::{Balance, Moved, Sweep};
 pub use rewriting::{Rewritten, rewrite_line};
-pub use rule::{Refusal, Rule};
+pub use rule::{MoveRefusal, Rule};
 pub use text::Text;
 pub use value::value_of;
 pub use word::{Letter, Word, read_words};

@@ -12,7 +12,7 @@ use crate::line_words::{
 };
 use crate::places::{Motion, Places, changes_units, feed_mode_after};
 use crate::radii::{Balance, balance_of};
-use crate::rule::{Refusal, Rule};
+use crate::rule::{MoveRefusal, Rule};
 use crate::text::Text;
 use crate::word::{Letter, Word};
 use arrayvec::ArrayVec;
@@ -163,7 +163,7 @@ fn add_rule(holds: bool, rule: Rule, rules: &mut ArrayVec<Rule, MOST_RULES>)
     }
 }
 
-fn add_refusal(refusal: Option<Refusal>, refusals: &mut ArrayVec<Refusal, MOST_RULES>)
+fn add_refusal(refusal: Option<MoveRefusal>, refusals: &mut ArrayVec<MoveRefusal, MOST_RULES>)
     requires { length refusals.old.items ≤ 6 }
     ensures items { refusals.new.items ≡ refusals.old.items ++ spec.refusal_if refusal }
     ensures few { length refusals.new.items ≤ length refusals.old.items + 1 }
@@ -182,7 +182,7 @@ impl Homing {
         matches!(self, Homing::Direct(_) | Homing::Between(_))
     }
 
-    pub(crate) fn refusal(&self) -> Option<Refusal>
+    pub(crate) fn refusal(&self) -> Option<MoveRefusal>
         ensures { result ≡ homing_refusal self.now }
     {
         match self {
@@ -201,11 +201,11 @@ impl Naming {
         matches!(self, Naming::By(_))
     }
 
-    pub(crate) fn refusal(&self) -> Option<Refusal>
+    pub(crate) fn refusal(&self) -> Option<MoveRefusal>
         ensures { result ≡ naming_refusal self.now }
     {
         match self {
-            Naming::Left => Some(Refusal::MotionNotKnown),
+            Naming::Left => Some(MoveRefusal::MotionNotKnown),
             Naming::Other | Naming::By(_) => None,
         }
     }
@@ -230,7 +230,7 @@ impl Circle {
         matches!(self, Circle::From(_, _))
     }
 
-    pub(crate) fn refusal(&self) -> Option<Refusal>
+    pub(crate) fn refusal(&self) -> Option<MoveRefusal>
         ensures { result ≡ circle_refusal self.now }
     {
         match self {
@@ -259,7 +259,7 @@ impl Centre {
         matches!(self, Centre::By(_))
     }
 
-    pub(crate) fn refusal(&self) -> Option<Refusal>
+    pub(crate) fn refusal(&self) -> Option<MoveRefusal>
         ensures { result ≡ centre_refusal self.now }
     {
         match self {
@@ -278,11 +278,11 @@ impl Feeding {
         matches!(self, Feeding::First)
     }
 
-    pub(crate) fn refusal(&self) -> Option<Refusal>
+    pub(crate) fn refusal(&self) -> Option<MoveRefusal>
         ensures { result ≡ feeding_refusal self.now }
     {
         match self {
-            Feeding::Left => Some(Refusal::FeedNotKnown),
+            Feeding::Left => Some(MoveRefusal::FeedNotKnown),
             Feeding::Other | Feeding::First => None,
         }
     }
@@ -297,7 +297,7 @@ impl Balance {
         matches!(self, Balance::Moved(_))
     }
 
-    pub(crate) fn refusal(&self) -> Option<Refusal>
+    pub(crate) fn refusal(&self) -> Option<MoveRefusal>
         ensures { result ≡ balance_refusal self.now }
     {
         match self {
@@ -423,7 +423,7 @@ impl Plan {
     }
 
     /// Returns why the line is left, if it is.
-    pub(crate) fn refusals(&self) -> ArrayVec<Refusal, MOST_RULES>
+    pub(crate) fn refusals(&self) -> ArrayVec<MoveRefusal, MOST_RULES>
         ensures { result.items ≡ refusals_of self.now }
     {
         let mut refusals = ArrayVec::new();

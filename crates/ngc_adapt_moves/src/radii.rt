@@ -9,7 +9,7 @@ use crate::arc::{Centre, difference, first_axis, is_arc, second_axis};
 use crate::axis::{Axis, Place};
 use crate::line_words::{names, names_offset, offset_along, value_along};
 use crate::places::{Places, start_along, sum};
-use crate::rule::Refusal;
+use crate::rule::MoveRefusal;
 use crate::text::Text;
 use crate::value::known;
 use crate::word::Word;
@@ -42,7 +42,7 @@ pub enum Balance {
     /// The line is none by what is known.
     Other,
     /// It is left as it is.
-    Left(Refusal),
+    Left(MoveRefusal),
     /// Its centre is moved.
     Moved(Moved),
 }
@@ -410,10 +410,10 @@ impl Sweep {
                 if is_small(units, shift_u) && is_small(units, shift_v) {
                     Balance::Moved(self.moved_by(plane, words, shift_u, shift_v))
                 } else {
-                    Balance::Left(Refusal::RadiiDiffer)
+                    Balance::Left(MoveRefusal::RadiiDiffer)
                 }
             }
-            _ => Balance::Left(Refusal::RadiiDiffer),
+            _ => Balance::Left(MoveRefusal::RadiiDiffer),
         }
     }
 
@@ -435,7 +435,7 @@ impl Sweep {
         if self.are_radii_within(u128::from(correctable(units))) {
             self.moved_if(units, plane, words)
         } else {
-            Balance::Left(Refusal::RadiiDiffer)
+            Balance::Left(MoveRefusal::RadiiDiffer)
         }
     }
 

@@ -7,7 +7,7 @@ use crate::axis::{Axis, Place};
 use crate::line::add_rewritten;
 use crate::plan::Plan;
 use crate::radii::Balance;
-use crate::rule::{Refusal, Rule};
+use crate::rule::{MoveRefusal, Rule};
 use crate::text::{add_value, offset_letter};
 use itoa::Buffer;
 use ngc_fixed_length::Value;
@@ -216,7 +216,7 @@ fn add_changes<A: Allocator>(
 #[tactic(auto, unfolding(crate::specs::LineReports::refusal_text))]
 pub(crate) fn add_refusal<A: Allocator>(
     number: usize,
-    refusal: Refusal,
+    refusal: MoveRefusal,
     report: &mut Vec<u8, A>,
 ) -> Result<(), AllocError>
     ensures { IfOk result (λ _. report.new.items ≡ report.old.items
@@ -234,7 +234,7 @@ pub(crate) fn add_refusal<A: Allocator>(
 
 fn add_refusal_if<A: Allocator>(
     number: usize,
-    refusal: Option<Refusal>,
+    refusal: Option<MoveRefusal>,
     report: &mut Vec<u8, A>,
 ) -> Result<(), AllocError>
     ensures { IfOk result (λ _. report.new.items ≡ report.old.items

@@ -7,7 +7,7 @@ use crate::line::{add_rewritten, next_places};
 use crate::places::Places;
 use crate::plan::{MOST_RULES, plan_of};
 use crate::report::{add_plan_report, add_refusal};
-use crate::rule::{Refusal, Rule};
+use crate::rule::{MoveRefusal, Rule};
 use crate::word::read_words;
 use arrayvec::ArrayVec;
 use ngc_adapt::may_be_deleted;
@@ -19,7 +19,7 @@ pub struct Rewritten {
     /// The rules that changed it.
     pub rules: ArrayVec<Rule, MOST_RULES>,
     /// Why it is left, where it means something else in our language.
-    pub refusals: ArrayVec<Refusal, MOST_RULES>,
+    pub refusals: ArrayVec<MoveRefusal, MOST_RULES>,
     /// What the line leaves.
     pub after: Places,
     /// How many lines are written before the source's own.
@@ -28,11 +28,11 @@ pub struct Rewritten {
     pub line_count: usize,
 }
 
-fn not_read() -> ArrayVec<Refusal, MOST_RULES>
+fn not_read() -> ArrayVec<MoveRefusal, MOST_RULES>
     ensures { result.items ≡ spec.not_read }
 {
     let mut refusals = ArrayVec::new();
-    refusals.push(Refusal::NotRead);
+    refusals.push(MoveRefusal::NotRead);
     refusals
 }
 
@@ -66,7 +66,7 @@ pub fn rewrite_line<A: Allocator>(
 {
     let Some(words) = read_words(line) else {
         out.extend_from_slice(line)?;
-        add_refusal(number, Refusal::NotRead, report)?;
+        add_refusal(number, MoveRefusal::NotRead, report)?;
         return Ok(Rewritten {
             rules: ArrayVec::new(),
             refusals: not_read(),

@@ -66,7 +66,7 @@ impl Rule {
 
 /// Why a line is left that means something else in our language.
 #[derive(Clone, Copy, PartialEq, Eq)]
-pub enum Refusal {
+pub enum MoveRefusal {
     /// The line can't be read.
     NotRead,
     /// G28 or G30 with one or two axes, and no homes are given.
@@ -93,34 +93,34 @@ pub enum Refusal {
     RadiiDiffer,
 }
 
-impl Default for Refusal {
-    ghost use Rattle.ngc_adapt_moves.specs.declared.rule.Refusal.TheVariants as refusals;
+impl Default for MoveRefusal {
+    ghost use Rattle.ngc_adapt_moves.specs.declared.rule.MoveRefusal.TheVariants as refusals;
 
     ghost is_default = { λ r. r ≡ refusals.NotRead };
 
-    fn default() -> Refusal {
-        Refusal::NotRead
+    fn default() -> MoveRefusal {
+        MoveRefusal::NotRead
     }
 }
 
-impl Refusal {
+impl MoveRefusal {
     /// Returns the name under which the refusal is reported.
     pub fn name(self) -> &'static str
         ensures { result.now ≡ spec.refusal_name self }
     {
         match self {
-            Refusal::NotRead => "not_read",
-            Refusal::HomesNotGiven => "part_home",
-            Refusal::HomingNotAlone => "part_home",
-            Refusal::UnitsNotKnown => "part_home",
-            Refusal::HomeNotWhole => "part_home",
-            Refusal::StopBesideHoming => "part_home",
-            Refusal::MotionNotKnown => "motion_again",
-            Refusal::CircleNotKnown => "full_circle",
-            Refusal::ArcDistanceNotKnown => "arc_origin",
-            Refusal::ArcPlaceNotKnown => "arc_origin",
-            Refusal::FeedNotKnown => "feed_first",
-            Refusal::RadiiDiffer => "moved_centre",
+            MoveRefusal::NotRead => "not_read",
+            MoveRefusal::HomesNotGiven => "part_home",
+            MoveRefusal::HomingNotAlone => "part_home",
+            MoveRefusal::UnitsNotKnown => "part_home",
+            MoveRefusal::HomeNotWhole => "part_home",
+            MoveRefusal::StopBesideHoming => "part_home",
+            MoveRefusal::MotionNotKnown => "motion_again",
+            MoveRefusal::CircleNotKnown => "full_circle",
+            MoveRefusal::ArcDistanceNotKnown => "arc_origin",
+            MoveRefusal::ArcPlaceNotKnown => "arc_origin",
+            MoveRefusal::FeedNotKnown => "feed_first",
+            MoveRefusal::RadiiDiffer => "moved_centre",
         }
     }
 
@@ -129,36 +129,37 @@ impl Refusal {
         ensures { result.now ≡ spec.sentence self }
     {
         match self {
-            Refusal::NotRead => "the line can't be read as words: write it in another way",
-            Refusal::HomesNotGiven => {
+            MoveRefusal::NotRead => "the line can't be read as words: write it in another way",
+            MoveRefusal::HomesNotGiven => {
                 "only the axes named go home in the source, all three here: name the machine file by --machine"
             }
-            Refusal::HomingNotAlone => {
+            MoveRefusal::HomingNotAlone => {
                 "G28 and G30 with one or two axes need a line without other codes that take its words: write two lines"
             }
-            Refusal::UnitsNotKnown => {
+            MoveRefusal::UnitsNotKnown => {
                 "the home can't be written in units that aren't known: write G20 or G21 before it"
             }
-            Refusal::HomeNotWhole => {
+            MoveRefusal::HomeNotWhole => {
                 "the home isn't a whole number of millionths of an inch: write G21 before it"
             }
-            Refusal::StopBesideHoming => {
+            MoveRefusal::StopBesideHoming => {
                 "the program would stop before the axes are home: write the M code on the next line"
             }
-            Refusal::MotionNotKnown => "the motion mode isn't known: write its G code on this line",
-            Refusal::CircleNotKnown => {
+            MoveRefusal::MotionNotKnown =>
+                "the motion mode isn't known: write its G code on this line",
+            MoveRefusal::CircleNotKnown => {
                 "a full circle needs an axis word, and its place isn't known: write the X or Y of its start"
             }
-            Refusal::ArcDistanceNotKnown => {
+            MoveRefusal::ArcDistanceNotKnown => {
                 "it isn't known from where the offsets lead: write G90.1 or G91.1 before it"
             }
-            Refusal::ArcPlaceNotKnown => {
+            MoveRefusal::ArcPlaceNotKnown => {
                 "offsets from the origin need both offsets and a known place: write X and Y on a line before it"
             }
-            Refusal::FeedNotKnown => {
+            MoveRefusal::FeedNotKnown => {
                 "F counts in the units before, which aren't known: write F on a line after this one"
             }
-            Refusal::RadiiDiffer => {
+            MoveRefusal::RadiiDiffer => {
                 "the radii at start and end of the arc differ by too much: post with more decimals"
             }
         }

@@ -7,7 +7,7 @@ use crate::emptied::emptied;
 use crate::text_fault::TextFault;
 use ngc_canonical::{ProgramFault, interpret};
 use ngc_line_reader::{Program, ReadFault};
-use ngc_machine::{Machine, Tools};
+use ngc_machine_files::{Machine, Tools};
 use ngc_text::Device;
 use std::alloc::Allocator;
 use thiserror::Error;

@@ -3,7 +3,7 @@ ghost use Rattle.std.specs.Prelude.{◌≡◌, ◌*◌, ◌^◌, ◌<◌, ◌≤
 use crate::fault::ArcFault;
 use crate::given::{Ends, Offsets, tolerance};
 use crate::radii::SquaredRadii;
-use crate::way::Way;
+use crate::way::Vector2;
 use ngc_fixed_length::{Nm, Plane, Point2, Point3, Turn, Units, root_ceil, root_floor};
 use std::marker::Model;
 
@@ -114,7 +114,7 @@ impl Arc {
         ensures { result ≡ with_equal_radii tolerance (arc_about ends.now centre) }
     {
         let radii = SquaredRadii::about(
-            &Way::of(&centre),
+            &Vector2::of(&centre),
             &ends.start_in_plane(),
             &ends.end_in_plane(),
         );
@@ -188,7 +188,7 @@ impl Arc {
             ..
         } = self;
         SquaredRadii::about(
-            &Way::of(centre),
+            &Vector2::of(centre),
             &start.in_plane(*plane),
             &end.in_plane(*plane),
         )

@@ -4,7 +4,7 @@ use crate::chord::{aside, side, signed_aside};
 use crate::fault::ArcFault;
 use crate::given::Ends;
 use crate::lengths::{halfway, moved};
-use crate::way::Way;
+use crate::way::Vector2;
 use ngc_fixed_length::{Nm, Point2};
 
 impl Ends {
@@ -16,10 +16,10 @@ impl Ends {
     ghost use Rattle.ngc_arc_geometry.specs.Centre.{aside_point, radius_centre};
 
     /// Returns the vector from start to end in the plane.
-    pub(crate) fn chord(&self) -> Way
+    pub(crate) fn chord(&self) -> Vector2
         ensures { result ≡ chord self.now }
     {
-        Way::between(&self.start_in_plane(), &self.end_in_plane())
+        Vector2::between(&self.start_in_plane(), &self.end_in_plane())
     }
 
     /// Returns the middle of the chord, rounded down on each axis.
@@ -36,7 +36,7 @@ impl Ends {
 
     /// Returns the vector from the chord's middle to the centre. A circle of the radius, given by
     /// its square, about an end must reach the middle.
-    fn offset_from_middle(&self, square: u128, is_long: bool) -> Way
+    fn offset_from_middle(&self, square: u128, is_long: bool) -> Vector2
         requires chord { 0 < chord_square self.now }
         requires reached { chord_square self.now ≤ 4 * square }
         requires limit { square ≤ 4 * 10 ^ 18 }
@@ -49,7 +49,7 @@ impl Ends {
         let side = side(self.turn, is_long);
         let u = signed_aside(side, chord.v(), aside(square, square_of_chord, chord.v()));
         let v = signed_aside(side, chord.u(), aside(square, square_of_chord, chord.u()));
-        Way::new(-u, v)
+        Vector2::new(-u, v)
     }
 
     /// Returns the centre beside the chord's middle.

@@ -9,7 +9,7 @@ ghost use Rattle.ngc_arc_geometry.specs.Swept.{margin};
 
 use crate::arc::Arc;
 use crate::extent::{GridRange, PlaneAxis, Span};
-use crate::way::Way;
+use crate::way::Vector2;
 use ngc_fixed_length::{GridBox, Nm, Point2};
 use std::marker::Model;
 
@@ -60,7 +60,7 @@ impl GridArc {
         let step = self.step.nanometres().unsigned_abs();
         let inner = u128::from(self.inner.saturating_sub(step));
         let outer = u128::from(self.outer) + u128::from(step);
-        let square = Way::between(&self.arc.centre(), point).square();
+        let square = Vector2::between(&self.arc.centre(), point).square();
         inner * inner <= square && square <= outer * outer
     }
 
@@ -70,7 +70,10 @@ impl GridArc {
         ensures { result ≡ turns_on self.now.arc from.now to.now }
     {
         let centre = self.arc.centre();
-        let (first, second) = (Way::between(&centre, from), Way::between(&centre, to));
+        let (first, second) = (
+            Vector2::between(&centre, from),
+            Vector2::between(&centre, to),
+        );
         first.shares_quadrant(&second) && 0 < self.arc.turn_from(from, to)
     }
 

@@ -1,7 +1,7 @@
 ghost use Rattle.std.specs.Prelude.{◌≡◌, ◌≤◌, unsigned_abs};
 ghost use Rattle.ngc_arc_geometry.specs.Tolerance.{tolerance as tolerance_in};
 
-use crate::way::Way;
+use crate::way::Vector2;
 use ngc_fixed_length::{Nm, Plane, Point2, Point3, Turn, Units};
 
 /// The lengths of the I, J and K words that belong to the plane, along its axes u and v.
@@ -56,12 +56,12 @@ impl Offsets {
     ghost use Rattle.ngc_arc_geometry.specs.Centre.{offset_point};
 
     /// Returns the centre of an arc with this start; a missing offset is 0.
-    pub(crate) fn centre(&self, start: &Point2) -> Way
+    pub(crate) fn centre(&self, start: &Point2) -> Vector2
         ensures value { result ≡ shifted start.now (offset_point self.now) }
         ensures u { unsigned_abs result.u ≤ 200000000000 }
         ensures v { unsigned_abs result.v ≤ 200000000000 }
     {
-        Way::offset(
+        Vector2::offset(
             start,
             self.u.unwrap_or(Nm::zero()),
             self.v.unwrap_or(Nm::zero()),

@@ -1,6 +1,6 @@
 ghost use Rattle.std.specs.Prelude.{◌≡◌, ◌+◌, ◌*◌, ◌^◌, ◌≤◌, min, max, unsigned_abs};
 
-use crate::way::Way;
+use crate::way::Vector2;
 use ngc_fixed_length::Point2;
 
 /// The squared distances of an arc's ends from its centre, in square nanometres.
@@ -14,7 +14,7 @@ impl SquaredRadii {
     ghost use Rattle.ngc_arc_geometry.specs.Radii.{squared_distance, roots_within};
 
     /// Returns the squared radii of an arc from start to end about the centre.
-    pub(crate) fn about(centre: &Way, start: &Point2, end: &Point2) -> SquaredRadii
+    pub(crate) fn about(centre: &Vector2, start: &Point2, end: &Point2) -> SquaredRadii
         requires u { unsigned_abs centre.now.u ≤ 200000000000 }
         requires v { unsigned_abs centre.now.v ≤ 200000000000 }
         ensures lesser { result.lesser ≡ min (squared_distance centre.now start.now)

@@ -3,7 +3,7 @@ ghost use Rattle.ngc_arc_geometry.specs.Sector.{turning, first_met};
 
 use crate::arc::Arc;
 use crate::lengths::moved;
-use crate::way::Way;
+use crate::way::Vector2;
 use arrayvec::ArrayVec;
 use ngc_fixed_length::{Point2, Turn};
 
@@ -70,7 +70,7 @@ impl Arc {
         ensures { result ≡ turn_from self.now first.now second.now }
     {
         let centre = self.centre();
-        let area = Way::between(&centre, first).cross(&Way::between(&centre, second));
+        let area = Vector2::between(&centre, first).cross(&Vector2::between(&centre, second));
         match self.turn() {
             Turn::Counterclockwise => area,
             Turn::Clockwise => -area,
@@ -90,7 +90,7 @@ impl Arc {
         ensures { result ≡ same_direction self.now first.now second.now }
     {
         let centre = self.centre();
-        let product = Way::between(&centre, first).dot(&Way::between(&centre, second));
+        let product = Vector2::between(&centre, first).dot(&Vector2::between(&centre, second));
         self.turn_from(first, second) == 0 && product > 0
     }
 
@@ -160,7 +160,7 @@ impl Arc {
         ensures value { result ≡ first_quadrant self.now }
         ensures bound { result ≤ 3 }
     {
-        let start = Way::between(&self.centre(), &self.start_in_plane());
+        let start = Vector2::between(&self.centre(), &self.start_in_plane());
         first_met(start.u(), turning(self.turn(), start.v()))
     }
 

@@ -6,12 +6,12 @@ use std::marker::Model;
 /// A vector in a plane, or a point of it that may lie beyond the limit of lengths: at most 4*10^11
 /// nm on each axis.
 #[derive(Clone, Copy)]
-pub(crate) struct Way {
+pub(crate) struct Vector2 {
     u: i64,
     v: i64,
 }
 
-impl Model for Way {
+impl Model for Vector2 {
     ghost use Rattle.std.specs.Prelude.{◌≤◌, unsigned_abs};
     ghost use Rattle.ngc_fixed_length.specs.declared.points.Point2.{Point2};
 
@@ -34,47 +34,47 @@ fn product(x: i64, y: i64) -> i128
     i128::from(x) * i128::from(y)
 }
 
-impl Way {
+impl Vector2 {
     ghost use Rattle.ngc_fixed_length.specs.Places.{from, shifted, cross, dot};
 
     /// Returns the vector with these coordinates.
-    pub(crate) fn new(u: i64, v: i64) -> Way
+    pub(crate) fn new(u: i64, v: i64) -> Vector2
         requires u { unsigned_abs u ≤ 400000000000 }
         requires v { unsigned_abs v ≤ 400000000000 }
         ensures { result ≡ record { u = u; v = v } }
     {
-        Way { u, v }
+        Vector2 { u, v }
     }
 
     /// Returns the vector from one point to another.
-    pub(crate) fn between(start: &Point2, end: &Point2) -> Way
+    pub(crate) fn between(start: &Point2, end: &Point2) -> Vector2
         ensures { result ≡ from start.now end.now }
     {
-        Way {
+        Vector2 {
             u: end.u.nanometres() - start.u.nanometres(),
             v: end.v.nanometres() - start.v.nanometres(),
         }
     }
 
     /// Returns the vector from the plane's zero to a point.
-    pub(crate) fn of(point: &Point2) -> Way
+    pub(crate) fn of(point: &Point2) -> Vector2
         ensures value { result ≡ point.now }
         ensures u { unsigned_abs result.u ≤ 100000000000 }
         ensures v { unsigned_abs result.v ≤ 100000000000 }
     {
-        Way {
+        Vector2 {
             u: point.u.nanometres(),
             v: point.v.nanometres(),
         }
     }
 
     /// Returns the point at the distances `u` and `v` from another.
-    pub(crate) fn offset(start: &Point2, u: Nm, v: Nm) -> Way
+    pub(crate) fn offset(start: &Point2, u: Nm, v: Nm) -> Vector2
         ensures value { result ≡ shifted start.now (record { u = u; v = v }) }
         ensures u { unsigned_abs result.u ≤ 200000000000 }
         ensures v { unsigned_abs result.v ≤ 200000000000 }
     {
-        Way {
+        Vector2 {
             u: start.u.nanometres() + u.nanometres(),
             v: start.v.nanometres() + v.nanometres(),
         }
@@ -93,12 +93,12 @@ impl Way {
     }
 
     /// Returns the vector from this point to another.
-    pub(crate) fn to(&self, end: &Point2) -> Way
+    pub(crate) fn to(&self, end: &Point2) -> Vector2
         requires u { unsigned_abs self.now.u ≤ 200000000000 }
         requires v { unsigned_abs self.now.v ≤ 200000000000 }
         ensures { result ≡ from self.now end.now }
     {
-        Way {
+        Vector2 {
             u: end.u.nanometres() - self.u,
             v: end.v.nanometres() - self.v,
         }
@@ -122,7 +122,7 @@ impl Way {
 
     /// Returns the dot product of two vectors. It is above 0 if the angle between them is less than
     /// a right one.
-    pub(crate) fn dot(&self, other: &Way) -> i128
+    pub(crate) fn dot(&self, other: &Vector2) -> i128
         ensures value { result ≡ dot self.now other.now }
         ensures bound { unsigned_abs result ≤ 4 * 10 ^ 23 }
     {
@@ -131,7 +131,7 @@ impl Way {
 
     /// Returns twice the area that two vectors span. It is above 0 if the first turns towards the
     /// other counterclockwise.
-    pub(crate) fn cross(&self, other: &Way) -> i128
+    pub(crate) fn cross(&self, other: &Vector2) -> i128
         ensures value { result ≡ cross self.now other.now }
         ensures bound { unsigned_abs result ≤ 4 * 10 ^ 23 }
     {
@@ -139,7 +139,7 @@ impl Way {
     }
 
     /// Returns whether both vectors point into the same closed quadrant.
-    pub(crate) fn shares_quadrant(&self, other: &Way) -> bool
+    pub(crate) fn shares_quadrant(&self, other: &Vector2) -> bool
         ensures { result
             ≡ (int_le (pos 0) (self.now.u *ℤ other.now.u)
             && int_le (pos 0) (self.now.v *ℤ other.now.v)) }

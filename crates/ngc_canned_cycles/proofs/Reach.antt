@@ -8,8 +8,8 @@ use Rattle.ngc_fixed_length.specs.Places.{in_plane, height, at_height}
 use Rattle.ngc_fixed_length.specs.Signed.{greater, same}
 use Rattle.ngc_fixed_length.specs.declared.modes.Plane.{Plane}
 use Rattle.ngc_fixed_length.specs.declared.modes.Plane.TheVariants.{XY, ZX, YZ}
-use Rattle.ngc_fixed_length.specs.declared.modes.ReturnMode.{ReturnMode}
-use Rattle.ngc_fixed_length.specs.declared.modes.ReturnMode.TheVariants.{Series, Retract}
+use Rattle.ngc_fixed_length.specs.declared.modes.RetractMode.{RetractMode}
+use Rattle.ngc_fixed_length.specs.declared.modes.RetractMode.TheVariants.{Series, Retract}
 use Rattle.ngc_fixed_length.specs.declared.points.Point2.{Point2}
 use Rattle.ngc_fixed_length.specs.declared.points.Point3.{Point3}
 use Rattle.ngc_offsets.specs.Offsets.{Offsets}
@@ -161,7 +161,7 @@ module _ (f : Offsets) (s : Site) (near : IsNearSite f s) where
       (one (IsMoveReachable f) (traverse_to s s.retract) (to_coordinate s.retract near.retract)))
 
 -- the heights of a cycle
-near_clear : (t : ℤ) (mode : ReturnMode) (series retract : ℤ) → Near t series → Near t retract → Near t (clear_at mode series retract)
+near_clear : (t : ℤ) (mode : RetractMode) (series retract : ℤ) → Near t series → Near t retract → Near t (clear_at mode series retract)
 near_clear t Series series retract p q = near_if t retract series (int_lt series retract) q p
 near_clear t Retract series retract p q = q
 

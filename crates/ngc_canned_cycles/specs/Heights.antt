@@ -6,8 +6,8 @@ use Rattle.ngc_fixed_length.specs.Places.{in_plane, height}
 use Rattle.ngc_fixed_length.specs.Signed.{greater}
 use Rattle.ngc_fixed_length.specs.declared.modes.Distance.{Distance}
 use Rattle.ngc_fixed_length.specs.declared.modes.Distance.TheVariants.{Absolute, Incremental}
-use Rattle.ngc_fixed_length.specs.declared.modes.ReturnMode.{ReturnMode}
-use Rattle.ngc_fixed_length.specs.declared.modes.ReturnMode.TheVariants.{Series, Retract}
+use Rattle.ngc_fixed_length.specs.declared.modes.RetractMode.{RetractMode}
+use Rattle.ngc_fixed_length.specs.declared.modes.RetractMode.TheVariants.{Series, Retract}
 use Rattle.ngc_fixed_length.specs.declared.points.Point2.{Point2}
 use Rattle.ngc_canned_cycles.specs.declared.cycle.Cycle.{Cycle}
 use Rattle.ngc_canned_cycles.specs.declared.cycle.Site.{Site}
@@ -36,7 +36,7 @@ bottom_of c s = relative c.distance (retract_of c s) c.bottom
 abbrev pub top_of : Cycle → Start → ℤ
 top_of c s = greater (height_before c s) (retract_of c s)
 
-abbrev pub clear_at : ReturnMode → ℤ → ℤ → ℤ
+abbrev pub clear_at : RetractMode → ℤ → ℤ → ℤ
 clear_at Series series retract = greater series retract
 clear_at Retract series retract = retract
 

@@ -1,4 +1,4 @@
-use ngc_fixed_length::{Distance, FeedMode, Nm, Plane, Point2, Point3, ReturnMode, Value};
+use ngc_fixed_length::{Distance, FeedMode, Nm, Plane, Point2, Point3, RetractMode, Value};
 
 /// The kind of a hole: how it is drilled or bored, with the dwell in seconds or the depth of a
 /// peck.
@@ -24,7 +24,7 @@ pub struct Cycle {
     pub hole: Hole,
     pub plane: Plane,
     pub distance: Distance,
-    pub clear: ReturnMode,
+    pub clear: RetractMode,
     pub feed_mode: FeedMode,
     /// The words on the plane's axes, if present.
     pub u: Option<Nm>,

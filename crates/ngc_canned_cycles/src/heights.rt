@@ -7,7 +7,7 @@ ghost use Rattle.ngc_canned_cycles.specs.Heights.{repeat_on_axis as repeat_along
 ghost use Rattle.ngc_canned_cycles.specs.Heights.{site_of, AreLengths};
 
 use crate::cycle::{Cycle, Site, Start};
-use ngc_fixed_length::{Distance, Nm, Point2, ReturnMode};
+use ngc_fixed_length::{Distance, Nm, Point2, RetractMode};
 
 pub(crate) fn length(nanometres: i128) -> Nm
     requires { IsLength nanometres }
@@ -115,8 +115,8 @@ impl Cycle {
         };
         let retract = length(self.retract_height(start));
         let clear = match self.clear {
-            ReturnMode::Series => higher(start.series, retract),
-            ReturnMode::Retract => retract,
+            RetractMode::Series => higher(start.series, retract),
+            RetractMode::Retract => retract,
         };
         Site {
             plane: self.plane,

@@ -9,8 +9,8 @@ use Rattle.ngc_canned_cycles.specs.Refusals.{check}
 use Rattle.ngc_canned_cycles.specs.declared.cycle.CycleMove.{CycleMove}
 use Rattle.ngc_canonical.specs.declared.fault.Fault.{Fault}
 use Rattle.ngc_canonical.specs.Steps.{◌>>=◌}
-use Rattle.ngc_canonical.specs.declared.state.Refusal.{Refusal}
-use Rattle.ngc_canonical.specs.declared.state.Refusal.TheVariants.{Breaks, Memory}
+use Rattle.ngc_canonical.specs.declared.state.LineRefusal.{LineRefusal}
+use Rattle.ngc_canonical.specs.declared.state.LineRefusal.TheVariants.{Breaks, Memory}
 use Rattle.ngc_canonical.specs.Interpreter.{Becomes}
 use Rattle.ngc_canonical.specs.State.{State}
 use Rattle.ngc_canonical.specs.Cycles.{make_move, make_moves, moves_from}
@@ -65,7 +65,7 @@ no_more c start i n s h =
     let e : n - i ≡ 0 = omega (arith, h) in
     ap (λ (k : ℕ). make_moves (moves_from c start (i + 1) k) s) e
 
-pub refused : (c : Cycle) (start : Start) (i n : ℕ) (items : List CycleMove) (s new : State) (refusal : Refusal) (whole : Result State Fault) → i < n →
+pub refused : (c : Cycle) (start : Start) (i n : ℕ) (items : List CycleMove) (s new : State) (refusal : LineRefusal) (whole : Result State Fault) → i < n →
     check c start ≡ Ok tt → expand c start (i + 1) ≡ Ok items
     → make_moves (moves_from c start (i + 1) (n - i)) s ≡ whole → Becomes (Err refusal) new (make_moves items s) → Becomes (Err refusal) new whole
 refused c start i n items s new (Breaks e) whole h checked is leads made = sym leads ∙ went_wrong c start i n items s e h checked is made

@@ -11,8 +11,8 @@ use Rattle.ngc_modal_state.specs.declared.code.LengthCode.{LengthCode}
 use Rattle.ngc_modal_state.specs.declared.code.LengthCode.TheVariants as lengths
 use Rattle.ngc_modal_state.specs.declared.code.MotionMode.{MotionMode}
 use Rattle.ngc_modal_state.specs.declared.code.MotionMode.TheVariants as motions
-use Rattle.ngc_modal_state.specs.declared.code.Once.{Once}
-use Rattle.ngc_modal_state.specs.declared.code.Once.TheVariants as once
+use Rattle.ngc_modal_state.specs.declared.code.NonModal.{NonModal}
+use Rattle.ngc_modal_state.specs.declared.code.NonModal.TheVariants as once
 use Rattle.ngc_modal_state.specs.declared.code.Stopping.{Stopping}
 use Rattle.ngc_modal_state.specs.declared.effect.Effect.{Effect}
 use Rattle.ngc_modal_state.specs.declared.effect.Effect.TheVariants as acts
@@ -66,7 +66,7 @@ feed : (mode : FeedMode) (m : Modes) (b : Block) → Passes (feed_effect mode m 
 feed PerMinute m b = each _ b.f (λ a. tt)
 feed InverseTime m b = none
 
-dwell : (code : Option Once) (b : Block) → Passes (dwell_effect code b)
+dwell : (code : Option NonModal) (b : Block) → Passes (dwell_effect code b)
 dwell (Some once.Dwell) b = each acts.Dwell b.p (λ a. tt)
 dwell _ b = none
 
@@ -75,7 +75,7 @@ tool_length None b = none
 tool_length (Some lengths.Apply) b = each _ b.h (λ a. tt)
 tool_length (Some lengths.Cancel) b = one (acts.ToolLength None) tt
 
-frame : (code : Option Once) (b : Block) → Passes (frame_effect code b)
+frame : (code : Option NonModal) (b : Block) → Passes (frame_effect code b)
 frame None b = none
 frame (Some once.Dwell) b = none
 frame (Some once.SetOrigin) b = each _ (system_at b.p) (λ a. tt)
@@ -118,7 +118,7 @@ in_order_last m b =
     (ahead _ _ (dwell b.once b)
     (ahead _ _ (each acts.Plane b.plane (λ a. tt))
     (ahead _ _ (each acts.Units b.units (λ a. tt))
-    (ahead _ _ (marked acts.RadiusOff b.radius_off tt)
+    (ahead _ _ (marked acts.CutterCompensationOff b.radius_off tt)
     (ahead _ _ (tool_length b.tool_length b)
     (ahead _ _ (each acts.System b.system (λ a. tt))
     (ahead _ _ (each acts.Path b.path (λ a. tt))

@@ -5,7 +5,7 @@ use Rattle.std.specs.Prelude.{ℤ, IfOk, ◌&&◌, if◌then◌else◌}
 use Rattle.ngc_fixed_length.specs.declared.points.Point3.{Point3}
 use Rattle.ngc_line_reader.specs.Grammar.{Item, Reading}
 use Rattle.ngc_line_reader.specs.declared.letter.Letter.{Letter}
-use Rattle.ngc_machine.specs.Machine.{MachineFile}
+use Rattle.ngc_machine_files.specs.Machine.{MachineFile}
 use Rattle.ngc_parameters.specs.Stored.{line_values}
 use Rattle.ngc_commands.specs.declared.command.Action.TheVariants.{End}
 use Rattle.ngc_commands.specs.declared.command.Command.{Command}

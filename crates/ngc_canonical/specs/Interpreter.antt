@@ -1,15 +1,15 @@
 -- How the interpreter holds the machine, its tools and the state of a program.
 use Rattle.std.specs.Prelude.{◌≡◌, Result, Ok, Err}
-use Rattle.ngc_machine.specs.declared.machine.Machine.{Machine}
-use Rattle.ngc_machine.specs.declared.tools.Tools.{Tools}
-use Rattle.ngc_machine.specs.Machine.{file_of}
-use Rattle.ngc_machine.specs.Tools.{tools_of}
+use Rattle.ngc_machine_files.specs.declared.machine.Machine.{Machine}
+use Rattle.ngc_machine_files.specs.declared.tools.Tools.{Tools}
+use Rattle.ngc_machine_files.specs.Machine.{file_of}
+use Rattle.ngc_machine_files.specs.Tools.{tools_of}
 use Rattle.ngc_parameters.specs.Stored.{parameters_of}
 use Rattle.ngc_canonical.specs.declared.fault.Fault.{Fault}
 use Rattle.ngc_canonical.specs.declared.fault.ProgramFault.{ProgramFault}
 use Rattle.ngc_canonical.specs.declared.fault.ProgramFault.TheVariants as faults
-use Rattle.ngc_canonical.specs.declared.state.Refusal.{Refusal}
-use Rattle.ngc_canonical.specs.declared.state.Refusal.TheVariants.{Breaks, Memory}
+use Rattle.ngc_canonical.specs.declared.state.LineRefusal.{LineRefusal}
+use Rattle.ngc_canonical.specs.declared.state.LineRefusal.TheVariants.{Breaks, Memory}
 use Rattle.ngc_canonical.specs.declared.state.Interpreter.{Interpreter}
 use Rattle.ngc_canonical.specs.State.{Setup, State}
 
@@ -35,7 +35,7 @@ state_of i = record {
 }
 
 -- after a step that may be refused, the state is what the definition gives
-abbrev pub Becomes : Result (Unit {0}) Refusal → State → Result State Fault → Type 0
+abbrev pub Becomes : Result (Unit {0}) LineRefusal → State → Result State Fault → Type 0
 Becomes (Ok u) new says = says ≡ Ok new
 Becomes (Err (Breaks e)) new says = says ≡ Err e
 Becomes (Err Memory) new says = Unit {0}

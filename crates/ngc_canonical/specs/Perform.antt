@@ -47,7 +47,7 @@ perform setup (acts.Override on) s = emit (actions.Override on) s
 perform setup (acts.Dwell value) s = emit (actions.Dwell (unsigned_abs value)) s
 perform setup (acts.Plane plane) s = Ok (unseries (with_modes (record s.modes { plane = plane }) s))
 perform setup (acts.Units units) s = Ok (with_modes (record s.modes { units = units }) s)
-perform setup acts.RadiusOff s = Ok s
+perform setup acts.CutterCompensationOff s = Ok s
 perform setup (acts.ToolLength h) s = set_length setup.tools h s
 perform setup (acts.System system) s =
     Ok (unseries (record s { frames = frame.select s.frames system }))

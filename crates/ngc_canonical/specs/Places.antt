@@ -6,9 +6,9 @@ use Rattle.ngc_fixed_length.specs.Limits.{length_of}
 use Rattle.ngc_fixed_length.specs.declared.units.Units.{Units}
 use Rattle.ngc_fixed_length.specs.declared.modes.System.{System}
 use Rattle.ngc_fixed_length.specs.declared.points.Point3.{Point3}
-use Rattle.ngc_machine.specs.declared.tools.Tool.{Tool}
-use Rattle.ngc_machine.specs.Machine.{MachineFile}
-use Rattle.ngc_machine.specs.Tools.{tool_at}
+use Rattle.ngc_machine_files.specs.declared.tools.Tool.{Tool}
+use Rattle.ngc_machine_files.specs.Machine.{MachineFile}
+use Rattle.ngc_machine_files.specs.Tools.{tool_at}
 use Rattle.ngc_modal_state.specs.declared.block.AxisWords.{AxisWords}
 use Rattle.ngc_modal_state.specs.declared.effect.Home.{Home}
 use Rattle.ngc_modal_state.specs.declared.effect.Home.TheVariants as homes

@@ -2,8 +2,8 @@
 use Rattle.std.specs.Prelude.{ℕ, zero, suc, ℤ, unsigned_abs, List, Option, Some, None, Result, Ok}
 use Rattle.std.specs.Prelude.{Err}
 use Rattle.ngc_fixed_length.specs.declared.modes.Turn.{Turn}
-use Rattle.ngc_machine.specs.declared.tools.Tool.{Tool}
-use Rattle.ngc_machine.specs.Tools.{tool_at}
+use Rattle.ngc_machine_files.specs.declared.tools.Tool.{Tool}
+use Rattle.ngc_machine_files.specs.Tools.{tool_at}
 use Rattle.ngc_modal_state.specs.declared.code.Coolant.{Coolant}
 use Rattle.ngc_modal_state.specs.declared.code.Coolant.TheVariants as coolant
 use Rattle.ngc_modal_state.specs.declared.code.Spindle.{Spindle}

@@ -3,8 +3,8 @@ use Rattle.std.specs.Prelude.{ℕ, ℤ, pos, nat_lt, List, [], ◌∷◌, ◌++�
 use Rattle.std.specs.Prelude.{Ok, Err, Bool, true, false, if◌then◌else◌}
 use Rattle.ngc_fixed_length.specs.declared.modes.Turn.{Turn}
 use Rattle.ngc_fixed_length.specs.declared.points.Point3.{Point3}
-use Rattle.ngc_machine.specs.Machine.{MachineFile}
-use Rattle.ngc_machine.specs.declared.tools.Tool.{Tool}
+use Rattle.ngc_machine_files.specs.Machine.{MachineFile}
+use Rattle.ngc_machine_files.specs.declared.tools.Tool.{Tool}
 use Rattle.ngc_modal_state.specs.declared.code.PathControl.{PathControl}
 use Rattle.ngc_modal_state.specs.declared.code.PathControl.TheVariants.{ExactStop}
 use Rattle.ngc_modal_state.specs.declared.modes.Modes.{Modes}

@@ -3,13 +3,13 @@ use Rattle.std.specs.Prelude.{Bool, Result}
 use Rattle.ngc_line_reader.specs.Grammar.{Reading, Reads}
 use Rattle.ngc_line_reader.specs.Program.{Line}
 use Rattle.ngc_canonical.specs.declared.fault.ProgramFault.{ProgramFault}
-use Rattle.ngc_canonical.specs.declared.state.Refusal.{Refusal}
+use Rattle.ngc_canonical.specs.declared.state.LineRefusal.{LineRefusal}
 use Rattle.ngc_canonical.specs.Interpreter.{Becomes, BecomesAt}
 use Rattle.ngc_canonical.specs.Meaning.{execute, after_line}
 use Rattle.ngc_canonical.specs.State.{Setup, State}
 
 -- The line has a reading, and the answer is what its execution gives.
-pub record IsExecuted (setup : Setup) (line : Line) (answer : Result (Unit {0}) Refusal)
+pub record IsExecuted (setup : Setup) (line : Line) (answer : Result (Unit {0}) LineRefusal)
     (old new : State) : Type 0 where
   pub reading : Reading
   pub reads : Reads line.bytes reading

@@ -11,7 +11,7 @@ ghost use Rattle.ngc_canonical.specs.Arcs.{arc_of as arc_said, arc as arc_done};
 use crate::fault::Fault;
 use crate::motions::feed_in;
 use crate::places::word_length;
-use crate::state::{Interpreter, Refusal};
+use crate::state::{Interpreter, LineRefusal};
 use ngc_arc_geometry::{Arc, ArcFault, Ends, Offsets};
 use ngc_commands::{Pace, Way};
 use ngc_fixed_length::{Nm, Plane, Turn, Value};
@@ -119,20 +119,20 @@ impl<A: Allocator + Copy> Interpreter<A> {
         axes: &AxisWords,
         words: &ArcWords,
         f: Option<Value>,
-    ) -> Result<(), Refusal>
+    ) -> Result<(), LineRefusal>
         ensures { Becomes result (state_of self.new)
             (arc_done turn axes.now words.now f (state_of self.old)) }
     {
         if !has_plane_word(self.modes.plane, axes) {
-            return Err(Refusal::Breaks(Fault::Arc(ArcFault::NoAxisWord)));
+            return Err(LineRefusal::Breaks(Fault::Arc(ArcFault::NoAxisWord)));
         }
         let feed = match feed_in(self.modes.feed_mode, self.feed, f) {
             Ok(feed) => feed,
-            Err(fault) => return Err(Refusal::Breaks(fault)),
+            Err(fault) => return Err(LineRefusal::Breaks(fault)),
         };
         let arc = match self.arc_of(turn, axes, words) {
             Ok(arc) => arc,
-            Err(fault) => return Err(Refusal::Breaks(fault)),
+            Err(fault) => return Err(LineRefusal::Breaks(fault)),
         };
         self.go(Way::Arc(arc), Pace::Feed(feed))
     }

@@ -20,7 +20,7 @@ ghost use Rattle.ngc_modal_state.specs.Use.{depth_word as word_on_depth};
 use crate::fault::Fault;
 use crate::places::word_length;
 use crate::spindle::spindle_state;
-use crate::state::{Interpreter, Kept, Refusal};
+use crate::state::{Interpreter, Kept, LineRefusal};
 use ngc_canned_cycles::{Cycle, CycleFault, CycleMove, Hole, Start, fill};
 use ngc_commands::{Action, Feed, Pace, SpindleState, Way};
 use ngc_fixed_length::{Nm, Plane, Point3, Value};
@@ -173,7 +173,7 @@ impl<A: Allocator + Copy> Interpreter<A> {
         self.frames.to_machine(*place)
     }
 
-    fn feed_to(&mut self, end: &Point3) -> Result<(), Refusal>
+    fn feed_to(&mut self, end: &Point3) -> Result<(), LineRefusal>
         requires { IsMachinePlace end.now }
         ensures value { Becomes result (state_of self.new) (fed_to end.now (state_of self.old)) }
         ensures frames { OnOk result ((state_of self.new).frames ≡ (state_of self.old).frames) }
@@ -183,7 +183,7 @@ impl<A: Allocator + Copy> Interpreter<A> {
         self.go(Way::Line { start, end: *end }, Pace::Feed(feed))
     }
 
-    fn make_move(&mut self, step: &CycleMove) -> Result<(), Refusal>
+    fn make_move(&mut self, step: &CycleMove) -> Result<(), LineRefusal>
         requires { IsMoveReachable (state_of self.old).frames step.now }
         ensures value { Becomes result (state_of self.new)
             (move_made step.now (state_of self.old)) }
@@ -211,7 +211,7 @@ impl<A: Allocator + Copy> Interpreter<A> {
     }
 
     #[tactic(auto, unfolding(crate::specs::Cycles::make_moves))]
-    fn make_moves(&mut self, moves: &[CycleMove]) -> Result<(), Refusal>
+    fn make_moves(&mut self, moves: &[CycleMove]) -> Result<(), LineRefusal>
         requires { All (IsMoveReachable (state_of self.old).frames) moves.now }
         ensures value { Becomes result (state_of self.new)
             (moves_made moves.now (state_of self.old)) }
@@ -228,7 +228,7 @@ impl<A: Allocator + Copy> Interpreter<A> {
 
     // All repeats in turn.
     #[tactic(auto, using(crate::proofs::CycleLaws::went_on, crate::proofs::CycleLaws::no_more))]
-    fn make_repeats(&mut self, cycle: &Cycle, start: &Start) -> Result<(), Refusal>
+    fn make_repeats(&mut self, cycle: &Cycle, start: &Start) -> Result<(), LineRefusal>
         requires checked { check cycle.now start.now ≡ Ok tt }
         requires repeats { AreRepeats (repeats_of cycle.now.repeats) }
         requires lengths { (j : ℕ) → 1 ≤ j → j ≤ repeats_of cycle.now.repeats →
@@ -243,8 +243,8 @@ impl<A: Allocator + Copy> Interpreter<A> {
         for index in 0..cycle.repeats() {
             match fill(&mut moves, cycle, start, index + 1) {
                 Ok(()) => {}
-                Err(CycleFault::Memory) => return Err(Refusal::Memory),
-                Err(fault) => return Err(Refusal::Breaks(Fault::Cycle(fault))),
+                Err(CycleFault::Memory) => return Err(LineRefusal::Memory),
+                Err(fault) => return Err(LineRefusal::Breaks(Fault::Cycle(fault))),
             }
             match self.make_moves(moves.as_slice()) {
                 Ok(()) => {}
@@ -260,22 +260,22 @@ impl<A: Allocator + Copy> Interpreter<A> {
         hole: CycleCode,
         axes: &AxisWords,
         words: &CycleWords,
-    ) -> Result<(), Refusal>
+    ) -> Result<(), LineRefusal>
         ensures { Becomes result (state_of self.new)
             (cycle_done hole axes.now words.now (state_of self.old)) }
     {
         let kept = match self.kept_after(axes, words) {
             Ok(kept) => kept,
-            Err(fault) => return Err(Refusal::Breaks(fault)),
+            Err(fault) => return Err(LineRefusal::Breaks(fault)),
         };
         let cycle = match self.cycle_of(hole, axes, words, &kept) {
             Ok(cycle) => cycle,
-            Err(fault) => return Err(Refusal::Breaks(fault)),
+            Err(fault) => return Err(LineRefusal::Breaks(fault)),
         };
         let start = self.start_of();
         match refusal(&cycle, &start, self.feed) {
             Ok(()) => {}
-            Err(fault) => return Err(Refusal::Breaks(fault)),
+            Err(fault) => return Err(LineRefusal::Breaks(fault)),
         }
         self.series = Some(self.series());
         self.kept = kept;

@@ -1,6 +1,6 @@
 //! How a program's execution begins, and how commands are added.
 ghost use Rattle.std.specs.Prelude.{◌≡◌, IfOk, OnOk};
-ghost use Rattle.ngc_machine.specs.Machine.{file_of};
+ghost use Rattle.ngc_machine_files.specs.Machine.{file_of};
 ghost use Rattle.ngc_offsets.specs.Ranges.{IsMachinePlace};
 ghost use Rattle.ngc_canonical.specs.State.{emit as emitted, go as gone, start_state};
 ghost use Rattle.ngc_canonical.specs.State.{traverse_to as traversed_to};
@@ -8,10 +8,10 @@ ghost use Rattle.ngc_canonical.specs.Interpreter.{state_of, Becomes};
 ghost use Rattle.ngc_commands.specs.Movement.{end_of};
 
 use crate::fault::Fault;
-use crate::state::{Interpreter, Kept, Refusal};
+use crate::state::{Interpreter, Kept, LineRefusal};
 use ngc_commands::{Action, Command, CoolantState, Motion, Pace, Way};
 use ngc_fixed_length::{Nm, Point3, Units, Value};
-use ngc_machine::Machine;
+use ngc_machine_files::Machine;
 use ngc_modal_state::{Modes, PathControl};
 use ngc_offsets::Frames;
 use ngc_parameters::Store;
@@ -84,12 +84,12 @@ impl<A: Allocator> Interpreter<A> {
     }
 
     /// One command more, of the line that is executed.
-    pub(crate) fn emit(&mut self, action: Action) -> Result<(), Refusal>
+    pub(crate) fn emit(&mut self, action: Action) -> Result<(), LineRefusal>
         ensures value { Becomes result (state_of self.new) (emitted action (state_of self.old)) }
         ensures frames { OnOk result ((state_of self.new).frames ≡ (state_of self.old).frames) }
     {
         if self.commands.len() >= COMMANDS {
-            return Err(Refusal::Breaks(Fault::TooManyCommands));
+            return Err(LineRefusal::Breaks(Fault::TooManyCommands));
         }
         let command = Command {
             line: self.line,
@@ -97,7 +97,7 @@ impl<A: Allocator> Interpreter<A> {
         };
         match self.commands.push(command) {
             Ok(()) => Ok(()),
-            Err(_) => Err(Refusal::Memory),
+            Err(_) => Err(LineRefusal::Memory),
         }
     }
 
@@ -110,7 +110,7 @@ impl<A: Allocator> Interpreter<A> {
     }
 
     /// A motion, after which the axes stand at its end, and stop there in exact stop mode.
-    pub(crate) fn go(&mut self, way: Way, pace: Pace) -> Result<(), Refusal>
+    pub(crate) fn go(&mut self, way: Way, pace: Pace) -> Result<(), LineRefusal>
         requires { IsMachinePlace (end_of way) }
         ensures value { Becomes result (state_of self.new) (gone way pace (state_of self.old)) }
         ensures frames { OnOk result ((state_of self.new).frames ≡ (state_of self.old).frames) }
@@ -126,7 +126,7 @@ impl<A: Allocator> Interpreter<A> {
     }
 
     /// A traverse to a place of the machine.
-    pub(crate) fn traverse_to(&mut self, end: &Point3) -> Result<(), Refusal>
+    pub(crate) fn traverse_to(&mut self, end: &Point3) -> Result<(), LineRefusal>
         requires { IsMachinePlace end.now }
         ensures value { Becomes result (state_of self.new)
             (traversed_to end.now (state_of self.old)) }

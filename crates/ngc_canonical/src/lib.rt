@@ -17,6 +17,6 @@ mod state;
 pub use deleted::has_deleted_lines;
 pub use fault::{Fault, ProgramFault};
 pub use ngc_commands::{Action, Command, CoolantState, Feed, Motion, Pace, SpindleState, Way};
-pub use ngc_machine::{FileFault, Fixture, Machine, Tool, Tools, built_in_machine};
+pub use ngc_machine_files::{FileFault, Fixture, Machine, Tool, Tools, built_in_machine};
 pub use program::{Work, interpret};
 pub use state::Interpreter;

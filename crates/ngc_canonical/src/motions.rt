@@ -7,7 +7,7 @@ ghost use Rattle.ngc_canonical.specs.Motions.{straight as moved_straight};
 ghost use Rattle.ngc_commands.specs.declared.movement.Feed.TheVariants as feeds;
 
 use crate::fault::Fault;
-use crate::state::{Interpreter, Refusal};
+use crate::state::{Interpreter, LineRefusal};
 use ngc_commands::{Feed, Pace, Way};
 use ngc_fixed_length::{FeedMode, Value};
 use ngc_modal_state::AxisWords;
@@ -32,13 +32,13 @@ impl<A: Allocator> Interpreter<A> {
         &mut self,
         is_machine_place: bool,
         words: &AxisWords,
-    ) -> Result<(), Refusal>
+    ) -> Result<(), LineRefusal>
         ensures { Becomes result (state_of self.new)
             (traversed is_machine_place words.now (state_of self.old)) }
     {
         match self.end_of(is_machine_place, words) {
             Ok(end) => self.traverse_to(&end),
-            Err(fault) => Err(Refusal::Breaks(fault)),
+            Err(fault) => Err(LineRefusal::Breaks(fault)),
         }
     }
 
@@ -48,17 +48,17 @@ impl<A: Allocator> Interpreter<A> {
         is_machine_place: bool,
         words: &AxisWords,
         f: Option<Value>,
-    ) -> Result<(), Refusal>
+    ) -> Result<(), LineRefusal>
         ensures { Becomes result (state_of self.new)
             (moved_straight is_machine_place words.now f (state_of self.old)) }
     {
         let feed = match feed_in(self.modes.feed_mode, self.feed, f) {
             Ok(feed) => feed,
-            Err(fault) => return Err(Refusal::Breaks(fault)),
+            Err(fault) => return Err(LineRefusal::Breaks(fault)),
         };
         let end = match self.end_of(is_machine_place, words) {
             Ok(end) => end,
-            Err(fault) => return Err(Refusal::Breaks(fault)),
+            Err(fault) => return Err(LineRefusal::Breaks(fault)),
         };
         let start = self.place;
         self.go(Way::Line { start, end }, Pace::Feed(feed))

@@ -4,9 +4,9 @@ ghost use Rattle.ngc_canonical.specs.Interpreter.{setup_of, state_of, Becomes};
 ghost use Rattle.ngc_canonical.specs.Perform.{with_motion, stop as stopped, perform as performed};
 ghost use Rattle.ngc_canonical.specs.Perform.{run as run_through};
 
-use crate::state::{Interpreter, Refusal};
+use crate::state::{Interpreter, LineRefusal};
 use ngc_commands::Action;
-use ngc_machine::{Machine, Tools};
+use ngc_machine_files::{Machine, Tools};
 use ngc_modal_state::{Effect, MotionMode, Stopping};
 use std::alloc::Allocator;
 
@@ -21,7 +21,7 @@ impl<A: Allocator + Copy> Interpreter<A> {
         }
     }
 
-    fn stop(&mut self, stopping: Stopping) -> Result<(), Refusal>
+    fn stop(&mut self, stopping: Stopping) -> Result<(), LineRefusal>
         ensures { Becomes result (state_of self.new) (stopped stopping (state_of self.old)) }
     {
         match stopping {
@@ -44,7 +44,7 @@ impl<A: Allocator + Copy> Interpreter<A> {
         machine: &Machine<A>,
         tools: &Tools<A>,
         effect: &Effect,
-    ) -> Result<(), Refusal>
+    ) -> Result<(), LineRefusal>
         ensures { Becomes result (state_of self.new)
             (performed (setup_of machine.now tools.now) effect.now (state_of self.old)) }
     {
@@ -63,7 +63,7 @@ impl<A: Allocator + Copy> Interpreter<A> {
             }
             Effect::Plane(plane) => self.set_plane(*plane),
             Effect::Units(units) => self.modes.units = *units,
-            Effect::RadiusOff => {}
+            Effect::CutterCompensationOff => {}
             Effect::ToolLength(h) => return self.set_length(tools, *h),
             Effect::System(system) => self.select(*system),
             Effect::Path(path) => self.modes.path = *path,
@@ -101,7 +101,7 @@ impl<A: Allocator + Copy> Interpreter<A> {
         machine: &Machine<A>,
         tools: &Tools<A>,
         effects: &[Effect],
-    ) -> Result<(), Refusal>
+    ) -> Result<(), LineRefusal>
         ensures { Becomes result (state_of self.new)
             (run_through (setup_of machine.now tools.now) effects.now (state_of self.old)) }
     {

@@ -1,8 +1,8 @@
 //! Places that words give, and changes of the frames.
 ghost use Rattle.std.specs.Prelude.{◌≡◌, ℤ, pos, IfOk};
 ghost use Rattle.ngc_offsets.specs.Ranges.{IsMachinePlace};
-ghost use Rattle.ngc_machine.specs.Machine.{file_of};
-ghost use Rattle.ngc_machine.specs.Tools.{tools_of};
+ghost use Rattle.ngc_machine_files.specs.Machine.{file_of};
+ghost use Rattle.ngc_machine_files.specs.Tools.{tools_of};
 ghost use Rattle.ngc_canonical.specs.State.{unseries};
 ghost use Rattle.ngc_offsets.specs.Frames.{select as selected, clear as cleared};
 ghost use Rattle.ngc_offsets.specs.Frames.{suspend as suspended, restore as restored};
@@ -14,9 +14,9 @@ ghost use Rattle.ngc_canonical.specs.Places.{set_length as length_set, home_of a
 ghost use Rattle.ngc_canonical.specs.Places.{go_home as gone_home, stands as are_there};
 
 use crate::fault::Fault;
-use crate::state::{Interpreter, Refusal};
+use crate::state::{Interpreter, LineRefusal};
 use ngc_fixed_length::{Nm, Plane, Point3, System, Units, Value};
-use ngc_machine::{Machine, Tools};
+use ngc_machine_files::{Machine, Tools};
 use ngc_modal_state::{AxisWords, Home};
 use ngc_offsets::{AxisLengths, machine_target};
 use std::alloc::Allocator;
@@ -93,42 +93,46 @@ impl<A: Allocator> Interpreter<A> {
     }
 
     /// G10 L2.
-    pub(crate) fn set_origin(&mut self, system: System, words: &AxisWords) -> Result<(), Refusal>
+    pub(crate) fn set_origin(
+        &mut self,
+        system: System,
+        words: &AxisWords,
+    ) -> Result<(), LineRefusal>
         ensures { Becomes result (state_of self.new)
             (origin_set system words.now (state_of self.old)) }
     {
         let given = match axis_lengths(self.modes.units, words) {
             Ok(given) => given,
-            Err(fault) => return Err(Refusal::Breaks(fault)),
+            Err(fault) => return Err(LineRefusal::Breaks(fault)),
         };
         match self.frames.set_origin(system, &given) {
             Ok(()) => {
                 self.series = None;
                 Ok(())
             }
-            Err(fault) => Err(Refusal::Breaks(Fault::Frame(fault))),
+            Err(fault) => Err(LineRefusal::Breaks(Fault::Frame(fault))),
         }
     }
 
     /// G92.
-    pub(crate) fn set_offset(&mut self, words: &AxisWords) -> Result<(), Refusal>
+    pub(crate) fn set_offset(&mut self, words: &AxisWords) -> Result<(), LineRefusal>
         ensures { Becomes result (state_of self.new) (offset_set words.now (state_of self.old)) }
     {
         let given = match axis_lengths(self.modes.units, words) {
             Ok(given) => given,
-            Err(fault) => return Err(Refusal::Breaks(fault)),
+            Err(fault) => return Err(LineRefusal::Breaks(fault)),
         };
         match self.frames.set_axis(self.place, &given) {
             Ok(()) => {
                 self.series = None;
                 Ok(())
             }
-            Err(fault) => Err(Refusal::Breaks(Fault::Frame(fault))),
+            Err(fault) => Err(LineRefusal::Breaks(Fault::Frame(fault))),
         }
     }
 
     /// G43 with its H, or G49.
-    pub(crate) fn set_length(&mut self, tools: &Tools<A>, h: Option<u32>) -> Result<(), Refusal>
+    pub(crate) fn set_length(&mut self, tools: &Tools<A>, h: Option<u32>) -> Result<(), LineRefusal>
         ensures { Becomes result (state_of self.new)
             (length_set (tools_of tools.now) h (state_of self.old)) }
     {
@@ -137,7 +141,7 @@ impl<A: Allocator> Interpreter<A> {
                 self.series = None;
                 Ok(())
             }
-            Err(fault) => Err(Refusal::Breaks(Fault::Frame(fault))),
+            Err(fault) => Err(LineRefusal::Breaks(Fault::Frame(fault))),
         }
     }
 
@@ -196,13 +200,13 @@ impl<A: Allocator> Interpreter<A> {
         machine: &Machine<A>,
         home: Home,
         words: &AxisWords,
-    ) -> Result<(), Refusal>
+    ) -> Result<(), LineRefusal>
         ensures { Becomes result (state_of self.new)
             (gone_home (file_of machine.now) home words.now (state_of self.old)) }
     {
         let through = match self.end_of(false, words) {
             Ok(through) => through,
-            Err(fault) => return Err(Refusal::Breaks(fault)),
+            Err(fault) => return Err(LineRefusal::Breaks(fault)),
         };
         if stands(words) {
             match self.traverse_to(&through) {

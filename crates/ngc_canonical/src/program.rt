@@ -7,7 +7,7 @@ ghost use Rattle.ngc_line_reader.specs.Program.{Line as ProgramLine};
 ghost use Rattle.ngc_line_reader.specs.Words.{pairs_of};
 ghost use Rattle.ngc_line_reader.specs.ProgramText.{AreReadings};
 ghost use Rattle.ngc_line_reader.specs.ProgramView.{text_in};
-ghost use Rattle.ngc_machine.specs.Machine.{file_of};
+ghost use Rattle.ngc_machine_files.specs.Machine.{file_of};
 ghost use Rattle.ngc_parameters.specs.Stored.{changes_of};
 ghost use Rattle.ngc_canonical.specs.Meaning.{effects_of as effects_in, execute as executed};
 ghost use Rattle.ngc_canonical.specs.Meaning.{execute_words as words_executed};
@@ -20,11 +20,11 @@ ghost use Rattle.ngc_commands.specs.Movement.{actions_of, ways_of, AreJoined};
 ghost use Rattle.ngc_commands.specs.Sequence.{HaveEvenRadii, EndIsLast, HasEnd};
 
 use crate::fault::{Fault, ProgramFault};
-use crate::state::{Interpreter, Refusal};
+use crate::state::{Interpreter, LineRefusal};
 use arrayvec::ArrayVec;
 use ngc_commands::{Action, Command};
 use ngc_line_reader::{Line, LineView, Program, Word};
-use ngc_machine::{Machine, Tools};
+use ngc_machine_files::{Machine, Tools};
 use ngc_modal_state::{Block, Effect};
 use ngc_parameters::{Changes, LineValues};
 use std::alloc::Allocator;
@@ -79,14 +79,14 @@ impl<A: Allocator + Copy> Interpreter<A> {
         tools: &Tools<A>,
         words: &[Word],
         effects: &mut ArrayVec<Effect, 24>,
-    ) -> Result<(), Refusal>
+    ) -> Result<(), LineRefusal>
         ensures { Becomes result (state_of self.new)
             (words_executed (setup_of machine.now tools.now) (pairs_of words.now)
             (state_of self.old)) }
     {
         match self.effects(words, effects) {
             Ok(()) => self.run(machine, tools, effects.as_slice()),
-            Err(fault) => Err(Refusal::Breaks(fault)),
+            Err(fault) => Err(LineRefusal::Breaks(fault)),
         }
     }
 
@@ -98,7 +98,7 @@ impl<A: Allocator + Copy> Interpreter<A> {
         line: LineView<'_>,
         values: &mut LineValues,
         effects: &mut ArrayVec<Effect, 24>,
-    ) -> Result<(), Refusal>
+    ) -> Result<(), LineRefusal>
         ensures { (bytes : List ℕ) (r : Reading) →
             items_of (view_parts line.entry) ≡ items_said bytes r → AllWithinLimit r.items →
             Becomes result (state_of self.new)
@@ -106,7 +106,7 @@ impl<A: Allocator + Copy> Interpreter<A> {
     {
         match self.store.read(line, values) {
             Ok(()) => {}
-            Err(fault) => return Err(Refusal::Breaks(Fault::Value(fault))),
+            Err(fault) => return Err(LineRefusal::Breaks(Fault::Value(fault))),
         }
         match self.execute_words(machine, tools, values.words.as_slice(), effects) {
             Ok(()) => {
@@ -125,7 +125,7 @@ impl<A: Allocator + Copy> Interpreter<A> {
         program: &Program<A>,
         index: usize,
         work: &mut Work,
-    ) -> Result<(), Refusal>
+    ) -> Result<(), LineRefusal>
         requires { index < length (text_in program.now).lines }
         ensures { (line : ProgramLine) → slice_get (text_in program.now).lines index ≡ Some line →
             IsExecuted (setup_of machine.now tools.now) line result (state_of self.old)
@@ -177,8 +177,8 @@ impl<A: Allocator + Copy> Interpreter<A> {
         self.at(line);
         match self.execute_line(machine, tools, program, index, work) {
             Ok(()) => Ok(()),
-            Err(Refusal::Breaks(fault)) => Err(ProgramFault::At { line, fault }),
-            Err(Refusal::Memory) => Err(ProgramFault::Memory),
+            Err(LineRefusal::Breaks(fault)) => Err(ProgramFault::At { line, fault }),
+            Err(LineRefusal::Memory) => Err(ProgramFault::Memory),
         }
     }
 
@@ -200,8 +200,8 @@ impl<A: Allocator + Copy> Interpreter<A> {
         self.at(line);
         match self.emit(Action::End) {
             Ok(()) => Ok(self.into_commands()),
-            Err(Refusal::Breaks(fault)) => Err(ProgramFault::At { line, fault }),
-            Err(Refusal::Memory) => Err(ProgramFault::Memory),
+            Err(LineRefusal::Breaks(fault)) => Err(ProgramFault::At { line, fault }),
+            Err(LineRefusal::Memory) => Err(ProgramFault::Memory),
         }
     }
 }

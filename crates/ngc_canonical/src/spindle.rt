@@ -1,6 +1,6 @@
 //! Spindle, coolant and tool change.
 ghost use Rattle.std.specs.Prelude.{◌≡◌};
-ghost use Rattle.ngc_machine.specs.Tools.{tools_of};
+ghost use Rattle.ngc_machine_files.specs.Tools.{tools_of};
 ghost use Rattle.ngc_canonical.specs.Interpreter.{state_of, Becomes};
 ghost use Rattle.ngc_canonical.specs.Spindle.{spindle_state as state_said, set_speed as speed_set};
 ghost use Rattle.ngc_canonical.specs.Spindle.{turn_of as turn_said, set_spindle as spindle_set};
@@ -9,10 +9,10 @@ ghost use Rattle.ngc_canonical.specs.Spindle.{with_coolant as coolant_with};
 ghost use Rattle.ngc_canonical.specs.Spindle.{set_coolant as coolant_set};
 
 use crate::fault::Fault;
-use crate::state::{Interpreter, Refusal};
+use crate::state::{Interpreter, LineRefusal};
 use ngc_commands::{Action, CoolantState, SpindleState};
 use ngc_fixed_length::{Turn, Value};
-use ngc_machine::{Tool, Tools};
+use ngc_machine_files::{Tool, Tools};
 use ngc_modal_state::{Coolant, Spindle};
 use ngc_offsets::FrameFault;
 use std::alloc::Allocator;
@@ -48,7 +48,7 @@ fn with_coolant(code: Coolant, had: CoolantState) -> CoolantState
 
 impl<A: Allocator> Interpreter<A> {
     /// S: the speed, which a turning spindle takes at once.
-    pub(crate) fn set_speed(&mut self, value: Value) -> Result<(), Refusal>
+    pub(crate) fn set_speed(&mut self, value: Value) -> Result<(), LineRefusal>
         ensures { Becomes result (state_of self.new) (speed_set value (state_of self.old)) }
     {
         self.speed = value.millionths().unsigned_abs();
@@ -59,14 +59,14 @@ impl<A: Allocator> Interpreter<A> {
     }
 
     /// M3, M4, M5.
-    pub(crate) fn set_spindle(&mut self, code: Spindle) -> Result<(), Refusal>
+    pub(crate) fn set_spindle(&mut self, code: Spindle) -> Result<(), LineRefusal>
         ensures { Becomes result (state_of self.new) (spindle_set code (state_of self.old)) }
     {
         self.spindle = turn_of(code);
         self.emit(Action::Spindle(spindle_state(self.spindle, self.speed)))
     }
 
-    fn mount(&mut self, tool: Option<Tool>) -> Result<(), Refusal>
+    fn mount(&mut self, tool: Option<Tool>) -> Result<(), LineRefusal>
         ensures { Becomes result (state_of self.new) (mounted tool (state_of self.old)) }
     {
         self.spindle = None;
@@ -74,7 +74,7 @@ impl<A: Allocator> Interpreter<A> {
     }
 
     /// M6: mounts the selected tool, or none; 222 where the table doesn't have it.
-    pub(crate) fn change_tool(&mut self, tools: &Tools<A>) -> Result<(), Refusal>
+    pub(crate) fn change_tool(&mut self, tools: &Tools<A>) -> Result<(), LineRefusal>
         ensures { Becomes result (state_of self.new)
             (tool_changed (tools_of tools.now) (state_of self.old).selected (state_of self.old)) }
     {
@@ -83,12 +83,12 @@ impl<A: Allocator> Interpreter<A> {
         }
         match tools.find(self.selected) {
             Some(tool) => self.mount(Some(tool)),
-            None => Err(Refusal::Breaks(Fault::Frame(FrameFault::NoSuchTool))),
+            None => Err(LineRefusal::Breaks(Fault::Frame(FrameFault::NoSuchTool))),
         }
     }
 
     /// M7, M8, M9.
-    pub(crate) fn set_coolant(&mut self, code: Coolant) -> Result<(), Refusal>
+    pub(crate) fn set_coolant(&mut self, code: Coolant) -> Result<(), LineRefusal>
         ensures { Becomes result (state_of self.new) (coolant_set code (state_of self.old)) }
     {
         self.coolant = with_coolant(code, self.coolant);

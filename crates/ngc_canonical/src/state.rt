@@ -13,7 +13,7 @@ use std::alloc::Allocator;
 
 /// Why a line isn't executed: what it breaks, or want of memory.
 #[derive(Clone, Copy)]
-pub enum Refusal {
+pub enum LineRefusal {
     Breaks(Fault),
     Memory,
 }

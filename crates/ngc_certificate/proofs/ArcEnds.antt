@@ -14,8 +14,8 @@ use Rattle.ngc_arc_geometry.proofs.CutChain.{at_end}
 use Rattle.ngc_arc_geometry.proofs.CutEnds.{start_in_cut, end_in_cut}
 use Rattle.ngc_arc_geometry.proofs.CutSeen.{both}
 use Rattle.ngc_arc_geometry.proofs.SweptEnds.{start_inside, end_inside}
-use Rattle.ngc_machine.specs.declared.tools.Tool.{Tool}
-use Rattle.ngc_machine.specs.Machine.{MachineFile}
+use Rattle.ngc_machine_files.specs.declared.tools.Tool.{Tool}
+use Rattle.ngc_machine_files.specs.Machine.{MachineFile}
 use Rattle.ngc_commands.specs.declared.movement.Way.TheVariants.{Arc}
 use Rattle.ngc_collision.specs.Body.{IsSafe}
 use Rattle.ngc_certificate_text.specs.declared.piece.Cut.{Cut}

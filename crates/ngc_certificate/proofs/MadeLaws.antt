@@ -8,8 +8,8 @@ use Rattle.std.proofs.lemmas.Bool.{cases_lt}
 use Rattle.std.proofs.lemmas.Bool.Decides.{nat_tests}
 use Rattle.ngc_fixed_length.specs.Grid.{grid}
 use Rattle.ngc_fixed_length.specs.declared.points.Point3.{Point3}
-use Rattle.ngc_machine.specs.Machine.{MachineFile}
-use Rattle.ngc_machine.specs.declared.tools.Tool.{Tool}
+use Rattle.ngc_machine_files.specs.Machine.{MachineFile}
+use Rattle.ngc_machine_files.specs.declared.tools.Tool.{Tool}
 use Rattle.ngc_commands.specs.declared.command.Command.{Command}
 use Rattle.ngc_commands.specs.declared.movement.Motion.{Motion}
 use Rattle.ngc_commands.specs.declared.movement.Way.{Way}
@@ -23,8 +23,8 @@ use Rattle.ngc_certificate_text.specs.declared.piece.Setting.TheVariants.{Off, O
 use Rattle.ngc_certificate_text.specs.Certificate.{Entry, CertificateData}
 use Rattle.ngc_certificate.specs.declared.fault.MakeFault.{MakeFault}
 use Rattle.ngc_certificate.specs.declared.fault.MakeFault.TheVariants.{NotCleared, Memory}
-use Rattle.ngc_certificate.specs.declared.maker.Refusal.{Refusal}
-use Rattle.ngc_certificate.specs.declared.maker.Refusal.TheVariants as refusals
+use Rattle.ngc_certificate.specs.declared.maker.MotionRefusal.{MotionRefusal}
+use Rattle.ngc_certificate.specs.declared.maker.MotionRefusal.TheVariants as refusals
 use Rattle.ngc_certificate.specs.PieceFault.{pieces_fault, place_fault, ArePiecesValid}
 use Rattle.ngc_certificate.specs.Valid.{AreClearFrom, IsValid}
 use Rattle.ngc_certificate.specs.Made.{pieces_of, cleared, with_entry, with_pieces, unless_met, MayFind, IsMadeFrom, IsSettingMade, join_settings, from_start}
@@ -172,7 +172,7 @@ undivided_made machine most off on says least a b made =
     (record { off = p.0; on = q.0 }, made.4 ∙ ap (λ o. from_start o (join_settings made.0 made.1)) (none_of start e.0) ∙ ap₂ join_settings p.1 q.1)
 
 -- if a setting is refused, not all motions clear undivided
-refused_undivided : (machine : MachineFile) (most : ℕ) (off on : List Command) (s : Setting) (refusal : Refusal) → 1 ≤ most →
+refused_undivided : (machine : MachineFile) (most : ℕ) (off on : List Command) (s : Setting) (refusal : MotionRefusal) → 1 ≤ most →
     GivesMade {X = CertificateData} (λ c. c) (Err (fault_at s refusal)) (IsMade machine most off on) →
     clears_undivided machine off ≡ true → clears_undivided machine on ≡ true → fault_at s refusal ≡ Memory
 refused_undivided machine most off on s (refusals.NotCleared k) least h a b =
@@ -206,7 +206,7 @@ start_refused machine most off on clear start here =
       met_start (place_fault machine None (grid machine.step machine.start)) (join_settings first.0 second.0) (sym start ∙ here),
     )
 
-pub off_refused : {X : Type 0} (view : X → CertificateData) (machine : MachineFile) (most : ℕ) (off on : List Command) (clear : Bool) (refusal : Refusal)
+pub off_refused : {X : Type 0} (view : X → CertificateData) (machine : MachineFile) (most : ℕ) (off on : List Command) (clear : Bool) (refusal : MotionRefusal)
     (fault : MakeFault) →
     clear ≡ is_none (place_fault machine None (grid machine.step machine.start)) → clear ≡ true →
     GivesSetting {X = List Entry} (λ m. m) (Err refusal) (IsSettingMade machine most off) → fault ≡ fault_at Off refusal →
@@ -214,7 +214,7 @@ pub off_refused : {X : Type 0} (view : X → CertificateData) (machine : Machine
 off_refused view machine most off on clear refusal fault start here h same =
     subst (λ f. GivesMade view (Err f) (IsMade machine most off on)) (sym same) (at_off refusal h)
   where
-    at_off : (r : Refusal) → GivesSetting {X = List Entry} (λ m. m) (Err r) (IsSettingMade machine most off) →
+    at_off : (r : MotionRefusal) → GivesSetting {X = List Entry} (λ m. m) (Err r) (IsSettingMade machine most off) →
         GivesMade view (Err (fault_at Off r)) (IsMade machine most off on)
     at_off (refusals.NotCleared k) made =
         let second = some_made machine most 0 None machine.start (actions_of on) in
@@ -222,14 +222,14 @@ off_refused view machine most off on clear refusal fault start here h same =
     at_off refusals.Memory made = tt
 
 pub on_refused : {X : Type 0} (view : X → CertificateData) (machine : MachineFile) (most : ℕ) (off on : List Command) (clear : Bool) (entries : List Entry)
-    (refusal : Refusal) (fault : MakeFault) →
+    (refusal : MotionRefusal) (fault : MakeFault) →
     clear ≡ is_none (place_fault machine None (grid machine.step machine.start)) → clear ≡ true → IsSettingMade machine most off (Ok entries) →
     GivesSetting {X = List Entry} (λ m. m) (Err refusal) (IsSettingMade machine most on) → fault ≡ fault_at On refusal →
     GivesMade view (Err fault) (IsMade machine most off on)
 on_refused view machine most off on clear entries refusal fault start here first h same =
     subst (λ f. GivesMade view (Err f) (IsMade machine most off on)) (sym same) (at_on refusal h)
   where
-    at_on : (r : Refusal) → GivesSetting {X = List Entry} (λ m. m) (Err r) (IsSettingMade machine most on) →
+    at_on : (r : MotionRefusal) → GivesSetting {X = List Entry} (λ m. m) (Err r) (IsSettingMade machine most on) →
         GivesMade view (Err (fault_at On r)) (IsMade machine most off on)
     at_on (refusals.NotCleared k) made =
         (Ok entries, Err k, first, made, ap (λ o. from_start o (join_settings (Ok entries) (Err k))) (sym (no_fixture machine clear start here)))
@@ -252,7 +252,7 @@ both_made machine most off on clear off_entries on_entries start here first seco
   ap (λ o. from_start o (join_settings (Ok off_entries) (Ok on_entries))) (sym (no_fixture machine clear start here)),
 )
 
-pub off_undivided : (machine : MachineFile) (most : ℕ) (off on : List Command) (clear : Bool) (refusal : Refusal) (fault : MakeFault) → 1 ≤ most →
+pub off_undivided : (machine : MachineFile) (most : ℕ) (off on : List Command) (clear : Bool) (refusal : MotionRefusal) (fault : MakeFault) → 1 ≤ most →
     clear ≡ is_none (place_fault machine None (grid machine.step machine.start)) → clear ≡ true →
     GivesSetting {X = List Entry} (λ m. m) (Err refusal) (IsSettingMade machine most off) → fault ≡ fault_at Off refusal →
     clears_undivided machine off ≡ true → clears_undivided machine on ≡ true → fault ≡ Memory
@@ -260,7 +260,7 @@ off_undivided machine most off on clear refusal fault least start here given sam
     same ∙ refused_undivided machine most off on Off refusal least
     (off_refused {X = CertificateData} (λ c. c) machine most off on clear refusal (fault_at Off refusal) start here given refl) a b
 
-pub on_undivided : (machine : MachineFile) (most : ℕ) (off on : List Command) (clear : Bool) (entries : List Entry) (refusal : Refusal) (fault : MakeFault) →
+pub on_undivided : (machine : MachineFile) (most : ℕ) (off on : List Command) (clear : Bool) (entries : List Entry) (refusal : MotionRefusal) (fault : MakeFault) →
     1 ≤ most →
     clear ≡ is_none (place_fault machine None (grid machine.step machine.start)) → clear ≡ true →
     IsSettingMade machine most off (Ok entries) → GivesSetting {X = List Entry} (λ m. m) (Err refusal) (IsSettingMade machine most on) →

@@ -5,8 +5,8 @@ use Rattle.std.specs.Prelude.{Option, Result, true, false}
 use Rattle.std.specs.Option.{is_none}
 use Rattle.ngc_fixed_length.specs.Grid.{grid}
 use Rattle.ngc_fixed_length.specs.declared.points.Point3.{Point3}
-use Rattle.ngc_machine.specs.Machine.{MachineFile}
-use Rattle.ngc_machine.specs.declared.tools.Tool.{Tool}
+use Rattle.ngc_machine_files.specs.Machine.{MachineFile}
+use Rattle.ngc_machine_files.specs.declared.tools.Tool.{Tool}
 use Rattle.ngc_commands.specs.declared.movement.Motion.{Motion}
 use Rattle.ngc_commands.specs.declared.command.Action.{Action}
 use Rattle.ngc_commands.specs.declared.command.Action.TheVariants.{Move, Mount}
@@ -19,8 +19,8 @@ use Rattle.ngc_certificate.specs.PieceFault.{place_fault}
 use Rattle.ngc_certificate.specs.Made.{with_entry, unless_met, MayFind, IsMadeFrom, IsSettingMade}
 use Rattle.ngc_certificate.specs.Making.{behind, IsGivenFrom, Leads, GivesSetting}
 use Rattle.ngc_certificate.specs.declared.maker.Progress.{Progress}
-use Rattle.ngc_certificate.specs.declared.maker.Refusal.{Refusal}
-use Rattle.ngc_certificate.specs.declared.maker.Refusal.TheVariants.{NotCleared, Memory}
+use Rattle.ngc_certificate.specs.declared.maker.MotionRefusal.{MotionRefusal}
+use Rattle.ngc_certificate.specs.declared.maker.MotionRefusal.TheVariants.{NotCleared, Memory}
 use Rattle.ngc_certificate.proofs.SomeMade.{some_made}
 
 behind_entry : (motions : List Entry) (k : ℕ) (pieces : List Piece) (r : Result (List Entry) ℕ) →
@@ -94,7 +94,7 @@ none_left i commands h = ap actions_of (drop_of_length-le commands {i = i} h)
 
 -- a command that isn't cleared
 pub stopped : {A : Type 0} (machine : MachineFile) (most k : ℕ) (commands : List Command) (action : Action) (left later : List Action) (old new : Progress A)
-    (refusal : Refusal) →
+    (refusal : MotionRefusal) →
     ((says : Result (List Entry) ℕ) → IsGivenFrom machine most k old left says → IsSettingMade machine most commands says) → left ≡ action ∷ later →
     Leads machine most k action old (Err refusal) new → GivesSetting {X = List Entry} (λ m. m) (Err refusal) (IsSettingMade machine most commands)
 stopped machine most k commands action left later old new (NotCleared n) leads split h =

@@ -3,8 +3,8 @@ use Rattle.std.proofs.Common.{◌≡◌, ℕ, ◌+◌, ◌-◌, ◌<◌, List, [
 use Rattle.std.proofs.Common.{arith, add-one, drop-cons, length-drop}
 use Rattle.std.specs.Option.{option_map}
 use Rattle.std.proofs.lemmas.Bool.Decides.{nat_tests}
-use Rattle.ngc_machine.specs.declared.tools.Tool.{Tool}
-use Rattle.ngc_machine.specs.Machine.{MachineFile}
+use Rattle.ngc_machine_files.specs.declared.tools.Tool.{Tool}
+use Rattle.ngc_machine_files.specs.Machine.{MachineFile}
 use Rattle.ngc_commands.specs.declared.movement.Way.{Way}
 use Rattle.ngc_certificate_text.specs.declared.piece.Cut.{Cut}
 use Rattle.ngc_certificate_text.specs.declared.piece.Piece.{Piece}

@@ -5,8 +5,8 @@ use Rattle.ngc_fixed_length.specs.declared.points.StepPos.{StepPos}
 use Rattle.ngc_fixed_length.specs.declared.points.GridBox.{GridBox}
 use Rattle.ngc_fixed_length.specs.LinePath.{point}
 use Rattle.ngc_fixed_length.specs.Boxes.{IsIn}
-use Rattle.ngc_machine.specs.declared.tools.Tool.{Tool}
-use Rattle.ngc_machine.specs.Machine.{MachineFile}
+use Rattle.ngc_machine_files.specs.declared.tools.Tool.{Tool}
+use Rattle.ngc_machine_files.specs.Machine.{MachineFile}
 use Rattle.ngc_commands.specs.declared.movement.Way.{Way}
 use Rattle.ngc_collision.specs.Body.{IsSafe}
 use Rattle.ngc_certificate_text.specs.declared.piece.Cut.{Cut}

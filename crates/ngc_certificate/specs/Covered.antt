@@ -9,8 +9,8 @@ use Rattle.ngc_commands.specs.ProgramPath.{IsPathOf}
 use Rattle.ngc_certificate_text.specs.declared.piece.Cut.{Cut}
 use Rattle.ngc_certificate_text.specs.declared.piece.Piece.{Piece}
 use Rattle.ngc_collision.specs.Body.{IsSafe}
-use Rattle.ngc_machine.specs.Machine.{MachineFile}
-use Rattle.ngc_machine.specs.declared.tools.Tool.{Tool}
+use Rattle.ngc_machine_files.specs.Machine.{MachineFile}
+use Rattle.ngc_machine_files.specs.declared.tools.Tool.{Tool}
 use Rattle.ngc_certificate.specs.Chain.{IsChain}
 use Rattle.ngc_certificate.specs.PieceFault.{ArePiecesValid}
 use Rattle.ngc_certificate.specs.DerivedBox.{derived_boxes}

@@ -10,8 +10,8 @@ use Rattle.ngc_fixed_length.specs.declared.points.GridBox.{GridBox}
 use Rattle.ngc_arc_geometry.specs.Swept.{swept_box}
 use Rattle.ngc_commands.specs.declared.movement.Way.{Way}
 use Rattle.ngc_commands.specs.declared.movement.Way.TheVariants.{Line, Arc}
-use Rattle.ngc_machine.specs.declared.tools.Tool.{Tool}
-use Rattle.ngc_machine.specs.Machine.{MachineFile}
+use Rattle.ngc_machine_files.specs.declared.tools.Tool.{Tool}
+use Rattle.ngc_machine_files.specs.Machine.{MachineFile}
 use Rattle.ngc_certificate_text.specs.Certificate.{WHOLE}
 use Rattle.ngc_certificate_text.specs.declared.piece.Cut.{Cut}
 use Rattle.ngc_certificate_text.specs.declared.piece.Piece.{Piece}

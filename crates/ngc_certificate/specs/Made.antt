@@ -10,8 +10,8 @@ use Rattle.ngc_fixed_length.specs.declared.points.Point3.{Point3}
 use Rattle.ngc_arc_geometry.specs.Shape.{ArcShape}
 use Rattle.ngc_arc_geometry.specs.Shape as shapes
 use Rattle.ngc_arc_geometry.specs.Swept.{swept_box}
-use Rattle.ngc_machine.specs.Machine.{MachineFile}
-use Rattle.ngc_machine.specs.declared.tools.Tool.{Tool}
+use Rattle.ngc_machine_files.specs.Machine.{MachineFile}
+use Rattle.ngc_machine_files.specs.declared.tools.Tool.{Tool}
 use Rattle.ngc_commands.specs.declared.command.Command.{Command}
 use Rattle.ngc_commands.specs.declared.movement.Way.{Way}
 use Rattle.ngc_commands.specs.declared.movement.Way.TheVariants.{Line, Arc}

@@ -6,8 +6,8 @@ use Rattle.ngc_arc_geometry.specs.Shape as shapes
 use Rattle.ngc_arc_geometry.specs.Swept.{swept_box}
 use Rattle.ngc_certificate_text.specs.declared.piece.Cut.TheVariants.{Place}
 use Rattle.ngc_fixed_length.specs.declared.points.Point3.{Point3}
-use Rattle.ngc_machine.specs.Machine.{MachineFile}
-use Rattle.ngc_machine.specs.declared.tools.Tool.{Tool}
+use Rattle.ngc_machine_files.specs.Machine.{MachineFile}
+use Rattle.ngc_machine_files.specs.declared.tools.Tool.{Tool}
 use Rattle.ngc_commands.specs.declared.command.Action.{Action}
 use Rattle.ngc_commands.specs.declared.movement.Way.{Way}
 use Rattle.ngc_fixed_length.specs.Grid.{grid}
@@ -18,8 +18,8 @@ use Rattle.ngc_certificate_text.specs.declared.piece.Setting.{Setting}
 use Rattle.ngc_certificate.specs.declared.fault.MakeFault.{MakeFault}
 use Rattle.ngc_certificate.specs.declared.fault.MakeFault.TheVariants as faults
 use Rattle.ngc_certificate.specs.declared.maker.Progress.{Progress}
-use Rattle.ngc_certificate.specs.declared.maker.Refusal.{Refusal}
-use Rattle.ngc_certificate.specs.declared.maker.Refusal.TheVariants.{NotCleared, Memory}
+use Rattle.ngc_certificate.specs.declared.maker.MotionRefusal.{MotionRefusal}
+use Rattle.ngc_certificate.specs.declared.maker.MotionRefusal.TheVariants.{NotCleared, Memory}
 use Rattle.ngc_certificate.specs.PieceFault.{pieces_fault, place_fault}
 use Rattle.ngc_certificate.specs.Made.{pieces_of, IsMadeFrom}
 
@@ -54,7 +54,7 @@ IsGivenFrom machine most k p actions says =
 
 -- command k is executed, or it isn't cleared, unless memory ran out
 abbrev pub Leads : {A : Type 0} → MachineFile → ℕ → ℕ → Action → Progress A →
-    Result (Unit {0}) Refusal → Progress A → Type 0
+    Result (Unit {0}) MotionRefusal → Progress A → Type 0
 Leads machine most k action old (Ok done) new =
     ((actions : List Action) (says : Result (List Entry) ℕ) →
     IsGivenFrom machine most (k + 1) new actions says →
@@ -65,13 +65,13 @@ Leads machine most k action old (Err (NotCleared command)) new =
 Leads machine most k action old (Err Memory) new = Unit {0}
 
 -- a result that is allowed, unless memory ran out
-abbrev pub GivesSetting : {X : Type 0} → (X → List Entry) → Result X Refusal →
+abbrev pub GivesSetting : {X : Type 0} → (X → List Entry) → Result X MotionRefusal →
     (Result (List Entry) ℕ → Type 0) → Type 0
 GivesSetting view (Ok x) May = May (Ok (view x))
 GivesSetting view (Err (NotCleared command)) May = May (Err command)
 GivesSetting view (Err Memory) May = Unit {0}
 
 -- the fault for a refusal at a setting
-abbrev pub fault_at : Setting → Refusal → MakeFault
+abbrev pub fault_at : Setting → MotionRefusal → MakeFault
 fault_at s (NotCleared command) = faults.NotCleared s command
 fault_at s Memory = faults.Memory

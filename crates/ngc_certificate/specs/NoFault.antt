@@ -1,8 +1,8 @@
 -- There is no refusal if and only if all is valid. Our own.
 use Rattle.std.specs.Prelude.{◌≡◌, List, Option, None, ◌↔◌}
 use Rattle.ngc_fixed_length.specs.declared.points.StepPos.{StepPos}
-use Rattle.ngc_machine.specs.declared.tools.Tool.{Tool}
-use Rattle.ngc_machine.specs.Machine.{MachineFile}
+use Rattle.ngc_machine_files.specs.declared.tools.Tool.{Tool}
+use Rattle.ngc_machine_files.specs.Machine.{MachineFile}
 use Rattle.ngc_commands.specs.declared.movement.Way.{Way}
 use Rattle.ngc_collision.specs.Body.{IsClearAt}
 use Rattle.ngc_certificate_text.specs.declared.piece.Piece.{Piece}

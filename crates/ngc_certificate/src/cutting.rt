@@ -15,7 +15,7 @@ use crate::quadrant::{Quadrant, Spot};
 use ngc_arc_geometry::{Arc, GridArc};
 use ngc_certificate_text::{Cut, Piece};
 use ngc_fixed_length::{Nm, Point2};
-use ngc_machine::{Machine, Tool};
+use ngc_machine_files::{Machine, Tool};
 use std::alloc::{AllocError, Allocator};
 
 /// The greatest coordinate of a cut, in nanometres.

@@ -1,7 +1,7 @@
 //! Finds pieces that clear a motion.
 ghost use Rattle.std.specs.Prelude.{◌≡◌, ◌≤◌, true, IsTrue, IfOk};
 ghost use Rattle.std.specs.List.{list_all};
-ghost use Rattle.ngc_machine.specs.Machine.{file_of};
+ghost use Rattle.ngc_machine_files.specs.Machine.{file_of};
 ghost use Rattle.ngc_commands.specs.declared.movement.Way.TheVariants as ways;
 ghost use Rattle.ngc_certificate_text.specs.Certificate.{good_piece};
 ghost use Rattle.ngc_certificate.specs.Made.{pieces_of, cleared, IsCutClear, MayFind, MayStand};
@@ -13,7 +13,7 @@ use crate::pieces::pieces_fault;
 use ngc_arc_geometry::Arc;
 use ngc_certificate_text::Piece;
 use ngc_commands::Way;
-use ngc_machine::{Machine, Tool};
+use ngc_machine_files::{Machine, Tool};
 use std::alloc::{AllocError, Allocator};
 
 /// The numbers of pieces in which a line is tried, up to the greatest number allowed.

@@ -7,7 +7,7 @@ use crate::quadrant::{Quadrant, Sight, Spot};
 use ngc_arc_geometry::{Arc, GridArc};
 use ngc_collision::{first_met, is_in_travel};
 use ngc_fixed_length::{Nm, Plane, Point2, root_ceil, root_floor};
-use ngc_machine::{Fixture, Machine, Part, Tool};
+use ngc_machine_files::{Fixture, Machine, Part, Tool};
 use std::alloc::Allocator;
 
 /// A distance along an axis that exceeds all others, in nanometres.

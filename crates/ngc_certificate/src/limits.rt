@@ -4,7 +4,7 @@ ghost use Rattle.std.specs.Prelude.{◌≤◌, unsigned_abs};
 ghost use Rattle.ngc_fixed_length.specs.Length.{IsStep};
 
 use ngc_fixed_length::{GridBox, Nm, Plane, Point3, nanometres_at};
-use ngc_machine::{Fixture, Part};
+use ngc_machine_files::{Fixture, Part};
 
 /// A span of coordinates, in nanometres.
 #[derive(Clone, Copy)]

@@ -1,6 +1,6 @@
 //! Makes certificates for commands.
 ghost use Rattle.std.specs.Prelude.{◌≡◌, ℕ, ◌<◌, ◌≤◌, [], length, true, IfOk, MatchResult};
-ghost use Rattle.ngc_machine.specs.Machine.{file_of};
+ghost use Rattle.ngc_machine_files.specs.Machine.{file_of};
 ghost use Rattle.ngc_commands.specs.Sequence.{COMMAND_LIMIT};
 ghost use Rattle.ngc_certificate_text.specs.Certificate.{INDEX_LIMIT, MOTION_LIMIT};
 ghost use Rattle.ngc_certificate_text.specs.Contents.{said_of, form_of};
@@ -15,13 +15,13 @@ use crate::pieces::place_fault;
 use ngc_certificate_text::{Certificate, Motions, Piece, Setting};
 use ngc_commands::{Action, Command, Motion};
 use ngc_fixed_length::Point3;
-use ngc_machine::{Machine, Tool};
+use ngc_machine_files::{Machine, Tool};
 use std::alloc::Allocator;
 
 /// The reasons why a setting has no motions with pieces: this command, counted from 0, isn't
 /// cleared, or memory ran out.
 #[derive(Clone, Copy)]
-enum Refusal {
+enum MotionRefusal {
     NotCleared(u32),
     Memory,
 }
@@ -62,12 +62,17 @@ impl<A: Allocator + Copy> Progress<A> {
 
 impl<A: Allocator> Progress<A> {
     // Mounts a tool, or none, at the position of the axes.
-    fn mount(&mut self, machine: &Machine<A>, index: u32, tool: Option<Tool>) -> Result<(), Refusal>
+    fn mount(
+        &mut self,
+        machine: &Machine<A>,
+        index: u32,
+        tool: Option<Tool>,
+    ) -> Result<(), MotionRefusal>
         ensures { (most : ℕ) →
             Leads (file_of machine.now) most index (Action.Mount tool) self.old result self.new }
     {
         if !is_clear_at(machine, &tool, &self.place) {
-            return Err(Refusal::NotCleared(index));
+            return Err(MotionRefusal::NotCleared(index));
         }
         self.tool = tool;
         Ok(())
@@ -81,7 +86,7 @@ impl<A: Allocator> Progress<A> {
         motion: &Motion,
         most: u16,
         pieces: &mut Vec<Piece, A>,
-    ) -> Result<(), Refusal>
+    ) -> Result<(), MotionRefusal>
         requires index { index ≤ INDEX_LIMIT }
         requires most { 1 ≤ most }
         requires room { length self.old.motions < MOTION_LIMIT }
@@ -90,12 +95,12 @@ impl<A: Allocator> Progress<A> {
     {
         match find_clear(machine, &self.tool, &motion.way, most, pieces) {
             Ok(true) => {}
-            Ok(false) => return Err(Refusal::NotCleared(index)),
-            Err(_) => return Err(Refusal::Memory),
+            Ok(false) => return Err(MotionRefusal::NotCleared(index)),
+            Err(_) => return Err(MotionRefusal::Memory),
         }
         match self.motions.push(index, pieces.as_slice()) {
             Ok(()) => {}
-            Err(_) => return Err(Refusal::Memory),
+            Err(_) => return Err(MotionRefusal::Memory),
         }
         self.place = motion.way.end();
         Ok(())
@@ -109,7 +114,7 @@ impl<A: Allocator> Progress<A> {
         action: &Action,
         most: u16,
         pieces: &mut Vec<Piece, A>,
-    ) -> Result<(), Refusal>
+    ) -> Result<(), MotionRefusal>
         requires index { index ≤ INDEX_LIMIT }
         requires most { 1 ≤ most }
         requires room { length self.old.motions < MOTION_LIMIT }
@@ -130,7 +135,7 @@ fn setting_motions<A: Allocator + Copy>(
     machine: &Machine<A>,
     most: u16,
     pieces: &mut Vec<Piece, A>,
-) -> Result<Motions<A>, Refusal>
+) -> Result<Motions<A>, MotionRefusal>
     requires most { 1 ≤ most }
     requires count { length commands.now ≤ COMMAND_LIMIT }
     ensures { GivesSetting (λ v. v) result (IsSettingMade (file_of machine.now) most commands.now) }
@@ -146,12 +151,12 @@ fn setting_motions<A: Allocator + Copy>(
 }
 
 // Returns the fault for a refusal at a setting.
-fn fault_at(setting: Setting, refusal: Refusal) -> MakeFault
+fn fault_at(setting: Setting, refusal: MotionRefusal) -> MakeFault
     ensures { result ≡ fault_at setting refusal }
 {
     match refusal {
-        Refusal::NotCleared(command) => MakeFault::NotCleared { setting, command },
-        Refusal::Memory => MakeFault::Memory,
+        MotionRefusal::NotCleared(command) => MakeFault::NotCleared { setting, command },
+        MotionRefusal::Memory => MakeFault::Memory,
     }
 }
 

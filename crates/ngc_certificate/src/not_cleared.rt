@@ -1,6 +1,6 @@
 //! Finds the commands that aren't cleared.
 ghost use Rattle.std.specs.Prelude.{◌≡◌, ℕ, ◌+◌, ◌≤◌, length, Err, IfOk};
-ghost use Rattle.ngc_machine.specs.Machine.{file_of};
+ghost use Rattle.ngc_machine_files.specs.Machine.{file_of};
 ghost use Rattle.ngc_commands.specs.Sequence.{COMMAND_LIMIT};
 ghost use Rattle.ngc_certificate.specs.Made.{IsSettingMade};
 ghost use Rattle.ngc_certificate.specs.Uncleared.{AreUncleared, BeginsWith, LeadsPast};
@@ -10,7 +10,7 @@ use crate::finding::find_clear;
 use crate::maker::is_clear_at;
 use ngc_certificate_text::Piece;
 use ngc_commands::{Action, Command, Reached};
-use ngc_machine::Machine;
+use ngc_machine_files::Machine;
 use std::alloc::{AllocError, Allocator};
 
 // Returns whether a command is cleared in the machine's state: a tool change if the body meets no

@@ -1,5 +1,5 @@
 ghost use Rattle.std.specs.Prelude.{◌≡◌, ◌≤◌, length};
-ghost use Rattle.ngc_machine.specs.Machine.{file_of};
+ghost use Rattle.ngc_machine_files.specs.Machine.{file_of};
 ghost use Rattle.ngc_certificate_text.specs.Certificate.{PIECE_LIMIT};
 ghost use Rattle.ngc_certificate.specs.PieceFault.{piece_fault as fault_of};
 ghost use Rattle.ngc_certificate.specs.PieceFault.{pieces_fault as fault_of_all};
@@ -16,7 +16,7 @@ use ngc_certificate_text::{Cut, Piece};
 use ngc_collision::{first_met, is_in_travel};
 use ngc_commands::Way;
 use ngc_fixed_length::{GridBox, StepPos};
-use ngc_machine::{Machine, Tool};
+use ngc_machine_files::{Machine, Tool};
 use std::alloc::Allocator;
 
 /// Returns the first refusal of a piece of a motion with this tool mounted, in the order 313 to

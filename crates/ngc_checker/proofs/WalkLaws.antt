@@ -5,7 +5,7 @@ use Rattle.std.specs.Prelude.{map, min, nat_le, nat_lt, ◌==◌, if◌then◌el
 use Rattle.std.specs.Option.{option_map}
 use Rattle.std.proofs.lemmas.Bool.Decides.{nat_tests}
 use Rattle.std.proofs.lemmas.List.{take_all, length-drop}
-use Rattle.ngc_machine.specs.Machine.{MachineFile}
+use Rattle.ngc_machine_files.specs.Machine.{MachineFile}
 use Rattle.ngc_fixed_length.specs.declared.points.Point3.{Point3}
 use Rattle.ngc_commands.specs.declared.command.Action.{Action}
 use Rattle.ngc_commands.specs.declared.command.Action.TheVariants.{Move}
@@ -22,7 +22,7 @@ use Rattle.ngc_certificate.specs.PieceFault.{pieces_fault, ◌or◌}
 use Rattle.ngc_certificate.specs.Chain.{are_several}
 use Rattle.ngc_certificate.specs.PieceJudging.{fault_ahead, is_empty}
 use Rattle.ngc_commands.specs.declared.movement.Way.{Way}
-use Rattle.ngc_machine.specs.declared.tools.Tool.{Tool}
+use Rattle.ngc_machine_files.specs.declared.tools.Tool.{Tool}
 use Rattle.ngc_checker.specs.declared.command_walk.CommandWalk.{CommandWalk}
 use Rattle.ngc_checker.specs.declared.command_walk.NextMotion.{NextMotion}
 use Rattle.ngc_checker.specs.declared.fault.CheckFault.{CheckFault}

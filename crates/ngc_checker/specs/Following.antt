@@ -1,6 +1,6 @@
 -- The judge of the motion that has begun. Our own.
 use Rattle.std.specs.Prelude.{ℕ, ◌+◌, ◌≤◌, Option, Some, None}
-use Rattle.ngc_machine.specs.Machine.{MachineFile}
+use Rattle.ngc_machine_files.specs.Machine.{MachineFile}
 use Rattle.ngc_certificate_text.specs.Certificate.{PIECE_LIMIT}
 use Rattle.ngc_certificate.specs.declared.pieces.PieceJudge.{PieceJudge}
 use Rattle.ngc_certificate.specs.PieceJudging.{IsJudging, judged_by}

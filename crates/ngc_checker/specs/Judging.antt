@@ -1,7 +1,7 @@
 -- The rest of the check of a certificate, line by line. Our own.
 use Rattle.std.specs.Prelude.{◌≡◌, ℕ, ◌-◌, ◌≤◌, List, length, Option, None, Ok}
-use Rattle.ngc_machine.specs.Machine.{MachineFile}
-use Rattle.ngc_machine.specs.MachineRanges.{IsMachine}
+use Rattle.ngc_machine_files.specs.Machine.{MachineFile}
+use Rattle.ngc_machine_files.specs.MachineRanges.{IsMachine}
 use Rattle.ngc_commands.specs.declared.command.Command.{Command}
 use Rattle.ngc_certificate_text.specs.declared.expected.Expected.{Expected}
 use Rattle.ngc_certificate_text.specs.declared.expected.Expected.TheVariants as next
@@ -18,7 +18,7 @@ use Rattle.ngc_checker.specs.FirstRefusal.{settings_fault}
 use Rattle.ngc_checker.specs.Following.{IsFollowing}
 use Rattle.ngc_checker.specs.Held.{held}
 use Rattle.ngc_checker.specs.Walking.{fault_left}
-use Rattle.ngc_machine.specs.declared.tools.Tool.{Tool}
+use Rattle.ngc_machine_files.specs.declared.tools.Tool.{Tool}
 use Rattle.ngc_certificate.specs.PieceFault.{◌or◌}
 
 -- The state of a judge: machine, tools and commands; the state of each setting; and the number of

@@ -1,6 +1,6 @@
 -- The rest of a check on the walk through a setting's commands, motion by motion. Our own.
 use Rattle.std.specs.Prelude.{ℕ, ◌-◌, List, map, drop, Option, Some, None, option_map}
-use Rattle.ngc_machine.specs.Machine.{MachineFile}
+use Rattle.ngc_machine_files.specs.Machine.{MachineFile}
 use Rattle.ngc_commands.specs.Movement.{actions_of, motion_indices}
 use Rattle.ngc_commands.specs.declared.command.Action.{Action}
 use Rattle.ngc_commands.specs.declared.command.Command.{Command}

@@ -1,13 +1,13 @@
 //! The result of an accepted check.
 ghost use Rattle.std.specs.Prelude.{◌≡◌};
-ghost use Rattle.ngc_machine.specs.Machine.{file_of};
-ghost use Rattle.ngc_machine.specs.Tools.{tools_of};
+ghost use Rattle.ngc_machine_files.specs.Machine.{file_of};
+ghost use Rattle.ngc_machine_files.specs.Tools.{tools_of};
 ghost use Rattle.ngc_checker.specs.Accepted.{commands_at, IsAccepted};
 ghost use Rattle.ngc_checker.specs.Held.{accepted_of};
 
 use ngc_commands::Command;
 use ngc_job::Job;
-use ngc_machine::{Machine, Tools};
+use ngc_machine_files::{Machine, Tools};
 use std::alloc::Allocator;
 use std::marker::Model;
 

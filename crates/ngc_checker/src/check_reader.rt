@@ -26,7 +26,7 @@ use ngc_certificate::MemoryFault;
 use ngc_certificate_text::{CertificateFault, CertificateLines};
 use ngc_job::Job;
 use ngc_line_reader::Program;
-use ngc_machine::{Machine, Tools};
+use ngc_machine_files::{Machine, Tools};
 use std::alloc::Allocator;
 
 /// A reader that checks a certificate whose text arrives in pieces of any size. It stores no more

@@ -2,7 +2,7 @@ ghost use Rattle.std.specs.Prelude.{◌≡◌, ◌≤◌, length, List, MatchRes
 ghost use Rattle.ngc_line_reader.specs.Grammar.{Reading};
 ghost use Rattle.ngc_line_reader.specs.ProgramText.{AreReadings};
 ghost use Rattle.ngc_line_reader.specs.ProgramView.{text_in};
-ghost use Rattle.ngc_machine.specs.Machine.{file_of};
+ghost use Rattle.ngc_machine_files.specs.Machine.{file_of};
 ghost use Rattle.ngc_canonical.specs.Interpreter.{setup_of};
 ghost use Rattle.ngc_canonical.specs.Meaning.{program_said};
 ghost use Rattle.ngc_commands.specs.Sequence.{COMMAND_LIMIT};
@@ -22,7 +22,7 @@ use ngc_certificate_text::Certificate;
 use ngc_commands::Command;
 use ngc_job::{Job, JobFault};
 use ngc_line_reader::Program;
-use ngc_machine::{Machine, Tools};
+use ngc_machine_files::{Machine, Tools};
 use std::alloc::Allocator;
 
 /// Returns the refusal of a program that has no job.

@@ -1,7 +1,7 @@
 //! A walk through the commands of a setting, from one motion to the next.
 ghost use Rattle.std.specs.Prelude.{◌≡◌, ◌+◌, ◌-◌, ◌<◌, ◌≤◌, ◌∷◌, [], length, drop, List};
 ghost use Rattle.std.specs.Prelude.{MatchOption, IfSome, Some, None};
-ghost use Rattle.ngc_machine.specs.Machine.{file_of};
+ghost use Rattle.ngc_machine_files.specs.Machine.{file_of};
 ghost use Rattle.ngc_commands.specs.Movement.{actions_of, motion_indices};
 ghost use Rattle.ngc_commands.specs.Sequence.{COMMAND_LIMIT};
 ghost use Rattle.ngc_certificate.specs.PieceFault.{◌or◌};
@@ -11,7 +11,7 @@ use crate::fault::CheckFault;
 use ngc_certificate::{Setting, place_fault};
 use ngc_commands::{Action, Command, Way};
 use ngc_fixed_length::Point3;
-use ngc_machine::{Machine, Tool};
+use ngc_machine_files::{Machine, Tool};
 use std::alloc::Allocator;
 
 /// The state between two commands: the index of the next one, the mounted tool, the position of the

@@ -13,7 +13,7 @@ use crate::check_fault::CheckReadFault;
 use crate::check_reader::CheckReader;
 use ngc_certificate_text::CertificateFault;
 use ngc_line_reader::Program;
-use ngc_machine::{Machine, Tools};
+use ngc_machine_files::{Machine, Tools};
 use ngc_text::Source;
 use std::alloc::Allocator;
 

@@ -1,6 +1,6 @@
 //! The check of a setting of block delete.
 ghost use Rattle.std.specs.Prelude.{◌≡◌, ◌≤◌, length};
-ghost use Rattle.ngc_machine.specs.Machine.{file_of};
+ghost use Rattle.ngc_machine_files.specs.Machine.{file_of};
 ghost use Rattle.ngc_commands.specs.Sequence.{COMMAND_LIMIT};
 ghost use Rattle.ngc_checker.specs.FirstRefusal.{setting_fault, start_fault};
 
@@ -9,7 +9,7 @@ use crate::setting_judge::SettingJudge;
 use ngc_certificate::{Setting, place_fault};
 use ngc_certificate_text::Motions;
 use ngc_commands::Command;
-use ngc_machine::Machine;
+use ngc_machine_files::Machine;
 use std::alloc::Allocator;
 
 /// Returns the fault of the start point, where no tool is mounted yet.

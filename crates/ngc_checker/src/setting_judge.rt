@@ -1,7 +1,7 @@
 //! The check of a setting of block delete, motion by motion.
 ghost use Rattle.std.specs.Prelude.{◌≡◌, ◌+◌, ◌-◌, ◌<◌, ◌≤◌, ◌∷◌, [], length, drop, List};
 ghost use Rattle.std.specs.Prelude.{MatchOption, Option, Some, None, IfSome};
-ghost use Rattle.ngc_machine.specs.Machine.{MachineFile, file_of};
+ghost use Rattle.ngc_machine_files.specs.Machine.{MachineFile, file_of};
 ghost use Rattle.ngc_commands.specs.Sequence.{COMMAND_LIMIT};
 ghost use Rattle.ngc_certificate_text.specs.Certificate.{PIECE_LIMIT};
 ghost use Rattle.ngc_checker.specs.FirstRefusal.{setting_fault, start_fault};
@@ -13,7 +13,7 @@ use crate::fault::CheckFault;
 use crate::setting::start_fault;
 use ngc_certificate::{Piece, PieceJudge, Setting};
 use ngc_commands::Command;
-use ngc_machine::Machine;
+use ngc_machine_files::Machine;
 use std::alloc::Allocator;
 
 /// The state of the check of a setting.

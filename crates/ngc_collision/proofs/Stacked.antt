@@ -1,7 +1,7 @@
 -- The boxes of the parts of a tool.
 use Rattle.std.proofs.Common.{◌≡◌, ◌+◌, ◌<◌, ◌++◌, ℕ, ℤ, ◌+ℤ◌, List, [], ◌∷◌, map, drop, length, get_or, refl, ap, sym, ◌∙◌}
 use Rattle.std.proofs.lemmas.List.{drop_more}
-use Rattle.ngc_machine.specs.declared.parts.Part.{Part}
+use Rattle.ngc_machine_files.specs.declared.parts.Part.{Part}
 use Rattle.ngc_collision.specs.Body as bodies
 use Rattle.ngc_collision.specs.Body.{filled, stacked}
 use Rattle.ngc_collision.specs.Inside.{solid_of}

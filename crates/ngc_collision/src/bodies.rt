@@ -1,10 +1,10 @@
 ghost use Rattle.std.specs.Prelude.{◌≡◌};
-ghost use Rattle.ngc_machine.specs.Machine.{file_of};
+ghost use Rattle.ngc_machine_files.specs.Machine.{file_of};
 ghost use Rattle.ngc_collision.specs.Body.{first_met};
 
 use crate::solid::{Solid, are_apart};
 use ngc_fixed_length::GridBox;
-use ngc_machine::{Machine, Tool};
+use ngc_machine_files::{Machine, Tool};
 use std::alloc::Allocator;
 
 /// Returns the lowest number of a fixture, counted from 0, that any part of the tool meets while

@@ -8,7 +8,7 @@ ghost use Rattle.ngc_collision.specs.Inside.{place_of, solid_of, REACH, FOOT_REA
 
 use arrayvec::ArrayVec;
 use ngc_fixed_length::{GridBox, Nm, Point3, StepPos, nanometres_at};
-use ngc_machine::{Fixture, Part, Tool};
+use ngc_machine_files::{Fixture, Part, Tool};
 
 /// A position of the machine, in nanometres.
 #[derive(Clone, Copy, Default)]

@@ -1,10 +1,10 @@
 ghost use Rattle.std.specs.Prelude.{◌≡◌};
-ghost use Rattle.ngc_machine.specs.Machine.{file_of};
+ghost use Rattle.ngc_machine_files.specs.Machine.{file_of};
 ghost use Rattle.ngc_collision.specs.Body.{is_in_travel};
 
 use crate::solid::Place;
 use ngc_fixed_length::GridBox;
-use ngc_machine::Machine;
+use ngc_machine_files::Machine;
 use std::alloc::Allocator;
 
 /// Returns whether a box of grid points is within the travel limits, the limits included.

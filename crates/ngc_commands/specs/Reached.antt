@@ -1,6 +1,6 @@
 -- The mounted tool and the position of the axes, between two commands. Our own.
 use Rattle.std.specs.Prelude.{Bool, true, false, List, fold, None}
-use Rattle.ngc_machine.specs.Machine.{MachineFile}
+use Rattle.ngc_machine_files.specs.Machine.{MachineFile}
 use Rattle.ngc_commands.specs.declared.command.Action.{Action}
 use Rattle.ngc_commands.specs.declared.command.Action.TheVariants.{Move, Mount}
 use Rattle.ngc_commands.specs.declared.command.Command.{Command}

@@ -2,7 +2,7 @@ ghost use Rattle.std.specs.Prelude.{◌≡◌};
 
 use crate::movement::Motion;
 use ngc_fixed_length::Turn;
-use ngc_machine::Tool;
+use ngc_machine_files::Tool;
 
 /// The state of the spindle, with its speed in millionths of a turn per minute.
 #[derive(Clone, Copy)]

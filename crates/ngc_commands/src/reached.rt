@@ -1,10 +1,10 @@
 ghost use Rattle.std.specs.Prelude.{◌≡◌};
-ghost use Rattle.ngc_machine.specs.Machine.{file_of};
+ghost use Rattle.ngc_machine_files.specs.Machine.{file_of};
 ghost use Rattle.ngc_commands.specs.Reached.{after, after_all, at_start};
 
 use crate::command::{Action, Command};
 use ngc_fixed_length::Point3;
-use ngc_machine::{Machine, Tool};
+use ngc_machine_files::{Machine, Tool};
 use std::alloc::Allocator;
 
 /// The mounted tool and the position of the axes, between two commands.

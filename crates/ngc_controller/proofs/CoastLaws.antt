@@ -5,8 +5,8 @@ use Rattle.std.specs.Prelude.{Ok, replicate, if◌then◌else◌}
 use Rattle.std.proofs.lemmas.Bool.{lt-ltb, le-ltb}
 use Rattle.ngc_fixed_length.specs.LinePath.{point}
 use Rattle.ngc_fixed_length.specs.declared.points.StepPos.{StepPos}
-use Rattle.ngc_machine.specs.MachineRanges.{IsMachine}
-use Rattle.ngc_machine.specs.declared.tools.Tool.{Tool}
+use Rattle.ngc_machine_files.specs.MachineRanges.{IsMachine}
+use Rattle.ngc_machine_files.specs.declared.tools.Tool.{Tool}
 use Rattle.ngc_commands.specs.declared.command.Action.{Action}
 use Rattle.ngc_planner.specs.ArcFeed.{target_on}
 use Rattle.ngc_planner.specs.Bounds.{IsMotion}
@@ -16,12 +16,12 @@ use Rattle.ngc_planner.proofs.CoastLaws.{coast_ticks, coast_on}
 use Rattle.ngc_events.specs.declared.event.Event.{Event}
 use Rattle.ngc_events.specs.declared.event.Event.TheVariants.{Tick}
 use Rattle.ngc_events.specs.declared.reply.Reply.TheVariants.{Ticked}
-use Rattle.ngc_behaviour.specs.State.{Job, Queued, State, path_steps, millionths, place_before, effective}
-use Rattle.ngc_behaviour.specs.Progress.{TravelsAtLeast, GoesOn}
-use Rattle.ngc_behaviour.specs.RateRules.{target}
-use Rattle.ngc_behaviour.specs.Reach.{leg_of, legs_behind}
-use Rattle.ngc_behaviour.specs.Step.{Outcome, Travels, Dwells, Finishes, Serves, Rests, HeadTick, TickBy, Step, ticks_of}
-use Rattle.ngc_behaviour.specs.Stretch.{Stretch}
+use Rattle.ngc_machine_model.specs.State.{Job, Queued, State, path_steps, millionths, place_before, effective}
+use Rattle.ngc_machine_model.specs.Progress.{TravelsAtLeast, GoesOn}
+use Rattle.ngc_machine_model.specs.RateRules.{target}
+use Rattle.ngc_machine_model.specs.Reach.{leg_of, legs_behind}
+use Rattle.ngc_machine_model.specs.Step.{Outcome, Travels, Dwells, Finishes, Serves, Rests, HeadTick, TickBy, Step, ticks_of}
+use Rattle.ngc_machine_model.specs.Stretch.{Stretch}
 use Rattle.ngc_controller.specs.declared.drive.Drive.{Drive}
 use Rattle.ngc_controller.specs.declared.panel.Panel.{Panel}
 use Rattle.ngc_controller.specs.Drive.{legs_of, IsTarget}

@@ -7,9 +7,9 @@ use Rattle.ngc_planner.specs.declared.leg.Leg.{Leg}
 use Rattle.ngc_fixed_length.specs.Limits.{MILLION}
 use Rattle.ngc_planner.specs.Reach.{ahead}
 use Rattle.ngc_planner.specs.Ramp.{RampState, IsRest, next_rest, loaded, rest_with}
-use Rattle.ngc_behaviour.specs.State.{Job, Queued, path_steps, millionths}
-use Rattle.ngc_behaviour.specs.Reach.{stops, flows_into, leg_of, legs_behind}
-use Rattle.ngc_behaviour.proofs.RampFit.{unjoined, no_more_legs, last_behind, one_more, none_more}
+use Rattle.ngc_machine_model.specs.State.{Job, Queued, path_steps, millionths}
+use Rattle.ngc_machine_model.specs.Reach.{stops, flows_into, leg_of, legs_behind}
+use Rattle.ngc_machine_model.proofs.RampFit.{unjoined, no_more_legs, last_behind, one_more, none_more}
 use Rattle.ngc_controller.specs.Drive.{flows_on, last_flows_on, legs_of, with_one_more}
 use Rattle.ngc_controller.specs.Fields.{travelled_of}
 use Rattle.ngc_controller.specs.Ring.{IsMoving}

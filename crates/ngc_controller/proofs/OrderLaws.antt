@@ -4,9 +4,9 @@ use Rattle.std.proofs.Common.{subst, ◌∙◌, length-drop, length-append, Matc
 use Rattle.std.proofs.lemmas.Bool.{lt-ltb, le-ltb}
 use Rattle.std.specs.Prelude.{Ok, Err}
 use Rattle.ngc_fixed_length.specs.declared.points.StepPos.{StepPos}
-use Rattle.ngc_machine.specs.Machine.{MachineFile}
-use Rattle.ngc_machine.specs.MachineRanges.{IsMachine}
-use Rattle.ngc_machine.specs.declared.tools.Tool.{Tool}
+use Rattle.ngc_machine_files.specs.Machine.{MachineFile}
+use Rattle.ngc_machine_files.specs.MachineRanges.{IsMachine}
+use Rattle.ngc_machine_files.specs.declared.tools.Tool.{Tool}
 use Rattle.ngc_commands.specs.declared.command.Command.{Command}
 use Rattle.ngc_commands.specs.declared.command.Action.{Action}
 use Rattle.ngc_commands.specs.declared.command.Action.TheVariants.{Move}
@@ -15,9 +15,9 @@ use Rattle.ngc_planner.specs.Joints.{joint_at, joint_before}
 use Rattle.ngc_planner.specs.Ramp.{RampState, IsRest, next_rest}
 use Rattle.ngc_events.specs.declared.reply.Reply.TheVariants.{Loaded}
 use Rattle.ngc_events.specs.declared.event_fault.EventFault.TheVariants.{RingFull}
-use Rattle.ngc_behaviour.specs.Headline.{job_of}
-use Rattle.ngc_behaviour.specs.State.{Job, Queued, State, command_at}
-use Rattle.ngc_behaviour.specs.Step.{Outcome, MayTake, LoadCommand, Dwells, Finishes, Serves, after, without_head, ticks_of}
+use Rattle.ngc_machine_model.specs.Headline.{job_of}
+use Rattle.ngc_machine_model.specs.State.{Job, Queued, State, command_at}
+use Rattle.ngc_machine_model.specs.Step.{Outcome, MayTake, LoadCommand, Dwells, Finishes, Serves, after, without_head, ticks_of}
 use Rattle.ngc_controller.specs.declared.drive.Drive.{Drive}
 use Rattle.ngc_controller.specs.declared.panel.Panel.{Panel}
 use Rattle.ngc_controller.specs.Drive.{flows_on, last_flows_on, legs_of, with_one_more, IsTarget}

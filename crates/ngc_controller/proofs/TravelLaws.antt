@@ -6,21 +6,21 @@ use Rattle.std.specs.Prelude.{Ok, if◌then◌else◌}
 use Rattle.std.specs.Bool.{then_some}
 use Rattle.ngc_fixed_length.specs.declared.points.StepPos.{StepPos}
 use Rattle.ngc_fixed_length.specs.LinePath.{point}
-use Rattle.ngc_machine.specs.MachineRanges.{IsMachine}
+use Rattle.ngc_machine_files.specs.MachineRanges.{IsMachine}
 use Rattle.ngc_commands.specs.declared.command.Action.{Action}
 use Rattle.ngc_commands.specs.declared.command.Action.TheVariants as actions
 use Rattle.ngc_planner.specs.Bounds.{IsMotion}
 use Rattle.ngc_fixed_length.specs.Limits.{MILLION}
 use Rattle.ngc_planner.specs.Ramp.{RampState, TicksTo}
-use Rattle.ngc_behaviour.specs.State.{Job, Queued, State, path_steps, millionths}
-use Rattle.ngc_behaviour.specs.Progress.{TravelsAtLeast}
-use Rattle.ngc_behaviour.specs.RateRules.{target, MayTravel}
-use Rattle.ngc_behaviour.specs.Reach.{leg_of, legs_behind}
+use Rattle.ngc_machine_model.specs.State.{Job, Queued, State, path_steps, millionths}
+use Rattle.ngc_machine_model.specs.Progress.{TravelsAtLeast}
+use Rattle.ngc_machine_model.specs.RateRules.{target, MayTravel}
+use Rattle.ngc_machine_model.specs.Reach.{leg_of, legs_behind}
 use Rattle.ngc_events.specs.declared.reply.Ending.{Ending}
 use Rattle.ngc_events.specs.declared.reply.Ending.TheVariants.{Done}
 use Rattle.ngc_events.specs.declared.reply.Reply.TheVariants.{Ticked}
-use Rattle.ngc_behaviour.specs.Step.{Outcome, Travels, place_after, pulse, ends_at, ending, moved_by, without_head}
-use Rattle.ngc_behaviour.proofs.RampFit.{may_travel, travels_at_least}
+use Rattle.ngc_machine_model.specs.Step.{Outcome, Travels, place_after, pulse, ends_at, ending, moved_by, without_head}
+use Rattle.ngc_machine_model.proofs.RampFit.{may_travel, travels_at_least}
 use Rattle.ngc_controller.specs.Loaded.{next_place}
 
 -- ---- the position on the path

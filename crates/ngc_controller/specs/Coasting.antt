@@ -4,8 +4,8 @@ use Rattle.std.specs.Prelude.{if◌then◌else◌}
 use Rattle.ngc_fixed_length.specs.LinePath.{point}
 use Rattle.ngc_events.specs.declared.event.Event.TheVariants.{Tick}
 use Rattle.ngc_events.specs.declared.reply.Reply.TheVariants.{Ticked}
-use Rattle.ngc_behaviour.specs.State.{Job, Queued, State, path_steps, place_before}
-use Rattle.ngc_behaviour.specs.Stretch.{Stretch}
+use Rattle.ngc_machine_model.specs.State.{Job, Queued, State, path_steps, place_before}
+use Rattle.ngc_machine_model.specs.Stretch.{Stretch}
 
 -- n ticks at the rate of the last one, in which no pulse is due: the position stays at the current
 -- point of the head's path

@@ -2,7 +2,7 @@
 use Rattle.std.specs.Prelude.{ℕ, ◌-◌, List, length, nat_lt, Option, None, slice_get, if◌then◌else◌}
 use Rattle.ngc_checker.specs.Accepted.{AcceptedData}
 use Rattle.ngc_events.specs.declared.reply.Reply.{Reply}
-use Rattle.ngc_behaviour.specs.State.{Job, State}
+use Rattle.ngc_machine_model.specs.State.{Job, State}
 
 -- what it runs, the machine's state, the latest replies in order, and the accepted program, from
 -- which the job is taken

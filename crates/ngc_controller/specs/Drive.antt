@@ -1,13 +1,13 @@
 -- The ramp of the motions in the ring, and the target rate of the head. Our own.
 use Rattle.std.specs.Prelude.{◌≡◌, ℕ, suc, ◌≤◌, nat_lt, List, [], ◌∷◌, Bool, false, not, ◌&&◌}
 use Rattle.std.specs.Prelude.{if◌then◌else◌}
-use Rattle.ngc_machine.specs.Machine.{MachineFile}
+use Rattle.ngc_machine_files.specs.Machine.{MachineFile}
 use Rattle.ngc_planner.specs.declared.leg.Leg.{Leg}
 use Rattle.ngc_fixed_length.specs.LinePath.{point}
 use Rattle.ngc_planner.specs.ArcFeed.{target_on, is_by_place}
 use Rattle.ngc_planner.specs.Ramp.{RampState, loaded}
-use Rattle.ngc_behaviour.specs.State.{Job, Queued, path_steps}
-use Rattle.ngc_behaviour.specs.Reach.{stops, leg_of, legs_behind}
+use Rattle.ngc_machine_model.specs.State.{Job, Queued, path_steps}
+use Rattle.ngc_machine_model.specs.Reach.{stops, leg_of, legs_behind}
 
 -- the axes need not stop after a command if a motion with path steps follows
 abbrev pub flows_on : Queued → Bool

@@ -4,14 +4,14 @@ use Rattle.std.specs.Prelude.{nat_lt, Bool, true, if◌then◌else◌}
 use Rattle.ngc_fixed_length.specs.declared.points.StepPos.{StepPos}
 use Rattle.ngc_commands.specs.declared.command.Action.{Action}
 use Rattle.ngc_commands.specs.declared.command.Action.TheVariants as actions
-use Rattle.ngc_machine.specs.MachineRanges.{IsMachine}
-use Rattle.ngc_machine.specs.declared.tools.Tool.{Tool}
+use Rattle.ngc_machine_files.specs.MachineRanges.{IsMachine}
+use Rattle.ngc_machine_files.specs.declared.tools.Tool.{Tool}
 use Rattle.ngc_fixed_length.specs.Limits.{MILLION}
 use Rattle.ngc_planner.specs.Joints.{joint_before}
 use Rattle.ngc_planner.specs.Ramp.{IsRest, next_rest}
-use Rattle.ngc_behaviour.specs.State.{Job, State, Queued, path_steps, millionths}
-use Rattle.ngc_behaviour.specs.Progress.{TravelsAtLeast}
-use Rattle.ngc_behaviour.specs.Step.{Outcome, Travels}
+use Rattle.ngc_machine_model.specs.State.{Job, State, Queued, path_steps, millionths}
+use Rattle.ngc_machine_model.specs.Progress.{TravelsAtLeast}
+use Rattle.ngc_machine_model.specs.Step.{Outcome, Travels}
 use Rattle.ngc_controller.specs.declared.drive.Drive.{Drive}
 use Rattle.ngc_controller.specs.declared.panel.Panel.{Panel}
 use Rattle.ngc_controller.specs.Drive.{legs_of, last_flows_on, IsTarget}

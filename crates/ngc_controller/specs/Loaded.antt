@@ -8,7 +8,7 @@ use Rattle.ngc_planner.specs.Caps.{STEPS_LIMIT}
 use Rattle.ngc_events.specs.declared.event.Event.{Event}
 use Rattle.ngc_events.specs.declared.event.Event.TheVariants.{Load, Tick, Hold, Resume, Override}
 use Rattle.ngc_events.specs.declared.event.Event.TheVariants.{StopSwitch, Start}
-use Rattle.ngc_behaviour.specs.State.{State, Queued, path_steps}
+use Rattle.ngc_machine_model.specs.State.{State, Queued, path_steps}
 use Rattle.ngc_controller.specs.declared.route.Route.{Route}
 use Rattle.ngc_controller.specs.declared.route.Route.TheVariants.{Line, Arc, Still}
 

@@ -6,7 +6,7 @@ use Rattle.ngc_fixed_length.specs.LinePath.{point}
 use Rattle.ngc_commands.specs.declared.command.Action.{Action}
 use Rattle.ngc_planner.specs.Bounds.{IsMotion}
 use Rattle.ngc_planner.specs.Ramp.{MOST_LEGS}
-use Rattle.ngc_behaviour.specs.State.{Queued, path_steps}
+use Rattle.ngc_machine_model.specs.State.{Queued, path_steps}
 use Rattle.ngc_controller.specs.Loaded.{LoadedData}
 
 -- the loaded commands, the head first, the position on the head's path, and the greatest number of

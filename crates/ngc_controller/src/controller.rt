@@ -1,11 +1,11 @@
 ghost use Rattle.std.specs.Prelude.{◌≡◌, ◌≤◌, ◌++◌, ◌∷◌, [], replicate, true, false, None, Ok};
 ghost use Rattle.std.specs.Prelude.{IfOk, IfErr, OnErr};
 ghost use Rattle.circular_buffer.specs.Buffer.{keep_last};
-ghost use Rattle.ngc_behaviour.specs.Headline.{job_of};
-ghost use Rattle.ngc_behaviour.specs.Progress.{GoesOn, TravelsAtLeast};
-ghost use Rattle.ngc_behaviour.specs.State.{opening, command_at, loaded};
-ghost use Rattle.ngc_behaviour.specs.Stretch.{Stretch};
-ghost use Rattle.ngc_behaviour.specs.Step.{Step, LoadCommand, Rests, Serves, TickBy};
+ghost use Rattle.ngc_machine_model.specs.Headline.{job_of};
+ghost use Rattle.ngc_machine_model.specs.Progress.{GoesOn, TravelsAtLeast};
+ghost use Rattle.ngc_machine_model.specs.State.{opening, command_at, loaded};
+ghost use Rattle.ngc_machine_model.specs.Stretch.{Stretch};
+ghost use Rattle.ngc_machine_model.specs.Step.{Step, LoadCommand, Rests, Serves, TickBy};
 ghost use Rattle.ngc_checker.specs.Accepted.{commands_at};
 ghost use Rattle.ngc_events.specs.declared.event.Event.TheVariants.{Tick};
 ghost use Rattle.ngc_events.specs.declared.reply.Reply.TheVariants.{Ticked};
@@ -24,7 +24,7 @@ use ngc_checker::{Accepted, MemoryFault};
 use ngc_commands::{Action, Command};
 use ngc_events::{Ending, Event, EventFault, Reply};
 use ngc_fixed_length::StepPos;
-use ngc_machine::Tool;
+use ngc_machine_files::Tool;
 use ngc_step_kernel::ArcKernel;
 use std::alloc::Allocator;
 use std::marker::Model;
@@ -44,7 +44,7 @@ pub struct Controller<K: ArcKernel + Drop, A: Allocator> {
 
 impl<K: ArcKernel + Drop, A: Allocator> Model for Controller<K, A> {
     ghost use Rattle.std.specs.Prelude.{◌≡◌};
-    ghost use Rattle.ngc_behaviour.specs.Headline.{job_of};
+    ghost use Rattle.ngc_machine_model.specs.Headline.{job_of};
     ghost use Rattle.ngc_checker.specs.Accepted.{commands_at};
     ghost use Rattle.ngc_controller.specs.Controller.{ControllerData};
     ghost use Rattle.ngc_controller.specs.Fields.{state_of, IsInOrder};

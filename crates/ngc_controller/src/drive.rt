@@ -1,17 +1,17 @@
 //! The ramp, and how motions are loaded onto it.
 ghost use Rattle.std.specs.Prelude.{◌≡◌, ◌≤◌, ◌<◌, ◌+◌, length};
-ghost use Rattle.ngc_machine.specs.Machine.{file_of};
+ghost use Rattle.ngc_machine_files.specs.Machine.{file_of};
 ghost use Rattle.ngc_planner.specs.Bounds.{bound_of};
 ghost use Rattle.ngc_planner.specs.Joints.{joint_at, joint_before};
 ghost use Rattle.ngc_planner.specs.Leg.{IsLeg};
-ghost use Rattle.ngc_behaviour.specs.Headline.{job_of};
-ghost use Rattle.ngc_behaviour.specs.State.{path_steps, millionths};
-ghost use Rattle.ngc_behaviour.specs.Reach.{stops};
+ghost use Rattle.ngc_machine_model.specs.Headline.{job_of};
+ghost use Rattle.ngc_machine_model.specs.State.{path_steps, millionths};
+ghost use Rattle.ngc_machine_model.specs.Reach.{stops};
 ghost use Rattle.ngc_controller.specs.Drive.{flows_on, with_one_more};
 
 use crate::route::Loaded;
 use ngc_commands::{Action, Command};
-use ngc_machine::Machine;
+use ngc_machine_files::Machine;
 use ngc_planner::{Leg, Ramp, bound_of, joint_at};
 use ngc_step_kernel::ArcKernel;
 use std::alloc::Allocator;

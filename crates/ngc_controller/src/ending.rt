@@ -1,13 +1,13 @@
 //! The end of actions without travel, and their effects.
 ghost use Rattle.std.specs.Prelude.{◌≡◌, ◌≤◌, ◌+◌, ◌-◌, suc, nat_lt, true, Option};
-ghost use Rattle.ngc_behaviour.specs.State.{Job, State};
-ghost use Rattle.ngc_behaviour.specs.Step.{ticks_of, ending};
+ghost use Rattle.ngc_machine_model.specs.State.{Job, State};
+ghost use Rattle.ngc_machine_model.specs.Step.{ticks_of, ending};
 ghost use Rattle.ngc_controller.specs.Fields.{DWELL_LIMIT, panel_after, tool_after};
 
 use crate::panel::Panel;
 use ngc_commands::Action;
 use ngc_events::Ending;
-use ngc_machine::Tool;
+use ngc_machine_files::Tool;
 
 /// Returns whether an action takes more than `dwelt + 1` ticks.
 pub fn dwells_on(action: &Action, dwelt: u128, ticks_per_second: u32) -> bool

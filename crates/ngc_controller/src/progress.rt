@@ -1,9 +1,9 @@
 //! The machine's progress in its commands.
 ghost use Rattle.std.specs.Prelude.{◌≡◌, ◌≤◌, ◌<◌, ◌+◌, ◌^◌, ◌++◌, ◌∷◌, [], length, drop, true};
 ghost use Rattle.std.specs.Prelude.{IfOk};
-ghost use Rattle.ngc_machine.specs.Machine.{file_of};
+ghost use Rattle.ngc_machine_files.specs.Machine.{file_of};
 ghost use Rattle.ngc_fixed_length.specs.Limits.{MILLION};
-ghost use Rattle.ngc_behaviour.specs.Headline.{job_of};
+ghost use Rattle.ngc_machine_model.specs.Headline.{job_of};
 ghost use Rattle.ngc_planner.specs.Joints.{joint_at, joint_before};
 ghost use Rattle.ngc_planner.specs.Ramp.{MOST_LEGS};
 ghost use Rattle.ngc_controller.specs.Drive.{flows_on, with_one_more, IsTarget, is_head_by_place};
@@ -16,7 +16,7 @@ use crate::ring::Ring;
 use crate::route::Loaded;
 use ngc_commands::{Action, Command};
 use ngc_fixed_length::StepPos;
-use ngc_machine::Machine;
+use ngc_machine_files::Machine;
 use ngc_planner::{Ramp, is_by_place, target_on};
 use ngc_step_kernel::ArcKernel;
 use std::alloc::{AllocError, Allocator};

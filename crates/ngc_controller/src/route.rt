@@ -5,8 +5,8 @@ ghost use Rattle.ngc_fixed_length.specs.LinePath.{point};
 ghost use Rattle.ngc_planner.specs.ArcFeed.{helix_length};
 ghost use Rattle.ngc_planner.specs.Bounds.{IsMotion};
 ghost use Rattle.ngc_planner.specs.Caps.{STEPS_LIMIT};
-ghost use Rattle.ngc_behaviour.specs.State.{Job, path_steps};
-ghost use Rattle.ngc_behaviour.specs.Step.{MayTake};
+ghost use Rattle.ngc_machine_model.specs.State.{Job, path_steps};
+ghost use Rattle.ngc_machine_model.specs.Step.{MayTake};
 ghost use Rattle.ngc_controller.specs.Loaded.{points_of, place_of, next_place, IsLoaded};
 
 use ngc_commands::{Action, Command, Way};

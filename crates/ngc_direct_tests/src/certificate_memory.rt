@@ -11,7 +11,7 @@ use ngc_commands::{Action, Command, Motion, Pace, Way};
 use ngc_drawing::{Look, View, write_svg};
 use ngc_fixed_length::{Nm, Point3};
 use ngc_line_reader::Program;
-use ngc_machine::{Fixture, Machine, Name, Tools, built_in_machine};
+use ngc_machine_files::{Fixture, Machine, Name, Tools, built_in_machine};
 use ngc_text::Device;
 use std::alloc::{Allocator, Global};
 use std::process::Abort;

@@ -3,7 +3,7 @@ use crate::checks::same;
 use ngc_certificate_text::{Certificate, CertificateFault, CertificateReader, Setting};
 use ngc_checker::{CheckFault, CheckReadFault, CheckReader, check_source};
 use ngc_line_reader::Program;
-use ngc_machine::{Tools, built_in_machine};
+use ngc_machine_files::{Tools, built_in_machine};
 use ngc_test_devices::{EndlessSource, SlowSource};
 use ngc_text::Device;
 use std::alloc::Global;

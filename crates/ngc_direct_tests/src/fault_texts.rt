@@ -5,7 +5,7 @@ use crate::given::{MACHINE, TOOLS};
 use ngc_command_line::UsageFault;
 use ngc_fixed_length::NumberFault;
 use ngc_line_reader::{FaultKind, Letter, LineFault, ReadFault};
-use ngc_machine::FileFault;
+use ngc_machine_files::FileFault;
 use ngc_modal_state::{MissingWord, ModalFault};
 use ngc_parameters::EvalFault;
 use ngc_setup_sheet::{write_machine_mistake, write_tools_mistake};

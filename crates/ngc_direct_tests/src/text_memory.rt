@@ -5,9 +5,9 @@ use ngc_adapt::{Dialect, MOST_DROPPED, Options};
 use ngc_adapt_program::{Request, adapt_program};
 use ngc_canned_cycles::{Cycle, CycleFault, Hole, Start, expand};
 use ngc_events::{EventsFault, read_events};
-use ngc_fixed_length::{Distance, FeedMode, Nm, Plane, Point3, ReturnMode};
+use ngc_fixed_length::{Distance, FeedMode, Nm, Plane, Point3, RetractMode};
 use ngc_line_reader::{Program, ReadFault};
-use ngc_machine::Tools;
+use ngc_machine_files::Tools;
 use ngc_test_devices::EndlessSource;
 use ngc_text::{Device, InputFault, PULL_SIZE, read_whole};
 use std::alloc::{AllocError, Global};
@@ -116,7 +116,7 @@ fn moves_in(heap: &LocalHeap, hole: Hole) -> Result<Result<usize, CycleFault>, F
         hole,
         plane: Plane::XY,
         distance: Distance::Absolute,
-        clear: ReturnMode::Series,
+        clear: RetractMode::Series,
         feed_mode: FeedMode::PerMinute,
         u: Some(Nm::from_nanometres(1_000_000)?),
         v: None,

@@ -2,8 +2,8 @@
 use Rattle.std.proofs.Common.{◌≡◌, ℕ, ◌+◌, ◌<◌, List, ◌++◌, length, get_or, drop, Option, ap, sym, ◌∙◌}
 use Rattle.std.proofs.lemmas.List.{drop_more}
 use Rattle.ngc_fixed_length.specs.declared.points.Point3.{Point3}
-use Rattle.ngc_machine.specs.declared.machine.Fixture.{Fixture}
-use Rattle.ngc_machine.specs.declared.tools.Tool.{Tool}
+use Rattle.ngc_machine_files.specs.declared.machine.Fixture.{Fixture}
+use Rattle.ngc_machine_files.specs.declared.tools.Tool.{Tool}
 use Rattle.ngc_commands.specs.declared.command.Command.{Command}
 use Rattle.ngc_drawing.specs.Holes.{drilled, ended, holes_from}
 use Rattle.ngc_drawing.specs.Pictures.{fixture, fixtures_from, origin, origins_from, tool_row, tool_rows}

@@ -1,19 +1,19 @@
 -- The whole picture, from the start.
 use Rattle.std.proofs.Common.{◌≡◌, ℕ, List, [], ◌++◌, Option, ap, ◌∙◌}
-use Rattle.ngc_machine.specs.Machine.{MachineFile}
-use Rattle.ngc_machine.specs.declared.tools.Tool.{Tool}
+use Rattle.ngc_machine_files.specs.Machine.{MachineFile}
+use Rattle.ngc_machine_files.specs.declared.tools.Tool.{Tool}
 use Rattle.ngc_commands.specs.declared.command.Command.{Command}
 use Rattle.ngc_certificate_text.specs.Certificate.{Entry}
 use Rattle.ngc_drawing.specs.Pictures.{picture_of, picture_text, shown_sweeps, text_of}
 use Rattle.ngc_drawing.specs.Sheets.{frame, unit_of}
 use Rattle.ngc_drawing.specs.Spelling.{shapes_text}
 use Rattle.ngc_drawing.specs.Tools.{used}
-use Rattle.ngc_drawing.specs.declared.refusal.Refusal.{Refusal}
+use Rattle.ngc_drawing.specs.declared.refusal.RefusedMotion.{RefusedMotion}
 use Rattle.ngc_drawing.specs.declared.spot.Rectangle.{Rectangle}
 use Rattle.ngc_drawing.specs.declared.sweep.Sweep.{Sweep}
 use Rattle.ngc_drawing.specs.declared.look.Look.{Look}
 
-pub from_start : (look : Look) (m : MachineFile) (cs : List Command) (refusal : Option Refusal) (area : Rectangle) (tools : List (Option Tool))
+pub from_start : (look : Look) (m : MachineFile) (cs : List Command) (refusal : Option RefusedMotion) (area : Rectangle) (tools : List (Option Tool))
     (swept : List Sweep) (chunk : List ℕ)
     → area ≡ frame look m cs → chunk ≡ [] → chunk ++ shapes_text (unit_of area) (picture_of look.view m cs refusal area tools swept)
     ≡ text_of look m cs refusal tools swept
@@ -22,7 +22,7 @@ from_start look m cs refusal area tools swept chunk a k =
     ∙ ap (λ (r : Rectangle). shapes_text (unit_of r) (picture_of look.view m cs refusal r tools swept)) a
 
 -- the tools and the boxes are those of the commands
-pub of_commands : (look : Look) (m : MachineFile) (cs : List Command) (es : List Entry) (refusal : Option Refusal) (tools given shown : List (Option Tool))
+pub of_commands : (look : Look) (m : MachineFile) (cs : List Command) (es : List Entry) (refusal : Option RefusedMotion) (tools given shown : List (Option Tool))
     (swept drawn : List Sweep)
     → tools ≡ used cs → given ≡ tools → shown ≡ tools → swept ≡ shown_sweeps look given cs es → drawn ≡ swept →
     text_of look m cs refusal shown drawn ≡ picture_text look m cs es refusal

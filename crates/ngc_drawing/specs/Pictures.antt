@@ -6,10 +6,10 @@ use Rattle.std.specs.Ordering.{int_eq}
 use Rattle.ngc_fixed_length.specs.Boxes.{only}
 use Rattle.ngc_fixed_length.specs.Grid.{grid}
 use Rattle.ngc_fixed_length.specs.declared.points.Point3.{Point3}
-use Rattle.ngc_machine.specs.Machine.{MachineFile}
-use Rattle.ngc_machine.specs.declared.machine.Fixture.{Fixture}
-use Rattle.ngc_machine.specs.declared.parts.Part.{Part}
-use Rattle.ngc_machine.specs.declared.tools.Tool.{Tool}
+use Rattle.ngc_machine_files.specs.Machine.{MachineFile}
+use Rattle.ngc_machine_files.specs.declared.machine.Fixture.{Fixture}
+use Rattle.ngc_machine_files.specs.declared.parts.Part.{Part}
+use Rattle.ngc_machine_files.specs.declared.tools.Tool.{Tool}
 use Rattle.ngc_commands.specs.Movement.{end_of}
 use Rattle.ngc_commands.specs.Reached.{at_start, after_all}
 use Rattle.ngc_commands.specs.declared.command.Action.{Action}
@@ -27,7 +27,7 @@ use Rattle.ngc_drawing.specs.Tools.{used, number_of, name_of, eye_of}
 use Rattle.ngc_drawing.specs.Views.{spot, tip_spot, rectangle, micrometres}
 use Rattle.ngc_drawing.specs.declared.eye.Eye.{Eye}
 use Rattle.ngc_drawing.specs.declared.look.Look.{Look}
-use Rattle.ngc_drawing.specs.declared.refusal.Refusal.{Refusal}
+use Rattle.ngc_drawing.specs.declared.refusal.RefusedMotion.{RefusedMotion}
 use Rattle.ngc_drawing.specs.declared.shape.Ink.TheVariants as inks
 use Rattle.ngc_drawing.specs.declared.shape.Mark.{Mark}
 use Rattle.ngc_drawing.specs.declared.shape.Mark.TheVariants as marks
@@ -148,18 +148,18 @@ first_outline view step tool [] = []
 first_outline view step tool (c ∷ cs) = outline view step tool c.action
 
 -- the fixture, the tool at the end of the motion, and the motion, while this tool is mounted
-abbrev pub refused_by : View → MachineFile → List Command → Refusal → Option Tool → List Shape
+abbrev pub refused_by : View → MachineFile → List Command → RefusedMotion → Option Tool → List Shape
 refused_by view machine commands r tool =
     refused_fixture view machine.fixtures r.fixture
     ++ first_outline view machine.step tool (drop r.command commands)
     ++ first_refused (eye_of view tool) r.fault (drop r.command commands)
 
-abbrev pub refused : View → MachineFile → List Command → Option Refusal → List Shape
+abbrev pub refused : View → MachineFile → List Command → Option RefusedMotion → List Shape
 refused view machine commands None = []
 refused view machine commands (Some r) =
     refused_by view machine commands r (tool_before machine commands r.command)
 
-abbrev pub refusal_row : Option Refusal → List Shape
+abbrev pub refusal_row : Option RefusedMotion → List Shape
 refusal_row None = []
 refusal_row (Some r) = shapes.FaultLine r.fault r.command ∷ []
 
@@ -197,7 +197,7 @@ abbrev pub path : View → List (Option Tool) → List Command → List Shape
 path view tools commands = strokes view tools commands ++ holes view commands
 
 -- these, the path, the marks, what is refused, the scale and the legend
-abbrev pub picture_of : View → MachineFile → List Command → Option Refusal → Rectangle →
+abbrev pub picture_of : View → MachineFile → List Command → Option RefusedMotion → Rectangle →
     List (Option Tool) → List Sweep → List Shape
 picture_of view machine commands refusal area tools swept =
     ground view machine area tools swept ++ (path view tools commands ++
@@ -206,7 +206,7 @@ picture_of view machine commands refusal area tools swept =
     (refusal_row refusal ++ shapes.End ∷ []))))))
 
 -- on the sheet that commands need
-abbrev pub text_of : Look → MachineFile → List Command → Option Refusal → List (Option Tool) →
+abbrev pub text_of : Look → MachineFile → List Command → Option RefusedMotion → List (Option Tool) →
     List Sweep → List ℕ
 text_of look machine commands refusal tools swept =
     shapes_text (unit_of (frame look machine commands))
@@ -218,7 +218,7 @@ shown_sweeps look tools commands entries =
     if look.bodies then sweeps look.view tools commands entries else []
 
 -- the text of the picture of commands with the motions of a certificate, or with none
-abbrev pub picture_text : Look → MachineFile → List Command → List Entry → Option Refusal → List ℕ
+abbrev pub picture_text : Look → MachineFile → List Command → List Entry → Option RefusedMotion → List ℕ
 picture_text look machine commands entries refusal =
     text_of look machine commands refusal (used commands)
     (shown_sweeps look (used commands) commands entries)

@@ -1,6 +1,6 @@
 -- How far the boxes of a certificate are gone through. Our own.
 use Rattle.std.specs.Prelude.{ℕ, List, drop, Option}
-use Rattle.ngc_machine.specs.declared.tools.Tool.{Tool}
+use Rattle.ngc_machine_files.specs.declared.tools.Tool.{Tool}
 use Rattle.ngc_commands.specs.declared.command.Action.{Action}
 use Rattle.ngc_certificate_text.specs.Certificate.{Entry}
 use Rattle.ngc_drawing.specs.Bodies.{boxes_from, joined}

@@ -1,7 +1,7 @@
 //! The bodies of tools over the boxes of a certificate.
 ghost use Rattle.std.specs.Prelude.{◌≡◌, ◌≤◌, ◌++◌, length};
 ghost use Rattle.ngc_text.specs.Failures.{CountsFailure};
-ghost use Rattle.ngc_machine.specs.Machine.{file_of};
+ghost use Rattle.ngc_machine_files.specs.Machine.{file_of};
 ghost use Rattle.ngc_drawing.specs.Bodies.{tool_at, filled, bodies_lead, bodies_end, swept};
 ghost use Rattle.ngc_drawing.specs.Bodies.{swept_from};
 ghost use Rattle.ngc_drawing.specs.Draws.{Draws};
@@ -14,7 +14,7 @@ use crate::sweep::Sweep;
 use crate::view::View;
 use arrayvec::ArrayVec;
 use ngc_collision::Solid;
-use ngc_machine::{Machine, Tool};
+use ngc_machine_files::{Machine, Tool};
 use ngc_text::{Chunk, Sink, WriteFault};
 use std::alloc::Allocator;
 

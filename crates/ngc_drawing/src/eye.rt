@@ -8,7 +8,7 @@ use crate::spot::Spot;
 use crate::view::View;
 use ngc_collision::Place;
 use ngc_fixed_length::{Nm, Point3};
-use ngc_machine::Tool;
+use ngc_machine_files::Tool;
 
 /// From where a path is seen, and how high the tip of the mounted tool is above the spindle nose.
 #[derive(Clone, Copy)]

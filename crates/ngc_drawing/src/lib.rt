@@ -24,7 +24,7 @@ mod view;
 pub use fault::DrawFault;
 pub use look::Look;
 pub use picture::write_svg;
-pub use refusal::Refusal;
+pub use refusal::RefusedMotion;
 pub use shape::{Ink, Mark, Shape, Sheet};
 pub use spot::{Rectangle, Spot};
 pub use view::View;

@@ -1,6 +1,6 @@
 //! The tool at the end of a motion that is refused.
 ghost use Rattle.std.specs.Prelude.{◌≡◌, ◌≤◌, ◌++◌, length, drop};
-ghost use Rattle.ngc_machine.specs.Machine.{file_of};
+ghost use Rattle.ngc_machine_files.specs.Machine.{file_of};
 ghost use Rattle.ngc_drawing.specs.Pictures.{tool_before, standing, outline, first_outline};
 
 use crate::shape::Shape;
@@ -10,7 +10,7 @@ use arrayvec::ArrayVec;
 use ngc_collision::Solid;
 use ngc_commands::{Action, Command, Reached};
 use ngc_fixed_length::{GridBox, Point3};
-use ngc_machine::{Machine, Tool};
+use ngc_machine_files::{Machine, Tool};
 use std::alloc::Allocator;
 
 /// Returns the tool that is mounted at a command.

@@ -6,7 +6,7 @@ use crate::shape::Ink;
 use crate::spot::Spot;
 use crate::tools::{number_of, rank_of};
 use ngc_commands::{Action, Pace};
-use ngc_machine::Tool;
+use ngc_machine_files::Tool;
 
 /// A path that is being drawn: its ink, and the spot that it has reached.
 #[derive(Clone, Copy)]

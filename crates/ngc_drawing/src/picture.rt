@@ -4,7 +4,7 @@ ghost use Rattle.std.specs.Prelude.{map, OnOk, OnErr, Err, IfOk, ◌+◌};
 ghost use Rattle.std.specs.Io.KnownBytes.{Appends, Keeps};
 ghost use Rattle.ngc_text.specs.Failures.{CountsFailure};
 ghost use Rattle.ngc_text.specs.Written.{AppendsBeginning};
-ghost use Rattle.ngc_machine.specs.Machine.{file_of};
+ghost use Rattle.ngc_machine_files.specs.Machine.{file_of};
 ghost use Rattle.ngc_drawing.specs.declared.shape.Shape.TheVariants as drawn;
 ghost use Rattle.ngc_drawing.specs.Draws.{Draws};
 ghost use Rattle.ngc_drawing.specs.Faults.{CountsUnlessMemory};
@@ -28,7 +28,7 @@ use crate::holes::draw_holes;
 use crate::look::Look;
 use crate::outline::{add_outline_at, tool_before};
 use crate::pen::{Pen, Run};
-use crate::refusal::Refusal;
+use crate::refusal::RefusedMotion;
 use crate::shape::{Ink, Mark, Shape};
 use crate::sheet::{Unit, frame, pane, sheet, unit_of};
 use crate::spot::{Rectangle, Spot};
@@ -40,7 +40,7 @@ use arrayvec::ArrayVec;
 use ngc_certificate_text::Motions;
 use ngc_commands::{Action, Command, Way};
 use ngc_fixed_length::Point3;
-use ngc_machine::{Fixture, Machine, Part, Tool};
+use ngc_machine_files::{Fixture, Machine, Part, Tool};
 use ngc_text::{Chunk, Sink, WriteFault};
 use std::alloc::{AllocError, Allocator};
 
@@ -286,7 +286,7 @@ fn draw_refused_motion<W: Sink>(
     view: View,
     tool: &Option<Tool>,
     commands: &[Command],
-    refusal: &Refusal,
+    refusal: &RefusedMotion,
     sink: &mut W,
 ) -> Result<(), WriteFault>
     ensures drawn { Draws unit.now.micrometres (W.written sink.old)
@@ -327,7 +327,7 @@ fn draw_refusal<A: Allocator, W: Sink>(
     view: View,
     machine: &Machine<A>,
     commands: &[Command],
-    refusal: &Refusal,
+    refusal: &RefusedMotion,
     tool: &Option<Tool>,
     sink: &mut W,
 ) -> Result<(), WriteFault>
@@ -351,7 +351,7 @@ fn draw_refused<A: Allocator, W: Sink>(
     view: View,
     machine: &Machine<A>,
     commands: &[Command],
-    refusal: &Option<Refusal>,
+    refusal: &Option<RefusedMotion>,
     sink: &mut W,
 ) -> Result<(), WriteFault>
     ensures drawn { Draws unit.now.micrometres (W.written sink.old)
@@ -368,7 +368,7 @@ fn draw_refused<A: Allocator, W: Sink>(
     }
 }
 
-fn refusal_row(refusal: &Option<Refusal>) -> ArrayVec<Shape, 8>
+fn refusal_row(refusal: &Option<RefusedMotion>) -> ArrayVec<Shape, 8>
     ensures value { result.items ≡ refusal_row refusal.now }
     ensures few { length result.items ≤ 1 }
 {
@@ -543,7 +543,7 @@ fn draw_legend<W: Sink>(
     chunk: &mut Chunk,
     area: &Rectangle,
     tools: &[Option<Tool>],
-    refusal: &Option<Refusal>,
+    refusal: &Option<RefusedMotion>,
     sink: &mut W,
 ) -> Result<(), WriteFault>
     ensures drawn { Draws (unit_of area.now) (W.written sink.old)
@@ -597,7 +597,7 @@ fn draw_picture<A: Allocator, W: Sink>(
     view: View,
     machine: &Machine<A>,
     commands: &[Command],
-    refusal: &Option<Refusal>,
+    refusal: &Option<RefusedMotion>,
     area: &Rectangle,
     tools: &[Option<Tool>],
     swept: &[Sweep],
@@ -633,7 +633,7 @@ fn write_picture<A: Allocator, W: Sink>(
     look: &Look,
     machine: &Machine<A>,
     commands: &[Command],
-    refusal: &Option<Refusal>,
+    refusal: &Option<RefusedMotion>,
     tools: &[Option<Tool>],
     swept: &[Sweep],
     sink: &mut W,
@@ -689,7 +689,7 @@ pub fn write_svg<A: Allocator + Copy, B: Allocator, W: Sink>(
     machine: &Machine<B>,
     commands: &[Command],
     motions: &Motions<B>,
-    refusal: &Option<Refusal>,
+    refusal: &Option<RefusedMotion>,
     sink: &mut W,
 ) -> Result<(), DrawFault>
     ensures ok { OnOk result

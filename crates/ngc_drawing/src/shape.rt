@@ -1,6 +1,6 @@
 use crate::spot::{Rectangle, Spot};
 use crate::view::View;
-use ngc_machine::Name;
+use ngc_machine_files::Name;
 
 /// With what a path is drawn: the colour of the tool that is mounted then, by its rank among the
 /// tools that the program uses, dashed where the motion is a traverse; or the red of a fault.

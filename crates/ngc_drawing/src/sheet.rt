@@ -2,7 +2,7 @@
 ghost use Rattle.std.specs.Prelude.{◌≡◌, ◌<◌, ◌+◌, ◌*◌, ◌⊎◌, ◌^◌, ◌+ℤ◌, ◌-ℤ◌, ◌*ℤ◌, pos, neg_ℤ};
 ghost use Rattle.std.specs.Prelude.{int_div, unsigned_abs};
 ghost use Rattle.std.specs.Int.{int_max};
-ghost use Rattle.ngc_machine.specs.Machine.{file_of};
+ghost use Rattle.ngc_machine_files.specs.Machine.{file_of};
 ghost use Rattle.ngc_drawing.specs.Sheets.{holding_all, with_way, with_action, with_commands};
 ghost use Rattle.ngc_drawing.specs.Sheets.{with_fixtures, bench, whole, at, work, is_far_longer, is_far_larger, is_between};
 ghost use Rattle.ngc_drawing.specs.Sheets.{width_of, height_of, frame, is_in, is_within, unit_of};
@@ -17,7 +17,7 @@ use crate::strokes::corner_spots;
 use crate::tools::mounted;
 use crate::view::View;
 use ngc_commands::{Action, Command, Way};
-use ngc_machine::{Fixture, Machine};
+use ngc_machine_files::{Fixture, Machine};
 use std::alloc::Allocator;
 
 /// In what signs and texts are measured.

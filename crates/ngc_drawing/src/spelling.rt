@@ -12,7 +12,7 @@ ghost use Rattle.ngc_drawing.specs.Spelling.{escaped, name_text};
 use crate::shape::{Ink, Mark, Pane, Shape, Sheet};
 use crate::spot::{Rectangle, Spot};
 use crate::view::View;
-use ngc_machine::Name;
+use ngc_machine_files::Name;
 use ngc_text::Chunk;
 
 fn decimals(thousandths: u64) -> [u8; 4]

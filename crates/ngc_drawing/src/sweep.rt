@@ -1,6 +1,6 @@
 //! The boxes of a certificate, with the tools that are mounted then.
 ghost use Rattle.std.specs.Prelude.{◌≡◌, ◌+◌, ◌*◌, ◌≤◌, ◌++◌, ◌∷◌, List, Option, map, IfOk};
-ghost use Rattle.ngc_machine.specs.declared.tools.Tool.{Tool};
+ghost use Rattle.ngc_machine_files.specs.declared.tools.Tool.{Tool};
 ghost use Rattle.ngc_commands.specs.declared.command.Action.TheVariants.{Move};
 ghost use Rattle.ngc_commands.specs.declared.movement.Motion.{Motion};
 ghost use Rattle.ngc_commands.specs.declared.command.Action.{Action};
@@ -17,7 +17,7 @@ use crate::view::View;
 use ngc_certificate_text::{Motions, Piece};
 use ngc_commands::{Action, Command};
 use ngc_fixed_length::GridBox;
-use ngc_machine::Tool;
+use ngc_machine_files::Tool;
 use std::alloc::{AllocError, Allocator};
 
 /// Boxes that are drawn as one: the rank of their tool, how many they are, and the least box that

@@ -2,7 +2,7 @@ ghost use Rattle.std.specs.Prelude.{◌≡◌, IfOk, length};
 ghost use Rattle.ngc_drawing.specs.Tools.{number_of, name_of, rank_of, with_tool, mounted, used_by, used};
 
 use ngc_commands::{Action, Command};
-use ngc_machine::{Name, Tool};
+use ngc_machine_files::{Name, Tool};
 use std::alloc::{AllocError, Allocator};
 
 /// The number of a tool; no tool is 0.

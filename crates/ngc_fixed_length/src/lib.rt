@@ -13,7 +13,7 @@ mod value;
 
 pub use fault::NumberFault;
 pub use length::Nm;
-pub use modes::{Distance, FeedMode, Plane, ReturnMode, System, Turn};
+pub use modes::{Distance, FeedMode, Plane, RetractMode, System, Turn};
 pub use points::{GridBox, Point2, Point3, StepPos};
 pub use roots::{root_ceil, root_floor};
 pub use rounding::rounded_quotient;

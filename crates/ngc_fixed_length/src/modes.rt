@@ -25,7 +25,7 @@ pub enum FeedMode {
 
 /// The height to which a canned cycle clears: the height before its series (G98), or R (G99).
 #[derive(Clone, Copy)]
-pub enum ReturnMode {
+pub enum RetractMode {
     Series,
     Retract,
 }

@@ -12,7 +12,7 @@ use crate::frame::{Frame, is_same_frame};
 use crate::in_force::{FrameInForce, frame_in_force};
 use ngc_canonical::{Interpreter, ProgramFault, Work};
 use ngc_line_reader::Program;
-use ngc_machine::{Machine, Tools};
+use ngc_machine_files::{Machine, Tools};
 use std::alloc::Allocator;
 use thiserror::Error;
 

@@ -2,8 +2,8 @@ ghost use Rattle.std.specs.Prelude.{◌≡◌, List, is_some};
 ghost use Rattle.ngc_line_reader.specs.Grammar.{Reading};
 ghost use Rattle.ngc_line_reader.specs.ProgramText.{AreReadings};
 ghost use Rattle.ngc_line_reader.specs.ProgramView.{text_in};
-ghost use Rattle.ngc_machine.specs.Machine.{file_of};
-ghost use Rattle.ngc_machine.specs.Tools.{tools_of};
+ghost use Rattle.ngc_machine_files.specs.Machine.{file_of};
+ghost use Rattle.ngc_machine_files.specs.Tools.{tools_of};
 ghost use Rattle.ngc_canonical.specs.Interpreter.{setup_of};
 ghost use Rattle.ngc_canonical.specs.Meaning.{program_said};
 ghost use Rattle.ngc_job.specs.Job.{GivesJob, IsJob, commands_in};
@@ -12,7 +12,7 @@ use ngc_canonical::{ProgramFault, has_deleted_lines, interpret};
 use ngc_certificate_text::Setting;
 use ngc_commands::Command;
 use ngc_line_reader::Program;
-use ngc_machine::{Machine, Tools};
+use ngc_machine_files::{Machine, Tools};
 use std::alloc::Allocator;
 use std::marker::Model;
 use thiserror::Error;
@@ -39,8 +39,8 @@ pub struct Job<A: Allocator> {
 
 impl<A: Allocator> Model for Job<A> {
     ghost use Rattle.std.specs.Prelude.{option_map};
-    ghost use Rattle.ngc_machine.specs.Machine.{file_of};
-    ghost use Rattle.ngc_machine.specs.Tools.{tools_of};
+    ghost use Rattle.ngc_machine_files.specs.Machine.{file_of};
+    ghost use Rattle.ngc_machine_files.specs.Tools.{tools_of};
     ghost use Rattle.ngc_job.specs.Job.{JobData, IsJob};
 
     ghost Value = { JobData };

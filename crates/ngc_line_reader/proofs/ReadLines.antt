@@ -10,8 +10,8 @@ use Rattle.std.proofs.lemmas.Bool.Decides.{nat_tests}
 use Rattle.ngc_line_reader.specs.declared.token.Token.{Token}
 use Rattle.ngc_line_reader.specs.declared.fault.FaultKind.TheVariants.{BadNumber, BadLineNumber, CommentNested, CommentNotClosed, TooManyWords}
 use Rattle.ngc_line_reader.specs.declared.fault.LineFault.{LineFault}
-use Rattle.ngc_line_reader.specs.declared.fault.Refusal.{Refusal}
-use Rattle.ngc_line_reader.specs.declared.fault.Refusal.TheVariants.{OfItem}
+use Rattle.ngc_line_reader.specs.declared.fault.ItemRefusal.{ItemRefusal}
+use Rattle.ngc_line_reader.specs.declared.fault.ItemRefusal.TheVariants.{OfItem}
 use Rattle.ngc_line_reader.specs.declared.line.RawWord.{RawWord}
 use Rattle.ngc_line_reader.specs.declared.line.RawSetting.{RawSetting}
 use Rattle.ngc_line_reader.specs.declared.line.Line.{Line}
@@ -156,7 +156,7 @@ comment_again bs r h =
     rw after refl
 
 abbrev Read : Type 0
-Read = Result (Parts × List ℕ) Refusal
+Read = Result (Parts × List ℕ) ItemRefusal
 
 item_again : (place : ℕ → ℕ) (room : ℕ) (found : Parts) (i : Item) (r : List ℕ) → IsItem i → IsItemWithinLimit i → Stops r →
     length found.words + item_words i ≤ 64
@@ -174,7 +174,7 @@ item_again place room found (setting i v) r h limit stops few fits =
 item_again place room found (comment bs) r h limit stops few fits =
     let regrouped : (bs ++ (41 ∷ [])) ++ r ≡ bs ++ (41 ∷ r) = append_assoc bs (41 ∷ []) r in
     let end : comment_at (40 ∷ ((bs ++ (41 ∷ [])) ++ r)) ≡ Ok r = ap (λ (t : List ℕ). comment_at (40 ∷ t)) regrouped ∙ comment_again bs r h in
-    ap (λ (e : Result (List ℕ) Refusal). e >>= λ t. Ok (found, t)) end
+    ap (λ (e : Result (List ℕ) ItemRefusal). e >>= λ t. Ok (found, t)) end
 
 item_first : (i : Item) (r : List ℕ) → ((length (item_text i ++ r) == 0) ≡ false) × (0 < length (item_text i))
 item_first (word letter v) r = (not_zero (length (real_text v ++ r)), omega arith)
@@ -410,7 +410,7 @@ pub record TakesItems (place : ℕ → ℕ) (found parts : Parts) (s : List ℕ)
   pub parts_are : parts ≡ added place found items (behind 59 remark)
   pub spelled : s ≡ end_text items remark
 
-pub located_ok : {A : Type 0} (place : ℕ → ℕ) (s : List ℕ) (r : Result A Refusal) (x : A) → located place s r ≡ Ok x → r ≡ Ok x
+pub located_ok : {A : Type 0} (place : ℕ → ℕ) (s : List ℕ) (r : Result A ItemRefusal) (x : A) → located place s r ≡ Ok x → r ≡ Ok x
 located_ok place s (Ok y) x e = ap done (told_is y x e)
 located_ok place s (Err y) x e = absurd cc
 

@@ -6,7 +6,7 @@ use Rattle.std.specs.List.{list_all}
 use Rattle.std.proofs.lemmas.Bool.Decides.{nat_tests}
 use Rattle.ngc_line_reader.specs.declared.fault.FaultKind.TheVariants.{BadNumber, LineTooLong, TooManyWords}
 use Rattle.ngc_line_reader.specs.declared.fault.LineFault.{LineFault}
-use Rattle.ngc_line_reader.specs.declared.fault.Refusal.TheVariants.{OfItem}
+use Rattle.ngc_line_reader.specs.declared.fault.ItemRefusal.TheVariants.{OfItem}
 use Rattle.ngc_line_reader.specs.declared.letter.Letter.{Letter}
 use Rattle.ngc_line_reader.specs.Letter.{letter_of}
 use Rattle.ngc_line_reader.specs.Text.{text, columns, place_in}

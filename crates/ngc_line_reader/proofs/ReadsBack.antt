@@ -12,7 +12,7 @@ use Rattle.ngc_line_reader.specs.declared.token.Operator.{Operator}
 use Rattle.ngc_line_reader.specs.declared.token.Operator.TheVariants.{Add, Subtract, Multiply, Divide}
 use Rattle.ngc_line_reader.specs.declared.token.Token.{Token}
 use Rattle.ngc_line_reader.specs.declared.token.Symbol.TheVariants as mark
-use Rattle.ngc_line_reader.specs.declared.fault.Refusal.{Refusal}
+use Rattle.ngc_line_reader.specs.declared.fault.ItemRefusal.{ItemRefusal}
 use Rattle.ngc_line_reader.specs.Grammar.{Sign, bare, plus, minus, Numeral, Real, number, parameter, bracket, Rest, close, next, sign_text, behind}
 use Rattle.ngc_line_reader.specs.Grammar.{numeral_text, operator_byte, real_text, rest_text, IsDigits, digits_of, IsNumeral, IsReal, IsRest, Stops}
 use Rattle.ngc_line_reader.specs.Numbers.{written_value, numeral_value, is_negative}
@@ -97,7 +97,7 @@ operator_again Multiply r = (refl, refl)
 operator_again Divide r = (refl, refl)
 
 abbrev Read : Type 0
-Read = Result (List Token × List ℕ) Refusal
+Read = Result (List Token × List ℕ) ItemRefusal
 
 abbrev read : List Token → List ℕ → Read
 read ts r = Ok (ts, r)

@@ -16,8 +16,8 @@ use Rattle.ngc_line_reader.specs.declared.fault.FaultKind.{FaultKind}
 use Rattle.ngc_line_reader.specs.declared.fault.FaultKind.TheVariants.{TooLarge, LineTooLong, UnknownCharacter, BadNumber, BadWord, BadLineNumber}
 use Rattle.ngc_line_reader.specs.declared.fault.FaultKind.TheVariants.{CommentNotClosed, CommentNested, Bracket, TooManyWords}
 use Rattle.ngc_line_reader.specs.declared.fault.LineFault.{LineFault}
-use Rattle.ngc_line_reader.specs.declared.fault.Refusal.{Refusal}
-use Rattle.ngc_line_reader.specs.declared.fault.Refusal.TheVariants.{OfItem, AtByte}
+use Rattle.ngc_line_reader.specs.declared.fault.ItemRefusal.{ItemRefusal}
+use Rattle.ngc_line_reader.specs.declared.fault.ItemRefusal.TheVariants.{OfItem, AtByte}
 use Rattle.ngc_line_reader.specs.declared.letter.Letter.{Letter}
 use Rattle.ngc_line_reader.specs.declared.line.Line.{Line}
 use Rattle.ngc_line_reader.specs.Letter.{letter_byte, letter_of}
@@ -49,7 +49,7 @@ bind_err : {A B E : Type 0} (r : Result A E) (f : A → Result B E) (e : E) → 
 bind_err (Ok x) f e h = inr (x, refl, h)
 bind_err {B = B} (Err d) f e h = inl (ap err (err_is {A = B} d e h))
 
-abbrev failed : {A : Type 0} → FaultKind → Result A Refusal
+abbrev failed : {A : Type 0} → FaultKind → Result A ItemRefusal
 failed k = Err (OfItem k)
 
 kind_is : {A : Type 0} (j k : FaultKind) → failed {A = A} j ≡ failed {A = A} k → j ≡ k
@@ -141,7 +141,7 @@ not_value z k h = by_test (nat_le (unsigned_abs z) VALUE_LIMIT) refl h where
     differ : (b : Bool) → b ≡ false → b ≡ true → ⊥
     differ b e f = cc
 
-abbrev read_as : ℤ → List ℕ → Result (ℤ × List ℕ) Refusal
+abbrev read_as : ℤ → List ℕ → Result (ℤ × List ℕ) ItemRefusal
 read_as z r = Ok (z, r)
 
 number_why : (c : ℕ) (s : List ℕ) (k : FaultKind) → Stops (c ∷ []) → number_at s ≡ failed k → RealWhy k (c ∷ s)
@@ -175,7 +175,7 @@ number_why c s k parted e =
 abbrev Pair : Type 0
 Pair = List Token × List ℕ
 
-abbrev pair_of : List Token → List ℕ → Result Pair Refusal
+abbrev pair_of : List Token → List ℕ → Result Pair ItemRefusal
 pair_of ts r = Ok (ts, r)
 
 token_why : (place : ℕ → ℕ) (c : ℕ) (found : List Token) (s : List ℕ) (k : FaultKind) → Stops (c ∷ []) → number_token place found s ≡ failed k →
@@ -192,7 +192,7 @@ operator_stops Subtract = (refl, λ e. omega arith)
 operator_stops Multiply = (refl, λ e. omega arith)
 operator_stops Divide = (refl, λ e. omega arith)
 
-abbrev fine : Operator → Result Operator Refusal
+abbrev fine : Operator → Result Operator ItemRefusal
 fine o = Ok o
 
 operator_why : (s : List ℕ) (k : FaultKind) → operator_at s ≡ failed k → Bracket ≡ k
@@ -294,7 +294,7 @@ item_of_real TooManyWords found s h = absurd h
 item_kind : (j k : FaultKind) (found : Parts) (s : List ℕ) → j ≡ k → ItemWhy j found s → ItemWhy k found s
 item_kind j k found s e h = subst (λ (i : FaultKind). ItemWhy i found s) e h
 
-abbrev parts_and : Parts → List ℕ → Result (Parts × List ℕ) Refusal
+abbrev parts_and : Parts → List ℕ → Result (Parts × List ℕ) ItemRefusal
 parts_and p r = Ok (p, r)
 
 word_why : (place : ℕ → ℕ) (room : ℕ) (found : Parts) (l : Letter) (s : List ℕ) (k : FaultKind) → s ≡ letter_byte l ∷ drop 1 s →
@@ -436,7 +436,7 @@ fault_is : {A : Type 0} (f g : LineFault) → refused {A = A} f ≡ refused {A =
 fault_is f g e = cc
 
 -- a refusal, with its column
-located_why : {A : Type 0} (place : ℕ → ℕ) (s : List ℕ) (r : Result A Refusal) (f : LineFault) (P : FaultKind → Type 0) →
+located_why : {A : Type 0} (place : ℕ → ℕ) (s : List ℕ) (r : Result A ItemRefusal) (f : LineFault) (P : FaultKind → Type 0) →
     ((k : FaultKind) → r ≡ failed k → P k) → P UnknownCharacter → located place s r ≡ refused f → P f.kind
 located_why place s (Ok x) f P item byte e = absurd cc
 located_why {A = A} place s (Err (OfItem k)) f P item byte e =
@@ -463,7 +463,7 @@ items_why place (suc room) found s f e =
       ]
     ]
 
-abbrev number_and : Option ℕ → List ℕ → Result (Option ℕ × List ℕ) Refusal
+abbrev number_and : Option ℕ → List ℕ → Result (Option ℕ × List ℕ) ItemRefusal
 number_and n r = Ok (n, r)
 
 line_number_why : (s : List ℕ) (k : FaultKind) → line_number_at s ≡ failed k → BadLineNumber ≡ k

@@ -13,8 +13,8 @@ use Rattle.ngc_line_reader.specs.Numbers.{written_value}
 use Rattle.ngc_line_reader.specs.declared.token.Token.{Token}
 use Rattle.ngc_line_reader.specs.declared.token.Symbol.TheVariants as mark
 use Rattle.ngc_line_reader.specs.Tokens.{token_at}
-use Rattle.ngc_line_reader.specs.declared.fault.Refusal.{Refusal}
-use Rattle.ngc_line_reader.specs.declared.fault.Refusal.TheVariants.{OfItem}
+use Rattle.ngc_line_reader.specs.declared.fault.ItemRefusal.{ItemRefusal}
+use Rattle.ngc_line_reader.specs.declared.fault.ItemRefusal.TheVariants.{OfItem}
 use Rattle.ngc_line_reader.specs.Scan.{◌>>=◌, begins, refusal, after_sign, digits_at, after_digits, decimals_at, after_decimals, whole_at, fraction_at}
 use Rattle.ngc_line_reader.specs.Scan.{after_number, value_fits, number_at, number_token, operator_at, real_at, rest_at}
 
@@ -58,13 +58,13 @@ number_split s = omega (arith, after_sign_le s, digits_split (after_sign s), dec
 pub nonempty : (m n : ℕ) → (m == 0) && (n == 0) ≡ false → 0 < m + n
 nonempty m n h = grind (arith, nat_tests)
 
-abbrev read : ℤ → List ℕ → Result (ℤ × List ℕ) Refusal
+abbrev read : ℤ → List ℕ → Result (ℤ × List ℕ) ItemRefusal
 read z r = Ok (z, r)
 
 abbrev made : ℤ → List ℕ → ℤ × List ℕ
 made z r = (z, r)
 
-abbrev done : ℤ × List ℕ → Result (ℤ × List ℕ) Refusal
+abbrev done : ℤ × List ℕ → Result (ℤ × List ℕ) ItemRefusal
 done p = Ok p
 
 inner : (p q : ℤ × List ℕ) → done p ≡ done q → p ≡ q
@@ -78,7 +78,7 @@ pub number_was : (s : List ℕ) (z : ℤ) (r : List ℕ) → number_at s ≡ Ok 
 unfolding number_at
 number_was s z r e = by_tests ((length (whole_at s) == 0) && (length (fraction_at s) == 0)) (begins 46 (after_number s))
     (value_fits (limited (written_value (begins 45 s) (whole_at s) (fraction_at s)))) (nonempty (length (whole_at s)) (length (fraction_at s))) e where
-      by_tests : (a b : Bool) (v : Result ℤ Refusal) → (a ≡ false → 0 < length (whole_at s) + length (fraction_at s))
+      by_tests : (a b : Bool) (v : Result ℤ ItemRefusal) → (a ≡ false → 0 < length (whole_at s) + length (fraction_at s))
           → cond a (Err (refusal BadNumber (after_number s))) (cond b (Err (OfItem BadNumber)) (v >>= λ z. Ok (z, after_number s))) ≡ read z r
           → (0 < length (whole_at s) + length (fraction_at s)) × (r ≡ after_number s)
       by_tests true b v some e = absurd cc

@@ -14,8 +14,8 @@ use Rattle.ngc_line_reader.specs.declared.token.Operator.TheVariants.{Add, Subtr
 use Rattle.ngc_line_reader.specs.declared.token.Token.{Token}
 use Rattle.ngc_line_reader.specs.declared.token.Symbol.{Symbol}
 use Rattle.ngc_line_reader.specs.declared.token.Symbol.TheVariants as mark
-use Rattle.ngc_line_reader.specs.declared.fault.Refusal.{Refusal}
-use Rattle.ngc_line_reader.specs.declared.fault.Refusal.TheVariants.{OfItem}
+use Rattle.ngc_line_reader.specs.declared.fault.ItemRefusal.{ItemRefusal}
+use Rattle.ngc_line_reader.specs.declared.fault.ItemRefusal.TheVariants.{OfItem}
 use Rattle.ngc_line_reader.specs.declared.fault.FaultKind.TheVariants.{BadNumber}
 use Rattle.ngc_line_reader.specs.Grammar.{Numeral, Real, number, parameter, bracket, Rest, close, next, sign_text, behind, numeral_text, operator_byte}
 use Rattle.ngc_line_reader.specs.Grammar.{real_text, rest_text, IsDigits, digits_of, IsNumeral, IsReal, IsRest}
@@ -33,7 +33,7 @@ pub chosen : {A : Type 0} (b : Bool) (x y z : A) → cond b x y ≡ z → ((b �
 chosen true x y z e = inl (refl, e)
 chosen false x y z e = inr (refl, e)
 
-abbrev pub done : {A : Type 0} → A → Result A Refusal
+abbrev pub done : {A : Type 0} → A → Result A ItemRefusal
 done x = Ok x
 
 pub ok_is : {A : Type 0} (x y : A) → done x ≡ done y → x ≡ y

@@ -14,8 +14,8 @@ use Rattle.ngc_line_reader.specs.declared.token.Token.{Token}
 use Rattle.ngc_line_reader.specs.declared.token.Symbol.TheVariants as mark
 use Rattle.ngc_line_reader.specs.declared.fault.FaultKind.{FaultKind}
 use Rattle.ngc_line_reader.specs.declared.fault.FaultKind.TheVariants.{TooLarge, BadNumber, Bracket}
-use Rattle.ngc_line_reader.specs.declared.fault.Refusal.{Refusal}
-use Rattle.ngc_line_reader.specs.declared.fault.Refusal.TheVariants.{OfItem, AtByte}
+use Rattle.ngc_line_reader.specs.declared.fault.ItemRefusal.{ItemRefusal}
+use Rattle.ngc_line_reader.specs.declared.fault.ItemRefusal.TheVariants.{OfItem, AtByte}
 use Rattle.ngc_line_reader.specs.Grammar.{Sign, bare, plus, minus, digits_of}
 use Rattle.ngc_line_reader.specs.Numbers.{written_value}
 use Rattle.ngc_line_reader.specs.Tokens.{token_at}
@@ -45,7 +45,7 @@ begins_unknown [] = false
 begins_unknown (c ∷ s) = not (is_known c)
 
 -- an item that can't continue at s: for its own fault, or for an unknown character there
-abbrev pub refusal : FaultKind → List ℕ → Refusal
+abbrev pub refusal : FaultKind → List ℕ → ItemRefusal
 refusal kind s = if begins_unknown s then AtByte (length s) else OfItem kind
 
 abbrev pub sign_at : List ℕ → Sign
@@ -67,7 +67,7 @@ decimals_at s = if begins 46 s then Some (digits_at (drop 1 s)) else None
 abbrev pub after_decimals : List ℕ → List ℕ
 after_decimals s = if begins 46 s then after_digits (drop 1 s) else s
 
-abbrev pub value_fits : Result ℤ NumberFault → Result ℤ Refusal
+abbrev pub value_fits : Result ℤ NumberFault → Result ℤ ItemRefusal
 value_fits (Ok z) = Ok z
 value_fits (Err e) = Err (OfItem TooLarge)
 
@@ -82,7 +82,7 @@ abbrev pub after_number : List ℕ → List ℕ
 after_number s = after_decimals (after_digits (after_sign s))
 
 -- a number's value, and the rest
-unfoldable pub number_at : List ℕ → Result (ℤ × List ℕ) Refusal
+unfoldable pub number_at : List ℕ → Result (ℤ × List ℕ) ItemRefusal
 number_at s =
     if (length (whole_at s) == 0) && (length (fraction_at s) == 0)
     then Err (refusal BadNumber (after_number s)) else (
@@ -90,11 +90,11 @@ number_at s =
     (value_fits (limited (written_value (begins 45 s) (whole_at s) (fraction_at s))) >>= λ z.
     Ok (z, after_number s)))
 
-abbrev pub number_token : (ℕ → ℕ) → List Token → List ℕ → Result (List Token × List ℕ) Refusal
+abbrev pub number_token : (ℕ → ℕ) → List Token → List ℕ → Result (List Token × List ℕ) ItemRefusal
 number_token place found s =
     number_at s >>= λ x. Ok (found ++ (token_at place (mark.Number x.0) s ∷ []), x.1)
 
-unfoldable pub operator_at : List ℕ → Result Operator Refusal
+unfoldable pub operator_at : List ℕ → Result Operator ItemRefusal
 operator_at s = if begins 43 s then Ok operators.Add
     else (if begins 45 s then Ok operators.Subtract
     else (if begins 42 s then Ok operators.Multiply
@@ -102,7 +102,7 @@ operator_at s = if begins 43 s then Ok operators.Add
 
 -- a real value's tokens, after those so far, and the rest; room is greater than the number of bytes
 unfoldable mutual
-  pub real_at : (ℕ → ℕ) → ℕ → List Token → List ℕ → Result (List Token × List ℕ) Refusal
+  pub real_at : (ℕ → ℕ) → ℕ → List Token → List ℕ → Result (List Token × List ℕ) ItemRefusal
   real_at place zero found s = Err (OfItem Bracket)
   real_at place (suc room) found s =
       if begins 35 s then real_at place room (found ++ (token_at place mark.Parameter s ∷ []))
@@ -112,7 +112,7 @@ unfoldable mutual
       rest_at place room x.0 x.1) else
       number_token place found s)
 
-  pub rest_at : (ℕ → ℕ) → ℕ → List Token → List ℕ → Result (List Token × List ℕ) Refusal
+  pub rest_at : (ℕ → ℕ) → ℕ → List Token → List ℕ → Result (List Token × List ℕ) ItemRefusal
   rest_at place zero found s = Err (OfItem Bracket)
   rest_at place (suc room) found s =
       if begins 93 s then Ok (found ++ (token_at place mark.Close s ∷ []), drop 1 s) else (

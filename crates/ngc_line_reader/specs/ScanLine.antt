@@ -13,8 +13,8 @@ use Rattle.ngc_line_reader.specs.declared.fault.FaultKind.TheVariants.{CommentNo
 use Rattle.ngc_line_reader.specs.declared.fault.FaultKind.TheVariants.{CommentNested, Bracket}
 use Rattle.ngc_line_reader.specs.declared.fault.FaultKind.TheVariants.{TooManyWords}
 use Rattle.ngc_line_reader.specs.declared.fault.LineFault.{LineFault}
-use Rattle.ngc_line_reader.specs.declared.fault.Refusal.{Refusal}
-use Rattle.ngc_line_reader.specs.declared.fault.Refusal.TheVariants.{OfItem, AtByte}
+use Rattle.ngc_line_reader.specs.declared.fault.ItemRefusal.{ItemRefusal}
+use Rattle.ngc_line_reader.specs.declared.fault.ItemRefusal.TheVariants.{OfItem, AtByte}
 use Rattle.ngc_line_reader.specs.declared.line.RawWord.{RawWord}
 use Rattle.ngc_line_reader.specs.declared.line.RawSetting.{RawSetting}
 use Rattle.ngc_line_reader.specs.declared.line.Line.{Line}
@@ -62,7 +62,7 @@ with_setting place found s index value =
     }
 
 -- a word, whose letter is the first byte of s
-unfoldable pub word_at : (ℕ → ℕ) → ℕ → Parts → Letter → List ℕ → Result (Parts × List ℕ) Refusal
+unfoldable pub word_at : (ℕ → ℕ) → ℕ → Parts → Letter → List ℕ → Result (Parts × List ℕ) ItemRefusal
 word_at place room found letter s =
     if length found.words == 64 then Err (OfItem TooManyWords) else (
     real_at place room found.tokens (drop 1 s) >>= λ x.
@@ -70,13 +70,13 @@ word_at place room found letter s =
 
 -- a setting's value, after its index
 unfoldable pub value_behind : (ℕ → ℕ) → ℕ → Parts → List ℕ → List Token → List ℕ →
-    Result (Parts × List ℕ) Refusal
+    Result (Parts × List ℕ) ItemRefusal
 value_behind place room found s index r =
     if begins 61 r
     then (real_at place room index (drop 1 r) >>= λ x.
     Ok (with_setting place found s index x.0, x.1)) else Err (refusal BadNumber r)
 
-unfoldable pub setting_at : (ℕ → ℕ) → ℕ → Parts → List ℕ → Result (Parts × List ℕ) Refusal
+unfoldable pub setting_at : (ℕ → ℕ) → ℕ → Parts → List ℕ → Result (Parts × List ℕ) ItemRefusal
 setting_at place room found s =
     real_at place room found.tokens (drop 1 s) >>= λ x. value_behind place room found s x.0 x.1
 
@@ -87,7 +87,7 @@ abbrev pub after_comment : List ℕ → List ℕ
 after_comment s = drop (prefix_len is_comment_byte s) s
 
 -- the text after a comment
-abbrev pub comment_at : List ℕ → Result (List ℕ) Refusal
+abbrev pub comment_at : List ℕ → Result (List ℕ) ItemRefusal
 comment_at s =
     if begins 41 (after_comment (drop 1 s)) then Ok (drop 1 (after_comment (drop 1 s))) else (
     if begins 40 (after_comment (drop 1 s)) then Err (OfItem CommentNested)
@@ -106,13 +106,13 @@ by_letter None word other = other
 by_letter (Some letter) word other = word letter
 
 -- an item that begins with no letter
-unfoldable pub other_item_at : (ℕ → ℕ) → ℕ → Parts → List ℕ → Result (Parts × List ℕ) Refusal
+unfoldable pub other_item_at : (ℕ → ℕ) → ℕ → Parts → List ℕ → Result (Parts × List ℕ) ItemRefusal
 other_item_at place room found s =
     if begins 35 s then setting_at place room found s else (
     if begins 40 s then (comment_at s >>= λ r. Ok (found, r)) else
     Err (OfItem (start_fault (slice_index s 0))))
 
-unfoldable pub item_at : (ℕ → ℕ) → ℕ → Parts → List ℕ → Result (Parts × List ℕ) Refusal
+unfoldable pub item_at : (ℕ → ℕ) → ℕ → Parts → List ℕ → Result (Parts × List ℕ) ItemRefusal
 item_at place room found s = by_letter (letter_of (slice_index s 0))
     (λ letter. word_at place room found letter s) (other_item_at place room found s)
 
@@ -120,11 +120,11 @@ abbrev pub fault_at : FaultKind → ℕ → LineFault
 fault_at kind column = record { kind = kind; column = column }
 
 -- a refusal with its column: that of the item at s, or of the unknown character
-abbrev pub refused_at : (ℕ → ℕ) → List ℕ → Refusal → LineFault
+abbrev pub refused_at : (ℕ → ℕ) → List ℕ → ItemRefusal → LineFault
 refused_at place s (OfItem kind) = fault_at kind (place (length s))
 refused_at place s (AtByte left) = fault_at UnknownCharacter (place left)
 
-abbrev pub located : {A : Type 0} → (ℕ → ℕ) → List ℕ → Result A Refusal → Result A LineFault
+abbrev pub located : {A : Type 0} → (ℕ → ℕ) → List ℕ → Result A ItemRefusal → Result A LineFault
 located place s (Ok x) = Ok x
 located place s (Err e) = Err (refused_at place s e)
 
@@ -136,13 +136,13 @@ items_at place (suc room) found s =
     located place s (item_at place room found s) >>= λ x. items_at place room x.0 x.1))
 
 -- a line number's digits, and the rest
-abbrev pub numbered : List ℕ → List ℕ → Result (Option ℕ × List ℕ) Refusal
+abbrev pub numbered : List ℕ → List ℕ → Result (Option ℕ × List ℕ) ItemRefusal
 numbered ds r =
     if length ds == 0 then Err (refusal BadLineNumber r) else (
     if nat_le 6 (length ds) then Err (OfItem BadLineNumber) else (
     if begins 46 r then Err (OfItem BadLineNumber) else Ok (Some (digits_value ds), r)))
 
-unfoldable pub line_number_at : List ℕ → Result (Option ℕ × List ℕ) Refusal
+unfoldable pub line_number_at : List ℕ → Result (Option ℕ × List ℕ) ItemRefusal
 line_number_at s =
     if begins 78 s then numbered (digits_at (drop 1 s)) (after_digits (drop 1 s)) else Ok (None, s)
 

@@ -62,7 +62,7 @@ impl LineFault {
 /// A refusal of an item: for the item itself, or for an unknown character, with the number of bytes
 /// from it on.
 #[derive(Clone, Copy)]
-pub enum Refusal {
+pub enum ItemRefusal {
     OfItem(FaultKind),
     AtByte(usize),
 }

@@ -13,7 +13,7 @@ ghost use Rattle.ngc_line_reader.specs.Scan.{refusal as refused, after_sign, dec
 ghost use Rattle.ngc_line_reader.specs.Scan.{after_decimals, number_at as number_found};
 ghost use Rattle.ngc_line_reader.specs.Scan.{◌>>=◌ as and_then, value_fits};
 
-use crate::fault::{FaultKind, Refusal};
+use crate::fault::{FaultKind, ItemRefusal};
 use ngc_fixed_length::{NumberFault, Value};
 
 /// Digits, and the number that they write, at most `UNITS`.
@@ -73,15 +73,15 @@ fn begins_unknown(s: &[u8]) -> bool
 }
 
 // Returns why an item can't continue at `s`.
-pub(crate) fn refusal(kind: FaultKind, s: &[u8]) -> Refusal
+pub(crate) fn refusal(kind: FaultKind, s: &[u8]) -> ItemRefusal
     ensures value { result ≡ refused kind s.now }
     ensures not_long { kind ≢ FaultKind.LineTooLong →
-        result ≢ Refusal.OfItem FaultKind.LineTooLong }
+        result ≢ ItemRefusal.OfItem FaultKind.LineTooLong }
 {
     if begins_unknown(s) {
-        Refusal::AtByte(s.len())
+        ItemRefusal::AtByte(s.len())
     } else {
-        Refusal::OfItem(kind)
+        ItemRefusal::OfItem(kind)
     }
 }
 
@@ -137,23 +137,23 @@ fn split_decimals(s: &[u8]) -> (Digits<'_>, &[u8])
 
 // Returns a value, if it is not too large, with the rest.
 #[inline]
-fn with_rest(value: Result<Value, NumberFault>, rest: &[u8]) -> Result<(Value, &[u8]), Refusal>
+fn with_rest(value: Result<Value, NumberFault>, rest: &[u8]) -> Result<(Value, &[u8]), ItemRefusal>
     ensures reads { Gives (λ x. (x.0, x.1.now)) result
         (and_then {B = ℤ × List ℕ} (value_fits value) (λ z. Ok (z, rest.now))) }
-    ensures not_long { IfErr result (λ e. e ≢ Refusal.OfItem FaultKind.LineTooLong) }
+    ensures not_long { IfErr result (λ e. e ≢ ItemRefusal.OfItem FaultKind.LineTooLong) }
 {
     match value {
         Ok(value) => Ok((value, rest)),
-        Err(_) => Err(Refusal::OfItem(FaultKind::TooLarge)),
+        Err(_) => Err(ItemRefusal::OfItem(FaultKind::TooLarge)),
     }
 }
 
 // Returns a number's value, and the rest.
 #[tactic(auto, unfolding(crate::specs::Scan::number_at))]
 #[inline(always)]
-pub(crate) fn number_at(s: &[u8]) -> Result<(Value, &[u8]), Refusal>
+pub(crate) fn number_at(s: &[u8]) -> Result<(Value, &[u8]), ItemRefusal>
     ensures reads { Gives (λ x. (x.0, x.1.now)) result (number_found s.now) }
-    ensures not_long { IfErr result (λ e. e ≢ Refusal.OfItem FaultKind.LineTooLong) }
+    ensures not_long { IfErr result (λ e. e ≢ ItemRefusal.OfItem FaultKind.LineTooLong) }
 {
     let (whole, after_whole) = split_digits(split_sign(s));
     if !whole.bytes.is_empty() && !begins(b'.', after_whole) {
@@ -164,7 +164,7 @@ pub(crate) fn number_at(s: &[u8]) -> Result<(Value, &[u8]), Refusal>
         return Err(refusal(FaultKind::BadNumber, rest));
     }
     if begins(b'.', rest) {
-        return Err(Refusal::OfItem(FaultKind::BadNumber));
+        return Err(ItemRefusal::OfItem(FaultKind::BadNumber));
     }
     with_rest(value_of(begins(b'-', s), whole, decimals), rest)
 }

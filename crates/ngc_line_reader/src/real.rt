@@ -7,7 +7,7 @@ ghost use Rattle.ngc_line_reader.specs.Scan.{Gives, real_at as real_found, rest_
 ghost use Rattle.ngc_line_reader.specs.Scan.{number_token as token_found};
 ghost use Rattle.ngc_line_reader.specs.Scan.{operator_at as operator_found};
 
-use crate::fault::{FaultKind, Refusal};
+use crate::fault::{FaultKind, ItemRefusal};
 use crate::number::{begins, number_at, refusal, tail};
 use crate::text::column_of;
 use crate::token::{Operator, Symbol, Token};
@@ -37,7 +37,7 @@ fn number_token<'a>(
     columns: &[u16],
     s: &'a [u8],
     tokens: &mut ArrayVec<Token, 256>,
-) -> Result<&'a [u8], Refusal>
+) -> Result<&'a [u8], ItemRefusal>
     requires space { array_vec_len tokens.old + length s.now ≤ 256 }
     ensures reads { Gives (λ rest. (tokens.new.items, rest.now)) result
         (token_found (place_in columns.now) tokens.old.items s.now) }
@@ -45,7 +45,7 @@ fn number_token<'a>(
     ensures space { IfOk result
         (λ rest. array_vec_len tokens.new + length rest.now
         ≤ array_vec_len tokens.old + length s.now) }
-    ensures not_long { IfErr result (λ e. e ≢ Refusal.OfItem FaultKind.LineTooLong) }
+    ensures not_long { IfErr result (λ e. e ≢ ItemRefusal.OfItem FaultKind.LineTooLong) }
 {
     match number_at(s) {
         Ok((value, rest)) => {
@@ -64,7 +64,7 @@ pub(crate) fn real_at<'a>(
     room: usize,
     s: &'a [u8],
     tokens: &mut ArrayVec<Token, 256>,
-) -> Result<&'a [u8], Refusal>
+) -> Result<&'a [u8], ItemRefusal>
     requires room { length s.now < room }
     requires space { array_vec_len tokens.old + length s.now ≤ 256 }
     ensures reads { Gives (λ rest. (tokens.new.items, rest.now)) result
@@ -73,7 +73,7 @@ pub(crate) fn real_at<'a>(
     ensures space { IfOk result
         (λ rest. array_vec_len tokens.new + length rest.now
         ≤ array_vec_len tokens.old + length s.now) }
-    ensures not_long { IfErr result (λ e. e ≢ Refusal.OfItem FaultKind.LineTooLong) }
+    ensures not_long { IfErr result (λ e. e ≢ ItemRefusal.OfItem FaultKind.LineTooLong) }
 {
     if begins(b'#', s) {
         push_symbol(columns, Symbol::Parameter, s, tokens);
@@ -95,7 +95,7 @@ fn rest_at<'a>(
     room: usize,
     s: &'a [u8],
     tokens: &mut ArrayVec<Token, 256>,
-) -> Result<&'a [u8], Refusal>
+) -> Result<&'a [u8], ItemRefusal>
     requires room { length s.now < room }
     requires space { array_vec_len tokens.old + length s.now ≤ 256 }
     ensures reads { Gives (λ rest. (tokens.new.items, rest.now)) result
@@ -104,7 +104,7 @@ fn rest_at<'a>(
     ensures space { IfOk result
         (λ rest. array_vec_len tokens.new + length rest.now
         ≤ array_vec_len tokens.old + length s.now) }
-    ensures not_long { IfErr result (λ e. e ≢ Refusal.OfItem FaultKind.LineTooLong) }
+    ensures not_long { IfErr result (λ e. e ≢ ItemRefusal.OfItem FaultKind.LineTooLong) }
 {
     if begins(b']', s) {
         push_symbol(columns, Symbol::Close, s, tokens);
@@ -117,10 +117,10 @@ fn rest_at<'a>(
 }
 
 #[tactic(auto, unfolding(crate::specs::Scan::operator_at))]
-fn operator_at(s: &[u8]) -> Result<Operator, Refusal>
+fn operator_at(s: &[u8]) -> Result<Operator, ItemRefusal>
     ensures reads { result ≡ operator_found s.now }
     ensures some { IsOk result → 0 < length s.now }
-    ensures not_long { IfErr result (λ e. e ≢ Refusal.OfItem FaultKind.LineTooLong) }
+    ensures not_long { IfErr result (λ e. e ≢ ItemRefusal.OfItem FaultKind.LineTooLong) }
 {
     match s {
         [b'+', ..] => Ok(Operator::Add),

@@ -13,7 +13,7 @@ ghost use Rattle.ngc_listing.specs.Listing.{listing_line, listing};
 use ngc_arc_geometry::Arc;
 use ngc_commands::{Action, Command, CoolantState, Feed, Motion, Pace, SpindleState, Way};
 use ngc_fixed_length::{Nm, Plane, Point3, Turn};
-use ngc_machine::Tool;
+use ngc_machine_files::Tool;
 use ngc_text::{Chunk, Sink, WriteFault};
 
 fn add_end(chunk: &mut Chunk, step: Nm, end: &Point3)

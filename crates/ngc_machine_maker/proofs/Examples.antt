@@ -9,7 +9,7 @@ use Rattle.ngc_machine_maker.specs.declared.figures.Figures.{Figures}
 use Rattle.ngc_machine_maker.specs.declared.figures.Length.{Length}
 use Rattle.ngc_machine_maker.specs.declared.figures.PerAxis.{PerAxis}
 use Rattle.ngc_machine_maker.specs.declared.figures.Speed.{Speed}
-use Rattle.ngc_machine_maker.specs.declared.refusal.Refusal.TheVariants as refusals
+use Rattle.ngc_machine_maker.specs.declared.refusal.FigureRefusal.TheVariants as refusals
 use Rattle.ngc_machine_maker.specs.declared.refusal.Stop.TheVariants as stops
 use Rattle.ngc_machine_maker.specs.Formulas.{nearest_step}
 use Rattle.ngc_machine_maker.specs.Numbers.{numbers_of, ring_of}

@@ -8,7 +8,7 @@ use Rattle.ngc_machine_maker.specs.declared.figures.Axis.TheVariants as axes
 use Rattle.ngc_machine_maker.specs.declared.figures.End.TheVariants as ends
 use Rattle.ngc_machine_maker.specs.declared.numbers.MachineNumbers.{MachineNumbers}
 use Rattle.ngc_machine_maker.specs.declared.refusal.Field.TheVariants as fields
-use Rattle.ngc_machine_maker.specs.declared.refusal.Refusal.TheVariants as refusals
+use Rattle.ngc_machine_maker.specs.declared.refusal.FigureRefusal.TheVariants as refusals
 use Rattle.ngc_machine_maker.specs.declared.refusal.Stop.TheVariants as stops
 use Rattle.ngc_machine_maker.specs.Choices.{place_in, ring_in}
 use Rattle.ngc_machine_maker.specs.Decimals.{number_in}

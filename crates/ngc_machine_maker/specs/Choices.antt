@@ -12,7 +12,7 @@ use Rattle.ngc_machine_maker.specs.declared.figures.PerAxis.{PerAxis}
 use Rattle.ngc_machine_maker.specs.declared.figures.Speed.{Speed}
 use Rattle.ngc_machine_maker.specs.declared.refusal.Field.{Field}
 use Rattle.ngc_machine_maker.specs.declared.refusal.Field.TheVariants as fields
-use Rattle.ngc_machine_maker.specs.declared.refusal.Refusal.{Refusal}
+use Rattle.ngc_machine_maker.specs.declared.refusal.FigureRefusal.{FigureRefusal}
 use Rattle.ngc_machine_maker.specs.declared.refusal.Stop.{Stop}
 use Rattle.ngc_machine_maker.specs.declared.refusal.Stop.TheVariants as stops
 use Rattle.ngc_machine_maker.specs.Decimals.{begins, number_in, three_texts, three_by}
@@ -21,38 +21,38 @@ use Rattle.ngc_machine_maker.specs.Options.{each_of, length_of, acceleration_of,
 use Rattle.ngc_machine_maker.specs.Options.{second_speed_in}
 
 -- a speed in millimetres per second
-abbrev pub speed_by : Field → Speed → Option (Bor (List ℕ)) → Result Speed Refusal
+abbrev pub speed_by : Field → Speed → Option (Bor (List ℕ)) → Result Speed FigureRefusal
 speed_by field otherwise None = Ok otherwise
 speed_by field otherwise (Some text) = second_speed_in field text.now
 
 abbrev pub some_acceleration : ℕ → Option Acceleration
 some_acceleration n = Some (acceleration_of n)
 
-abbrev pub arcs_in : List ℕ → Result (Option Acceleration) Refusal
+abbrev pub arcs_in : List ℕ → Result (Option Acceleration) FigureRefusal
 arcs_in text = read_by fields.Arcs some_acceleration (number_in 3 text)
 
 abbrev pub arcs_by : Option Acceleration → Option (Bor (List ℕ)) →
-    Result (Option Acceleration) Refusal
+    Result (Option Acceleration) FigureRefusal
 arcs_by otherwise None = Ok otherwise
 arcs_by otherwise (Some text) = arcs_in text.now
 
 abbrev pub some_ticks : ℕ → Option ℕ
 some_ticks n = Some n
 
-abbrev pub ticks_in : List ℕ → Result (Option ℕ) Refusal
+abbrev pub ticks_in : List ℕ → Result (Option ℕ) FigureRefusal
 ticks_in text = read_by fields.Ticks some_ticks (number_in 0 text)
 
-abbrev pub ticks_by : Option ℕ → Option (Bor (List ℕ)) → Result (Option ℕ) Refusal
+abbrev pub ticks_by : Option ℕ → Option (Bor (List ℕ)) → Result (Option ℕ) FigureRefusal
 ticks_by otherwise None = Ok otherwise
 ticks_by otherwise (Some text) = ticks_in text.now
 
 abbrev pub some_commands : ℕ → Option ℕ
 some_commands n = Some n
 
-abbrev pub ring_in : List ℕ → Result (Option ℕ) Refusal
+abbrev pub ring_in : List ℕ → Result (Option ℕ) FigureRefusal
 ring_in text = read_by fields.Ring some_commands (number_in 0 text)
 
-abbrev pub ring_by : Option ℕ → Option (Bor (List ℕ)) → Result (Option ℕ) Refusal
+abbrev pub ring_by : Option ℕ → Option (Bor (List ℕ)) → Result (Option ℕ) FigureRefusal
 ring_by otherwise None = Ok otherwise
 ring_by otherwise (Some text) = ring_in text.now
 
@@ -76,25 +76,25 @@ distances_in zero text =
     three_by (distance_in zero.x (three_texts text).x) (distance_in zero.y (three_texts text).y)
     (distance_in zero.z (three_texts text).z)
 
-abbrev pub place_in : PerAxis End → Stop → List ℕ → Result (PerAxis Length) Refusal
+abbrev pub place_in : PerAxis End → Stop → List ℕ → Result (PerAxis Length) FigureRefusal
 place_in zero stop text = read_by (fields.Stop stop) (each_of length_of) (distances_in zero text)
 
 abbrev pub start_by : PerAxis End → PerAxis Length → Option (Bor (List ℕ)) →
-    Result (PerAxis Length) Refusal
+    Result (PerAxis Length) FigureRefusal
 start_by zero otherwise None = Ok otherwise
 start_by zero otherwise (Some text) = place_in zero stops.Start text.now
 
-abbrev pub some_place : PerAxis Length → Result (Option (PerAxis Length)) Refusal
+abbrev pub some_place : PerAxis Length → Result (Option (PerAxis Length)) FigureRefusal
 some_place place = Ok (Some place)
 
 abbrev pub home_by : PerAxis End → Stop → Option (PerAxis Length) → Option (Bor (List ℕ)) →
-    Result (Option (PerAxis Length)) Refusal
+    Result (Option (PerAxis Length)) FigureRefusal
 home_by zero stop otherwise None = Ok otherwise
 home_by zero stop otherwise (Some text) = and_then (place_in zero stop text.now) some_place
 
 -- ---- the figures with the choices
 
-abbrev pub chosen : Figures → Choices → Result Figures Refusal
+abbrev pub chosen : Figures → Choices → Result Figures FigureRefusal
 chosen f choices =
     and_then (speed_by fields.Corner f.corner choices.corner) (λ corner.
     and_then (speed_by fields.Jump f.jump choices.jump) (λ jump.

@@ -11,13 +11,13 @@ use Rattle.ngc_machine_maker.specs.declared.figures.StepsPerMillimetre.{StepsPer
 use Rattle.ngc_machine_maker.specs.declared.figures.Speed.{Speed}
 use Rattle.ngc_machine_maker.specs.declared.figures.Acceleration.{Acceleration}
 use Rattle.ngc_machine_maker.specs.declared.figures.Figures.{Figures}
-use Rattle.ngc_machine_maker.specs.declared.refusal.Refusal.{Refusal}
-use Rattle.ngc_machine_maker.specs.declared.refusal.Refusal.TheVariants as refusals
+use Rattle.ngc_machine_maker.specs.declared.refusal.FigureRefusal.{FigureRefusal}
+use Rattle.ngc_machine_maker.specs.declared.refusal.FigureRefusal.TheVariants as refusals
 use Rattle.ngc_machine_maker.specs.declared.rates.Rates.{Rates}
 use Rattle.ngc_machine_maker.specs.declared.scale.Scale.{Scale}
 
 -- the first refusal, or the next result for the value
-abbrev pub and_then : {T U : Type 0} → Result T Refusal → (T → Result U Refusal) → Result U Refusal
+abbrev pub and_then : {T U : Type 0} → Result T FigureRefusal → (T → Result U FigureRefusal) → Result U FigureRefusal
 and_then (Err refusal) f = Err refusal
 and_then (Ok x) f = f x
 
@@ -27,7 +27,7 @@ abbrev pub nearest_step : ℕ → ℕ
 nearest_step steps = (2000000000000 + steps) / (2 * steps)
 
 -- a motor's step is from 500 to 50,000 nm if it has 20 to 2,000 steps per millimetre
-abbrev pub scale_of : StepsPerMillimetre → Result Scale Refusal
+abbrev pub scale_of : StepsPerMillimetre → Result Scale FigureRefusal
 scale_of s =
     if nat_lt s.millionths 20000000 || nat_lt 2000000000 s.millionths then Err refusals.Step
     else Ok (record { steps = s.millionths; step = nearest_step s.millionths })
@@ -71,45 +71,45 @@ abbrev pub chosen_ticks : Scale → PerAxis Speed → ℕ
 chosen_ticks scale feed =
     min (max (1000 * (fastest feed * scale.steps / 30000000000000 + 1)) 10000) 1000000
 
-abbrev pub given_ticks : ℕ → Result ℕ Refusal
+abbrev pub given_ticks : ℕ → Result ℕ FigureRefusal
 given_ticks ticks =
     if nat_lt ticks 1 || nat_lt 1000000 ticks then Err refusals.Ticks else Ok ticks
 
-abbrev pub ticks_by : ℕ → Option ℕ → Result ℕ Refusal
+abbrev pub ticks_by : ℕ → Option ℕ → Result ℕ FigureRefusal
 ticks_by chosen None = Ok chosen
 ticks_by chosen (Some ticks) = given_ticks ticks
 
-abbrev pub ticks_of : Scale → Figures → Result ℕ Refusal
+abbrev pub ticks_of : Scale → Figures → Result ℕ FigureRefusal
 ticks_of scale f = ticks_by (chosen_ticks scale f.feed) f.ticks
 
 -- the rate of an axis: from a millionth of a step to a step per tick
-abbrev pub rate_within : Axis → ℕ → Result ℕ Refusal
+abbrev pub rate_within : Axis → ℕ → Result ℕ FigureRefusal
 rate_within axis rate =
     if rate == 0 then Err (refusals.SlowFeed axis) else (
     if nat_lt 1000000 rate then Err (refusals.FastFeed axis) else Ok rate)
 
-abbrev pub axis_rate : Scale → ℕ → Speed → Axis → Result ℕ Refusal
+abbrev pub axis_rate : Scale → ℕ → Speed → Axis → Result ℕ FigureRefusal
 axis_rate scale ticks speed axis = rate_within axis (rate_of scale ticks speed)
 
 -- the result for the value of each axis, or the first refusal
-abbrev pub each_axis : {T U : Type 0} → (T → Axis → Result U Refusal) → PerAxis T →
-    Result (PerAxis U) Refusal
+abbrev pub each_axis : {T U : Type 0} → (T → Axis → Result U FigureRefusal) → PerAxis T →
+    Result (PerAxis U) FigureRefusal
 each_axis f p =
     and_then (f p.x axes.X) (λ x. and_then (f p.y axes.Y) (λ y. and_then (f p.z axes.Z) (λ z.
     Ok (record { x = x; y = y; z = z }))))
 
-abbrev pub each_rate : Scale → ℕ → PerAxis Speed → Result (PerAxis ℕ) Refusal
+abbrev pub each_rate : Scale → ℕ → PerAxis Speed → Result (PerAxis ℕ) FigureRefusal
 each_rate scale ticks feed = each_axis (axis_rate scale ticks) feed
 
 abbrev pub greatest_of : PerAxis ℕ → ℕ
 greatest_of rates = max (max rates.x rates.y) rates.z
 
 -- a number that is not zero
-abbrev pub some : Refusal → ℕ → Result ℕ Refusal
+abbrev pub some : FigureRefusal → ℕ → Result ℕ FigureRefusal
 some refusal n = if n == 0 then Err refusal else Ok n
 
 -- no motion is faster than the greatest rate, so the corner's rate is limited to it
-abbrev pub corner_of : Scale → ℕ → ℕ → Speed → Result ℕ Refusal
+abbrev pub corner_of : Scale → ℕ → ℕ → Speed → Result ℕ FigureRefusal
 corner_of scale ticks most speed =
     some refusals.SlowCorner (min (rate_of scale ticks speed) most)
 
@@ -117,11 +117,11 @@ abbrev pub jump_of : Scale → ℕ → Speed → ℕ
 jump_of scale ticks speed = min (rate_of scale ticks speed) 1000000
 
 -- one change serves all axes: the one that the slowest axis can follow
-abbrev pub limited_change : Scale → ℕ → PerAxis Acceleration → Result ℕ Refusal
+abbrev pub limited_change : Scale → ℕ → PerAxis Acceleration → Result ℕ FigureRefusal
 limited_change scale ticks accelerations =
     some refusals.LowAcceleration (min (change_of scale ticks (least accelerations)) 1000000)
 
-abbrev pub limited_turn : Scale → ℕ → ℕ → Result ℕ Refusal
+abbrev pub limited_turn : Scale → ℕ → ℕ → Result ℕ FigureRefusal
 limited_turn scale ticks acceleration =
     some refusals.LowArcs (min (turn_of scale ticks acceleration) 1000000000000)
 
@@ -135,7 +135,7 @@ abbrev pub arcs_of : Figures → ℕ
 arcs_of f = arcs_by (least f.acceleration) f.arcs
 
 -- the rates of some figures, or the first that is refused
-abbrev pub rates_of : Scale → Figures → Result Rates Refusal
+abbrev pub rates_of : Scale → Figures → Result Rates FigureRefusal
 rates_of scale f =
     and_then (ticks_of scale f) (λ ticks.
     and_then (each_rate scale ticks f.feed) (λ rates.

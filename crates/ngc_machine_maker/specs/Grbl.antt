@@ -10,8 +10,8 @@ use Rattle.ngc_machine_maker.specs.declared.figures.Figures.{Figures}
 use Rattle.ngc_machine_maker.specs.declared.figures.Length.{Length}
 use Rattle.ngc_machine_maker.specs.declared.figures.PerAxis.{PerAxis}
 use Rattle.ngc_machine_maker.specs.declared.figures.StepsPerMillimetre.{StepsPerMillimetre}
-use Rattle.ngc_machine_maker.specs.declared.refusal.Refusal.{Refusal}
-use Rattle.ngc_machine_maker.specs.declared.refusal.Refusal.TheVariants as refusals
+use Rattle.ngc_machine_maker.specs.declared.refusal.FigureRefusal.{FigureRefusal}
+use Rattle.ngc_machine_maker.specs.declared.refusal.FigureRefusal.TheVariants as refusals
 use Rattle.ngc_machine_maker.specs.Decimals.{begins, number_in}
 use Rattle.ngc_machine_maker.specs.Formulas.{and_then}
 use Rattle.ngc_machine_maker.specs.Options.{each_of, length_of, speed_of, acceleration_of, steps}
@@ -76,23 +76,23 @@ value_of places line =
     if ends_well (drop (prefix_len is_of_value value) value)
     then number_in places (take (prefix_len is_of_value value) value) else None
 
-abbrev pub value_by : ℕ → ℕ → Option ℕ → Result ℕ Refusal
+abbrev pub value_by : ℕ → ℕ → Option ℕ → Result ℕ FigureRefusal
 value_by number at None = Err (refusals.Setting number at)
 value_by number at (Some n) = Ok n
 
 -- the value of a setting, from the first of these lines that has it; the first line has the number
 -- `at`
-abbrev pub setting_in : ℕ → ℕ → ℕ → List (List ℕ) → Result ℕ Refusal
+abbrev pub setting_in : ℕ → ℕ → ℕ → List (List ℕ) → Result ℕ FigureRefusal
 setting_in number places at [] = Err (refusals.Missing number)
 setting_in number places at (line ∷ rest) =
     if has_setting number line then value_by number at (value_of places line)
     else setting_in number places (at + 1) rest
 
-unfoldable pub setting : List ℕ → ℕ → ℕ → Result ℕ Refusal
+unfoldable pub setting : List ℕ → ℕ → ℕ → Result ℕ FigureRefusal
 setting text number places = setting_in number places 1 (lines_of text)
 
 -- three successive settings: X, Y and Z
-abbrev pub three_settings : List ℕ → ℕ → ℕ → Result (PerAxis ℕ) Refusal
+abbrev pub three_settings : List ℕ → ℕ → ℕ → Result (PerAxis ℕ) FigureRefusal
 three_settings text number places =
     and_then (setting text number places) (λ x.
     and_then (setting text (number + 1) places) (λ y.
@@ -102,7 +102,7 @@ three_settings text number places =
 -- ---- figures
 
 -- one step serves all axes
-abbrev pub common_steps : PerAxis ℕ → Result StepsPerMillimetre Refusal
+abbrev pub common_steps : PerAxis ℕ → Result StepsPerMillimetre FigureRefusal
 common_steps p =
     if p.x == p.y && p.y == p.z then Ok (steps p.x) else Err refusals.UnequalSteps
 
@@ -142,7 +142,7 @@ with_start f start =
 -- minute, $120 to $122 accelerations in millimetres per second squared, $130 to $132 the travel in
 -- millimetres, $23 the mask of axes that home to their low end, and $27 the pull-off in
 -- millimetres. Zero is at the high end of each axis, and the start is where homing ends
-abbrev pub figures_in : List ℕ → Result Figures Refusal
+abbrev pub figures_in : List ℕ → Result Figures FigureRefusal
 figures_in text =
     and_then (three_settings text 100 6) (λ all_steps.
     and_then (common_steps all_steps) (λ steps.

@@ -4,8 +4,8 @@ use Rattle.ngc_machine_maker.specs.declared.figures.Figures.{Figures}
 use Rattle.ngc_machine_maker.specs.declared.numbers.MachineNumbers.{MachineNumbers}
 use Rattle.ngc_machine_maker.specs.declared.numbers.Steps.{Steps}
 use Rattle.ngc_machine_maker.specs.declared.rates.Rates.{Rates}
-use Rattle.ngc_machine_maker.specs.declared.refusal.Refusal.{Refusal}
-use Rattle.ngc_machine_maker.specs.declared.refusal.Refusal.TheVariants as refusals
+use Rattle.ngc_machine_maker.specs.declared.refusal.FigureRefusal.{FigureRefusal}
+use Rattle.ngc_machine_maker.specs.declared.refusal.FigureRefusal.TheVariants as refusals
 use Rattle.ngc_machine_maker.specs.declared.refusal.Stop.TheVariants as stops
 use Rattle.ngc_machine_maker.specs.declared.scale.Scale.{Scale}
 use Rattle.ngc_machine_maker.specs.Formulas.{and_then, scale_of, rates_of}
@@ -13,7 +13,7 @@ use Rattle.ngc_machine_maker.specs.Places.{travels_of, stops_of, stops_by, lows_
 use Rattle.ngc_machine_maker.specs.Places.{place_of}
 
 -- the travel and the stops, in steps
-abbrev pub placed : Scale → Figures → Result Steps Refusal
+abbrev pub placed : Scale → Figures → Result Steps FigureRefusal
 placed scale f =
     and_then (travels_of scale f.travel) (λ travel.
     and_then (stops_of scale travel f.travel stops.Start f.start) (λ start.
@@ -22,7 +22,7 @@ placed scale f =
     Ok (record { travel = travel; start = start; home28 = home28; home30 = home30 })))))
 
 -- a ring is from 16 to 1,024 commands, if one is requested
-abbrev pub ring_of : Option ℕ → Result (Option ℕ) Refusal
+abbrev pub ring_of : Option ℕ → Result (Option ℕ) FigureRefusal
 ring_of None = Ok None
 ring_of (Some ring) =
     if nat_lt ring 16 || nat_lt 1024 ring then Err refusals.Ring else Ok (Some ring)
@@ -48,7 +48,7 @@ numbers_by f scale rates steps ring =
     }
 
 -- the numbers, or the first refusal
-abbrev pub numbers_of : Figures → Result MachineNumbers Refusal
+abbrev pub numbers_of : Figures → Result MachineNumbers FigureRefusal
 numbers_of f =
     and_then (scale_of f.steps) (λ scale.
     and_then (rates_of scale f) (λ rates.

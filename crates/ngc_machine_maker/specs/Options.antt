@@ -13,8 +13,8 @@ use Rattle.ngc_machine_maker.specs.declared.figures.StepsPerMillimetre.{StepsPer
 use Rattle.ngc_machine_maker.specs.declared.options.Options.{Options}
 use Rattle.ngc_machine_maker.specs.declared.refusal.Field.{Field}
 use Rattle.ngc_machine_maker.specs.declared.refusal.Field.TheVariants as fields
-use Rattle.ngc_machine_maker.specs.declared.refusal.Refusal.{Refusal}
-use Rattle.ngc_machine_maker.specs.declared.refusal.Refusal.TheVariants as refusals
+use Rattle.ngc_machine_maker.specs.declared.refusal.FigureRefusal.{FigureRefusal}
+use Rattle.ngc_machine_maker.specs.declared.refusal.FigureRefusal.TheVariants as refusals
 use Rattle.ngc_machine_maker.specs.Decimals.{number_in, numbers_in}
 use Rattle.ngc_machine_maker.specs.Formulas.{and_then}
 
@@ -41,34 +41,34 @@ each_of f p = record { x = f p.x; y = f p.y; z = f p.z }
 -- ---- their texts
 
 -- the value of a text, or that it can't be read
-abbrev pub read_by : {T U : Type 0} → Field → (T → U) → Option T → Result U Refusal
+abbrev pub read_by : {T U : Type 0} → Field → (T → U) → Option T → Result U FigureRefusal
 read_by field f None = Err (refusals.Unread field)
 read_by field f (Some x) = Ok (f x)
 
 -- steps per millimetre have up to six decimals, and so have lengths in millimetres
-abbrev pub steps_in : List ℕ → Result StepsPerMillimetre Refusal
+abbrev pub steps_in : List ℕ → Result StepsPerMillimetre FigureRefusal
 steps_in text = read_by fields.Steps steps (number_in 6 text)
 
-abbrev pub lengths_in : Field → List ℕ → Result (PerAxis Length) Refusal
+abbrev pub lengths_in : Field → List ℕ → Result (PerAxis Length) FigureRefusal
 lengths_in field text = read_by field (each_of length_of) (numbers_in 6 text)
 
 -- speeds in millimetres per minute have up to three decimals, and so have accelerations
-abbrev pub speeds_in : Field → List ℕ → Result (PerAxis Speed) Refusal
+abbrev pub speeds_in : Field → List ℕ → Result (PerAxis Speed) FigureRefusal
 speeds_in field text = read_by field (each_of speed_of) (numbers_in 3 text)
 
-abbrev pub accelerations_in : Field → List ℕ → Result (PerAxis Acceleration) Refusal
+abbrev pub accelerations_in : Field → List ℕ → Result (PerAxis Acceleration) FigureRefusal
 accelerations_in field text = read_by field (each_of acceleration_of) (numbers_in 3 text)
 
 -- a speed in millimetres per second, up to 71,582.788
-abbrev pub seconds_within : Field → ℕ → Result Speed Refusal
+abbrev pub seconds_within : Field → ℕ → Result Speed FigureRefusal
 seconds_within field n =
     if nat_lt 71582788 n then Err (refusals.Unread field) else Ok (speed_of (60 * n))
 
-abbrev pub seconds_by : Field → Option ℕ → Result Speed Refusal
+abbrev pub seconds_by : Field → Option ℕ → Result Speed FigureRefusal
 seconds_by field None = Err (refusals.Unread field)
 seconds_by field (Some n) = seconds_within field n
 
-abbrev pub second_speed_in : Field → List ℕ → Result Speed Refusal
+abbrev pub second_speed_in : Field → List ℕ → Result Speed FigureRefusal
 second_speed_in field text = seconds_by field (number_in 3 text)
 
 -- the ends at which zero is: as on most mills, low on X and Y and high on Z, unless all are low or
@@ -76,13 +76,13 @@ second_speed_in field text = seconds_by field (number_in 3 text)
 abbrev pub usual_frame : PerAxis End
 usual_frame = record { x = ends.Low; y = ends.Low; z = ends.High }
 
-abbrev pub frame_in : List ℕ → Result (PerAxis End) Refusal
+abbrev pub frame_in : List ℕ → Result (PerAxis End) FigureRefusal
 frame_in text =
     if bytes_eq text (codes "low") then Ok (same_for_all ends.Low) else (
     if bytes_eq text (codes "high") then Ok (same_for_all ends.High)
     else Err (refusals.Unread fields.Frame))
 
-abbrev pub frame_by : Option (Bor (List ℕ)) → Result (PerAxis End) Refusal
+abbrev pub frame_by : Option (Bor (List ℕ)) → Result (PerAxis End) FigureRefusal
 frame_by None = Ok usual_frame
 frame_by (Some text) = frame_in text.now
 
@@ -108,7 +108,7 @@ figures_by steps travel feed acceleration zero =
       home30 = None;
     }
 
-abbrev pub figures_of : Options → Result Figures Refusal
+abbrev pub figures_of : Options → Result Figures FigureRefusal
 figures_of o =
     and_then (steps_in o.steps_per_mm.now) (λ steps.
     and_then (lengths_in fields.Travel o.travel.now) (λ travel.

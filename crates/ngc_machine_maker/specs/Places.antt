@@ -8,8 +8,8 @@ use Rattle.ngc_machine_maker.specs.declared.figures.End.{End}
 use Rattle.ngc_machine_maker.specs.declared.figures.End.TheVariants as ends
 use Rattle.ngc_machine_maker.specs.declared.figures.Length.{Length}
 use Rattle.ngc_machine_maker.specs.declared.figures.PerAxis.{PerAxis}
-use Rattle.ngc_machine_maker.specs.declared.refusal.Refusal.{Refusal}
-use Rattle.ngc_machine_maker.specs.declared.refusal.Refusal.TheVariants as refusals
+use Rattle.ngc_machine_maker.specs.declared.refusal.FigureRefusal.{FigureRefusal}
+use Rattle.ngc_machine_maker.specs.declared.refusal.FigureRefusal.TheVariants as refusals
 use Rattle.ngc_machine_maker.specs.declared.refusal.Stop.{Stop}
 use Rattle.ngc_machine_maker.specs.declared.scale.Scale.{Scale}
 use Rattle.ngc_machine_maker.specs.Formulas.{and_then, each_axis, steps_in}
@@ -19,23 +19,23 @@ abbrev pub length_in : Scale → Length → ℕ
 length_in scale length = steps_in scale length.nanometres 1
 
 -- a travel is from a step to 1,000 mm
-abbrev pub travel_of : Scale → Length → Axis → Result ℕ Refusal
+abbrev pub travel_of : Scale → Length → Axis → Result ℕ FigureRefusal
 travel_of scale length axis =
     if length_in scale length == 0 || nat_lt 1000000000 length.nanometres
     then Err (refusals.Travel axis) else Ok (length_in scale length)
 
-abbrev pub travels_of : Scale → PerAxis Length → Result (PerAxis ℕ) Refusal
+abbrev pub travels_of : Scale → PerAxis Length → Result (PerAxis ℕ) FigureRefusal
 travels_of scale travel = each_axis (travel_of scale) travel
 
 -- the distance of a place from zero, in steps: the place is within the length of the travel, and
 -- within the steps of the travel
-abbrev pub stop_of : Scale → ℕ → Length → Length → Refusal → Result ℕ Refusal
+abbrev pub stop_of : Scale → ℕ → Length → Length → FigureRefusal → Result ℕ FigureRefusal
 stop_of scale travel within stop refusal =
     if nat_lt within.nanometres stop.nanometres then Err refusal
     else Ok (min (stop.nanometres / scale.step) travel)
 
 abbrev pub stops_of : Scale → PerAxis ℕ → PerAxis Length → Stop → PerAxis Length →
-    Result (PerAxis ℕ) Refusal
+    Result (PerAxis ℕ) FigureRefusal
 stops_of scale travel within stop p =
     and_then (stop_of scale travel.x within.x p.x (refusals.Outside stop axes.X)) (λ x.
     and_then (stop_of scale travel.y within.y p.y (refusals.Outside stop axes.Y)) (λ y.
@@ -44,7 +44,7 @@ stops_of scale travel within stop p =
 
 -- a home position is the start, unless a place is given
 abbrev pub stops_by : Scale → PerAxis ℕ → PerAxis Length → Stop → PerAxis ℕ →
-    Option (PerAxis Length) → Result (PerAxis ℕ) Refusal
+    Option (PerAxis Length) → Result (PerAxis ℕ) FigureRefusal
 stops_by scale travel within stop start None = Ok start
 stops_by scale travel within stop start (Some p) = stops_of scale travel within stop p
 

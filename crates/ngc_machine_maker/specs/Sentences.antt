@@ -4,8 +4,8 @@ use Rattle.ngc_machine_maker.specs.declared.figures.Axis.{Axis}
 use Rattle.ngc_machine_maker.specs.declared.figures.Axis.TheVariants as axes
 use Rattle.ngc_machine_maker.specs.declared.refusal.Field.{Field}
 use Rattle.ngc_machine_maker.specs.declared.refusal.Field.TheVariants as fields
-use Rattle.ngc_machine_maker.specs.declared.refusal.Refusal.{Refusal}
-use Rattle.ngc_machine_maker.specs.declared.refusal.Refusal.TheVariants as refusals
+use Rattle.ngc_machine_maker.specs.declared.refusal.FigureRefusal.{FigureRefusal}
+use Rattle.ngc_machine_maker.specs.declared.refusal.FigureRefusal.TheVariants as refusals
 use Rattle.ngc_machine_maker.specs.declared.refusal.Stop.{Stop}
 use Rattle.ngc_machine_maker.specs.declared.refusal.Stop.TheVariants as stops
 
@@ -39,7 +39,7 @@ field_text fields.Ring = codes "--ring is not a whole number, as 64"
 field_text (fields.Stop stop) = codes "--" ++ stop_text stop
     ++ codes " is not three coordinates in mm, as 0,0,-1: below zero where zero is the high end"
 
-unfoldable pub refusal_text : Refusal → List ℕ
+unfoldable pub refusal_text : FigureRefusal → List ℕ
 refusal_text (refusals.Unread field) = field_text field
 refusal_text refusals.Step = codes
     "a step is not from 500 to 50000 nm: give from 20 to 2000 steps a mm"
@@ -69,5 +69,5 @@ refusal_text refusals.UnequalSteps = codes
     "$100, $101 and $102 differ: one step serves all axes, so make them equal"
 
 -- a sentence on a line of its own
-abbrev pub refusal_line : Refusal → List ℕ
+abbrev pub refusal_line : FigureRefusal → List ℕ
 refusal_line refusal = refusal_text refusal ++ codes "\n"

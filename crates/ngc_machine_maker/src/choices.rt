@@ -5,7 +5,7 @@ ghost use Rattle.ngc_machine_maker.specs.Options.{second_speed_in};
 
 use crate::decimal::{begins, number_in, split_three, without_first};
 use crate::figures::{Acceleration, End, Figures, Length, PerAxis, Speed};
-use crate::refusal::{Field, Refusal, Stop};
+use crate::refusal::{Field, FigureRefusal, Stop};
 
 /// The texts of the optional options.
 #[derive(Clone, Copy)]
@@ -33,18 +33,18 @@ pub struct Choices<'a> {
     pub home30: Option<&'a [u8]>,
 }
 
-fn second_speed_in(field: Field, text: &[u8]) -> Result<Speed, Refusal>
+fn second_speed_in(field: Field, text: &[u8]) -> Result<Speed, FigureRefusal>
     ensures { result ≡ second_speed_in field text.now }
 {
     match number_in(text, 3) {
         Some(number) if number <= 71_582_788 => Ok(Speed {
             micrometres_a_minute: 60 * number,
         }),
-        _ => Err(Refusal::Unread(field)),
+        _ => Err(FigureRefusal::Unread(field)),
     }
 }
 
-fn speed_by(field: Field, otherwise: Speed, text: Option<&[u8]>) -> Result<Speed, Refusal>
+fn speed_by(field: Field, otherwise: Speed, text: Option<&[u8]>) -> Result<Speed, FigureRefusal>
     ensures { result ≡ spec.speed_by field otherwise text.entry }
 {
     match text {
@@ -53,11 +53,11 @@ fn speed_by(field: Field, otherwise: Speed, text: Option<&[u8]>) -> Result<Speed
     }
 }
 
-fn arcs_in(text: &[u8]) -> Result<Option<Acceleration>, Refusal>
+fn arcs_in(text: &[u8]) -> Result<Option<Acceleration>, FigureRefusal>
     ensures { result ≡ spec.arcs_in text.now }
 {
     match number_in(text, 3) {
-        None => Err(Refusal::Unread(Field::Arcs)),
+        None => Err(FigureRefusal::Unread(Field::Arcs)),
         Some(micrometres_a_second_squared) => Ok(Some(Acceleration {
             micrometres_a_second_squared,
         })),
@@ -67,7 +67,7 @@ fn arcs_in(text: &[u8]) -> Result<Option<Acceleration>, Refusal>
 fn arcs_by(
     otherwise: Option<Acceleration>,
     text: Option<&[u8]>,
-) -> Result<Option<Acceleration>, Refusal>
+) -> Result<Option<Acceleration>, FigureRefusal>
     ensures { result ≡ spec.arcs_by otherwise text.entry }
 {
     match text {
@@ -76,16 +76,16 @@ fn arcs_by(
     }
 }
 
-fn ticks_in(text: &[u8]) -> Result<Option<u32>, Refusal>
+fn ticks_in(text: &[u8]) -> Result<Option<u32>, FigureRefusal>
     ensures { result ≡ spec.ticks_in text.now }
 {
     match number_in(text, 0) {
-        None => Err(Refusal::Unread(Field::Ticks)),
+        None => Err(FigureRefusal::Unread(Field::Ticks)),
         Some(ticks) => Ok(Some(ticks)),
     }
 }
 
-fn ticks_by(otherwise: Option<u32>, text: Option<&[u8]>) -> Result<Option<u32>, Refusal>
+fn ticks_by(otherwise: Option<u32>, text: Option<&[u8]>) -> Result<Option<u32>, FigureRefusal>
     ensures { result ≡ spec.ticks_by otherwise text.entry }
 {
     match text {
@@ -94,16 +94,16 @@ fn ticks_by(otherwise: Option<u32>, text: Option<&[u8]>) -> Result<Option<u32>, 
     }
 }
 
-fn ring_in(text: &[u8]) -> Result<Option<u32>, Refusal>
+fn ring_in(text: &[u8]) -> Result<Option<u32>, FigureRefusal>
     ensures { result ≡ spec.ring_in text.now }
 {
     match number_in(text, 0) {
-        None => Err(Refusal::Unread(Field::Ring)),
+        None => Err(FigureRefusal::Unread(Field::Ring)),
         Some(ring) => Ok(Some(ring)),
     }
 }
 
-fn ring_by(otherwise: Option<u32>, text: Option<&[u8]>) -> Result<Option<u32>, Refusal>
+fn ring_by(otherwise: Option<u32>, text: Option<&[u8]>) -> Result<Option<u32>, FigureRefusal>
     ensures { result ≡ spec.ring_by otherwise text.entry }
 {
     match text {
@@ -151,11 +151,11 @@ fn distances_in(zero: &PerAxis<End>, text: &[u8]) -> Option<PerAxis<u32>>
     }
 }
 
-fn place_in(zero: &PerAxis<End>, stop: Stop, text: &[u8]) -> Result<PerAxis<Length>, Refusal>
+fn place_in(zero: &PerAxis<End>, stop: Stop, text: &[u8]) -> Result<PerAxis<Length>, FigureRefusal>
     ensures { result ≡ spec.place_in zero.now stop text.now }
 {
     match distances_in(zero, text) {
-        None => Err(Refusal::Unread(Field::Stop(stop))),
+        None => Err(FigureRefusal::Unread(Field::Stop(stop))),
         Some(distances) => Ok(PerAxis {
             x: Length {
                 nanometres: distances.x,
@@ -174,7 +174,7 @@ fn start_by(
     zero: &PerAxis<End>,
     otherwise: PerAxis<Length>,
     text: Option<&[u8]>,
-) -> Result<PerAxis<Length>, Refusal>
+) -> Result<PerAxis<Length>, FigureRefusal>
     ensures { result ≡ spec.start_by zero.now otherwise text.entry }
 {
     match text {
@@ -188,7 +188,7 @@ fn home_by(
     stop: Stop,
     otherwise: Option<PerAxis<Length>>,
     text: Option<&[u8]>,
-) -> Result<Option<PerAxis<Length>>, Refusal>
+) -> Result<Option<PerAxis<Length>>, FigureRefusal>
     ensures { result ≡ spec.home_by zero.now stop otherwise text.entry }
 {
     match text {
@@ -202,7 +202,7 @@ fn home_by(
 
 impl Figures {
     /// Returns the figures with these choices, or the first choice that can't be read.
-    pub fn with_choices(&self, choices: &Choices<'_>) -> Result<Figures, Refusal>
+    pub fn with_choices(&self, choices: &Choices<'_>) -> Result<Figures, FigureRefusal>
         ensures { result ≡ spec.chosen self.now choices.now }
     {
         let corner = speed_by(Field::Corner, self.corner, choices.corner)?;

@@ -7,7 +7,7 @@ ghost use Rattle.ngc_machine_maker.specs.Options as options;
 use crate::decimal::{begins, number_in, without_first};
 use crate::figures::{End, Figures, Length, PerAxis, StepsPerMillimetre};
 use crate::options::{accelerations, all_at, figures_by, length_of, lengths, speeds};
-use crate::refusal::Refusal;
+use crate::refusal::FigureRefusal;
 
 fn is_no_feed(byte: u8) -> bool
     ensures { result ≡ spec.is_no_feed byte }
@@ -133,18 +133,18 @@ fn value_of(line: &[u8], places: usize) -> Option<u32>
     }
 }
 
-fn value_by(number: u32, at: usize, value: Option<u32>) -> Result<u32, Refusal>
+fn value_by(number: u32, at: usize, value: Option<u32>) -> Result<u32, FigureRefusal>
     ensures { result ≡ spec.value_by number at value }
 {
     match value {
-        None => Err(Refusal::Setting(number, at)),
+        None => Err(FigureRefusal::Setting(number, at)),
         Some(value) => Ok(value),
     }
 }
 
 // Returns the value of a setting, in units of which 10 ^ `places` make one.
 #[tactic(auto, unfolding(crate::specs::Grbl::setting))]
-fn setting(text: &[u8], number: u32, places: usize) -> Result<u32, Refusal>
+fn setting(text: &[u8], number: u32, places: usize) -> Result<u32, FigureRefusal>
     requires { places ≤ 6 }
     ensures { result ≡ spec.setting text.now number places }
 {
@@ -158,11 +158,11 @@ fn setting(text: &[u8], number: u32, places: usize) -> Result<u32, Refusal>
         at += 1;
         rest = others;
     }
-    Err(Refusal::Missing(number))
+    Err(FigureRefusal::Missing(number))
 }
 
 // Returns the values of three successive settings.
-fn three_settings(text: &[u8], number: u32, places: usize) -> Result<PerAxis<u32>, Refusal>
+fn three_settings(text: &[u8], number: u32, places: usize) -> Result<PerAxis<u32>, FigureRefusal>
     requires number { number ≤ 1000 }
     requires places { places ≤ 6 }
     ensures { result ≡ spec.three_settings text.now number places }
@@ -173,7 +173,7 @@ fn three_settings(text: &[u8], number: u32, places: usize) -> Result<PerAxis<u32
     Ok(PerAxis { x, y, z })
 }
 
-fn common_steps(steps: &PerAxis<u32>) -> Result<StepsPerMillimetre, Refusal>
+fn common_steps(steps: &PerAxis<u32>) -> Result<StepsPerMillimetre, FigureRefusal>
     ensures { result ≡ spec.common_steps steps.now }
 {
     if steps.x == steps.y && steps.y == steps.z {
@@ -181,7 +181,7 @@ fn common_steps(steps: &PerAxis<u32>) -> Result<StepsPerMillimetre, Refusal>
             millionths: steps.x,
         })
     } else {
-        Err(Refusal::UnequalSteps)
+        Err(FigureRefusal::UnequalSteps)
     }
 }
 
@@ -216,7 +216,7 @@ fn with_start(figures: &Figures, start: PerAxis<Length>) -> Figures
 /// Zero is at the high end of each axis, and the start is where homing ends. It refuses the first
 /// setting that is missing or can't be read, and steps per millimetre that differ from axis to
 /// axis.
-pub fn read_grbl(text: &[u8]) -> Result<Figures, Refusal>
+pub fn read_grbl(text: &[u8]) -> Result<Figures, FigureRefusal>
     ensures { result ≡ spec.figures_in text.now }
 {
     let steps = three_settings(text, 100, 6)?;

@@ -22,5 +22,5 @@ pub use file::{write_machine_file, write_notes};
 pub use grbl::read_grbl;
 pub use numbers::{MachineNumbers, numbers_of};
 pub use options::Options;
-pub use refusal::{Field, Refusal, Stop};
+pub use refusal::{Field, FigureRefusal, Stop};
 pub use sentences::write_refusal;

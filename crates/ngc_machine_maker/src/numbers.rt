@@ -9,7 +9,7 @@ ghost use Rattle.ngc_machine_maker.specs.Safe.{AreNoFarther};
 use crate::figures::{Figures, PerAxis};
 use crate::places::{highs_of, lows_of, place_of, stops_by, stops_of, travels_of};
 use crate::rates::rates_of;
-use crate::refusal::{Refusal, Stop};
+use crate::refusal::{FigureRefusal, Stop};
 use crate::scale::Scale;
 
 /// The numbers of a machine file, with the names of its keys. Lengths are in nanometres, and rates
@@ -44,7 +44,7 @@ pub(crate) struct Steps {
     pub home30: PerAxis<u32>,
 }
 
-fn steps_of(scale: &Scale, figures: &Figures) -> Result<Steps, Refusal>
+fn steps_of(scale: &Scale, figures: &Figures) -> Result<Steps, FigureRefusal>
     requires { IsScale scale.now }
     ensures value { result ≡ placed scale.now figures.now }
     ensures range { IfOk result (AreStepsWithin scale.now) }
@@ -77,13 +77,13 @@ fn steps_of(scale: &Scale, figures: &Figures) -> Result<Steps, Refusal>
     })
 }
 
-fn ring_of(ring: Option<u32>) -> Result<Option<u32>, Refusal>
+fn ring_of(ring: Option<u32>) -> Result<Option<u32>, FigureRefusal>
     ensures value { result ≡ ring_of ring }
     ensures range { IfOk result (λ ring. IfSome ring IsRing) }
 {
     match ring {
         None => Ok(None),
-        Some(commands) if commands < 16 || commands > 1_024 => Err(Refusal::Ring),
+        Some(commands) if commands < 16 || commands > 1_024 => Err(FigureRefusal::Ring),
         Some(commands) => Ok(Some(commands)),
     }
 }
@@ -91,7 +91,7 @@ fn ring_of(ring: Option<u32>) -> Result<Option<u32>, Refusal>
 /// Returns the numbers of a machine file for some figures, or the first refusal. The file's step is
 /// the motor's to the nearest nanometre. Rates, accelerations and the travel are rounded down, so
 /// that none exceeds the figures, either with the file's step or with the motor's.
-pub fn numbers_of(figures: &Figures) -> Result<MachineNumbers, Refusal>
+pub fn numbers_of(figures: &Figures) -> Result<MachineNumbers, FigureRefusal>
     ensures value { result ≡ numbers_of figures.now }
     ensures range { IfOk result AreInFile }
     ensures safe { IfOk result (λ numbers. IsNoMoreThanAsked numbers figures.now) }

@@ -5,7 +5,7 @@ ghost use Rattle.ngc_machine_maker.specs.Options as spec;
 
 use crate::decimal::{number_in, numbers_in};
 use crate::figures::{Acceleration, End, Figures, Length, PerAxis, Speed, StepsPerMillimetre};
-use crate::refusal::{Field, Refusal};
+use crate::refusal::{Field, FigureRefusal};
 
 /// The texts of the required options, and of the frame.
 #[derive(Clone, Copy)]
@@ -74,38 +74,38 @@ pub(crate) fn accelerations(numbers: &PerAxis<u32>) -> PerAxis<Acceleration>
     }
 }
 
-fn steps_in(text: &[u8]) -> Result<StepsPerMillimetre, Refusal>
+fn steps_in(text: &[u8]) -> Result<StepsPerMillimetre, FigureRefusal>
     ensures { result ≡ spec.steps_in text.now }
 {
     match number_in(text, 6) {
-        None => Err(Refusal::Unread(Field::Steps)),
+        None => Err(FigureRefusal::Unread(Field::Steps)),
         Some(millionths) => Ok(StepsPerMillimetre { millionths }),
     }
 }
 
-fn lengths_in(field: Field, text: &[u8]) -> Result<PerAxis<Length>, Refusal>
+fn lengths_in(field: Field, text: &[u8]) -> Result<PerAxis<Length>, FigureRefusal>
     ensures { result ≡ spec.lengths_in field text.now }
 {
     match numbers_in(text, 6) {
-        None => Err(Refusal::Unread(field)),
+        None => Err(FigureRefusal::Unread(field)),
         Some(numbers) => Ok(lengths(&numbers)),
     }
 }
 
-fn speeds_in(field: Field, text: &[u8]) -> Result<PerAxis<Speed>, Refusal>
+fn speeds_in(field: Field, text: &[u8]) -> Result<PerAxis<Speed>, FigureRefusal>
     ensures { result ≡ spec.speeds_in field text.now }
 {
     match numbers_in(text, 3) {
-        None => Err(Refusal::Unread(field)),
+        None => Err(FigureRefusal::Unread(field)),
         Some(numbers) => Ok(speeds(&numbers)),
     }
 }
 
-fn accelerations_in(field: Field, text: &[u8]) -> Result<PerAxis<Acceleration>, Refusal>
+fn accelerations_in(field: Field, text: &[u8]) -> Result<PerAxis<Acceleration>, FigureRefusal>
     ensures { result ≡ spec.accelerations_in field text.now }
 {
     match numbers_in(text, 3) {
-        None => Err(Refusal::Unread(field)),
+        None => Err(FigureRefusal::Unread(field)),
         Some(numbers) => Ok(accelerations(&numbers)),
     }
 }
@@ -120,7 +120,7 @@ pub(crate) fn all_at(end: End) -> PerAxis<End>
     }
 }
 
-fn frame_in(text: &[u8]) -> Result<PerAxis<End>, Refusal>
+fn frame_in(text: &[u8]) -> Result<PerAxis<End>, FigureRefusal>
     ensures { result ≡ spec.frame_in text.now }
 {
     if text == b"low".as_slice() {
@@ -129,10 +129,10 @@ fn frame_in(text: &[u8]) -> Result<PerAxis<End>, Refusal>
     if text == b"high".as_slice() {
         return Ok(all_at(End::High));
     }
-    Err(Refusal::Unread(Field::Frame))
+    Err(FigureRefusal::Unread(Field::Frame))
 }
 
-fn frame_by(text: Option<&[u8]>) -> Result<PerAxis<End>, Refusal>
+fn frame_by(text: Option<&[u8]>) -> Result<PerAxis<End>, FigureRefusal>
     ensures { result ≡ spec.frame_by text.entry }
 {
     match text {
@@ -179,7 +179,7 @@ pub(crate) fn figures_by(
 
 impl Figures {
     /// Returns the figures in these options, or the first option that can't be read.
-    pub fn from_options(options: &Options<'_>) -> Result<Figures, Refusal>
+    pub fn from_options(options: &Options<'_>) -> Result<Figures, FigureRefusal>
         ensures { result ≡ spec.figures_of options.now }
     {
         let steps = steps_in(options.steps_per_mm)?;

@@ -7,7 +7,7 @@ ghost use Rattle.ngc_machine_maker.specs.Ranges.{IsScale, IsTravel, AreTravels, 
 ghost use Rattle.ngc_machine_maker.specs.Safe.{IsNoFarther, AreNoFarther};
 
 use crate::figures::{Axis, End, Length, PerAxis};
-use crate::refusal::{Refusal, Stop};
+use crate::refusal::{FigureRefusal, Stop};
 use crate::scale::Scale;
 
 // Returns the number of whole steps within a length.
@@ -20,7 +20,7 @@ fn steps_within(scale: &Scale, length: Length) -> u32
     scale.steps_in(u128::from(length.nanometres), 1) as u32
 }
 
-fn travel_of(scale: &Scale, length: Length, axis: Axis) -> Result<u32, Refusal>
+fn travel_of(scale: &Scale, length: Length, axis: Axis) -> Result<u32, FigureRefusal>
     requires { IsScale scale.now }
     ensures value { result ≡ travel_of scale.now length axis }
     ensures range { IfOk result (IsTravel scale.now) }
@@ -28,13 +28,16 @@ fn travel_of(scale: &Scale, length: Length, axis: Axis) -> Result<u32, Refusal>
 {
     let steps = steps_within(scale, length);
     if steps == 0 || length.nanometres > 1_000_000_000 {
-        return Err(Refusal::Travel(axis));
+        return Err(FigureRefusal::Travel(axis));
     }
     Ok(steps)
 }
 
 /// Returns the travel of each axis in steps.
-pub(crate) fn travels_of(scale: &Scale, travel: &PerAxis<Length>) -> Result<PerAxis<u32>, Refusal>
+pub(crate) fn travels_of(
+    scale: &Scale,
+    travel: &PerAxis<Length>,
+) -> Result<PerAxis<u32>, FigureRefusal>
     requires { IsScale scale.now }
     ensures value { result ≡ travels_of scale.now travel.now }
     ensures range { IfOk result (AreTravels scale.now) }
@@ -51,8 +54,8 @@ fn stop_of(
     travel: u32,
     within: Length,
     stop: Length,
-    refusal: Refusal,
-) -> Result<u32, Refusal>
+    refusal: FigureRefusal,
+) -> Result<u32, FigureRefusal>
     requires { IsScale scale.now }
     ensures value { result ≡ stop_of scale.now travel within stop refusal }
     ensures range { IfOk result (IsStop travel) }
@@ -70,7 +73,7 @@ pub(crate) fn stops_of(
     within: &PerAxis<Length>,
     stops: &PerAxis<Length>,
     stop: Stop,
-) -> Result<PerAxis<u32>, Refusal>
+) -> Result<PerAxis<u32>, FigureRefusal>
     requires { IsScale scale.now }
     ensures value { result ≡ stops_of scale.now travel.now within.now stop stops.now }
     ensures range { IfOk result (AreStops travel.now) }
@@ -80,21 +83,21 @@ pub(crate) fn stops_of(
         travel.x,
         within.x,
         stops.x,
-        Refusal::Outside(stop, Axis::X),
+        FigureRefusal::Outside(stop, Axis::X),
     )?;
     let y = stop_of(
         scale,
         travel.y,
         within.y,
         stops.y,
-        Refusal::Outside(stop, Axis::Y),
+        FigureRefusal::Outside(stop, Axis::Y),
     )?;
     let z = stop_of(
         scale,
         travel.z,
         within.z,
         stops.z,
-        Refusal::Outside(stop, Axis::Z),
+        FigureRefusal::Outside(stop, Axis::Z),
     )?;
     Ok(PerAxis { x, y, z })
 }
@@ -107,7 +110,7 @@ pub(crate) fn stops_by(
     start: &PerAxis<u32>,
     stops: &Option<PerAxis<Length>>,
     stop: Stop,
-) -> Result<PerAxis<u32>, Refusal>
+) -> Result<PerAxis<u32>, FigureRefusal>
     requires scale { IsScale scale.now }
     requires start { AreStops travel.now start.now }
     ensures value { result ≡ stops_by scale.now travel.now within.now stop start.now stops.now }

@@ -10,7 +10,7 @@ ghost use Rattle.ngc_machine_maker.specs.Safe.{IsNoMore, IsNoFaster, IsNoHarder,
 ghost use Rattle.ngc_machine_maker.specs.Safe.{AreNoFaster, AreSafe};
 
 use crate::figures::{Acceleration, Axis, Figures, PerAxis, Speed};
-use crate::refusal::Refusal;
+use crate::refusal::FigureRefusal;
 use crate::scale::Scale;
 
 const GREATEST_RATE: u128 = 1_000_000;
@@ -58,13 +58,13 @@ fn chosen_ticks(scale: &Scale, feed: &PerAxis<Speed>) -> u32
     (1_000 * thousands).clamp(10_000, 1_000_000) as u32
 }
 
-fn ticks_of(scale: &Scale, figures: &Figures) -> Result<u32, Refusal>
+fn ticks_of(scale: &Scale, figures: &Figures) -> Result<u32, FigureRefusal>
     ensures value { result ≡ ticks_of scale.now figures.now }
     ensures range { IfOk result IsRate }
 {
     match figures.ticks {
         None => Ok(chosen_ticks(scale, &figures.feed)),
-        Some(ticks) if ticks < 1 || ticks > 1_000_000 => Err(Refusal::Ticks),
+        Some(ticks) if ticks < 1 || ticks > 1_000_000 => Err(FigureRefusal::Ticks),
         Some(ticks) => Ok(ticks),
     }
 }
@@ -99,7 +99,7 @@ fn turn_of(scale: &Scale, ticks: u32, acceleration: u32) -> u128
     scale.steps_in(amount, 2 * (u128::from(ticks) * u128::from(ticks)))
 }
 
-fn axis_rate(scale: &Scale, ticks: u32, speed: Speed, axis: Axis) -> Result<u32, Refusal>
+fn axis_rate(scale: &Scale, ticks: u32, speed: Speed, axis: Axis) -> Result<u32, FigureRefusal>
     requires scale { IsScale scale.now }
     requires ticks { IsRate ticks }
     ensures value { result ≡ axis_rate scale.now ticks speed axis }
@@ -108,15 +108,19 @@ fn axis_rate(scale: &Scale, ticks: u32, speed: Speed, axis: Axis) -> Result<u32,
 {
     let rate = rate_of(scale, ticks, speed);
     if rate == 0 {
-        return Err(Refusal::SlowFeed(axis));
+        return Err(FigureRefusal::SlowFeed(axis));
     }
     if rate > GREATEST_RATE {
-        return Err(Refusal::FastFeed(axis));
+        return Err(FigureRefusal::FastFeed(axis));
     }
     Ok(rate as u32)
 }
 
-fn axis_rates(scale: &Scale, ticks: u32, feed: &PerAxis<Speed>) -> Result<PerAxis<u32>, Refusal>
+fn axis_rates(
+    scale: &Scale,
+    ticks: u32,
+    feed: &PerAxis<Speed>,
+) -> Result<PerAxis<u32>, FigureRefusal>
     requires scale { IsScale scale.now }
     requires ticks { IsRate ticks }
     ensures value { result ≡ each_rate scale.now ticks feed.now }
@@ -129,7 +133,7 @@ fn axis_rates(scale: &Scale, ticks: u32, feed: &PerAxis<Speed>) -> Result<PerAxi
     Ok(PerAxis { x, y, z })
 }
 
-fn corner_of(scale: &Scale, ticks: u32, most: u32, speed: Speed) -> Result<u32, Refusal>
+fn corner_of(scale: &Scale, ticks: u32, most: u32, speed: Speed) -> Result<u32, FigureRefusal>
     requires scale { IsScale scale.now }
     requires ticks { IsRate ticks }
     requires most { IsRate most }
@@ -139,7 +143,7 @@ fn corner_of(scale: &Scale, ticks: u32, most: u32, speed: Speed) -> Result<u32, 
 {
     let rate = rate_of(scale, ticks, speed).min(u128::from(most));
     if rate == 0 {
-        return Err(Refusal::SlowCorner);
+        return Err(FigureRefusal::SlowCorner);
     }
     Ok(rate as u32)
 }
@@ -159,7 +163,7 @@ fn limited_change(
     scale: &Scale,
     ticks: u32,
     accelerations: &PerAxis<Acceleration>,
-) -> Result<u32, Refusal>
+) -> Result<u32, FigureRefusal>
     requires scale { IsScale scale.now }
     requires ticks { IsRate ticks }
     ensures value { result ≡ limited_change scale.now ticks accelerations.now }
@@ -169,12 +173,12 @@ fn limited_change(
 {
     let change = change_of(scale, ticks, least(accelerations)).min(GREATEST_RATE);
     if change == 0 {
-        return Err(Refusal::LowAcceleration);
+        return Err(FigureRefusal::LowAcceleration);
     }
     Ok(change as u32)
 }
 
-fn limited_turn(scale: &Scale, ticks: u32, acceleration: u32) -> Result<u64, Refusal>
+fn limited_turn(scale: &Scale, ticks: u32, acceleration: u32) -> Result<u64, FigureRefusal>
     requires scale { IsScale scale.now }
     requires ticks { IsRate ticks }
     ensures value { result ≡ limited_turn scale.now ticks acceleration }
@@ -183,7 +187,7 @@ fn limited_turn(scale: &Scale, ticks: u32, acceleration: u32) -> Result<u64, Ref
 {
     let turn = turn_of(scale, ticks, acceleration).min(GREATEST_TURN);
     if turn == 0 {
-        return Err(Refusal::LowArcs);
+        return Err(FigureRefusal::LowArcs);
     }
     Ok(turn as u64)
 }
@@ -207,7 +211,7 @@ fn greatest_of(rates: &PerAxis<u32>) -> u32
 }
 
 /// Returns the rates of some figures, or the first that is refused.
-pub(crate) fn rates_of(scale: &Scale, figures: &Figures) -> Result<Rates, Refusal>
+pub(crate) fn rates_of(scale: &Scale, figures: &Figures) -> Result<Rates, FigureRefusal>
     requires { IsScale scale.now }
     ensures value { result ≡ rates_of scale.now figures.now }
     ensures range { IfOk result AreAllRates }

@@ -28,7 +28,7 @@ pub enum Field {
 
 /// The reasons why no machine file is made of some figures.
 #[derive(Clone, Copy)]
-pub enum Refusal {
+pub enum FigureRefusal {
     /// The text of an option can't be read.
     Unread(Field),
     /// The step is not from 500 to 50,000 nm.

@@ -5,7 +5,7 @@ ghost use Rattle.ngc_machine_maker.specs.Ranges.{IsScale};
 ghost use Rattle.ngc_machine_maker.specs.Safe.{IsNoMore};
 
 use crate::figures::StepsPerMillimetre;
-use crate::refusal::Refusal;
+use crate::refusal::FigureRefusal;
 
 /// A step of the motor and of the file.
 #[derive(Clone, Copy)]
@@ -29,14 +29,14 @@ fn nearest_step(steps: u32) -> u32
 
 impl Scale {
     /// Returns the step of motors with these steps per millimetre, to the nearest nanometre.
-    pub(crate) fn of(steps: StepsPerMillimetre) -> Result<Scale, Refusal>
+    pub(crate) fn of(steps: StepsPerMillimetre) -> Result<Scale, FigureRefusal>
         ensures value { result ≡ scale_of steps }
         ensures range { IfOk result IsScale }
         ensures same { IfOk result (λ scale. scale.steps ≡ steps.millionths) }
     {
         let steps = steps.millionths;
         if steps < 20_000_000 || steps > 2_000_000_000 {
-            return Err(Refusal::Step);
+            return Err(FigureRefusal::Step);
         }
         Ok(Scale {
             steps,

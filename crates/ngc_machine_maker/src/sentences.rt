@@ -4,12 +4,12 @@ ghost use Rattle.std.specs.Io.KnownBytes.{Appends};
 ghost use Rattle.ngc_text.specs.Collected.{CHUNK_SIZE};
 ghost use Rattle.ngc_text.specs.Failures.{CountsFailure};
 ghost use Rattle.ngc_text.specs.Written.{AppendsBeginning};
-ghost use Rattle.ngc_machine_maker.specs.declared.refusal.Refusal.TheVariants as refusals;
+ghost use Rattle.ngc_machine_maker.specs.declared.refusal.FigureRefusal.TheVariants as refusals;
 ghost use Rattle.ngc_machine_maker.specs.Sentences.{axis_text, stop_text, field_text, refusal_text};
 ghost use Rattle.ngc_machine_maker.specs.Sentences.{refusal_line};
 
 use crate::figures::Axis;
-use crate::refusal::{Field, Refusal, Stop};
+use crate::refusal::{Field, FigureRefusal, Stop};
 use ngc_text::{Chunk, Sink, WriteFault};
 
 #[tactic(auto, unfolding(crate::specs::Sentences::axis_text))]
@@ -127,59 +127,59 @@ fn add_missing(chunk: &mut Chunk, number: u32)
 }
 
 #[tactic(auto, unfolding(crate::specs::Sentences::refusal_text))]
-fn add_refusal(chunk: &mut Chunk, refusal: Refusal)
+fn add_refusal(chunk: &mut Chunk, refusal: FigureRefusal)
     requires { length chunk.old + 160 ≤ CHUNK_SIZE }
     ensures text { chunk.new ≡ chunk.old ++ refusal_text refusal }
     ensures short { length chunk.new ≤ length chunk.old + 160 }
 {
     match refusal {
-        Refusal::Unread(field) => add_field(chunk, field),
-        Refusal::Step => chunk.add_text(
+        FigureRefusal::Unread(field) => add_field(chunk, field),
+        FigureRefusal::Step => chunk.add_text(
             b"a step is not from 500 to 50000 nm: give from 20 to 2000 steps a mm",
         ),
-        Refusal::Ticks => chunk.add_text(
+        FigureRefusal::Ticks => chunk.add_text(
             b"the ticks a second are not from 1 to 1000000: give a number between",
         ),
-        Refusal::Ring => {
+        FigureRefusal::Ring => {
             chunk.add_text(b"the ring is not from 16 to 1024 commands: give a number between")
         }
-        Refusal::SlowFeed(axis) => add_named(
+        FigureRefusal::SlowFeed(axis) => add_named(
             chunk,
             b"",
             axis_name(axis),
             b" has less than a millionth of a step in a tick: give a greater feed or fewer ticks",
         ),
-        Refusal::FastFeed(axis) => add_named(
+        FigureRefusal::FastFeed(axis) => add_named(
             chunk,
             b"",
             axis_name(axis),
             b" has more than a step in a tick: give a smaller feed or more ticks",
         ),
-        Refusal::SlowCorner => chunk.add_text(
+        FigureRefusal::SlowCorner => chunk.add_text(
             b"the corner speed is below a millionth of a step a tick: give more, or fewer ticks",
         ),
-        Refusal::LowAcceleration => chunk.add_text(
+        FigureRefusal::LowAcceleration => chunk.add_text(
             b"the acceleration is too small for a machine file: give more, or fewer ticks",
         ),
-        Refusal::LowArcs => chunk.add_text(
+        FigureRefusal::LowArcs => chunk.add_text(
             b"the acceleration on arcs is too small for a machine file: give more, or fewer ticks",
         ),
-        Refusal::Travel(axis) => add_named(
+        FigureRefusal::Travel(axis) => add_named(
             chunk,
             b"the travel of ",
             axis_name(axis),
             b" is not from a step to 1000 mm: give a length between",
         ),
-        Refusal::Outside(stop, axis) => add_outside(chunk, stop, axis),
-        Refusal::Missing(number) => add_missing(chunk, number),
-        Refusal::Setting(number, at) => add_setting(chunk, number, at),
-        Refusal::UnequalSteps => chunk.add_text(
+        FigureRefusal::Outside(stop, axis) => add_outside(chunk, stop, axis),
+        FigureRefusal::Missing(number) => add_missing(chunk, number),
+        FigureRefusal::Setting(number, at) => add_setting(chunk, number, at),
+        FigureRefusal::UnequalSteps => chunk.add_text(
             b"$100, $101 and $102 differ: one step serves all axes, so make them equal",
         ),
     }
 }
 
-fn add_refusal_line(chunk: &mut Chunk, refusal: Refusal)
+fn add_refusal_line(chunk: &mut Chunk, refusal: FigureRefusal)
     requires { length chunk.old + 170 ≤ CHUNK_SIZE }
     ensures { chunk.new ≡ chunk.old ++ refusal_line refusal }
 {
@@ -189,7 +189,7 @@ fn add_refusal_line(chunk: &mut Chunk, refusal: Refusal)
 
 /// Writes what is wrong and what to enter instead, on a line. After a fault a prefix of it is
 /// written, and the sink has counted the failure.
-pub fn write_refusal<W: Sink>(refusal: Refusal, sink: &mut W) -> Result<(), WriteFault>
+pub fn write_refusal<W: Sink>(refusal: FigureRefusal, sink: &mut W) -> Result<(), WriteFault>
     ensures ok { OnOk result
         (Appends (W.written sink.old) (W.written sink.new) (refusal_line refusal)) }
     ensures fault { OnErr result

@@ -7,8 +7,8 @@ use Rattle.ngc_modal_state.specs.declared.code.MotionMode.{MotionMode}
 use Rattle.ngc_modal_state.specs.declared.code.MotionMode.TheVariants as motions
 use Rattle.ngc_modal_state.specs.declared.code.LengthCode.{LengthCode}
 use Rattle.ngc_modal_state.specs.declared.code.LengthCode.TheVariants as lengths
-use Rattle.ngc_modal_state.specs.declared.code.Once.{Once}
-use Rattle.ngc_modal_state.specs.declared.code.Once.TheVariants as once
+use Rattle.ngc_modal_state.specs.declared.code.NonModal.{NonModal}
+use Rattle.ngc_modal_state.specs.declared.code.NonModal.TheVariants as once
 use Rattle.ngc_modal_state.specs.declared.code.Coolant.TheVariants as coolant
 use Rattle.ngc_modal_state.specs.declared.modes.Modes.{Modes}
 use Rattle.ngc_modal_state.specs.declared.block.Block.{Block}
@@ -44,7 +44,7 @@ feed : (mode : FeedMode) (m : Modes) (b : Block) → HasRank 3 (feed_effect mode
 feed PerMinute m b = each _ 3 b.f (λ a. refl)
 feed InverseTime m b = none 3
 
-dwell : (code : Option Once) (b : Block) → HasRank 10 (dwell_effect code b)
+dwell : (code : Option NonModal) (b : Block) → HasRank 10 (dwell_effect code b)
 dwell None b = none 10
 dwell (Some once.Dwell) b = each _ 10 b.p (λ a. refl)
 dwell (Some once.SetOrigin) b = none 10
@@ -61,7 +61,7 @@ tool_length None b = none 14
 tool_length (Some lengths.Apply) b = each _ 14 b.h (λ a. refl)
 tool_length (Some lengths.Cancel) b = one (acts.ToolLength None)
 
-frame : (code : Option Once) (b : Block) → HasRank 19 (frame_effect code b)
+frame : (code : Option NonModal) (b : Block) → HasRank 19 (frame_effect code b)
 frame None b = none 19
 frame (Some once.Dwell) b = none 19
 frame (Some once.SetOrigin) b = each _ 19 (system_at b.p) (λ a. refl)
@@ -102,7 +102,7 @@ module _ (m : Modes) (b : Block) where
       (ahead 10 9 _ _ (dwell b.once b) (lit≤ tt)
       (ahead 11 10 _ _ (each acts.Plane 11 b.plane (λ a. refl)) (lit≤ tt)
       (ahead 12 11 _ _ (each acts.Units 12 b.units (λ a. refl)) (lit≤ tt)
-      (ahead 13 12 _ _ (marked acts.RadiusOff b.radius_off) (lit≤ tt)
+      (ahead 13 12 _ _ (marked acts.CutterCompensationOff b.radius_off) (lit≤ tt)
       (ahead 14 13 _ _ (tool_length b.tool_length b) (lit≤ tt)
       (ahead 15 14 _ _ (each acts.System 15 b.system (λ a. refl)) (lit≤ tt)
       (ahead 16 15 _ _ (each acts.Path 16 b.path (λ a. refl)) (lit≤ tt)

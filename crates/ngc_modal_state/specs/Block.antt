@@ -60,12 +60,12 @@ has_group (codes.Plane c) b = is_some b.plane
 has_group (codes.Distance c) b = is_some b.distance
 has_group (codes.FeedMode c) b = is_some b.feed_mode
 has_group (codes.Units c) b = is_some b.units
-has_group codes.RadiusOff b = b.radius_off
+has_group codes.CutterCompensationOff b = b.radius_off
 has_group (codes.ToolLength c) b = is_some b.tool_length
 has_group (codes.Return c) b = is_some b.return_mode
 has_group (codes.System c) b = is_some b.system
 has_group (codes.Path c) b = is_some b.path
-has_group (codes.Once c) b = is_some b.once
+has_group (codes.NonModal c) b = is_some b.once
 has_group (codes.Stopping c) b = is_some b.stopping
 has_group codes.ChangeTool b = b.change_tool
 has_group (codes.Spindle c) b = is_some b.spindle
@@ -81,12 +81,12 @@ put_code (codes.Plane c) b = record b { plane = Some c }
 put_code (codes.Distance c) b = record b { distance = Some c }
 put_code (codes.FeedMode c) b = record b { feed_mode = Some c }
 put_code (codes.Units c) b = record b { units = Some c }
-put_code codes.RadiusOff b = record b { radius_off = true }
+put_code codes.CutterCompensationOff b = record b { radius_off = true }
 put_code (codes.ToolLength c) b = record b { tool_length = Some c }
 put_code (codes.Return c) b = record b { return_mode = Some c }
 put_code (codes.System c) b = record b { system = Some c }
 put_code (codes.Path c) b = record b { path = Some c }
-put_code (codes.Once c) b = record b { once = Some c }
+put_code (codes.NonModal c) b = record b { once = Some c }
 put_code (codes.Stopping c) b = record b { stopping = Some c }
 put_code codes.ChangeTool b = record b { change_tool = true }
 put_code (codes.Spindle c) b = record b { spindle = Some c }

@@ -7,7 +7,7 @@ use Rattle.ngc_fixed_length.specs.declared.units.Units.TheVariants.{Millimetres,
 use Rattle.ngc_fixed_length.specs.declared.modes.Plane.TheVariants.{XY, ZX, YZ}
 use Rattle.ngc_fixed_length.specs.declared.modes.Distance.TheVariants.{Absolute, Incremental}
 use Rattle.ngc_fixed_length.specs.declared.modes.FeedMode.TheVariants.{PerMinute, InverseTime}
-use Rattle.ngc_fixed_length.specs.declared.modes.ReturnMode.TheVariants.{Series, Retract}
+use Rattle.ngc_fixed_length.specs.declared.modes.RetractMode.TheVariants.{Series, Retract}
 use Rattle.ngc_fixed_length.specs.declared.modes.Turn.TheVariants.{Clockwise, Counterclockwise}
 use Rattle.ngc_fixed_length.specs.declared.modes.System.TheVariants.{First, Second, Third, Fourth}
 use Rattle.ngc_fixed_length.specs.declared.modes.System.TheVariants.{Fifth, Sixth, Seventh, Eighth}
@@ -22,14 +22,14 @@ use Rattle.ngc_modal_state.specs.declared.code.MotionMode.TheVariants as motions
 use Rattle.ngc_modal_state.specs.declared.code.LengthCode.TheVariants as lengths
 use Rattle.ngc_modal_state.specs.declared.code.PathControl.TheVariants.{ExactPath, ExactStop}
 use Rattle.ngc_modal_state.specs.declared.code.PathControl.TheVariants.{Continuous}
-use Rattle.ngc_modal_state.specs.declared.code.Once.TheVariants as once
+use Rattle.ngc_modal_state.specs.declared.code.NonModal.TheVariants as once
 use Rattle.ngc_modal_state.specs.declared.code.Stopping.TheVariants as stops
 use Rattle.ngc_modal_state.specs.declared.code.Spindle.TheVariants as spindle
 use Rattle.ngc_modal_state.specs.declared.code.Coolant.TheVariants.{Mist, Flood, Off}
 use Rattle.ngc_modal_state.specs.declared.code.Code.{Code}
 use Rattle.ngc_modal_state.specs.declared.code.Code.TheVariants.{Motion, Plane, Distance, FeedMode}
-use Rattle.ngc_modal_state.specs.declared.code.Code.TheVariants.{Units, RadiusOff, ToolLength}
-use Rattle.ngc_modal_state.specs.declared.code.Code.TheVariants.{Return, System, Path, Once}
+use Rattle.ngc_modal_state.specs.declared.code.Code.TheVariants.{Units, CutterCompensationOff, ToolLength}
+use Rattle.ngc_modal_state.specs.declared.code.Code.TheVariants.{Return, System, Path, NonModal}
 use Rattle.ngc_modal_state.specs.declared.code.Code.TheVariants.{Stopping, ChangeTool, Spindle}
 use Rattle.ngc_modal_state.specs.declared.code.Code.TheVariants.{Coolant, Override}
 use Rattle.ngc_modal_state.specs.declared.fault.ModalFault.{ModalFault}
@@ -50,7 +50,7 @@ mode_codes =
     (900, Distance Absolute) ∷ (910, Distance Incremental) ∷
     (930, FeedMode InverseTime) ∷ (940, FeedMode PerMinute) ∷
     (200, Units Inches) ∷ (210, Units Millimetres) ∷
-    (400, RadiusOff) ∷ (430, ToolLength lengths.Apply) ∷ (490, ToolLength lengths.Cancel) ∷
+    (400, CutterCompensationOff) ∷ (430, ToolLength lengths.Apply) ∷ (490, ToolLength lengths.Cancel) ∷
     (980, Return Series) ∷ (990, Return Retract) ∷
     (540, System First) ∷ (550, System Second) ∷ (560, System Third) ∷
     (570, System Fourth) ∷ (580, System Fifth) ∷ (590, System Sixth) ∷
@@ -60,10 +60,10 @@ mode_codes =
 -- the nonmodal codes
 unfoldable pub once_codes : List (ℕ × Code)
 once_codes =
-    (40, Once once.Dwell) ∷ (100, Once once.SetOrigin) ∷
-    (280, Once once.Home28) ∷ (300, Once once.Home30) ∷ (530, Once once.MachinePlace) ∷
-    (920, Once once.SetOffset) ∷ (921, Once once.ClearOffset) ∷
-    (922, Once once.SuspendOffset) ∷ (923, Once once.RestoreOffset) ∷ []
+    (40, NonModal once.Dwell) ∷ (100, NonModal once.SetOrigin) ∷
+    (280, NonModal once.Home28) ∷ (300, NonModal once.Home30) ∷ (530, NonModal once.MachinePlace) ∷
+    (920, NonModal once.SetOffset) ∷ (921, NonModal once.ClearOffset) ∷
+    (922, NonModal once.SuspendOffset) ∷ (923, NonModal once.RestoreOffset) ∷ []
 
 abbrev pub g_codes : List (ℕ × Code)
 g_codes = motion_codes ++ (mode_codes ++ once_codes)

@@ -13,8 +13,8 @@ use Rattle.ngc_modal_state.specs.declared.code.MotionMode.{MotionMode}
 use Rattle.ngc_modal_state.specs.declared.code.MotionMode.TheVariants as motions
 use Rattle.ngc_modal_state.specs.declared.code.LengthCode.{LengthCode}
 use Rattle.ngc_modal_state.specs.declared.code.LengthCode.TheVariants as lengths
-use Rattle.ngc_modal_state.specs.declared.code.Once.{Once}
-use Rattle.ngc_modal_state.specs.declared.code.Once.TheVariants as once
+use Rattle.ngc_modal_state.specs.declared.code.NonModal.{NonModal}
+use Rattle.ngc_modal_state.specs.declared.code.NonModal.TheVariants as once
 use Rattle.ngc_modal_state.specs.declared.code.Coolant.TheVariants as coolant
 use Rattle.ngc_modal_state.specs.declared.modes.Modes.{Modes}
 use Rattle.ngc_modal_state.specs.declared.block.Block.{Block}
@@ -41,7 +41,7 @@ rank (acts.Override on) = 9
 rank (acts.Dwell value) = 10
 rank (acts.Plane plane) = 11
 rank (acts.Units units) = 12
-rank acts.RadiusOff = 13
+rank acts.CutterCompensationOff = 13
 rank (acts.ToolLength h) = 14
 rank (acts.System system) = 15
 rank (acts.Path path) = 16
@@ -70,7 +70,7 @@ abbrev pub inverse_feed : FeedMode → Option ℤ → Option ℤ
 inverse_feed PerMinute f = None
 inverse_feed InverseTime f = f
 
-abbrev pub dwell_effect : Option Once → Block → Option Effect
+abbrev pub dwell_effect : Option NonModal → Block → Option Effect
 dwell_effect (Some once.Dwell) b = option_map acts.Dwell b.p
 dwell_effect _ b = None
 
@@ -87,7 +87,7 @@ abbrev pub system_at : Option ℤ → Option System
 system_at None = None
 system_at (Some v) = at_number (whole v) systems
 
-abbrev pub frame_effect : Option Once → Block → Option Effect
+abbrev pub frame_effect : Option NonModal → Block → Option Effect
 frame_effect (Some once.SetOrigin) b =
     option_map (λ system. acts.SetOrigin system b.axes) (system_at b.p)
 frame_effect (Some once.Home28) b = Some (acts.GoHome homes.First b.axes)
@@ -141,7 +141,7 @@ unfoldable pub mode_effects : Block → List (Option Effect)
 mode_effects b =
     option_map acts.Plane b.plane ∷
     option_map acts.Units b.units ∷
-    mark acts.RadiusOff b.radius_off ∷
+    mark acts.CutterCompensationOff b.radius_off ∷
     length_effect b.tool_length b ∷
     option_map acts.System b.system ∷
     option_map acts.Path b.path ∷

@@ -11,8 +11,8 @@ use Rattle.ngc_modal_state.specs.declared.code.MotionMode.TheVariants.{Traverse,
 use Rattle.ngc_modal_state.specs.declared.code.MotionMode.TheVariants.{Cancel, Cycle}
 use Rattle.ngc_modal_state.specs.declared.code.LengthCode.{LengthCode}
 use Rattle.ngc_modal_state.specs.declared.code.LengthCode.TheVariants as lengths
-use Rattle.ngc_modal_state.specs.declared.code.Once.{Once}
-use Rattle.ngc_modal_state.specs.declared.code.Once.TheVariants as once
+use Rattle.ngc_modal_state.specs.declared.code.NonModal.{NonModal}
+use Rattle.ngc_modal_state.specs.declared.code.NonModal.TheVariants as once
 
 abbrev pub is_straight : MotionMode → Bool
 is_straight Traverse = true
@@ -73,24 +73,24 @@ abbrev pub is_inverse : FeedMode → Bool
 is_inverse InverseTime = true
 is_inverse PerMinute = false
 
-abbrev pub is_dwell : Option Once → Bool
+abbrev pub is_dwell : Option NonModal → Bool
 is_dwell (Some once.Dwell) = true
 is_dwell _ = false
 
-abbrev pub sets_origin : Option Once → Bool
+abbrev pub sets_origin : Option NonModal → Bool
 sets_origin (Some once.SetOrigin) = true
 sets_origin _ = false
 
-abbrev pub sets_offset : Option Once → Bool
+abbrev pub sets_offset : Option NonModal → Bool
 sets_offset (Some once.SetOffset) = true
 sets_offset _ = false
 
-abbrev pub is_machine_place : Option Once → Bool
+abbrev pub is_machine_place : Option NonModal → Bool
 is_machine_place (Some once.MachinePlace) = true
 is_machine_place _ = false
 
 -- G10 G28 G30 G92
-abbrev pub takes_axes : Option Once → Bool
+abbrev pub takes_axes : Option NonModal → Bool
 takes_axes (Some once.SetOrigin) = true
 takes_axes (Some once.Home28) = true
 takes_axes (Some once.Home30) = true

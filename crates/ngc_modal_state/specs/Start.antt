@@ -4,7 +4,7 @@ use Rattle.ngc_fixed_length.specs.declared.units.Units.TheVariants.{Millimetres}
 use Rattle.ngc_fixed_length.specs.declared.modes.Plane.TheVariants.{XY}
 use Rattle.ngc_fixed_length.specs.declared.modes.Distance.TheVariants.{Absolute}
 use Rattle.ngc_fixed_length.specs.declared.modes.FeedMode.TheVariants.{PerMinute}
-use Rattle.ngc_fixed_length.specs.declared.modes.ReturnMode.TheVariants.{Series}
+use Rattle.ngc_fixed_length.specs.declared.modes.RetractMode.TheVariants.{Series}
 use Rattle.ngc_modal_state.specs.declared.code.MotionMode.TheVariants.{Cancel}
 use Rattle.ngc_modal_state.specs.declared.code.PathControl.TheVariants.{Continuous}
 use Rattle.ngc_modal_state.specs.declared.modes.Modes.{Modes}

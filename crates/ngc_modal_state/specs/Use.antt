@@ -13,7 +13,7 @@ use Rattle.ngc_line_reader.specs.declared.letter.Letter.TheVariants.{F, H, I, J,
 use Rattle.ngc_line_reader.specs.declared.letter.Letter.TheVariants.{Y, Z}
 use Rattle.ngc_modal_state.specs.declared.code.MotionMode.{MotionMode}
 use Rattle.ngc_modal_state.specs.declared.code.MotionMode.TheVariants.{Cancel}
-use Rattle.ngc_modal_state.specs.declared.code.Once.{Once}
+use Rattle.ngc_modal_state.specs.declared.code.NonModal.{NonModal}
 use Rattle.ngc_modal_state.specs.declared.modes.Modes.{Modes}
 use Rattle.ngc_modal_state.specs.declared.block.AxisWords.{AxisWords}
 use Rattle.ngc_modal_state.specs.declared.block.Block.{Block}
@@ -92,10 +92,10 @@ uses_k motion _ = is_arc motion
 abbrev pub uses_r : MotionMode → Bool
 uses_r motion = is_arc motion || is_cycle motion
 
-abbrev pub uses_p : Option Once → MotionMode → Bool
+abbrev pub uses_p : Option NonModal → MotionMode → Bool
 uses_p code motion = is_dwell code || sets_origin code || dwells motion
 
-abbrev pub uses_l : Option Once → MotionMode → Bool
+abbrev pub uses_l : Option NonModal → MotionMode → Bool
 uses_l code motion = sets_origin code || is_cycle motion
 
 -- the word is present and nothing uses it

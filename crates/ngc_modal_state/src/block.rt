@@ -4,10 +4,12 @@ ghost use Rattle.ngc_line_reader.specs.Words.{pairs_of};
 ghost use Rattle.ngc_modal_state.specs.Block.{is_m_word};
 ghost use Rattle.ngc_modal_state.specs.BlockWords.{first_value};
 
-use crate::code::{Code, Coolant, LengthCode, MotionMode, Once, PathControl, Spindle, Stopping};
+use crate::code::{
+    Code, Coolant, LengthCode, MotionMode, NonModal, PathControl, Spindle, Stopping,
+};
 use crate::fault::ModalFault;
 use crate::table::{common_motion, g_code, m_code};
-use ngc_fixed_length::{Distance, FeedMode, Plane, ReturnMode, System, Units, Value};
+use ngc_fixed_length::{Distance, FeedMode, Plane, RetractMode, System, Units, Value};
 use ngc_line_reader::{Letter, Word};
 
 /// The words X, Y, Z of a line.
@@ -29,10 +31,10 @@ pub struct Block {
     /// Whether G40 is present.
     pub radius_off: bool,
     pub tool_length: Option<LengthCode>,
-    pub return_mode: Option<ReturnMode>,
+    pub return_mode: Option<RetractMode>,
     pub system: Option<System>,
     pub path: Option<PathControl>,
-    pub once: Option<Once>,
+    pub once: Option<NonModal>,
     pub stopping: Option<Stopping>,
     /// Whether M6 is present.
     pub change_tool: bool,
@@ -119,12 +121,12 @@ impl Block {
             Code::Distance(_) => self.distance.is_some(),
             Code::FeedMode(_) => self.feed_mode.is_some(),
             Code::Units(_) => self.units.is_some(),
-            Code::RadiusOff => self.radius_off,
+            Code::CutterCompensationOff => self.radius_off,
             Code::ToolLength(_) => self.tool_length.is_some(),
             Code::Return(_) => self.return_mode.is_some(),
             Code::System(_) => self.system.is_some(),
             Code::Path(_) => self.path.is_some(),
-            Code::Once(_) => self.once.is_some(),
+            Code::NonModal(_) => self.once.is_some(),
             Code::Stopping(_) => self.stopping.is_some(),
             Code::ChangeTool => self.change_tool,
             Code::Spindle(_) => self.spindle.is_some(),
@@ -144,12 +146,12 @@ impl Block {
             Code::Distance(code) => self.distance = Some(code),
             Code::FeedMode(code) => self.feed_mode = Some(code),
             Code::Units(code) => self.units = Some(code),
-            Code::RadiusOff => self.radius_off = true,
+            Code::CutterCompensationOff => self.radius_off = true,
             Code::ToolLength(code) => self.tool_length = Some(code),
             Code::Return(code) => self.return_mode = Some(code),
             Code::System(code) => self.system = Some(code),
             Code::Path(code) => self.path = Some(code),
-            Code::Once(code) => self.once = Some(code),
+            Code::NonModal(code) => self.once = Some(code),
             Code::Stopping(code) => self.stopping = Some(code),
             Code::ChangeTool => self.change_tool = true,
             Code::Spindle(code) => self.spindle = Some(code),

@@ -1,4 +1,4 @@
-use ngc_fixed_length::{Distance, FeedMode, Plane, ReturnMode, System, Turn, Units};
+use ngc_fixed_length::{Distance, FeedMode, Plane, RetractMode, System, Turn, Units};
 
 /// The code of a canned cycle: the kind of hole that it makes.
 #[derive(Clone, Copy)]
@@ -54,7 +54,7 @@ pub enum PathControl {
 
 /// The nonmodal codes, which hold only for their line.
 #[derive(Clone, Copy)]
-pub enum Once {
+pub enum NonModal {
     /// G4
     Dwell,
     /// G10
@@ -115,12 +115,12 @@ pub enum Code {
     FeedMode(FeedMode),
     Units(Units),
     /// G40
-    RadiusOff,
+    CutterCompensationOff,
     ToolLength(LengthCode),
-    Return(ReturnMode),
+    Return(RetractMode),
     System(System),
     Path(PathControl),
-    Once(Once),
+    NonModal(NonModal),
     Stopping(Stopping),
     /// M6
     ChangeTool,

@@ -1,6 +1,6 @@
 use crate::block::AxisWords;
 use crate::code::{Coolant, CycleCode, MotionMode, PathControl, Spindle, Stopping};
-use ngc_fixed_length::{Distance, FeedMode, Plane, ReturnMode, System, Turn, Units, Value};
+use ngc_fixed_length::{Distance, FeedMode, Plane, RetractMode, System, Turn, Units, Value};
 
 /// The two home positions of a machine: G28 and G30.
 #[derive(Clone, Copy)]
@@ -51,13 +51,13 @@ pub enum Effect {
     Plane(Plane),
     Units(Units),
     /// G40
-    RadiusOff,
+    CutterCompensationOff,
     /// The tool whose length offset G43 takes, by its H; G49 takes none.
     ToolLength(Option<u32>),
     System(System),
     Path(PathControl),
     Distance(Distance),
-    Return(ReturnMode),
+    Return(RetractMode),
     /// G28, G30: through the point that the axis words give.
     GoHome {
         home: Home,

@@ -1,7 +1,7 @@
 ghost use Rattle.std.specs.Prelude.{◌≡◌};
 
 use crate::block::Block;
-use crate::code::{CycleCode, LengthCode, MotionMode, Once};
+use crate::code::{CycleCode, LengthCode, MotionMode, NonModal};
 
 impl CycleCode {
     ghost use Rattle.ngc_modal_state.specs.Kinds.{hole_dwells, hole_pecks, hole_number};
@@ -118,28 +118,28 @@ impl Block {
     pub(crate) fn is_dwell(&self) -> bool
         ensures { result ≡ is_dwell self.now.once }
     {
-        matches!(self.once, Some(Once::Dwell))
+        matches!(self.once, Some(NonModal::Dwell))
     }
 
     // Returns whether G10 is present.
     pub(crate) fn sets_origin(&self) -> bool
         ensures { result ≡ sets_origin self.now.once }
     {
-        matches!(self.once, Some(Once::SetOrigin))
+        matches!(self.once, Some(NonModal::SetOrigin))
     }
 
     // Returns whether G92 is present.
     pub(crate) fn sets_offset(&self) -> bool
         ensures { result ≡ sets_offset self.now.once }
     {
-        matches!(self.once, Some(Once::SetOffset))
+        matches!(self.once, Some(NonModal::SetOffset))
     }
 
     // Returns whether G53 is present.
     pub(crate) fn is_machine_place(&self) -> bool
         ensures { result ≡ is_machine_place self.now.once }
     {
-        matches!(self.once, Some(Once::MachinePlace))
+        matches!(self.once, Some(NonModal::MachinePlace))
     }
 
     // Returns whether G10, G28, G30 or G92 is present.
@@ -148,7 +148,7 @@ impl Block {
     {
         matches!(
             self.once,
-            Some(Once::SetOrigin | Once::Home28 | Once::Home30 | Once::SetOffset)
+            Some(NonModal::SetOrigin | NonModal::Home28 | NonModal::Home30 | NonModal::SetOffset)
         )
     }
 

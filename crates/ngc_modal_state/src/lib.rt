@@ -16,7 +16,9 @@ mod table;
 mod used;
 
 pub use block::{AxisWords, Block};
-pub use code::{Coolant, CycleCode, LengthCode, MotionMode, Once, PathControl, Spindle, Stopping};
+pub use code::{
+    Coolant, CycleCode, LengthCode, MotionMode, NonModal, PathControl, Spindle, Stopping,
+};
 pub use effect::{ArcWords, CycleWords, Effect, Home};
 pub use fault::{MissingWord, ModalFault};
 pub use modes::Modes;

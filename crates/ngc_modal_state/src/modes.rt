@@ -1,7 +1,7 @@
 ghost use Rattle.std.specs.Prelude.{◌≡◌};
 
 use crate::code::{MotionMode, PathControl};
-use ngc_fixed_length::{Distance, FeedMode, Plane, ReturnMode, Units};
+use ngc_fixed_length::{Distance, FeedMode, Plane, RetractMode, Units};
 
 /// The modes in force on which the meaning of a line's words depends.
 #[derive(Clone, Copy)]
@@ -11,7 +11,7 @@ pub struct Modes {
     pub units: Units,
     pub distance: Distance,
     pub feed_mode: FeedMode,
-    pub return_mode: ReturnMode,
+    pub return_mode: RetractMode,
     pub path: PathControl,
 }
 
@@ -28,7 +28,7 @@ impl Modes {
             units: Units::Millimetres,
             distance: Distance::Absolute,
             feed_mode: FeedMode::PerMinute,
-            return_mode: ReturnMode::Series,
+            return_mode: RetractMode::Series,
             path: PathControl::Continuous,
         }
     }

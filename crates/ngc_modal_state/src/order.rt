@@ -4,7 +4,7 @@ ghost use Rattle.arrayvec.specs.ArrayVec.{array_vec_len};
 ghost use Rattle.ngc_modal_state.specs.Effects.{standing, mark as marked, system_at as system_by};
 
 use crate::block::Block;
-use crate::code::{Coolant, LengthCode, MotionMode, Once};
+use crate::code::{Coolant, LengthCode, MotionMode, NonModal};
 use crate::effect::{ArcWords, CycleWords, Effect, Home};
 use crate::fault::ModalFault;
 use crate::modes::Modes;
@@ -116,23 +116,23 @@ impl Block {
     {
         let axes = self.axes;
         match self.once? {
-            Once::SetOrigin => Some(Effect::SetOrigin {
+            NonModal::SetOrigin => Some(Effect::SetOrigin {
                 system: system_at(self.p)?,
                 axes,
             }),
-            Once::Home28 => Some(Effect::GoHome {
+            NonModal::Home28 => Some(Effect::GoHome {
                 home: Home::First,
                 axes,
             }),
-            Once::Home30 => Some(Effect::GoHome {
+            NonModal::Home30 => Some(Effect::GoHome {
                 home: Home::Second,
                 axes,
             }),
-            Once::SetOffset => Some(Effect::SetOffset(axes)),
-            Once::ClearOffset => Some(Effect::ClearOffset),
-            Once::SuspendOffset => Some(Effect::SuspendOffset),
-            Once::RestoreOffset => Some(Effect::RestoreOffset),
-            Once::Dwell | Once::MachinePlace => None,
+            NonModal::SetOffset => Some(Effect::SetOffset(axes)),
+            NonModal::ClearOffset => Some(Effect::ClearOffset),
+            NonModal::SuspendOffset => Some(Effect::SuspendOffset),
+            NonModal::RestoreOffset => Some(Effect::RestoreOffset),
+            NonModal::Dwell | NonModal::MachinePlace => None,
         }
     }
 
@@ -295,7 +295,10 @@ impl Block {
         }
         add(effects, self.plane.map(Effect::Plane));
         add(effects, self.units.map(Effect::Units));
-        add(effects, mark(Effect::RadiusOff, self.radius_off));
+        add(
+            effects,
+            mark(Effect::CutterCompensationOff, self.radius_off),
+        );
         add(effects, self.length_effect());
         add(effects, self.system.map(Effect::System));
         add(effects, self.path.map(Effect::Path));

@@ -6,10 +6,10 @@ ghost use Rattle.ngc_modal_state.specs.Codes.{mode_codes, g_codes, m_codes};
 ghost use Rattle.ngc_modal_state.specs.Tables.{at_number};
 
 use crate::code::{
-    Code, Coolant, CycleCode, LengthCode, MotionMode, Once, PathControl, Spindle, Stopping,
+    Code, Coolant, CycleCode, LengthCode, MotionMode, NonModal, PathControl, Spindle, Stopping,
 };
 use crate::fault::ModalFault;
-use ngc_fixed_length::{Distance, FeedMode, Plane, ReturnMode, System, Turn, Units, Value};
+use ngc_fixed_length::{Distance, FeedMode, Plane, RetractMode, System, Turn, Units, Value};
 use ngc_line_reader::Letter;
 
 // Returns a value in tenths, if it is a whole number of them.
@@ -61,11 +61,11 @@ fn mode_code(tenths: u64) -> Option<Code>
         940 => Code::FeedMode(FeedMode::PerMinute),
         200 => Code::Units(Units::Inches),
         210 => Code::Units(Units::Millimetres),
-        400 => Code::RadiusOff,
+        400 => Code::CutterCompensationOff,
         430 => Code::ToolLength(LengthCode::Apply),
         490 => Code::ToolLength(LengthCode::Cancel),
-        980 => Code::Return(ReturnMode::Series),
-        990 => Code::Return(ReturnMode::Retract),
+        980 => Code::Return(RetractMode::Series),
+        990 => Code::Return(RetractMode::Retract),
         540 => Code::System(System::First),
         550 => Code::System(System::Second),
         560 => Code::System(System::Third),
@@ -89,18 +89,18 @@ fn once_code(tenths: u64) -> Option<Code>
     ensures { result ≡ at_number tenths once_codes }
 {
     let once = match tenths {
-        40 => Once::Dwell,
-        100 => Once::SetOrigin,
-        280 => Once::Home28,
-        300 => Once::Home30,
-        530 => Once::MachinePlace,
-        920 => Once::SetOffset,
-        921 => Once::ClearOffset,
-        922 => Once::SuspendOffset,
-        923 => Once::RestoreOffset,
+        40 => NonModal::Dwell,
+        100 => NonModal::SetOrigin,
+        280 => NonModal::Home28,
+        300 => NonModal::Home30,
+        530 => NonModal::MachinePlace,
+        920 => NonModal::SetOffset,
+        921 => NonModal::ClearOffset,
+        922 => NonModal::SuspendOffset,
+        923 => NonModal::RestoreOffset,
         _ => return None,
     };
-    Some(Code::Once(once))
+    Some(Code::NonModal(once))
 }
 
 // Returns the code of a G word in tenths.

@@ -10,8 +10,8 @@ use Rattle.ngc_fixed_length.specs.Boxes.{holds_box}
 use Rattle.ngc_fixed_length.specs.Signed.{same}
 use Rattle.ngc_fixed_length.specs.declared.points.Point3.{Point3}
 use Rattle.ngc_fixed_length.specs.declared.points.GridBox.{GridBox}
-use Rattle.ngc_machine.specs.Machine.{MachineFile}
-use Rattle.ngc_machine.specs.declared.tools.Tool.{Tool}
+use Rattle.ngc_machine_files.specs.Machine.{MachineFile}
+use Rattle.ngc_machine_files.specs.declared.tools.Tool.{Tool}
 use Rattle.ngc_collision.specs.Body.{first_met, is_in_travel}
 use Rattle.ngc_arc_geometry.specs.Shape.{ArcShape, start_of, end_of}
 use Rattle.ngc_arc_geometry.specs.Swept.{swept_box}

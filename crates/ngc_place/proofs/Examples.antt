@@ -2,8 +2,8 @@
 use Rattle.std.proofs.Common.{◌≡◌, refl, ℤ, pos, negsuc, List, [], ◌∷◌, true, false}
 use Rattle.std.specs.Prelude.{Bool}
 use Rattle.ngc_fixed_length.specs.declared.points.Point3.{Point3}
-use Rattle.ngc_machine.specs.Machine.{MachineFile, built_in_machine}
-use Rattle.ngc_machine.specs.declared.machine.Fixture.{Fixture}
+use Rattle.ngc_machine_files.specs.Machine.{MachineFile, built_in_machine}
+use Rattle.ngc_machine_files.specs.declared.machine.Fixture.{Fixture}
 use Rattle.ngc_commands.specs.declared.command.Action.TheVariants.{Move}
 use Rattle.ngc_commands.specs.declared.command.Command.{Command}
 use Rattle.ngc_commands.specs.declared.movement.Pace.TheVariants.{Rapid}

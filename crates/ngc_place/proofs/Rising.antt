@@ -9,7 +9,7 @@ use Rattle.ngc_fixed_length.specs.Boxes.{only}
 use Rattle.ngc_fixed_length.specs.declared.points.Point3.{Point3}
 use Rattle.ngc_fixed_length.specs.declared.points.StepPos.{StepPos}
 use Rattle.ngc_fixed_length.specs.declared.points.GridBox.{GridBox}
-use Rattle.ngc_machine.specs.Ranges.{IsAtMost}
+use Rattle.ngc_machine_files.specs.Ranges.{IsAtMost}
 use Rattle.ngc_arc_geometry.specs.Swept.{swept_box}
 use Rattle.ngc_commands.specs.declared.movement.Way.{Way}
 use Rattle.ngc_commands.specs.declared.movement.Way.TheVariants.{Line, Arc}

@@ -6,10 +6,10 @@ use Rattle.std.specs.Option.{is_none}
 use Rattle.std.proofs.lemmas.Int.{ints}
 use Rattle.ngc_fixed_length.specs.Length.{IsStep}
 use Rattle.ngc_fixed_length.specs.declared.points.GridBox.{GridBox}
-use Rattle.ngc_machine.specs.declared.machine.Fixture.{Fixture}
-use Rattle.ngc_machine.specs.declared.parts.Part.{Part}
-use Rattle.ngc_machine.specs.declared.tools.Tool.{Tool}
-use Rattle.ngc_machine.specs.Machine.{MachineFile}
+use Rattle.ngc_machine_files.specs.declared.machine.Fixture.{Fixture}
+use Rattle.ngc_machine_files.specs.declared.parts.Part.{Part}
+use Rattle.ngc_machine_files.specs.declared.tools.Tool.{Tool}
+use Rattle.ngc_machine_files.specs.Machine.{MachineFile}
 use Rattle.ngc_collision.specs.Body.{Solid, span, filled, stacked, bodies, are_apart, clears, first_met, first_met_from, is_in_travel}
 use Rattle.ngc_certificate.proofs.Truths.{le_of, le_test, both, and, or_to, no_truth}
 use Rattle.ngc_place.specs.Holds.{is_clear}

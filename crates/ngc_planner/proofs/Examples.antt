@@ -7,7 +7,7 @@ use Rattle.ngc_fixed_length.specs.declared.modes.Turn.{Turn}
 use Rattle.ngc_fixed_length.specs.declared.modes.Turn.TheVariants.{Clockwise, Counterclockwise}
 use Rattle.ngc_fixed_length.specs.declared.points.Point3.{Point3}
 use Rattle.ngc_arc_geometry.specs.Shape.{ArcShape}
-use Rattle.ngc_machine.specs.Machine.{MachineFile, built_in_machine}
+use Rattle.ngc_machine_files.specs.Machine.{MachineFile, built_in_machine}
 use Rattle.ngc_commands.specs.declared.command.Action.{Action}
 use Rattle.ngc_commands.specs.declared.command.Action.TheVariants.{Move}
 use Rattle.ngc_commands.specs.declared.movement.Feed.{Feed}

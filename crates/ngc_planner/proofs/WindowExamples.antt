@@ -3,7 +3,7 @@ use Rattle.std.proofs.Common.{◌≡◌, ℕ, zero, suc, ◌+◌, pos, Bool, tru
 use Rattle.ngc_fixed_length.specs.Roots.{whole_root}
 use Rattle.ngc_fixed_length.specs.declared.modes.Turn.TheVariants.{Counterclockwise}
 use Rattle.ngc_fixed_length.specs.declared.points.Point3.{Point3}
-use Rattle.ngc_machine.specs.Machine.{MachineFile}
+use Rattle.ngc_machine_files.specs.Machine.{MachineFile}
 use Rattle.ngc_commands.specs.declared.command.Action.TheVariants.{Move, Dwell}
 use Rattle.ngc_commands.specs.declared.command.Command.{Command}
 use Rattle.ngc_commands.specs.declared.movement.Pace.TheVariants as paces

@@ -10,8 +10,8 @@ use Rattle.ngc_fixed_length.specs.declared.points.StepPos.{StepPos}
 use Rattle.ngc_arc_geometry.specs.GridPlaces.{seen}
 use Rattle.ngc_arc_geometry.specs.Radii.{IsArc, outer_radius}
 use Rattle.ngc_arc_geometry.specs.Shape.{ArcShape}
-use Rattle.ngc_machine.specs.Machine.{MachineFile}
-use Rattle.ngc_machine.specs.MachineRanges.{IsMachine}
+use Rattle.ngc_machine_files.specs.Machine.{MachineFile}
+use Rattle.ngc_machine_files.specs.MachineRanges.{IsMachine}
 use Rattle.ngc_commands.specs.declared.command.Action.{Action}
 use Rattle.ngc_commands.specs.declared.command.Action.TheVariants.{Move}
 use Rattle.ngc_commands.specs.declared.movement.Feed.{Feed}

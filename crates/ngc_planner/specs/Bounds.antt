@@ -4,8 +4,8 @@ use Rattle.std.specs.Prelude.{List, if◌then◌else◌}
 use Rattle.ngc_fixed_length.specs.Roots.{whole_root}
 use Rattle.ngc_arc_geometry.specs.Radii.{inner_radius}
 use Rattle.ngc_arc_geometry.specs.Shape.{ArcShape}
-use Rattle.ngc_machine.specs.Machine.{MachineFile}
-use Rattle.ngc_machine.specs.MachineRanges.{IsMachine}
+use Rattle.ngc_machine_files.specs.Machine.{MachineFile}
+use Rattle.ngc_machine_files.specs.MachineRanges.{IsMachine}
 use Rattle.ngc_commands.specs.declared.command.Action.{Action}
 use Rattle.ngc_commands.specs.declared.command.Action.TheVariants.{Move}
 use Rattle.ngc_commands.specs.declared.command.Command.{Command}

@@ -2,7 +2,7 @@
 use Rattle.std.specs.Prelude.{ℕ, ◌+◌, ◌-◌, ◌*◌, ◌/◌, ◌≤◌, min, ℤ, unsigned_abs, List, length, take}
 use Rattle.std.specs.Prelude.{drop, count_by, Bool, nat_lt, ◌||◌}
 use Rattle.ngc_fixed_length.specs.declared.points.StepPos.{StepPos}
-use Rattle.ngc_machine.specs.Machine.{MachineFile}
+use Rattle.ngc_machine_files.specs.Machine.{MachineFile}
 use Rattle.ngc_fixed_length.specs.Limits.{MILLION}
 
 -- the movement of each axis in a tick: -1, 0 or 1

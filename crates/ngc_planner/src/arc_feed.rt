@@ -3,7 +3,7 @@ ghost use Rattle.ngc_arc_geometry.specs.Radii.{IsArc};
 ghost use Rattle.ngc_fixed_length.specs.Grid.{distance};
 ghost use Rattle.ngc_fixed_length.specs.Length.{IsStep};
 ghost use Rattle.ngc_fixed_length.specs.Limits.{MILLION};
-ghost use Rattle.ngc_machine.specs.Machine.{file_of};
+ghost use Rattle.ngc_machine_files.specs.Machine.{file_of};
 ghost use Rattle.ngc_commands.specs.declared.movement.Way.TheVariants as ways;
 ghost use Rattle.ngc_planner.specs.ArcFeed.{farther_out, place_cap, rise, sloped_length};
 ghost use Rattle.ngc_planner.specs.ArcFeed.{length_along, helix_length, sloped_cap, feed_cap_at};
@@ -18,7 +18,7 @@ use crate::headings::is_level;
 use ngc_arc_geometry::Arc;
 use ngc_commands::{Action, Feed, Pace, Way};
 use ngc_fixed_length::{Nm, Plane, StepPos, nanometres_at, root_ceil};
-use ngc_machine::Machine;
+use ngc_machine_files::Machine;
 use std::alloc::Allocator;
 
 /// Returns the distance from a coordinate to a number of steps, in nanometres.

@@ -1,13 +1,13 @@
 ghost use Rattle.std.specs.Prelude.{◌≡◌, ◌≤◌};
 ghost use Rattle.ngc_fixed_length.specs.Length.{IsStep};
-ghost use Rattle.ngc_machine.specs.Machine.{file_of};
+ghost use Rattle.ngc_machine_files.specs.Machine.{file_of};
 ghost use Rattle.ngc_planner.specs.Axes.{differing, with_plane, axes_of, rate_where, least_rate};
 ghost use Rattle.ngc_planner.specs.Axes.{axes_rate};
 ghost use Rattle.ngc_fixed_length.specs.Limits.{MILLION};
 
 use ngc_commands::Way;
 use ngc_fixed_length::{Nm, Plane, StepPos};
-use ngc_machine::{AxisRates, Machine};
+use ngc_machine_files::{AxisRates, Machine};
 use std::alloc::Allocator;
 
 /// The axes that a motion may move.

@@ -1,5 +1,5 @@
 ghost use Rattle.std.specs.Prelude.{◌≡◌, ◌≤◌, ◌<◌, ◌^◌};
-ghost use Rattle.ngc_machine.specs.Machine.{file_of};
+ghost use Rattle.ngc_machine_files.specs.Machine.{file_of};
 ghost use Rattle.ngc_planner.specs.Axes.{axes_bound};
 ghost use Rattle.ngc_fixed_length.specs.Limits.{MILLION};
 ghost use Rattle.ngc_planner.specs.Caps.{STEPS_LIMIT};
@@ -11,7 +11,7 @@ use crate::caps::cap_of;
 use ngc_arc_geometry::Arc;
 use ngc_commands::{Action, Way};
 use ngc_fixed_length::root_floor;
-use ngc_machine::Machine;
+use ngc_machine_files::Machine;
 use std::alloc::Allocator;
 
 /// Returns the greatest rate on an arc, for steps of `step` nanometres.

@@ -1,6 +1,6 @@
 ghost use Rattle.std.specs.Prelude.{◌≡◌, ◌+◌, ◌*◌, ◌/◌, ◌^◌, ◌≤◌, ◌<◌, unsigned_abs};
 ghost use Rattle.ngc_fixed_length.specs.Grid.{distance};
-ghost use Rattle.ngc_machine.specs.Machine.{file_of};
+ghost use Rattle.ngc_machine_files.specs.Machine.{file_of};
 ghost use Rattle.ngc_fixed_length.specs.Limits.{MILLION};
 ghost use Rattle.ngc_planner.specs.Caps.{STEPS_LIMIT, length_between, crosswise};
 ghost use Rattle.ngc_planner.specs.Caps.{inverse_cap, line_cap, arc_cap, feed_cap, cap_of};
@@ -9,7 +9,7 @@ ghost use Rattle.ngc_planner.specs.Caps.{KeepsFeed};
 use ngc_arc_geometry::Arc;
 use ngc_commands::{Action, Feed, Pace, Way};
 use ngc_fixed_length::{Nm, Point3, root_ceil};
-use ngc_machine::Machine;
+use ngc_machine_files::Machine;
 use std::alloc::Allocator;
 
 /// Returns the square of the distance between two coordinates.

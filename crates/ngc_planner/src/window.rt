@@ -1,7 +1,7 @@
 //! The greatest rate that a joint's window allows.
 ghost use Rattle.std.specs.Prelude.{◌≡◌, ◌+◌, ◌*◌, ◌^◌, ◌≤◌, ◌<◌, min, reverse, length};
 ghost use Rattle.ngc_fixed_length.specs.Limits.{MILLION};
-ghost use Rattle.ngc_machine.specs.Machine.{file_of};
+ghost use Rattle.ngc_machine_files.specs.Machine.{file_of};
 ghost use Rattle.ngc_planner.specs.Headings.{IsHeading};
 ghost use Rattle.ngc_planner.specs.Window.{line_steps, is_line, is_still, passing_heading};
 ghost use Rattle.ngc_planner.specs.Window.{steps_of, goes_straight, passed_on, window};
@@ -11,7 +11,7 @@ use crate::displacement::Displacement;
 use crate::headings::end_heading;
 use ngc_commands::{Action, Command, Way};
 use ngc_fixed_length::root_floor;
-use ngc_machine::Machine;
+use ngc_machine_files::Machine;
 use std::alloc::Allocator;
 
 /// Returns whether a rate may change its heading by `difference` millionths over `way` path steps.

@@ -10,13 +10,13 @@ use Rattle.ngc_frames.specs.declared.frame.Frame.{Frame}
 use Rattle.ngc_frames.specs.declared.in_force.FrameInForce.{FrameInForce}
 use Rattle.ngc_line_reader.specs.Grammar.{Reading}
 use Rattle.ngc_line_reader.specs.ProgramText.{AreReadings}
-use Rattle.ngc_machine.specs.declared.tools.Tool.{Tool}
+use Rattle.ngc_machine_files.specs.declared.tools.Tool.{Tool}
 use Rattle.ngc_commands.specs.declared.command.Command.{Command}
 use Rattle.ngc_certificate.specs.Uncleared.{AreUncleared}
 use Rattle.ngc_certificate_text.specs.declared.piece.Setting.{Setting}
 use Rattle.ngc_certificate_text.specs.declared.piece.Setting.TheVariants.{Off, On}
 use Rattle.ngc_line_reader.specs.Program.{Line}
-use Rattle.ngc_machine.specs.Machine.{MachineFile}
+use Rattle.ngc_machine_files.specs.Machine.{MachineFile}
 use Rattle.ngc_certificate_text.specs.Certificate.{CertificateData}
 use Rattle.ngc_checker.specs.Accepted.{AcceptedData, commands_at}
 use Rattle.ngc_checker.specs.Held.{accepted_of}

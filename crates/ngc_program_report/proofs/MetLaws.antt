@@ -6,7 +6,7 @@ use Rattle.ngc_fixed_length.specs.Grid.{grid}
 use Rattle.ngc_fixed_length.specs.declared.points.StepPos.{StepPos}
 use Rattle.ngc_commands.specs.declared.command.Command.{Command}
 use Rattle.ngc_certificate.specs.PieceFault.{place_fault, ◌or◌}
-use Rattle.ngc_machine.specs.Machine.{MachineFile}
+use Rattle.ngc_machine_files.specs.Machine.{MachineFile}
 use Rattle.ngc_commands.specs.Reached.{after_all, at_start}
 use Rattle.ngc_program_report.specs.Met.{met_at, met_first}
 use Rattle.ngc_commands.specs.declared.reached.Reached.{Reached}

@@ -1,7 +1,7 @@
 -- What it says of the settings that no certificate is made because of a command.
 use Rattle.std.proofs.Common.{◌≡◌, ℕ, List, [], Option, Some, None, Result, Ok, Err, Bool, true, false, refl, subst, sym, ◌∙◌}
 use Rattle.std.specs.Prelude.{is_some}
-use Rattle.ngc_machine.specs.Machine.{MachineFile}
+use Rattle.ngc_machine_files.specs.Machine.{MachineFile}
 use Rattle.ngc_commands.specs.declared.command.Command.{Command}
 use Rattle.ngc_certificate_text.specs.Certificate.{CertificateData, Entry}
 use Rattle.ngc_certificate_text.specs.declared.piece.Setting.TheVariants.{Off, On}

@@ -14,8 +14,8 @@ use Rattle.ngc_frames.specs.Changes.{frame_changes, start_frame}
 use Rattle.ngc_frames.specs.InForce.{frame_in_force}
 use Rattle.ngc_frames.specs.declared.in_force.FrameInForce.{FrameInForce}
 use Rattle.ngc_fixed_length.specs.Grid.{grid}
-use Rattle.ngc_machine.specs.Machine.{MachineFile}
-use Rattle.ngc_machine.specs.MachineRanges.{IsMachine}
+use Rattle.ngc_machine_files.specs.Machine.{MachineFile}
+use Rattle.ngc_machine_files.specs.MachineRanges.{IsMachine}
 use Rattle.ngc_commands.specs.declared.command.Command.{Command}
 use Rattle.ngc_certificate_text.specs.declared.piece.Setting.{Setting}
 use Rattle.ngc_certificate_text.specs.declared.piece.Setting.TheVariants.{Off, On}

@@ -1,7 +1,7 @@
 -- Which fixture a command meets. Our own.
 use Rattle.std.specs.Prelude.{ℕ, List, [], ◌∷◌, take, drop, Option, Some, None}
 use Rattle.ngc_fixed_length.specs.Grid.{grid}
-use Rattle.ngc_machine.specs.Machine.{MachineFile}
+use Rattle.ngc_machine_files.specs.Machine.{MachineFile}
 use Rattle.ngc_commands.specs.Reached.{after_all, at_start}
 use Rattle.ngc_commands.specs.declared.reached.Reached.{Reached}
 use Rattle.ngc_commands.specs.declared.command.Action.{Action}

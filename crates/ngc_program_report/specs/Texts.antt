@@ -4,7 +4,7 @@ use Rattle.std.specs.Prelude.{None, is_some, option_map, Bool, true, false}
 use Rattle.std.specs.Prelude.{if◌then◌else◌}
 use Rattle.ngc_fixed_length.specs.Grid.{grid}
 use Rattle.ngc_line_reader.specs.Program.{Line}
-use Rattle.ngc_machine.specs.Machine.{MachineFile}
+use Rattle.ngc_machine_files.specs.Machine.{MachineFile}
 use Rattle.ngc_commands.specs.declared.command.Command.{Command}
 use Rattle.ngc_canonical.specs.Faults.{fault_number}
 use Rattle.ngc_canonical.specs.declared.fault.Fault.{Fault}
@@ -16,7 +16,7 @@ use Rattle.ngc_certificate_text.specs.declared.piece.Setting.TheVariants.{Off, O
 use Rattle.ngc_certificate_text.specs.Certificate.{CertificateData, Entry}
 use Rattle.ngc_certificate.specs.PieceFault.{place_fault}
 use Rattle.ngc_checker.specs.Accepted.{AcceptedData}
-use Rattle.ngc_behaviour.specs.Headline.{job_of}
+use Rattle.ngc_machine_model.specs.Headline.{job_of}
 use Rattle.ngc_run_log.specs.Parts.{IsTimedThrough}
 use Rattle.ngc_frames.specs.declared.in_force.FrameInForce.{FrameInForce}
 use Rattle.ngc_report.specs.Forms.{closing, opening, report_text}

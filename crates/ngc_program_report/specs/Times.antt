@@ -2,7 +2,7 @@
 use Rattle.std.specs.Prelude.{ℕ, ◌*◌, ◌/◌, ◌%◌, List, [], ◌∷◌, ◌++◌, drop, codes, decimal, Option}
 use Rattle.std.specs.Prelude.{None, Some, if◌then◌else◌}
 use Rattle.ngc_commands.specs.declared.command.Command.{Command}
-use Rattle.ngc_machine.specs.declared.tools.Tool.{Tool}
+use Rattle.ngc_machine_files.specs.declared.tools.Tool.{Tool}
 use Rattle.ngc_report.specs.Uses.{moves, tool_uses, use_of}
 use Rattle.ngc_report.specs.Words.{tool_text}
 use Rattle.ngc_report.specs.declared.form.Form.{Form}

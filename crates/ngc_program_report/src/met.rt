@@ -1,11 +1,11 @@
 //! Which fixture a command meets.
 ghost use Rattle.std.specs.Prelude.{◌≡◌};
-ghost use Rattle.ngc_machine.specs.Machine.{file_of};
+ghost use Rattle.ngc_machine_files.specs.Machine.{file_of};
 ghost use Rattle.ngc_program_report.specs.Met.{fixture_of, met_at, met_by, met_first};
 
 use ngc_certificate::{PieceFault, PieceRefusal, pieces_fault, place_fault, undivided};
 use ngc_commands::{Action, Command, Reached};
-use ngc_machine::Machine;
+use ngc_machine_files::Machine;
 use std::alloc::Allocator;
 
 // The fixture that a piece is refused for.

@@ -12,7 +12,7 @@ use crate::program_time::ProgramTime;
 use crate::report_time::{add_seconds, add_time};
 use crate::run_time::RunTime;
 use ngc_commands::Command;
-use ngc_machine::Tool;
+use ngc_machine_files::Tool;
 use ngc_report::{Form, ToolUse, ToolUses};
 use ngc_text::{Chunk, Sink, WriteFault};
 use std::alloc::Allocator;

@@ -1,5 +1,5 @@
 ghost use Rattle.std.specs.Prelude.{◌≡◌, ◌+◌, ◌≤◌, ◌^◌, ◌++◌, length};
-ghost use Rattle.ngc_machine.specs.Ranges.{IsRate};
+ghost use Rattle.ngc_machine_files.specs.Ranges.{IsRate};
 ghost use Rattle.ngc_text.specs.Collected.{CHUNK_SIZE, HasLineRoom};
 ghost use Rattle.ngc_pulses.specs.Dumping.{after_tick, closing_text, first_state, tick_text};
 ghost use Rattle.ngc_pulses.specs.Vcd.{header};

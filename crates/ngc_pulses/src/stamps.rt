@@ -1,6 +1,6 @@
 //! Changes of wires, each after its time.
 ghost use Rattle.std.specs.Prelude.{◌≡◌, ◌+◌, ◌≤◌, ◌^◌, ◌++◌, ◌∷◌, [], length, true, false};
-ghost use Rattle.ngc_machine.specs.Ranges.{IsRate};
+ghost use Rattle.ngc_machine_files.specs.Ranges.{IsRate};
 ghost use Rattle.ngc_text.specs.Collected.{CHUNK_SIZE};
 ghost use Rattle.ngc_pulses.specs.Dumping.{AddsChanges};
 ghost use Rattle.ngc_pulses.specs.Vcd.{levels, level, stamp, tick_changes, time_of, turn, turns};

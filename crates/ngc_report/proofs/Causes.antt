@@ -5,7 +5,7 @@ use Rattle.std.proofs.Math.Seq.{take-add}
 use Rattle.std.proofs.lemmas.List.Concat.{flat_map-cons}
 use Rattle.std.proofs.lemmas.List.Sums.{fold-append}
 use Rattle.ngc_text.specs.Collected.{WritesFront}
-use Rattle.ngc_machine.specs.Machine.{MachineFile}
+use Rattle.ngc_machine_files.specs.Machine.{MachineFile}
 use Rattle.ngc_commands.specs.Movement.{actions_of}
 use Rattle.ngc_commands.specs.declared.command.Command.{Command}
 use Rattle.ngc_report.specs.Forms.{report_text}

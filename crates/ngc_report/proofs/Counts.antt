@@ -4,7 +4,7 @@ use Rattle.std.specs.Prelude.{fold}
 use Rattle.std.proofs.lemmas.List.{drop_more}
 use Rattle.std.proofs.lemmas.List.Sums.{fold-append}
 use Rattle.ngc_commands.specs.declared.command.Command.{Command}
-use Rattle.ngc_machine.specs.Machine.{MachineFile}
+use Rattle.ngc_machine_files.specs.Machine.{MachineFile}
 use Rattle.ngc_report.specs.ToolStates.{next}
 use Rattle.ngc_report.specs.Warnings.{line_of, lines_of, warning, last_of, counted}
 use Rattle.ngc_report.specs.declared.tool_state.ToolState.{ToolState}

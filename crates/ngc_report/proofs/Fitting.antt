@@ -15,9 +15,9 @@ use Rattle.ngc_fixed_length.specs.Rounding.{nearest, nearest_size}
 use Rattle.ngc_fixed_length.specs.declared.points.GridBox.{GridBox}
 use Rattle.ngc_fixed_length.specs.declared.points.Point3.{Point3}
 use Rattle.ngc_fixed_length.specs.declared.points.StepPos.{StepPos}
-use Rattle.ngc_machine.specs.Machine.{MachineFile}
-use Rattle.ngc_machine.specs.MachineRanges.{IsMachine}
-use Rattle.ngc_machine.specs.Ranges.{IsAtMost}
+use Rattle.ngc_machine_files.specs.Machine.{MachineFile}
+use Rattle.ngc_machine_files.specs.MachineRanges.{IsMachine}
+use Rattle.ngc_machine_files.specs.Ranges.{IsAtMost}
 use Rattle.ngc_collision.specs.Body.{is_in_travel, is_below, nanometres_of}
 use Rattle.ngc_certificate_text.specs.Certificate.{Entry}
 use Rattle.ngc_certificate_text.specs.declared.piece.Piece.{Piece}

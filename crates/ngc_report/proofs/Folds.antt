@@ -4,7 +4,7 @@ use Rattle.std.specs.Prelude.{fold, map}
 use Rattle.std.proofs.lemmas.List.{drop_more, at_drop_all}
 use Rattle.std.proofs.lemmas.List.Concat.{flat_map-cons}
 use Rattle.std.proofs.lemmas.List.Sums.{fold-append}
-use Rattle.ngc_machine.specs.declared.machine.Fixture.{Fixture}
+use Rattle.ngc_machine_files.specs.declared.machine.Fixture.{Fixture}
 use Rattle.ngc_collision.specs.Body.{Solid}
 use Rattle.ngc_report.specs.Gaps.{gap}
 use Rattle.ngc_report.specs.Nearing.{nearer, distances}

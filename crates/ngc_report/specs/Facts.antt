@@ -4,7 +4,7 @@ use Rattle.std.specs.Prelude.{ℕ, ℤ, List, [], ◌++◌, codes, decimal, Opti
 use Rattle.std.specs.Prelude.{◌==◌, flat_map, if◌then◌else◌}
 use Rattle.std.specs.Fmt.{signed_decimal}
 use Rattle.ngc_fixed_length.specs.declared.points.Point3.{Point3}
-use Rattle.ngc_machine.specs.declared.tools.Tool.{Tool}
+use Rattle.ngc_machine_files.specs.declared.tools.Tool.{Tool}
 use Rattle.ngc_collision.specs.Inside.{place_of}
 use Rattle.ngc_report.specs.Quotes.{escaped}
 use Rattle.ngc_report.specs.Words.{axis_text, concern_text}

@@ -1,7 +1,7 @@
 -- How far the body of a tool stays away from fixtures. Our own.
 use Rattle.std.specs.Prelude.{ℤ, pos, ◌-ℤ◌, int_le, ◌≡◌}
 use Rattle.std.specs.Int.{int_max}
-use Rattle.ngc_machine.specs.declared.machine.Fixture.{Fixture}
+use Rattle.ngc_machine_files.specs.declared.machine.Fixture.{Fixture}
 use Rattle.ngc_collision.specs.Body.{Solid, are_apart}
 
 -- how far one lies beyond the other along an axis; below 0 where they overlap there

@@ -1,7 +1,7 @@
 -- What is left between a box of grid points and the travel limits. Our own.
 use Rattle.std.specs.Prelude.{ℤ, pos, ◌-ℤ◌, ◌*ℤ◌, int_le, Bool, ◌&&◌, ◌≡◌}
 use Rattle.ngc_fixed_length.specs.declared.points.GridBox.{GridBox}
-use Rattle.ngc_machine.specs.Machine.{MachineFile}
+use Rattle.ngc_machine_files.specs.Machine.{MachineFile}
 use Rattle.ngc_collision.specs.Body.{is_in_travel}
 use Rattle.ngc_report.specs.declared.travel.AxisRoom.{AxisRoom}
 use Rattle.ngc_report.specs.declared.travel.Room.{Room}

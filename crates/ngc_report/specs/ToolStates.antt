@@ -2,7 +2,7 @@
 use Rattle.std.specs.Prelude.{nat_lt, ℤ, List, [], ◌∷◌, Option, Some, None, Bool, true, false}
 use Rattle.std.specs.Prelude.{if◌then◌else◌}
 use Rattle.ngc_fixed_length.specs.declared.points.GridBox.{GridBox}
-use Rattle.ngc_machine.specs.Machine.{MachineFile}
+use Rattle.ngc_machine_files.specs.Machine.{MachineFile}
 use Rattle.ngc_commands.specs.declared.command.Action.{Action}
 use Rattle.ngc_commands.specs.declared.command.Action.TheVariants.{Move, Mount, Spindle}
 use Rattle.ngc_commands.specs.declared.command.Command.{Command}

@@ -1,7 +1,7 @@
 -- The uses of tools in a program. Our own.
 use Rattle.std.specs.Prelude.{ℕ, nat_lt, List, [], ◌∷◌, ◌++◌, count_by, sum_by, take_while, Option}
 use Rattle.std.specs.Prelude.{Some, None, Bool, true, false, not, ◌||◌, if◌then◌else◌}
-use Rattle.ngc_machine.specs.declared.tools.Tool.{Tool}
+use Rattle.ngc_machine_files.specs.declared.tools.Tool.{Tool}
 use Rattle.ngc_commands.specs.declared.command.Action.{Action}
 use Rattle.ngc_commands.specs.declared.command.Action.TheVariants.{Move, Mount, Dwell, Stop}
 use Rattle.ngc_commands.specs.declared.command.Action.TheVariants.{OptionalStop}

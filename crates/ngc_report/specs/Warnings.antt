@@ -13,8 +13,8 @@ use Rattle.ngc_fixed_length.specs.declared.points.StepPos.{StepPos}
 use Rattle.ngc_arc_geometry.specs.Radii.{inner_radius}
 use Rattle.ngc_arc_geometry.specs.Sector.{extremes, is_full}
 use Rattle.ngc_arc_geometry.specs.Shape.{ArcShape, start_of, end_of}
-use Rattle.ngc_machine.specs.Machine.{MachineFile}
-use Rattle.ngc_machine.specs.declared.tools.Tool.{Tool}
+use Rattle.ngc_machine_files.specs.Machine.{MachineFile}
+use Rattle.ngc_machine_files.specs.declared.tools.Tool.{Tool}
 use Rattle.ngc_commands.specs.declared.command.Action.{Action}
 use Rattle.ngc_commands.specs.declared.command.Action.TheVariants.{Move}
 use Rattle.ngc_commands.specs.declared.command.Command.{Command}

@@ -3,7 +3,7 @@ use Rattle.std.specs.Prelude.{ℕ, ℤ, pos, negsuc, unsigned_abs, List, [], ◌
 use Rattle.std.specs.Prelude.{Option, Some, None, length, ◌==◌, if◌then◌else◌}
 use Rattle.ngc_fixed_length.specs.declared.points.Point3.{Point3}
 use Rattle.ngc_text.specs.Millimetres.{size_text, mm_text}
-use Rattle.ngc_machine.specs.declared.tools.Tool.{Tool}
+use Rattle.ngc_machine_files.specs.declared.tools.Tool.{Tool}
 use Rattle.ngc_collision.specs.Inside.{place_of}
 use Rattle.ngc_report.specs.declared.line.Along.{Along}
 use Rattle.ngc_report.specs.declared.line.Line.{Line}

@@ -3,7 +3,7 @@ ghost use Rattle.std.specs.Prelude.{◌≡◌, ◌∷◌, ◌+ℤ◌, ◌-ℤ◌
 ghost use Rattle.std.specs.Int.{int_min, int_max};
 ghost use Rattle.ngc_commands.specs.Movement.{ways_of};
 ghost use Rattle.ngc_fixed_length.specs.Length.{IsStep};
-ghost use Rattle.ngc_machine.specs.Machine.{file_of};
+ghost use Rattle.ngc_machine_files.specs.Machine.{file_of};
 ghost use Rattle.ngc_fixed_length.specs.Boxes.{common_box, lesser_corner, greater_corner};
 ghost use Rattle.ngc_report.specs.Extents.{joint_box, reach, extent, extent_in_travel, fit_extent};
 ghost use Rattle.ngc_report.specs.Extents.{next_corner, previous_corner, shrunk, cut_reach};
@@ -14,7 +14,7 @@ use ngc_arc_geometry::{Arc, GridArc};
 use ngc_certificate_text::{Motions, Piece};
 use ngc_commands::{Action, Command, Way};
 use ngc_fixed_length::{GridBox, Nm, StepPos};
-use ngc_machine::Machine;
+use ngc_machine_files::Machine;
 use std::alloc::Allocator;
 
 pub(crate) fn joint_box(one: &GridBox, other: &GridBox) -> GridBox

@@ -19,7 +19,7 @@ use crate::uses::ToolUse;
 use crate::warnings::Warning;
 use crate::words::{add_count, axis_name, concern_words};
 use ngc_collision::Place;
-use ngc_machine::{Name, Tool};
+use ngc_machine_files::{Name, Tool};
 use ngc_text::Chunk;
 
 /// Adds a name beside a number, where there is one.

@@ -5,7 +5,7 @@ ghost use Rattle.ngc_collision.specs.Inside.{solid_of};
 ghost use Rattle.ngc_report.specs.Gaps.{axis_gap, gap};
 
 use ngc_collision::{Place, Solid};
-use ngc_machine::Fixture;
+use ngc_machine_files::Fixture;
 
 fn greater(a: i128, b: i128) -> i128
     requires left { unsigned_abs a < 2 ^ 70 }

@@ -4,7 +4,7 @@ use crate::scene::{Obstacle, Scene};
 use crate::travel::AxisRoom;
 use crate::uses::ToolUse;
 use crate::warnings::Warning;
-use ngc_machine::Name;
+use ngc_machine_files::Name;
 
 /// How far a program goes along an axis, in nanometres, and what is left there.
 #[derive(Clone, Copy)]

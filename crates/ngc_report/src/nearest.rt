@@ -2,7 +2,7 @@
 ghost use Rattle.std.specs.Prelude.{◌≡◌, ◌<◌, ◌≤◌, ◌^◌, unsigned_abs, length, fold, flat_map, take};
 ghost use Rattle.std.specs.Prelude.{drop};
 ghost use Rattle.ngc_collision.specs.Inside.{solid_of};
-ghost use Rattle.ngc_machine.specs.Machine.{file_of};
+ghost use Rattle.ngc_machine_files.specs.Machine.{file_of};
 ghost use Rattle.ngc_report.specs.Nearing.{is_nearer, nearer, distances, around, over_pieces};
 ghost use Rattle.ngc_report.specs.Nearing.{fixture_name, nearest_name};
 
@@ -10,7 +10,7 @@ use crate::gaps::gap;
 use ngc_certificate_text::{Motions, Piece};
 use ngc_collision::Solid;
 use ngc_fixed_length::GridBox;
-use ngc_machine::{Machine, Name, Tool};
+use ngc_machine_files::{Machine, Name, Tool};
 use std::alloc::Allocator;
 
 /// The fixture that is nearest, by its number from 0, and its distance in nanometres. It is below

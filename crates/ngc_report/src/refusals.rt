@@ -3,7 +3,7 @@ ghost use Rattle.std.specs.Prelude.{◌≡◌, ◌≤◌, ◌++◌, length, take
 ghost use Rattle.std.specs.Io.KnownBytes.{Appends};
 ghost use Rattle.ngc_text.specs.Failures.{CountsFailure};
 ghost use Rattle.ngc_text.specs.Written.{AppendsBeginning};
-ghost use Rattle.ngc_machine.specs.Machine.{file_of};
+ghost use Rattle.ngc_machine_files.specs.Machine.{file_of};
 ghost use Rattle.ngc_report.specs.Forms.{report_text};
 ghost use Rattle.ngc_report.specs.Reports.{Tells, all_lines, causes_lines, start_lines_if};
 ghost use Rattle.ngc_report.specs.Reports.{verdict_line, told_extent};
@@ -16,7 +16,7 @@ use crate::report::{alongs, fit_line, tell_all, tell_scene, tell_start};
 use crate::scene::{Scene, scene_of, standing};
 use ngc_commands::{Command, Reached};
 use ngc_fixed_length::GridBox;
-use ngc_machine::Machine;
+use ngc_machine_files::Machine;
 use ngc_text::{Chunk, Sink, WriteFault};
 use std::alloc::Allocator;
 

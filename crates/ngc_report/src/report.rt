@@ -5,7 +5,7 @@ ghost use Rattle.ngc_text.specs.Failures.{CountsFailure};
 ghost use Rattle.ngc_fixed_length.specs.Length.{IsStep};
 ghost use Rattle.ngc_text.specs.Written.{AppendsBeginning};
 ghost use Rattle.ngc_certificate_text.specs.Collects.{Collects};
-ghost use Rattle.ngc_machine.specs.Machine.{file_of};
+ghost use Rattle.ngc_machine_files.specs.Machine.{file_of};
 ghost use Rattle.ngc_text.specs.Collected.{HasLineRoom};
 ghost use Rattle.ngc_report.specs.Reports.{Tells, motions_in, along, alongs, use_lines, fit_lines};
 ghost use Rattle.ngc_report.specs.Reports.{start_lines, scene_lines, cause_lines, refusal_lines};
@@ -27,7 +27,7 @@ use crate::words::add_line;
 use ngc_certificate_text::Motions;
 use ngc_commands::Command;
 use ngc_fixed_length::{GridBox, Nm, nanometres_at};
-use ngc_machine::Machine;
+use ngc_machine_files::Machine;
 use ngc_text::{Chunk, Sink, WriteFault};
 use std::alloc::Allocator;
 

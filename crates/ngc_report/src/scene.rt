@@ -1,7 +1,7 @@
 //! What is in the way of a command.
 ghost use Rattle.std.specs.Prelude.{◌≡◌, ◌≤◌, unsigned_abs};
 ghost use Rattle.ngc_commands.specs.Movement.{start_of};
-ghost use Rattle.ngc_machine.specs.Machine.{file_of};
+ghost use Rattle.ngc_machine_files.specs.Machine.{file_of};
 ghost use Rattle.ngc_fixed_length.specs.Length.{IsStep};
 ghost use Rattle.ngc_report.specs.Scenes.{standing, start_scene, still, moving};
 ghost use Rattle.ngc_report.specs.Scenes.{lying, reached_at};
@@ -14,7 +14,7 @@ use crate::travel::Room;
 use ngc_collision::{Place, first_met};
 use ngc_commands::{Action, Command, Motion, Reached, Way};
 use ngc_fixed_length::{GridBox, Nm, Point3, StepPos, nanometres_at};
-use ngc_machine::{Fixture, Machine, Tool};
+use ngc_machine_files::{Fixture, Machine, Tool};
 use std::alloc::Allocator;
 
 /// What a command that may be refused does: a motion, a change of the tool, or none, which is the

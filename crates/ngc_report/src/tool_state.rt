@@ -1,7 +1,7 @@
 //! What the commands before one leave, as far as a warning needs it.
 ghost use Rattle.std.specs.Prelude.{◌≡◌, None};
 ghost use Rattle.ngc_fixed_length.specs.Length.{IsStep};
-ghost use Rattle.ngc_machine.specs.Machine.{file_of};
+ghost use Rattle.ngc_machine_files.specs.Machine.{file_of};
 ghost use Rattle.ngc_report.specs.ToolStates.{turns, is_turning_after, beginning, next};
 ghost use Rattle.ngc_report.specs.ToolStates.{no_entry, entered, entry_after, with_box, with_way};
 ghost use Rattle.ngc_report.specs.ToolStates.{with_feed, area, area_for};
@@ -10,7 +10,7 @@ use crate::bounds::{joint_box, reach};
 use crate::warnings::Concern;
 use ngc_commands::{Action, Command, Pace, Reached, SpindleState, Way};
 use ngc_fixed_length::{GridBox, Nm};
-use ngc_machine::Machine;
+use ngc_machine_files::Machine;
 use std::alloc::Allocator;
 
 /// Where the last series of feeds began.

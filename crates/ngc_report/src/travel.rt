@@ -2,12 +2,12 @@
 ghost use Rattle.std.specs.Prelude.{◌≡◌, ◌≤◌, ◌-ℤ◌, ◌*ℤ◌, unsigned_abs};
 ghost use Rattle.ngc_fixed_length.specs.Boxes.{grid_above, grid_below};
 ghost use Rattle.ngc_fixed_length.specs.Length.{IsStep};
-ghost use Rattle.ngc_machine.specs.Machine.{file_of};
+ghost use Rattle.ngc_machine_files.specs.Machine.{file_of};
 ghost use Rattle.ngc_report.specs.Extents.{travel_box};
 ghost use Rattle.ngc_report.specs.Rooms.{axis_room};
 
 use ngc_fixed_length::{GridBox, Nm, StepPos, nanometres_at};
-use ngc_machine::Machine;
+use ngc_machine_files::Machine;
 use std::alloc::Allocator;
 
 /// What is left between a box and the travel limits along an axis, in nanometres. Where the box

@@ -6,7 +6,7 @@ ghost use Rattle.ngc_report.specs.Uses.{uses_left};
 
 use crate::ways::length_of;
 use ngc_commands::{Action, Command, Motion, Pace, Way};
-use ngc_machine::Tool;
+use ngc_machine_files::Tool;
 
 /// The use of a tool: from the command that mounts it to the next change, or to the end. Its
 /// motions are traverses, feeds along lines, and arcs.

@@ -5,7 +5,7 @@ ghost use Rattle.std.specs.List.{list_any};
 ghost use Rattle.std.specs.Ordering.{int_eq};
 ghost use Rattle.ngc_collision.specs.Inside.{solid_of};
 ghost use Rattle.ngc_fixed_length.specs.Length.{IsStep};
-ghost use Rattle.ngc_machine.specs.Machine.{file_of};
+ghost use Rattle.ngc_machine_files.specs.Machine.{file_of};
 ghost use Rattle.ngc_report.specs.Warnings.{leaves, is_unarmed, step_speed, greatest_speed};
 ghost use Rattle.ngc_report.specs.Warnings.{rate_on_axis, greatest_rate};
 ghost use Rattle.ngc_report.specs.Warnings.{is_idle, square_apart, ends_meet, is_nearly_full};
@@ -22,7 +22,7 @@ use ngc_arc_geometry::Arc;
 use ngc_collision::Solid;
 use ngc_commands::{Action, Command, Feed, Motion, Pace, Way};
 use ngc_fixed_length::{GridBox, Nm, Point2, Point3, StepPos};
-use ngc_machine::{Machine, Tool};
+use ngc_machine_files::{Machine, Tool};
 use std::alloc::Allocator;
 
 /// What a warning is about.

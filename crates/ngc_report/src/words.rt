@@ -16,7 +16,7 @@ use crate::scene::{Met, Obstacle, Scene};
 use crate::uses::ToolUse;
 use crate::warnings::{Concern, Warning};
 use ngc_collision::Place;
-use ngc_machine::{Name, Tool};
+use ngc_machine_files::{Name, Tool};
 use ngc_text::Chunk;
 
 /// Adds a count, of 20 digits at most.

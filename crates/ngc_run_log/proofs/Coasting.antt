@@ -8,12 +8,12 @@ use Rattle.ngc_fixed_length.specs.LinePath.{point}
 use Rattle.ngc_events.specs.declared.event.Event.TheVariants.{Tick}
 use Rattle.ngc_events.specs.declared.reply.Ending.{Ending}
 use Rattle.ngc_events.specs.declared.reply.Reply.TheVariants.{Ticked}
-use Rattle.ngc_behaviour.proofs.Cases.{match_with}
-use Rattle.ngc_behaviour.specs.Progress.{KeepGoing}
-use Rattle.ngc_behaviour.specs.Run.{Run}
-use Rattle.ngc_behaviour.specs.State.{Job, Queued, State, path_steps, millionths}
-use Rattle.ngc_behaviour.specs.Step.{TickBy, HeadTick, Travels, Rests, Serves, Dwells, Finishes, ticks_of, without_head, pulse, ending, place_after}
-use Rattle.ngc_behaviour.specs.Stretch.{last_state, Stretch}
+use Rattle.ngc_machine_model.proofs.Cases.{match_with}
+use Rattle.ngc_machine_model.specs.Progress.{KeepGoing}
+use Rattle.ngc_machine_model.specs.Run.{Run}
+use Rattle.ngc_machine_model.specs.State.{Job, Queued, State, path_steps, millionths}
+use Rattle.ngc_machine_model.specs.Step.{TickBy, HeadTick, Travels, Rests, Serves, Dwells, Finishes, ticks_of, without_head, pulse, ending, place_after}
+use Rattle.ngc_machine_model.specs.Stretch.{last_state, Stretch}
 use Rattle.ngc_controller.specs.Controller.{ControllerData}
 use Rattle.ngc_controller.specs.Fields.{DWELL_LIMIT}
 use Rattle.ngc_run_log.specs.declared.recorder.Recorder.{Recorder}

@@ -8,20 +8,20 @@ use Rattle.ngc_text.proofs.Appended.{appends_both, begins_after}
 use Rattle.ngc_events.specs.declared.event.Event.{Event}
 use Rattle.ngc_events.specs.declared.event.EventLine.{EventLine}
 use Rattle.ngc_checker.specs.Accepted.{AcceptedData, IsAccepted, commands_at}
-use Rattle.ngc_behaviour.specs.Headline.{job_of, RunsSafely, RunsInTime}
-use Rattle.ngc_behaviour.specs.State.{Job, State, opening}
-use Rattle.ngc_behaviour.specs.Step.{Outcome}
-use Rattle.ngc_behaviour.specs.Run.{Run, events_of, positions}
-use Rattle.ngc_behaviour.specs.Progress.{KeepGoing}
-use Rattle.ngc_behaviour.proofs.Headline.{accepted_runs_safely}
-use Rattle.ngc_behaviour.proofs.EndsInTime.{machines_run_in_time}
+use Rattle.ngc_machine_model.specs.Headline.{job_of, RunsSafely, RunsInTime}
+use Rattle.ngc_machine_model.specs.State.{Job, State, opening}
+use Rattle.ngc_machine_model.specs.Step.{Outcome}
+use Rattle.ngc_machine_model.specs.Run.{Run, events_of, positions}
+use Rattle.ngc_machine_model.specs.Progress.{KeepGoing}
+use Rattle.ngc_machine_model.proofs.Headline.{accepted_runs_safely}
+use Rattle.ngc_machine_model.proofs.EndsInTime.{machines_run_in_time}
 use Rattle.ngc_run_log.specs.declared.report.Report.{Report}
 use Rattle.ngc_run_log.specs.declared.recorder.Recorder.{Recorder}
 use Rattle.ngc_run_log.specs.declared.trace.Trace.{Trace}
 use Rattle.ngc_run_log.specs.Tracing.{opening_text, trace_text, trace_after, ticks_of, last_text, whole_text}
 use Rattle.ngc_run_log.specs.Forms.{IsTracedRun, IsUntracedRun}
 use Rattle.ngc_run_log.specs.Runs.{last_position, IsRun, Reports}
-use Rattle.ngc_behaviour.specs.Stretch.{Stretch}
+use Rattle.ngc_machine_model.specs.Stretch.{Stretch}
 use Rattle.ngc_run_log.specs.Recording.{Counts, HasFew, Records, IsRecorded, IsCutShort}
 
 -- nothing was given yet: the machine stands in this state, and the recorder is new

@@ -13,11 +13,11 @@ use Rattle.ngc_events.specs.declared.event_fault.EventFault.TheVariants.{AllLoad
 use Rattle.ngc_events.specs.declared.reply.Reply.{Reply}
 use Rattle.ngc_events.specs.declared.reply.Reply.TheVariants.{Loaded}
 use Rattle.ngc_fixed_length.specs.declared.points.StepPos.{StepPos}
-use Rattle.ngc_behaviour.specs.State.{Job, State, command_at, loaded}
-use Rattle.ngc_behaviour.specs.Step.{LoadCommand, MayTake, Outcome, Step}
-use Rattle.ngc_behaviour.specs.Run.{Run}
-use Rattle.ngc_behaviour.specs.Progress.{GoesOn, is_tick}
-use Rattle.ngc_behaviour.specs.Stretch.{last_state, Stretch}
+use Rattle.ngc_machine_model.specs.State.{Job, State, command_at, loaded}
+use Rattle.ngc_machine_model.specs.Step.{LoadCommand, MayTake, Outcome, Step}
+use Rattle.ngc_machine_model.specs.Run.{Run}
+use Rattle.ngc_machine_model.specs.Progress.{GoesOn, is_tick}
+use Rattle.ngc_machine_model.specs.Stretch.{last_state, Stretch}
 use Rattle.ngc_run_log.specs.declared.recorder.Recorder.{Recorder}
 use Rattle.ngc_run_log.specs.Feeding.{AreBegun, AreGiven, IsFed, IsFedShort, IsLoaded, loads_first}
 use Rattle.ngc_run_log.specs.Policy.{can_load}

@@ -10,16 +10,16 @@ use Rattle.ngc_fixed_length.specs.declared.points.StepPos.{StepPos}
 use Rattle.ngc_text.proofs.Appended.{appends_both, begins_after}
 use Rattle.ngc_events.specs.declared.event.Event.{Event}
 use Rattle.ngc_events.specs.declared.reply.Reply.TheVariants.{Loaded, Ticked, Held, Resumed, Overridden, Switched, Started}
-use Rattle.ngc_behaviour.specs.State.{Job, State}
-use Rattle.ngc_behaviour.specs.Step.{Outcome, Step}
-use Rattle.ngc_behaviour.specs.Run.{Run, positions, position_in}
-use Rattle.ngc_behaviour.specs.Progress.{KeepGoing, GoesOn, is_tick}
+use Rattle.ngc_machine_model.specs.State.{Job, State}
+use Rattle.ngc_machine_model.specs.Step.{Outcome, Step}
+use Rattle.ngc_machine_model.specs.Run.{Run, positions, position_in}
+use Rattle.ngc_machine_model.specs.Progress.{KeepGoing, GoesOn, is_tick}
 use Rattle.ngc_run_log.specs.declared.report.Report.{Report}
 use Rattle.ngc_run_log.specs.declared.recorder.Recorder.{Recorder}
 use Rattle.ngc_run_log.specs.Tracing.{trace_text, trace_after, ticks_of}
 use Rattle.ngc_run_log.specs.Runs.{is_refusal, last_position}
 use Rattle.ngc_run_log.specs.declared.trace.Trace.{Trace}
-use Rattle.ngc_behaviour.specs.Stretch.{last_state, Stretch}
+use Rattle.ngc_machine_model.specs.Stretch.{last_state, Stretch}
 use Rattle.ngc_run_log.specs.Recording.{Counts, HasFew, Collects, Records, IsRecorded, IsCutShort}
 use Rattle.ngc_run_log.proofs.Traces.{trace_text-append, trace_after-append, trace_text-none, trace_after-none, few_ticks}
 

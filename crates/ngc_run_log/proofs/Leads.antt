@@ -5,7 +5,7 @@ use Rattle.std.specs.Prelude.{MatchBool, nat_lt, nat_le, if◌then◌else◌}
 use Rattle.std.proofs.lemmas.Bool.{ltb-true, ltb-false}
 use Rattle.ngc_fixed_length.specs.declared.points.StepPos.{StepPos}
 use Rattle.ngc_fixed_length.specs.LinePath.{point}
-use Rattle.ngc_machine.specs.MachineRanges.{IsMachine}
+use Rattle.ngc_machine_files.specs.MachineRanges.{IsMachine}
 use Rattle.ngc_commands.specs.declared.command.Action.{Action}
 use Rattle.ngc_commands.specs.declared.command.Command.{Command}
 use Rattle.ngc_commands.specs.Movement.{actions_of, ways_of, AreJoined}
@@ -14,17 +14,17 @@ use Rattle.ngc_events.specs.declared.event.Event.{Event}
 use Rattle.ngc_events.specs.declared.event.Event.TheVariants.{Load, Tick, Hold, Resume, Override, StopSwitch, Start}
 use Rattle.ngc_events.specs.declared.reply.Ending.{Ending}
 use Rattle.ngc_events.specs.declared.reply.Reply.TheVariants.{Ticked}
-use Rattle.ngc_behaviour.specs.State.{Job, Queued, State, opening, loaded, command_at, path_steps, millionths, place_before}
-use Rattle.ngc_behaviour.specs.Step.{Outcome, Step, LoadCommand, Rests, Serves, Dwells, Finishes, Travels, HeadTick, TickBy, without_head}
-use Rattle.ngc_behaviour.specs.Step.{place_after, pulse, ends_at, ending, ticks_of}
-use Rattle.ngc_behaviour.specs.Run.{Run, step_to, pulses}
-use Rattle.ngc_behaviour.specs.Safety.{start_of_job}
-use Rattle.ngc_behaviour.specs.Progress.{is_tick}
-use Rattle.ngc_behaviour.proofs.Cases.{match_with}
-use Rattle.ngc_behaviour.proofs.SafeRun.{RingFits}
-use Rattle.ngc_behaviour.proofs.RatesOfRun.{Fits, after_stays, event_keeps}
-use Rattle.ngc_behaviour.proofs.Travel.{moved}
-use Rattle.ngc_behaviour.proofs.PulseRules.{IsOnHead, WalksIn, head_path, tick_both, waits, rate_bounds, opening_walks}
+use Rattle.ngc_machine_model.specs.State.{Job, Queued, State, opening, loaded, command_at, path_steps, millionths, place_before}
+use Rattle.ngc_machine_model.specs.Step.{Outcome, Step, LoadCommand, Rests, Serves, Dwells, Finishes, Travels, HeadTick, TickBy, without_head}
+use Rattle.ngc_machine_model.specs.Step.{place_after, pulse, ends_at, ending, ticks_of}
+use Rattle.ngc_machine_model.specs.Run.{Run, step_to, pulses}
+use Rattle.ngc_machine_model.specs.Safety.{start_of_job}
+use Rattle.ngc_machine_model.specs.Progress.{is_tick}
+use Rattle.ngc_machine_model.proofs.Cases.{match_with}
+use Rattle.ngc_machine_model.proofs.SafeRun.{RingFits}
+use Rattle.ngc_machine_model.proofs.RatesOfRun.{Fits, after_stays, event_keeps}
+use Rattle.ngc_machine_model.proofs.Travel.{moved}
+use Rattle.ngc_machine_model.proofs.PulseRules.{IsOnHead, WalksIn, head_path, tick_both, waits, rate_bounds, opening_walks}
 use Rattle.ngc_pulses.specs.Dumping.{pulses_over}
 use Rattle.ngc_run_log.specs.Tracing.{tick_in, ticks_in}
 

@@ -10,16 +10,16 @@ use Rattle.ngc_fixed_length.specs.declared.points.StepPos.{StepPos}
 use Rattle.ngc_checker.specs.Accepted.{AcceptedData, IsAccepted, commands_at}
 use Rattle.ngc_commands.specs.Movement.{actions_of, ways_of, AreJoined}
 use Rattle.ngc_commands.specs.declared.command.Command.{Command}
-use Rattle.ngc_machine.specs.MachineRanges.{IsMachine}
+use Rattle.ngc_machine_files.specs.MachineRanges.{IsMachine}
 use Rattle.ngc_events.specs.Arriving.{Arriving, Begins, HaveArrived}
 use Rattle.ngc_events.specs.declared.event.Event.{Event}
 use Rattle.ngc_events.specs.declared.event.EventLine.{EventLine}
-use Rattle.ngc_behaviour.specs.Headline.{job_of, RunsInTime, RunsSafely}
-use Rattle.ngc_behaviour.specs.State.{Job, State, opening}
-use Rattle.ngc_behaviour.specs.Step.{Outcome}
-use Rattle.ngc_behaviour.specs.Run.{Run, events_of}
-use Rattle.ngc_behaviour.specs.Safety.{start_of_job}
-use Rattle.ngc_behaviour.specs.Stretch.{Stretch}
+use Rattle.ngc_machine_model.specs.Headline.{job_of, RunsInTime, RunsSafely}
+use Rattle.ngc_machine_model.specs.State.{Job, State, opening}
+use Rattle.ngc_machine_model.specs.Step.{Outcome}
+use Rattle.ngc_machine_model.specs.Run.{Run, events_of}
+use Rattle.ngc_machine_model.specs.Safety.{start_of_job}
+use Rattle.ngc_machine_model.specs.Stretch.{Stretch}
 use Rattle.ngc_pulses.specs.declared.samples.Switch.{Switch}
 use Rattle.ngc_pulses.specs.Sampling.{SampleState, SampleTick, after_samples, first_samples, rest_bytes, samples_text, settled}
 use Rattle.ngc_pulses.proofs.Sampled.{after_samples-append, after_settled, samples_text-append, whole_settled}

@@ -6,11 +6,11 @@ use Rattle.std.proofs.lemmas.List.{append_assoc, append-nil, length-drop, take_a
 use Rattle.ngc_commands.specs.declared.command.Command.{Command}
 use Rattle.ngc_commands.specs.Sequence.{HasEnd}
 use Rattle.ngc_events.specs.declared.event.Event.{Event}
-use Rattle.ngc_behaviour.specs.Headline.{RunsSafely, RunsInTime}
-use Rattle.ngc_behaviour.specs.Progress.{is_tick}
-use Rattle.ngc_behaviour.specs.State.{Job, State, command_at, loaded, opening}
-use Rattle.ngc_behaviour.specs.Step.{Outcome}
-use Rattle.ngc_behaviour.specs.Stretch.{Stretch}
+use Rattle.ngc_machine_model.specs.Headline.{RunsSafely, RunsInTime}
+use Rattle.ngc_machine_model.specs.Progress.{is_tick}
+use Rattle.ngc_machine_model.specs.State.{Job, State, command_at, loaded, opening}
+use Rattle.ngc_machine_model.specs.Step.{Outcome}
+use Rattle.ngc_machine_model.specs.Stretch.{Stretch}
 use Rattle.ngc_controller.specs.Controller.{ControllerData}
 use Rattle.ngc_run_log.specs.declared.recorder.Recorder.{Recorder}
 use Rattle.ngc_run_log.specs.declared.report.Report.{Report}

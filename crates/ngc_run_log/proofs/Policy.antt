@@ -4,10 +4,10 @@ use Rattle.std.specs.Prelude.{nat_lt, ◌&&◌, if◌then◌else◌}
 use Rattle.std.proofs.lemmas.Bool.{lt-ltb, le-ltb}
 use Rattle.ngc_events.specs.declared.event.Event.{Event}
 use Rattle.ngc_events.specs.declared.event.Event.TheVariants.{Load, Tick, Start}
-use Rattle.ngc_behaviour.specs.State.{Job, Queued, State, loaded}
-use Rattle.ngc_behaviour.specs.Step.{Outcome}
-use Rattle.ngc_behaviour.specs.Run.{Run}
-use Rattle.ngc_behaviour.specs.Stretch.{last_state}
+use Rattle.ngc_machine_model.specs.State.{Job, Queued, State, loaded}
+use Rattle.ngc_machine_model.specs.Step.{Outcome}
+use Rattle.ngc_machine_model.specs.Run.{Run}
+use Rattle.ngc_machine_model.specs.Stretch.{last_state}
 use Rattle.ngc_run_log.specs.Policy.{can_load, next_event, FollowPolicy}
 
 -- ---- the next event, by its three tests

@@ -7,7 +7,7 @@ use Rattle.std.proofs.lemmas.Bool.{ltb-true}
 use Rattle.std.proofs.lemmas.Bool.Decides.{nat_tests}
 use Rattle.ngc_fixed_length.specs.declared.points.StepPos.{StepPos}
 use Rattle.ngc_fixed_length.specs.LinePath.{point}
-use Rattle.ngc_machine.specs.MachineRanges.{IsMachine}
+use Rattle.ngc_machine_files.specs.MachineRanges.{IsMachine}
 use Rattle.ngc_commands.specs.declared.command.Action.{Action}
 use Rattle.ngc_commands.specs.declared.command.Action.TheVariants as actions
 use Rattle.ngc_fixed_length.specs.Limits.{MILLION}
@@ -18,12 +18,12 @@ use Rattle.ngc_events.specs.declared.event.Event.TheVariants.{Tick}
 use Rattle.ngc_events.specs.declared.reply.Ending.{Ending}
 use Rattle.ngc_events.specs.declared.reply.Ending.TheVariants.{Done, Stopped, End}
 use Rattle.ngc_events.specs.declared.reply.Reply.TheVariants.{Ticked}
-use Rattle.ngc_behaviour.specs.State.{Job, Queued, State, path_steps, millionths}
-use Rattle.ngc_behaviour.specs.Reach.{rest}
-use Rattle.ngc_behaviour.specs.Step.{Outcome, Step, MayTake, Rests, Finishes, Dwells, Serves, Travels, HeadTick, TickBy, without_head, after, ending, pulse}
-use Rattle.ngc_behaviour.specs.Step.{place_after, ticks_of}
-use Rattle.ngc_behaviour.specs.Progress.{IsFree, TravelsAtLeast, GoesOn}
-use Rattle.ngc_behaviour.proofs.Cases.{match_with}
+use Rattle.ngc_machine_model.specs.State.{Job, Queued, State, path_steps, millionths}
+use Rattle.ngc_machine_model.specs.Reach.{rest}
+use Rattle.ngc_machine_model.specs.Step.{Outcome, Step, MayTake, Rests, Finishes, Dwells, Serves, Travels, HeadTick, TickBy, without_head, after, ending, pulse}
+use Rattle.ngc_machine_model.specs.Step.{place_after, ticks_of}
+use Rattle.ngc_machine_model.specs.Progress.{IsFree, TravelsAtLeast, GoesOn}
+use Rattle.ngc_machine_model.proofs.Cases.{match_with}
 use Rattle.ngc_run_log.specs.Stretches.{IsUntouched, is_stop, LeavesBy, TellsBy}
 
 -- the head is done where a command ended

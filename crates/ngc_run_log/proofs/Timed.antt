@@ -3,7 +3,7 @@ use Rattle.std.proofs.Common.{◌≡◌, ◌∙◌, ◌+◌, ◌-◌, ◌^◌, �
 use Rattle.std.specs.Prelude.{min}
 use Rattle.std.proofs.lemmas.List.{append_assoc}
 use Rattle.ngc_events.specs.declared.reply.Reply.TheVariants.{Ticked}
-use Rattle.ngc_behaviour.specs.Step.{Outcome}
+use Rattle.ngc_machine_model.specs.Step.{Outcome}
 use Rattle.ngc_run_log.specs.Times.{MOST_TICKS, ticks_after, ticks_with, timed_log, timed_text}
 
 pub timed_log-append : (ticks : ℕ) (os ps : List Outcome) → timed_log ticks (os ++ ps) ≡ timed_log ticks os ++ timed_log (ticks_after ticks os) ps

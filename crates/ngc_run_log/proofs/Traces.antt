@@ -3,7 +3,7 @@ use Rattle.std.proofs.Common.{◌≡◌, ℕ, Option, subst, sym, ◌+◌, ◌�
 use Rattle.std.proofs.lemmas.List.{append-nil, length-append}
 use Rattle.std.proofs.lemmas.Grind.{flat_map-append}
 use Rattle.ngc_events.specs.declared.reply.Reply.TheVariants.{Loaded, Ticked, Held, Resumed, Overridden, Switched, Started}
-use Rattle.ngc_behaviour.specs.Step.{Outcome}
+use Rattle.ngc_machine_model.specs.Step.{Outcome}
 use Rattle.ngc_pulses.specs.Dumping.{ticks_text, after_ticks}
 use Rattle.ngc_pulses.specs.declared.samples.Switch.{Switch}
 use Rattle.ngc_text.specs.Written.{AppendsBeginning}

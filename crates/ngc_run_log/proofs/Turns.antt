@@ -5,10 +5,10 @@ use Rattle.std.proofs.lemmas.Grind.{flat_map-append}
 use Rattle.ngc_text.specs.Written.{AppendsBeginning}
 use Rattle.ngc_events.specs.declared.event.Event.{Event}
 use Rattle.ngc_events.specs.declared.event.EventLine.{EventLine}
-use Rattle.ngc_behaviour.specs.State.{Job, State}
-use Rattle.ngc_behaviour.specs.Step.{Outcome, Step}
-use Rattle.ngc_behaviour.specs.Run.{events_of}
-use Rattle.ngc_behaviour.specs.Progress.{GoesOn}
+use Rattle.ngc_machine_model.specs.State.{Job, State}
+use Rattle.ngc_machine_model.specs.Step.{Outcome, Step}
+use Rattle.ngc_machine_model.specs.Run.{events_of}
+use Rattle.ngc_machine_model.specs.Progress.{GoesOn}
 use Rattle.ngc_run_log.specs.declared.recorder.Recorder.{Recorder}
 use Rattle.ngc_run_log.specs.Tracing.{trace_text}
 use Rattle.ngc_run_log.specs.Recording.{HasFew, Records, IsRecorded, IsCutShort}

@@ -17,14 +17,14 @@ use Rattle.ngc_events.specs.declared.reply.Ending.TheVariants.{Stopped, End}
 use Rattle.ngc_events.specs.declared.reply.Reply.{Reply}
 use Rattle.ngc_events.specs.declared.reply.Reply.TheVariants.{Loaded, Ticked, Started}
 use Rattle.ngc_events.specs.declared.event_fault.EventFault.TheVariants.{RingFull}
-use Rattle.ngc_behaviour.specs.State.{Job, Queued, State, loaded, command_at, path_steps}
-use Rattle.ngc_behaviour.specs.Step.{Outcome, Step, LoadCommand, MayTake}
+use Rattle.ngc_machine_model.specs.State.{Job, Queued, State, loaded, command_at, path_steps}
+use Rattle.ngc_machine_model.specs.Step.{Outcome, Step, LoadCommand, MayTake}
 use Rattle.ngc_controller.specs.Controller.{ControllerData}
 use Rattle.ngc_controller.specs.Fields.{DWELL_LIMIT}
 use Rattle.ngc_controller.specs.Loaded.{AreShort}
 use Rattle.ngc_run_log.specs.declared.recorder.Recorder.{Recorder}
 use Rattle.ngc_run_log.specs.Runs.{is_refusal}
-use Rattle.ngc_behaviour.specs.Stretch.{Stretch}
+use Rattle.ngc_machine_model.specs.Stretch.{Stretch}
 use Rattle.ngc_run_log.specs.Recording.{HasFew}
 use Rattle.ngc_run_log.specs.Policy.{next_event, FollowPolicy}
 use Rattle.ngc_run_log.specs.Through.{IsLoadTickOrStart, TellsEnd}

@@ -3,17 +3,17 @@ use Rattle.std.proofs.Common.{◌≡◌, ◌≤◌, ℕ, suc, List, [], ◌∷�
 use Rattle.std.specs.Prelude.{slice_get}
 use Rattle.std.specs.Io.KnownBytes.{Appends}
 use Rattle.ngc_text.specs.Written.{AppendsBeginning}
-use Rattle.ngc_machine.specs.MachineRanges.{IsMachine}
+use Rattle.ngc_machine_files.specs.MachineRanges.{IsMachine}
 use Rattle.ngc_commands.specs.declared.command.Command.{Command}
 use Rattle.ngc_commands.specs.Sequence.{HasEnd}
 use Rattle.ngc_commands.specs.Sequence.{COMMAND_LIMIT}
 use Rattle.ngc_checker.specs.Accepted.{AcceptedData, IsAccepted, commands_at}
 use Rattle.ngc_events.specs.declared.event.Event.{Event}
-use Rattle.ngc_behaviour.specs.Headline.{job_of, RunsSafely, RunsInTime}
-use Rattle.ngc_behaviour.specs.State.{Job, State, opening}
-use Rattle.ngc_behaviour.specs.Step.{Outcome}
-use Rattle.ngc_behaviour.specs.Run.{Run}
-use Rattle.ngc_behaviour.specs.Progress.{KeepGoing}
+use Rattle.ngc_machine_model.specs.Headline.{job_of, RunsSafely, RunsInTime}
+use Rattle.ngc_machine_model.specs.State.{Job, State, opening}
+use Rattle.ngc_machine_model.specs.Step.{Outcome}
+use Rattle.ngc_machine_model.specs.Run.{Run}
+use Rattle.ngc_machine_model.specs.Progress.{KeepGoing}
 use Rattle.ngc_controller.specs.Controller.{ControllerData}
 use Rattle.ngc_run_log.specs.declared.report.Report.{Report}
 use Rattle.ngc_run_log.specs.declared.recorder.Recorder.{Recorder}
@@ -21,7 +21,7 @@ use Rattle.ngc_run_log.specs.declared.trace.Trace.{Trace}
 use Rattle.ngc_run_log.specs.Tracing.{last_text}
 use Rattle.ngc_run_log.specs.Policy.{next_event, FollowPolicy}
 use Rattle.ngc_run_log.specs.Runs.{IsRun, Reports}
-use Rattle.ngc_behaviour.specs.Stretch.{last_state, Stretch}
+use Rattle.ngc_machine_model.specs.Stretch.{last_state, Stretch}
 use Rattle.ngc_run_log.specs.Forms.{IsTracedThrough, IsTracedOff}
 use Rattle.ngc_run_log.specs.Stretches.{IsUntouched, GoesBy, BreaksOff, Finishes}
 use Rattle.ngc_run_log.proofs.Policy.{none_is_next}

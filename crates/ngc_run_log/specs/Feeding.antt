@@ -4,10 +4,10 @@ use Rattle.std.specs.Prelude.{MatchBool}
 use Rattle.ngc_text.specs.Written.{AppendsBeginning}
 use Rattle.ngc_events.specs.declared.event.Event.{Event}
 use Rattle.ngc_events.specs.declared.event.Event.TheVariants.{Load, Tick}
-use Rattle.ngc_behaviour.specs.State.{Job, State}
-use Rattle.ngc_behaviour.specs.Step.{Outcome}
-use Rattle.ngc_behaviour.specs.Progress.{is_tick}
-use Rattle.ngc_behaviour.specs.Stretch.{Stretch}
+use Rattle.ngc_machine_model.specs.State.{Job, State}
+use Rattle.ngc_machine_model.specs.Step.{Outcome}
+use Rattle.ngc_machine_model.specs.Progress.{is_tick}
+use Rattle.ngc_machine_model.specs.Stretch.{Stretch}
 use Rattle.ngc_run_log.specs.declared.recorder.Recorder.{Recorder}
 use Rattle.ngc_run_log.specs.Policy.{can_load}
 use Rattle.ngc_run_log.specs.Recording.{Records}

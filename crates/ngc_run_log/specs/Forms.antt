@@ -4,10 +4,10 @@ use Rattle.std.specs.Io.KnownBytes.{Appends, Keeps}
 use Rattle.ngc_text.specs.Written.{AppendsBeginning}
 use Rattle.ngc_events.specs.declared.event.Event.{Event}
 use Rattle.ngc_events.specs.declared.event.EventLine.{EventLine}
-use Rattle.ngc_behaviour.specs.State.{Job, State, opening}
-use Rattle.ngc_behaviour.specs.Step.{Outcome}
-use Rattle.ngc_behaviour.specs.Run.{events_of, pulses}
-use Rattle.ngc_behaviour.specs.Safety.{start_of_job}
+use Rattle.ngc_machine_model.specs.State.{Job, State, opening}
+use Rattle.ngc_machine_model.specs.Step.{Outcome}
+use Rattle.ngc_machine_model.specs.Run.{events_of, pulses}
+use Rattle.ngc_machine_model.specs.Safety.{start_of_job}
 use Rattle.ngc_pulses.specs.Samples.{samples}
 use Rattle.ngc_pulses.specs.Vcd.{vcd}
 use Rattle.ngc_run_log.specs.declared.report.Report.{Report}
@@ -19,7 +19,7 @@ use Rattle.ngc_run_log.specs.declared.trace.Trace.{Trace}
 use Rattle.ngc_run_log.specs.Log.{log}
 use Rattle.ngc_run_log.specs.Times.{timed_log}
 use Rattle.ngc_run_log.specs.Tracing.{switches_in, whole_text}
-use Rattle.ngc_behaviour.specs.Stretch.{last_state}
+use Rattle.ngc_machine_model.specs.Stretch.{last_state}
 use Rattle.ngc_run_log.specs.Policy.{next_event}
 use Rattle.ngc_run_log.specs.Switching.{switches}
 use Rattle.ngc_run_log.specs.Runs.{IsRun, Reports}

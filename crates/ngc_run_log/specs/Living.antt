@@ -4,18 +4,18 @@ use Rattle.std.specs.Io.KnownBytes.{Appends, Consumes}
 use Rattle.ngc_text.specs.Failures.{Rises}
 use Rattle.ngc_text.specs.Written.{AppendsBeginning}
 use Rattle.ngc_fixed_length.specs.declared.points.StepPos.{StepPos}
-use Rattle.ngc_machine.specs.MachineRanges.{IsMachine}
+use Rattle.ngc_machine_files.specs.MachineRanges.{IsMachine}
 use Rattle.ngc_commands.specs.Movement.{actions_of, ways_of, AreJoined}
 use Rattle.ngc_events.specs.Arriving.{Arriving, Begins, Ends, HaveArrived, StopsAfter}
 use Rattle.ngc_events.specs.declared.event.Event.{Event}
 use Rattle.ngc_events.specs.declared.event.EventLine.{EventLine}
 use Rattle.ngc_events.specs.declared.fault.EventsFault.{EventsFault}
-use Rattle.ngc_behaviour.specs.Headline.{RunsInTime, RunsSafely}
-use Rattle.ngc_behaviour.specs.State.{Job, State, opening}
-use Rattle.ngc_behaviour.specs.Step.{Outcome}
-use Rattle.ngc_behaviour.specs.Run.{events_of}
-use Rattle.ngc_behaviour.specs.Safety.{start_of_job}
-use Rattle.ngc_behaviour.specs.Stretch.{last_state}
+use Rattle.ngc_machine_model.specs.Headline.{RunsInTime, RunsSafely}
+use Rattle.ngc_machine_model.specs.State.{Job, State, opening}
+use Rattle.ngc_machine_model.specs.Step.{Outcome}
+use Rattle.ngc_machine_model.specs.Run.{events_of}
+use Rattle.ngc_machine_model.specs.Safety.{start_of_job}
+use Rattle.ngc_machine_model.specs.Stretch.{last_state}
 use Rattle.ngc_pulses.specs.declared.samples.Switch.{Switch}
 use Rattle.ngc_pulses.specs.Sampling.{after_samples, first_samples, settled}
 use Rattle.ngc_run_log.specs.declared.live_fault.LiveFault.{LiveFault}

@@ -8,7 +8,7 @@ use Rattle.ngc_events.specs.declared.reply.Ending.TheVariants.{Done, Stopped, En
 use Rattle.ngc_events.specs.declared.reply.Reply.TheVariants.{Loaded, Ticked, Held, Resumed}
 use Rattle.ngc_events.specs.declared.reply.Reply.TheVariants.{Overridden, Switched, Started}
 use Rattle.ngc_events.specs.Faults.{event_fault_number}
-use Rattle.ngc_behaviour.specs.Step.{Outcome}
+use Rattle.ngc_machine_model.specs.Step.{Outcome}
 
 abbrev pub numbered_line : List ℕ → ℕ → List ℕ
 numbered_line word n = word ++ codes " " ++ decimal n ++ codes "\n"

@@ -4,10 +4,10 @@ use Rattle.std.specs.Prelude.{drop, count_by, None, if◌then◌else◌}
 use Rattle.ngc_commands.specs.declared.command.Command.{Command}
 use Rattle.ngc_commands.specs.Reached.{mounts}
 use Rattle.ngc_events.specs.declared.event.Event.{Event}
-use Rattle.ngc_behaviour.specs.State.{Job, State, opening}
-use Rattle.ngc_behaviour.specs.Step.{Outcome}
-use Rattle.ngc_behaviour.specs.Progress.{is_tick}
-use Rattle.ngc_behaviour.specs.Stretch.{last_state, Stretch}
+use Rattle.ngc_machine_model.specs.State.{Job, State, opening}
+use Rattle.ngc_machine_model.specs.Step.{Outcome}
+use Rattle.ngc_machine_model.specs.Progress.{is_tick}
+use Rattle.ngc_machine_model.specs.Stretch.{last_state, Stretch}
 use Rattle.ngc_controller.specs.Controller.{ControllerData}
 use Rattle.ngc_run_log.specs.declared.recorder.Recorder.{Recorder}
 use Rattle.ngc_run_log.specs.Policy.{next_event}

@@ -3,7 +3,7 @@ use Rattle.std.specs.Prelude.{◌≡◌, nat_lt, List, [], ◌∷◌, length, Op
 use Rattle.std.specs.Prelude.{if◌then◌else◌}
 use Rattle.ngc_events.specs.declared.event.Event.{Event}
 use Rattle.ngc_events.specs.declared.event.Event.TheVariants.{Load, Tick, Start}
-use Rattle.ngc_behaviour.specs.State.{Job, State, loaded}
+use Rattle.ngc_machine_model.specs.State.{Job, State, loaded}
 
 -- the ring has room, and a command is left to load
 abbrev pub can_load : Job → State → Bool

@@ -3,11 +3,11 @@ use Rattle.std.specs.Prelude.{◌≡◌, ℕ, ◌+◌, ◌≤◌, List, ◌++◌
 use Rattle.std.specs.Io.KnownBytes.{Appends}
 use Rattle.ngc_text.specs.Written.{AppendsBeginning}
 use Rattle.ngc_events.specs.declared.event.Event.{Event}
-use Rattle.ngc_behaviour.specs.State.{Job, State}
-use Rattle.ngc_behaviour.specs.Step.{Outcome}
-use Rattle.ngc_behaviour.specs.Run.{positions}
-use Rattle.ngc_behaviour.specs.Progress.{is_tick}
-use Rattle.ngc_behaviour.specs.Stretch.{Stretch}
+use Rattle.ngc_machine_model.specs.State.{Job, State}
+use Rattle.ngc_machine_model.specs.Step.{Outcome}
+use Rattle.ngc_machine_model.specs.Run.{positions}
+use Rattle.ngc_machine_model.specs.Progress.{is_tick}
+use Rattle.ngc_machine_model.specs.Stretch.{Stretch}
 use Rattle.ngc_run_log.specs.declared.report.Report.{Report}
 use Rattle.ngc_run_log.specs.declared.recorder.Recorder.{Recorder}
 use Rattle.ngc_run_log.specs.Tracing.{trace_text, trace_after, ticks_of}

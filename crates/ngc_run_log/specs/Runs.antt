@@ -7,11 +7,11 @@ use Rattle.ngc_text.specs.Failures.{Rises}
 use Rattle.ngc_text.specs.Written.{AppendsBeginning}
 use Rattle.ngc_events.specs.declared.event.Event.{Event}
 use Rattle.ngc_events.specs.declared.event.EventLine.{EventLine}
-use Rattle.ngc_behaviour.specs.State.{Job, State, opening}
-use Rattle.ngc_behaviour.specs.Step.{Outcome}
-use Rattle.ngc_behaviour.specs.Run.{Run, events_of, positions}
-use Rattle.ngc_behaviour.specs.Safety.{IsSafeRun, start_of_job}
-use Rattle.ngc_behaviour.specs.Progress.{KeepGoing, is_tick, IsDoneInTime}
+use Rattle.ngc_machine_model.specs.State.{Job, State, opening}
+use Rattle.ngc_machine_model.specs.Step.{Outcome}
+use Rattle.ngc_machine_model.specs.Run.{Run, events_of, positions}
+use Rattle.ngc_machine_model.specs.Safety.{IsSafeRun, start_of_job}
+use Rattle.ngc_machine_model.specs.Progress.{KeepGoing, is_tick, IsDoneInTime}
 use Rattle.ngc_run_log.specs.declared.report.Report.{Report}
 use Rattle.ngc_run_log.specs.declared.report.RunFault.{RunFault}
 use Rattle.ngc_run_log.specs.declared.report.RunFault.TheVariants.{Memory, Write}

@@ -4,7 +4,7 @@ use Rattle.std.specs.Prelude.{◌++◌, length, count_by, Option, None, Some, Ok
 use Rattle.std.specs.Prelude.{false}
 use Rattle.std.specs.List.{AllByRecursion}
 use Rattle.ngc_text.specs.Written.{AppendsBeginning}
-use Rattle.ngc_machine.specs.MachineRanges.{IsMachine}
+use Rattle.ngc_machine_files.specs.MachineRanges.{IsMachine}
 use Rattle.ngc_commands.specs.declared.command.Action.TheVariants as actions
 use Rattle.ngc_commands.specs.declared.command.Command.{Command}
 use Rattle.ngc_fixed_length.specs.Limits.{MILLION}
@@ -14,15 +14,15 @@ use Rattle.ngc_events.specs.declared.reply.Ending.{Ending}
 use Rattle.ngc_events.specs.declared.reply.Ending.TheVariants.{Done, Stopped, End}
 use Rattle.ngc_events.specs.declared.reply.Reply.TheVariants.{Loaded, Ticked, Held, Resumed}
 use Rattle.ngc_events.specs.declared.reply.Reply.TheVariants.{Overridden, Switched, Started}
-use Rattle.ngc_behaviour.specs.State.{Job, Queued, State, command_at}
-use Rattle.ngc_behaviour.specs.Step.{Outcome, Step, MayTake}
-use Rattle.ngc_behaviour.specs.Progress.{GoesOn}
+use Rattle.ngc_machine_model.specs.State.{Job, Queued, State, command_at}
+use Rattle.ngc_machine_model.specs.Step.{Outcome, Step, MayTake}
+use Rattle.ngc_machine_model.specs.Progress.{GoesOn}
 use Rattle.ngc_controller.specs.Controller.{ControllerData}
 use Rattle.ngc_controller.specs.Fields.{DWELL_LIMIT}
 use Rattle.ngc_controller.specs.Loaded.{AreShort, LoadsShort}
 use Rattle.ngc_run_log.specs.declared.recorder.Recorder.{Recorder}
 use Rattle.ngc_run_log.specs.Tracing.{trace_text}
-use Rattle.ngc_behaviour.specs.Stretch.{Stretch}
+use Rattle.ngc_machine_model.specs.Stretch.{Stretch}
 use Rattle.ngc_run_log.specs.Policy.{FollowPolicy}
 use Rattle.ngc_run_log.specs.Recording.{Records}
 use Rattle.ngc_run_log.specs.Runs.{is_refusal}

@@ -9,13 +9,13 @@ use Rattle.ngc_events.specs.declared.event.Event.TheVariants.{Load, Tick, Hold, 
 use Rattle.ngc_events.specs.declared.event.Event.TheVariants.{StopSwitch, Start}
 use Rattle.ngc_events.specs.declared.reply.Ending.TheVariants.{End}
 use Rattle.ngc_events.specs.declared.reply.Reply.TheVariants.{Ticked}
-use Rattle.ngc_behaviour.specs.State.{Job, opening}
-use Rattle.ngc_behaviour.specs.Step.{Outcome}
+use Rattle.ngc_machine_model.specs.State.{Job, opening}
+use Rattle.ngc_machine_model.specs.Step.{Outcome}
 use Rattle.ngc_run_log.specs.declared.report.Report.{Report}
 use Rattle.ngc_run_log.specs.declared.report.RunFault.{RunFault}
 use Rattle.ngc_run_log.specs.declared.report.RunFault.TheVariants.{Memory, Write}
 use Rattle.ngc_run_log.specs.Log.{log}
-use Rattle.ngc_behaviour.specs.Stretch.{last_state}
+use Rattle.ngc_machine_model.specs.Stretch.{last_state}
 use Rattle.ngc_run_log.specs.Policy.{next_event, FollowPolicy}
 use Rattle.ngc_run_log.specs.Runs.{is_refusal, IsRun, Reports}
 

@@ -5,7 +5,7 @@ use Rattle.ngc_fixed_length.specs.declared.points.StepPos.{StepPos}
 use Rattle.ngc_events.specs.declared.reply.Ending.{Ending}
 use Rattle.ngc_events.specs.declared.reply.Reply.TheVariants.{Loaded, Ticked, Held, Resumed}
 use Rattle.ngc_events.specs.declared.reply.Reply.TheVariants.{Overridden, Switched, Started}
-use Rattle.ngc_behaviour.specs.Step.{Outcome}
+use Rattle.ngc_machine_model.specs.Step.{Outcome}
 use Rattle.ngc_run_log.specs.Log.{ending_text, position_text, text_of}
 
 -- how many ticks were given before the event of a line took effect, and a space

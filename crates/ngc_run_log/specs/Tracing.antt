@@ -4,7 +4,7 @@ use Rattle.std.specs.Prelude.{ℕ, List, [], ◌∷◌, ◌++◌, flat_map, Opti
 use Rattle.ngc_fixed_length.specs.declared.points.StepPos.{StepPos}
 use Rattle.ngc_events.specs.declared.reply.Reply.TheVariants.{Loaded, Ticked, Held, Resumed}
 use Rattle.ngc_events.specs.declared.reply.Reply.TheVariants.{Overridden, Switched, Started}
-use Rattle.ngc_behaviour.specs.Step.{Outcome}
+use Rattle.ngc_machine_model.specs.Step.{Outcome}
 use Rattle.ngc_pulses.specs.Vcd.{header}
 use Rattle.ngc_pulses.specs.declared.samples.Switch.{Switch}
 use Rattle.ngc_pulses.specs.declared.samples.Switch.TheVariants.{Nothing}

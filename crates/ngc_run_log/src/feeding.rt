@@ -1,7 +1,7 @@
 //! Ticks before which the ring is fed.
 ghost use Rattle.std.specs.Prelude.{◌≡◌, ◌&&◌, ◌+◌, ◌*◌, ◌^◌, ℕ, [], ◌∷◌, replicate, true, false, OnOk, OnErr};
 ghost use Rattle.ngc_events.specs.declared.event.Event.TheVariants.{Tick};
-ghost use Rattle.ngc_behaviour.specs.Progress.{is_tick};
+ghost use Rattle.ngc_machine_model.specs.Progress.{is_tick};
 ghost use Rattle.ngc_text.specs.Failures.{CountsFailure};
 ghost use Rattle.ngc_run_log.specs.Feeding.{IsFed, IsFedShort, IsLoaded};
 ghost use Rattle.ngc_run_log.specs.Policy.{can_load};

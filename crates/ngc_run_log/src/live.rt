@@ -1,7 +1,7 @@
 //! A run whose events arrive while it goes on.
 ghost use Rattle.std.specs.Prelude.{◌≡◌, ◌≢◌, ◌≤◌, ◌+◌, ◌^◌, ℕ, Err, List, [], ◌++◌, length, Option};
 ghost use Rattle.std.specs.Prelude.{IfOk, IfErr, OnOk, OnErr};
-ghost use Rattle.ngc_behaviour.specs.Headline.{job_of};
+ghost use Rattle.ngc_machine_model.specs.Headline.{job_of};
 ghost use Rattle.ngc_checker.specs.Accepted.{commands_at};
 ghost use Rattle.ngc_events.specs.Arriving.{Ends, HaveArrived, MOST_TEXT, filled};
 ghost use Rattle.ngc_events.specs.declared.event.EventLine.{EventLine as Line};

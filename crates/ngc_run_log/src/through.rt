@@ -1,13 +1,13 @@
 //! A run through a whole program: nobody touches the panel but to start again behind a stop.
 ghost use Rattle.std.specs.Prelude.{◌≡◌, ◌≤◌, ◌<◌, ◌+◌, ◌-◌, ◌*◌, ◌^◌, ℕ, List, Option, min};
 ghost use Rattle.std.specs.Prelude.{length, Some, true, false, OnOk, OnErr, IfOk};
-ghost use Rattle.ngc_behaviour.specs.Headline.{job_of, RunsInTime, RunsSafely};
-ghost use Rattle.ngc_behaviour.specs.State.{loaded, opening};
+ghost use Rattle.ngc_machine_model.specs.Headline.{job_of, RunsInTime, RunsSafely};
+ghost use Rattle.ngc_machine_model.specs.State.{loaded, opening};
 ghost use Rattle.ngc_commands.specs.Sequence.{HasEnd};
 ghost use Rattle.ngc_commands.specs.Sequence.{COMMAND_LIMIT};
 ghost use Rattle.ngc_checker.specs.Accepted.{commands_at};
 ghost use Rattle.ngc_text.specs.Failures.{CountsFailure};
-ghost use Rattle.ngc_machine.specs.MachineRanges.{IsMachine};
+ghost use Rattle.ngc_machine_files.specs.MachineRanges.{IsMachine};
 ghost use Rattle.ngc_run_log.specs.Forms.{GoesThroughAs, IsTracedThrough, IsTracedOff};
 ghost use Rattle.ngc_run_log.specs.Forms.{PulsesGoThrough, SamplesGoThrough, TimesGoThrough};
 ghost use Rattle.ngc_run_log.specs.Policy.{next_event};

@@ -1,12 +1,12 @@
 //! How long a run through a program takes, and with each tool.
 ghost use Rattle.std.specs.Prelude.{◌≡◌, ◌≤◌, ◌<◌, ◌+◌, ◌^◌, length, false, None, OnOk, IfErr};
 ghost use Rattle.std.specs.Prelude.{IfOk};
-ghost use Rattle.ngc_behaviour.specs.Headline.{job_of, RunsInTime, RunsSafely};
-ghost use Rattle.ngc_behaviour.specs.State.{loaded, opening};
+ghost use Rattle.ngc_machine_model.specs.Headline.{job_of, RunsInTime, RunsSafely};
+ghost use Rattle.ngc_machine_model.specs.State.{loaded, opening};
 ghost use Rattle.ngc_commands.specs.Sequence.{HasEnd};
 ghost use Rattle.ngc_commands.specs.Sequence.{COMMAND_LIMIT};
 ghost use Rattle.ngc_checker.specs.Accepted.{commands_at};
-ghost use Rattle.ngc_machine.specs.MachineRanges.{IsMachine};
+ghost use Rattle.ngc_machine_files.specs.MachineRanges.{IsMachine};
 ghost use Rattle.ngc_run_log.specs.Parts.{FinishesPart, GoesParted, IsTimedThrough};
 ghost use Rattle.ngc_run_log.specs.Parts.{part_length};
 ghost use Rattle.ngc_run_log.specs.Recording.{HasFew};

@@ -2,7 +2,7 @@
 ghost use Rattle.std.specs.Prelude.{◌≡◌, ◌≤◌, ◌+◌, ◌^◌, ◌++◌, ◌∷◌, [], replicate, Ok, None, OnOk};
 ghost use Rattle.std.specs.Prelude.{OnErr};
 ghost use Rattle.ngc_events.specs.declared.reply.Reply.TheVariants.{Ticked};
-ghost use Rattle.ngc_machine.specs.Ranges.{IsRate};
+ghost use Rattle.ngc_machine_files.specs.Ranges.{IsRate};
 ghost use Rattle.ngc_text.specs.Collected.{HasLineRoom, WritesFront};
 ghost use Rattle.ngc_text.specs.Failures.{CountsFailure};
 ghost use Rattle.ngc_text.specs.Written.{AppendsBeginning};

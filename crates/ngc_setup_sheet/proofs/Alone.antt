@@ -7,9 +7,9 @@ use Rattle.std.proofs.lemmas.List.Elements.{filter-append}
 use Rattle.ngc_text.specs.Written.{AppendsBeginning}
 use Rattle.ngc_text.specs.declared.writing.WriteFault.{WriteFault}
 use Rattle.ngc_text.specs.Collected.{WritesFront}
-use Rattle.ngc_machine.specs.Machine.{MachineFile}
-use Rattle.ngc_machine.specs.declared.machine.Fixture.{Fixture}
-use Rattle.ngc_machine.specs.declared.tools.Tool.{Tool}
+use Rattle.ngc_machine_files.specs.Machine.{MachineFile}
+use Rattle.ngc_machine_files.specs.declared.machine.Fixture.{Fixture}
+use Rattle.ngc_machine_files.specs.declared.tools.Tool.{Tool}
 use Rattle.ngc_setup_sheet.specs.Sheets.{fixture_lines, fixtures_from, tool_lines, is_warning, as_fact, as_remark}
 use Rattle.ngc_setup_sheet.specs.Spelling.{line_text, lines_text}
 use Rattle.ngc_setup_sheet.specs.Writes.{Writes, styled, chosen}

@@ -5,7 +5,7 @@ use Rattle.std.specs.Map.{keys_of}
 use Rattle.toml.specs.View.{items_view, members_view}
 use Rattle.toml.specs.declared.value.Value.{Value}
 use Rattle.toml.proofs.Views.{Entry}
-use Rattle.ngc_machine.specs.Tree.{is_one_of}
+use Rattle.ngc_machine_files.specs.Tree.{is_one_of}
 use Rattle.ngc_setup_sheet.specs.Asks.{unknown_key, item_count}
 
 -- ---- how many items, and whether all pass

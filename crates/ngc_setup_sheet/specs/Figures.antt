@@ -1,6 +1,6 @@
 -- A machine's rates as speeds and accelerations. Our own.
 use Rattle.std.specs.Prelude.{ℕ, ◌+◌, ◌*◌, ◌/◌, unsigned_abs}
-use Rattle.ngc_machine.specs.Machine.{MachineFile}
+use Rattle.ngc_machine_files.specs.Machine.{MachineFile}
 
 -- how many units a number has, to the nearest; halves go up
 abbrev pub rounded : ℕ → ℕ → ℕ

@@ -3,10 +3,10 @@ use Rattle.std.specs.Prelude.{◌≤◌, ℤ, pos, ◌+ℤ◌, ◌-ℤ◌, int_l
 use Rattle.std.specs.Prelude.{◌∷◌, Bool, ◌||◌}
 use Rattle.std.specs.Int.{int_min, int_max}
 use Rattle.ngc_fixed_length.specs.declared.points.Point3.{Point3}
-use Rattle.ngc_machine.specs.Machine.{MachineFile}
-use Rattle.ngc_machine.specs.declared.machine.Fixture.{Fixture}
-use Rattle.ngc_machine.specs.declared.parts.Part.{Part}
-use Rattle.ngc_machine.specs.declared.tools.Tool.{Tool}
+use Rattle.ngc_machine_files.specs.Machine.{MachineFile}
+use Rattle.ngc_machine_files.specs.declared.machine.Fixture.{Fixture}
+use Rattle.ngc_machine_files.specs.declared.parts.Part.{Part}
+use Rattle.ngc_machine_files.specs.declared.tools.Tool.{Tool}
 use Rattle.ngc_setup_sheet.specs.declared.reach.Reach.{Reach}
 
 -- where parts end of which the lowest stands on this height: each stands on the one before

@@ -1,8 +1,8 @@
 -- What looks wrong in a machine file or in a tool table, though it is within its range. Our own.
 use Rattle.std.specs.Prelude.{nat_lt, ℤ, pos, ◌-ℤ◌, ◌*ℤ◌, int_lt, Bool, ◌||◌}
-use Rattle.ngc_machine.specs.Machine.{MachineFile}
-use Rattle.ngc_machine.specs.declared.machine.Fixture.{Fixture}
-use Rattle.ngc_machine.specs.declared.tools.Tool.{Tool}
+use Rattle.ngc_machine_files.specs.Machine.{MachineFile}
+use Rattle.ngc_machine_files.specs.declared.machine.Fixture.{Fixture}
+use Rattle.ngc_machine_files.specs.declared.tools.Tool.{Tool}
 use Rattle.ngc_setup_sheet.specs.Figures.{speed, gain, pull}
 use Rattle.ngc_setup_sheet.specs.Reaches.{top_of}
 

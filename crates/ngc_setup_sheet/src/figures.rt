@@ -1,13 +1,13 @@
 //! A machine's rates as speeds and accelerations.
 ghost use Rattle.std.specs.Prelude.{◌≡◌, ◌≤◌, ◌<◌, ◌*◌, ◌^◌, unsigned_abs};
 ghost use Rattle.ngc_fixed_length.specs.Length.{IsStep};
-ghost use Rattle.ngc_machine.specs.Machine.{file_of};
+ghost use Rattle.ngc_machine_files.specs.Machine.{file_of};
 ghost use Rattle.ngc_setup_sheet.specs.Figures.{rounded, step_speed, speed, gain};
 ghost use Rattle.ngc_setup_sheet.specs.Figures.{millimetres_a_minute, acceleration};
 ghost use Rattle.ngc_setup_sheet.specs.Figures.{pull, arc_acceleration, steps_a_millimetre};
 
 use ngc_fixed_length::Nm;
-use ngc_machine::Machine;
+use ngc_machine_files::Machine;
 use std::alloc::Allocator;
 
 /// How many units a number has: to the nearest, halves upwards.

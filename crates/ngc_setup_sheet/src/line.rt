@@ -1,5 +1,5 @@
 use ngc_fixed_length::{Point3, System};
-use ngc_machine::Name;
+use ngc_machine_files::Name;
 
 #[derive(Clone, Copy)]
 pub enum Axis {

@@ -1,8 +1,8 @@
 //! What is told of a machine, of a fixture and of a tool.
 ghost use Rattle.std.specs.Prelude.{◌≡◌, ◌≤◌, ◌<◌, ◌+◌, ◌++◌, min, length, unsigned_abs};
 ghost use Rattle.arrayvec.specs.ArrayVec.{array_vec_len};
-ghost use Rattle.ngc_machine.specs.Machine.{file_of};
-ghost use Rattle.ngc_machine.specs.Ranges.{IsRate};
+ghost use Rattle.ngc_machine_files.specs.Machine.{file_of};
+ghost use Rattle.ngc_machine_files.specs.Ranges.{IsRate};
 ghost use Rattle.ngc_setup_sheet.specs.Reaches.{IsReach};
 ghost use Rattle.ngc_fixed_length.specs.declared.modes.System.TheVariants as systems;
 ghost use Rattle.ngc_setup_sheet.specs.declared.line.Figure.TheVariants as figures;
@@ -22,7 +22,7 @@ use crate::warnings::{
 };
 use arrayvec::ArrayVec;
 use ngc_fixed_length::{Nm, Point3, System};
-use ngc_machine::{Fixture, Machine, Part, Parts, Tool};
+use ngc_machine_files::{Fixture, Machine, Part, Parts, Tool};
 use std::alloc::Allocator;
 
 /// Room for what is told of a machine, of a fixture or of a tool.

@@ -11,7 +11,7 @@ ghost use Rattle.ngc_setup_sheet.specs.Mistakes.{machine_mistake_text, tools_mis
 use crate::mistake::Mistake;
 use crate::mistake_spelling::text;
 use crate::mistakes::{machine_mistake_in, tools_mistake_in};
-use ngc_machine::{FileFault, read_tree};
+use ngc_machine_files::{FileFault, read_tree};
 use ngc_text::{Sink, WriteFault};
 use std::alloc::Global;
 use toml::Value;

@@ -10,7 +10,7 @@ ghost use Rattle.ngc_setup_sheet.specs.Mistakes.{tool_mistake, tools_mistake_in,
 use crate::mistake::{Mistake, Rule, Section, Word};
 use crate::rows::{key, unmet};
 use crate::tree::{is_second, unknown_key};
-use ngc_machine::{FileFault, MACHINE_KEYS, whole_at};
+use ngc_machine_files::{FileFault, MACHINE_KEYS, whole_at};
 use toml::Value;
 
 fn complaint(section: Section, tree: &Value, rule: Rule) -> Mistake

@@ -1,13 +1,13 @@
 //! How far the tools of a table reach.
 ghost use Rattle.std.specs.Prelude.{◌≡◌, ◌≤◌, ◌+◌, ◌+ℤ◌, ◌-ℤ◌, ◌||◌, unsigned_abs, int_le};
 ghost use Rattle.std.specs.Int.{int_min, int_max};
-ghost use Rattle.ngc_machine.specs.Machine.{file_of};
+ghost use Rattle.ngc_machine_files.specs.Machine.{file_of};
 ghost use Rattle.ngc_setup_sheet.specs.Reaches.{IsReach, top_of, widest, nothing, with_tool};
 ghost use Rattle.ngc_setup_sheet.specs.Reaches.{reach_of, is_beyond, is_out_of_reach, is_outside};
 ghost use Rattle.ngc_setup_sheet.specs.Reaches.{is_outside_travel};
 
 use ngc_fixed_length::{Nm, Point3};
-use ngc_machine::{Fixture, Machine, Part, Parts, Tool};
+use ngc_machine_files::{Fixture, Machine, Part, Parts, Tool};
 use std::alloc::Allocator;
 
 /// How far the bodies of tools go from the controlled point, in nanometres: to each side, down, and

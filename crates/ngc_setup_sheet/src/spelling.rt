@@ -10,7 +10,7 @@ ghost use Rattle.ngc_setup_sheet.specs.Spelling.{warning_object, warning_remark,
 use crate::line::{Axis, Fact, Figure, Line, Span, Warning};
 use itoa::Integer;
 use ngc_fixed_length::{Point3, System};
-use ngc_machine::Name;
+use ngc_machine_files::Name;
 use ngc_text::Chunk;
 
 fn add_thousandths(chunk: &mut Chunk, number: u128)

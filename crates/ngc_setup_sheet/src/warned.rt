@@ -3,7 +3,7 @@ ghost use Rattle.std.specs.Prelude.{◌≡◌, ◌++◌, flat_map, OnOk, OnErr};
 ghost use Rattle.std.specs.Io.KnownBytes.{Appends};
 ghost use Rattle.ngc_text.specs.Failures.{CountsFailure};
 ghost use Rattle.ngc_text.specs.Written.{AppendsBeginning};
-ghost use Rattle.ngc_machine.specs.Machine.{file_of};
+ghost use Rattle.ngc_machine_files.specs.Machine.{file_of};
 ghost use Rattle.ngc_setup_sheet.specs.Reaches.{IsReach};
 ghost use Rattle.ngc_setup_sheet.specs.Sheets.{fixtures_from, tool_lines, sheet, warnings_text};
 ghost use Rattle.ngc_setup_sheet.specs.Sheets.{warning_facts, warning_remarks};
@@ -12,7 +12,7 @@ ghost use Rattle.ngc_setup_sheet.specs.Writes.{Writes, chosen};
 use crate::lines::{fixture_lines, machine_lines, tool_lines};
 use crate::reach::Reach;
 use crate::writer::{Style, write_warning_lines};
-use ngc_machine::{Machine, Tool};
+use ngc_machine_files::{Machine, Tool};
 use ngc_text::{Chunk, Sink, WriteFault};
 use std::alloc::Allocator;
 

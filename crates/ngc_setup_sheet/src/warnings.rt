@@ -1,6 +1,6 @@
 //! What looks wrong in a machine file or in a tool table.
 ghost use Rattle.std.specs.Prelude.{◌≡◌, ◌||◌};
-ghost use Rattle.ngc_machine.specs.Machine.{file_of};
+ghost use Rattle.ngc_machine_files.specs.Machine.{file_of};
 ghost use Rattle.ngc_setup_sheet.specs.Warnings.{is_odd_speed, is_odd_acceleration, is_shorter};
 ghost use Rattle.ngc_setup_sheet.specs.Warnings.{is_slow_on_arcs, is_thin, is_short_tool};
 ghost use Rattle.ngc_setup_sheet.specs.Warnings.{is_odd_offset};
@@ -8,7 +8,7 @@ ghost use Rattle.ngc_setup_sheet.specs.Warnings.{is_odd_offset};
 use crate::figures::{gain, pull, speed};
 use crate::reach::top_of;
 use ngc_fixed_length::Nm;
-use ngc_machine::{Fixture, Machine, Tool};
+use ngc_machine_files::{Fixture, Machine, Tool};
 use std::alloc::Allocator;
 
 pub(crate) fn is_odd_speed<A: Allocator>(machine: &Machine<A>) -> bool

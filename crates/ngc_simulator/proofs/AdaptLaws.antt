@@ -6,7 +6,7 @@ use Rattle.ngc_adapt_program.specs.Programs.{program_written, program_report, pr
 use Rattle.ngc_canonical.specs.Interpreter.{setup_of}
 use Rattle.ngc_command_line.specs.declared.options.AdaptOptions.{AdaptOptions}
 use Rattle.ngc_command_line.specs.declared.options.MachineOptions.{MachineOptions}
-use Rattle.ngc_machine.specs.Machine.{MachineFile, file_of}
+use Rattle.ngc_machine_files.specs.Machine.{MachineFile, file_of}
 use Rattle.ngc_text.specs.declared.input_fault.InputFault.{InputFault}
 use Rattle.ngc_simulator.specs.declared.done.Notes.{Notes}
 use Rattle.ngc_simulator.specs.declared.setup.Shop.{Shop}

@@ -18,13 +18,13 @@ use Rattle.ngc_certificate.specs.declared.fault.MakeFault.TheVariants.{NotCleare
 use Rattle.ngc_certificate.specs.Made.{GivesMade, IsMade}
 use Rattle.ngc_certificate.specs.PieceFault.{◌or◌}
 use Rattle.ngc_checker.specs.declared.fault.CheckFault.{CheckFault}
-use Rattle.ngc_machine.specs.Machine.{MachineFile}
+use Rattle.ngc_machine_files.specs.Machine.{MachineFile}
 use Rattle.ngc_command_line.specs.declared.options.DrawOptions.{DrawOptions}
 use Rattle.ngc_drawing.specs.Pictures.{picture_text}
 use Rattle.ngc_drawing.specs.declared.fault.DrawFault.{DrawFault}
 use Rattle.ngc_drawing.specs.declared.fault.DrawFault.TheVariants.{Memory, Write}
 use Rattle.ngc_drawing.specs.declared.look.Look.{Look}
-use Rattle.ngc_drawing.specs.declared.refusal.Refusal.{Refusal}
+use Rattle.ngc_drawing.specs.declared.refusal.RefusedMotion.{RefusedMotion}
 use Rattle.ngc_drawing.specs.declared.view.View.{View}
 use Rattle.ngc_simulator.specs.Answers.{DrawsFrom, certificate_input, certificate_inputs, draw_inputs, program_input}
 use Rattle.ngc_simulator.specs.Drawing.{Draws, DrawsGiven, DrawsProgram, IsGivenRefusal, IsMadeRefusal, fault_at, refusal_answer}
@@ -68,9 +68,9 @@ refused_program setup bytes block_delete text fault is_text have fails = record 
 }
 
 -- the picture of commands that were handed on as a slice
-pub drawn : (setup : Setup) (bytes : List ℕ) (block_delete : Bool) (look : Look) (entries : List Entry) (IsShown : List Command → Option Refusal → Type 0)
+pub drawn : (setup : Setup) (bytes : List ℕ) (block_delete : Bool) (look : Look) (entries : List Entry) (IsShown : List Command → Option RefusedMotion → Type 0)
     (old new : Option (List ℕ))
-    (text : ProgramText) (commands given shown : List Command) (found : List Entry) (refusal : Option Refusal)
+    (text : ProgramText) (commands given shown : List Command) (found : List Entry) (refusal : Option RefusedMotion)
     → given ≡ commands → shown ≡ commands → found ≡ entries → program_of bytes ≡ Ok text → HaveReadings text.lines →
     Means text setup block_delete (Ok commands) → IsShown given refusal
     → Appends old new (picture_text look setup.machine shown found refusal) → Draws setup bytes block_delete look entries IsShown old new (Ok tt)
@@ -88,8 +88,8 @@ drawn setup bytes block_delete look entries IsShown old new text commands given 
 
 -- and a prefix of it, or nothing where memory ran out
 pub drawing_stopped : (setup : Setup) (bytes : List ℕ) (block_delete : Bool) (look : Look) (entries : List Entry)
-    (IsShown : List Command → Option Refusal → Type 0) (old new : Option (List ℕ))
-    (text : ProgramText) (commands given shown : List Command) (found : List Entry) (refusal : Option Refusal) (fault : DrawFault)
+    (IsShown : List Command → Option RefusedMotion → Type 0) (old new : Option (List ℕ))
+    (text : ProgramText) (commands given shown : List Command) (found : List Entry) (refusal : Option RefusedMotion) (fault : DrawFault)
     → given ≡ commands → shown ≡ commands → found ≡ entries → program_of bytes ≡ Ok text → HaveReadings text.lines →
     Means text setup block_delete (Ok commands) → IsShown given refusal
     → AppendsBeginning old new (picture_text look setup.machine shown found refusal) → (fault ≡ Memory → Keeps old new)
@@ -110,7 +110,7 @@ drawing_stopped setup bytes block_delete look entries IsShown old new text comma
       wrote,
     )
 
-pub no_memory : (setup : Setup) (bytes : List ℕ) (block_delete : Bool) (look : Look) (entries : List Entry) (IsShown : List Command → Option Refusal → Type 0)
+pub no_memory : (setup : Setup) (bytes : List ℕ) (block_delete : Bool) (look : Look) (entries : List Entry) (IsShown : List Command → Option RefusedMotion → Type 0)
     (known : Option (List ℕ)) (fault : DrawFault)
     → fault ≡ Memory → Draws setup bytes block_delete look entries IsShown known known (Err (of_picture fault))
 no_memory setup bytes block_delete look entries IsShown known Memory is = keeps_same known

@@ -10,7 +10,7 @@ use Rattle.ngc_canonical.specs.declared.fault.ProgramFault.TheVariants as progra
 use Rattle.ngc_canonical.specs.State.{Setup}
 use Rattle.ngc_canonical.specs.declared.fault.Fault.{Fault}
 use Rattle.ngc_canonical.specs.Meaning.{Program as ProgramLines, Fails, meaning, program_said}
-use Rattle.ngc_machine.specs.Machine.{MachineFile}
+use Rattle.ngc_machine_files.specs.Machine.{MachineFile}
 use Rattle.ngc_certificate_text.specs.Certificate.{CertificateData}
 use Rattle.ngc_certificate_text.specs.Said.{certificate_said}
 use Rattle.ngc_certificate_text.specs.Joined.{Form}

@@ -5,7 +5,7 @@ use Rattle.ngc_canonical.specs.State.{Setup}
 use Rattle.ngc_checker.specs.Accepted.{AcceptedData, Answers, commands_at}
 use Rattle.ngc_checker.specs.declared.fault.CheckFault.{CheckFault}
 use Rattle.ngc_command_line.specs.declared.options.LiveOptions.{LiveOptions}
-use Rattle.ngc_behaviour.specs.Headline.{job_of}
+use Rattle.ngc_machine_model.specs.Headline.{job_of}
 use Rattle.ngc_text.specs.Failures.{Rises}
 use Rattle.ngc_text.specs.declared.input_fault.InputFault.TheVariants as inputs
 use Rattle.ngc_run_log.specs.declared.live_fault.LiveFault.{LiveFault}

@@ -1,8 +1,8 @@
 -- What making a machine file comes to, from what its parts come to.
 use Rattle.std.proofs.Common.{◌≡◌, ℕ, List, Option, None, Result, Ok, Err, is_err, OnOk, false, inl, inr, refl, subst}
 use Rattle.std.specs.Io.KnownBytes.{Keeps}
-use Rattle.ngc_machine.specs.Machine.{MachineFile}
-use Rattle.ngc_machine.specs.MachineText.{machine_file}
+use Rattle.ngc_machine_files.specs.Machine.{MachineFile}
+use Rattle.ngc_machine_files.specs.MachineText.{machine_file}
 use Rattle.ngc_command_line.specs.declared.options.MachineOptions.{MachineOptions}
 use Rattle.ngc_simulator.specs.Answers.{MachineComes, MakesOn}
 use Rattle.ngc_simulator.specs.Making.{AreAskedKeys, IsNotRead, IsUnmade, MakeFails, with_remarks}

@@ -23,8 +23,8 @@ use Rattle.ngc_certificate.specs.declared.fault.MakeFault.TheVariants.{NotCleare
 use Rattle.ngc_certificate.specs.Made.{IsMade}
 use Rattle.ngc_job.specs.Job.{JobData, IsJobOf, commands_in}
 use Rattle.ngc_command_line.specs.declared.options.ReportOptions.{ReportOptions}
-use Rattle.ngc_machine.specs.Machine.{MachineFile}
-use Rattle.ngc_machine.specs.declared.tools.Tool.{Tool}
+use Rattle.ngc_machine_files.specs.Machine.{MachineFile}
+use Rattle.ngc_machine_files.specs.declared.tools.Tool.{Tool}
 use Rattle.ngc_simulator.specs.Answers.{ReportsOn, request_of}
 use Rattle.ngc_program_report.specs.JobReports.{IsFirstText, IsFitText, IsRefusalText, IsRefusalsText, IsStartClear, OffBegins, Tells, line_of, setup_in}
 use Rattle.ngc_simulator.specs.Jobs.{IsMadeOf, IsProgram, IsUnmade, WhyNotMade}

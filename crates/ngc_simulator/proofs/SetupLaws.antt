@@ -2,11 +2,11 @@
 use Rattle.std.proofs.Common.{◌≡◌, ℕ, List, [], Option, Some, None, Result, Ok, Err, IfSome, refl, subst, sym, ◌∙◌}
 use Rattle.std.specs.Prelude.{IsOk}
 use Rattle.ngc_canonical.specs.State.{Setup}
-use Rattle.ngc_machine.specs.Machine.{MachineFile, built_in_machine}
-use Rattle.ngc_machine.specs.MachineText.{machine_file}
-use Rattle.ngc_machine.specs.ToolText.{tool_table}
-use Rattle.ngc_machine.specs.declared.fault.FileFault.{FileFault}
-use Rattle.ngc_machine.specs.declared.tools.Tool.{Tool}
+use Rattle.ngc_machine_files.specs.Machine.{MachineFile, built_in_machine}
+use Rattle.ngc_machine_files.specs.MachineText.{machine_file}
+use Rattle.ngc_machine_files.specs.ToolText.{tool_table}
+use Rattle.ngc_machine_files.specs.declared.fault.FileFault.{FileFault}
+use Rattle.ngc_machine_files.specs.declared.tools.Tool.{Tool}
 use Rattle.ngc_simulator.specs.Setups.{FileBytes, IfSaid, KeepsFiles, IfMachine, IfTools, OnSetup, AreSetup, Refuses}
 use Rattle.ngc_simulator.specs.Shops.{RefusesMachine, RefusesShop, RefusesTools}
 use Rattle.ngc_simulator.specs.declared.fault.AnswerFault.{AnswerFault}

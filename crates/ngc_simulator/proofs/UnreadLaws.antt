@@ -8,9 +8,9 @@ use Rattle.ngc_text.specs.declared.input_fault.InputFault.{InputFault}
 use Rattle.ngc_text.specs.declared.input_fault.InputFault.TheVariants as inputs
 use Rattle.ngc_line_reader.specs.declared.program.fault.ReadFault.{ReadFault}
 use Rattle.ngc_line_reader.specs.declared.program.fault.ReadFault.TheVariants as reads
-use Rattle.ngc_machine.specs.Machine.{MachineFile}
-use Rattle.ngc_machine.specs.MachineText.{machine_file}
-use Rattle.ngc_machine.specs.ToolText.{tool_table}
+use Rattle.ngc_machine_files.specs.Machine.{MachineFile}
+use Rattle.ngc_machine_files.specs.MachineText.{machine_file}
+use Rattle.ngc_machine_files.specs.ToolText.{tool_table}
 use Rattle.ngc_simulator.specs.Setups.{FileBytes, IfMachine, KeepsFiles}
 use Rattle.ngc_simulator.specs.Shops.{GivesShop}
 use Rattle.ngc_simulator.specs.Faults.{OfCertifying, OfChecking, OfDrawing, OfListing, OfLiving, OfRunning}

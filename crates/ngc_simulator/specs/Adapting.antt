@@ -11,9 +11,9 @@ use Rattle.ngc_adapt_program.specs.ToolNumbers.{tools_named, table_text}
 use Rattle.ngc_canonical.specs.State.{Setup}
 use Rattle.ngc_command_line.specs.declared.options.AdaptOptions.{AdaptOptions}
 use Rattle.ngc_commands.specs.declared.command.Command.{Command}
-use Rattle.ngc_machine.specs.Machine.{MachineFile}
-use Rattle.ngc_machine.specs.ToolText.{tool_table}
-use Rattle.ngc_machine.specs.declared.fault.FileFault.{FileFault}
+use Rattle.ngc_machine_files.specs.Machine.{MachineFile}
+use Rattle.ngc_machine_files.specs.ToolText.{tool_table}
+use Rattle.ngc_machine_files.specs.declared.fault.FileFault.{FileFault}
 use Rattle.ngc_simulator.specs.declared.done.Notes.{Notes}
 use Rattle.ngc_simulator.specs.declared.fault.AnswerFault.{AnswerFault}
 use Rattle.ngc_simulator.specs.declared.fault.AnswerFault.TheVariants as answers

@@ -6,7 +6,7 @@ use Rattle.std.specs.Io.KnownBytes.{Appends, Keeps}
 use Rattle.ngc_text.specs.Written.{AppendsBeginning}
 use Rattle.ngc_line_reader.specs.ProgramText.{program_of}
 use Rattle.ngc_line_reader.specs.ProgramView.{FaultIs}
-use Rattle.ngc_machine.specs.Machine.{MachineFile}
+use Rattle.ngc_machine_files.specs.Machine.{MachineFile}
 use Rattle.ngc_commands.specs.declared.command.Command.{Command}
 use Rattle.ngc_canonical.specs.State.{Setup}
 use Rattle.ngc_certificate_text.specs.declared.piece.Setting.{Setting}
@@ -23,7 +23,7 @@ use Rattle.ngc_checker.specs.FirstRefusal.{setting_fault}
 use Rattle.ngc_command_line.specs.declared.options.DrawOptions.{DrawOptions}
 use Rattle.ngc_drawing.specs.Pictures.{picture_text}
 use Rattle.ngc_drawing.specs.declared.look.Look.{Look}
-use Rattle.ngc_drawing.specs.declared.refusal.Refusal.{Refusal}
+use Rattle.ngc_drawing.specs.declared.refusal.RefusedMotion.{RefusedMotion}
 use Rattle.ngc_drawing.specs.declared.view.View.{View}
 use Rattle.ngc_drawing.specs.declared.view.View.TheVariants.{Top, Front, Side}
 use Rattle.ngc_program_report.specs.Met.{met_at}
@@ -51,7 +51,7 @@ setting_of block_delete = if block_delete then On else Off
 
 -- where no certificate is given: the result of making one for these commands, with as many pieces as
 -- `certify` tries by itself
-abbrev pub IsMadeRefusal : MachineFile → List Command → Option Refusal → Type 0
+abbrev pub IsMadeRefusal : MachineFile → List Command → Option RefusedMotion → Type 0
 IsMadeRefusal machine commands None =
     (c : CertificateData) × IsMade machine 8 commands commands (Ok c)
 IsMadeRefusal machine commands (Some refusal) =
@@ -60,14 +60,14 @@ IsMadeRefusal machine commands (Some refusal) =
     × (refusal.fixture ≡ met_at machine commands refusal.command)
 
 -- where one is given: its first fault at the setting, if that is for travel or for a fixture
-abbrev pub piece_refusal : ℕ → PieceFault → Option Refusal
+abbrev pub piece_refusal : ℕ → PieceFault → Option RefusedMotion
 piece_refusal k pieces.Chain = None
 piece_refusal k pieces.NotCovered = None
 piece_refusal k pieces.OutsideTravel = Some (record { command = k; fault = 315; fixture = None })
 piece_refusal k (pieces.MeetsFixture i) =
     Some (record { command = k; fault = 316; fixture = Some i })
 
-abbrev pub drawn_refusal : CheckFault → Option Refusal
+abbrev pub drawn_refusal : CheckFault → Option RefusedMotion
 drawn_refusal (checks.Program s e) = None
 drawn_refusal (checks.MotionsDiffer s k) = None
 drawn_refusal (checks.Start i) = Some (record { command = 0; fault = 318; fixture = Some i })
@@ -80,11 +80,11 @@ abbrev pub fault_at : MachineFile → Setting → List Command → CertificateDa
 fault_at machine s commands c = setting_fault machine s commands (entries_at s c)
 
 -- a fault that isn't drawn is answered
-abbrev pub drawn_or : CheckFault → Option Refusal → Result (Option Refusal) CheckFault
+abbrev pub drawn_or : CheckFault → Option RefusedMotion → Result (Option RefusedMotion) CheckFault
 drawn_or fault None = Err fault
 drawn_or fault (Some refusal) = Ok (Some refusal)
 
-abbrev pub refusal_answer : Option CheckFault → Result (Option Refusal) CheckFault
+abbrev pub refusal_answer : Option CheckFault → Result (Option RefusedMotion) CheckFault
 refusal_answer None = Ok None
 refusal_answer (Some fault) = drawn_or fault (drawn_refusal fault)
 
@@ -93,18 +93,18 @@ refusal_answer (Some fault) = drawn_or fault (drawn_refusal fault)
 -- the picture of what a file means with the motions of a certificate, and with what is refused of
 -- it
 pub record IsPicture (setup : Setup) (bytes : List ℕ) (block_delete : Bool) (look : Look)
-    (entries : List Entry) (IsShown : List Command → Option Refusal → Type 0) (text : List ℕ) :
+    (entries : List Entry) (IsShown : List Command → Option RefusedMotion → Type 0) (text : List ℕ) :
     Type 0 where
   pub commands : List Command
   pub meaning : IsMeaning setup bytes block_delete (Ok commands)
-  pub refusal : Option Refusal
+  pub refusal : Option RefusedMotion
   pub shows : IsShown commands refusal
   pub draws : text ≡ picture_text look setup.machine commands entries refusal
 
 -- the picture was written, or a prefix of it where the sink failed; where there is none, what
 -- was written is as it was
 abbrev pub Draws : Setup → List ℕ → Bool → Look → List Entry →
-    (List Command → Option Refusal → Type 0) → Option (List ℕ) → Option (List ℕ) →
+    (List Command → Option RefusedMotion → Type 0) → Option (List ℕ) → Option (List ℕ) →
     Result (Unit {0}) AnswerFault → Type 0
 Draws setup bytes block_delete look entries IsShown old new (Ok u) = (text : List ℕ) ×
     IsPicture setup bytes block_delete look entries IsShown text × Appends old new text
@@ -126,7 +126,7 @@ DrawsProgram setup bytes block_delete look old new outcome =
 
 -- what a certificate refuses of commands
 abbrev pub IsGivenRefusal : MachineFile → Setting → CertificateData → List Command →
-    Option Refusal → Type 0
+    Option RefusedMotion → Type 0
 IsGivenRefusal machine s c commands refusal =
     refusal_answer (fault_at machine s commands c) ≡ Ok refusal
 

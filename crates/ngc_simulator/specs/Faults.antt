@@ -29,9 +29,9 @@ use Rattle.ngc_text.specs.declared.input_fault.InputFault.TheVariants as inputs
 use Rattle.ngc_line_reader.specs.ReadFaults.{number_of as read_number}
 use Rattle.ngc_line_reader.specs.declared.program.fault.ReadFault.{ReadFault}
 use Rattle.ngc_line_reader.specs.declared.program.fault.ReadFault.TheVariants as reads
-use Rattle.ngc_machine.specs.Faults.{number_of as file_number}
-use Rattle.ngc_machine.specs.declared.fault.FileFault.{FileFault}
-use Rattle.ngc_machine.specs.declared.fault.FileFault.TheVariants as files
+use Rattle.ngc_machine_files.specs.Faults.{number_of as file_number}
+use Rattle.ngc_machine_files.specs.declared.fault.FileFault.{FileFault}
+use Rattle.ngc_machine_files.specs.declared.fault.FileFault.TheVariants as files
 use Rattle.ngc_run_log.specs.declared.live_fault.LiveFault.{LiveFault}
 use Rattle.ngc_run_log.specs.declared.live_fault.LiveFault.TheVariants as live
 use Rattle.ngc_run_log.specs.declared.report.RunFault.{RunFault}

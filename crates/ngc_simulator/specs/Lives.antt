@@ -6,7 +6,7 @@ use Rattle.std.specs.Str.{bytes_eq}
 use Rattle.ngc_canonical.specs.State.{Setup}
 use Rattle.ngc_line_reader.specs.ProgramText.{program_of}
 use Rattle.ngc_line_reader.specs.ProgramView.{FaultIs}
-use Rattle.ngc_behaviour.specs.State.{Job}
+use Rattle.ngc_machine_model.specs.State.{Job}
 use Rattle.ngc_run_log.specs.declared.live_fault.LiveFault.{LiveFault}
 use Rattle.ngc_run_log.specs.declared.live_fault.LiveFault.TheVariants as live
 use Rattle.ngc_run_log.specs.declared.live_form.LiveForm.{LiveForm}

@@ -5,14 +5,14 @@ use Rattle.std.specs.Prelude.{if◌then◌else◌}
 use Rattle.std.specs.Io.KnownBytes.{Appends, Keeps}
 use Rattle.ngc_text.specs.Written.{AppendsBeginning}
 use Rattle.ngc_command_line.specs.declared.options.MachineOptions.{MachineOptions}
-use Rattle.ngc_machine.specs.Machine.{MachineFile}
-use Rattle.ngc_machine.specs.MachineText.{machine_file}
-use Rattle.ngc_machine.specs.declared.fault.FileFault.{FileFault}
+use Rattle.ngc_machine_files.specs.Machine.{MachineFile}
+use Rattle.ngc_machine_files.specs.MachineText.{machine_file}
+use Rattle.ngc_machine_files.specs.declared.fault.FileFault.{FileFault}
 use Rattle.ngc_machine_maker.specs.declared.choices.Choices.{Choices}
 use Rattle.ngc_machine_maker.specs.declared.figures.Figures.{Figures}
 use Rattle.ngc_machine_maker.specs.declared.numbers.MachineNumbers.{MachineNumbers}
 use Rattle.ngc_machine_maker.specs.declared.options.Options.{Options}
-use Rattle.ngc_machine_maker.specs.declared.refusal.Refusal.{Refusal}
+use Rattle.ngc_machine_maker.specs.declared.refusal.FigureRefusal.{FigureRefusal}
 use Rattle.ngc_machine_maker.specs.Choices.{chosen}
 use Rattle.ngc_machine_maker.specs.File.{file_text, notes_text}
 use Rattle.ngc_machine_maker.specs.Grbl.{figures_in}
@@ -61,25 +61,25 @@ pub record AreChoices (options : MachineOptions) (c : Choices) : Type 0 where
   pub home30 : option_map (λ t. t.now) options.home30 ≡ option_map (λ t. t.now) c.home30
 
 -- the figures of a source, before anything is chosen
-abbrev pub IsGiven : MachineOptions → Option (List ℕ) → Result Figures Refusal → Type 0
+abbrev pub IsGiven : MachineOptions → Option (List ℕ) → Result Figures FigureRefusal → Type 0
 IsGiven options (Some dump) given = given ≡ figures_in dump
 IsGiven options None given = (o : Options) × AreFigures options o × (given ≡ figures_of o)
 
-abbrev pub with_choices : Choices → Result Figures Refusal → Result Figures Refusal
+abbrev pub with_choices : Choices → Result Figures FigureRefusal → Result Figures FigureRefusal
 with_choices c (Ok figures) = chosen figures c
 with_choices c (Err refusal) = Err refusal
 
 -- the figures that are asked
 pub record IsAskedFor (options : MachineOptions) (dump : Option (List ℕ))
-    (asked : Result Figures Refusal) : Type 0 where
-  pub given : Result Figures Refusal
+    (asked : Result Figures FigureRefusal) : Type 0 where
+  pub given : Result Figures FigureRefusal
   pub is_given : IsGiven options dump given
   pub choices : Choices
   pub are_choices : AreChoices options choices
   pub chosen : asked ≡ with_choices choices given
 
 -- figures that are refused leave what was written as it was, and the notes say why
-abbrev pub TellsRefusal : Refusal → Option (List ℕ) → Option (List ℕ) → Notes → Type 0
+abbrev pub TellsRefusal : FigureRefusal → Option (List ℕ) → Option (List ℕ) → Notes → Type 0
 TellsRefusal refusal old new notes = Keeps old new × (notes.is_written ≡ false)
     × (notes.text.items ≡ refusal_line refusal)
 
@@ -112,14 +112,14 @@ IsUnmade keys answers.Memory = Unit {0}
 IsUnmade keys (answers.Machine e) = IsUnread keys e
 IsUnmade keys _ = ⊥
 
-abbrev pub WritesNumbers : Figures → Result MachineNumbers Refusal → Option (List ℕ) →
+abbrev pub WritesNumbers : Figures → Result MachineNumbers FigureRefusal → Option (List ℕ) →
     Option (List ℕ) → Notes → Type 0
 WritesNumbers figures (Ok numbers) old new notes =
     ((text : List ℕ) × IsMadeText (file_text numbers figures) text × Appends old new text)
     × (notes.is_written ≡ true) × (notes.text.items ≡ notes_text numbers figures)
 WritesNumbers figures (Err refusal) old new notes = TellsRefusal refusal old new notes
 
-abbrev pub MakesFile : Result Figures Refusal → Option (List ℕ) → Option (List ℕ) → Notes → Type 0
+abbrev pub MakesFile : Result Figures FigureRefusal → Option (List ℕ) → Option (List ℕ) → Notes → Type 0
 MakesFile (Ok figures) old new notes = WritesNumbers figures (numbers_of figures) old new notes
 MakesFile (Err refusal) old new notes = TellsRefusal refusal old new notes
 
@@ -145,7 +145,7 @@ MakeFails options dump old new _ = ⊥
 
 abbrev pub Makes : MachineOptions → Option (List ℕ) → Option (List ℕ) → Option (List ℕ) →
     Result Notes AnswerFault → Type 0
-Makes options dump old new (Ok notes) = (asked : Result Figures Refusal)
+Makes options dump old new (Ok notes) = (asked : Result Figures FigureRefusal)
     × IsAskedFor options dump asked × MakesFile asked old new notes
 Makes options dump old new (Err fault) = MakeFails options dump old new fault
 

@@ -3,9 +3,9 @@ use Rattle.std.specs.Prelude.{◌≡◌, ◌≢◌, ◌⊎◌, ℕ, List, ◌++�
 use Rattle.std.specs.Prelude.{IsSomeAnd}
 use Rattle.std.specs.Io.KnownBytes.{Appends, Keeps}
 use Rattle.ngc_text.specs.Written.{AppendsBeginning}
-use Rattle.ngc_machine.specs.Faults.{number_of as file_number}
-use Rattle.ngc_machine.specs.declared.fault.FileFault.{FileFault}
-use Rattle.ngc_machine.specs.declared.fault.FileFault.TheVariants.{Memory}
+use Rattle.ngc_machine_files.specs.Faults.{number_of as file_number}
+use Rattle.ngc_machine_files.specs.declared.fault.FileFault.{FileFault}
+use Rattle.ngc_machine_files.specs.declared.fault.FileFault.TheVariants.{Memory}
 use Rattle.ngc_report.specs.Forms.{opening}
 use Rattle.ngc_report.specs.declared.form.Form.{Form}
 use Rattle.ngc_report.specs.declared.form.Form.TheVariants.{Words, Json}

@@ -1,12 +1,12 @@
 -- What the machine file and the tool table that a command line names say.
 use Rattle.std.specs.Prelude.{◌≡◌, ◌≢◌, ℕ, List, [], Option, Some, None, Result, Ok, Err, IfSome}
 use Rattle.ngc_canonical.specs.State.{Setup}
-use Rattle.ngc_machine.specs.Machine.{MachineFile, built_in_machine}
-use Rattle.ngc_machine.specs.MachineText.{machine_file}
-use Rattle.ngc_machine.specs.ToolText.{tool_table}
-use Rattle.ngc_machine.specs.declared.fault.FileFault.{FileFault}
-use Rattle.ngc_machine.specs.declared.fault.FileFault.TheVariants.{Memory}
-use Rattle.ngc_machine.specs.declared.tools.Tool.{Tool}
+use Rattle.ngc_machine_files.specs.Machine.{MachineFile, built_in_machine}
+use Rattle.ngc_machine_files.specs.MachineText.{machine_file}
+use Rattle.ngc_machine_files.specs.ToolText.{tool_table}
+use Rattle.ngc_machine_files.specs.declared.fault.FileFault.{FileFault}
+use Rattle.ngc_machine_files.specs.declared.fault.FileFault.TheVariants.{Memory}
+use Rattle.ngc_machine_files.specs.declared.tools.Tool.{Tool}
 
 -- the bytes of a file by its name, or of standard input, where they are known
 abbrev pub FileBytes : Type 0

@@ -2,8 +2,8 @@
 use Rattle.std.specs.Prelude.{ℕ, Bool, true, false, List, Option, Result, Ok, Err}
 use Rattle.std.specs.Io.KnownBytes.{Appends}
 use Rattle.ngc_canonical.specs.State.{Setup}
-use Rattle.ngc_machine.specs.Machine.{MachineFile}
-use Rattle.ngc_machine.specs.declared.tools.Tool.{Tool}
+use Rattle.ngc_machine_files.specs.Machine.{MachineFile}
+use Rattle.ngc_machine_files.specs.declared.tools.Tool.{Tool}
 use Rattle.ngc_text.specs.Written.{AppendsBeginning}
 use Rattle.ngc_setup_sheet.specs.Sheets.{sheet_text, warnings_text}
 use Rattle.ngc_simulator.specs.declared.fault.AnswerFault.{AnswerFault}

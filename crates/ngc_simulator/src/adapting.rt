@@ -2,9 +2,9 @@
 ghost use Rattle.std.specs.Prelude.{◌≡◌, ◌++◌, ◌⊎◌, false, IfErr, IfOk, IfSome, MatchResult, OnOk, Ok, option_map};
 ghost use Rattle.ngc_adapt_program.specs.ToolNumbers.{table_text};
 ghost use Rattle.ngc_canonical.specs.Interpreter.{setup_of};
-ghost use Rattle.ngc_machine.specs.Machine.{file_of};
-ghost use Rattle.ngc_machine.specs.ToolText.{tool_table};
-ghost use Rattle.ngc_machine.specs.Tools.{tools_of};
+ghost use Rattle.ngc_machine_files.specs.Machine.{file_of};
+ghost use Rattle.ngc_machine_files.specs.ToolText.{tool_table};
+ghost use Rattle.ngc_machine_files.specs.Tools.{tools_of};
 ghost use Rattle.ngc_simulator.specs.Adapting.{Adapts, IsAsked, IsRequest, Understands};
 ghost use Rattle.ngc_simulator.specs.Adapting.{homes_of};
 ghost use Rattle.ngc_simulator.specs.Adapting.{IsOfProgram, IsTableFault, refused_text};
@@ -25,7 +25,7 @@ use ngc_adapt_program::{Request, adapt_program, add_tool_table, control_named, d
 use ngc_command_line::AdaptOptions;
 use ngc_job::Job;
 use ngc_line_reader::Program;
-use ngc_machine::{Machine, Tools};
+use ngc_machine_files::{Machine, Tools};
 use ngc_text::{Chunk, Device, InputFault, Sink, read_whole, write_all};
 use std::alloc::Global;
 

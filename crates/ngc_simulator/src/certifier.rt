@@ -20,7 +20,7 @@ use ngc_certificate_text::Certificate;
 use ngc_command_line::{CertifyOptions, Format};
 use ngc_job::{Job, JobFault};
 use ngc_line_reader::Program;
-use ngc_machine::{Machine, Tools};
+use ngc_machine_files::{Machine, Tools};
 use ngc_text::{Sink, Source};
 use std::alloc::{Allocator, Global};
 

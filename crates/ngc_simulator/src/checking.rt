@@ -17,7 +17,7 @@ use crate::opening::{open_file, read_program};
 use crate::setup::read_shop;
 use ngc_command_line::CheckOptions;
 use ngc_line_reader::Program;
-use ngc_machine::{Machine, Tools};
+use ngc_machine_files::{Machine, Tools};
 use ngc_text::{Sink, Source, write_all};
 use std::alloc::{Allocator, Global};
 

@@ -7,7 +7,7 @@ ghost use Rattle.ngc_certificate_text.specs.Contents.{said_of};
 ghost use Rattle.ngc_certificate_text.specs.Said.{certificate_said};
 ghost use Rattle.ngc_line_reader.specs.ProgramText.{program_of, HaveReadings};
 ghost use Rattle.ngc_line_reader.specs.ProgramView.{text_in};
-ghost use Rattle.ngc_machine.specs.Machine.{file_of};
+ghost use Rattle.ngc_machine_files.specs.Machine.{file_of};
 ghost use Rattle.ngc_simulator.specs.Faults.{FailsByOutput, OfDrawing};
 ghost use Rattle.ngc_simulator.specs.Drawing.{DrawsGiven, DrawsProgram, IsMadeRefusal};
 ghost use Rattle.ngc_simulator.specs.Drawing.{drawn_refusal, fault_at};
@@ -20,9 +20,9 @@ use ngc_certificate::{MakeFault, PieceFault, Setting, make_alike};
 use ngc_certificate_text::{Certificate, Motions};
 use ngc_checker::{CheckFault, setting_fault};
 use ngc_commands::Command;
-use ngc_drawing::{DrawFault, Look, Refusal, View, write_svg};
+use ngc_drawing::{DrawFault, Look, RefusedMotion, View, write_svg};
 use ngc_line_reader::Program;
-use ngc_machine::{Machine, Tools};
+use ngc_machine_files::{Machine, Tools};
 use ngc_program_report::met_at;
 use ngc_text::Sink;
 use std::alloc::Allocator;
@@ -40,17 +40,17 @@ pub(crate) fn view_of(name: Option<&str>) -> Option<View>
 }
 
 /// What a picture shows of a refusal: those for travel and for a fixture.
-fn drawn_refusal(fault: &CheckFault) -> Option<Refusal>
+fn drawn_refusal(fault: &CheckFault) -> Option<RefusedMotion>
     ensures { result ≡ drawn_refusal fault.now }
 {
     match fault {
         CheckFault::Piece { command, fault, .. } => match fault {
-            PieceFault::OutsideTravel => Some(Refusal {
+            PieceFault::OutsideTravel => Some(RefusedMotion {
                 command: *command as usize,
                 fault: 315,
                 fixture: None,
             }),
-            PieceFault::MeetsFixture(fixture) => Some(Refusal {
+            PieceFault::MeetsFixture(fixture) => Some(RefusedMotion {
                 command: *command as usize,
                 fault: 316,
                 fixture: Some(*fixture as usize),
@@ -61,12 +61,12 @@ fn drawn_refusal(fault: &CheckFault) -> Option<Refusal>
             command,
             fixture,
             ..
-        } => Some(Refusal {
+        } => Some(RefusedMotion {
             command: *command as usize,
             fault: 317,
             fixture: Some(*fixture as usize),
         }),
-        CheckFault::Start { fixture } => Some(Refusal {
+        CheckFault::Start { fixture } => Some(RefusedMotion {
             command: 0,
             fault: 318,
             fixture: Some(*fixture as usize),
@@ -86,7 +86,7 @@ fn made_refusal<A: Allocator + Copy>(
     alloc: A,
     commands: &[Command],
     machine: &Machine<A>,
-) -> Result<Option<Refusal>, DrawFault>
+) -> Result<Option<RefusedMotion>, DrawFault>
     requires { length commands.now ≤ COMMAND_LIMIT }
     ensures { MatchResult result (IsMadeRefusal (file_of machine.now) commands.now)
         (λ fault. fault ≡ DrawFault.Memory) }
@@ -96,7 +96,7 @@ fn made_refusal<A: Allocator + Copy>(
         Err(fault) => fault,
     };
     match fault {
-        MakeFault::NotCleared { command, .. } => Ok(Some(Refusal {
+        MakeFault::NotCleared { command, .. } => Ok(Some(RefusedMotion {
             command: command as usize,
             fault: 304,
             fixture: drawn_fixture(met_at(machine, commands, command as usize)),
@@ -122,7 +122,7 @@ fn checked_refusal<A: Allocator>(
     block_delete: bool,
     commands: &[Command],
     certificate: &Certificate<A>,
-) -> Result<Option<Refusal>, CheckFault>
+) -> Result<Option<RefusedMotion>, CheckFault>
     requires { length commands.now ≤ COMMAND_LIMIT }
     ensures { result ≡ refusal_answer
         (fault_at (file_of machine.now) (setting_of block_delete) commands.now

@@ -12,7 +12,7 @@ use ngc_certificate::{MakeFault, PieceFault, Setting};
 use ngc_checker::CheckFault;
 use ngc_events::EventsFault;
 use ngc_line_reader::ReadFault;
-use ngc_machine::FileFault;
+use ngc_machine_files::FileFault;
 use ngc_text::Chunk;
 
 fn add_line_number(chunk: &mut Chunk, line: u32)

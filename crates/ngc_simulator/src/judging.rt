@@ -18,7 +18,7 @@ use crate::setup::Shop;
 use ngc_certificate_text::CertificateFault;
 use ngc_checker::{Accepted, CheckFault, CheckReadFault, check_source};
 use ngc_line_reader::Program;
-use ngc_machine::{Machine, Tools};
+use ngc_machine_files::{Machine, Tools};
 use ngc_text::Source;
 use std::alloc::{Allocator, Global};
 

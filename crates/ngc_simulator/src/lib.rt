@@ -51,11 +51,11 @@ pub use ngc_command_line::{
     ShowOptions, UsageFault, help_text, read_options,
 };
 pub use ngc_controller::{Controller, MemoryFault};
-pub use ngc_drawing::{DrawFault, Refusal, View, write_svg};
+pub use ngc_drawing::{DrawFault, RefusedMotion, View, write_svg};
 pub use ngc_events::{Ending, Event, EventFault, EventLine, EventsFault, Reply, read_events};
 pub use ngc_fault_texts::{ExplainFault, explain};
 pub use ngc_listing::write_list;
-pub use ngc_machine::{FileFault, Fixture, Machine, Tool, Tools, built_in_machine};
+pub use ngc_machine_files::{FileFault, Fixture, Machine, Tool, Tools, built_in_machine};
 pub use ngc_program_report::{ReportRequest, RunTime};
 pub use ngc_report::Form;
 pub use ngc_run_log::{

@@ -16,7 +16,7 @@ use ngc_canonical::interpret;
 use ngc_command_line::ListOptions;
 use ngc_line_reader::Program;
 use ngc_listing::write_list;
-use ngc_machine::{Machine, Tools};
+use ngc_machine_files::{Machine, Tools};
 use ngc_text::{Sink, Source};
 use std::alloc::{Allocator, Global};
 

@@ -1,8 +1,8 @@
 //! Machine files from figures, of the command line or of a file that it names.
 ghost use Rattle.std.specs.Prelude.{◌≡◌, ◌++◌, [], IfErr, IfOk, MatchResult, Ok, true, false};
 ghost use Rattle.std.specs.Prelude.{is_some, option_map, Some};
-ghost use Rattle.ngc_machine.specs.Machine.{file_of};
-ghost use Rattle.ngc_machine.specs.MachineText.{machine_file};
+ghost use Rattle.ngc_machine_files.specs.Machine.{file_of};
+ghost use Rattle.ngc_machine_files.specs.MachineText.{machine_file};
 ghost use Rattle.ngc_machine_maker.specs.Asked.{scale_in};
 ghost use Rattle.ngc_machine_maker.specs.File.{file_text};
 ghost use Rattle.ngc_machine_maker.specs.InFile.{AreInFile};
@@ -21,10 +21,10 @@ use crate::fault::AnswerFault;
 use crate::files::Files;
 use crate::setup::bytes_of;
 use ngc_command_line::MachineOptions;
-use ngc_machine::Machine;
+use ngc_machine_files::Machine;
 use ngc_machine_maker::{
-    Choices, Figures, MachineNumbers, Options, Refusal, numbers_of, read_grbl, write_machine_file,
-    write_notes, write_refusal,
+    Choices, FigureRefusal, Figures, MachineNumbers, Options, numbers_of, read_grbl,
+    write_machine_file, write_notes, write_refusal,
 };
 use ngc_setup_sheet::write_warning_remarks;
 use ngc_text::{Device, Sink, write_all};
@@ -94,7 +94,10 @@ fn choices_of<'a>(options: &MachineOptions<'a>) -> Choices<'a>
 }
 
 // The figures that are asked: of a dump of GRBL's settings, or of the options.
-fn figures_asked(options: &MachineOptions<'_>, dump: Option<&[u8]>) -> Result<Figures, Refusal>
+fn figures_asked(
+    options: &MachineOptions<'_>,
+    dump: Option<&[u8]>,
+) -> Result<Figures, FigureRefusal>
     requires { is_some dump ≡ false → has_all_figures options.now ≡ true }
     ensures { IsAskedFor options.now (option_map (λ d. d.now) dump.entry) result }
 {
@@ -110,7 +113,7 @@ fn figures_asked(options: &MachineOptions<'_>, dump: Option<&[u8]>) -> Result<Fi
 }
 
 // The notes of figures that are refused.
-fn refused(alloc: Global, refusal: Refusal) -> Result<Notes, AnswerFault>
+fn refused(alloc: Global, refusal: FigureRefusal) -> Result<Notes, AnswerFault>
     ensures notes { IfOk result (λ notes. (notes.is_written ≡ false)
         × (notes.text.items ≡ refusal_line refusal)) }
     ensures fault { IfErr result (λ fault. fault ≡ AnswerFault.Memory) }

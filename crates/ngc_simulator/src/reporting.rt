@@ -16,7 +16,7 @@ use ngc_canonical::{ProgramFault, has_deleted_lines};
 use ngc_certificate::{MakeFault, Setting};
 use ngc_job::Job;
 use ngc_line_reader::Program;
-use ngc_machine::{Machine, Tools};
+use ngc_machine_files::{Machine, Tools};
 use ngc_program_report::{ReportRequest, report_fit, report_refusal, write_rejection};
 use ngc_text::{Sink, Source};
 use std::alloc::Allocator;

@@ -1,8 +1,8 @@
 //! The machine and its tools, from the files that the command line names.
 ghost use Rattle.std.specs.Prelude.{◌≡◌, IfErr, IfOk, IfSome, MatchResult, Ok, OnOk, Some};
 ghost use Rattle.std.specs.Prelude.{option_map};
-ghost use Rattle.ngc_machine.specs.Machine.{file_of};
-ghost use Rattle.ngc_machine.specs.Tools.{tools_of};
+ghost use Rattle.ngc_machine_files.specs.Machine.{file_of};
+ghost use Rattle.ngc_machine_files.specs.Tools.{tools_of};
 ghost use Rattle.ngc_simulator.specs.Setups.{IfMachine, IfTools, KeepsFiles};
 ghost use Rattle.ngc_simulator.specs.Shops.{GivesShop, RefusesMachine, RefusesTools};
 ghost use Rattle.ngc_simulator.specs.Unread.{FailsByInput, OfMachine, OfTools, SourceFails};
@@ -11,7 +11,7 @@ ghost use Rattle.ngc_simulator.specs.Unread.{TellsUnread, setup_input, shop_inpu
 use crate::fault::AnswerFault;
 use crate::files::Files;
 use crate::opening::open_file;
-use ngc_machine::{Machine, Tools, built_in_machine};
+use ngc_machine_files::{Machine, Tools, built_in_machine};
 use ngc_text::{InputFault, read_whole};
 use std::alloc::Global;
 

@@ -1,6 +1,6 @@
 ghost use Rattle.std.specs.Prelude.{IfErr, List, ℕ};
 ghost use Rattle.ngc_canonical.specs.State.{Setup};
-ghost use Rattle.ngc_behaviour.specs.Headline.{job_of};
+ghost use Rattle.ngc_machine_model.specs.Headline.{job_of};
 ghost use Rattle.ngc_checker.specs.Accepted.{commands_at};
 ghost use Rattle.ngc_run_log.specs.Runs.{FailsByWriting};
 ghost use Rattle.ngc_simulator.specs.Answers.{RunThroughComes, run_through_inputs, run_through_writing};

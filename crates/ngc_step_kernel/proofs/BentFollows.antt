@@ -5,22 +5,22 @@ use Rattle.std.proofs.lemmas.Int.{ints}
 use Rattle.ngc_fixed_length.specs.Grid.{distance}
 use Rattle.ngc_fixed_length.specs.Places.{cross}
 use Rattle.ngc_fixed_length.specs.declared.points.Point2.{Point2}
-use Rattle.ngc_wheel.specs.declared.spoke.Quadrant.{Quadrant}
-use Rattle.ngc_wheel.specs.declared.spoke.Quadrant.TheVariants.{First, Second, Third, Fourth}
-use Rattle.ngc_wheel.specs.declared.spoke.Spoke.{Spoke}
-use Rattle.ngc_wheel.specs.Around.{way_to}
-use Rattle.ngc_wheel.specs.Quadrants.{quadrants_to}
-use Rattle.ngc_wheel.specs.Wheel.{is_before}
+use Rattle.ngc_circle_walk.specs.declared.spoke.Quadrant.{Quadrant}
+use Rattle.ngc_circle_walk.specs.declared.spoke.Quadrant.TheVariants.{First, Second, Third, Fourth}
+use Rattle.ngc_circle_walk.specs.declared.spoke.Spoke.{Spoke}
+use Rattle.ngc_circle_walk.specs.Around.{way_to}
+use Rattle.ngc_circle_walk.specs.Quadrants.{quadrants_to}
+use Rattle.ngc_circle_walk.specs.Wheel.{is_before}
 use Rattle.ngc_arc_geometry.specs.Shape.{ArcShape, end_of}
 use Rattle.ngc_arc_geometry.specs.Radii.{squared_distance}
-use Rattle.ngc_arc_walk.specs.Placed.{turned_by}
-use Rattle.ngc_arc_walk.proofs.Begins.{Begins}
-use Rattle.ngc_arc_walk.proofs.Counts.{quadrants_counted}
-use Rattle.ngc_arc_walk.proofs.Nearly.{IsPair}
-use Rattle.ngc_arc_walk.proofs.NearlySmall.{IsFew}
-use Rattle.ngc_arc_walk.proofs.Reached.{IsApart, IsReached, SomeWay, reached}
-use Rattle.ngc_arc_walk.proofs.Shorts.{none_begun}
-use Rattle.ngc_step_kernel.specs.declared.round.Way.{Way}
+use Rattle.ngc_circle_laws.specs.Placed.{turned_by}
+use Rattle.ngc_circle_laws.proofs.Begins.{Begins}
+use Rattle.ngc_circle_laws.proofs.Counts.{quadrants_counted}
+use Rattle.ngc_circle_laws.proofs.Nearly.{IsPair}
+use Rattle.ngc_circle_laws.proofs.NearlySmall.{IsFew}
+use Rattle.ngc_circle_laws.proofs.Reached.{IsApart, IsReached, SomeWay, reached}
+use Rattle.ngc_circle_laws.proofs.Shorts.{none_begun}
+use Rattle.ngc_step_kernel.specs.declared.round.Vector2.{Vector2}
 use Rattle.ngc_step_kernel.specs.declared.spot.Spot.{Spot}
 use Rattle.ngc_step_kernel.specs.Entered.{way_cross}
 use Rattle.ngc_step_kernel.specs.PlaneCourse.{laid}
@@ -80,7 +80,7 @@ is_reached a g begun b f e at few c none =
 way_apart : (c w j p : ℤ) (m : ℕ) → distance j w ≡ m → j ≡ p -ℤ c → distance (c +ℤ w) p ≡ m
 way_apart c w j p m h e = omega (arith, ints, h, e)
 
-pub spot_apart : (g : ℕ) (c w : Way) (p : Spot) (j e : Spoke) (m n : ℕ) → way_to j ≡ place_of (way_from g c p) → way_to e ≡ place_of w →
+pub spot_apart : (g : ℕ) (c w : Vector2) (p : Spot) (j e : Spoke) (m n : ℕ) → way_to j ≡ place_of (way_from g c p) → way_to e ≡ place_of w →
     IsApart (way_to j) (way_to e) m n →
     ((distance (c.u +ℤ w.u) (p.u *ℤ pos g) ≡ m) × (distance (c.v +ℤ w.v) (p.v *ℤ pos g) ≡ n)) ⊎
     ((distance (c.u +ℤ w.u) (p.u *ℤ pos g) ≡ n) × (distance (c.v +ℤ w.v) (p.v *ℤ pos g) ≡ m))
@@ -103,7 +103,7 @@ spot_apart g c w p j e m n hj he h =
 one_of : (g m : ℕ) → 0 < g → 20 * m ≤ 21 * g → 2 * m < 3 * g
 one_of g m some h = omega (arith, some, h)
 
-pub short_of : (g : ℕ) (c w : Way) (p : Spot) (j e : Spoke) → 0 < g → way_to j ≡ place_of (way_from g c p) → way_to e ≡ place_of w → SomeWay (IsPair g) j e →
+pub short_of : (g : ℕ) (c w : Vector2) (p : Spot) (j e : Spoke) → 0 < g → way_to j ≡ place_of (way_from g c p) → way_to e ≡ place_of w → SomeWay (IsPair g) j e →
     IsShortOf g c w p
 short_of g c w p j e some hj he way =
     let m = way.0 in

@@ -3,13 +3,13 @@ use Rattle.std.proofs.Common.{◌≡◌, ℕ, ◌+◌, ◌-◌, ◌*◌, ◌/◌
 use Rattle.std.specs.Prelude.{None, int_lt}
 use Rattle.std.proofs.lemmas.Bool.{cases_lt}
 use Rattle.ngc_fixed_length.specs.Roots.{IsRootCeil}
-use Rattle.ngc_wheel.specs.Around.{way_to}
-use Rattle.ngc_wheel.specs.Quadrants.{quadrants_to}
-use Rattle.ngc_wheel.specs.Wheel.{is_before}
-use Rattle.ngc_wheel.specs.declared.spoke.Spoke.{Spoke}
+use Rattle.ngc_circle_walk.specs.Around.{way_to}
+use Rattle.ngc_circle_walk.specs.Quadrants.{quadrants_to}
+use Rattle.ngc_circle_walk.specs.Wheel.{is_before}
+use Rattle.ngc_circle_walk.specs.declared.spoke.Spoke.{Spoke}
 use Rattle.ngc_arc_geometry.specs.Shape.{ArcShape, start_of}
 use Rattle.ngc_arc_geometry.specs.Radii.{lo, IsArc}
-use Rattle.ngc_arc_walk.proofs.Lifts.{some_leeway}
+use Rattle.ngc_circle_laws.proofs.Lifts.{some_leeway}
 use Rattle.ngc_step_kernel.specs.declared.plan.Plan.{Plan}
 use Rattle.ngc_step_kernel.specs.declared.spot.Spot.{Spot}
 use Rattle.ngc_step_kernel.specs.declared.view.View.{View}

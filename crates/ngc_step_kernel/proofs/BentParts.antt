@@ -6,30 +6,30 @@ use Rattle.std.proofs.lemmas.Int.{ints}
 use Rattle.ngc_fixed_length.specs.Places.{cross}
 use Rattle.ngc_fixed_length.specs.Roots.{IsRootCeil}
 use Rattle.ngc_fixed_length.specs.declared.points.Point2.{Point2}
-use Rattle.ngc_wheel.specs.declared.spoke.Spoke.{Spoke}
-use Rattle.ngc_wheel.specs.Around.{way_to}
-use Rattle.ngc_wheel.specs.Quadrants.{quadrants_to}
-use Rattle.ngc_wheel.specs.Wheel.{square, is_before}
-use Rattle.ngc_wheel.proofs.Beginnings.{IsNearJoint, small_stands, large_stands}
-use Rattle.ngc_wheel.proofs.CircleLaws.{rim_of}
-use Rattle.ngc_wheel.proofs.NearEnd.{limit_of}
-use Rattle.ngc_wheel.proofs.Rays.{square_le}
+use Rattle.ngc_circle_walk.specs.declared.spoke.Spoke.{Spoke}
+use Rattle.ngc_circle_walk.specs.Around.{way_to}
+use Rattle.ngc_circle_walk.specs.Quadrants.{quadrants_to}
+use Rattle.ngc_circle_walk.specs.Wheel.{square, is_before}
+use Rattle.ngc_circle_walk.proofs.Beginnings.{IsNearJoint, small_stands, large_stands}
+use Rattle.ngc_circle_walk.proofs.CircleLaws.{rim_of}
+use Rattle.ngc_circle_walk.proofs.NearEnd.{limit_of}
+use Rattle.ngc_circle_walk.proofs.Rays.{square_le}
 use Rattle.ngc_arc_geometry.specs.Shape.{ArcShape}
 use Rattle.ngc_arc_geometry.specs.Radii.{outer_radius}
 use Rattle.ngc_arc_geometry.specs.Sector.{extremes}
 use Rattle.ngc_arc_geometry.specs.ArcBand.{leeway, spread, IsWithin}
 use Rattle.ngc_arc_geometry.specs.ArcSides.{IsByAnEnd}
 use Rattle.ngc_arc_geometry.specs.ArcOrder.{Passes}
-use Rattle.ngc_arc_walk.specs.Placed.{placed, turned_by, axis_spoke, first_axis}
-use Rattle.ngc_arc_walk.specs.Round.{IsRound}
-use Rattle.ngc_arc_walk.proofs.Begins.{Begins}
-use Rattle.ngc_arc_walk.proofs.Lifts.{some_leeway, passes_along, passes_from_before}
-use Rattle.ngc_arc_walk.proofs.Nearly.{IsPair, IsPlacedJoint, large_stands_way, large_enters_way}
-use Rattle.ngc_arc_walk.proofs.NearlySmall.{IsFew, IsSmallRay, small_stands_way, small_enters_way}
-use Rattle.ngc_arc_walk.proofs.OneAxis.{passes_at_one, stood_by_axis, rolled_by_axis, small_by_axis}
-use Rattle.ngc_arc_walk.proofs.Passing.{at_most_one}
-use Rattle.ngc_arc_walk.proofs.Reached.{IsReached, SomeWay}
-use Rattle.ngc_arc_walk.proofs.Shorts.{IsByAxis, by_axis}
+use Rattle.ngc_circle_laws.specs.Placed.{placed, turned_by, axis_spoke, first_axis}
+use Rattle.ngc_circle_laws.specs.Round.{IsRound}
+use Rattle.ngc_circle_laws.proofs.Begins.{Begins}
+use Rattle.ngc_circle_laws.proofs.Lifts.{some_leeway, passes_along, passes_from_before}
+use Rattle.ngc_circle_laws.proofs.Nearly.{IsPair, IsPlacedJoint, large_stands_way, large_enters_way}
+use Rattle.ngc_circle_laws.proofs.NearlySmall.{IsFew, IsSmallRay, small_stands_way, small_enters_way}
+use Rattle.ngc_circle_laws.proofs.OneAxis.{passes_at_one, stood_by_axis, rolled_by_axis, small_by_axis}
+use Rattle.ngc_circle_laws.proofs.Passing.{at_most_one}
+use Rattle.ngc_circle_laws.proofs.Reached.{IsReached, SomeWay}
+use Rattle.ngc_circle_laws.proofs.Shorts.{IsByAxis, by_axis}
 use Rattle.ngc_step_kernel.specs.declared.plan.Plan.{Plan}
 use Rattle.ngc_step_kernel.specs.declared.spot.Spot.{Spot}
 use Rattle.ngc_step_kernel.specs.Course.{IsPlan, course_at, rounded, last_of}

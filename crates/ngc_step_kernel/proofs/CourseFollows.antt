@@ -4,17 +4,17 @@ use Rattle.std.specs.Prelude.{Bool, true, false, nat_lt, Some, int_lt}
 use Rattle.std.proofs.lemmas.Bool.{cases_lt}
 use Rattle.ngc_fixed_length.specs.Roots.{IsRootCeil}
 use Rattle.ngc_fixed_length.specs.declared.points.Point2.{Point2}
-use Rattle.ngc_wheel.specs.Around.{way_to}
-use Rattle.ngc_wheel.specs.Quadrants.{quadrants_to}
-use Rattle.ngc_wheel.specs.Wheel.{is_before}
-use Rattle.ngc_wheel.specs.declared.spoke.Spoke.{Spoke}
-use Rattle.ngc_wheel.proofs.NearEnd.{limit_of}
+use Rattle.ngc_circle_walk.specs.Around.{way_to}
+use Rattle.ngc_circle_walk.specs.Quadrants.{quadrants_to}
+use Rattle.ngc_circle_walk.specs.Wheel.{is_before}
+use Rattle.ngc_circle_walk.specs.declared.spoke.Spoke.{Spoke}
+use Rattle.ngc_circle_walk.proofs.NearEnd.{limit_of}
 use Rattle.ngc_arc_geometry.specs.Shape.{ArcShape, start_of, end_of}
 use Rattle.ngc_arc_geometry.specs.Radii.{lo, outer_radius, IsArc}
 use Rattle.ngc_arc_geometry.specs.ArcBand.{leeway, spread}
 use Rattle.ngc_arc_geometry.specs.ArcOrder.{GoesOn}
 use Rattle.ngc_arc_geometry.specs.Sector.{extremes}
-use Rattle.ngc_arc_walk.proofs.Lifts.{some_leeway, passes_along}
+use Rattle.ngc_circle_laws.proofs.Lifts.{some_leeway, passes_along}
 use Rattle.ngc_step_kernel.specs.declared.plan.Plan.{Plan}
 use Rattle.ngc_step_kernel.specs.declared.spot.Spot.{Spot}
 use Rattle.ngc_step_kernel.specs.Course.{IsPlan, course_at, last_of, rounded}

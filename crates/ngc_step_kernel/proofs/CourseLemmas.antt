@@ -3,22 +3,22 @@ use Rattle.std.proofs.Common.{◌≡◌, ℕ, suc, ◌+◌, ◌-◌, ◌<◌, �
 use Rattle.std.proofs.lemmas.Int.{ints, by_lt_z}
 use Rattle.std.proofs.lemmas.Bool.{cases_lt}
 use Rattle.ngc_fixed_length.specs.Grid.{distance}
-use Rattle.ngc_wheel.specs.declared.spoke.Spoke.{Spoke}
+use Rattle.ngc_circle_walk.specs.declared.spoke.Spoke.{Spoke}
 use Rattle.ngc_step_kernel.specs.declared.moves.AxisMove.{AxisMove}
 use Rattle.ngc_step_kernel.specs.declared.moves.AxisMove.TheVariants.{Back, Stay, Forward}
 use Rattle.ngc_step_kernel.specs.declared.plan.Plan.{Plan}
 use Rattle.ngc_step_kernel.specs.declared.spot.Spot.{Spot}
 use Rattle.ngc_step_kernel.specs.Line.{toward}
 use Rattle.ngc_step_kernel.specs.Move.{steps_of}
-use Rattle.ngc_wheel.specs.declared.spoke.Roll.{Roll}
-use Rattle.ngc_wheel.specs.Wheel.{rolled, IsRoll, IsSmall}
+use Rattle.ngc_circle_walk.specs.declared.spoke.Roll.{Roll}
+use Rattle.ngc_circle_walk.specs.Wheel.{rolled, IsRoll, IsSmall}
 use Rattle.ngc_step_kernel.specs.declared.spot.PlaneMove.{PlaneMove}
 use Rattle.ngc_step_kernel.proofs.WheelLemmas.{spoke_on}
-use Rattle.ngc_wheel.proofs.OneRoll.{only_roll}
-use Rattle.ngc_wheel.proofs.Wheeling.{first_spoke}
+use Rattle.ngc_circle_walk.proofs.OneRoll.{only_roll}
+use Rattle.ngc_circle_walk.proofs.Wheeling.{first_spoke}
 use Rattle.ngc_step_kernel.specs.Spots.{roll_move, IsSpot, axis_towards, spot_towards, spot_moved, straight_moves, straight_place, straight_at}
 use Rattle.ngc_step_kernel.specs.Course.{wheel_move, round_at, rounded, last_of, course_at, IsPlan, IsCourseAt}
-use Rattle.ngc_wheel.specs.Rolling.{spoke_at}
+use Rattle.ngc_circle_walk.specs.Rolling.{spoke_at}
 use Rattle.ngc_step_kernel.proofs.LineLemmas.{toward-zero, toward-all, toward_small}
 
 -- ---- straight

@@ -14,7 +14,7 @@ use Rattle.ngc_fixed_length.specs.declared.points.Point2.{Point2}
 use Rattle.ngc_fixed_length.specs.declared.points.Point3.{Point3}
 use Rattle.ngc_fixed_length.specs.declared.points.StepPos.{StepPos}
 use Rattle.ngc_fixed_length.proofs.Nearest.{nearest_near}
-use Rattle.ngc_step_kernel.specs.declared.round.Way.{Way}
+use Rattle.ngc_step_kernel.specs.declared.round.Vector2.{Vector2}
 use Rattle.ngc_step_kernel.specs.declared.spot.Spot.{Spot}
 use Rattle.ngc_step_kernel.specs.Round.{turned, in_space, seen_spot, seen_height}
 use Rattle.ngc_step_kernel.specs.UnitPath.{IsUnitPath}
@@ -50,7 +50,7 @@ axis_reach : (c w p : ℤ) (g r : ℕ) → 2 * unsigned_abs ((c +ℤ w) -ℤ (p 
     unsigned_abs ((p *ℤ pos g) -ℤ c) ≤ 3000000000
 axis_reach c w p g r near small short = omega (arith, ints, near, small, short)
 
-pub nearest_reach : (g : ℕ) (c w : Way) (p : Spot) → IsRadius w → IsNearestSpot g c w p → g ≤ 50000 → IsInReach g c p
+pub nearest_reach : (g : ℕ) (c w : Vector2) (p : Spot) → IsRadius w → IsNearestSpot g c w p → g ≤ 50000 → IsInReach g c p
 nearest_reach g c w p radius near short = record {
   u = axis_reach c.u w.u p.u g 0 near.u (first_side w 2000020000 radius.bound) short;
   v = axis_reach c.v w.v p.v g 0 near.v (second_side w 2000020000 radius.bound) short;

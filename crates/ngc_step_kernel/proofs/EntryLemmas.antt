@@ -5,17 +5,17 @@ use Rattle.std.proofs.lemmas.Int.{ints}
 use Rattle.std.proofs.Math.Nat.{mul-le-mul_left}
 use Rattle.ngc_fixed_length.specs.Places.{dot}
 use Rattle.ngc_fixed_length.specs.declared.points.Point2.{Point2}
-use Rattle.ngc_wheel.specs.declared.spoke.Roll.{Roll}
-use Rattle.ngc_wheel.specs.declared.spoke.Roll.TheVariants.{Outward, Diagonal, Inward, Over}
-use Rattle.ngc_wheel.specs.declared.spoke.Spoke.{Spoke}
+use Rattle.ngc_circle_walk.specs.declared.spoke.Roll.{Roll}
+use Rattle.ngc_circle_walk.specs.declared.spoke.Roll.TheVariants.{Outward, Diagonal, Inward, Over}
+use Rattle.ngc_circle_walk.specs.declared.spoke.Spoke.{Spoke}
 use Rattle.ngc_fixed_length.specs.Grid.{distance}
-use Rattle.ngc_wheel.specs.Around.{around, way_to}
-use Rattle.ngc_wheel.specs.Entering.{IsEntry}
-use Rattle.ngc_wheel.specs.Wheel.{square, rolled, CanRoll}
-use Rattle.ngc_wheel.proofs.Rays.{square_le, from_squares}
-use Rattle.ngc_wheel.proofs.Turns.{square_around}
+use Rattle.ngc_circle_walk.specs.Around.{around, way_to}
+use Rattle.ngc_circle_walk.specs.Entering.{IsEntry}
+use Rattle.ngc_circle_walk.specs.Wheel.{square, rolled, CanRoll}
+use Rattle.ngc_circle_walk.proofs.Rays.{square_le, from_squares}
+use Rattle.ngc_circle_walk.proofs.Turns.{square_around}
 use Rattle.ngc_arc_geometry.proofs.Squares.{square_sum}
-use Rattle.ngc_step_kernel.specs.declared.round.Way.{Way}
+use Rattle.ngc_step_kernel.specs.declared.round.Vector2.{Vector2}
 use Rattle.ngc_step_kernel.specs.declared.spot.Spot.{Spot}
 use Rattle.ngc_step_kernel.specs.declared.moves.AxisMove.{AxisMove}
 use Rattle.ngc_step_kernel.specs.declared.moves.AxisMove.TheVariants.{Back, Stay, Forward}
@@ -28,32 +28,32 @@ use Rattle.ngc_step_kernel.specs.View.{squared, place_of, way_from}
 use Rattle.ngc_step_kernel.specs.Ways.{IsWay}
 use Rattle.ngc_step_kernel.proofs.ViewLemmas.{first_side, second_side}
 
-pub about_joint : (g : ℕ) (c : Way) (p : Spot) (w : Way) (s : Spoke) → w ≡ way_from g c p → around s.quadrant s.x s.y ≡ place_of w → IsAbout g (place_of c) p s
+pub about_joint : (g : ℕ) (c : Vector2) (p : Spot) (w : Vector2) (s : Spoke) → w ≡ way_from g c p → around s.quadrant s.x s.y ≡ place_of w → IsAbout g (place_of c) p s
 about_joint g c p w s e h =
     let hu : (around s.quadrant s.x s.y).u ≡ w.u = ap (λ (q : Point2). q.u) h in
     let hv : (around s.quadrant s.x s.y).v ≡ w.v = ap (λ (q : Point2). q.v) h in
-    let wu : w.u ≡ (p.u *ℤ pos g) -ℤ c.u = ap (λ (x : Way). x.u) e in
-    let wv : w.v ≡ (p.v *ℤ pos g) -ℤ c.v = ap (λ (x : Way). x.v) e in
+    let wu : w.u ≡ (p.u *ℤ pos g) -ℤ c.u = ap (λ (x : Vector2). x.u) e in
+    let wv : w.v ≡ (p.v *ℤ pos g) -ℤ c.v = ap (λ (x : Vector2). x.v) e in
     record { u = omega (arith, ints, hu, wu); v = omega (arith, ints, hv, wv) }
 
 -- a spoke's square is its vector's
-pub square_of_way : (w : Way) (s : Spoke) → around s.quadrant s.x s.y ≡ place_of w → square s.x s.y ≡ squared w
+pub square_of_way : (w : Vector2) (s : Spoke) → around s.quadrant s.x s.y ≡ place_of w → square s.x s.y ≡ squared w
 square_of_way w s h = sym (square_around s.quadrant s.x s.y) ∙ ap (λ (q : Point2). unsigned_abs (dot q q)) h ∙ square_sum w.u w.v
 
 pub near_joint : (n r g : ℕ) → 12 * n ≤ 12 * (r * r) + 17 * (r * g) + 6 * (g * g) → n ≤ (r + g) * (r + g)
 near_joint n r g h = omega (arith, h)
 
-pub near_way : (w v : Way) (r g : ℕ) → w ≡ v → 12 * squared v ≤ 12 * (r * r) + 17 * (r * g) + 6 * (g * g) → squared w ≤ (r + g) * (r + g)
+pub near_way : (w v : Vector2) (r g : ℕ) → w ≡ v → 12 * squared v ≤ 12 * (r * r) + 17 * (r * g) + 6 * (g * g) → squared w ≤ (r + g) * (r + g)
 near_way w v r g e h = rw e (near_joint (squared v) r g h)
 
 -- the first point, and its position about the centre
-pub record IsJoined (g r : ℕ) (c : Way) (p : Spot) (w : Way) (s : Spoke) : Type 0 where
+pub record IsJoined (g r : ℕ) (c : Vector2) (p : Spot) (w : Vector2) (s : Spoke) : Type 0 where
   pub about : IsAbout g (place_of c) p s
   pub near : square s.x s.y ≤ (r + g) * (r + g)
   pub x : s.x ≤ 2900000000
   pub y : s.y ≤ 2900000000
 
-pub joined : (g r : ℕ) (c : Way) (p : Spot) (w : Way) (s : Spoke) → w ≡ way_from g c p → around s.quadrant s.x s.y ≡ place_of w →
+pub joined : (g r : ℕ) (c : Vector2) (p : Spot) (w : Vector2) (s : Spoke) → w ≡ way_from g c p → around s.quadrant s.x s.y ≡ place_of w →
     12 * squared (way_from g c p) ≤ 12 * (r * r) + 17 * (r * g) + 6 * (g * g) →
     r ≤ 2000020000 → g ≤ 50000 → IsJoined g r c p w s
 joined g r c p w s e h near hr hg =
@@ -64,7 +64,7 @@ joined g r c p w s e h near hr hg =
     let y = from_squares s.y (r + g) (omega (arith, all)) in
     record { about = about_joint g c p w s e h; near = all; x = omega (arith, x, hr, hg); y = omega (arith, y, hr, hg) }
 
-pub is_way : (w v : Way) (r g : ℕ) → w ≡ v → 12 * squared v ≤ 12 * (r * r) + 17 * (r * g) + 6 * (g * g) → r ≤ 2000020000 → g ≤ 50000 → IsWay w
+pub is_way : (w v : Vector2) (r g : ℕ) → w ≡ v → 12 * squared v ≤ 12 * (r * r) + 17 * (r * g) + 6 * (g * g) → r ≤ 2000020000 → g ≤ 50000 → IsWay w
 is_way w v r g e near hr hg =
     let n = near_way w v r g e near in
     let u = first_side w (r + g) n in
@@ -109,23 +109,23 @@ none_on p = omega (arith, ints)
 pub none_beside : (p : Spot) → straight_moves p p ≤ 1
 none_beside p = omega (arith, none_on p.u, none_on p.v)
 
-pub entered_from : (g limit : ℕ) (b w v : Way) (steep : Bool) (first s : Spoke) (roll : Roll) (z : ℤ) → v ≡ w → way_to first ≡ place_of v →
+pub entered_from : (g limit : ℕ) (b w v : Vector2) (steep : Bool) (first s : Spoke) (roll : Roll) (z : ℤ) → v ≡ w → way_to first ≡ place_of v →
     (0 < unsigned_abs v.u + unsigned_abs v.v → 0 < first.x) → z ≡ way_cross b v → z <ℤ pos 0 → steep ≡ is_steep first.quadrant b →
     IsEntry g limit steep first roll → s ≡ rolled g roll first → IsEntered g limit b w s
 entered_from g limit b w v steep first s roll z same at out area behind told entry on =
-    let e : way_cross b v ≡ way_cross b w = ap (λ (x : Way). way_cross b x) same in (
+    let e : way_cross b v ≡ way_cross b w = ap (λ (x : Vector2). way_cross b x) same in (
       first,
-      at ∙ ap (λ (x : Way). place_of x) same,
-      subst (λ (x : Way). 0 < unsigned_abs x.u + unsigned_abs x.v → 0 < first.x) same out,
+      at ∙ ap (λ (x : Vector2). place_of x) same,
+      subst (λ (x : Vector2). 0 < unsigned_abs x.u + unsigned_abs x.v → 0 < first.x) same out,
       inr (omega (arith, ints, behind, area, e), (roll, subst (λ t. IsEntry g limit t first roll) told entry, on)),
     )
 
-pub stood_from : (g limit : ℕ) (b w v : Way) (first : Spoke) (z : ℤ) → v ≡ w → way_to first ≡ place_of v →
+pub stood_from : (g limit : ℕ) (b w v : Vector2) (first : Spoke) (z : ℤ) → v ≡ w → way_to first ≡ place_of v →
     (0 < unsigned_abs v.u + unsigned_abs v.v → 0 < first.x) → z ≡ way_cross b v → pos 0 ≤ℤ z → IsEntered g limit b w first
 stood_from g limit b w v first z same at out area ahead =
-    let e : way_cross b v ≡ way_cross b w = ap (λ (x : Way). way_cross b x) same in (
+    let e : way_cross b v ≡ way_cross b w = ap (λ (x : Vector2). way_cross b x) same in (
       first,
-      at ∙ ap (λ (x : Way). place_of x) same,
-      subst (λ (x : Way). 0 < unsigned_abs x.u + unsigned_abs x.v → 0 < first.x) same out,
+      at ∙ ap (λ (x : Vector2). place_of x) same,
+      subst (λ (x : Vector2). 0 < unsigned_abs x.u + unsigned_abs x.v → 0 < first.x) same out,
       inl (omega (arith, ints, ahead, area, e), refl),
     )

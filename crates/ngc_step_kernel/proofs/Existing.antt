@@ -9,16 +9,16 @@ use Rattle.ngc_fixed_length.specs.declared.points.Point2.{Point2}
 use Rattle.ngc_fixed_length.specs.Rounding.{nearest}
 use Rattle.ngc_fixed_length.proofs.Nearest.{nearest_near}
 use Rattle.ngc_fixed_length.proofs.RootLaws.{above_root}
-use Rattle.ngc_wheel.specs.declared.spoke.Quadrant.{Quadrant}
-use Rattle.ngc_wheel.specs.declared.spoke.Quadrant.TheVariants.{First, Second, Third, Fourth}
-use Rattle.ngc_wheel.specs.declared.spoke.Roll.{Roll}
-use Rattle.ngc_wheel.specs.declared.spoke.Roll.TheVariants.{Outward, Diagonal, Inward, Over}
-use Rattle.ngc_wheel.specs.declared.spoke.Spoke.{Spoke}
-use Rattle.ngc_wheel.specs.Around.{around}
-use Rattle.ngc_wheel.specs.Entering.{IsEntry}
-use Rattle.ngc_wheel.specs.Rolling.{spoke_at, quadrant_at}
-use Rattle.ngc_wheel.specs.Wheel.{square, IsSmall}
-use Rattle.ngc_arc_walk.specs.ArcWalk.{IsBeforeEnd}
+use Rattle.ngc_circle_walk.specs.declared.spoke.Quadrant.{Quadrant}
+use Rattle.ngc_circle_walk.specs.declared.spoke.Quadrant.TheVariants.{First, Second, Third, Fourth}
+use Rattle.ngc_circle_walk.specs.declared.spoke.Roll.{Roll}
+use Rattle.ngc_circle_walk.specs.declared.spoke.Roll.TheVariants.{Outward, Diagonal, Inward, Over}
+use Rattle.ngc_circle_walk.specs.declared.spoke.Spoke.{Spoke}
+use Rattle.ngc_circle_walk.specs.Around.{around}
+use Rattle.ngc_circle_walk.specs.Entering.{IsEntry}
+use Rattle.ngc_circle_walk.specs.Rolling.{spoke_at, quadrant_at}
+use Rattle.ngc_circle_walk.specs.Wheel.{square, IsSmall}
+use Rattle.ngc_circle_laws.specs.ArcWalk.{IsBeforeEnd}
 use Rattle.ngc_step_kernel.specs.View.{IsMoved}
 use Rattle.ngc_step_kernel.proofs.ViewLemmas.{IsMovedSum, moved_sum, moved_small}
 

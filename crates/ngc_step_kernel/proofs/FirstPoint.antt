@@ -1,11 +1,11 @@
 -- The wheel's first point: at the start's direction or past it, and near the circle.
 use Rattle.std.proofs.Common.{ℕ, ◌+◌, ◌*◌, ◌≤◌, inl, inr, sym, subst, arith}
 use Rattle.std.proofs.lemmas.Int.{ints}
-use Rattle.ngc_wheel.specs.declared.spoke.Spoke.{Spoke}
-use Rattle.ngc_wheel.proofs.Beginnings.{IsBound, IsSmallSize, small_stands, small_enters, large_stands, large_enters}
-use Rattle.ngc_wheel.proofs.NearEnd.{IsRim, limit_of}
+use Rattle.ngc_circle_walk.specs.declared.spoke.Spoke.{Spoke}
+use Rattle.ngc_circle_walk.proofs.Beginnings.{IsBound, IsSmallSize, small_stands, small_enters, large_stands, large_enters}
+use Rattle.ngc_circle_walk.proofs.NearEnd.{IsRim, limit_of}
 use Rattle.ngc_arc_geometry.specs.Shape.{ArcShape}
-use Rattle.ngc_arc_walk.proofs.Begins.{Begins, stands, enters}
+use Rattle.ngc_circle_laws.proofs.Begins.{Begins, stands, enters}
 use Rattle.ngc_step_kernel.specs.declared.spot.Spot.{Spot}
 use Rattle.ngc_step_kernel.specs.Entered.{is_steep, IsEnteredFrom}
 use Rattle.ngc_step_kernel.specs.View.{view_of, way_from}

@@ -5,7 +5,7 @@ use Rattle.std.proofs.lemmas.Bool.{cases_lt}
 use Rattle.std.proofs.Math.Nat.{mul-le-mul_left, le_of_mul-le-mul_left}
 use Rattle.ngc_fixed_length.specs.Grid.{distance}
 use Rattle.ngc_fixed_length.specs.Roots.{IsRootCeil}
-use Rattle.ngc_wheel.proofs.Rays.{square_le}
+use Rattle.ngc_circle_walk.proofs.Rays.{square_le}
 use Rattle.ngc_arc_geometry.specs.Shape.{ArcShape, start_of}
 use Rattle.ngc_arc_geometry.specs.Radii.{squared_distance, inner_radius, outer_radius, IsArc}
 use Rattle.ngc_arc_geometry.specs.ArcBand.{spread, IsWithin, IsInBand}

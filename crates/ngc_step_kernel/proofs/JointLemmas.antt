@@ -3,9 +3,9 @@
 use Rattle.std.proofs.Common.{◌≡◌, ℕ, suc, negsuc, neg_ℤ, ◌+◌, ◌*◌, ◌<◌, ◌≤◌, ℤ, pos, ◌+ℤ◌, ◌-ℤ◌, ◌*ℤ◌, unsigned_abs, arith, ap, sym, ◌∙◌}
 use Rattle.std.proofs.lemmas.Int.{ints, unsigned_abs-mul}
 use borrow.Author.Differences.{neg_is}
-use Rattle.ngc_wheel.proofs.Joins.{IsJoint}
-use Rattle.ngc_wheel.proofs.Entry.{joint_below}
-use Rattle.ngc_step_kernel.specs.declared.round.Way.{Way}
+use Rattle.ngc_circle_walk.proofs.Joins.{IsJoint}
+use Rattle.ngc_circle_walk.proofs.Entry.{joint_below}
+use Rattle.ngc_step_kernel.specs.declared.round.Vector2.{Vector2}
 use Rattle.ngc_step_kernel.specs.declared.spot.Spot.{Spot}
 use Rattle.ngc_step_kernel.specs.Spots.{straight_moves}
 use Rattle.ngc_step_kernel.specs.View.{squared, way_from, IsMoved, IsRadius, IsInReach}
@@ -14,7 +14,7 @@ use Rattle.ngc_step_kernel.proofs.LineLemmas.{scale-sum}
 use Rattle.ngc_step_kernel.proofs.OnRim.{axis_apart}
 use Rattle.ngc_step_kernel.proofs.ViewLemmas.{first_side, second_side}
 
-pub radius_way : (w : Way) → IsRadius w → IsWay w
+pub radius_way : (w : Vector2) → IsRadius w → IsWay w
 radius_way w h =
     let u = first_side w 2000020000 h.bound in
     let v = second_side w 2000020000 h.bound in
@@ -42,7 +42,7 @@ moved_joint g s r c b p near =
     let n = unsigned_abs-mul b (pos r) in
     record { up = omega (arith, h.0, m, n); down = omega (arith, h.1, m, n) }
 
-pub joint_near : (g s r : ℕ) (c b : Way) (p : Spot) → 0 < s → IsMoved g s r c.u b.u p.u → IsMoved g s r c.v b.v p.v → squared b ≤ s * s →
+pub joint_near : (g s r : ℕ) (c b : Vector2) (p : Spot) → 0 < s → IsMoved g s r c.u b.u p.u → IsMoved g s r c.v b.v p.v → squared b ≤ s * s →
     12 * squared (way_from g c p) ≤ 12 * (r * r) + 17 * (r * g) + 6 * (g * g)
 joint_near g s r c b p some mu mv round =
     joint_below g s r (unsigned_abs ((p.u *ℤ pos g) -ℤ c.u)) (unsigned_abs ((p.v *ℤ pos g) -ℤ c.v)) (unsigned_abs b.u) (unsigned_abs b.v) some
@@ -52,7 +52,7 @@ joint_near g s r c b p some mu mv round =
 from_there : (a c : ℤ) → a ≡ c +ℤ (a -ℤ c)
 from_there a c = omega (arith, ints)
 
-pub reach_apart : (g : ℕ) (c : Way) (p q : Spot) → 500 ≤ g → IsInReach g c p → IsInReach g c q → straight_moves p q ≤ 12000000
+pub reach_apart : (g : ℕ) (c : Vector2) (p q : Spot) → 500 ≤ g → IsInReach g c p → IsInReach g c q → straight_moves p q ≤ 12000000
 reach_apart g c p q step hp hq =
     let u = axis_apart g p.u q.u c.u ((p.u *ℤ pos g) -ℤ c.u) ((q.u *ℤ pos g) -ℤ c.u) step (from_there (p.u *ℤ pos g) c.u)
     (from_there (q.u *ℤ pos g) c.u) hp.u hq.u in

@@ -4,13 +4,13 @@ use Rattle.std.proofs.Common.{subst, ◌∙◌}
 use Rattle.std.proofs.lemmas.Bool.{cases_lt}
 use Rattle.std.proofs.lemmas.Int.{ints, by_lt_z}
 use Rattle.ngc_fixed_length.specs.Grid.{distance}
-use Rattle.ngc_wheel.proofs.Rays.{square_le}
+use Rattle.ngc_circle_walk.proofs.Rays.{square_le}
 use Rattle.ngc_arc_geometry.specs.Shape.{ArcShape, end_of}
 use Rattle.ngc_arc_geometry.specs.Radii.{IsArc}
 use Rattle.ngc_arc_geometry.specs.ArcBand.{spread, IsWithin}
 use Rattle.ngc_arc_geometry.specs.ArcOrder.{GoesOn}
 use Rattle.ngc_arc_geometry.specs.ArcSides.{IsByAnEnd}
-use Rattle.ngc_step_kernel.specs.declared.round.Way.{Way}
+use Rattle.ngc_step_kernel.specs.declared.round.Vector2.{Vector2}
 use Rattle.ngc_step_kernel.specs.declared.spot.Spot.{Spot}
 use Rattle.ngc_step_kernel.specs.Line.{toward}
 use Rattle.ngc_step_kernel.specs.PlaneCourse.{laid, IsByArc}
@@ -69,13 +69,13 @@ inside_two g p q r e hp hr (inr (inr w)) = omega (arith, ints, hp, hr, w.0, w.1)
 
 -- less than 37/20 steps from the end of a vector from the centre on both axes, and less than 3/2 on
 -- one of them
-pub record IsShortOf (g : ℕ) (c w : Way) (p : Spot) : Type 0 where
+pub record IsShortOf (g : ℕ) (c w : Vector2) (p : Spot) : Type 0 where
   pub u : 20 * distance (c.u +ℤ w.u) (p.u *ℤ pos g) < 37 * g
   pub v : 20 * distance (c.v +ℤ w.v) (p.v *ℤ pos g) < 37 * g
   pub one : (2 * distance (c.u +ℤ w.u) (p.u *ℤ pos g) < 3 * g) ⊎ (2 * distance (c.v +ℤ w.v) (p.v *ℤ pos g) < 3 * g)
 
 -- this holds for each point less than 3/2 steps from there on both axes
-pub beside_short : (g : ℕ) (c w : Way) (p : Spot) → 2 * distance (c.u +ℤ w.u) (p.u *ℤ pos g) < 3 * g → 2 * distance (c.v +ℤ w.v) (p.v *ℤ pos g) < 3 * g →
+pub beside_short : (g : ℕ) (c w : Vector2) (p : Spot) → 2 * distance (c.u +ℤ w.u) (p.u *ℤ pos g) < 3 * g → 2 * distance (c.v +ℤ w.v) (p.v *ℤ pos g) < 3 * g →
     IsShortOf g c w p
 beside_short g c w p hu hv = record { u = omega (arith, hu); v = omega (arith, hv); one = inl hu }
 

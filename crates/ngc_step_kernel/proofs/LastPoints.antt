@@ -5,19 +5,19 @@ use Rattle.std.proofs.lemmas.Int.{ints}
 use borrow.Author.Differences.{neg_is}
 use Rattle.ngc_fixed_length.specs.Grid.{distance}
 use Rattle.ngc_fixed_length.specs.declared.points.Point2.{Point2}
-use Rattle.ngc_wheel.specs.declared.spoke.Quadrant.{Quadrant}
-use Rattle.ngc_wheel.specs.declared.spoke.Quadrant.TheVariants.{First, Second, Third, Fourth}
-use Rattle.ngc_wheel.specs.declared.spoke.Spoke.{Spoke}
-use Rattle.ngc_wheel.specs.Around.{around}
-use Rattle.ngc_wheel.specs.Quadrants.{following}
-use Rattle.ngc_wheel.proofs.NearEnd.{IsBeside}
-use Rattle.ngc_wheel.proofs.SmallCircles.{apart}
+use Rattle.ngc_circle_walk.specs.declared.spoke.Quadrant.{Quadrant}
+use Rattle.ngc_circle_walk.specs.declared.spoke.Quadrant.TheVariants.{First, Second, Third, Fourth}
+use Rattle.ngc_circle_walk.specs.declared.spoke.Spoke.{Spoke}
+use Rattle.ngc_circle_walk.specs.Around.{around}
+use Rattle.ngc_circle_walk.specs.Quadrants.{following}
+use Rattle.ngc_circle_walk.proofs.NearEnd.{IsBeside}
+use Rattle.ngc_circle_walk.proofs.SmallCircles.{apart}
 use Rattle.ngc_arc_geometry.specs.Shape.{ArcShape, end_of}
 use Rattle.ngc_arc_geometry.specs.Radii.{squared_distance}
-use Rattle.ngc_arc_walk.specs.ArcWalk.{IsWalk}
-use Rattle.ngc_arc_walk.specs.Placed.{turned_by}
-use Rattle.ngc_arc_walk.proofs.Walks.{quadrant_on}
-use Rattle.ngc_step_kernel.specs.declared.round.Way.{Way}
+use Rattle.ngc_circle_laws.specs.ArcWalk.{IsWalk}
+use Rattle.ngc_circle_laws.specs.Placed.{turned_by}
+use Rattle.ngc_circle_laws.proofs.Walks.{quadrant_on}
+use Rattle.ngc_step_kernel.specs.declared.round.Vector2.{Vector2}
 use Rattle.ngc_step_kernel.specs.declared.spot.Spot.{Spot}
 use Rattle.ngc_step_kernel.specs.About.{IsAbout}
 use Rattle.ngc_step_kernel.specs.PlaneCourse.{laid}
@@ -28,7 +28,7 @@ use Rattle.ngc_step_kernel.proofs.PlaneApart.{end_apart}
 -- ---- along the axes, from the end of a vector from the centre to a grid point: m and n, in either
 -- order
 
-abbrev pub IsOff : ℕ → Way → Way → Spot → ℕ → ℕ → Type 0
+abbrev pub IsOff : ℕ → Vector2 → Vector2 → Spot → ℕ → ℕ → Type 0
 IsOff g c w p m n =
     ((distance (c.u +ℤ w.u) (p.u *ℤ pos g) ≡ m) × (distance (c.v +ℤ w.v) (p.v *ℤ pos g) ≡ n)) ⊎
     ((distance (c.u +ℤ w.u) (p.u *ℤ pos g) ≡ n) × (distance (c.v +ℤ w.v) (p.v *ℤ pos g) ≡ m))
@@ -66,7 +66,7 @@ around_next Second x y z t = inr (back_off y z, ahead_across x t)
 around_next Third x y z t = inl (back_across x t, back_off y z)
 around_next Fourth x y z t = inr (ahead_off y z, back_across x t)
 
-off_of : (g : ℕ) (c w : Way) (p : Spot) (s : Spoke) (d : Point2) (m n : ℕ) → IsAbout g (place_of c) p s → d ≡ place_of w →
+off_of : (g : ℕ) (c w : Vector2) (p : Spot) (s : Spoke) (d : Point2) (m n : ℕ) → IsAbout g (place_of c) p s → d ≡ place_of w →
     (let a = around s.quadrant s.x s.y in ((unsigned_abs (a.u -ℤ d.u) ≡ m) × (unsigned_abs (a.v -ℤ d.v) ≡ n)) ⊎
     ((unsigned_abs (a.u -ℤ d.u) ≡ n) × (unsigned_abs (a.v -ℤ d.v) ≡ m))) → IsOff g c w p m n
 off_of g c w p s d m n about there off =
@@ -85,14 +85,14 @@ off_of g c w p s d m n about there off =
     ]
 
 -- in one quadrant
-pub same_off : (g : ℕ) (c w : Way) (p : Spot) (s e : Spoke) → IsAbout g (place_of c) p s → around e.quadrant e.x e.y ≡ place_of w → s.quadrant ≡ e.quadrant →
+pub same_off : (g : ℕ) (c w : Vector2) (p : Spot) (s e : Spoke) → IsAbout g (place_of c) p s → around e.quadrant e.x e.y ≡ place_of w → s.quadrant ≡ e.quadrant →
     IsOff g c w p (apart s.x e.x) (apart s.y e.y)
 same_off g c w p s e about end same =
     off_of g c w p s (around s.quadrant e.x e.y) (apart s.x e.x) (apart s.y e.y) about (ap (λ (q : Quadrant). around q e.x e.y) same ∙ end)
     (around_same s.quadrant s.x s.y e.x e.y)
 
 -- the end in the next quadrant
-pub next_off : (g : ℕ) (c w : Way) (p : Spot) (s e : Spoke) → IsAbout g (place_of c) p s → around e.quadrant e.x e.y ≡ place_of w →
+pub next_off : (g : ℕ) (c w : Vector2) (p : Spot) (s e : Spoke) → IsAbout g (place_of c) p s → around e.quadrant e.x e.y ≡ place_of w →
     e.quadrant ≡ following s.quadrant → IsOff g c w p (s.x + e.y) (apart s.y e.x)
 next_off g c w p s e about end next =
     off_of g c w p s (around (following s.quadrant) e.x e.y) (s.x + e.y) (apart s.y e.x) about (ap (λ (q : Quadrant). around q e.x e.y) (sym next) ∙ end)
@@ -100,7 +100,7 @@ next_off g c w p s e about end next =
 
 -- ---- less than one and a half steps on both axes, or fifteen squares of a step
 
-pub off_short : (g : ℕ) (c w : Way) (p : Spot) (m n : ℕ) → IsOff g c w p m n → 2 * m < 3 * g → 2 * n < 3 * g → IsShortOf g c w p
+pub off_short : (g : ℕ) (c w : Vector2) (p : Spot) (m n : ℕ) → IsOff g c w p m n → 2 * m < 3 * g → 2 * n < 3 * g → IsShortOf g c w p
 off_short g c w p m n (inl off) hm hn = beside_short g c w p (omega (arith, off.0, hm)) (omega (arith, off.1, hn))
 off_short g c w p m n (inr off) hm hn = beside_short g c w p (omega (arith, off.0, hn)) (omega (arith, off.1, hm))
 
@@ -124,7 +124,7 @@ beside_apart g x z h = omega (arith, ints, h.up, h.down)
 
 -- ---- the last point before the end's ray
 
-pub large_last_short : (g : ℕ) (c w : Way) (p : Spot) (s e : Spoke) (here last : ℕ) → IsAbout g (place_of c) p s → around e.quadrant e.x e.y ≡ place_of w →
+pub large_last_short : (g : ℕ) (c w : Vector2) (p : Spot) (s e : Spoke) (here last : ℕ) → IsAbout g (place_of c) p s → around e.quadrant e.x e.y ≡ place_of w →
     (here ≡ last → s.quadrant ≡ e.quadrant) → (here + 1 ≡ last → e.quadrant ≡ following s.quadrant) →
     ((here ≡ last) × (IsBeside g s.x e.x × IsBeside g s.y e.y)) ⊎ ((here + 1 ≡ last) × ((2 * (s.x + e.y) < 3 * g) × IsBeside g s.y e.x)) → IsShortOf g c w p
 large_last_short g c w p s e here last about end same next near = elim near [

@@ -27,7 +27,7 @@ use Rattle.ngc_arc_geometry.specs.ArcSides.{IsBetweenEnds}
 use Rattle.ngc_arc_geometry.specs.ArcOrder.{Passes, GoesOn}
 use Rattle.ngc_arc_geometry.specs.ArcPath.{IsArcOf}
 use Rattle.ngc_arc_geometry.specs.WeakArcPath.{IsWeakArcOf}
-use Rattle.ngc_arc_walk.proofs.Lifts.{passes_along, passes_from_before}
+use Rattle.ngc_circle_laws.proofs.Lifts.{passes_along, passes_from_before}
 use Rattle.ngc_step_kernel.specs.declared.plan.Plan.{Plan}
 use Rattle.ngc_step_kernel.specs.declared.spot.Spot.{Spot}
 use Rattle.ngc_step_kernel.specs.Course.{course_at, IsPlan}

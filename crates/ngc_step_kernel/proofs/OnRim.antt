@@ -4,23 +4,23 @@ use Rattle.std.proofs.lemmas.Int.{ints}
 use Rattle.std.proofs.Math.Nat.{mul-le-mul_left}
 use Rattle.ngc_fixed_length.specs.declared.points.Point2.{Point2}
 use Rattle.ngc_fixed_length.specs.Grid.{distance}
-use Rattle.ngc_wheel.specs.declared.spoke.Quadrant.{Quadrant}
-use Rattle.ngc_wheel.specs.declared.spoke.Quadrant.TheVariants.{First, Second, Third, Fourth}
-use Rattle.ngc_wheel.specs.declared.spoke.Roll.{Roll}
-use Rattle.ngc_wheel.specs.declared.spoke.Roll.TheVariants.{Outward, Diagonal, Inward, Over}
-use Rattle.ngc_wheel.specs.declared.spoke.Spoke.{Spoke}
-use Rattle.ngc_wheel.specs.Around.{around}
-use Rattle.ngc_wheel.specs.Wheel.{rolled, IsRoll, IsSmall, next_roll, CanRoll}
-use Rattle.ngc_wheel.proofs.Rim.{rolls_below}
-use Rattle.ngc_wheel.specs.Bounds.{IsBelow}
-use Rattle.ngc_wheel.proofs.OneRoll.{next_is_due}
-use Rattle.ngc_wheel.proofs.Rolling.{within_reach}
+use Rattle.ngc_circle_walk.specs.declared.spoke.Quadrant.{Quadrant}
+use Rattle.ngc_circle_walk.specs.declared.spoke.Quadrant.TheVariants.{First, Second, Third, Fourth}
+use Rattle.ngc_circle_walk.specs.declared.spoke.Roll.{Roll}
+use Rattle.ngc_circle_walk.specs.declared.spoke.Roll.TheVariants.{Outward, Diagonal, Inward, Over}
+use Rattle.ngc_circle_walk.specs.declared.spoke.Spoke.{Spoke}
+use Rattle.ngc_circle_walk.specs.Around.{around}
+use Rattle.ngc_circle_walk.specs.Wheel.{rolled, IsRoll, IsSmall, next_roll, CanRoll}
+use Rattle.ngc_circle_walk.proofs.Rim.{rolls_below}
+use Rattle.ngc_circle_walk.specs.Bounds.{IsBelow}
+use Rattle.ngc_circle_walk.proofs.OneRoll.{next_is_due}
+use Rattle.ngc_circle_walk.proofs.Rolling.{within_reach}
 use Rattle.ngc_step_kernel.specs.declared.moves.AxisMove.{AxisMove}
 use Rattle.ngc_step_kernel.specs.declared.moves.AxisMove.TheVariants.{Back, Stay, Forward}
 use Rattle.ngc_step_kernel.specs.declared.spot.Spot.{Spot}
 use Rattle.ngc_step_kernel.specs.About.{IsAbout}
 use Rattle.ngc_step_kernel.specs.Course.{round_at}
-use Rattle.ngc_wheel.specs.Rolling.{spoke_at}
+use Rattle.ngc_circle_walk.specs.Rolling.{spoke_at}
 use Rattle.ngc_step_kernel.specs.Move.{steps_of}
 use Rattle.ngc_step_kernel.specs.Spots.{IsSpot, spot_moved, roll_move, straight_moves}
 use Rattle.ngc_step_kernel.proofs.LineLemmas.{scale-sum}

@@ -14,7 +14,7 @@ use Rattle.ngc_arc_geometry.specs.ArcBand.{leeway, spread, IsWithin}
 use Rattle.ngc_arc_geometry.specs.ArcSides.{IsByAnEnd}
 use Rattle.ngc_arc_geometry.specs.ArcOrder.{GoesOn, Passes}
 use Rattle.ngc_arc_geometry.proofs.Squares.{first_within, second_within}
-use Rattle.ngc_arc_walk.specs.Hull.{IsNearHull}
+use Rattle.ngc_circle_laws.specs.Hull.{IsNearHull}
 use Rattle.ngc_step_kernel.specs.declared.spot.Spot.{Spot}
 use Rattle.ngc_step_kernel.specs.PlaneCourse.{laid, IsByArc, FollowsInPlane}
 use Rattle.ngc_step_kernel.specs.Round.{turned}

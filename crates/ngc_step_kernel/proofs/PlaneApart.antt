@@ -9,18 +9,18 @@ use Rattle.ngc_fixed_length.specs.Grid.{distance}
 use Rattle.ngc_fixed_length.specs.declared.modes.Turn.{Turn}
 use Rattle.ngc_fixed_length.specs.declared.modes.Turn.TheVariants.{Counterclockwise, Clockwise}
 use Rattle.ngc_fixed_length.specs.declared.points.Point2.{Point2}
-use Rattle.ngc_wheel.proofs.Rays.{from_squares, square_le, squares_apart}
+use Rattle.ngc_circle_walk.proofs.Rays.{from_squares, square_le, squares_apart}
 use Rattle.ngc_arc_geometry.specs.Shape.{ArcShape, start_of, end_of}
 use Rattle.ngc_arc_geometry.specs.Radii.{squared_distance}
 use Rattle.ngc_arc_geometry.proofs.Squares.{square_sum}
-use Rattle.ngc_step_kernel.specs.declared.round.Way.{Way}
+use Rattle.ngc_step_kernel.specs.declared.round.Vector2.{Vector2}
 use Rattle.ngc_step_kernel.specs.declared.spot.Spot.{Spot}
 use Rattle.ngc_step_kernel.specs.PlaneCourse.{laid}
 use Rattle.ngc_step_kernel.specs.Round.{turned}
 use Rattle.ngc_step_kernel.specs.View.{squared, view_of, way_between, way_from}
 
 -- the squared distance from the end of a vector from the centre to a grid point
-abbrev pub apart_squared : ℕ → Way → Way → Spot → ℕ
+abbrev pub apart_squared : ℕ → Vector2 → Vector2 → Spot → ℕ
 apart_squared g c w p =
     distance (c.u +ℤ w.u) (p.u *ℤ pos g) * distance (c.u +ℤ w.u) (p.u *ℤ pos g) + distance (c.v +ℤ w.v) (p.v *ℤ pos g) * distance (c.v +ℤ w.v) (p.v *ℤ pos g)
 

@@ -2,14 +2,14 @@
 use Rattle.std.proofs.Common.{◌≡◌, ℕ, suc, ◌+◌, ◌-◌, ◌*◌, ◌<◌, ◌≤◌, inl, inr, sym, ◌∙◌, ap, subst, arith}
 use Rattle.std.specs.Prelude.{true, false, Some, None}
 use Rattle.std.proofs.lemmas.Bool.{cases_lt}
-use Rattle.ngc_wheel.specs.declared.spoke.Roll.{Roll}
-use Rattle.ngc_wheel.specs.declared.spoke.Roll.TheVariants.{Outward, Diagonal, Inward, Over}
-use Rattle.ngc_wheel.specs.declared.spoke.Spoke.{Spoke}
-use Rattle.ngc_wheel.specs.Rolling.{spoke_at, quadrant_at, quadrants_of}
-use Rattle.ngc_wheel.specs.Wheel.{IsRoll, is_before, next_roll}
-use Rattle.ngc_wheel.proofs.OneRoll.{only_roll}
-use Rattle.ngc_wheel.proofs.Wheeling.{next_quadrant, first_quadrant, first_spoke}
-use Rattle.ngc_arc_walk.specs.ArcWalk.{IsBeforeEnd}
+use Rattle.ngc_circle_walk.specs.declared.spoke.Roll.{Roll}
+use Rattle.ngc_circle_walk.specs.declared.spoke.Roll.TheVariants.{Outward, Diagonal, Inward, Over}
+use Rattle.ngc_circle_walk.specs.declared.spoke.Spoke.{Spoke}
+use Rattle.ngc_circle_walk.specs.Rolling.{spoke_at, quadrant_at, quadrants_of}
+use Rattle.ngc_circle_walk.specs.Wheel.{IsRoll, is_before, next_roll}
+use Rattle.ngc_circle_walk.proofs.OneRoll.{only_roll}
+use Rattle.ngc_circle_walk.proofs.Wheeling.{next_quadrant, first_quadrant, first_spoke}
+use Rattle.ngc_circle_laws.specs.ArcWalk.{IsBeforeEnd}
 use Rattle.ngc_step_kernel.specs.Left.{IsLeftAfter}
 
 -- what is known of a point of a walk: the number of remaining quadrants, and that it is before the

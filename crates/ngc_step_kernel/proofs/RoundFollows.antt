@@ -2,17 +2,17 @@
 use Rattle.std.proofs.Common.{◌≡◌, ℕ, ◌+◌, ◌-◌, ◌*◌, ◌≤◌, pos, sym, ◌∙◌, ap, subst, arith}
 use Rattle.std.proofs.Math.Nat.{mul-le-mul_left}
 use Rattle.ngc_fixed_length.specs.declared.points.Point2.{Point2}
-use Rattle.ngc_wheel.specs.declared.spoke.Spoke.{Spoke}
-use Rattle.ngc_wheel.specs.Rolling.{spoke_at}
+use Rattle.ngc_circle_walk.specs.declared.spoke.Spoke.{Spoke}
+use Rattle.ngc_circle_walk.specs.Rolling.{spoke_at}
 use Rattle.ngc_arc_geometry.specs.Shape.{ArcShape}
 use Rattle.ngc_arc_geometry.specs.Radii.{outer_radius}
 use Rattle.ngc_arc_geometry.specs.Sector.{extremes}
 use Rattle.ngc_arc_geometry.specs.ArcBand.{leeway, spread}
 use Rattle.ngc_arc_geometry.specs.ArcSides.{IsByAnEnd}
 use Rattle.ngc_arc_geometry.specs.ArcOrder.{Passes, GoesOn}
-use Rattle.ngc_arc_walk.specs.Placed.{placed}
-use Rattle.ngc_arc_walk.proofs.Followed.{Keeps}
-use Rattle.ngc_arc_walk.proofs.Lifts.{passes_along}
+use Rattle.ngc_circle_laws.specs.Placed.{placed}
+use Rattle.ngc_circle_laws.proofs.Followed.{Keeps}
+use Rattle.ngc_circle_laws.proofs.Lifts.{passes_along}
 use Rattle.ngc_step_kernel.specs.declared.plan.Plan.{Plan}
 use Rattle.ngc_step_kernel.specs.declared.spot.Spot.{Spot}
 use Rattle.ngc_step_kernel.specs.About.{IsAbout}

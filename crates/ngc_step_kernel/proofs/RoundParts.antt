@@ -9,29 +9,29 @@ use Rattle.ngc_fixed_length.specs.Roots.{IsRootCeil}
 use Rattle.ngc_fixed_length.specs.declared.modes.Turn.{Turn}
 use Rattle.ngc_fixed_length.specs.declared.modes.Turn.TheVariants.{Clockwise, Counterclockwise}
 use Rattle.ngc_fixed_length.specs.declared.points.Point2.{Point2}
-use Rattle.ngc_wheel.specs.declared.spoke.Spoke.{Spoke}
-use Rattle.ngc_wheel.specs.Around.{around}
-use Rattle.ngc_wheel.specs.Bounds.{IsBelow, IsAbove}
-use Rattle.ngc_wheel.specs.Quadrants.{quadrants_to}
-use Rattle.ngc_wheel.specs.Rolling.{spoke_at, quadrant_at}
-use Rattle.ngc_wheel.specs.Wheel.{is_before, next_roll, rolled}
-use Rattle.ngc_wheel.proofs.Beginnings.{IsSmallSize, more_limit, twice_high}
-use Rattle.ngc_wheel.proofs.CircleLaws.{rim_of}
-use Rattle.ngc_wheel.proofs.NearEnd.{limit_of}
-use Rattle.ngc_wheel.proofs.OneRoll.{next_is_due}
-use Rattle.ngc_wheel.proofs.Rays.{square_le, from_squares}
-use Rattle.ngc_wheel.proofs.Rolling.{soon_past}
-use Rattle.ngc_wheel.proofs.Wheeling.{first_spoke, next_spoke, next_quadrant}
+use Rattle.ngc_circle_walk.specs.declared.spoke.Spoke.{Spoke}
+use Rattle.ngc_circle_walk.specs.Around.{around}
+use Rattle.ngc_circle_walk.specs.Bounds.{IsBelow, IsAbove}
+use Rattle.ngc_circle_walk.specs.Quadrants.{quadrants_to}
+use Rattle.ngc_circle_walk.specs.Rolling.{spoke_at, quadrant_at}
+use Rattle.ngc_circle_walk.specs.Wheel.{is_before, next_roll, rolled}
+use Rattle.ngc_circle_walk.proofs.Beginnings.{IsSmallSize, more_limit, twice_high}
+use Rattle.ngc_circle_walk.proofs.CircleLaws.{rim_of}
+use Rattle.ngc_circle_walk.proofs.NearEnd.{limit_of}
+use Rattle.ngc_circle_walk.proofs.OneRoll.{next_is_due}
+use Rattle.ngc_circle_walk.proofs.Rays.{square_le, from_squares}
+use Rattle.ngc_circle_walk.proofs.Rolling.{soon_past}
+use Rattle.ngc_circle_walk.proofs.Wheeling.{first_spoke, next_spoke, next_quadrant}
 use Rattle.ngc_arc_geometry.specs.Shape.{ArcShape, start_of, end_of}
 use Rattle.ngc_arc_geometry.specs.Radii.{inner_radius, outer_radius}
-use Rattle.ngc_arc_walk.specs.ArcWalk.{IsWalk, IsBeforeEnd}
-use Rattle.ngc_arc_walk.specs.Placed.{mirrored, placed, first_axis}
-use Rattle.ngc_arc_walk.proofs.Boxed.{IsEnd}
-use Rattle.ngc_arc_walk.proofs.Circuit.{IsCircuit}
-use Rattle.ngc_arc_walk.proofs.Ends.{IsLast}
-use Rattle.ngc_arc_walk.proofs.Followed.{at_most_four}
-use Rattle.ngc_arc_walk.proofs.SmallCircuit.{IsSmallCircuit}
-use Rattle.ngc_arc_walk.proofs.Walks.{few_on, ends_there}
+use Rattle.ngc_circle_laws.specs.ArcWalk.{IsWalk, IsBeforeEnd}
+use Rattle.ngc_circle_laws.specs.Placed.{mirrored, placed, first_axis}
+use Rattle.ngc_circle_laws.proofs.Boxed.{IsEnd}
+use Rattle.ngc_circle_laws.proofs.Circuit.{IsCircuit}
+use Rattle.ngc_circle_laws.proofs.Ends.{IsLast}
+use Rattle.ngc_circle_laws.proofs.Followed.{at_most_four}
+use Rattle.ngc_circle_laws.proofs.SmallCircuit.{IsSmallCircuit}
+use Rattle.ngc_circle_laws.proofs.Walks.{few_on, ends_there}
 use Rattle.ngc_step_kernel.specs.declared.spot.Spot.{Spot}
 use Rattle.ngc_step_kernel.specs.About.{IsAbout}
 use Rattle.ngc_step_kernel.specs.Entered.{way_cross}
@@ -45,7 +45,7 @@ use Rattle.ngc_step_kernel.proofs.RoundWalk.{walks}
 use Rattle.ngc_step_kernel.proofs.Settings.{IsSetting, IsInside, HasJoint, sizes, has_joint}
 use Rattle.ngc_step_kernel.proofs.StraightParts.{inner_root, outer_root}
 use Rattle.ngc_step_kernel.proofs.ViewLemmas.{squared_is}
-use Rattle.ngc_arc_walk.proofs.Passing.{at_most_one}
+use Rattle.ngc_circle_laws.proofs.Passing.{at_most_one}
 
 -- ---- the position of a wheel's point in the plane
 

@@ -5,23 +5,23 @@ use Rattle.std.proofs.Math.Nat.{mul-le-mul_left}
 use Rattle.ngc_fixed_length.specs.Grid.{distance}
 use Rattle.ngc_fixed_length.specs.Roots.{IsRootCeil}
 use Rattle.ngc_fixed_length.specs.declared.points.Point2.{Point2}
-use Rattle.ngc_wheel.specs.declared.spoke.Spoke.{Spoke}
-use Rattle.ngc_wheel.specs.Rolling.{spoke_at, quadrant_at}
-use Rattle.ngc_wheel.specs.Wheel.{next_roll}
-use Rattle.ngc_wheel.proofs.Beginnings.{twice_low}
-use Rattle.ngc_wheel.proofs.NearEnd.{IsRay, limit_of}
-use Rattle.ngc_wheel.proofs.Rays.{square_le}
-use Rattle.ngc_wheel.proofs.SmallCircles.{IsSlim}
+use Rattle.ngc_circle_walk.specs.declared.spoke.Spoke.{Spoke}
+use Rattle.ngc_circle_walk.specs.Rolling.{spoke_at, quadrant_at}
+use Rattle.ngc_circle_walk.specs.Wheel.{next_roll}
+use Rattle.ngc_circle_walk.proofs.Beginnings.{twice_low}
+use Rattle.ngc_circle_walk.proofs.NearEnd.{IsRay, limit_of}
+use Rattle.ngc_circle_walk.proofs.Rays.{square_le}
+use Rattle.ngc_circle_walk.proofs.SmallCircles.{IsSlim}
 use Rattle.ngc_arc_geometry.specs.Shape.{ArcShape, end_of}
 use Rattle.ngc_arc_geometry.specs.Radii.{squared_distance}
 use Rattle.ngc_arc_geometry.specs.ArcBand.{leeway, spread, IsWithin}
-use Rattle.ngc_arc_walk.specs.Hull.{IsNearHull}
-use Rattle.ngc_arc_walk.proofs.Circuit.{below_on, above_on}
-use Rattle.ngc_arc_walk.proofs.Ends.{large_last, small_last}
-use Rattle.ngc_arc_walk.proofs.Followed.{large_keeps, small_keeps}
-use Rattle.ngc_arc_walk.proofs.Lengths.{large_length, small_length, large_few, small_few}
-use Rattle.ngc_arc_walk.proofs.Lifts.{some_leeway}
-use Rattle.ngc_arc_walk.proofs.SmallCircuit.{small_near, small_above}
+use Rattle.ngc_circle_laws.specs.Hull.{IsNearHull}
+use Rattle.ngc_circle_laws.proofs.Circuit.{below_on, above_on}
+use Rattle.ngc_circle_laws.proofs.Ends.{large_last, small_last}
+use Rattle.ngc_circle_laws.proofs.Followed.{large_keeps, small_keeps}
+use Rattle.ngc_circle_laws.proofs.Lengths.{large_length, small_length, large_few, small_few}
+use Rattle.ngc_circle_laws.proofs.Lifts.{some_leeway}
+use Rattle.ngc_circle_laws.proofs.SmallCircuit.{small_near, small_above}
 use Rattle.ngc_step_kernel.specs.declared.plan.Plan.{Plan}
 use Rattle.ngc_step_kernel.specs.declared.spot.Spot.{Spot}
 use Rattle.ngc_step_kernel.specs.About.{IsAbout}

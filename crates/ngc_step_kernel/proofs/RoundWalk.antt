@@ -6,20 +6,20 @@ use Rattle.ngc_fixed_length.specs.Places.{cross, from}
 use Rattle.ngc_fixed_length.specs.declared.modes.Turn.{Turn}
 use Rattle.ngc_fixed_length.specs.declared.modes.Turn.TheVariants.{Clockwise, Counterclockwise}
 use Rattle.ngc_fixed_length.specs.declared.points.Point2.{Point2}
-use Rattle.ngc_wheel.specs.declared.spoke.Quadrant.{Quadrant}
-use Rattle.ngc_wheel.specs.declared.spoke.Spoke.{Spoke}
-use Rattle.ngc_wheel.specs.Around.{way_to}
-use Rattle.ngc_wheel.specs.Directions.{IsNoLater}
-use Rattle.ngc_wheel.specs.Quadrants.{quadrants_to}
-use Rattle.ngc_wheel.specs.Rolling.{spoke_at, quadrant_at}
-use Rattle.ngc_wheel.specs.Wheel.{is_before}
-use Rattle.ngc_wheel.proofs.Wheeling.{first_spoke, wheel_rolls}
+use Rattle.ngc_circle_walk.specs.declared.spoke.Quadrant.{Quadrant}
+use Rattle.ngc_circle_walk.specs.declared.spoke.Spoke.{Spoke}
+use Rattle.ngc_circle_walk.specs.Around.{way_to}
+use Rattle.ngc_circle_walk.specs.Directions.{IsNoLater}
+use Rattle.ngc_circle_walk.specs.Quadrants.{quadrants_to}
+use Rattle.ngc_circle_walk.specs.Rolling.{spoke_at, quadrant_at}
+use Rattle.ngc_circle_walk.specs.Wheel.{is_before}
+use Rattle.ngc_circle_walk.proofs.Wheeling.{first_spoke, wheel_rolls}
 use Rattle.ngc_arc_geometry.specs.Shape.{ArcShape, start_of, end_of}
-use Rattle.ngc_arc_walk.specs.ArcWalk.{IsWalk, IsBeforeEnd}
-use Rattle.ngc_arc_walk.specs.Placed.{mirrored, placed, turned_by}
-use Rattle.ngc_arc_walk.proofs.Begins.{Begins}
-use Rattle.ngc_arc_walk.proofs.Counts.{IsCounted, placed_at, quadrants_counted, counted_turn}
-use Rattle.ngc_arc_walk.proofs.Crosses.{four_on}
+use Rattle.ngc_circle_laws.specs.ArcWalk.{IsWalk, IsBeforeEnd}
+use Rattle.ngc_circle_laws.specs.Placed.{mirrored, placed, turned_by}
+use Rattle.ngc_circle_laws.proofs.Begins.{Begins}
+use Rattle.ngc_circle_laws.proofs.Counts.{IsCounted, placed_at, quadrants_counted, counted_turn}
+use Rattle.ngc_circle_laws.proofs.Crosses.{four_on}
 use Rattle.ngc_step_kernel.specs.Entered.{way_cross}
 use Rattle.ngc_step_kernel.specs.View.{view_of, way_between, place_of, quadrants_left}
 use Rattle.ngc_step_kernel.proofs.AroundLemmas.{amount}

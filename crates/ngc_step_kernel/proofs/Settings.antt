@@ -8,21 +8,21 @@ use borrow.Author.Differences.{neg_is}
 use Rattle.ngc_fixed_length.specs.Places.{cross}
 use Rattle.ngc_fixed_length.specs.Roots.{IsRootCeil}
 use Rattle.ngc_fixed_length.specs.declared.points.Point2.{Point2}
-use Rattle.ngc_wheel.specs.declared.spoke.Quadrant.{Quadrant}
-use Rattle.ngc_wheel.specs.declared.spoke.Quadrant.TheVariants.{First, Second, Third, Fourth}
-use Rattle.ngc_wheel.specs.declared.spoke.Spoke.{Spoke}
-use Rattle.ngc_wheel.specs.Around.{around, way_to}
-use Rattle.ngc_wheel.specs.Wheel.{square}
-use Rattle.ngc_wheel.proofs.Beginnings.{IsNearJoint}
-use Rattle.ngc_wheel.proofs.Entry.{joint_above}
-use Rattle.ngc_wheel.specs.Quadrants.{following}
-use Rattle.ngc_wheel.proofs.Turns.{cross_same, cross_next}
-use Rattle.ngc_wheel.proofs.Rays.{square_le, from_squares}
+use Rattle.ngc_circle_walk.specs.declared.spoke.Quadrant.{Quadrant}
+use Rattle.ngc_circle_walk.specs.declared.spoke.Quadrant.TheVariants.{First, Second, Third, Fourth}
+use Rattle.ngc_circle_walk.specs.declared.spoke.Spoke.{Spoke}
+use Rattle.ngc_circle_walk.specs.Around.{around, way_to}
+use Rattle.ngc_circle_walk.specs.Wheel.{square}
+use Rattle.ngc_circle_walk.proofs.Beginnings.{IsNearJoint}
+use Rattle.ngc_circle_walk.proofs.Entry.{joint_above}
+use Rattle.ngc_circle_walk.specs.Quadrants.{following}
+use Rattle.ngc_circle_walk.proofs.Turns.{cross_same, cross_next}
+use Rattle.ngc_circle_walk.proofs.Rays.{square_le, from_squares}
 use Rattle.ngc_arc_geometry.specs.Shape.{ArcShape, start_of, end_of}
 use Rattle.ngc_arc_geometry.specs.Radii.{lo, inner_radius, outer_radius, IsArc}
-use Rattle.ngc_arc_walk.proofs.Begins.{IsJoined, IsSteep, small_across, steep_is, flat_is, into, from}
-use Rattle.ngc_arc_walk.proofs.Joined.{IsMovedTo, some_spoke, moved_same, moved_opposite, moved_before, four_ways, not_opposite}
-use Rattle.ngc_step_kernel.specs.declared.round.Way.{Way}
+use Rattle.ngc_circle_laws.proofs.Begins.{IsJoined, IsSteep, small_across, steep_is, flat_is, into, from}
+use Rattle.ngc_circle_laws.proofs.Joined.{IsMovedTo, some_spoke, moved_same, moved_opposite, moved_before, four_ways, not_opposite}
+use Rattle.ngc_step_kernel.specs.declared.round.Vector2.{Vector2}
 use Rattle.ngc_step_kernel.specs.declared.spot.Spot.{Spot}
 use Rattle.ngc_step_kernel.specs.About.{IsAbout}
 use Rattle.ngc_step_kernel.specs.Entered.{is_steep, way_cross, IsEntered}
@@ -182,7 +182,7 @@ has_joint a g p r o m v from to joint entry first last s z =
 
 -- ---- the wheel's first point
 
-steep_in : (q : Quadrant) (x y : ℕ) (w : Way) → around q x y ≡ place_of w → is_steep q w ≡ nat_lt x y
+steep_in : (q : Quadrant) (x y : ℕ) (w : Vector2) → around q x y ≡ place_of w → is_steep q w ≡ nat_lt x y
 steep_in First x y w h = rw (sym (ap (λ (p : Point2). p.u) h), sym (ap (λ (p : Point2). p.v) h)) refl
 steep_in Second x y w h = let e = neg_is (pos y) in let f : unsigned_abs (neg_ℤ (pos y)) ≡ y = omega (arith, ints, e) in
     rw (sym (ap (λ (p : Point2). p.u) h), sym (ap (λ (p : Point2). p.v) h), f) refl
@@ -203,10 +203,10 @@ told_steep false x y h = elim (cases_lt x y) [
   | inl less ↦ absurd (grind (arith, h, less))
 ]
 
-pub steep_told : (b j : Spoke) (w : Way) → way_to b ≡ place_of w → j.quadrant ≡ b.quadrant → IsSteep (is_steep j.quadrant w) b.x b.y
+pub steep_told : (b j : Spoke) (w : Vector2) → way_to b ≡ place_of w → j.quadrant ≡ b.quadrant → IsSteep (is_steep j.quadrant w) b.x b.y
 steep_told b j w at same = told_steep (is_steep j.quadrant w) b.x b.y (ap (λ (q : Quadrant). is_steep q w) same ∙ steep_in b.quadrant b.x b.y w at)
 
-pub cross_told : (b j : Spoke) (s w : Way) → way_to b ≡ place_of s → way_to j ≡ place_of w → cross (way_to b) (way_to j) ≡ way_cross s w
+pub cross_told : (b j : Spoke) (s w : Vector2) → way_to b ≡ place_of s → way_to j ≡ place_of w → cross (way_to b) (way_to j) ≡ way_cross s w
 cross_told b j s w hb hj = ap (λ (q : Point2). cross q (way_to j)) hb ∙ ap (λ (q : Point2). cross (place_of s) q) hj
 
 -- if the joint is before the start's direction, it is as flat or steep as the start, to within a

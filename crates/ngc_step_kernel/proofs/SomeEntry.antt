@@ -2,11 +2,11 @@
 use Rattle.std.proofs.Common.{◌≡◌, ℕ, ◌+◌, ◌*◌, ◌/◌, ◌<◌, ◌≤◌, max, ℤ, pos, ◌≤ℤ◌, ◌<ℤ◌, unsigned_abs, refl, arith}
 use Rattle.std.proofs.lemmas.Int.{by_lt_z}
 use Rattle.ngc_fixed_length.specs.Roots.{IsRootCeil}
-use Rattle.ngc_wheel.specs.Around.{way_to}
-use Rattle.ngc_wheel.specs.Wheel.{square, rolled}
-use Rattle.ngc_wheel.specs.Entering.{IsEntry}
-use Rattle.ngc_wheel.specs.declared.spoke.Roll.{Roll}
-use Rattle.ngc_wheel.specs.declared.spoke.Spoke.{Spoke}
+use Rattle.ngc_circle_walk.specs.Around.{way_to}
+use Rattle.ngc_circle_walk.specs.Wheel.{square, rolled}
+use Rattle.ngc_circle_walk.specs.Entering.{IsEntry}
+use Rattle.ngc_circle_walk.specs.declared.spoke.Roll.{Roll}
+use Rattle.ngc_circle_walk.specs.declared.spoke.Spoke.{Spoke}
 use Rattle.ngc_step_kernel.specs.About.{IsAbout}
 use Rattle.ngc_step_kernel.specs.Entered.{is_steep, way_cross, IsEntered}
 use Rattle.ngc_step_kernel.specs.Spots.{roll_move, spot_moved, straight_moves, IsSpot}

@@ -19,14 +19,14 @@ use Rattle.ngc_arc_geometry.specs.ArcPath.{IsArcPath}
 use Rattle.ngc_arc_geometry.specs.Radii.{IsArc}
 use Rattle.ngc_arc_geometry.specs.Shape.{ArcShape, IsNear}
 use Rattle.ngc_arc_geometry.proofs.ArcLemmas.{centre_u, centre_v}
-use Rattle.ngc_arc_walk.specs.ArcWalk.{IsBeforeEnd}
-use Rattle.ngc_wheel.specs.Around.{way_to}
-use Rattle.ngc_wheel.specs.Quadrants.{quadrants_to}
-use Rattle.ngc_wheel.specs.Rolling.{spoke_at, quadrant_at}
-use Rattle.ngc_wheel.specs.Wheel.{is_before, IsSmall}
-use Rattle.ngc_wheel.specs.declared.spoke.Quadrant.TheVariants.{First}
-use Rattle.ngc_wheel.specs.declared.spoke.Spoke.{Spoke}
-use Rattle.ngc_wheel.proofs.Wheeling.{first_quadrant, first_spoke}
+use Rattle.ngc_circle_laws.specs.ArcWalk.{IsBeforeEnd}
+use Rattle.ngc_circle_walk.specs.Around.{way_to}
+use Rattle.ngc_circle_walk.specs.Quadrants.{quadrants_to}
+use Rattle.ngc_circle_walk.specs.Rolling.{spoke_at, quadrant_at}
+use Rattle.ngc_circle_walk.specs.Wheel.{is_before, IsSmall}
+use Rattle.ngc_circle_walk.specs.declared.spoke.Quadrant.TheVariants.{First}
+use Rattle.ngc_circle_walk.specs.declared.spoke.Spoke.{Spoke}
+use Rattle.ngc_circle_walk.proofs.Wheeling.{first_quadrant, first_spoke}
 use Rattle.ngc_step_kernel.specs.Course.{round_at, course_at, IsPlan}
 use Rattle.ngc_step_kernel.specs.Entered.{way_cross}
 use Rattle.ngc_step_kernel.specs.PlaneCourse.{laid, FollowsInPlane}

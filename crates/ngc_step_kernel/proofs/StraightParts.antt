@@ -3,12 +3,12 @@ use Rattle.std.proofs.Common.{ℕ, ◌+◌, ◌*◌, ◌≤◌, inl, inr, ◌+�
 use Rattle.ngc_fixed_length.specs.Roots.{IsRootFloor, IsRootCeil}
 use Rattle.ngc_fixed_length.specs.declared.points.Point2.{Point2}
 use Rattle.ngc_fixed_length.proofs.RootLaws.{whole_root-greatest, whole_root_above-least}
-use Rattle.ngc_wheel.proofs.Rays.{square_le, from_squares}
+use Rattle.ngc_circle_walk.proofs.Rays.{square_le, from_squares}
 use Rattle.ngc_arc_geometry.specs.Shape.{ArcShape, start_of, end_of}
 use Rattle.ngc_arc_geometry.specs.Radii.{squared_distance, lo, hi, inner_radius, outer_radius, IsArc}
 use Rattle.ngc_arc_geometry.specs.ArcBand.{spread, IsWithin, IsInBand}
 use Rattle.ngc_arc_geometry.specs.ArcSides.{IsByAnEnd}
-use Rattle.ngc_step_kernel.specs.declared.round.Way.{Way}
+use Rattle.ngc_step_kernel.specs.declared.round.Vector2.{Vector2}
 use Rattle.ngc_step_kernel.specs.declared.spot.Spot.{Spot}
 use Rattle.ngc_step_kernel.specs.PlaneCourse.{laid}
 use Rattle.ngc_step_kernel.specs.Spots.{straight_at}
@@ -71,7 +71,7 @@ within_more d m p q le h = let a = square_le d m le in omega (arith, a, h)
 
 -- ---- the last part, from l to the grid point e nearest to the end
 
-straight_no_farther : (g : ℕ) (c w : Way) (l e : Spot) (k : ℕ) → IsNearestSpot g c w e → apart_squared g c w (straight_at l e k) ≤ apart_squared g c w l
+straight_no_farther : (g : ℕ) (c w : Vector2) (l e : Spot) (k : ℕ) → IsNearestSpot g c w e → apart_squared g c w (straight_at l e k) ≤ apart_squared g c w l
 straight_no_farther g c w l e k near =
     let u = square_le _ _ (place_no_farther g l.u e.u (c.u +ℤ w.u) k near.u) in
     let v = square_le _ _ (place_no_farther g l.v e.v (c.v +ℤ w.v) k near.v) in

@@ -7,7 +7,7 @@ use Rattle.ngc_fixed_length.specs.Grid.{distance}
 use Rattle.ngc_fixed_length.specs.declared.modes.Turn.{Turn}
 use Rattle.ngc_fixed_length.specs.declared.modes.Turn.TheVariants.{Counterclockwise, Clockwise}
 use Rattle.ngc_fixed_length.specs.declared.points.Point2.{Point2}
-use Rattle.ngc_wheel.proofs.Rays.{square_le}
+use Rattle.ngc_circle_walk.proofs.Rays.{square_le}
 use Rattle.ngc_arc_geometry.specs.Shape.{ArcShape, start_of, end_of}
 use Rattle.ngc_arc_geometry.specs.Radii.{squared_distance, lo, hi, inner_radius, outer_radius, IsArc}
 use Rattle.ngc_arc_geometry.specs.ArcBand.{spread, IsWithin}

@@ -6,11 +6,11 @@ use Rattle.std.proofs.lemmas.Bool.Decides.{nat_tests}
 use Rattle.std.proofs.lemmas.Int.{ints}
 use Rattle.ngc_fixed_length.specs.Grid.{distance}
 use Rattle.ngc_fixed_length.specs.declared.points.Point2.{Point2}
-use Rattle.ngc_wheel.proofs.Rays.{square_le}
+use Rattle.ngc_circle_walk.proofs.Rays.{square_le}
 use Rattle.ngc_arc_geometry.specs.Shape.{ArcShape, start_of, end_of}
 use Rattle.ngc_arc_geometry.specs.Radii.{squared_distance, inner_radius, outer_radius, IsArc}
 use Rattle.ngc_arc_geometry.specs.ArcBand.{leeway, spread, IsWithin, IsInBand}
-use Rattle.ngc_step_kernel.specs.declared.round.Way.{Way}
+use Rattle.ngc_step_kernel.specs.declared.round.Vector2.{Vector2}
 use Rattle.ngc_step_kernel.specs.declared.spot.Spot.{Spot}
 use Rattle.ngc_step_kernel.specs.PlaneCourse.{laid}
 use Rattle.ngc_step_kernel.specs.Spots.{straight_at, straight_place, straight_moves}
@@ -25,7 +25,7 @@ use Rattle.ngc_step_kernel.proofs.TinyArcs.{IsTiny, tiny_radii, two_ends}
 half_squares : (x y g : ℕ) → 2 * x ≤ g → 2 * y ≤ g → x * x + y * y ≤ g * g
 half_squares x y g hx hy = let a = square_le (2 * x) g hx in let b = square_le (2 * y) g hy in omega (arith, a, b)
 
-nearest_apart : (g : ℕ) (c w : Way) (p : Spot) → IsNearestSpot g c w p → apart_squared g c w p ≤ g * g
+nearest_apart : (g : ℕ) (c w : Vector2) (p : Spot) → IsNearestSpot g c w p → apart_squared g c w p ≤ g * g
 nearest_apart g c w p near =
     let u : 2 * distance (c.u +ℤ w.u) (p.u *ℤ pos g) ≤ g = omega (arith, ints, near.u) in
     let v : 2 * distance (c.v +ℤ w.v) (p.v *ℤ pos g) ≤ g = omega (arith, ints, near.v) in
@@ -87,7 +87,7 @@ axis_between : (g : ℕ) (a b c : ℤ) (k : ℕ) → unsigned_abs ((straight_pla
 axis_between g a b c k = place_within g a b c k (max (unsigned_abs ((a *ℤ pos g) -ℤ c)) (unsigned_abs ((b *ℤ pos g) -ℤ c))) (omega arith) (omega arith)
 
 -- the square of each point's distance is at most the sum of those of the first and the last point
-pub straight_square : (g : ℕ) (c : Way) (p e : Spot) (k : ℕ) → squared (way_from g c (straight_at p e k)) ≤ squared (way_from g c p) + squared (way_from g c e)
+pub straight_square : (g : ℕ) (c : Vector2) (p e : Spot) (k : ℕ) → squared (way_from g c (straight_at p e k)) ≤ squared (way_from g c p) + squared (way_from g c e)
 straight_square g c p e k =
     let u = one_of_two (unsigned_abs (way_from g c (straight_at p e k)).u) (unsigned_abs (way_from g c p).u) (unsigned_abs (way_from g c e).u)
     (axis_between g p.u e.u c.u k) in

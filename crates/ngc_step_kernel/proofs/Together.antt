@@ -10,7 +10,7 @@ use Rattle.ngc_arc_geometry.specs.Sector.{extremes}
 use Rattle.ngc_arc_geometry.specs.ArcBand.{leeway, spread, IsWithin}
 use Rattle.ngc_arc_geometry.specs.ArcSides.{IsByAnEnd}
 use Rattle.ngc_arc_geometry.specs.ArcOrder.{Passes, GoesOn}
-use Rattle.ngc_arc_walk.proofs.Lifts.{passes_along, passes_from_before}
+use Rattle.ngc_circle_laws.proofs.Lifts.{passes_along, passes_from_before}
 use Rattle.ngc_step_kernel.specs.declared.plan.Plan.{Plan}
 use Rattle.ngc_step_kernel.specs.declared.spot.Spot.{Spot}
 use Rattle.ngc_step_kernel.specs.Course.{course_at, rounded, last_of, IsPlan}

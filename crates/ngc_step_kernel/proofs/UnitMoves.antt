@@ -9,10 +9,10 @@ use Rattle.ngc_fixed_length.specs.declared.modes.Turn.TheVariants.{Counterclockw
 use Rattle.ngc_fixed_length.specs.declared.points.StepPos.{StepPos}
 use Rattle.ngc_fixed_length.specs.Grid.{distance}
 use Rattle.ngc_fixed_length.specs.LinePath.{IsUnitMove}
-use Rattle.ngc_wheel.specs.declared.spoke.Quadrant.{Quadrant}
-use Rattle.ngc_wheel.specs.declared.spoke.Quadrant.TheVariants.{First, Second, Third, Fourth}
-use Rattle.ngc_wheel.specs.declared.spoke.Roll.{Roll}
-use Rattle.ngc_wheel.specs.declared.spoke.Roll.TheVariants.{Outward, Diagonal, Inward, Over}
+use Rattle.ngc_circle_walk.specs.declared.spoke.Quadrant.{Quadrant}
+use Rattle.ngc_circle_walk.specs.declared.spoke.Quadrant.TheVariants.{First, Second, Third, Fourth}
+use Rattle.ngc_circle_walk.specs.declared.spoke.Roll.{Roll}
+use Rattle.ngc_circle_walk.specs.declared.spoke.Roll.TheVariants.{Outward, Diagonal, Inward, Over}
 use Rattle.ngc_step_kernel.specs.declared.moves.AxisMove.{AxisMove}
 use Rattle.ngc_step_kernel.specs.declared.moves.AxisMove.TheVariants.{Stay}
 use Rattle.ngc_step_kernel.specs.declared.plan.Plan.{Plan}

@@ -12,19 +12,19 @@ use Rattle.ngc_arc_geometry.specs.Shape.{ArcShape, start_of, end_of}
 use Rattle.ngc_arc_geometry.specs.Radii.{squared_distance, IsArc}
 use Rattle.ngc_arc_geometry.proofs.Squares.{from_squares, square_sum}
 use Rattle.ngc_step_kernel.specs.Round.{turned}
-use Rattle.ngc_step_kernel.specs.declared.round.Way.{Way}
+use Rattle.ngc_step_kernel.specs.declared.round.Vector2.{Vector2}
 use Rattle.ngc_step_kernel.specs.View.{squared, way_between, IsMoved, IsRadius}
 
-abbrev way_of : ℤ → ℤ → Way
+abbrev way_of : ℤ → ℤ → Vector2
 way_of u v = record { u = u; v = v }
 
 pub way_is : (a b c d : ℤ) → a ≡ c → b ≡ d → way_of a b ≡ way_of c d
 way_is a b c d e f = ap (λ x. way_of x b) e ∙ ap (λ y. way_of c y) f
 
-pub first_side : (w : Way) (r : ℕ) → squared w ≤ r * r → unsigned_abs w.u ≤ r
+pub first_side : (w : Vector2) (r : ℕ) → squared w ≤ r * r → unsigned_abs w.u ≤ r
 first_side w r h = from_squares (unsigned_abs w.u) r (omega (arith, h))
 
-pub second_side : (w : Way) (r : ℕ) → squared w ≤ r * r → unsigned_abs w.v ≤ r
+pub second_side : (w : Vector2) (r : ℕ) → squared w ≤ r * r → unsigned_abs w.v ≤ r
 second_side w r h = from_squares (unsigned_abs w.v) r (omega (arith, h))
 
 turned_size : (t : Turn) (v : ℤ) → unsigned_abs (turned t v) ≡ unsigned_abs v

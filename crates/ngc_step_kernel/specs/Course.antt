@@ -1,9 +1,9 @@
 -- The path of an arc over the grid of its plane (its course): straight to the joint, to the entry,
 -- round with the wheel, and straight to the end.
 use Rattle.std.specs.Prelude.{◌≡◌, ℕ, zero, suc, ◌+◌, ◌-◌, ◌<◌, ◌≤◌, nat_le, if◌then◌else◌}
-use Rattle.ngc_wheel.specs.declared.spoke.Spoke.{Spoke}
-use Rattle.ngc_wheel.specs.Wheel.{next_roll, IsSmall}
-use Rattle.ngc_wheel.specs.Rolling.{spoke_at}
+use Rattle.ngc_circle_walk.specs.declared.spoke.Spoke.{Spoke}
+use Rattle.ngc_circle_walk.specs.Wheel.{next_roll, IsSmall}
+use Rattle.ngc_circle_walk.specs.Rolling.{spoke_at}
 use Rattle.ngc_step_kernel.specs.declared.plan.Plan.{Plan}
 use Rattle.ngc_step_kernel.specs.declared.spot.Spot.{Spot}
 use Rattle.ngc_step_kernel.specs.declared.spot.PlaneMove.{PlaneMove}

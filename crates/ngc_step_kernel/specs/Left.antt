@@ -1,9 +1,9 @@
 -- The number of quadrants to an arc's end after a wheel's move. Our own.
 use Rattle.std.specs.Prelude.{◌≡◌, ◌⊎◌, ℕ, ◌<◌, true, false, Option, Some, None}
-use Rattle.ngc_wheel.specs.declared.spoke.Roll.{Roll}
-use Rattle.ngc_wheel.specs.declared.spoke.Spoke.{Spoke}
-use Rattle.ngc_wheel.specs.Rolling.{quadrants_of}
-use Rattle.ngc_wheel.specs.Wheel.{is_before}
+use Rattle.ngc_circle_walk.specs.declared.spoke.Roll.{Roll}
+use Rattle.ngc_circle_walk.specs.declared.spoke.Spoke.{Spoke}
+use Rattle.ngc_circle_walk.specs.Rolling.{quadrants_of}
+use Rattle.ngc_circle_walk.specs.Wheel.{is_before}
 
 -- before the move it is `left`; after it, it is m and the point is before the end. Or it is `None`,
 -- because the point has reached the end's direction

@@ -8,7 +8,7 @@ use Rattle.ngc_arc_geometry.specs.Sector.{extremes}
 use Rattle.ngc_arc_geometry.specs.ArcBand.{leeway, spread, IsInBand}
 use Rattle.ngc_arc_geometry.specs.ArcSides.{IsBetweenEnds}
 use Rattle.ngc_arc_geometry.specs.ArcOrder.{Passes, GoesOn}
-use Rattle.ngc_arc_walk.specs.Hull.{IsNearHull}
+use Rattle.ngc_circle_laws.specs.Hull.{IsNearHull}
 use Rattle.ngc_step_kernel.specs.declared.spot.Spot.{Spot}
 use Rattle.ngc_step_kernel.specs.Round.{turned}
 

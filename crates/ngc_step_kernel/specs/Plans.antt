@@ -1,8 +1,8 @@
 -- The results of the three ways to plan a course. Our own.
 use Rattle.std.specs.Prelude.{◌≡◌, ℕ, ◌+◌, ◌-◌, ◌<◌, ◌≤◌}
-use Rattle.ngc_wheel.specs.declared.spoke.Spoke.{Spoke}
-use Rattle.ngc_wheel.specs.Rolling.{spoke_at, quadrant_at}
-use Rattle.ngc_arc_walk.specs.ArcWalk.{IsBeforeEnd}
+use Rattle.ngc_circle_walk.specs.declared.spoke.Spoke.{Spoke}
+use Rattle.ngc_circle_walk.specs.Rolling.{spoke_at, quadrant_at}
+use Rattle.ngc_circle_laws.specs.ArcWalk.{IsBeforeEnd}
 use Rattle.ngc_step_kernel.specs.declared.plan.Plan.{Plan}
 use Rattle.ngc_step_kernel.specs.declared.spot.Spot.{Spot}
 

@@ -1,10 +1,10 @@
 -- Grid points of a plane, and moves between them.
 use Rattle.std.specs.Prelude.{ℕ, ◌≤◌, min, max, ℤ, ◌+ℤ◌, int_lt, if◌then◌else◌, unsigned_abs}
 use Rattle.ngc_fixed_length.specs.Grid.{distance}
-use Rattle.ngc_wheel.specs.declared.spoke.Quadrant.{Quadrant}
-use Rattle.ngc_wheel.specs.declared.spoke.Quadrant.TheVariants.{First, Second, Third, Fourth}
-use Rattle.ngc_wheel.specs.declared.spoke.Roll.{Roll}
-use Rattle.ngc_wheel.specs.declared.spoke.Roll.TheVariants.{Outward, Diagonal, Inward, Over}
+use Rattle.ngc_circle_walk.specs.declared.spoke.Quadrant.{Quadrant}
+use Rattle.ngc_circle_walk.specs.declared.spoke.Quadrant.TheVariants.{First, Second, Third, Fourth}
+use Rattle.ngc_circle_walk.specs.declared.spoke.Roll.{Roll}
+use Rattle.ngc_circle_walk.specs.declared.spoke.Roll.TheVariants.{Outward, Diagonal, Inward, Over}
 use Rattle.ngc_step_kernel.specs.declared.moves.AxisMove.{AxisMove}
 use Rattle.ngc_step_kernel.specs.declared.moves.AxisMove.TheVariants.{Back, Stay, Forward}
 use Rattle.ngc_step_kernel.specs.declared.spot.PlaneMove.{PlaneMove}

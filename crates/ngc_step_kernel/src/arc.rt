@@ -8,8 +8,8 @@ use crate::roots::Roots;
 use crate::spot::{PlaneMove, Spot};
 use crate::view::View;
 use ngc_arc_geometry::Arc;
+use ngc_circle_walk::{ColumnWheel, SquareWheel, Wheel};
 use ngc_fixed_length::{Nm, Plane, StepPos, Turn};
-use ngc_wheel::{ColumnWheel, SquareWheel, Wheel};
 use std::marker::Model;
 
 /// A path that follows an arc with a wheel about its centre.

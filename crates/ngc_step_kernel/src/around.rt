@@ -1,7 +1,7 @@
 ghost use Rattle.std.specs.Prelude.{◌≡◌, ◌≤◌, ◌+◌, ◌*◌, ◌/◌, min, max, nat_lt, pos, ◌-ℤ◌, ◌*ℤ◌};
 ghost use Rattle.std.specs.Prelude.{int_lt};
-ghost use Rattle.ngc_wheel.specs.Quadrants.{quadrants_to};
-ghost use Rattle.ngc_wheel.specs.Wheel.{square, is_before, IsSmall};
+ghost use Rattle.ngc_circle_walk.specs.Quadrants.{quadrants_to};
+ghost use Rattle.ngc_circle_walk.specs.Wheel.{square, is_before, IsSmall};
 ghost use Rattle.ngc_step_kernel.specs.About.{IsAbout};
 ghost use Rattle.ngc_arc_geometry.specs.Radii.{IsArc};
 ghost use Rattle.ngc_arc_geometry.specs.Shape.{ArcShape};
@@ -15,10 +15,10 @@ ghost use Rattle.ngc_step_kernel.specs.Ways.{IsWay};
 
 use crate::plan::Plan;
 use crate::roots::Roots;
-use crate::round::{Way, entering, limit_of};
+use crate::round::{Vector2, entering, limit_of};
 use crate::spot::{PlaneMove, Spot};
 use crate::view::View;
-use ngc_wheel::{Quadrant, Spoke, Wheel};
+use ngc_circle_walk::{Quadrant, Spoke, Wheel};
 
 /// The point at which a wheel begins: on the grid, and about the centre.
 #[derive(Clone, Copy)]
@@ -28,7 +28,7 @@ struct Entry {
 }
 
 /// Returns whether a vector is nearer to the half axes beside a quadrant than to those along it.
-fn is_steep(way: &Way, quadrant: Quadrant) -> bool
+fn is_steep(way: &Vector2, quadrant: Quadrant) -> bool
     ensures { result ≡ is_steep quadrant way.now }
 {
     let u = way.u.unsigned_abs();

@@ -1,7 +1,7 @@
 use crate::moves::AxisMove;
 use crate::plan::Plan;
 use crate::spot::{PlaneMove, Spot};
-use ngc_wheel::Wheel;
+use ngc_circle_walk::Wheel;
 
 /// A position on an arc's path over the grid of its plane.
 #[derive(Drop)]

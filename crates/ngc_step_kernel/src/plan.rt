@@ -1,6 +1,6 @@
 use crate::rolls::rolls;
 use crate::spot::Spot;
-use ngc_wheel::{Spoke, Wheel};
+use ngc_circle_walk::{Spoke, Wheel};
 
 /// A plan of an arc's path over the grid of its plane: straight to a joint at the radius of its
 /// end, onto the wheel, round with it, and straight to the end.
@@ -23,9 +23,9 @@ pub(crate) struct Plan {
 
 impl Plan {
     ghost use Rattle.std.specs.Prelude.{◌≡◌, ℕ, ◌≤◌, ◌<◌};
-    ghost use Rattle.ngc_wheel.specs.Rolling.{spoke_at};
-    ghost use Rattle.ngc_wheel.specs.Wheel.{IsSmall};
-    ghost use Rattle.ngc_arc_walk.specs.ArcWalk.{IsBeforeEnd};
+    ghost use Rattle.ngc_circle_walk.specs.Rolling.{spoke_at};
+    ghost use Rattle.ngc_circle_walk.specs.Wheel.{IsSmall};
+    ghost use Rattle.ngc_circle_laws.specs.ArcWalk.{IsBeforeEnd};
     ghost use Rattle.ngc_step_kernel.specs.Course.{IsPlan, round_at};
     ghost use Rattle.ngc_step_kernel.specs.Plans.{IsRoundPlan, IsBentPlan, IsStraightPlan};
     ghost use Rattle.ngc_step_kernel.specs.Spots.{IsSpot, straight_moves};

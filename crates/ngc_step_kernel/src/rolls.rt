@@ -1,13 +1,13 @@
 ghost use Rattle.std.specs.Prelude.{◌≡◌, ℕ, ◌+◌, ◌<◌, ◌≤◌};
-ghost use Rattle.ngc_wheel.specs.Rolling.{spoke_at, quadrant_at};
-ghost use Rattle.ngc_wheel.specs.Wheel.{IsSmall};
-ghost use Rattle.ngc_arc_walk.specs.ArcWalk.{IsBeforeEnd};
+ghost use Rattle.ngc_circle_walk.specs.Rolling.{spoke_at, quadrant_at};
+ghost use Rattle.ngc_circle_walk.specs.Wheel.{IsSmall};
+ghost use Rattle.ngc_circle_laws.specs.ArcWalk.{IsBeforeEnd};
 ghost use Rattle.ngc_step_kernel.specs.Course.{round_at};
 ghost use Rattle.ngc_step_kernel.specs.Left.{IsLeftAfter};
 ghost use Rattle.ngc_step_kernel.specs.Spots.{IsSpot};
 
 use crate::spot::{PlaneMove, Spot};
-use ngc_wheel::{Roll, Spoke, Wheel};
+use ngc_circle_walk::{Roll, Spoke, Wheel};
 
 /// Returns the number of quadrants to the end after a move, or `None` if the end's direction is
 /// reached.

@@ -1,13 +1,13 @@
 ghost use Rattle.std.specs.Prelude.{◌≡◌, ◌+◌, ◌*◌, ◌/◌, ◌≤◌, ◌<◌, unsigned_abs, ℤ, ◌-ℤ◌, ◌*ℤ◌};
-ghost use Rattle.ngc_wheel.specs.Around.{around};
-ghost use Rattle.ngc_wheel.specs.Entering.{IsEntry};
-ghost use Rattle.ngc_wheel.specs.Wheel.{IsSmall};
+ghost use Rattle.ngc_circle_walk.specs.Around.{around};
+ghost use Rattle.ngc_circle_walk.specs.Entering.{IsEntry};
+ghost use Rattle.ngc_circle_walk.specs.Wheel.{IsSmall};
 
-use ngc_wheel::{Roll, Spoke};
+use ngc_circle_walk::{Roll, Spoke};
 
 /// A vector in a plane, in nanometres.
 #[derive(Clone, Copy)]
-pub(crate) struct Way {
+pub(crate) struct Vector2 {
     pub u: i64,
     pub v: i64,
 }
@@ -22,12 +22,12 @@ fn product(x: i64, y: i64) -> i128
     i128::from(x) * i128::from(y)
 }
 
-impl Way {
+impl Vector2 {
     ghost use Rattle.ngc_step_kernel.specs.Ways.{IsWay};
 
     /// Returns the cross product. It is above 0 if a turn of less than half a circle leads from
     /// this vector to the other.
-    pub(crate) fn cross(&self, other: &Way) -> i128
+    pub(crate) fn cross(&self, other: &Vector2) -> i128
         requires here { IsWay self.now }
         requires other { IsWay other.now }
         ensures { result ≡ (self.now.u *ℤ other.now.v) -ℤ (self.now.v *ℤ other.now.u) }

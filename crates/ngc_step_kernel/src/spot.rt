@@ -3,7 +3,7 @@ ghost use Rattle.ngc_step_kernel.specs.Spots.{axis_towards, roll_move, spot_towa
 ghost use Rattle.ngc_step_kernel.specs.Spots.{straight_moves, IsSpot};
 
 use crate::moves::AxisMove;
-use ngc_wheel::{Quadrant, Roll};
+use ngc_circle_walk::{Quadrant, Roll};
 
 /// A grid point of a plane, in steps.
 #[derive(Clone, Copy)]

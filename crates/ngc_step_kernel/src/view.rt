@@ -5,7 +5,7 @@ ghost use Rattle.ngc_step_kernel.specs.Spots.{IsSpot};
 ghost use Rattle.ngc_step_kernel.specs.View.{way_between, view_of, way_from, squared, IsView};
 ghost use Rattle.ngc_step_kernel.specs.View.{IsMoved};
 
-use crate::round::Way;
+use crate::round::Vector2;
 use crate::spot::Spot;
 use ngc_arc_geometry::Arc;
 use ngc_fixed_length::{Point2, Turn, rounded_quotient};
@@ -15,9 +15,9 @@ use ngc_fixed_length::{Point2, Turn, rounded_quotient};
 /// nanometres.
 #[derive(Clone, Copy)]
 pub(crate) struct View {
-    pub centre: Way,
-    pub start: Way,
-    pub end: Way,
+    pub centre: Vector2,
+    pub start: Vector2,
+    pub end: Vector2,
 }
 
 /// Returns a length along v in the direction of the arc: it is negated for a clockwise one.
@@ -33,10 +33,10 @@ fn turned(turn: Turn, v: i64) -> i64
 }
 
 /// Returns the vector from one point to another, mirrored for a clockwise arc.
-fn way_between(turn: Turn, from: &Point2, to: &Point2) -> Way
+fn way_between(turn: Turn, from: &Point2, to: &Point2) -> Vector2
     ensures { result ≡ way_between turn from.now to.now }
 {
-    Way {
+    Vector2 {
         u: to.u.nanometres() - from.u.nanometres(),
         v: turned(turn, to.v.nanometres() - from.v.nanometres()),
     }
@@ -92,7 +92,7 @@ impl View {
         let start = arc.start().in_plane(plane);
         let end = arc.end().in_plane(plane);
         View {
-            centre: Way {
+            centre: Vector2 {
                 u: centre.u.nanometres(),
                 v: turned(turn, centre.v.nanometres()),
             },
@@ -122,13 +122,13 @@ impl View {
     }
 
     /// Returns the vector from the centre to a grid point.
-    pub(crate) fn way_to(&self, at: &Spot, step: u64) -> Way
+    pub(crate) fn way_to(&self, at: &Spot, step: u64) -> Vector2
         requires view { IsView self.now }
         requires at { IsSpot at.now }
         requires greatest { step ≤ 50000 }
         ensures { result ≡ way_from step self.now.centre at.now }
     {
-        Way {
+        Vector2 {
             u: from_centre(at.u, step, self.centre.u),
             v: from_centre(at.v, step, self.centre.v),
         }

@@ -5,8 +5,8 @@ use Rattle.std.specs.Prelude.{Ok, Err, ◌++◌, ◌||◌, Bool, false, true, no
 use Rattle.std.specs.List.{list_any}
 use Rattle.std.specs.Option.{option_and_then}
 use Rattle.std.specs.Ordering.{int_eq}
-use Rattle.ngc_machine.specs.Machine.{MachineFile}
-use Rattle.ngc_machine.specs.declared.tools.Tool.{Tool}
+use Rattle.ngc_machine_files.specs.Machine.{MachineFile}
+use Rattle.ngc_machine_files.specs.declared.tools.Tool.{Tool}
 use Rattle.ngc_line_reader.specs.Letter.{letter_byte}
 use Rattle.ngc_line_reader.specs.Program.{Line}
 use Rattle.ngc_line_reader.specs.ReadLine.{line_read}

@@ -2,7 +2,7 @@
 ghost use Rattle.std.specs.Prelude.{◌≡◌, ◌+◌, ◌-◌, ◌≤◌, ◌<◌, nat_le, length, slice_get, drop};
 ghost use Rattle.std.specs.Prelude.{take_while};
 ghost use Rattle.ngc_commands.specs.Reached.{after_all};
-ghost use Rattle.ngc_machine.specs.Machine.{file_of};
+ghost use Rattle.ngc_machine_files.specs.Machine.{file_of};
 ghost use Rattle.ngc_line_reader.specs.ProgramView.{text_in};
 ghost use Rattle.ngc_line_reader.specs.ReadLine.{line_read};
 ghost use Rattle.ngc_line_reader.specs.ScanLine.{parts_of, said_of};
@@ -19,7 +19,7 @@ use crate::said::{axis_words, has_code, is_zero, number_after, zero_words};
 use crate::slip::{Found, Kind, Slip, Slips};
 use ngc_commands::{Action, Command, Pace, Reached};
 use ngc_line_reader::{Letter, Line, Program, read_line};
-use ngc_machine::{Machine, Tool};
+use ngc_machine_files::{Machine, Tool};
 use std::alloc::Allocator;
 
 // Whether an action mounts the tool of this number, in millionths.

@@ -4,7 +4,7 @@ ghost use Rattle.std.specs.Io.KnownBytes.{Appends};
 ghost use Rattle.ngc_text.specs.Collected.{CHUNK_SIZE};
 ghost use Rattle.ngc_text.specs.Failures.{CountsFailure};
 ghost use Rattle.ngc_text.specs.Written.{AppendsBeginning};
-ghost use Rattle.ngc_machine.specs.Machine.{file_of};
+ghost use Rattle.ngc_machine_files.specs.Machine.{file_of};
 ghost use Rattle.ngc_line_reader.specs.ProgramView.{text_in};
 ghost use Rattle.ngc_word_warnings.specs.Spelling.{kind_line, word_warnings};
 
@@ -13,7 +13,7 @@ use crate::slips::slips_of;
 use crate::spelling::add_slips;
 use ngc_commands::Command;
 use ngc_line_reader::Program;
-use ngc_machine::Machine;
+use ngc_machine_files::Machine;
 use ngc_report::Form;
 use ngc_text::{Chunk, Sink, WriteFault};
 use std::alloc::Allocator;

@@ -13,7 +13,7 @@ ghost use Rattle.ngc_line_reader.specs.ScanLine.{start_fault as fault_of_start};
 ghost use Rattle.ngc_line_reader.specs.ScanLine.{other_item_at as other_item_found};
 ghost use Rattle.ngc_line_reader.specs.ScanLine.{item_at as item_found};
 
-use crate::fault::{FaultKind, Refusal};
+use crate::fault::{FaultKind, ItemRefusal};
 use crate::letter::{Letter, letter_of};
 use crate::line::{Line, RawSetting, RawWord};
 use crate::number::{begins, number_at, refusal, tail};
@@ -29,7 +29,7 @@ fn word_at<'a>(
     letter: Letter,
     s: &'a [u8],
     line: &mut Line,
-) -> Result<&'a [u8], Refusal>
+) -> Result<&'a [u8], ItemRefusal>
     requires some { 0 < length s.now }
     requires room { length s.now ≤ room }
     requires space { array_vec_len line.old.tokens + length s.now ≤ 256 }
@@ -40,10 +40,10 @@ fn word_at<'a>(
         (λ rest. array_vec_len line.new.tokens + length rest.now
         ≤ array_vec_len line.old.tokens + length s.now) }
     ensures settings { line.new.settings ≡ line.old.settings }
-    ensures not_long { IfErr result (λ e. e ≢ Refusal.OfItem FaultKind.LineTooLong) }
+    ensures not_long { IfErr result (λ e. e ≢ ItemRefusal.OfItem FaultKind.LineTooLong) }
 {
     if line.words.is_full() {
-        return Err(Refusal::OfItem(FaultKind::TooManyWords));
+        return Err(ItemRefusal::OfItem(FaultKind::TooManyWords));
     }
     let column = column_of(columns, s.len());
     let first = line.tokens.len() as u16;
@@ -106,7 +106,7 @@ fn setting_at<'a>(
     room: usize,
     s: &'a [u8],
     line: &mut Line,
-) -> Result<&'a [u8], Refusal>
+) -> Result<&'a [u8], ItemRefusal>
     requires some { 0 < length s.now }
     requires room { length s.now ≤ room }
     requires space { array_vec_len line.old.tokens + length s.now ≤ 256 }
@@ -120,7 +120,7 @@ fn setting_at<'a>(
     ensures few { IfOk result
         (λ rest. 4 * array_vec_len line.new.settings + length rest.now
         ≤ 4 * array_vec_len line.old.settings + length s.now) }
-    ensures not_long { IfErr result (λ e. e ≢ Refusal.OfItem FaultKind.LineTooLong) }
+    ensures not_long { IfErr result (λ e. e ≢ ItemRefusal.OfItem FaultKind.LineTooLong) }
 {
     let column = column_of(columns, s.len());
     let index = line.tokens.len() as u16;
@@ -160,19 +160,19 @@ fn after_comment(s: &[u8]) -> &[u8]
 }
 
 // Returns the text after a comment.
-fn comment_at(s: &[u8]) -> Result<&[u8], Refusal>
+fn comment_at(s: &[u8]) -> Result<&[u8], ItemRefusal>
     requires some { 0 < length s.now }
     ensures reads { Gives (λ rest. rest.now) result (comment_found s.now) }
     ensures shorter { IfOk result (λ rest. length rest.now < length s.now) }
-    ensures not_long { IfErr result (λ e. e ≢ Refusal.OfItem FaultKind.LineTooLong) }
+    ensures not_long { IfErr result (λ e. e ≢ ItemRefusal.OfItem FaultKind.LineTooLong) }
 {
     let end = after_comment(tail(s));
     if begins(b')', end) {
         Ok(tail(end))
     } else if begins(b'(', end) {
-        Err(Refusal::OfItem(FaultKind::CommentNested))
+        Err(ItemRefusal::OfItem(FaultKind::CommentNested))
     } else {
-        Err(Refusal::OfItem(FaultKind::CommentNotClosed))
+        Err(ItemRefusal::OfItem(FaultKind::CommentNotClosed))
     }
 }
 
@@ -196,7 +196,7 @@ fn other_item_at<'a>(
     room: usize,
     s: &'a [u8],
     line: &mut Line,
-) -> Result<&'a [u8], Refusal>
+) -> Result<&'a [u8], ItemRefusal>
     requires some { 0 < length s.now }
     requires room { length s.now ≤ room }
     requires space { array_vec_len line.old.tokens + length s.now ≤ 256 }
@@ -210,7 +210,7 @@ fn other_item_at<'a>(
     ensures few { IfOk result
         (λ rest. 4 * array_vec_len line.new.settings + length rest.now
         ≤ 4 * array_vec_len line.old.settings + length s.now) }
-    ensures not_long { IfErr result (λ e. e ≢ Refusal.OfItem FaultKind.LineTooLong) }
+    ensures not_long { IfErr result (λ e. e ≢ ItemRefusal.OfItem FaultKind.LineTooLong) }
 {
     if begins(b'#', s) {
         return setting_at(columns, room, s, line);
@@ -218,7 +218,7 @@ fn other_item_at<'a>(
     if begins(b'(', s) {
         return comment_at(s);
     }
-    Err(Refusal::OfItem(start_fault(s[0])))
+    Err(ItemRefusal::OfItem(start_fault(s[0])))
 }
 
 // Reads an item, and returns the rest. (Most items are short words, which get here only if they are
@@ -230,7 +230,7 @@ pub(crate) fn item_at<'a>(
     room: usize,
     s: &'a [u8],
     line: &mut Line,
-) -> Result<&'a [u8], Refusal>
+) -> Result<&'a [u8], ItemRefusal>
     requires some { 0 < length s.now }
     requires room { length s.now ≤ room }
     requires space { array_vec_len line.old.tokens + length s.now ≤ 256 }
@@ -244,7 +244,7 @@ pub(crate) fn item_at<'a>(
     ensures few { IfOk result
         (λ rest. 4 * array_vec_len line.new.settings + length rest.now
         ≤ 4 * array_vec_len line.old.settings + length s.now) }
-    ensures not_long { IfErr result (λ e. e ≢ Refusal.OfItem FaultKind.LineTooLong) }
+    ensures not_long { IfErr result (λ e. e ≢ ItemRefusal.OfItem FaultKind.LineTooLong) }
 {
     match letter_of(s[0]) {
         Some(letter) => word_at(columns, room, letter, s, line),

@@ -13,7 +13,7 @@ ghost use Rattle.ngc_line_reader.specs.ScanLine.{text_at as text_found};
 ghost use Rattle.ngc_line_reader.specs.ReadLine.{line_read};
 ghost use Rattle.ngc_line_reader.specs.Refused.{WritesTooLarge, WritesManyWords};
 
-use crate::fault::{FaultKind, LineFault, Refusal};
+use crate::fault::{FaultKind, ItemRefusal, LineFault};
 use crate::line::Line;
 use crate::line::items::{item_at, short_word};
 use crate::number::{begins, refusal, split_digits, tail};
@@ -24,18 +24,18 @@ use arrayvec::ArrayVec;
 const LINE_LENGTH: usize = 256;
 
 // Returns a refusal with its column.
-fn refused_at(columns: &[u16], left: usize, why: Refusal) -> LineFault
+fn refused_at(columns: &[u16], left: usize, why: ItemRefusal) -> LineFault
     ensures value { (s : List ℕ) → length s ≡ left →
         result ≡ refused_in (place_in columns.now) s why }
-    ensures not_long { why ≢ Refusal.OfItem FaultKind.LineTooLong →
+    ensures not_long { why ≢ ItemRefusal.OfItem FaultKind.LineTooLong →
         result.kind ≢ FaultKind.LineTooLong }
 {
     match why {
-        Refusal::OfItem(kind) => LineFault {
+        ItemRefusal::OfItem(kind) => LineFault {
             kind,
             column: column_of(columns, left),
         },
-        Refusal::AtByte(left) => LineFault {
+        ItemRefusal::AtByte(left) => LineFault {
             kind: FaultKind::UnknownCharacter,
             column: column_of(columns, left),
         },
@@ -70,10 +70,10 @@ fn items_at(columns: &[u16], room: usize, text: &[u8], line: &mut Line) -> Resul
 
 // Reads a line's number, and returns the rest.
 #[tactic(auto, unfolding(crate::specs::ScanLine::line_number_at))]
-fn line_number_at(s: &[u8]) -> Result<(Option<u32>, &[u8]), Refusal>
+fn line_number_at(s: &[u8]) -> Result<(Option<u32>, &[u8]), ItemRefusal>
     ensures reads { Gives (λ x. (x.0, x.1.now)) result (line_number_found s.now) }
     ensures shorter { IfOk result (λ x. length x.1.now ≤ length s.now) }
-    ensures not_long { IfErr result (λ e. e ≢ Refusal.OfItem FaultKind.LineTooLong) }
+    ensures not_long { IfErr result (λ e. e ≢ ItemRefusal.OfItem FaultKind.LineTooLong) }
 {
     if !begins(b'N', s) {
         return Ok((None, s));
@@ -83,10 +83,10 @@ fn line_number_at(s: &[u8]) -> Result<(Option<u32>, &[u8]), Refusal>
         return Err(refusal(FaultKind::BadLineNumber, rest));
     }
     if digits.bytes.len() >= 6 {
-        return Err(Refusal::OfItem(FaultKind::BadLineNumber));
+        return Err(ItemRefusal::OfItem(FaultKind::BadLineNumber));
     }
     if begins(b'.', rest) {
-        return Err(Refusal::OfItem(FaultKind::BadLineNumber));
+        return Err(ItemRefusal::OfItem(FaultKind::BadLineNumber));
     }
     Ok((Some(digits.units as u32), rest))
 }

@@ -4,7 +4,7 @@ use Rattle.std.proofs.Common.{◌≡◌, List, false}
 use Rattle.ngc_line_reader.specs.Grammar.{Reading}
 use Rattle.ngc_line_reader.specs.ProgramText.{AreReadings}
 use Rattle.ngc_line_reader.specs.ProgramView.{text_in}
-use Rattle.ngc_machine.specs.Machine.{file_of}
+use Rattle.ngc_machine_files.specs.Machine.{file_of}
 use Rattle.ngc_canonical.specs.State.{start_state}
 use Rattle.ngc_canonical.specs.Meaning.{from_state, remaining, program_said}
 use Rattle.ngc_canonical.specs.Interpreter.{setup_of, state_of}

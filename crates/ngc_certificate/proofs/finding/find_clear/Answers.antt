@@ -1,5 +1,5 @@
 use Rattle.std.proofs.Common.{◌∙◌, ap, arith}
-use Rattle.ngc_machine.specs.Machine.{file_of}
+use Rattle.ngc_machine_files.specs.Machine.{file_of}
 use Rattle.ngc_certificate.specs.Making.{pieces_where}
 use Rattle.ngc_certificate.proofs.Cleared.{cleared_good, line_found}
 use Rattle.ngc_certificate.proofs.Oks.{map_ok}

@@ -1,5 +1,5 @@
 use Rattle.std.proofs.Common.{◌+◌, Ok, arith, drop, subst, sym}
-use Rattle.ngc_machine.specs.Machine.{file_of}
+use Rattle.ngc_machine_files.specs.Machine.{file_of}
 use Rattle.ngc_commands.specs.Movement.{actions_of}
 use Rattle.ngc_certificate.specs.Making.{IsGivenFrom}
 use Rattle.ngc_certificate.proofs.MakingLaws.{next_action, none_left, nothing_behind, stopped}

@@ -1,6 +1,6 @@
 use Rattle.std.proofs.Common.{◌≡◌, ℕ, true, false, ◌+◌, nat_lt, Bool, arith, drop, [], inl, inr, refl, sym, subst, append-nil, ◌∙◌}
 use Rattle.std.proofs.lemmas.Bool.{cases_lt, ltb-true, ltb-false}
-use Rattle.ngc_machine.specs.Machine.{file_of}
+use Rattle.ngc_machine_files.specs.Machine.{file_of}
 use Rattle.ngc_commands.specs.Movement.{actions_of}
 use Rattle.ngc_certificate.specs.Uncleared.{AreUnclearedFrom, AreUncleared, LeadsPast}
 use Rattle.ngc_certificate.proofs.MakingLaws.{next_action, none_left}

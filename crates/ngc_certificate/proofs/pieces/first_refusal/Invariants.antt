@@ -1,5 +1,5 @@
 use Rattle.std.proofs.Common.{◌≡◌, drop}
-use Rattle.ngc_machine.specs.Machine.{file_of}
+use Rattle.ngc_machine_files.specs.Machine.{file_of}
 use Rattle.ngc_certificate.specs.Inside.{fault_of_some}
 use Rattle.ngc_certificate.specs.PieceJudging.{IsJudging, fault_ahead, judged_by}
 use Rattle.ngc_certificate.proofs.pieces.first_refusal.Given as goal

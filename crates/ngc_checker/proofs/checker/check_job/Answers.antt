@@ -1,7 +1,7 @@
 use Rattle.std.proofs.Common.{◌≡◌, None, Some, ap, ap₂, sym, ◌∙◌, refl, List}
 use Rattle.std.specs.Prelude.{Ok, true}
 use Rattle.ngc_commands.specs.declared.command.Command.{Command}
-use Rattle.ngc_machine.specs.Machine.{MachineFile, file_of}
+use Rattle.ngc_machine_files.specs.Machine.{MachineFile, file_of}
 use Rattle.ngc_certificate_text.specs.Contents.{said_of}
 use Rattle.ngc_job.specs.Job.{commands_in}
 use Rattle.ngc_checker.specs.FirstRefusal.{settings_fault}

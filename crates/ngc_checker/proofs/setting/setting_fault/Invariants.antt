@@ -1,6 +1,6 @@
 -- The remaining motions have the same result as all of them.
 use Rattle.std.proofs.Common.{◌≡◌, ◌≤◌, None, [], length, drop}
-use Rattle.ngc_machine.specs.Machine.{file_of}
+use Rattle.ngc_machine_files.specs.Machine.{file_of}
 use Rattle.ngc_checker.specs.FirstRefusal.{setting_fault}
 use Rattle.ngc_checker.specs.Walking.{fault_left}
 use Rattle.ngc_checker.proofs.setting.setting_fault.Given as goal

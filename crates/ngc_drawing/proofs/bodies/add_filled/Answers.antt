@@ -1,4 +1,4 @@
-use Rattle.ngc_machine.specs.Machine.{file_of}
+use Rattle.ngc_machine_files.specs.Machine.{file_of}
 use Rattle.ngc_drawing.proofs.Sweeps.{all_filled}
 use Rattle.ngc_drawing.proofs.bodies.add_filled.Goals as goal
 

@@ -1,6 +1,6 @@
 use Rattle.std.proofs.Common.{◌+◌, List, drop, get_or, rules, Some, None, subst, sym}
 use Rattle.std.proofs.lemmas.List.{at_drop_all, get_or_default}
-use Rattle.ngc_machine.specs.Machine.{file_of}
+use Rattle.ngc_machine_files.specs.Machine.{file_of}
 use Rattle.ngc_drawing.specs.Bodies.{swept, swept_from}
 use Rattle.ngc_drawing.specs.Draws.{Draws}
 use Rattle.ngc_drawing.specs.declared.shape.Shape.{Shape}

@@ -1,6 +1,6 @@
 use Rattle.ngc_fixed_length.specs.Boxes.{only}
 use Rattle.ngc_fixed_length.specs.Grid.{grid}
-use Rattle.ngc_machine.specs.Machine.{file_of}
+use Rattle.ngc_machine_files.specs.Machine.{file_of}
 use Rattle.ngc_collision.specs.Body.{bodies, span}
 use Rattle.ngc_drawing.proofs.Sweeps.{all_outlined}
 use Rattle.ngc_drawing.proofs.outline.add_standing.Goals as goal

@@ -2,7 +2,7 @@ use Rattle.std.proofs.Common.{List, ◌++◌, refl}
 use Rattle.ngc_drawing.specs.Bodies.{swept_from}
 use Rattle.ngc_drawing.specs.Pictures.{opening, fixtures_from}
 use Rattle.ngc_drawing.specs.Sheets.{unit_of}
-use Rattle.ngc_machine.specs.Machine.{file_of}
+use Rattle.ngc_machine_files.specs.Machine.{file_of}
 use Rattle.std.proofs.Common.{None}
 use Rattle.ngc_drawing.specs.declared.shape.Shape.{Shape}
 use Rattle.ngc_drawing.proofs.Ahead.{Ahead, begun, went, stopped, last}

@@ -1,5 +1,5 @@
 use Rattle.std.proofs.Common.{◌++◌, refl}
-use Rattle.ngc_machine.specs.Machine.{file_of}
+use Rattle.ngc_machine_files.specs.Machine.{file_of}
 use Rattle.ngc_drawing.proofs.Ahead.{both, cut_short}
 use Rattle.ngc_drawing.specs.Pictures.{places, origins_from}
 use Rattle.ngc_drawing.proofs.picture.draw_marks.Goals as goal

@@ -1,7 +1,7 @@
 use Rattle.std.proofs.Common.{List, [], ◌∷◌, ◌++◌, refl}
 use Rattle.ngc_drawing.specs.Pictures.{ground, path, marked, refused, scaled, tool_rows, refusal_row}
 use Rattle.ngc_drawing.specs.Sheets.{unit_of}
-use Rattle.ngc_machine.specs.Machine.{file_of}
+use Rattle.ngc_machine_files.specs.Machine.{file_of}
 use Rattle.ngc_drawing.specs.declared.shape.Shape.{Shape}
 use Rattle.ngc_drawing.specs.declared.shape.Shape.TheVariants as shapes
 use Rattle.ngc_drawing.proofs.Ahead.{Ahead, begun, went, stopped, last}

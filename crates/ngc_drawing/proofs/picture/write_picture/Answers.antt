@@ -7,7 +7,7 @@ use Rattle.ngc_text.specs.Collected.{WritesFront}
 use Rattle.ngc_certificate_text.proofs.Fronts.{all_written, beginning_written}
 use Rattle.ngc_drawing.proofs.Whole.{from_start}
 use Rattle.ngc_drawing.specs.Pictures.{text_of}
-use Rattle.ngc_machine.specs.Machine.{file_of}
+use Rattle.ngc_machine_files.specs.Machine.{file_of}
 use Rattle.ngc_drawing.proofs.picture.write_picture.Goals as goal
 
 whole_out : (r : Result (Unit {0}) WriteFault) (old mid new : Option (List ℕ)) (text after : List ℕ) → WritesFront old mid text after →

@@ -1,7 +1,7 @@
 use Rattle.std.proofs.Common.{ℕ, [], List, refl, subst}
 use Rattle.std.specs.Io.KnownBytes.{Appends}
 use Rattle.ngc_text.specs.Written.{AppendsBeginning}
-use Rattle.ngc_machine.specs.Machine.{file_of}
+use Rattle.ngc_machine_files.specs.Machine.{file_of}
 use Rattle.ngc_drawing.specs.Pictures.{picture_text}
 use Rattle.ngc_drawing.proofs.Ahead.{appends_none}
 use Rattle.ngc_drawing.proofs.Whole.{of_commands}

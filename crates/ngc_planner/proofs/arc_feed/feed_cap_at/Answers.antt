@@ -1,7 +1,7 @@
 use Rattle.std.proofs.Common.{◌≡◌, ◌≤◌, ◌*◌, ◌∙◌, ℕ, ap, arith, cond, false, sym, unsigned_abs}
 use Rattle.ngc_arc_geometry.specs.Radii.{IsArc}
 use Rattle.ngc_arc_geometry.specs.Shape.{ArcShape}
-use Rattle.ngc_machine.specs.Machine.{file_of}
+use Rattle.ngc_machine_files.specs.Machine.{file_of}
 use Rattle.ngc_planner.specs.ArcFeed.{rise, sloped_length}
 use Rattle.ngc_planner.specs.Caps.{STEPS_LIMIT}
 use Rattle.ngc_planner.specs.Headings.{is_level}

@@ -1,5 +1,5 @@
 use Rattle.std.proofs.Common.{arith}
-use Rattle.ngc_machine.specs.Machine.{file_of}
+use Rattle.ngc_machine_files.specs.Machine.{file_of}
 use Rattle.ngc_planner.proofs.ArcFeedLaws.{target_on_some}
 use Rattle.ngc_planner.proofs.BoundLaws.{ranges_of}
 use Rattle.ngc_planner.proofs.arc_feed.target_on.Goals as goal

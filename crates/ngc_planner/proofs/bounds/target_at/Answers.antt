@@ -1,5 +1,5 @@
 use Rattle.std.proofs.Common.{arith}
-use Rattle.ngc_machine.specs.Machine.{file_of}
+use Rattle.ngc_machine_files.specs.Machine.{file_of}
 use Rattle.ngc_planner.proofs.BoundLaws.{target_some, ranges_of}
 use Rattle.ngc_planner.proofs.bounds.target_at.Goals as goal
 

@@ -1,5 +1,5 @@
 use Rattle.std.proofs.Common.{◌≡◌, reverse, Some, arith, sym, ◌∙◌}
-use Rattle.ngc_machine.specs.Machine.{file_of}
+use Rattle.ngc_machine_files.specs.Machine.{file_of}
 use Rattle.ngc_planner.specs.Window.{passing_heading}
 use Rattle.ngc_planner.proofs.WindowLaws.{ends_free, difference_small, passing_is}
 use Rattle.ngc_planner.proofs.window.lowered_on.Goals as goal

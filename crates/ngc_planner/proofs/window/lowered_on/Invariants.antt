@@ -1,5 +1,5 @@
 use Rattle.std.proofs.Common.{length}
-use Rattle.ngc_machine.specs.Machine.{file_of}
+use Rattle.ngc_machine_files.specs.Machine.{file_of}
 use Rattle.ngc_planner.proofs.WindowLaws.{IsAsFar}
 use Rattle.ngc_planner.proofs.window.lowered_on.Given as goal
 

@@ -1,5 +1,5 @@
 use Rattle.std.proofs.Common.{reverse, arith, sym, ◌∙◌}
-use Rattle.ngc_machine.specs.Machine.{file_of}
+use Rattle.ngc_machine_files.specs.Machine.{file_of}
 use Rattle.ngc_planner.proofs.WindowLaws.{difference_small, line_window}
 use Rattle.ngc_planner.proofs.window.window_rate.Goals as goal
 

@@ -4,8 +4,8 @@ use Rattle.ngc_certificate_text.specs.Contents.{said_of}
 use Rattle.ngc_certificate_text.specs.declared.piece.Setting.TheVariants.{Off}
 use Rattle.ngc_text.proofs.Appended.{appends_both}
 use Rattle.ngc_line_reader.specs.ProgramView.{text_in}
-use Rattle.ngc_machine.specs.Machine.{file_of}
-use Rattle.ngc_machine.specs.Tools.{tools_of}
+use Rattle.ngc_machine_files.specs.Machine.{file_of}
+use Rattle.ngc_machine_files.specs.Tools.{tools_of}
 use Rattle.ngc_program_report.proofs.FitLaws.{setting_as, shop_as}
 use Rattle.ngc_program_report.proofs.WrittenLaws.{appends_as, begins_as, begins_first, begins_last, err_weaker, ok_weaker, on_err}
 use Rattle.ngc_program_report.proofs.fit_writer.write_once.Goals as goal

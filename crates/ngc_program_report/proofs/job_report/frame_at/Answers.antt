@@ -1,6 +1,6 @@
 use Rattle.ngc_line_reader.specs.ProgramView.{text_in}
-use Rattle.ngc_machine.specs.Machine.{file_of}
-use Rattle.ngc_machine.specs.Tools.{tools_of}
+use Rattle.ngc_machine_files.specs.Machine.{file_of}
+use Rattle.ngc_machine_files.specs.Tools.{tools_of}
 use Rattle.ngc_program_report.proofs.JobTexts.{frame_as}
 use Rattle.ngc_program_report.proofs.job_report.frame_at.Goals as goal
 

@@ -4,7 +4,7 @@ use Rattle.ngc_certificate.specs.Uncleared.{AreUncleared}
 use Rattle.ngc_certificate.specs.declared.fault.MakeFault.TheVariants.{NotCleared}
 use Rattle.ngc_certificate_text.specs.declared.piece.Setting.{Setting}
 use Rattle.ngc_job.specs.Job.{commands_in}
-use Rattle.ngc_machine.specs.Machine.{file_of}
+use Rattle.ngc_machine_files.specs.Machine.{file_of}
 use Rattle.ngc_program_report.specs.JobReports.{IsStartClear}
 use Rattle.ngc_program_report.proofs.NotMadeLaws.{off_cleared, start_clear}
 use Rattle.ngc_program_report.proofs.job_report.off_uncleared.Goals as goal

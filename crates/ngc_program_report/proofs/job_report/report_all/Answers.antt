@@ -2,7 +2,7 @@ use Rattle.std.proofs.Common.{◌≡◌, ℕ, List, true, false, subst, sym, ◌
 use Rattle.std.specs.Prelude.{is_some}
 use Rattle.ngc_certificate.specs.Uncleared.{AreUncleared}
 use Rattle.ngc_job.specs.Job.{commands_in}
-use Rattle.ngc_machine.specs.Machine.{file_of}
+use Rattle.ngc_machine_files.specs.Machine.{file_of}
 use Rattle.ngc_program_report.specs.JobReports.{IsRefusalsText, IsStartClear, OffBegins, OnBegins, Tells}
 use Rattle.ngc_program_report.specs.Texts.{refusals_text}
 use Rattle.ngc_program_report.specs.declared.report_fault.ReportFault.TheVariants as faults

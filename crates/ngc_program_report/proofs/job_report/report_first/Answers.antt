@@ -1,5 +1,5 @@
 use Rattle.ngc_line_reader.specs.ProgramView.{text_in}
-use Rattle.ngc_machine.specs.Machine.{file_of}
+use Rattle.ngc_machine_files.specs.Machine.{file_of}
 use Rattle.ngc_program_report.specs.JobReports.{first_text}
 use Rattle.ngc_program_report.specs.Texts.{refusal_text}
 use Rattle.ngc_program_report.proofs.JobTexts.{first_as}

@@ -1,7 +1,7 @@
 use Rattle.std.proofs.Common.{ap, take, ◌∙◌}
 use Rattle.ngc_commands.specs.Reached.{after_all}
 use Rattle.ngc_commands.specs.declared.reached.Reached.{Reached}
-use Rattle.ngc_machine.specs.Machine.{file_of}
+use Rattle.ngc_machine_files.specs.Machine.{file_of}
 use Rattle.ngc_program_report.proofs.MetLaws.{met_later}
 use Rattle.ngc_program_report.proofs.met.met_at.Goals as goal
 

@@ -3,7 +3,7 @@ use Rattle.ngc_certificate.specs.PieceFault.{place_fault}
 use Rattle.ngc_text.proofs.Appended.{appends_both}
 use Rattle.ngc_fixed_length.specs.Grid.{grid}
 use Rattle.ngc_line_reader.specs.ProgramView.{text_in}
-use Rattle.ngc_machine.specs.Machine.{file_of}
+use Rattle.ngc_machine_files.specs.Machine.{file_of}
 use Rattle.ngc_program_report.specs.Texts.{cause_text, told_command}
 use Rattle.ngc_program_report.proofs.WrittenLaws.{appends_as, begins_as, begins_first, begins_last, err_weaker, ok_weaker, on_err}
 use Rattle.ngc_program_report.proofs.refusal_writer.write_refused.Goals as goal

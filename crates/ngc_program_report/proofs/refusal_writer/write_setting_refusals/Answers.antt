@@ -3,7 +3,7 @@ use Rattle.std.specs.Prelude.{is_some}
 use Rattle.ngc_fixed_length.specs.Grid.{grid}
 use Rattle.ngc_certificate.specs.PieceFault.{place_fault}
 use Rattle.ngc_text.proofs.Appended.{appends_both}
-use Rattle.ngc_machine.specs.Machine.{file_of}
+use Rattle.ngc_machine_files.specs.Machine.{file_of}
 use Rattle.ngc_report.specs.Forms.{report_text}
 use Rattle.ngc_report.specs.Reports.{all_lines}
 use Rattle.ngc_program_report.proofs.WrittenLaws.{appends_as, begins_as, begins_first, begins_last, err_weaker, ok_weaker, on_err}

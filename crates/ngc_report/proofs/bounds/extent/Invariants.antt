@@ -1,7 +1,7 @@
 use Rattle.std.proofs.Common.{◌≡◌, drop}
 use Rattle.std.specs.Prelude.{fold, map}
 use Rattle.ngc_commands.specs.Movement.{actions_of, ways_of}
-use Rattle.ngc_machine.specs.Machine.{file_of}
+use Rattle.ngc_machine_files.specs.Machine.{file_of}
 use Rattle.ngc_report.specs.Extents.{joint_box, reach, extent}
 use Rattle.ngc_report.proofs.bounds.extent.Given as goal
 

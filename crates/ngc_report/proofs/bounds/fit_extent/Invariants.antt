@@ -1,6 +1,6 @@
 use Rattle.std.proofs.Common.{◌≡◌, drop, flat_map}
 use Rattle.std.specs.Prelude.{fold}
-use Rattle.ngc_machine.specs.Machine.{file_of}
+use Rattle.ngc_machine_files.specs.Machine.{file_of}
 use Rattle.ngc_report.specs.Extents.{joint_box, boxes_of, fit_extent}
 use Rattle.ngc_report.proofs.bounds.fit_extent.Given as goal
 

@@ -1,7 +1,7 @@
 use Rattle.std.proofs.Common.{◌≡◌, drop, flat_map}
 use Rattle.std.specs.Prelude.{fold}
 use Rattle.ngc_collision.specs.Inside.{solid_of}
-use Rattle.ngc_machine.specs.Machine.{file_of}
+use Rattle.ngc_machine_files.specs.Machine.{file_of}
 use Rattle.ngc_report.specs.Nearing.{nearer, distances}
 use Rattle.ngc_report.proofs.nearest.nearest_around.Given as goal
 

@@ -1,5 +1,5 @@
 use Rattle.std.proofs.Common.{List, drop, get_or, ◌+◌, None, refl, rules}
-use Rattle.ngc_machine.specs.Machine.{file_of}
+use Rattle.ngc_machine_files.specs.Machine.{file_of}
 use Rattle.ngc_report.specs.Reports.{causes_lines, scene_lines}
 use Rattle.ngc_report.specs.Scenes.{scene_at}
 use Rattle.ngc_report.specs.declared.line.Line.{Line}

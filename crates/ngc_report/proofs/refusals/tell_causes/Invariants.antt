@@ -1,6 +1,6 @@
 -- What is told, and what is still to tell.
 use Rattle.std.proofs.Common.{◌≡◌, drop}
-use Rattle.ngc_machine.specs.Machine.{file_of}
+use Rattle.ngc_machine_files.specs.Machine.{file_of}
 use Rattle.ngc_report.specs.Reports.{causes_lines}
 use Rattle.ngc_report.specs.Scenes.{StandsBehind}
 use Rattle.ngc_report.proofs.Ahead.{Ahead}

@@ -1,5 +1,5 @@
 use Rattle.std.proofs.Common.{List, [], ◌∷◌, ◌++◌}
-use Rattle.ngc_machine.specs.Machine.{file_of}
+use Rattle.ngc_machine_files.specs.Machine.{file_of}
 use Rattle.ngc_report.specs.Reports.{alongs, causes_lines, start_lines_if, told_extent, verdict_line}
 use Rattle.ngc_report.specs.declared.line.Line.{Line}
 use Rattle.ngc_report.proofs.Ahead.{first_stopped, second_stopped, all_three}

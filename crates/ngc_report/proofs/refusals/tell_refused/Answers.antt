@@ -1,4 +1,4 @@
-use Rattle.ngc_machine.specs.Machine.{file_of}
+use Rattle.ngc_machine_files.specs.Machine.{file_of}
 use Rattle.ngc_report.specs.Reports.{causes_lines, start_lines_if}
 use Rattle.ngc_report.proofs.Ahead.{first_stopped, both}
 use Rattle.ngc_report.proofs.refusals.tell_refused.Goals as goal

@@ -1,5 +1,5 @@
 use Rattle.std.proofs.Common.{List, [], ◌∷◌, ◌++◌}
-use Rattle.ngc_machine.specs.Machine.{file_of}
+use Rattle.ngc_machine_files.specs.Machine.{file_of}
 use Rattle.ngc_report.specs.Extents.{fit_extent}
 use Rattle.ngc_report.specs.Reports.{alongs, fit_line, use_lines}
 use Rattle.ngc_report.specs.Uses.{tool_uses}

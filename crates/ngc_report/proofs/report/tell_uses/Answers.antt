@@ -1,5 +1,5 @@
 use Rattle.std.proofs.Common.{◌+◌, ◌∷◌, [], List, drop, take, sym, subst, refl, rules, arith}
-use Rattle.ngc_machine.specs.Machine.{file_of}
+use Rattle.ngc_machine_files.specs.Machine.{file_of}
 use Rattle.ngc_report.specs.Nearing.{nearest}
 use Rattle.ngc_report.specs.Reports.{use_lines, near_line}
 use Rattle.ngc_report.specs.Uses.{tool_uses, uses_left}

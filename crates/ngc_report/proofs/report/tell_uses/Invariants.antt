@@ -1,5 +1,5 @@
 use Rattle.std.proofs.Common.{◌≡◌, ◌≤◌, length, drop}
-use Rattle.ngc_machine.specs.Machine.{file_of}
+use Rattle.ngc_machine_files.specs.Machine.{file_of}
 use Rattle.ngc_report.specs.Reports.{use_lines}
 use Rattle.ngc_report.specs.Uses.{tool_uses, uses_left}
 use Rattle.ngc_report.proofs.Ahead.{Ahead}

@@ -1,4 +1,4 @@
-use Rattle.ngc_machine.specs.Machine.{file_of}
+use Rattle.ngc_machine_files.specs.Machine.{file_of}
 use Rattle.ngc_report.specs.Warnings.{warning_lines}
 use Rattle.ngc_report.specs.Forms.{report_text}
 use Rattle.ngc_report.proofs.Ahead.{whole_out, part_out, none_out}

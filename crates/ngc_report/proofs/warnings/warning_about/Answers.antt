@@ -1,7 +1,7 @@
 use Rattle.std.proofs.Common.{sym, ◌∙◌, arith}
 use Rattle.std.specs.Prelude.{fold}
 use Rattle.std.proofs.lemmas.List.{at_drop_all}
-use Rattle.ngc_machine.specs.Machine.{file_of}
+use Rattle.ngc_machine_files.specs.Machine.{file_of}
 use Rattle.ngc_report.specs.Warnings.{lines_of, counted}
 use Rattle.ngc_report.specs.ToolStates.{beginning}
 use Rattle.ngc_report.proofs.Counts.{next_command, all_counted}

@@ -1,6 +1,6 @@
 use Rattle.std.proofs.Common.{◌≡◌, ◌≤◌, drop, None}
 use Rattle.std.specs.Prelude.{fold}
-use Rattle.ngc_machine.specs.Machine.{file_of}
+use Rattle.ngc_machine_files.specs.Machine.{file_of}
 use Rattle.ngc_report.specs.Warnings.{lines_of, counted, number_of}
 use Rattle.ngc_report.specs.ToolStates.{beginning}
 use Rattle.ngc_report.proofs.warnings.warning_about.Given as goal

@@ -1,5 +1,5 @@
 use Rattle.std.proofs.Common.{◌^◌, ap, length, arith, rules, refl, ◌∙◌}
-use Rattle.ngc_behaviour.specs.State.{Job}
+use Rattle.ngc_machine_model.specs.State.{Job}
 use Rattle.ngc_run_log.proofs.Untouched.{none_yet, goes_both, breaks_later, few_behind}
 use Rattle.ngc_run_log.proofs.through.fill_ring.Goals as goal
 

@@ -1,5 +1,5 @@
 use Rattle.std.proofs.Common.{◌^◌, ap, length, arith, rules, refl}
-use Rattle.ngc_behaviour.specs.State.{Job}
+use Rattle.ngc_machine_model.specs.State.{Job}
 use Rattle.ngc_run_log.proofs.Policy.{last_ticks}
 use Rattle.ngc_run_log.proofs.Untouched.{none_finished, one_more_finished, breaks_later, few_behind}
 use Rattle.ngc_run_log.proofs.through.finish.Goals as goal

@@ -1,6 +1,6 @@
 use Rattle.std.proofs.Common.{◌^◌, ap, length, arith}
 use Rattle.std.proofs.lemmas.Result.{on_err_weaker}
-use Rattle.ngc_behaviour.specs.State.{State}
+use Rattle.ngc_machine_model.specs.State.{State}
 use Rattle.ngc_run_log.proofs.Comes.{AreNew, new_recorder, none_counted, if_ok_both}
 use Rattle.ngc_run_log.proofs.Untouched.{few_behind}
 use Rattle.ngc_run_log.proofs.WholeRun.{opening_untouched, through_traced, through_unwritten, through_broken}

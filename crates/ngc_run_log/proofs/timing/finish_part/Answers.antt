@@ -1,5 +1,5 @@
 use Rattle.std.proofs.Common.{◌-◌, ◌*◌, ◌^◌, ap, length, min, arith}
-use Rattle.ngc_behaviour.specs.State.{Job}
+use Rattle.ngc_machine_model.specs.State.{Job}
 use Rattle.ngc_run_log.proofs.Parted.{told_behind}
 use Rattle.ngc_run_log.proofs.Untouched.{few_behind, goes_both}
 use Rattle.ngc_run_log.proofs.timing.finish_part.Goals as goal

@@ -1,5 +1,5 @@
 use Rattle.std.proofs.Common.{ℕ, ◌^◌, ap, length, arith, subst, sym, refl, ◌∙◌}
-use Rattle.ngc_behaviour.specs.State.{Job, State}
+use Rattle.ngc_machine_model.specs.State.{Job, State}
 use Rattle.ngc_run_log.specs.Parts.{IsTimedThrough}
 use Rattle.ngc_run_log.specs.declared.trace.Trace.TheVariants.{Untold}
 use Rattle.ngc_run_log.proofs.Comes.{AreNew, new_recorder, none_counted}

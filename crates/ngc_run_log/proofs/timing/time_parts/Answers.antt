@@ -1,5 +1,5 @@
 use Rattle.std.proofs.Common.{◌≡◌, ◌+◌, ◌-◌, ◌*◌, ◌^◌, ℕ, List, length, ap, arith, subst, sym, refl}
-use Rattle.ngc_behaviour.specs.State.{Job}
+use Rattle.ngc_machine_model.specs.State.{Job}
 use Rattle.ngc_run_log.specs.Parts.{GoesParted}
 use Rattle.ngc_run_log.proofs.Parted.{is_next, more_than_left, none_parted, part_more, parted_as}
 use Rattle.ngc_run_log.proofs.Untouched.{few_behind}

@@ -1,5 +1,5 @@
 use Rattle.std.proofs.Common.{◌≡◌, ◌+◌, ◌-◌, ◌*◌, ◌^◌, ◌≤◌, ◌<◌, length, false}
-use Rattle.ngc_behaviour.specs.State.{loaded}
+use Rattle.ngc_machine_model.specs.State.{loaded}
 use Rattle.ngc_run_log.specs.Parts.{GoesParted}
 use Rattle.ngc_run_log.proofs.timing.time_parts.Given as goal
 

@@ -1,7 +1,7 @@
 use Rattle.std.proofs.Common.{List, ◌++◌, flat_map, refl, subst}
 use Rattle.ngc_text.specs.Written.{AppendsBeginning}
 use Rattle.ngc_text.specs.Collected.{WritesFront}
-use Rattle.ngc_machine.specs.Machine.{file_of}
+use Rattle.ngc_machine_files.specs.Machine.{file_of}
 use Rattle.ngc_setup_sheet.specs.Reaches.{reach_of}
 use Rattle.ngc_setup_sheet.specs.Sheets.{machine_lines, fixtures_from, tool_lines, sheet}
 use Rattle.ngc_setup_sheet.specs.Spelling.{lines_text}

@@ -1,5 +1,5 @@
 use Rattle.std.proofs.Common.{◌+◌, drop, rules}
-use Rattle.ngc_machine.specs.Machine.{file_of}
+use Rattle.ngc_machine_files.specs.Machine.{file_of}
 use Rattle.ngc_setup_sheet.specs.Sheets.{fixture_lines, fixtures_from}
 use Rattle.ngc_setup_sheet.proofs.Ahead.{went, stopped}
 use Rattle.ngc_setup_sheet.proofs.Steps.{next_fixture}

@@ -1,5 +1,5 @@
 use Rattle.std.proofs.Common.{◌+◌, drop, refl, rules}
-use Rattle.ngc_machine.specs.Machine.{file_of}
+use Rattle.ngc_machine_files.specs.Machine.{file_of}
 use Rattle.ngc_setup_sheet.specs.Sheets.{fixture_lines, fixtures_from}
 use Rattle.ngc_setup_sheet.specs.Writes.{chosen}
 use Rattle.ngc_setup_sheet.proofs.Ahead.{begun, went, stopped}

@@ -1,8 +1,8 @@
 use Rattle.std.proofs.Common.{ℕ, List, ap, sym, subst, ◌∙◌}
 use Rattle.ngc_adapt_program.specs.ToolNumbers.{table_text}
 use Rattle.ngc_canonical.specs.Interpreter.{setup_of}
-use Rattle.ngc_machine.specs.Machine.{file_of}
-use Rattle.ngc_machine.specs.ToolText.{tool_table}
+use Rattle.ngc_machine_files.specs.Machine.{file_of}
+use Rattle.ngc_machine_files.specs.ToolText.{tool_table}
 use Rattle.ngc_simulator.specs.Adapting.{HasFault}
 use Rattle.ngc_simulator.proofs.AdaptLaws.{refused_notes}
 use Rattle.std.proofs.Common.{refl}

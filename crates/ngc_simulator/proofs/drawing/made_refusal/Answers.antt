@@ -1,6 +1,6 @@
 use Rattle.std.proofs.Common.{◌∙◌}
 use Rattle.ngc_certificate_text.specs.Contents.{said_of}
-use Rattle.ngc_machine.specs.Machine.{file_of}
+use Rattle.ngc_machine_files.specs.Machine.{file_of}
 use Rattle.ngc_simulator.proofs.DrawLaws.{made_refusal_of}
 use Rattle.ngc_simulator.proofs.drawing.made_refusal.Goals as goal
 

@@ -2,7 +2,7 @@ use Rattle.std.proofs.Common.{List, ℕ, Result, Ok, refl, subst, sym, true, ◌
 use Rattle.std.specs.Prelude.{option_map}
 use Rattle.ngc_machine_maker.specs.File.{file_text}
 use Rattle.ngc_machine_maker.specs.declared.numbers.MachineNumbers.{MachineNumbers}
-use Rattle.ngc_machine_maker.specs.declared.refusal.Refusal.{Refusal}
+use Rattle.ngc_machine_maker.specs.declared.refusal.FigureRefusal.{FigureRefusal}
 use Rattle.ngc_program_report.proofs.WrittenLaws.{turned}
 use Rattle.ngc_text.specs.Written.{AppendsBeginning}
 use Rattle.std.specs.Io.KnownBytes.{Appends}
@@ -56,7 +56,7 @@ returns-clause-makes g c =
     let noted = of_no_error c.write_notes.result _ (sym c.is_err.ensures.value ∙ c.if-is_err.false) c.write_notes.ensures.ok in (
       Ok figures,
       c.in-Ok.ensures,
-      subst (λ (r : Result MachineNumbers Refusal). WritesNumbers figures r old new (record { text = c.into_inner.result; is_written = true }))
+      subst (λ (r : Result MachineNumbers FigureRefusal). WritesNumbers figures r old new (record { text = c.into_inner.result; is_written = true }))
           c.in-Ok-numbers_of.ensures.value
           ((c.in_ok-text.text.items, c.in_ok-text.ensures.made, appends), refl, rw (c.into_inner.ensures, noted, c.new-told.ensures.inner, c.new.ensures.items) refl),
     )

@@ -1,6 +1,6 @@
 use Rattle.std.proofs.Common.{◌≡◌, Ok}
-use Rattle.ngc_machine.specs.Machine.{file_of}
-use Rattle.ngc_machine.specs.MachineText.{machine_file}
+use Rattle.ngc_machine_files.specs.Machine.{file_of}
+use Rattle.ngc_machine_files.specs.MachineText.{machine_file}
 use Rattle.ngc_simulator.specs.Setups.{Refuses}
 use Rattle.ngc_simulator.proofs.SetupLaws.{carried}
 use Rattle.ngc_simulator.proofs.setup.named_machine.Goals as goal

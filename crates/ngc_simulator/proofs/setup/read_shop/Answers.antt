@@ -1,5 +1,5 @@
 use Rattle.std.specs.Prelude.{option_map}
-use Rattle.ngc_machine.specs.Machine.{file_of}
+use Rattle.ngc_machine_files.specs.Machine.{file_of}
 use Rattle.ngc_simulator.specs.Unread.{OfMachine, OfTools, SourceFails, setup_input, shop_inputs, unread_by}
 use Rattle.ngc_program_report.proofs.WrittenLaws.{turned}
 use Rattle.ngc_simulator.proofs.SetupLaws.{refused_machine, refused_tools}

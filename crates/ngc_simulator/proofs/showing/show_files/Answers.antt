@@ -4,8 +4,8 @@ use Rattle.std.specs.Io.KnownBytes.{Appends}
 use Rattle.ngc_canonical.specs.Interpreter.{setup_of}
 use Rattle.ngc_command_line.specs.declared.options.ShowOptions.{ShowOptions}
 use Rattle.ngc_text.specs.Written.{AppendsBeginning}
-use Rattle.ngc_machine.specs.Machine.{file_of}
-use Rattle.ngc_machine.specs.declared.tools.Tool.{Tool}
+use Rattle.ngc_machine_files.specs.Machine.{file_of}
+use Rattle.ngc_machine_files.specs.declared.tools.Tool.{Tool}
 use Rattle.ngc_simulator.specs.Answers.{ShowsOn, ShowComes}
 use Rattle.ngc_simulator.specs.Setups.{FileBytes}
 use Rattle.ngc_simulator.specs.Shops.{GivesShop}

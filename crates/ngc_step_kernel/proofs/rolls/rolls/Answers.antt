@@ -3,7 +3,7 @@ use Rattle.std.specs.Prelude.{ℕ, Option}
 use Rattle.ngc_step_kernel.specs.Left.{IsLeftAfter}
 use Rattle.ngc_step_kernel.proofs.CourseLemmas.{walk_on, round_starts}
 use Rattle.ngc_step_kernel.proofs.RollsLemmas.{before_first, before_on, past_on}
-use Rattle.ngc_wheel.proofs.Wheeling.{first_spoke}
+use Rattle.ngc_circle_walk.proofs.Wheeling.{first_spoke}
 use Rattle.ngc_step_kernel.proofs.rolls.rolls.Goals as goal
 
 pub new-wheel-requires-clause-small : goal.new-wheel-requires-clause-small

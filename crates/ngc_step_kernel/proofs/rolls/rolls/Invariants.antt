@@ -1,6 +1,6 @@
 use Rattle.std.proofs.Common.{◌≡◌}
 use Rattle.ngc_step_kernel.specs.Course.{round_at}
-use Rattle.ngc_wheel.specs.Rolling.{spoke_at}
+use Rattle.ngc_circle_walk.specs.Rolling.{spoke_at}
 use Rattle.ngc_step_kernel.proofs.RollsLemmas.{IsBefore}
 use Rattle.ngc_step_kernel.proofs.rolls.rolls.Given as goal
 

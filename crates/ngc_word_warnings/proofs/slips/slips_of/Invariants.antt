@@ -1,6 +1,6 @@
 -- What is found so far, with what the rest of the lines has, is what all lines have.
 use Rattle.std.proofs.Common.{◌≡◌, ◌≤◌, drop, length}
-use Rattle.ngc_machine.specs.Machine.{file_of}
+use Rattle.ngc_machine_files.specs.Machine.{file_of}
 use Rattle.ngc_line_reader.specs.ProgramView.{text_in}
 use Rattle.ngc_word_warnings.specs.Slips.{all_found, slips_of, count_of, with_later}
 use Rattle.ngc_word_warnings.proofs.slips.slips_of.Given as goal

@@ -1,5 +1,5 @@
 use Rattle.std.proofs.Common.{sym, ◌∙◌}
-use Rattle.ngc_machine.specs.Machine.{file_of}
+use Rattle.ngc_machine_files.specs.Machine.{file_of}
 use Rattle.ngc_certificate.proofs.MakingLaws.{not_mounted}
 use Rattle.ngc_certificate.proofs.maker.Progress.mount.Goals as goal
 

@@ -1,5 +1,5 @@
 use Rattle.std.proofs.Common.{sym, subst, List, arith}
-use Rattle.ngc_machine.specs.Machine.{file_of}
+use Rattle.ngc_machine_files.specs.Machine.{file_of}
 use Rattle.ngc_certificate_text.specs.declared.piece.Piece.{Piece}
 use Rattle.ngc_certificate_text.specs.Certificate.{IsEntry}
 use Rattle.ngc_certificate.specs.Made.{MayFind}

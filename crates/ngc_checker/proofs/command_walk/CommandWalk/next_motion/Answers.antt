@@ -1,5 +1,5 @@
 use Rattle.std.proofs.Common.{◌∷◌, ◌∙◌}
-use Rattle.ngc_machine.specs.Machine.{file_of}
+use Rattle.ngc_machine_files.specs.Machine.{file_of}
 use Rattle.ngc_checker.proofs.WalkLaws.{move_step}
 use Rattle.ngc_checker.proofs.command_walk.CommandWalk.next_motion.Goals as goal
 

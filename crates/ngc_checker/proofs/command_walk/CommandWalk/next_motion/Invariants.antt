@@ -1,6 +1,6 @@
 -- The walk from here on is the walk from where it began.
 use Rattle.std.proofs.Common.{◌≡◌, ◌+◌, List, drop}
-use Rattle.ngc_machine.specs.Machine.{file_of}
+use Rattle.ngc_machine_files.specs.Machine.{file_of}
 use Rattle.ngc_commands.specs.Movement.{actions_of, motion_indices}
 use Rattle.ngc_certificate_text.specs.Certificate.{Entry}
 use Rattle.ngc_checker.specs.Walking.{walk_from}

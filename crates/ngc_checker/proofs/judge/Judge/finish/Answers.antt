@@ -1,7 +1,7 @@
 use Rattle.std.proofs.Common.{◌≡◌, refl, List, [], ap₂, sym, ◌∙◌, Option}
 use Rattle.std.specs.Prelude.{true}
 use Rattle.ngc_commands.specs.declared.command.Command.{Command}
-use Rattle.ngc_machine.specs.Machine.{MachineFile}
+use Rattle.ngc_machine_files.specs.Machine.{MachineFile}
 use Rattle.ngc_certificate.specs.PieceFault.{◌or◌}
 use Rattle.ngc_certificate_text.specs.Ahead.{nothing_left}
 use Rattle.ngc_certificate_text.specs.declared.piece.Setting.TheVariants.{Off, On}

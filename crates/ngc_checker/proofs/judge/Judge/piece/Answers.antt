@@ -1,6 +1,6 @@
 use Rattle.std.proofs.Common.{◌≡◌, ◌-◌, sym}
 use Rattle.std.specs.Prelude.{true}
-use Rattle.ngc_machine.specs.Machine.{file_of}
+use Rattle.ngc_machine_files.specs.Machine.{file_of}
 use Rattle.ngc_job.specs.Job.{commands_in}
 use Rattle.ngc_checker.proofs.JudgeLaws.{judged_on, piece_judged, stepped}
 use Rattle.ngc_checker.proofs.judge.Judge.piece.Goals as goal

@@ -1,5 +1,5 @@
 use Rattle.std.proofs.Common.{arith}
-use Rattle.ngc_machine.specs.Machine.{file_of}
+use Rattle.ngc_machine_files.specs.Machine.{file_of}
 use Rattle.ngc_checker.proofs.WalkLaws.{compared, judged_all, rest_of}
 use Rattle.ngc_checker.proofs.setting_judge.SettingJudge.compare.Goals as goal
 

@@ -1,6 +1,6 @@
 -- The remaining pieces have the same result as all of them.
 use Rattle.std.proofs.Common.{◌≡◌, ◌≤◌, ◌-◌, None, List, length, drop}
-use Rattle.ngc_machine.specs.Machine.{file_of}
+use Rattle.ngc_machine_files.specs.Machine.{file_of}
 use Rattle.ngc_certificate_text.specs.Certificate.{Entry}
 use Rattle.ngc_checker.specs.Following.{IsFollowing}
 use Rattle.ngc_checker.specs.Walking.{fault_left}

@@ -1,6 +1,6 @@
 use Rattle.std.proofs.Common.{◌-◌, ap, sym, ◌∙◌, Option, Some}
 use Rattle.std.specs.Option.{option_map}
-use Rattle.ngc_machine.specs.Machine.{file_of}
+use Rattle.ngc_machine_files.specs.Machine.{file_of}
 use Rattle.ngc_certificate.specs.declared.fault.PieceRefusal.{PieceRefusal}
 use Rattle.ngc_certificate.specs.PieceFault.{◌or◌}
 use Rattle.ngc_checker.specs.declared.command_walk.CommandWalk.{CommandWalk}

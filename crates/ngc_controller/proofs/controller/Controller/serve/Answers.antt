@@ -1,10 +1,10 @@
 use Rattle.std.proofs.Common.{arith, refl, false, sym, subst, ap, ◌∙◌, ◌≡◌, ◌/◌, suc, drop, nat_lt, Some, None}
 use Rattle.std.specs.Prelude.{Ok}
-use Rattle.ngc_behaviour.specs.Headline.{job_of}
-use Rattle.ngc_behaviour.specs.Step.{Finishes, ticks_of}
+use Rattle.ngc_machine_model.specs.Headline.{job_of}
+use Rattle.ngc_machine_model.specs.Step.{Finishes, ticks_of}
 use Rattle.ngc_events.specs.declared.reply.Reply.TheVariants.{Ticked}
 use Rattle.ngc_checker.specs.Accepted.{commands_at}
-use Rattle.ngc_machine.specs.Machine.{MachineFile}
+use Rattle.ngc_machine_files.specs.Machine.{MachineFile}
 use Rattle.ngc_fixed_length.specs.Limits.{MILLION}
 use Rattle.ngc_planner.specs.Ramp.{RampState}
 use Rattle.ngc_controller.specs.declared.drive.Drive.{Drive}

@@ -1,5 +1,5 @@
 use Rattle.std.proofs.Common.{arith, refl, sym, subst, ap, ◌∙◌, ◌≡◌, ◌+◌, ◌-◌, false, drop}
-use Rattle.ngc_behaviour.specs.Headline.{job_of}
+use Rattle.ngc_machine_model.specs.Headline.{job_of}
 use Rattle.ngc_checker.specs.Accepted.{commands_at}
 use Rattle.ngc_planner.specs.Ramp.{RampState}
 use Rattle.ngc_controller.specs.Controller.{ControllerData}

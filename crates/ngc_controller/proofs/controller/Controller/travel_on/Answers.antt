@@ -1,5 +1,5 @@
 use Rattle.std.proofs.Common.{arith, sym, subst, ap, ◌∙◌, ◌≡◌, ◌≤◌, false}
-use Rattle.ngc_behaviour.specs.Headline.{job_of}
+use Rattle.ngc_machine_model.specs.Headline.{job_of}
 use Rattle.ngc_checker.specs.Accepted.{commands_at}
 use Rattle.ngc_controller.specs.Controller.{ControllerData}
 use Rattle.ngc_controller.specs.Fields.{state_of}

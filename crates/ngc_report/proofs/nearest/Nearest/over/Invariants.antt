@@ -1,6 +1,6 @@
 use Rattle.std.proofs.Common.{◌≡◌, take, drop, flat_map}
 use Rattle.std.specs.Prelude.{fold}
-use Rattle.ngc_machine.specs.Machine.{file_of}
+use Rattle.ngc_machine_files.specs.Machine.{file_of}
 use Rattle.ngc_report.specs.Nearing.{nearer, over_motion, nearest}
 use Rattle.ngc_report.proofs.nearest.Nearest.over.Given as goal
 

@@ -1,5 +1,5 @@
 use Rattle.std.proofs.Common.{◌∙◌, None, arith}
-use Rattle.ngc_machine.specs.Machine.{file_of}
+use Rattle.ngc_machine_files.specs.Machine.{file_of}
 use Rattle.ngc_commands.specs.declared.reached.Reached.{Reached}
 use Rattle.ngc_report.proofs.Causes.{gone_further}
 use Rattle.ngc_report.proofs.refusals.Standing.at.Goals as goal

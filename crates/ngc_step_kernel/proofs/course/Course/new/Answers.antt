@@ -1,6 +1,6 @@
 use Rattle.std.proofs.Common.{arith}
 use Rattle.ngc_step_kernel.proofs.CourseLemmas.{course_begins}
-use Rattle.ngc_wheel.proofs.Wheeling.{first_spoke}
+use Rattle.ngc_circle_walk.proofs.Wheeling.{first_spoke}
 use Rattle.ngc_step_kernel.proofs.course.Course.new.Goals as goal
 
 pub new-requires-clause-small : goal.new-requires-clause-small

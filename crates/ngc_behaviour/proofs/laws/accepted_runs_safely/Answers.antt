@@ -1,5 +1,0 @@
-use Rattle.ngc_behaviour.proofs.Headline.{accepted_runs_safely}
-use Rattle.ngc_behaviour.proofs.laws.accepted_runs_safely.Goals as goal
-
-pub returns : goal.returns
-returns c = accepted_runs_safely

@@ -1,5 +1,0 @@
-use Rattle.ngc_behaviour.proofs.EndsInTime.{ends_in_time}
-use Rattle.ngc_behaviour.proofs.laws.ends_in_time.Goals as goal
-
-pub returns : goal.returns
-returns c = ends_in_time

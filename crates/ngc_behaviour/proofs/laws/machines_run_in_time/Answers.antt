@@ -1,5 +1,0 @@
-use Rattle.ngc_behaviour.proofs.EndsInTime.{machines_run_in_time}
-use Rattle.ngc_behaviour.proofs.laws.machines_run_in_time.Goals as goal
-
-pub returns : goal.returns
-returns c = machines_run_in_time

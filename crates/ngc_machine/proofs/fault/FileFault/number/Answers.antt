@@ -1,5 +1,0 @@
-use Rattle.std.proofs.Common.{rules}
-use Rattle.ngc_machine.proofs.fault.FileFault.number.Goals as goal
-
-pub returns-in-Tools : goal.returns-in-Tools
-returns-in-Tools c = search rules

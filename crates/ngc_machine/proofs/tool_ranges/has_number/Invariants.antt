@@ -1,8 +1,0 @@
-use Rattle.std.proofs.Common.{◌≡◌, drop, map}
-use Rattle.ngc_machine.specs.Numbers.{has_number}
-use Rattle.ngc_machine.specs.ToolText.{numbers_of, tool_number}
-use Rattle.ngc_machine.proofs.tool_ranges.has_number.Given as goal
-
-abbrev pub invariant-loop-tool : goal.invariant-loop-tool
-invariant-loop-tool l =
-    has_number l.number (map tool_number (map numbers_of l.tools)) ≡ has_number l.number (map tool_number (map numbers_of (drop l.tool-index l.tools)))

@@ -1,6 +1,0 @@
-use Rattle.std.proofs.Common.{◌≡◌, ◌++◌, map, take}
-use Rattle.ngc_machine.specs.ToolText.{part_of}
-use Rattle.ngc_machine.proofs.tool_ranges.parts.Given as goal
-
-abbrev pub invariant-loop-entry : goal.invariant-loop-entry
-invariant-loop-entry l = l.parts ≡ l.initial.parts ++ map part_of (take l.entry-index l.entry-items)

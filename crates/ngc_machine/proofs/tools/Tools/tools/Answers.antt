@@ -1,5 +1,0 @@
-use Rattle.std.proofs.Common.{rules}
-use Rattle.ngc_machine.proofs.tools.Tools.tools.Goals as goal
-
-pub returns-clause-tools : goal.returns-clause-tools
-returns-clause-tools g c = search rules

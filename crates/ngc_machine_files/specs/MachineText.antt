@@ -1,0 +1,310 @@
+-- What a machine file of version 1 or 2 says. Our own.
+use Rattle.std.specs.Prelude.{ℕ, ◌==◌, ◌≤◌, nat_le, ℤ, pos, unsigned_abs, int_le, int_lt, int_rem}
+use Rattle.std.specs.Prelude.{List, [], ◌∷◌, length, map, replicate, Option, Some, None, Result, Ok}
+use Rattle.std.specs.Prelude.{Err, Bool, ◌&&◌, ◌||◌, codes, if◌then◌else◌, is_some}
+use Rattle.std.specs.List.{All, list_all}
+use Rattle.std.specs.Ordering.{int_eq}
+use Rattle.toml.specs.Data.{Data, array, Items, get}
+use Rattle.ngc_fixed_length.specs.Signed.{is_within, is_zero}
+use Rattle.ngc_fixed_length.specs.declared.points.Point3.{Point3}
+use Rattle.ngc_machine_files.specs.declared.machine.AxisRates.{AxisRates}
+use Rattle.ngc_machine_files.specs.declared.machine.Fixture.{Fixture}
+use Rattle.ngc_machine_files.specs.declared.machine_contents.Coordinates.{Coordinates}
+use Rattle.ngc_machine_files.specs.declared.machine_contents.Corners.{Corners}
+use Rattle.ngc_machine_files.specs.declared.machine_contents.MachineNumbers.{MachineNumbers}
+use Rattle.ngc_machine_files.specs.declared.machine_contents.MachinePoints.{MachinePoints}
+use Rattle.ngc_machine_files.specs.declared.machine_contents.MachineContents.{MachineContents}
+use Rattle.ngc_machine_files.specs.declared.fault.FileFault.{FileFault}
+use Rattle.ngc_machine_files.specs.declared.fault.FileFault.TheVariants.{Version, Step, TicksPerSecond}
+use Rattle.ngc_machine_files.specs.declared.fault.FileFault.TheVariants.{Rates, Travel, Places, Fixtures}
+use Rattle.ngc_machine_files.specs.declared.fault.FileFault.TheVariants.{Document}
+use Rattle.ngc_machine_files.specs.Machine.{MachineFile}
+use Rattle.ngc_machine_files.specs.Ranges.{PLACE_LIMIT, CORNER_LIMIT, IsSized, IsTravel, IsFixture}
+use Rattle.ngc_machine_files.specs.Ranges.{IsFrom}
+use Rattle.ngc_fixed_length.specs.Length.{IsStep}
+use Rattle.ngc_machine_files.specs.Names.{name_from}
+use Rattle.ngc_machine_files.specs.Numbers.{from_to}
+use Rattle.ngc_machine_files.specs.Refusals.{◌>>◌, refuse_unless}
+use Rattle.ngc_machine_files.specs.Tree.{◌>>=◌, tree_of, known, has_only, whole_at, whole_or, coordinates, coordinates_at}
+use Rattle.ngc_machine_files.specs.Tree.{each, list_at, or_missing, name_at}
+
+-- ---- the values that the keys name
+
+pub record MachineValues : Type 0 where
+  pub numbers : MachineNumbers
+  pub axis_rates : Coordinates
+  pub points : MachinePoints
+  pub origins : List Coordinates
+  pub fixtures : List Corners
+
+abbrev pub values_of : MachineContents → MachineValues
+values_of c =
+    record {
+      numbers = c.numbers;
+      axis_rates = c.axis_rates;
+      points = c.points;
+      origins = c.origins;
+      fixtures = c.fixtures.items;
+    }
+
+-- the keys of version 1
+abbrev pub common_keys : List (List ℕ)
+common_keys =
+    codes "version" ∷ codes "step" ∷ codes "ticks_per_second" ∷ codes "max_rate" ∷ codes "change"
+    ∷ codes "corner" ∷
+    codes "turn" ∷ codes "low" ∷ codes "high" ∷ codes "start" ∷ codes "home28" ∷ codes "home30"
+    ∷ codes "origins" ∷
+    codes "fixture" ∷ []
+
+-- version 2 has rates of the axes and may have a jump, a ring and the feed of arcs, and no other
+-- version
+abbrev pub has_axis_rates : ℤ → Bool
+has_axis_rates version = int_eq version (pos 2)
+
+unfoldable pub machine_keys : ℤ → List (List ℕ)
+machine_keys version =
+    if has_axis_rates version
+    then codes "axis_rate" ∷ codes "jump" ∷ codes "ring" ∷ codes "arc_feed" ∷ common_keys
+    else common_keys
+
+-- three numbers, which bound no rate where the version has none
+unfoldable pub machine_axis_rates : ℤ → Data → Option Coordinates
+machine_axis_rates version tree =
+    if has_axis_rates version
+    then coordinates_at (codes "axis_rate") tree
+    else Some (record { x = pos 1000000; y = pos 1000000; z = pos 1000000 })
+
+-- a jump or a feed of arcs that is missing is 0, and a ring 16
+abbrev pub machine_numbers : Data → Option MachineNumbers
+machine_numbers tree = do
+  version ← whole_at (codes "version") tree
+  step ← whole_at (codes "step") tree
+  ticks_per_second ← whole_at (codes "ticks_per_second") tree
+  max_rate ← whole_at (codes "max_rate") tree
+  change ← whole_at (codes "change") tree
+  corner ← whole_at (codes "corner") tree
+  turn ← whole_at (codes "turn") tree
+  jump ← whole_or (pos 0) (codes "jump") tree
+  ring ← whole_or (pos 16) (codes "ring") tree
+  arc_feed ← whole_or (pos 0) (codes "arc_feed") tree
+  Some (record {
+    version = version;
+    step = step;
+    ticks_per_second = ticks_per_second;
+    max_rate = max_rate;
+    change = change;
+    corner = corner;
+    turn = turn;
+    jump = jump;
+    ring = ring;
+    arc_feed = arc_feed;
+  })
+
+abbrev pub machine_points : Data → Option MachinePoints
+machine_points tree = do
+  low ← coordinates_at (codes "low") tree
+  high ← coordinates_at (codes "high") tree
+  start ← coordinates_at (codes "start") tree
+  home28 ← coordinates_at (codes "home28") tree
+  home30 ← coordinates_at (codes "home30") tree
+  Some (record { low = low; high = high; start = start; home28 = home28; home30 = home30 })
+
+abbrev pub nine : List Coordinates → Option (List Coordinates)
+nine points = if length points == 9 then Some points else None
+
+abbrev pub nine_coordinates : Items → Option (List Coordinates)
+nine_coordinates items = each coordinates items >>= nine
+
+abbrev pub origins_of : Data → Option (List Coordinates)
+origins_of (array items) = nine_coordinates items
+origins_of _ = None
+
+-- nine points, all zero where they are missing
+abbrev pub machine_origins : Data → Option (List Coordinates)
+machine_origins tree =
+    or_missing (replicate 9 (record { x = pos 0; y = pos 0; z = pos 0 })) origins_of
+    (get (codes "origins") tree)
+
+-- in version 2 a fixture may have a name
+abbrev pub has_fixture_keys : ℤ → Data → Bool
+has_fixture_keys version value =
+    if has_axis_rates version
+    then has_only (codes "low" ∷ codes "high" ∷ codes "name" ∷ []) value
+    else has_only (codes "low" ∷ codes "high" ∷ []) value
+
+abbrev pub named_corners : Data → Option Corners
+named_corners value = do
+  low ← coordinates_at (codes "low") value
+  high ← coordinates_at (codes "high") value
+  name ← name_at value
+  Some (record { low = low; high = high; name = name })
+
+abbrev pub corners : ℤ → Data → Option Corners
+corners version value = if has_fixture_keys version value then named_corners value else None
+
+-- tables of two corners each, none where they are missing
+abbrev pub machine_fixtures : ℤ → Data → Option (List Corners)
+machine_fixtures version tree = list_at (corners version) (codes "fixture") tree
+
+abbrev pub machine_values : Data → Option MachineValues
+machine_values root = do
+  numbers ← machine_numbers root
+  tree ← known (machine_keys numbers.version) root
+  axis_rates ← machine_axis_rates numbers.version tree
+  points ← machine_points tree
+  origins ← machine_origins tree
+  fixtures ← machine_fixtures numbers.version tree
+  Some (record {
+    numbers = numbers;
+    axis_rates = axis_rates;
+    points = points;
+    origins = origins;
+    fixtures = fixtures;
+  })
+
+-- ---- ranges
+
+abbrev pub is_sized : ℕ → Coordinates → Bool
+is_sized n p = is_within n p.x && is_within n p.y && is_within n p.z
+
+abbrev pub is_at_most : Coordinates → Coordinates → Bool
+is_at_most p q = int_le p.x q.x && int_le p.y q.y && int_le p.z q.z
+
+abbrev pub is_below : Coordinates → Coordinates → Bool
+is_below p q = int_lt p.x q.x && int_lt p.y q.y && int_lt p.z q.z
+
+abbrev pub is_multiple : ℤ → ℤ → Bool
+is_multiple step c = is_zero (int_rem c step)
+
+abbrev pub is_on_grid : ℤ → Coordinates → Bool
+is_on_grid step p = is_multiple step p.x && is_multiple step p.y && is_multiple step p.z
+
+unfoldable pub good_version : ℤ → Bool
+good_version version = int_eq version (pos 1) || has_axis_rates version
+
+unfoldable pub is_rate : ℤ → Bool
+is_rate z = from_to (pos 1) (pos 1000000) z
+
+abbrev pub good_jump : ℤ → Bool
+good_jump z = from_to (pos 0) (pos 1000000) z
+
+abbrev pub good_ring : ℤ → Bool
+good_ring z = from_to (pos 16) (pos 1024) z
+
+abbrev pub good_arc_feed : ℤ → Bool
+good_arc_feed z = from_to (pos 0) (pos 1) z
+
+abbrev pub good_axis_rates : Coordinates → Bool
+good_axis_rates rates = is_rate rates.x && is_rate rates.y && is_rate rates.z
+
+abbrev pub good_bounds : MachineValues → Bool
+good_bounds m =
+    is_rate m.numbers.max_rate && is_rate m.numbers.change && is_rate m.numbers.corner &&
+    from_to (pos 1) (pos 1000000000000) m.numbers.turn && good_axis_rates m.axis_rates
+
+abbrev pub good_rates : MachineValues → Bool
+good_rates m =
+    good_bounds m && good_jump m.numbers.jump && good_ring m.numbers.ring
+    && good_arc_feed m.numbers.arc_feed
+
+abbrev pub good_travel : ℤ → MachinePoints → Bool
+good_travel step p =
+    is_sized PLACE_LIMIT p.low && is_sized PLACE_LIMIT p.high && is_at_most p.low p.high &&
+    is_at_most p.low p.start && is_at_most p.start p.high && is_on_grid step p.start
+
+abbrev pub good_places : MachineValues → Bool
+good_places m =
+    is_sized PLACE_LIMIT m.points.home28 && is_sized PLACE_LIMIT m.points.home30 &&
+    list_all (is_sized PLACE_LIMIT) m.origins
+
+abbrev pub good_fixture : Corners → Bool
+good_fixture f =
+    is_sized CORNER_LIMIT f.low && is_sized CORNER_LIMIT f.high && is_below f.low f.high &&
+    is_some f.name
+
+abbrev pub good_fixtures : List Corners → Bool
+good_fixtures fixtures = nat_le (length fixtures) 256 && list_all good_fixture fixtures
+
+-- the first refusal
+abbrev pub machine_ranges : MachineValues → Result (Unit {0}) FileFault
+machine_ranges m =
+    refuse_unless (good_version m.numbers.version) Version >>
+    (refuse_unless (from_to (pos 500) (pos 50000) m.numbers.step) Step >>
+    (refuse_unless (is_rate m.numbers.ticks_per_second) TicksPerSecond >>
+    (refuse_unless (good_rates m) Rates >>
+    (refuse_unless (good_travel m.numbers.step m.points) Travel >>
+    (refuse_unless (good_places m) Places >>
+    refuse_unless (good_fixtures m.fixtures) Fixtures)))))
+
+-- ---- the machine of a file
+
+abbrev pub place_of : Coordinates → Point3
+place_of p = record { x = p.x; y = p.y; z = p.z }
+
+abbrev pub axis_rates_of : Coordinates → AxisRates
+axis_rates_of p = record { x = unsigned_abs p.x; y = unsigned_abs p.y; z = unsigned_abs p.z }
+
+abbrev pub fixture_of : Corners → Fixture
+fixture_of f =
+    record { low = place_of f.low; high = place_of f.high; name = name_from f.name }
+
+-- 1 for arcs at their feed
+abbrev pub has_arc_feed : ℤ → Bool
+has_arc_feed z = int_eq z (pos 1)
+
+abbrev pub machine_from : MachineValues → MachineFile
+machine_from m = record {
+  step = m.numbers.step;
+  ticks_per_second = unsigned_abs m.numbers.ticks_per_second;
+  max_rate = unsigned_abs m.numbers.max_rate;
+  axis_rates = axis_rates_of m.axis_rates;
+  change = unsigned_abs m.numbers.change;
+  corner = unsigned_abs m.numbers.corner;
+  jump = unsigned_abs m.numbers.jump;
+  turn = unsigned_abs m.numbers.turn;
+  ring = unsigned_abs m.numbers.ring;
+  arc_feed = has_arc_feed m.numbers.arc_feed;
+  low = place_of m.points.low;
+  high = place_of m.points.high;
+  start = place_of m.points.start;
+  home28 = place_of m.points.home28;
+  home30 = place_of m.points.home30;
+  origins = map place_of m.origins;
+  fixtures = map fixture_of m.fixtures;
+}
+
+-- each of three numbers is between two
+pub record AreFrom (low high : ℤ) (p : Coordinates) : Type 0 where
+  pub x : IsFrom low high p.x
+  pub y : IsFrom low high p.y
+  pub z : IsFrom low high p.z
+
+-- the same as facts
+pub record IsGood (m : MachineValues) : Type 0 where
+  pub step : IsStep m.numbers.step
+  pub ticks_per_second : IsFrom (pos 1) (pos 1000000) m.numbers.ticks_per_second
+  pub max_rate : IsFrom (pos 1) (pos 1000000) m.numbers.max_rate
+  pub axis_rates : AreFrom (pos 1) (pos 1000000) m.axis_rates
+  pub jump : IsFrom (pos 0) (pos 1000000) m.numbers.jump
+  pub change : IsFrom (pos 1) (pos 1000000) m.numbers.change
+  pub corner : IsFrom (pos 1) (pos 1000000) m.numbers.corner
+  pub turn : IsFrom (pos 1) (pos 1000000000000) m.numbers.turn
+  pub ring : IsFrom (pos 16) (pos 1024) m.numbers.ring
+  pub travel : IsTravel m.numbers.step (place_of m.points.low) (place_of m.points.high)
+      (place_of m.points.start)
+  pub home28 : IsSized PLACE_LIMIT (place_of m.points.home28)
+  pub home30 : IsSized PLACE_LIMIT (place_of m.points.home30)
+  pub origins : All (λ p. IsSized PLACE_LIMIT (place_of p)) m.origins
+  pub fixture_count : length m.fixtures ≤ 256
+  pub fixtures : All (λ f. IsFixture (fixture_of f)) m.fixtures
+
+abbrev pub checked_machine : Option MachineValues → Result MachineFile FileFault
+checked_machine None = Err Document
+checked_machine (Some m) = machine_ranges m >> Ok (machine_from m)
+
+abbrev pub values_in : List ℕ → Option MachineValues
+values_in bytes = tree_of bytes >>= machine_values
+
+-- the machine that the bytes say, or why they are refused
+abbrev pub machine_file : List ℕ → Result MachineFile FileFault
+machine_file bytes = checked_machine (values_in bytes)

@@ -1,0 +1,112 @@
+-- How large the numbers of a machine and of its tools may be. Our own.
+use Rattle.std.specs.Prelude.{ℕ, ◌≤◌, ℤ, pos, negsuc, ◌≤ℤ◌, ◌<ℤ◌, unsigned_abs, int_rem, ◌≡◌, List}
+use Rattle.std.specs.Prelude.{length, map}
+use Rattle.std.specs.List.{All}
+use Rattle.ngc_fixed_length.specs.declared.points.Point3.{Point3}
+use Rattle.ngc_machine_files.specs.declared.machine.AxisRates.{AxisRates}
+use Rattle.ngc_machine_files.specs.declared.machine.Fixture.{Fixture}
+use Rattle.ngc_machine_files.specs.declared.parts.Part.{Part}
+use Rattle.ngc_machine_files.specs.declared.tools.Tool.{Tool}
+use Rattle.ngc_machine_files.specs.Numbers.{AreDifferent}
+
+-- how far from zero travel limits, home positions and origins lie, in nanometres
+abbrev pub PLACE_LIMIT : ℕ
+PLACE_LIMIT = 1000000000
+
+-- and the corners of fixtures
+abbrev pub CORNER_LIMIT : ℕ
+CORNER_LIMIT = 4000000000
+
+-- between two numbers, both included
+pub record IsFrom (low high z : ℤ) : Type 0 where
+  pub least : low ≤ℤ z
+  pub greatest : z ≤ℤ high
+
+-- a rate, a change of rate, or a number of ticks a second
+pub record IsRate (rate : ℕ) : Type 0 where
+  pub least : 1 ≤ rate
+  pub greatest : rate ≤ 1000000
+
+-- how much the rate of an axis may change at once
+pub record IsJump (jump : ℕ) : Type 0 where
+  pub greatest : jump ≤ 1000000
+
+-- how many commands are loaded and not done at most
+pub record IsRing (ring : ℕ) : Type 0 where
+  pub least : 16 ≤ ring
+  pub greatest : ring ≤ 1024
+
+-- a rate of each axis
+pub record AreRates (rates : AxisRates) : Type 0 where
+  pub x : IsRate rates.x
+  pub y : IsRate rates.y
+  pub z : IsRate rates.z
+
+-- the bound of rates on arcs
+pub record IsArcBound (turn : ℕ) : Type 0 where
+  pub least : 1 ≤ turn
+  pub greatest : turn ≤ 1000000000000
+
+-- no coordinate is larger in size
+pub record IsSized (limit : ℕ) (p : Point3) : Type 0 where
+  pub x : unsigned_abs p.x ≤ limit
+  pub y : unsigned_abs p.y ≤ limit
+  pub z : unsigned_abs p.z ≤ limit
+
+-- p is at most q on each axis
+pub record IsAtMost (p q : Point3) : Type 0 where
+  pub x : p.x ≤ℤ q.x
+  pub y : p.y ≤ℤ q.y
+  pub z : p.z ≤ℤ q.z
+
+-- p is below q on each axis
+pub record IsBelow (p q : Point3) : Type 0 where
+  pub x : p.x <ℤ q.x
+  pub y : p.y <ℤ q.y
+  pub z : p.z <ℤ q.z
+
+-- each coordinate is a whole multiple of the step
+pub record IsOnGrid (step : ℤ) (p : Point3) : Type 0 where
+  pub x : int_rem p.x step ≡ pos 0
+  pub y : int_rem p.y step ≡ pos 0
+  pub z : int_rem p.z step ≡ pos 0
+
+-- travel limits, and a start point within them and on the grid
+pub record IsTravel (step : ℤ) (low high start : Point3) : Type 0 where
+  pub low_sized : IsSized PLACE_LIMIT low
+  pub high_sized : IsSized PLACE_LIMIT high
+  pub ordered : IsAtMost low high
+  pub start_above : IsAtMost low start
+  pub start_below : IsAtMost start high
+  pub start_on_grid : IsOnGrid step start
+
+pub record IsFixture (f : Fixture) : Type 0 where
+  pub low_sized : IsSized CORNER_LIMIT f.low
+  pub high_sized : IsSized CORNER_LIMIT f.high
+  pub ordered : IsBelow f.low f.high
+
+pub record AreFixtures (fixtures : List Fixture) : Type 0 where
+  pub count : length fixtures ≤ 256
+  pub each : All IsFixture fixtures
+
+pub record IsPart (p : Part) : Type 0 where
+  pub length : IsFrom (pos 0) (pos 1000000000) p.length
+  pub radius : IsFrom (pos 0) (pos 1000000000) p.radius
+
+-- the parts of a tool: one to four
+pub record AreParts (parts : List Part) : Type 0 where
+  pub least : 1 ≤ length parts
+  pub greatest : length parts ≤ 4
+  pub each : All IsPart parts
+
+pub record IsTool (t : Tool) : Type 0 where
+  pub number_least : 1 ≤ t.number
+  pub number_greatest : t.number ≤ 9999
+  pub offset_sized : unsigned_abs t.offset ≤ 1000000000
+  pub bottom : IsFrom (negsuc 999999999) (pos 0) t.bottom
+  pub parts : AreParts t.parts
+
+pub record AreTools (tools : List Tool) : Type 0 where
+  pub count : length tools ≤ 1000
+  pub each : All IsTool tools
+  pub different : AreDifferent (map (λ t. t.number) tools)

@@ -1,0 +1,19 @@
+-- Refusals in their order, and what a call may return. Our own.
+use Rattle.std.specs.Prelude.{◌≡◌, ◌≢◌, Bool, Result, Ok, Err, if◌then◌else◌}
+use Rattle.ngc_machine_files.specs.declared.fault.FileFault.{FileFault}
+use Rattle.ngc_machine_files.specs.declared.fault.FileFault.TheVariants.{Memory}
+
+-- the first, and where it refuses nothing the second
+infixl 10 ◌>>◌
+abbrev pub ◌>>◌ : {A : Type 0} → Result (Unit {0}) FileFault → Result A FileFault →
+    Result A FileFault
+(Ok x) >> r = r
+(Err e) >> r = Err e
+
+abbrev pub refuse_unless : Bool → FileFault → Result (Unit {0}) FileFault
+refuse_unless b e = if b then Ok tt else Err e
+
+-- what a function returned is, seen by a view, what the definition says, unless memory was refused
+abbrev pub GivesFile : {X Y : Type 0} → (X → Y) → Result X FileFault → Result Y FileFault → Type 0
+GivesFile view (Ok x) says = says ≡ Ok (view x)
+GivesFile view (Err e) says = e ≢ Memory → says ≡ Err e

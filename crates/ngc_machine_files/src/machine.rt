@@ -1,0 +1,123 @@
+ghost use Rattle.std.specs.Prelude.{◌≡◌};
+ghost use Rattle.std.specs.List.{All};
+ghost use Rattle.ngc_fixed_length.specs.Length.{IsStep};
+ghost use Rattle.ngc_machine_files.specs.Ranges.{PLACE_LIMIT, IsRate, IsJump, AreRates, IsArcBound, IsTravel};
+ghost use Rattle.ngc_machine_files.specs.Ranges.{IsSized, IsRing, AreFixtures};
+
+use crate::name::Name;
+use ngc_fixed_length::{Nm, Point3};
+use std::alloc::{AllocError, Allocator};
+
+/// A box that tools must stay out of, in nanometres.
+#[derive(Clone, Copy)]
+pub struct Fixture {
+    pub low: Point3,
+    pub high: Point3,
+    pub name: Name,
+}
+
+/// The greatest rate at which each axis may take part in a motion, in millionths of a path step a
+/// tick, each 1 to 1,000,000.
+#[derive(Clone, Copy)]
+pub struct AxisRates {
+    pub x: u32,
+    pub y: u32,
+    pub z: u32,
+}
+
+/// A machine. Lengths are nanometres, rates millionths of a path step a tick.
+#[derive(Drop)]
+pub struct Machine<A: Allocator> {
+    /// The step length, 500 to 50,000 nm.
+    pub step: Nm,
+    /// 1 to 1,000,000.
+    pub ticks_per_second: u32,
+    /// The greatest rate, 1 to 1,000,000.
+    pub max_rate: u32,
+    /// The greatest rate of motions that may move an axis, for each axis, 1 to 1,000,000.
+    pub axis_rates: AxisRates,
+    /// The greatest change of the rate in a tick, 1 to 1,000,000.
+    pub change: u32,
+    /// The greatest rate at a change of direction, 1 to 1,000,000.
+    pub corner: u32,
+    /// How much the rate of one axis may change where two motions meet, 0 to 1,000,000; where it is
+    /// 0, `corner` alone rules.
+    pub jump: u32,
+    /// The bound of rates on arcs, 1 to 10^12.
+    pub turn: u64,
+    /// How many commands are loaded and not done at most, 16 to 1,024.
+    pub ring: u32,
+    /// Whether arcs run at their feed at every place, and not at the least that it allows at any.
+    pub arc_feed: bool,
+    /// The least coordinates of the travel, at most 10^9 nm in size.
+    pub low: Point3,
+    /// The greatest coordinates of the travel, at most 10^9 nm in size.
+    pub high: Point3,
+    /// Where the axes stand when the machine is started: within the travel, whole multiples of the
+    /// step.
+    pub start: Point3,
+    /// The home position of G28, at most 10^9 nm in size.
+    pub home28: Point3,
+    /// The home position of G30, at most 10^9 nm in size.
+    pub home30: Point3,
+    /// The origins of the nine coordinate systems, at most 10^9 nm in size.
+    pub origins: [Point3; 9],
+    /// At most 256, numbered from 0; at most 4*10^9 nm in size, low below high on each axis.
+    pub fixtures: Vec<Fixture, A>,
+    ghost step_in_range: { IsStep step },
+    ghost ticks_in_range: { IsRate ticks_per_second },
+    ghost max_rate_in_range: { IsRate max_rate },
+    ghost axis_rates_in_range: { AreRates axis_rates },
+    ghost change_in_range: { IsRate change },
+    ghost corner_in_range: { IsRate corner },
+    ghost jump_in_range: { IsJump jump },
+    ghost turn_in_range: { IsArcBound turn },
+    ghost ring_in_range: { IsRing ring },
+    ghost travel_in_range: { IsTravel step low high start },
+    ghost home28_in_range: { IsSized PLACE_LIMIT home28 },
+    ghost home30_in_range: { IsSized PLACE_LIMIT home30 },
+    ghost origins_in_range: { All (IsSized PLACE_LIMIT) origins },
+    ghost fixtures_in_range: { AreFixtures fixtures.items },
+}
+
+fn copied(origins: &[Point3; 9]) -> [Point3; 9]
+    ensures { result ≡ origins.now }
+{
+    let mut copy = [origins[0]; 9];
+    copy.copy_from_slice(origins);
+    copy
+}
+
+impl<A: Allocator> Machine<A> {
+    ghost use Rattle.std.specs.Prelude.{IfOk};
+    ghost use Rattle.ngc_machine_files.specs.Machine.{file_of};
+    ghost use Rattle.ngc_machine_files.specs.MachineRanges.{IsMachine};
+
+    /// The same machine once more, whose fixtures take memory of any allocator. It fails where
+    /// memory is refused.
+    pub fn copy<B: Allocator>(&self, alloc: B) -> Result<Machine<B>, AllocError>
+        ensures same { IfOk result (λ m. file_of m ≡ file_of self.now) }
+        ensures range { IsMachine (file_of self.now) }
+    {
+        let fixtures = Vec::from_slice(alloc, self.fixtures.as_slice())?;
+        Ok(Machine {
+            step: self.step,
+            ticks_per_second: self.ticks_per_second,
+            max_rate: self.max_rate,
+            axis_rates: self.axis_rates,
+            change: self.change,
+            corner: self.corner,
+            jump: self.jump,
+            turn: self.turn,
+            ring: self.ring,
+            arc_feed: self.arc_feed,
+            low: self.low,
+            high: self.high,
+            start: self.start,
+            home28: self.home28,
+            home30: self.home30,
+            origins: copied(&self.origins),
+            fixtures,
+        })
+    }
+}

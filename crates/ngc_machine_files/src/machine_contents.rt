@@ -1,0 +1,242 @@
+ghost use Rattle.std.specs.Prelude.{◌≡◌, IfOk, IfErr, IsSome, codes, Some, replicate, pos};
+ghost use Rattle.std.specs.Prelude.{option_map};
+ghost use Rattle.toml.specs.Data.{get};
+ghost use Rattle.toml.specs.View.{view, items_view};
+ghost use Rattle.ngc_machine_files.specs.Tree.{has_only};
+ghost use Rattle.ngc_machine_files.specs.MachineText.{values_of, machine_numbers, machine_points};
+ghost use Rattle.ngc_machine_files.specs.MachineText.{machine_origins, has_axis_rates};
+ghost use Rattle.ngc_machine_files.specs.MachineText.{machine_axis_rates, corners, machine_keys};
+ghost use Rattle.ngc_machine_files.specs.MachineText.{machine_values, nine_coordinates, has_fixture_keys};
+
+use crate::name::Name;
+use crate::tree::{
+    Entry, coordinates, coordinates_at, entries_at, has_only, name_at, whole_at, whole_or,
+};
+use std::alloc::{AllocError, Global};
+use toml::Value;
+
+/// Three whole numbers of a file, of any size.
+#[derive(Clone, Copy)]
+pub struct Coordinates {
+    pub x: i64,
+    pub y: i64,
+    pub z: i64,
+}
+
+/// A fixture as the file gives it, of any size.
+#[derive(Clone, Copy)]
+pub struct Corners {
+    pub low: Coordinates,
+    pub high: Coordinates,
+    /// Without characters where it has none, and `None` where its text is no name.
+    pub name: Option<Name>,
+}
+
+/// The single numbers of a machine file, of any size.
+#[derive(Clone, Copy)]
+pub struct MachineNumbers {
+    pub version: i64,
+    pub step: i64,
+    pub ticks_per_second: i64,
+    pub max_rate: i64,
+    pub change: i64,
+    pub corner: i64,
+    pub turn: i64,
+    pub jump: i64,
+    pub ring: i64,
+    pub arc_feed: i64,
+}
+
+/// The single points of a machine file, of any size.
+#[derive(Clone, Copy)]
+pub struct MachinePoints {
+    pub low: Coordinates,
+    pub high: Coordinates,
+    pub start: Coordinates,
+    pub home28: Coordinates,
+    pub home30: Coordinates,
+}
+
+/// What stands in a machine file, of any size.
+#[derive(Drop)]
+pub struct MachineContents {
+    pub numbers: MachineNumbers,
+    pub axis_rates: Coordinates,
+    pub points: MachinePoints,
+    pub origins: [Coordinates; 9],
+    pub fixtures: Vec<Corners>,
+}
+
+fn has_fixture_keys(version: i64, value: &Value) -> bool
+    ensures { result ≡ has_fixture_keys version (view value.now) }
+{
+    if version == 2 {
+        has_only(value, &["low", "high", "name"])
+    } else {
+        has_only(value, &["low", "high"])
+    }
+}
+
+impl Entry for Corners {
+    ghost reading = { corners };
+
+    fn read(version: i64, value: &Value) -> Option<Corners> {
+        if !has_fixture_keys(version, value) {
+            return None;
+        }
+        Some(Corners {
+            low: coordinates_at(value, "low")?,
+            high: coordinates_at(value, "high")?,
+            name: name_at(value)?,
+        })
+    }
+}
+
+fn machine_numbers(tree: &Value) -> Option<MachineNumbers>
+    ensures { result ≡ machine_numbers (view tree.now) }
+{
+    Some(MachineNumbers {
+        version: whole_at(tree, "version")?,
+        step: whole_at(tree, "step")?,
+        ticks_per_second: whole_at(tree, "ticks_per_second")?,
+        max_rate: whole_at(tree, "max_rate")?,
+        change: whole_at(tree, "change")?,
+        corner: whole_at(tree, "corner")?,
+        turn: whole_at(tree, "turn")?,
+        jump: whole_or(0, tree, "jump")?,
+        ring: whole_or(16, tree, "ring")?,
+        arc_feed: whole_or(0, tree, "arc_feed")?,
+    })
+}
+
+/// Whether the version has rates of the axes.
+fn has_axis_rates(numbers: &MachineNumbers) -> bool
+    ensures { result ≡ has_axis_rates numbers.now.version }
+{
+    numbers.version == 2
+}
+
+/// The rates of the axes: those of a file of version 2, and of any other version those that bound
+/// no rate.
+#[tactic(auto, unfolding(crate::specs::MachineText::machine_axis_rates))]
+fn machine_axis_rates(numbers: &MachineNumbers, tree: &Value) -> Option<Coordinates>
+    ensures { result ≡ machine_axis_rates numbers.now.version (view tree.now) }
+{
+    if has_axis_rates(numbers) {
+        coordinates_at(tree, "axis_rate")
+    } else {
+        Some(Coordinates {
+            x: 1_000_000,
+            y: 1_000_000,
+            z: 1_000_000,
+        })
+    }
+}
+
+fn machine_points(tree: &Value) -> Option<MachinePoints>
+    ensures { result ≡ machine_points (view tree.now) }
+{
+    Some(MachinePoints {
+        low: coordinates_at(tree, "low")?,
+        high: coordinates_at(tree, "high")?,
+        start: coordinates_at(tree, "start")?,
+        home28: coordinates_at(tree, "home28")?,
+        home30: coordinates_at(tree, "home30")?,
+    })
+}
+
+fn zero_origins() -> [Coordinates; 9]
+    ensures { result ≡ replicate 9 (record { x = pos 0; y = pos 0; z = pos 0 }) }
+{
+    [Coordinates { x: 0, y: 0, z: 0 }; 9]
+}
+
+fn nine(values: &[Value]) -> Option<[Coordinates; 9]>
+    ensures { result ≡ nine_coordinates (items_view values.now) }
+{
+    if values.len() != 9 {
+        return None;
+    }
+    let mut origins = zero_origins();
+    for (i, value) in values.iter().enumerate() {
+        origins[i] = coordinates(value)?;
+    }
+    Some(origins)
+}
+
+fn machine_origins(tree: &Value) -> Option<[Coordinates; 9]>
+    ensures { result ≡ machine_origins (view tree.now) }
+{
+    match tree.get("origins") {
+        Some(value) => nine(value.as_array()?.as_slice()),
+        None => Some(zero_origins()),
+    }
+}
+
+/// The keys of a machine file of version 2, of which version 1 has all but the first four.
+pub const MACHINE_KEYS: [&str; 18] = [
+    "axis_rate",
+    "jump",
+    "ring",
+    "arc_feed",
+    "version",
+    "step",
+    "ticks_per_second",
+    "max_rate",
+    "change",
+    "corner",
+    "turn",
+    "low",
+    "high",
+    "start",
+    "home28",
+    "home30",
+    "origins",
+    "fixture",
+];
+
+fn has_machine_keys(numbers: &MachineNumbers, tree: &Value) -> bool
+    ensures { result ≡ has_only (machine_keys numbers.now.version) (view tree.now) }
+{
+    if has_axis_rates(numbers) {
+        has_only(tree, &MACHINE_KEYS)
+    } else {
+        has_only(tree, &MACHINE_KEYS[4..])
+    }
+}
+
+impl MachineContents {
+    /// What the keys of a machine file name, where each is known, there, and of the right kind and
+    /// length.
+    pub(crate) fn read(alloc: Global, tree: &Value) -> Result<Option<MachineContents>, AllocError>
+        ensures contents { IfOk result
+            (λ o. option_map values_of o ≡ machine_values (view tree.now)) }
+        ensures memory { IfErr result (λ _. IsSome (get (codes "fixture") (view tree.now))) }
+    {
+        let Some(numbers) = machine_numbers(tree) else {
+            return Ok(None);
+        };
+        if !has_machine_keys(&numbers, tree) {
+            return Ok(None);
+        }
+        let Some(axis_rates) = machine_axis_rates(&numbers, tree) else {
+            return Ok(None);
+        };
+        let Some(points) = machine_points(tree) else {
+            return Ok(None);
+        };
+        let Some(origins) = machine_origins(tree) else {
+            return Ok(None);
+        };
+        match entries_at(alloc, numbers.version, tree, "fixture")? {
+            Some(fixtures) => Ok(Some(MachineContents {
+                numbers,
+                axis_rates,
+                points,
+                origins,
+                fixtures,
+            })),
+            None => Ok(None),
+        }
+    }
+}

@@ -1,0 +1,329 @@
+ghost use Rattle.std.specs.Prelude.{◌≡◌, ◌≤◌, ◌<ℤ◌, pos, map, unsigned_abs, IfOk};
+ghost use Rattle.std.specs.List.{All, list_all};
+ghost use Rattle.std.specs.Ordering.{int_eq};
+ghost use Rattle.ngc_fixed_length.specs.Length.{IsStep};
+ghost use Rattle.ngc_machine_files.specs.Machine.{file_of};
+ghost use Rattle.ngc_machine_files.specs.Numbers.{from_to};
+ghost use Rattle.ngc_machine_files.specs.Ranges.{CORNER_LIMIT, IsFrom, IsRate, IsJump, IsRing, AreRates};
+ghost use Rattle.ngc_machine_files.specs.Ranges.{IsArcBound, IsSized, IsFixture, PLACE_LIMIT};
+ghost use Rattle.ngc_machine_files.specs.MachineText.{values_of, is_sized, is_at_most, is_below};
+ghost use Rattle.ngc_machine_files.specs.MachineText.{is_multiple, is_on_grid, good_version, is_rate};
+ghost use Rattle.ngc_machine_files.specs.MachineText.{good_axis_rates, good_bounds, good_rates, good_travel};
+ghost use Rattle.ngc_machine_files.specs.MachineText.{good_places, good_fixture, good_fixtures};
+ghost use Rattle.ngc_machine_files.specs.MachineText.{machine_ranges, machine_from, place_of};
+ghost use Rattle.ngc_machine_files.specs.MachineText.{axis_rates_of, fixture_of, has_arc_feed, AreFrom, IsGood};
+
+use crate::fault::FileFault;
+use crate::machine::{AxisRates, Fixture, Machine};
+use crate::machine_contents::{
+    Coordinates, Corners, MachineContents, MachineNumbers, MachinePoints,
+};
+use crate::name::name_from;
+use crate::numbers::{is_from_to, length};
+use ngc_fixed_length::{Nm, Point3};
+use std::alloc::{AllocError, Global};
+
+/// How far from zero travel limits, home positions and origins lie, in nanometres.
+const PLACE_LIMIT: u64 = 1_000_000_000;
+
+/// How far from zero the corners of fixtures lie, in nanometres.
+const CORNER_LIMIT: u64 = 4_000_000_000;
+
+fn is_sized(limit: u64, point: &Coordinates) -> bool
+    ensures { result ≡ is_sized limit point.now }
+{
+    point.x.unsigned_abs() <= limit
+        && point.y.unsigned_abs() <= limit
+        && point.z.unsigned_abs() <= limit
+}
+
+fn is_multiple(step: i64, coordinate: i64) -> bool
+    requires { pos 0 <ℤ step }
+    ensures { result ≡ is_multiple step coordinate }
+{
+    coordinate % step == 0
+}
+
+impl Coordinates {
+    /// Whether each number is at most the other's.
+    pub fn is_at_most(&self, other: &Coordinates) -> bool
+        ensures { result ≡ is_at_most self.now other.now }
+    {
+        self.x <= other.x && self.y <= other.y && self.z <= other.z
+    }
+
+    /// Whether each number is less than the other's.
+    pub fn is_below(&self, other: &Coordinates) -> bool
+        ensures { result ≡ is_below self.now other.now }
+    {
+        self.x < other.x && self.y < other.y && self.z < other.z
+    }
+
+    /// Whether each number is a whole multiple of the step, which is more than 0.
+    pub fn is_on_grid(&self, step: i64) -> bool
+        requires { pos 0 <ℤ step }
+        ensures { result ≡ is_on_grid step self.now }
+    {
+        is_multiple(step, self.x) && is_multiple(step, self.y) && is_multiple(step, self.z)
+    }
+}
+
+#[tactic(auto, unfolding(crate::specs::MachineText::good_version))]
+fn is_version_good(numbers: &MachineNumbers) -> bool
+    ensures { result ≡ good_version numbers.now.version }
+{
+    numbers.version == 1 || numbers.version == 2
+}
+
+fn is_step_good(numbers: &MachineNumbers) -> bool
+    ensures { result ≡ from_to (pos 500) (pos 50000) numbers.now.step }
+{
+    is_from_to(500, 50_000, numbers.step)
+}
+
+#[tactic(auto, unfolding(crate::specs::MachineText::is_rate))]
+fn is_rate(value: i64) -> bool
+    ensures { result ≡ is_rate value }
+{
+    is_from_to(1, 1_000_000, value)
+}
+
+fn are_ticks_good(numbers: &MachineNumbers) -> bool
+    ensures { result ≡ is_rate numbers.now.ticks_per_second }
+{
+    is_rate(numbers.ticks_per_second)
+}
+
+fn are_axis_rates_good(rates: &Coordinates) -> bool
+    ensures { result ≡ good_axis_rates rates.now }
+{
+    is_rate(rates.x) && is_rate(rates.y) && is_rate(rates.z)
+}
+
+fn are_bounds_good(contents: &MachineContents) -> bool
+    ensures { result ≡ good_bounds (values_of contents.now) }
+{
+    is_rate(contents.numbers.max_rate)
+        && is_rate(contents.numbers.change)
+        && is_rate(contents.numbers.corner)
+        && is_from_to(1, 1_000_000_000_000, contents.numbers.turn)
+        && are_axis_rates_good(&contents.axis_rates)
+}
+
+fn are_rates_good(contents: &MachineContents) -> bool
+    ensures { result ≡ good_rates (values_of contents.now) }
+{
+    are_bounds_good(contents)
+        && is_from_to(0, 1_000_000, contents.numbers.jump)
+        && is_from_to(16, 1_024, contents.numbers.ring)
+        && is_from_to(0, 1, contents.numbers.arc_feed)
+}
+
+fn is_travel_good(numbers: &MachineNumbers, points: &MachinePoints) -> bool
+    requires { pos 0 <ℤ numbers.now.step }
+    ensures { result ≡ good_travel numbers.now.step points.now }
+{
+    is_sized(PLACE_LIMIT, &points.low)
+        && is_sized(PLACE_LIMIT, &points.high)
+        && points.low.is_at_most(&points.high)
+        && points.low.is_at_most(&points.start)
+        && points.start.is_at_most(&points.high)
+        && points.start.is_on_grid(numbers.step)
+}
+
+fn are_origins_good(origins: &[Coordinates]) -> bool
+    ensures { result ≡ list_all (is_sized PLACE_LIMIT) origins.now }
+{
+    origins.iter().all(|origin| is_sized(PLACE_LIMIT, origin))
+}
+
+fn are_places_good(contents: &MachineContents) -> bool
+    ensures { result ≡ good_places (values_of contents.now) }
+{
+    is_sized(PLACE_LIMIT, &contents.points.home28)
+        && is_sized(PLACE_LIMIT, &contents.points.home30)
+        && are_origins_good(&contents.origins)
+}
+
+fn is_fixture_good(fixture: &Corners) -> bool
+    ensures { result ≡ good_fixture fixture.now }
+{
+    is_sized(CORNER_LIMIT, &fixture.low)
+        && is_sized(CORNER_LIMIT, &fixture.high)
+        && fixture.low.is_below(&fixture.high)
+        && fixture.name.is_some()
+}
+
+fn is_each_fixture_good(fixtures: &[Corners]) -> bool
+    ensures { result ≡ list_all good_fixture fixtures.now }
+{
+    fixtures.iter().all(is_fixture_good)
+}
+
+fn are_fixtures_good(fixtures: &[Corners]) -> bool
+    ensures { result ≡ good_fixtures fixtures.now }
+{
+    fixtures.len() <= 256 && is_each_fixture_good(fixtures)
+}
+
+fn step_length(numbers: &MachineNumbers) -> Nm
+    requires { IsStep numbers.now.step }
+    ensures { result ≡ numbers.now.step }
+{
+    length(numbers.step)
+}
+
+/// A number of 1 to 1,000,000 without its sign.
+fn rate(value: i64) -> u32
+    requires { IsFrom (pos 1) (pos 1000000) value }
+    ensures value { result ≡ unsigned_abs value }
+    ensures range { IsRate result }
+{
+    value as u32
+}
+
+/// A number of 0 to 1,000,000 without its sign.
+fn jump(value: i64) -> u32
+    requires { IsFrom (pos 0) (pos 1000000) value }
+    ensures value { result ≡ unsigned_abs value }
+    ensures range { IsJump result }
+{
+    value as u32
+}
+
+/// A number of 16 to 1,024 without its sign.
+fn ring(value: i64) -> u32
+    requires { IsFrom (pos 16) (pos 1024) value }
+    ensures value { result ≡ unsigned_abs value }
+    ensures range { IsRing result }
+{
+    value as u32
+}
+
+/// Whether arcs run at their feed.
+fn has_arc_feed(numbers: &MachineNumbers) -> bool
+    ensures { result ≡ has_arc_feed numbers.now.arc_feed }
+{
+    numbers.arc_feed == 1
+}
+
+fn axis_rates(rates: &Coordinates) -> AxisRates
+    requires { AreFrom (pos 1) (pos 1000000) rates.now }
+    ensures value { result ≡ axis_rates_of rates.now }
+    ensures range { AreRates result }
+{
+    AxisRates {
+        x: rate(rates.x),
+        y: rate(rates.y),
+        z: rate(rates.z),
+    }
+}
+
+fn arc_bound(value: i64) -> u64
+    requires { IsFrom (pos 1) (pos 1000000000000) value }
+    ensures value { result ≡ unsigned_abs value }
+    ensures range { IsArcBound result }
+{
+    value as u64
+}
+
+fn place(point: &Coordinates) -> Point3
+    requires { IsSized CORNER_LIMIT (place_of point.now) }
+    ensures { result ≡ place_of point.now }
+{
+    Point3 {
+        x: length(point.x),
+        y: length(point.y),
+        z: length(point.z),
+    }
+}
+
+fn fixture(corners: &Corners) -> Fixture
+    requires { IsFixture (fixture_of corners.now) }
+    ensures { result ≡ fixture_of corners.now }
+{
+    Fixture {
+        low: place(&corners.low),
+        high: place(&corners.high),
+        name: name_from(&corners.name),
+    }
+}
+
+fn origins(origins: &[Coordinates; 9]) -> [Point3; 9]
+    requires { All (λ p. IsSized PLACE_LIMIT (place_of p)) origins.now }
+    ensures { result ≡ map place_of origins.now }
+{
+    let mut places = [place(&origins[0]); 9];
+    for (i, origin) in origins.iter().enumerate() {
+        places[i] = place(origin);
+    }
+    places
+}
+
+fn fixtures(alloc: Global, corners: &[Corners]) -> Result<Vec<Fixture>, AllocError>
+    requires { All (λ f. IsFixture (fixture_of f)) corners.now }
+    ensures { IfOk result (λ v. v.items ≡ map fixture_of corners.now) }
+{
+    let mut fixtures = Vec::with_capacity(alloc, corners.len())?;
+    for each in corners {
+        fixtures.push(fixture(each))?;
+    }
+    Ok(fixtures)
+}
+
+impl MachineContents {
+    /// The first number out of its range.
+    pub(crate) fn check(&self) -> Result<(), FileFault>
+        ensures { result ≡ machine_ranges (values_of self.now) }
+    {
+        if !is_version_good(&self.numbers) {
+            return Err(FileFault::Version);
+        }
+        if !is_step_good(&self.numbers) {
+            return Err(FileFault::Step);
+        }
+        if !are_ticks_good(&self.numbers) {
+            return Err(FileFault::TicksPerSecond);
+        }
+        if !are_rates_good(self) {
+            return Err(FileFault::Rates);
+        }
+        if !is_travel_good(&self.numbers, &self.points) {
+            return Err(FileFault::Travel);
+        }
+        if !are_places_good(self) {
+            return Err(FileFault::Places);
+        }
+        if !are_fixtures_good(self.fixtures.as_slice()) {
+            return Err(FileFault::Fixtures);
+        }
+        Ok(())
+    }
+
+    /// The machine of these values.
+    pub(crate) fn machine(&self, alloc: Global) -> Result<Machine<Global>, AllocError>
+        requires { IsGood (values_of self.now) }
+        ensures { IfOk result (λ m. file_of m ≡ machine_from (values_of self.now)) }
+    {
+        let fixtures = fixtures(alloc, self.fixtures.as_slice())?;
+        Ok(Machine {
+            step: step_length(&self.numbers),
+            ticks_per_second: rate(self.numbers.ticks_per_second),
+            max_rate: rate(self.numbers.max_rate),
+            axis_rates: axis_rates(&self.axis_rates),
+            change: rate(self.numbers.change),
+            corner: rate(self.numbers.corner),
+            jump: jump(self.numbers.jump),
+            turn: arc_bound(self.numbers.turn),
+            ring: ring(self.numbers.ring),
+            arc_feed: has_arc_feed(&self.numbers),
+            low: place(&self.points.low),
+            high: place(&self.points.high),
+            start: place(&self.points.start),
+            home28: place(&self.points.home28),
+            home30: place(&self.points.home30),
+            origins: origins(&self.origins),
+            fixtures,
+        })
+    }
+}

@@ -1,0 +1,42 @@
+ghost use Rattle.std.specs.Prelude.{◌≡◌, IfOk, IsOk, option_map};
+ghost use Rattle.ngc_machine_files.specs.Tools.{tools_of};
+ghost use Rattle.ngc_machine_files.specs.ToolText.{tool_table, values_in, values_of};
+ghost use Rattle.toml.specs.Errors.{IsBlank};
+ghost use Rattle.ngc_machine_files.specs.Refusals.{GivesFile};
+
+use crate::fault::FileFault;
+use crate::tool_contents::ToolContents;
+use crate::tools::Tools;
+use crate::tree::read_tree;
+use std::alloc::{AllocError, Global};
+
+fn read_contents(alloc: Global, bytes: &[u8]) -> Result<Option<ToolContents>, AllocError>
+    ensures contents { IfOk result (λ o. option_map values_of o ≡ values_in bytes.now) }
+    ensures blank { IsBlank bytes.now → IsOk result }
+{
+    match read_tree(alloc, bytes)? {
+        Some(tree) => ToolContents::read(alloc, &tree),
+        None => Ok(None),
+    }
+}
+
+impl Tools<Global> {
+    /// Reads a tool table, version 1 or 2: a TOML document of whole numbers and names.
+    ///
+    /// It is refused with 269 where it is no such document or a key is unknown, missing or of the
+    /// wrong kind, and else with 261 for another version and 268 for a number or a name out of
+    /// range, a tool's number twice or more than 1,000 tools; with 900 where memory was refused.
+    pub fn read(alloc: Global, bytes: &[u8]) -> Result<Tools<Global>, FileFault>
+        ensures tools { GivesFile tools_of result (tool_table bytes.now) }
+        // A file of white space and comments alone is told as such even where there is no memory.
+        ensures blank { IsBlank bytes.now → result ≡ Err FileFault.Document }
+    {
+        let contents = match read_contents(alloc, bytes) {
+            Ok(Some(contents)) => contents,
+            Ok(None) => return Err(FileFault::Document),
+            Err(_) => return Err(FileFault::Memory),
+        };
+        contents.check()?;
+        contents.tools(alloc).map_err(|_| FileFault::Memory)
+    }
+}

@@ -1,0 +1,159 @@
+ghost use Rattle.std.specs.Prelude.{◌≡◌, IfOk, IfErr, IsOk, IsSome, map, Option, List, option_map};
+ghost use Rattle.std.specs.Prelude.{string_bytes, ℤ};
+ghost use Rattle.std.specs.List.{list_all, list_any};
+ghost use Rattle.std.specs.Map.{keys_of};
+ghost use Rattle.std.specs.Str.{bytes_eq};
+ghost use Rattle.toml.specs.Data.{Data, get};
+ghost use Rattle.toml.specs.Errors.{IsBlank};
+ghost use Rattle.toml.specs.View.{view, items_view};
+ghost use Rattle.ngc_machine_files.specs.Tree.{tree_of, is_one_of, has_only, whole_at, whole_or, coordinates};
+ghost use Rattle.ngc_machine_files.specs.Tree.{coordinates_at, each, list_at, named, name_at};
+
+use crate::machine_contents::Coordinates;
+use crate::name::Name;
+use std::alloc::{AllocError, Global};
+use toml::{Table, Value};
+
+/// The tree of a TOML document, none where the bytes are no document in UTF-8. An error is memory
+/// that was refused.
+pub fn read_tree(alloc: Global, bytes: &[u8]) -> Result<Option<Value>, AllocError>
+    ensures tree { IfOk result (λ tree. option_map view tree ≡ tree_of bytes.now) }
+    ensures blank { IsBlank bytes.now → IsOk result }
+{
+    match toml::table_from_slice(alloc, bytes) {
+        Ok(table) => Ok(Some(Value::Table(table))),
+        Err(error) if error.is_memory() => Err(AllocError),
+        Err(_) => Ok(None),
+    }
+}
+
+/// Whether a key is one of these.
+pub fn is_one_of(key: &str, keys: &[&str]) -> bool
+    ensures { result ≡ is_one_of (map (λ k. k.now) keys.entry.now) key.now }
+{
+    for known in keys {
+        if key == *known {
+            return true;
+        }
+    }
+    false
+}
+
+fn are_known(table: &Table, keys: &[&str]) -> bool
+    ensures { result ≡ list_all (λ k. is_one_of (map (λ k. k.now) keys.entry.now) (string_bytes k))
+        (keys_of table.now.entries) }
+{
+    table.keys().all(|key| is_one_of(key.as_str(), keys))
+}
+
+/// Whether this is a table without other keys than these.
+pub(crate) fn has_only(tree: &Value, keys: &[&str]) -> bool
+    ensures { result ≡ has_only (map (λ k. k.now) keys.entry.now) (view tree.now) }
+{
+    match tree.as_table() {
+        Some(table) => are_known(table, keys),
+        None => false,
+    }
+}
+
+/// The whole number under a key, none where something else stands there or nothing.
+pub fn whole_at(tree: &Value, key: &str) -> Option<i64>
+    ensures { result ≡ whole_at key.now (view tree.now) }
+{
+    tree.get(key)?.as_integer()
+}
+
+/// The whole number under a key, `missing` where nothing stands there, none where something else.
+pub(crate) fn whole_or(missing: i64, tree: &Value, key: &str) -> Option<i64>
+    ensures { result ≡ whole_or missing key.now (view tree.now) }
+{
+    match tree.get(key) {
+        Some(value) => value.as_integer(),
+        None => Some(missing),
+    }
+}
+
+/// An array of three whole numbers, none where the value is something else.
+pub fn coordinates(value: &Value) -> Option<Coordinates>
+    ensures { result ≡ coordinates (view value.now) }
+{
+    let [x, y, z] = value.as_array()?.as_slice() else {
+        return None;
+    };
+    Some(Coordinates {
+        x: x.as_integer()?,
+        y: y.as_integer()?,
+        z: z.as_integer()?,
+    })
+}
+
+/// The array of three whole numbers under a key, none where something else stands there or nothing.
+pub fn coordinates_at(tree: &Value, key: &str) -> Option<Coordinates>
+    ensures { result ≡ coordinates_at key.now (view tree.now) }
+{
+    coordinates(tree.get(key)?)
+}
+
+fn named(value: &Value) -> Option<Option<Name>>
+    ensures { result ≡ named (view value.now) }
+{
+    Some(Name::of(value.as_str()?))
+}
+
+/// The name under the key `name`: without characters where nothing stands there, an inner `None`
+/// where a text stands there that is no name, and `None` where something else.
+pub(crate) fn name_at(tree: &Value) -> Option<Option<Name>>
+    ensures { result ≡ name_at (view tree.now) }
+{
+    match tree.get("name") {
+        Some(value) => named(value),
+        None => Some(Some(Name::none())),
+    }
+}
+
+/// What the items of an array are read as, in a file of a version.
+pub(crate) trait Entry: Drop {
+    ghost reading: { ℤ → Data → Option Self };
+
+    /// The value as an entry, where it is of the right kind and length.
+    fn read(version: i64, value: &Value) -> Option<Self>
+        ensures { result ≡ reading version (view value.now) };
+}
+
+fn entries<E: Entry>(
+    alloc: Global,
+    version: i64,
+    values: &[Value],
+) -> Result<Option<Vec<E>>, AllocError>
+    ensures { IfOk result
+        (λ o. option_map (λ v. v.items) o ≡ each (E.reading version) (items_view values.now)) }
+{
+    let mut entries = Vec::with_capacity(alloc, values.len())?;
+    for value in values {
+        match E::read(version, value) {
+            Some(entry) => entries.push(entry)?,
+            None => return Ok(None),
+        }
+    }
+    Ok(Some(entries))
+}
+
+/// The entries of the array under a key; none where nothing stands there, which takes no memory.
+pub(crate) fn entries_at<E: Entry>(
+    alloc: Global,
+    version: i64,
+    tree: &Value,
+    key: &str,
+) -> Result<Option<Vec<E>>, AllocError>
+    ensures entries { IfOk result
+        (λ o. option_map (λ v. v.items) o ≡ list_at (E.reading version) key.now (view tree.now)) }
+    ensures memory { IfErr result (λ _. IsSome (get key.now (view tree.now))) }
+{
+    let Some(value) = tree.get(key) else {
+        return Ok(Some(Vec::new(alloc)));
+    };
+    match value.as_array() {
+        Some(array) => entries(alloc, version, array.as_slice()),
+        None => Ok(None),
+    }
+}

@@ -1,0 +1,210 @@
+-- A tick of a ramp whose legs are the ring's motions, as a tick of the machine.
+use Rattle.std.proofs.Common.{◌≡◌, ◌⊎◌, inl, inr, ℕ, suc, ◌+◌, ◌-◌, ◌<◌, ◌≤◌, ◌==◌, min, ap, ap₂, subst, sym, ◌∙◌, arith, refl, List, [], ◌∷◌, ◌++◌, length}
+use Rattle.std.proofs.Common.{Bool, true, false, cond}
+use Rattle.std.specs.Prelude.{Option, Some, None, nat_lt, not, ◌&&◌}
+use Rattle.std.proofs.lemmas.Bool.{lt-ltb, le-ltb, true≢false, false≢true}
+use Rattle.std.proofs.lemmas.Bool.Decides.{nat_tests}
+use Rattle.std.proofs.lemmas.List.{append-nil}
+use Rattle.ngc_fixed_length.specs.LinePath.{point}
+use Rattle.ngc_machine_files.specs.Machine.{MachineFile}
+use Rattle.ngc_machine_files.specs.MachineRanges.{IsMachine}
+use Rattle.ngc_commands.specs.declared.command.Command.{Command}
+use Rattle.ngc_planner.specs.declared.leg.Leg.{Leg}
+use Rattle.ngc_planner.specs.ArcFeed.{target_on}
+use Rattle.ngc_planner.specs.Braking.{braking}
+use Rattle.ngc_fixed_length.specs.Limits.{MILLION}
+use Rattle.ngc_planner.specs.Bounds.{IsWithinBounds, IsMotion, bound_of, least_travel}
+use Rattle.ngc_planner.specs.Joints.{joint_before}
+use Rattle.ngc_planner.specs.Leg.{tick_bound}
+use Rattle.ngc_planner.specs.Reach.{ahead, reach as ramp_reach, free as ramp_free}
+use Rattle.ngc_planner.specs.Ramp.{RampState, MayTick, pace as ramp_pace, GoesOnInto as GoesOnLeg}
+use Rattle.ngc_planner.proofs.ArcFeedLaws.{no_less_by_place}
+use Rattle.ngc_planner.proofs.BoundLaws.{greatest_bound, may_travel_least}
+use Rattle.ngc_planner.proofs.RampLaws.{tick_bound_greatest}
+use Rattle.ngc_machine_model.specs.State.{Job, Queued, State, path_steps, millionths, place_before, effective}
+use Rattle.ngc_machine_model.specs.Reach.{stops, flows_into, leg_of, legs_behind, rest, reach, free}
+use Rattle.ngc_machine_model.specs.RateRules.{GoesOnInto, MayTravel, target, head_bound, pace}
+use Rattle.ngc_machine_model.specs.Progress.{TravelsAtLeast}
+
+-- ---- after a command that continues into nothing
+
+none_left : (n : ℕ) → nat_lt 0 n ≡ false → n ≡ 0
+none_left n h = grind (arith, nat_tests)
+
+off_by : (b s c : Bool) → (b ≡ false) ⊎ (s ≡ true) → (b && (not s && c)) ≡ false
+off_by false s c h = refl
+off_by true true c h = refl
+off_by true false c (inl h) = absurd (true≢false h)
+off_by true false c (inr h) = absurd (false≢true h)
+
+-- it has no path steps, or stops at its end
+abbrev pub IsStop : Queued → Type 0
+IsStop l = (path_steps l ≡ 0) ⊎ (stops l.command.action ≡ true)
+
+-- so it continues into no command
+pub flows_nowhere : (l m : Queued) → IsStop l → flows_into l m ≡ false
+flows_nowhere l m (inl z) =
+    off_by (nat_lt 0 (path_steps l)) (stops l.command.action) (nat_lt 0 (path_steps m)) (inl (le-ltb 0 (path_steps l) (omega (arith, z))))
+flows_nowhere l m (inr s) = off_by (nat_lt 0 (path_steps l)) (stops l.command.action) (nat_lt 0 (path_steps m)) (inr s)
+
+unjoined_by : (b : Bool) (x : Leg) (xs others : List Leg) → x.joined ≡ false → (b ≡ false → ahead others ≡ 0) → ahead (cond b (x ∷ xs) others) ≡ 0
+unjoined_by true x xs others off none = ap (λ j. cond j (x.millionths + ahead xs) 0) off
+unjoined_by false x xs others off none = none refl
+
+-- and nothing is ahead of it
+pub unjoined : (job : Job) (k : ℕ) (l : Queued) (ls : List Queued) → IsStop l → ahead (legs_behind job k l ls) ≡ 0
+unjoined job k l [] stop = refl
+unjoined job k l (m ∷ ms) stop =
+    let behind = legs_behind job (suc k) m ms in
+    unjoined_by (nat_lt 0 (path_steps m)) (leg_of job k (flows_into l m) m) behind behind (flows_nowhere l m stop)
+    (λ b. unjoined job (suc k) m ms (inl (none_left (path_steps m) b)))
+
+-- ---- into the next command
+
+never_by : (b : Bool) (v : ℕ) (x : Leg) (xs others : List Leg) → x.joined ≡ false → (b ≡ false → GoesOnLeg v others → ⊥) →
+    GoesOnLeg v (cond b (x ∷ xs) others) → ⊥
+never_by true v x xs others off none h = true≢false (sym h.0 ∙ off)
+never_by false v x xs others off none h = none refl h
+
+-- no rate continues after a stop
+never_goes_on : (job : Job) (k v : ℕ) (l : Queued) (ls : List Queued) → IsStop l → GoesOnLeg v (legs_behind job k l ls) → ⊥
+never_goes_on job k v l [] stop h = h
+never_goes_on job k v l (m ∷ ms) stop h =
+    let behind = legs_behind job (suc k) m ms in
+    never_by (nat_lt 0 (path_steps m)) v (leg_of job k (flows_into l m) m) behind behind (flows_nowhere l m stop)
+    (λ b. never_goes_on job (suc k) v m ms (inl (none_left (path_steps m) b))) h
+
+into_by : (b : Bool) (job : Job) (v : ℕ) (l m : Queued) (x : Leg) (xs others : List Leg) → IsMachine job.machine → x.joined ≡ flows_into l m →
+    x.bound ≡ bound_of job.machine m.command.action (path_steps m) → (b ≡ false → GoesOnLeg v others → ⊥) → GoesOnLeg v (cond b (x ∷ xs) others) →
+    (flows_into l m ≡ true) × IsWithinBounds job.machine m.command.action (path_steps m) v
+into_by true job v l m x xs others machine on most none h =
+    let low = h.1 in (sym on ∙ h.0, (greatest_bound job.machine m.command.action (path_steps m) v machine).0 (omega (arith, low, most)))
+into_by false job v l m x xs others machine on most none h = absurd (none refl h)
+
+-- a rate that continues into the next leg continues into the next command
+pub goes_into : (job : Job) (k v : ℕ) (l : Queued) (ls : List Queued) → IsMachine job.machine → GoesOnLeg v (legs_behind job k l ls) → GoesOnInto job v l ls
+goes_into job k v l [] machine h = h
+goes_into job k v l (m ∷ ms) machine h =
+    let behind = legs_behind job (suc k) m ms in
+    into_by (nat_lt 0 (path_steps m)) job v l m (leg_of job k (flows_into l m) m) behind behind machine refl refl
+    (λ b. never_goes_on job (suc k) v m ms (inl (none_left (path_steps m) b))) h
+
+-- ---- a tick
+
+-- nothing is travelled if all remains
+same_test : (t r m : ℕ) → r ≡ m - t → t ≤ m → (t == 0) ≡ (r == m)
+same_test t r m e f = grind (arith, nat_tests)
+
+same_bound : (job : Job) (joined : Bool) (l : Queued) (s : State) (r : ℕ) → r ≡ rest l s → s.travelled ≤ millionths l →
+    head_bound job l s ≡ tick_bound (leg_of job s.done joined l) r
+same_bound job joined l s r left within =
+    let bound = bound_of job.machine l.command.action (path_steps l) in
+    let entry = joint_before job.machine job.commands s.done in
+    ap (λ b. cond b (min bound entry) bound) (same_test s.travelled r (millionths l) left within)
+
+entered : (bound entry r m v : ℕ) (b : Bool) → b ≡ (r == m) → r ≡ m → v ≤ cond b (min bound entry) bound → v ≤ entry
+entered bound entry r m v true test all h = omega arith
+entered bound entry r m v false test all h = absurd (grind (arith, nat_tests))
+
+same_pace : (r a w b s c x d : ℕ) → r ≡ s → a ≡ c → w ≡ x → b ≡ d → min (min (r + a) w) b ≡ min (min (s + c) x) d
+same_pace r a w b s c x d e f g h = cc
+
+paced : (p q v way other have there : ℕ) → p ≡ q → way ≡ other → have ≡ there → (other < there → q ≤ v) → way < have → p ≤ v
+paced p q v way other have there e f g h less = omega (arith, h (omega arith))
+
+-- a ramp with the ring's motions as its legs travels at rates that the machine allows
+pub may_travel : (job : Job) (l : Queued) (ls : List Queued) (s : State) (r : RampState) (joined : Bool) (wish v : ℕ) → IsMachine job.machine →
+    1 ≤ path_steps l →
+    r.change ≡ job.machine.change → r.rate ≡ s.rate → r.rest ≡ rest l s → s.travelled ≤ millionths l → wish ≡ target job l s →
+    MayTick r wish (leg_of job s.done joined l) (legs_behind job (suc s.done) l ls) v → MayTravel job l ls s v
+may_travel job l ls s r joined wish v machine some change rate left within aim may =
+    let leg = leg_of job s.done joined l in
+    let legs = legs_behind job (suc s.done) l ls in
+    let bound : head_bound job l s ≡ tick_bound leg r.rest = same_bound job joined l s r.rest left within in
+    let low = tick_bound_greatest leg r.rest in
+    let same : pace job l s ≡ ramp_pace r wish leg =
+    same_pace s.rate job.machine.change (target job l s) (head_bound job l s) r.rate r.change wish (tick_bound leg r.rest)
+    (sym rate) (sym change) (sym aim) bound in
+    let clear : free job (pace job l s) l ls s ≡ ramp_free (ramp_pace r wish leg) r.rest leg legs = ap₂ (λ p n. ramp_free p n leg legs) same (sym left) in
+    record {
+      rules = record {
+        faster = omega (arith, may.faster);
+        slower = omega (arith, may.slower);
+        within = (greatest_bound job.machine l.command.action (path_steps l) v machine).0 (omega (arith, may.within, low));
+        enters = λ none. entered leg.bound leg.entry r.rest leg.millionths v (r.rest == leg.millionths) refl (omega arith) may.within;
+        leaves = λ ends. may.leaves (omega arith);
+        goes_on = λ over. goes_into job (suc s.done) v l ls machine (may.goes_on (omega arith));
+      };
+      brakes = subst (λ a. braking v a ≤ reach job l ls s) change (subst (λ n. braking v r.change ≤ ramp_reach n legs) left may.brakes);
+      aims = omega (arith, may.aims);
+      keeps_pace = paced (pace job l s) (ramp_pace r wish leg) v (braking (pace job l s) job.machine.change) (braking (ramp_pace r wish leg) r.change)
+          (free job (pace job l s) l ls s) (ramp_free (ramp_pace r wish leg) r.rest leg legs) same (ap₂ braking same (sym change)) clear may.keeps_pace;
+    }
+
+-- ---- the least distance of a tick
+
+no_greater : (a b c : ℕ) → a ≤ b → b ≤ c → a ≤ c
+no_greater a b c p q = omega arith
+
+-- while the machine is free it travels at least the least travel of a motion, whatever follows it
+pub travels_at_least : (job : Job) (l : Queued) (ls : List Queued) (s : State) (r : RampState) (joined : Bool) (wish v : ℕ) → IsMachine job.machine →
+    IsMotion l.command.action → 1 ≤ path_steps l → r.change ≡ job.machine.change → r.rate ≡ s.rate → r.rest ≡ rest l s → s.travelled ≤ millionths l →
+    wish ≡ target job l s → MayTick r wish (leg_of job s.done joined l) (legs_behind job (suc s.done) l ls) v → TravelsAtLeast job (l ∷ ls) s v
+travels_at_least job l ls s r joined wish v machine moves steps change rate left within aim may = λ free some.
+    let m = job.machine in
+    let c = l.command in
+    let n = path_steps l in
+    let least = least_travel m c.action n in
+    let own = may_travel_least m c.action job.commands s.done n (effective s) machine moves in
+    let small : least ≤ MILLION = omega (arith, own.change, machine.change.greatest) in
+    let more = no_less_by_place m c.action n (effective s) (point l.path (place_before s)) in
+    let aimed : least ≤ target_on m c.action n (effective s) (point l.path (place_before s)) = (
+    let low = own.target free.some_override in no_greater least _ _ low more) in
+    let wished : least ≤ wish = rw (aim, free.not_held) aimed in
+    omega (arith, may.at_least, own.change, own.bound, own.entry, own.exit)
+
+-- ---- a load
+
+few_by : (b : Bool) (x : Leg) (xs : List Leg) (n : ℕ) → length xs ≤ n → length (cond b (x ∷ xs) xs) ≤ suc n
+few_by true x xs n p = omega arith
+few_by false x xs n p = omega arith
+
+-- there are no more legs than commands
+pub no_more_legs : (job : Job) (k : ℕ) (l : Queued) (ls : List Queued) → length (legs_behind job k l ls) ≤ length ls
+no_more_legs job k l [] = omega arith
+no_more_legs job k l (m ∷ ms) =
+    few_by (nat_lt 0 (path_steps m)) (leg_of job k (flows_into l m) m) (legs_behind job (suc k) m ms) (length ms) (no_more_legs job (suc k) m ms)
+
+-- the last of l and those after it
+abbrev pub last_behind : Queued → List Queued → Queued
+last_behind l [] = l
+last_behind l (m ∷ ms) = last_behind m ms
+
+more_by : (b : Bool) (x : Leg) (all some one : List Leg) → all ≡ some ++ one → cond b (x ∷ all) all ≡ cond b (x ∷ some) some ++ one
+more_by true x all some one e = ap (λ xs. x ∷ xs) e
+more_by false x all some one e = e
+
+-- one more command adds its own leg, if it has one
+pub legs_more : (job : Job) (k : ℕ) (l : Queued) (ls : List Queued) (q : Queued) →
+    legs_behind job k l (ls ++ q ∷ []) ≡ legs_behind job k l ls ++ legs_behind job (k + length ls) (last_behind l ls) (q ∷ [])
+legs_more job k l [] q = let same : k ≡ k + 0 = omega arith in ap (λ n. legs_behind job n l (q ∷ [])) same
+legs_more job k l (m ∷ ms) q =
+    let same : suc k + length ms ≡ k + length (m ∷ ms) = omega arith in
+    let behind = legs_more job (suc k) m ms q ∙ ap (λ n. legs_behind job (suc k) m ms ++ legs_behind job n (last_behind m ms) (q ∷ [])) same in
+    more_by (nat_lt 0 (path_steps m)) (leg_of job k (flows_into l m) m) (legs_behind job (suc k) m (ms ++ q ∷ [])) (legs_behind job (suc k) m ms)
+    (legs_behind job (k + length (m ∷ ms)) (last_behind l (m ∷ ms)) (q ∷ [])) behind
+
+-- a motion with path steps has one
+pub one_more : (job : Job) (k : ℕ) (l : Queued) (ls : List Queued) (q : Queued) → 1 ≤ path_steps q →
+    legs_behind job k l (ls ++ q ∷ []) ≡ legs_behind job k l ls ++ leg_of job (k + length ls) (flows_into (last_behind l ls) q) q ∷ []
+one_more job k l ls q some =
+    let x = leg_of job (k + length ls) (flows_into (last_behind l ls) q) q in
+    legs_more job k l ls q ∙ ap (λ b. legs_behind job k l ls ++ cond b (x ∷ []) []) (lt-ltb 0 (path_steps q) (omega (arith, some)))
+
+-- any other command has none
+pub none_more : (job : Job) (k : ℕ) (l : Queued) (ls : List Queued) (q : Queued) → path_steps q ≡ 0 →
+    legs_behind job k l (ls ++ q ∷ []) ≡ legs_behind job k l ls
+none_more job k l ls q none =
+    let x = leg_of job (k + length ls) (flows_into (last_behind l ls) q) q in
+    legs_more job k l ls q ∙ ap (λ b. legs_behind job k l ls ++ cond b (x ∷ []) []) (le-ltb 0 (path_steps q) (omega (arith, none)))
+    ∙ append-nil (legs_behind job k l ls)

@@ -1,0 +1,52 @@
+-- The ring's motions as the legs of a ramp: how far the path is loaded, and how far a rate may
+-- continue. Our own.
+use Rattle.std.specs.Prelude.{ℕ, suc, ◌-◌, nat_lt, List, [], ◌∷◌, Bool, false}
+use Rattle.std.specs.Prelude.{not, ◌&&◌, if◌then◌else◌}
+use Rattle.ngc_commands.specs.declared.command.Action.{Action}
+use Rattle.ngc_commands.specs.declared.command.Action.TheVariants.{Move}
+use Rattle.ngc_planner.specs.declared.leg.Leg.{Leg}
+use Rattle.ngc_planner.specs.Bounds.{bound_of}
+use Rattle.ngc_planner.specs.Joints.{joint_at, joint_before}
+use Rattle.ngc_planner.specs.Reach as legs
+use Rattle.ngc_machine_model.specs.State.{Job, Queued, State, path_steps, millionths}
+
+-- the axes stop at the end of a motion in exact stop mode (NISTIR 6556, 3.5.14)
+abbrev pub stops : Action → Bool
+stops (Move m) = m.stop
+stops _ = false
+
+-- the axes continue from a loaded command into the next one without a stop if both are motions with
+-- path steps
+abbrev pub flows_into : Queued → Queued → Bool
+flows_into l k =
+    nat_lt 0 (path_steps l) && (not (stops l.command.action) && nat_lt 0 (path_steps k))
+
+-- command k as a leg: bound at its ends by its neighbours in the list of commands, loaded or not
+abbrev pub leg_of : Job → ℕ → Bool → Queued → Leg
+leg_of job k joined l = record {
+  millionths = millionths l;
+  bound = bound_of job.machine l.command.action (path_steps l);
+  entry = joint_before job.machine job.commands k;
+  exit = joint_at job.machine job.commands k;
+  joined = joined;
+}
+
+-- the legs of the commands loaded after l, the first of which is command k
+abbrev pub legs_behind : Job → ℕ → Queued → List Queued → List Leg
+legs_behind job k l [] = []
+legs_behind job k l (m ∷ ms) =
+    if nat_lt 0 (path_steps m) then leg_of job k (flows_into l m) m ∷ legs_behind job (suc k) m ms
+    else legs_behind job (suc k) m ms
+
+-- the rest of the head
+abbrev pub rest : Queued → State → ℕ
+rest l s = millionths l - s.travelled
+
+-- the distance that is loaded, up to the first stop
+abbrev pub reach : Job → Queued → List Queued → State → ℕ
+reach job l ls s = legs.reach (rest l s) (legs_behind job (suc s.done) l ls)
+
+-- the part of it before the first motion that the rate w may not enter
+abbrev pub free : Job → ℕ → Queued → List Queued → State → ℕ
+free job w l ls s =
+    legs.free w (rest l s) (leg_of job s.done false l) (legs_behind job (suc s.done) l ls)

@@ -1,5 +1,0 @@
-use Rattle.std.proofs.Common.{rules}
-use Rattle.ngc_wheel.proofs.column.ColumnWheelWheel.advance.Goals as goal
-
-pub returns-clause-roll : goal.returns-clause-roll
-returns-clause-roll c = search rules

@@ -1,5 +1,0 @@
-use Rattle.ngc_wheel.proofs.CircleLaws.{never_turns_back}
-use Rattle.ngc_wheel.proofs.laws.never_turns_back.Goals as goal
-
-pub returns : goal.returns
-returns c = never_turns_back

@@ -1,5 +1,0 @@
-use Rattle.ngc_wheel.proofs.OneRoll.{one_is_due}
-use Rattle.ngc_wheel.proofs.laws.one_is_due.Goals as goal
-
-pub returns : goal.returns
-returns c = one_is_due

@@ -1,5 +1,0 @@
-use Rattle.ngc_wheel.proofs.Wheeling.{wheel_rolls}
-use Rattle.ngc_wheel.proofs.laws.rolls_from_anywhere.Goals as goal
-
-pub returns : goal.returns
-returns c = wheel_rolls

@@ -1,5 +1,0 @@
-use Rattle.std.proofs.Common.{rules}
-use Rattle.ngc_wheel.proofs.spoke.Quadrant.following.Goals as goal
-
-pub returns-in-Second : goal.returns-in-Second
-returns-in-Second c = search rules

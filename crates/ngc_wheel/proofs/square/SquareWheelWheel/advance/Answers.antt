@@ -1,5 +1,0 @@
-use Rattle.std.proofs.Common.{rules}
-use Rattle.ngc_wheel.proofs.square.SquareWheelWheel.advance.Goals as goal
-
-pub invariant_of-self : goal.invariant_of-self
-invariant_of-self c = search rules
