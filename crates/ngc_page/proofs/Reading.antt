@@ -3,11 +3,11 @@ use Rattle.std.proofs.Common.{◌≡◌, ℕ, List, [], ◌∷◌, Option, Some,
 use Rattle.ngc_text.specs.Failures.{Rises}
 use Rattle.ngc_text.specs.declared.input_fault.InputFault.{InputFault}
 use Rattle.ngc_text.specs.declared.input_fault.InputFault.TheVariants as inputs
-use Rattle.ngc_simulator.specs.Setups.{FileBytes}
-use Rattle.ngc_simulator.specs.Unread.{FailsByInput, Input, Kind, OfCertificate, OfEvents, OfMachine, OfProgram, OfSource, OfTools, SourceFails}
-use Rattle.ngc_simulator.specs.Unread.{TellsFirstUnread, TellsKindUnread, TellsUnread, unread_by}
+use Rattle.ngc_inputs.specs.Setups.{FileBytes}
+use Rattle.ngc_inputs.specs.Unread.{FailsByInput, Input, Kind, OfCertificate, OfEvents, OfMachine, OfProgram, OfSource, OfTools, SourceFails}
+use Rattle.ngc_inputs.specs.Unread.{TellsFirstUnread, TellsKindUnread, TellsUnread, unread_by}
 use Rattle.ngc_simulator.specs.declared.done.Done.{Done}
-use Rattle.ngc_simulator.specs.declared.fault.AnswerFault.{AnswerFault}
+use Rattle.ngc_inputs.specs.declared.fault.AnswerFault.{AnswerFault}
 use Rattle.ngc_page.specs.Answered.{SaysUnreadable}
 
 -- a count that stays 0 doesn't rise

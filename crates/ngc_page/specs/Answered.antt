@@ -5,10 +5,10 @@ use Rattle.ngc_text.specs.declared.input_fault.InputFault.{InputFault}
 use Rattle.ngc_text.specs.declared.input_fault.InputFault.TheVariants.{Device}
 use Rattle.ngc_command_line.specs.declared.options.Options.{Options}
 use Rattle.ngc_simulator.specs.Answers.{ComesBy, Tells, status_of}
-use Rattle.ngc_simulator.specs.Setups.{FileBytes}
-use Rattle.ngc_simulator.specs.Unread.{unread_by}
+use Rattle.ngc_inputs.specs.Setups.{FileBytes}
+use Rattle.ngc_inputs.specs.Unread.{unread_by}
 use Rattle.ngc_simulator.specs.declared.done.Done.{Done}
-use Rattle.ngc_simulator.specs.declared.fault.AnswerFault.{AnswerFault}
+use Rattle.ngc_inputs.specs.declared.fault.AnswerFault.{AnswerFault}
 
 -- a file couldn't be opened, or reading it failed
 abbrev pub SaysUnreadable : Option InputFault → Type 0

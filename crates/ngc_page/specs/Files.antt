@@ -1,5 +1,5 @@
 -- The files of a call.
-use Rattle.ngc_simulator.specs.Setups.{FileBytes}
+use Rattle.ngc_inputs.specs.Setups.{FileBytes}
 use Rattle.ngc_page.specs.Passed.{passed}
 use Rattle.ngc_page.specs.declared.files.PassedFiles.{PassedFiles}
 

@@ -1,7 +1,7 @@
 -- The files that a page passes.
 use Rattle.std.specs.Prelude.{ℕ, List, [], Some, None, codes, if◌then◌else◌}
 use Rattle.std.specs.Str.{bytes_eq}
-use Rattle.ngc_simulator.specs.Setups.{FileBytes}
+use Rattle.ngc_inputs.specs.Setups.{FileBytes}
 
 -- The four files have their names, and any other file and standard input are empty.
 abbrev pub passed : List ℕ → List ℕ → List ℕ → List ℕ → FileBytes

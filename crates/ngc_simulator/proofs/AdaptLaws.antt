@@ -9,17 +9,17 @@ use Rattle.ngc_command_line.specs.declared.options.MachineOptions.{MachineOption
 use Rattle.ngc_machine_files.specs.Machine.{MachineFile, file_of}
 use Rattle.ngc_text.specs.declared.input_fault.InputFault.{InputFault}
 use Rattle.ngc_simulator.specs.declared.done.Notes.{Notes}
-use Rattle.ngc_simulator.specs.declared.setup.Shop.{Shop}
-use Rattle.ngc_simulator.specs.declared.fault.AnswerFault.{AnswerFault}
+use Rattle.ngc_inputs.specs.declared.setup.Shop.{Shop}
+use Rattle.ngc_inputs.specs.declared.fault.AnswerFault.{AnswerFault}
 use Rattle.ngc_simulator.specs.Answers.{AdaptsOn}
-use Rattle.ngc_simulator.specs.Faults.{answer_status}
+use Rattle.ngc_inputs.specs.Faults.{answer_status}
 use Rattle.ngc_simulator.specs.Making.{Makes, OnDump}
-use Rattle.ngc_simulator.specs.Setups.{FileBytes, KeepsFiles}
-use Rattle.ngc_simulator.specs.Shops.{GivesShop}
-use Rattle.ngc_simulator.specs.Unread.{Input, unread_by}
-use Rattle.ngc_simulator.proofs.JobLaws.{keeps_same, if_known}
-use Rattle.ngc_simulator.proofs.SetupLaws.{on_setup, of_file}
-use Rattle.ngc_simulator.proofs.UnreadLaws.{Told}
+use Rattle.ngc_inputs.specs.Setups.{FileBytes, KeepsFiles}
+use Rattle.ngc_inputs.specs.Shops.{GivesShop}
+use Rattle.ngc_inputs.specs.Unread.{Input, unread_by}
+use Rattle.ngc_inputs.proofs.JobLaws.{keeps_same, if_known}
+use Rattle.ngc_inputs.proofs.SetupLaws.{on_setup, of_file}
+use Rattle.ngc_inputs.proofs.UnreadLaws.{Told}
 use Rattle.ngc_line_reader.specs.Grammar.{Reading}
 use Rattle.ngc_line_reader.specs.ProgramText.{ProgramText, program_of, AreReadings, HaveReadings}
 use Rattle.ngc_canonical.specs.declared.fault.ProgramFault.{ProgramFault}
@@ -29,7 +29,7 @@ use Rattle.ngc_canonical.specs.Meaning.{meaning, program_said}
 use Rattle.ngc_certificate_text.specs.declared.piece.Setting.{Setting}
 use Rattle.ngc_certificate_text.specs.declared.piece.Setting.TheVariants.{Off, On}
 use Rattle.ngc_job.specs.Job.{JobData, IsJobOf, IsRefusedAt, commands_in}
-use Rattle.ngc_simulator.specs.declared.fault.AnswerFault.TheVariants as answers
+use Rattle.ngc_inputs.specs.declared.fault.AnswerFault.TheVariants as answers
 use Rattle.ngc_simulator.specs.Adapting.{IsUnderstood, HasFault, IsSetupFor, IsRequest, IsLeft, Adapts, AdaptsTo, AdaptFails, refused_text}
 
 abbrev is_job_understood : (setup : Setup) (bytes : List ℕ) (text : ProgramText) (j : JobData) → program_of bytes ≡ Ok text → (have : HaveReadings text.lines) →

@@ -30,18 +30,18 @@ use Rattle.ngc_simulator.specs.Answers.{DrawsFrom, certificate_input, certificat
 use Rattle.ngc_simulator.specs.Drawing.{Draws, DrawsGiven, DrawsProgram, IsGivenRefusal, IsMadeRefusal, fault_at, refusal_answer}
 use Rattle.ngc_program_report.specs.Met.{met_at}
 use Rattle.ngc_simulator.specs.Drawing.{look_of, setting_of}
-use Rattle.ngc_simulator.specs.Faults.{of_picture}
+use Rattle.ngc_inputs.specs.Faults.{of_picture}
 use Rattle.ngc_simulator.specs.Lists.{IsMeaning, IsRefused}
-use Rattle.ngc_simulator.specs.Setups.{FileBytes, KeepsFiles, KeepsNamed}
-use Rattle.ngc_simulator.specs.Shops.{GivesShop}
-use Rattle.ngc_simulator.specs.Unread.{Input, shop_inputs}
-use Rattle.ngc_simulator.specs.declared.fault.AnswerFault.{AnswerFault}
-use Rattle.ngc_simulator.specs.declared.fault.AnswerFault.TheVariants as answers
-use Rattle.ngc_simulator.specs.declared.setup.Shop.{Shop}
-use Rattle.ngc_simulator.proofs.JobLaws.{FailsSo, keeps_same}
+use Rattle.ngc_inputs.specs.Setups.{FileBytes, KeepsFiles, KeepsNamed}
+use Rattle.ngc_inputs.specs.Shops.{GivesShop}
+use Rattle.ngc_inputs.specs.Unread.{Input, shop_inputs}
+use Rattle.ngc_inputs.specs.declared.fault.AnswerFault.{AnswerFault}
+use Rattle.ngc_inputs.specs.declared.fault.AnswerFault.TheVariants as answers
+use Rattle.ngc_inputs.specs.declared.setup.Shop.{Shop}
+use Rattle.ngc_inputs.proofs.JobLaws.{FailsSo, keeps_same}
 use Rattle.ngc_simulator.proofs.ListLaws.{Means}
 use Rattle.ngc_simulator.proofs.RunLaws.{on_two_files}
-use Rattle.ngc_simulator.proofs.SetupLaws.{on_setup}
+use Rattle.ngc_inputs.proofs.SetupLaws.{on_setup}
 
 is_meaning : (setup : Setup) (bytes : List ℕ) (block_delete : Bool) (text : ProgramText) (says : Result (List Command) ProgramFault)
     → program_of bytes ≡ Ok text → HaveReadings text.lines → Means text setup block_delete says → IsMeaning setup bytes block_delete says

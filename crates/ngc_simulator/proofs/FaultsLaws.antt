@@ -8,11 +8,11 @@ use Rattle.ngc_report.specs.declared.form.Form.{Form}
 use Rattle.ngc_all_faults.specs.declared.text_fault.TextFault.{TextFault}
 use Rattle.ngc_all_faults.specs.declared.text_fault.TextFault.TheVariants.{Unread, Refused}
 use Rattle.ngc_simulator.specs.AllFaults.{answer_of, is_of_text}
-use Rattle.ngc_simulator.specs.Setups.{FileBytes}
-use Rattle.ngc_simulator.specs.Unread.{FailsByInput, Input, unread_by}
-use Rattle.ngc_simulator.specs.declared.fault.AnswerFault.{AnswerFault}
-use Rattle.ngc_simulator.specs.declared.fault.AnswerFault.TheVariants as answers
-use Rattle.ngc_simulator.proofs.UnreadLaws.{Told}
+use Rattle.ngc_inputs.specs.Setups.{FileBytes}
+use Rattle.ngc_inputs.specs.Unread.{FailsByInput, Input, unread_by}
+use Rattle.ngc_inputs.specs.declared.fault.AnswerFault.{AnswerFault}
+use Rattle.ngc_inputs.specs.declared.fault.AnswerFault.TheVariants as answers
+use Rattle.ngc_inputs.proofs.UnreadLaws.{Told}
 
 read_none : (s : Setting) (first : TextFault) → is_of_text first ≡ true → unread_by (answer_of s first) ≡ None
 read_none s (Unread (Line n e)) is = refl

@@ -9,16 +9,16 @@ use Rattle.ngc_line_reader.specs.ProgramText.{program_of}
 use Rattle.ngc_line_reader.specs.ProgramView.{FaultIs}
 use Rattle.ngc_line_reader.specs.declared.program.fault.ReadFault.{ReadFault}
 use Rattle.ngc_simulator.specs.Answers.{ListsOn, CertifiesOn, ChecksOn}
-use Rattle.ngc_simulator.specs.Faults.{OrOfReading}
-use Rattle.ngc_simulator.specs.Jobs.{Certifies, Checks}
+use Rattle.ngc_inputs.specs.Faults.{OrOfReading}
+use Rattle.ngc_inputs.specs.Jobs.{Certifies, Checks}
 use Rattle.ngc_simulator.specs.Lists.{Lists}
-use Rattle.ngc_simulator.specs.Setups.{FileBytes, KeepsFiles, KeepsNamed}
-use Rattle.ngc_simulator.specs.Shops.{GivesShop}
-use Rattle.ngc_simulator.specs.declared.fault.AnswerFault.{AnswerFault}
-use Rattle.ngc_simulator.specs.declared.fault.AnswerFault.TheVariants as answers
-use Rattle.ngc_simulator.specs.declared.setup.Shop.{Shop}
-use Rattle.ngc_simulator.proofs.JobLaws.{keeps_same, if_known}
-use Rattle.ngc_simulator.proofs.SetupLaws.{on_setup, of_file}
+use Rattle.ngc_inputs.specs.Setups.{FileBytes, KeepsFiles, KeepsNamed}
+use Rattle.ngc_inputs.specs.Shops.{GivesShop}
+use Rattle.ngc_inputs.specs.declared.fault.AnswerFault.{AnswerFault}
+use Rattle.ngc_inputs.specs.declared.fault.AnswerFault.TheVariants as answers
+use Rattle.ngc_inputs.specs.declared.setup.Shop.{Shop}
+use Rattle.ngc_inputs.proofs.JobLaws.{keeps_same, if_known}
+use Rattle.ngc_inputs.proofs.SetupLaws.{on_setup, of_file}
 
 -- what comes of a program that is given can come where it is read first
 pub or_of_reading : (Of : AnswerFault → Type 0) (e : AnswerFault) → Of e → OrOfReading Of e

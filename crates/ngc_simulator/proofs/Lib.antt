@@ -4,14 +4,8 @@ mod AdaptLaws
 pub mod ListLaws
 -- What the second sink takes.
 pub mod Told
--- What is said of a file's text, and of what the files of a run say.
-pub mod SetupLaws
--- What certifying and checking a program come to, from what their parts come to.
-pub mod JobLaws
 -- What a run comes to on the files that it names, from what its parts come to.
 pub mod FileLaws
--- What the checker says of the program of one file and the certificate of another, from what it says of the certificate's text.
-pub mod JudgingLaws
 -- What making a machine file comes to, from what its parts come to.
 pub mod MakingLaws
 -- What running a program over events, or to its end, comes to, from what its parts come to.
@@ -20,8 +14,6 @@ pub mod RunLaws
 pub mod LiveLaws
 -- What drawing a program comes to, from what its parts come to.
 pub mod DrawLaws
--- Which file of a run isn't read, from what is told of each.
-pub mod UnreadLaws
 -- What telling whether a program fits comes to, from what its parts come to.
 pub mod ReportLaws
 -- What telling of a program that can't be read comes to, on the files that the command line names.

@@ -15,17 +15,17 @@ use Rattle.ngc_run_log.specs.declared.report.RunFault.{RunFault}
 use Rattle.ngc_run_log.specs.declared.report.RunFault.TheVariants as runs
 use Rattle.ngc_run_log.specs.Living.{FailsByReading, FailsLive, LiveData, LivesOn}
 use Rattle.ngc_simulator.specs.Answers.{LivesOnFiles}
-use Rattle.ngc_simulator.specs.Faults.{FailsWith, OfLiving, of_live, of_run}
-use Rattle.ngc_simulator.specs.Judging.{IsVerdict, Verdict}
+use Rattle.ngc_inputs.specs.Faults.{FailsWith, OfLiving, of_live, of_run}
+use Rattle.ngc_inputs.specs.Judging.{IsVerdict, Verdict}
 use Rattle.ngc_simulator.specs.Lives.{Lives, LivesAt}
-use Rattle.ngc_simulator.specs.Setups.{FileBytes, KeepsFiles, KeepsNamed}
-use Rattle.ngc_simulator.specs.Shops.{GivesShop}
-use Rattle.ngc_simulator.specs.declared.fault.AnswerFault.{AnswerFault}
-use Rattle.ngc_simulator.specs.declared.fault.AnswerFault.TheVariants as answers
-use Rattle.ngc_simulator.specs.declared.setup.Shop.{Shop}
-use Rattle.ngc_simulator.proofs.JobLaws.{keeps_same}
+use Rattle.ngc_inputs.specs.Setups.{FileBytes, KeepsFiles, KeepsNamed}
+use Rattle.ngc_inputs.specs.Shops.{GivesShop}
+use Rattle.ngc_inputs.specs.declared.fault.AnswerFault.{AnswerFault}
+use Rattle.ngc_inputs.specs.declared.fault.AnswerFault.TheVariants as answers
+use Rattle.ngc_inputs.specs.declared.setup.Shop.{Shop}
+use Rattle.ngc_inputs.proofs.JobLaws.{keeps_same}
 use Rattle.ngc_simulator.proofs.RunLaws.{accepted_job, on_two_files}
-use Rattle.ngc_simulator.proofs.SetupLaws.{on_setup}
+use Rattle.ngc_inputs.proofs.SetupLaws.{on_setup}
 
 -- ---- of the verdict on two files
 

@@ -6,10 +6,10 @@ use Rattle.ngc_machine_files.specs.MachineText.{machine_file}
 use Rattle.ngc_command_line.specs.declared.options.MachineOptions.{MachineOptions}
 use Rattle.ngc_simulator.specs.Answers.{MachineComes, MakesOn}
 use Rattle.ngc_simulator.specs.Making.{AreAskedKeys, IsNotRead, IsUnmade, MakeFails, with_remarks}
-use Rattle.ngc_simulator.specs.Setups.{FileBytes}
-use Rattle.ngc_simulator.specs.Unread.{unread_by}
-use Rattle.ngc_simulator.specs.declared.fault.AnswerFault.{AnswerFault}
-use Rattle.ngc_simulator.specs.declared.fault.AnswerFault.TheVariants as answers
+use Rattle.ngc_inputs.specs.Setups.{FileBytes}
+use Rattle.ngc_inputs.specs.Unread.{unread_by}
+use Rattle.ngc_inputs.specs.declared.fault.AnswerFault.{AnswerFault}
+use Rattle.ngc_inputs.specs.declared.fault.AnswerFault.TheVariants as answers
 
 pub make_failed : (bytes : FileBytes) (options : MachineOptions) (dump : Option (List ℕ)) (old new : Option (List ℕ)) (fault : AnswerFault) →
     MakeFails options dump old new fault

@@ -27,23 +27,23 @@ use Rattle.ngc_machine_files.specs.Machine.{MachineFile}
 use Rattle.ngc_machine_files.specs.declared.tools.Tool.{Tool}
 use Rattle.ngc_simulator.specs.Answers.{ReportsOn, request_of}
 use Rattle.ngc_program_report.specs.JobReports.{IsFirstText, IsFitText, IsRefusalText, IsRefusalsText, IsStartClear, OffBegins, Tells, line_of, setup_in}
-use Rattle.ngc_simulator.specs.Jobs.{IsMadeOf, IsProgram, IsUnmade, WhyNotMade}
+use Rattle.ngc_inputs.specs.Jobs.{IsMadeOf, IsProgram, IsUnmade, WhyNotMade}
 use Rattle.ngc_simulator.specs.Reporting.{IsAllReport, IsFirstReport, IsFitReport, IsReportOf, IsRejectionReport, Reports}
 use Rattle.ngc_program_report.specs.Texts.{LastsFor}
 use Rattle.ngc_program_report.specs.Texts.{commands_of, fault_text, fits_text, is_on, refusal_text, refusals_text, rejection_text}
 use Rattle.ngc_program_report.specs.declared.request.ReportRequest.{ReportRequest}
 use Rattle.ngc_certificate.specs.Uncleared.{AreUncleared}
-use Rattle.ngc_simulator.specs.Setups.{FileBytes, KeepsFiles}
-use Rattle.ngc_simulator.specs.Shops.{GivesShop}
+use Rattle.ngc_inputs.specs.Setups.{FileBytes, KeepsFiles}
+use Rattle.ngc_inputs.specs.Shops.{GivesShop}
 use Rattle.ngc_program_report.specs.declared.report_fault.ReportFault.{ReportFault}
 use Rattle.ngc_program_report.specs.declared.report_fault.ReportFault.TheVariants as faults
 use Rattle.ngc_program_report.specs.JobReports.{FailsByWriting}
-use Rattle.ngc_simulator.specs.Faults.{FailsWith, OfCertifying, of_report}
-use Rattle.ngc_simulator.specs.declared.fault.AnswerFault.{AnswerFault}
-use Rattle.ngc_simulator.specs.declared.fault.AnswerFault.TheVariants as answers
-use Rattle.ngc_simulator.specs.declared.setup.Shop.{Shop}
-use Rattle.ngc_simulator.proofs.JobLaws.{HasNoJob, IsJobFor, keeps_same, made_for_file, means_job, refused_program}
-use Rattle.ngc_simulator.proofs.SetupLaws.{of_file, on_setup}
+use Rattle.ngc_inputs.specs.Faults.{FailsWith, OfCertifying, of_report}
+use Rattle.ngc_inputs.specs.declared.fault.AnswerFault.{AnswerFault}
+use Rattle.ngc_inputs.specs.declared.fault.AnswerFault.TheVariants as answers
+use Rattle.ngc_inputs.specs.declared.setup.Shop.{Shop}
+use Rattle.ngc_inputs.proofs.JobLaws.{HasNoJob, IsJobFor, keeps_same, made_for_file, means_job, refused_program}
+use Rattle.ngc_inputs.proofs.SetupLaws.{of_file, on_setup}
 
 -- ---- a job of which a certificate is made
 

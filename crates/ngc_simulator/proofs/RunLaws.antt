@@ -24,19 +24,19 @@ use Rattle.ngc_simulator.specs.declared.writing.Writing.{Writing}
 use Rattle.ngc_run_log.specs.declared.report.Report.{Report}
 use Rattle.ngc_run_log.specs.declared.report.RunFault.{RunFault}
 use Rattle.ngc_run_log.specs.declared.report.RunFault.TheVariants as runs
-use Rattle.ngc_simulator.specs.Faults.{of_run}
+use Rattle.ngc_inputs.specs.Faults.{of_run}
 use Rattle.ngc_simulator.specs.Answers.{IsTimeOf, IsTimeOn, RunsOn, RunsThroughOn}
-use Rattle.ngc_simulator.specs.Jobs.{IsNoCertificate}
-use Rattle.ngc_simulator.specs.Judging.{IsVerdict, Verdict}
+use Rattle.ngc_inputs.specs.Jobs.{IsNoCertificate}
+use Rattle.ngc_inputs.specs.Judging.{IsVerdict, Verdict}
 use Rattle.ngc_simulator.specs.Running.{IsAcceptedJob, RunsOver, RunsWhole, AreNoEvents, Runs, RunsThrough, RecordsRun, RecordsThrough}
-use Rattle.ngc_simulator.specs.Setups.{FileBytes, KeepsFiles, KeepsNamed}
-use Rattle.ngc_simulator.specs.Shops.{GivesShop}
-use Rattle.ngc_simulator.specs.declared.fault.AnswerFault.{AnswerFault}
-use Rattle.ngc_simulator.specs.declared.fault.AnswerFault.TheVariants as answers
+use Rattle.ngc_inputs.specs.Setups.{FileBytes, KeepsFiles, KeepsNamed}
+use Rattle.ngc_inputs.specs.Shops.{GivesShop}
+use Rattle.ngc_inputs.specs.declared.fault.AnswerFault.{AnswerFault}
+use Rattle.ngc_inputs.specs.declared.fault.AnswerFault.TheVariants as answers
 use Rattle.ngc_program_report.specs.declared.run_time.RunTime.{RunTime}
-use Rattle.ngc_simulator.specs.declared.setup.Shop.{Shop}
-use Rattle.ngc_simulator.proofs.JobLaws.{keeps_same}
-use Rattle.ngc_simulator.proofs.SetupLaws.{on_setup}
+use Rattle.ngc_inputs.specs.declared.setup.Shop.{Shop}
+use Rattle.ngc_inputs.proofs.JobLaws.{keeps_same}
+use Rattle.ngc_inputs.proofs.SetupLaws.{on_setup}
 
 -- ---- of the verdict on two files, and of events
 

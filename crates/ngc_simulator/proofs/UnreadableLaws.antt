@@ -12,16 +12,16 @@ use Rattle.ngc_line_reader.specs.declared.program.fault.ReadFault.{ReadFault}
 use Rattle.ngc_report.specs.declared.form.Form.{Form}
 use Rattle.ngc_simulator.specs.AllFaults.{TellsFaults}
 use Rattle.ngc_simulator.specs.Answers.{ReportComes, ReportsOn, UnreadableOn, form_asked, request_of}
-use Rattle.ngc_simulator.specs.Faults.{OfCertifying, OfTelling}
+use Rattle.ngc_inputs.specs.Faults.{OfCertifying, OfTelling}
 use Rattle.ngc_simulator.specs.Reporting.{Reports}
-use Rattle.ngc_simulator.specs.Setups.{FileBytes, KeepsFiles}
-use Rattle.ngc_simulator.specs.Shops.{GivesShop}
+use Rattle.ngc_inputs.specs.Setups.{FileBytes, KeepsFiles}
+use Rattle.ngc_inputs.specs.Shops.{GivesShop}
 use Rattle.ngc_simulator.specs.Unreadable.{TellsUnreadable, is_of_text, unreadable_text}
-use Rattle.ngc_simulator.specs.declared.fault.AnswerFault.{AnswerFault}
-use Rattle.ngc_simulator.specs.declared.fault.AnswerFault.TheVariants as answers
-use Rattle.ngc_simulator.specs.declared.setup.Shop.{Shop}
-use Rattle.ngc_simulator.proofs.JobLaws.{if_known}
-use Rattle.ngc_simulator.proofs.SetupLaws.{carried, of_file, on_setup}
+use Rattle.ngc_inputs.specs.declared.fault.AnswerFault.{AnswerFault}
+use Rattle.ngc_inputs.specs.declared.fault.AnswerFault.TheVariants as answers
+use Rattle.ngc_inputs.specs.declared.setup.Shop.{Shop}
+use Rattle.ngc_inputs.proofs.JobLaws.{if_known}
+use Rattle.ngc_inputs.proofs.SetupLaws.{carried, of_file, on_setup}
 
 -- ---- of bytes that stayed as they were
 

@@ -15,11 +15,11 @@ use Rattle.ngc_machine_files.specs.Machine.{MachineFile}
 use Rattle.ngc_machine_files.specs.ToolText.{tool_table}
 use Rattle.ngc_machine_files.specs.declared.fault.FileFault.{FileFault}
 use Rattle.ngc_simulator.specs.declared.done.Notes.{Notes}
-use Rattle.ngc_simulator.specs.declared.fault.AnswerFault.{AnswerFault}
-use Rattle.ngc_simulator.specs.declared.fault.AnswerFault.TheVariants as answers
-use Rattle.ngc_simulator.specs.Faults.{answer_status, fault_line}
+use Rattle.ngc_inputs.specs.declared.fault.AnswerFault.{AnswerFault}
+use Rattle.ngc_inputs.specs.declared.fault.AnswerFault.TheVariants as answers
+use Rattle.ngc_inputs.specs.Faults.{answer_status, fault_line}
 use Rattle.ngc_simulator.specs.Lists.{IsMeaning, Lists}
-use Rattle.ngc_simulator.specs.Setups.{Refuses}
+use Rattle.ngc_inputs.specs.Setups.{Refuses}
 
 -- the homes of a machine
 abbrev pub homes_of : MachineFile → Homes

@@ -13,8 +13,8 @@ use Rattle.ngc_certificate_text.specs.declared.piece.Setting.{Setting}
 use Rattle.ngc_certificate_text.specs.declared.piece.Setting.TheVariants.{Off, On}
 use Rattle.ngc_program_report.specs.FaultTexts.{faults_text}
 use Rattle.ngc_report.specs.declared.form.Form.{Form}
-use Rattle.ngc_simulator.specs.declared.fault.AnswerFault.{AnswerFault}
-use Rattle.ngc_simulator.specs.declared.fault.AnswerFault.TheVariants as answers
+use Rattle.ngc_inputs.specs.declared.fault.AnswerFault.{AnswerFault}
+use Rattle.ngc_inputs.specs.declared.fault.AnswerFault.TheVariants as answers
 
 -- the first fault with block delete off, or else with block delete on
 abbrev pub first_among : List TextFault → List TextFault → Option (Setting × TextFault)

@@ -22,16 +22,16 @@ use Rattle.ngc_fault_texts.specs.declared.telling.ExplainFault.TheVariants.{Unkn
 use Rattle.ngc_text.specs.Failures.{Rises}
 use Rattle.ngc_text.specs.Written.{AppendsBeginning}
 use Rattle.ngc_run_log.specs.declared.report.Report.{Report}
-use Rattle.ngc_simulator.specs.declared.fault.AnswerFault.{AnswerFault}
-use Rattle.ngc_simulator.specs.declared.fault.AnswerFault.TheVariants as answers
+use Rattle.ngc_inputs.specs.declared.fault.AnswerFault.{AnswerFault}
+use Rattle.ngc_inputs.specs.declared.fault.AnswerFault.TheVariants as answers
 use Rattle.ngc_simulator.specs.declared.done.Done.{Done}
 use Rattle.ngc_simulator.specs.declared.done.Notes.{Notes}
 use Rattle.ngc_simulator.specs.declared.done.Done.TheVariants.{Quietly, RunThrough, WithNotes}
 use Rattle.ngc_program_report.specs.declared.run_time.RunTime.{RunTime}
 use Rattle.ngc_simulator.specs.Guides.{Guides, version_text}
-use Rattle.ngc_simulator.specs.Faults.{FailsByOutput, OfCertifying, OfChecking, OfDrawing}
-use Rattle.ngc_simulator.specs.Faults.{OfListing, OfLiving, OfReporting, OfRunning, OfTelling, OfWriting}
-use Rattle.ngc_simulator.specs.Faults.{OrOfReading, answer_status, fault_line}
+use Rattle.ngc_inputs.specs.Faults.{FailsByOutput, OfCertifying, OfChecking, OfDrawing}
+use Rattle.ngc_inputs.specs.Faults.{OfListing, OfLiving, OfReporting, OfRunning, OfTelling, OfWriting}
+use Rattle.ngc_inputs.specs.Faults.{OrOfReading, answer_status, fault_line}
 use Rattle.ngc_simulator.specs.declared.writing.Writing.{Writing}
 use Rattle.ngc_simulator.specs.Writing.{writing_named}
 use Rattle.ngc_simulator.specs.Lists.{Lists}
@@ -42,23 +42,23 @@ use Rattle.ngc_report.specs.declared.form.Form.{Form}
 use Rattle.ngc_report.specs.declared.form.Form.TheVariants.{Words, Json}
 use Rattle.ngc_simulator.specs.Reporting.{Reports}
 use Rattle.ngc_program_report.specs.declared.request.ReportRequest.{ReportRequest}
-use Rattle.ngc_simulator.specs.Jobs.{Certifies, Checks}
+use Rattle.ngc_inputs.specs.Jobs.{Certifies, Checks}
 use Rattle.ngc_run_log.specs.declared.live_form.LiveForm.{LiveForm}
 use Rattle.ngc_simulator.specs.Lives.{Lives, live_named}
 use Rattle.ngc_simulator.specs.Running.{Runs, RunsThrough}
 use Rattle.ngc_canonical.specs.State.{Setup}
-use Rattle.ngc_simulator.specs.Setups.{FileBytes, OnSetup}
-use Rattle.ngc_simulator.specs.Shops.{RefusesShop}
+use Rattle.ngc_inputs.specs.Setups.{FileBytes, OnSetup}
+use Rattle.ngc_inputs.specs.Shops.{RefusesShop}
 use Rattle.ngc_simulator.specs.Mistaken.{TellsRefusal}
 use Rattle.ngc_program_report.specs.Times.{time_line}
 use Rattle.ngc_simulator.specs.Unreadable.{TellsUnreadable}
 use Rattle.ngc_simulator.specs.AllFaults.{TellsFaults}
-use Rattle.ngc_simulator.specs.Unread.{Input, OfProgram, OfCertificate, OfEvents, OfSource, shop_inputs}
+use Rattle.ngc_inputs.specs.Unread.{Input, OfProgram, OfCertificate, OfEvents, OfSource, shop_inputs}
 use Rattle.ngc_adapt_program.specs.declared.request.Request.{Request}
 use Rattle.ngc_adapt_program.specs.Requests.{control_named, dropped_codes}
 use Rattle.ngc_simulator.specs.Adapting.{Adapts, IsRequest}
 use Rattle.ngc_simulator.specs.Making.{Makes, OnDump, has_source}
-use Rattle.ngc_simulator.specs.Unread.{FailsByInput}
+use Rattle.ngc_inputs.specs.Unread.{FailsByInput}
 
 -- what `list`, `certify`, `check` and `run` come to on the files that they name
 abbrev pub ListsOn : FileBytes → ListOptions → Option (List ℕ) → Option (List ℕ) →

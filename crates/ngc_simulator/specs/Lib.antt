@@ -1,8 +1,5 @@
-pub mod Faults
 pub mod Lists
 pub mod Guides
-pub mod Jobs
-pub mod Judging
 pub mod Lives
 pub mod Running
 pub mod Writing
@@ -11,11 +8,8 @@ pub mod Showing
 pub mod Reporting
 pub mod Unreadable
 pub mod AllFaults
-pub mod Setups
-pub mod Shops
 pub mod Making
 pub mod Mistaken
 pub mod Status
 pub mod Adapting
 pub mod Answers
-pub mod Unread

@@ -12,9 +12,9 @@ use Rattle.ngc_run_log.specs.declared.live_fault.LiveFault.TheVariants as live
 use Rattle.ngc_run_log.specs.declared.live_form.LiveForm.{LiveForm}
 use Rattle.ngc_run_log.specs.declared.live_form.LiveForm.TheVariants as forms
 use Rattle.ngc_run_log.specs.Living.{LiveData, LivesOn}
-use Rattle.ngc_simulator.specs.declared.fault.AnswerFault.{AnswerFault}
-use Rattle.ngc_simulator.specs.declared.fault.AnswerFault.TheVariants as answers
-use Rattle.ngc_simulator.specs.Jobs.{IsNoCertificate}
+use Rattle.ngc_inputs.specs.declared.fault.AnswerFault.{AnswerFault}
+use Rattle.ngc_inputs.specs.declared.fault.AnswerFault.TheVariants as answers
+use Rattle.ngc_inputs.specs.Jobs.{IsNoCertificate}
 use Rattle.ngc_simulator.specs.Running.{IsAcceptedJob, IsRefusedWhole}
 
 -- the form that has this name, if one has; the log where none is named

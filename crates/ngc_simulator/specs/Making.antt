@@ -21,9 +21,9 @@ use Rattle.ngc_machine_maker.specs.Options.{figures_of}
 use Rattle.ngc_machine_maker.specs.Sentences.{refusal_line}
 use Rattle.ngc_setup_sheet.specs.Sheets.{warning_remarks}
 use Rattle.ngc_simulator.specs.declared.done.Notes.{Notes}
-use Rattle.ngc_simulator.specs.declared.fault.AnswerFault.{AnswerFault}
-use Rattle.ngc_simulator.specs.declared.fault.AnswerFault.TheVariants as answers
-use Rattle.ngc_simulator.specs.Setups.{FileBytes, Refuses}
+use Rattle.ngc_inputs.specs.declared.fault.AnswerFault.{AnswerFault}
+use Rattle.ngc_inputs.specs.declared.fault.AnswerFault.TheVariants as answers
+use Rattle.ngc_inputs.specs.Setups.{FileBytes, Refuses}
 
 -- steps, travel, feed and acceleration are given
 abbrev pub has_all_figures : MachineOptions → Bool

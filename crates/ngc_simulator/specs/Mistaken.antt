@@ -10,12 +10,12 @@ use Rattle.ngc_report.specs.Forms.{opening}
 use Rattle.ngc_report.specs.declared.form.Form.{Form}
 use Rattle.ngc_report.specs.declared.form.Form.TheVariants.{Words, Json}
 use Rattle.ngc_setup_sheet.specs.Mistakes.{machine_mistake_text, tools_mistake_text}
-use Rattle.ngc_simulator.specs.declared.fault.AnswerFault.{AnswerFault}
-use Rattle.ngc_simulator.specs.declared.fault.AnswerFault.TheVariants as answers
-use Rattle.ngc_simulator.specs.declared.setup.Shop.{Shop}
+use Rattle.ngc_inputs.specs.declared.fault.AnswerFault.{AnswerFault}
+use Rattle.ngc_inputs.specs.declared.fault.AnswerFault.TheVariants as answers
+use Rattle.ngc_inputs.specs.declared.setup.Shop.{Shop}
 use Rattle.ngc_program_report.specs.Texts.{ending}
-use Rattle.ngc_simulator.specs.Setups.{FileBytes}
-use Rattle.ngc_simulator.specs.Shops.{GivesShop, RefusesShop}
+use Rattle.ngc_inputs.specs.Setups.{FileBytes}
+use Rattle.ngc_inputs.specs.Shops.{GivesShop, RefusesShop}
 
 -- a document has the fault's number alone
 abbrev pub fault_document : ℕ → List ℕ

@@ -23,11 +23,11 @@ use Rattle.ngc_run_log.specs.Forms.{PulsesCome, PulsesGoThrough, SamplesCome, Sa
 use Rattle.ngc_run_log.specs.Forms.{TimesCome, TimesGoThrough}
 use Rattle.ngc_run_log.specs.Runs.{ComesTo}
 use Rattle.ngc_run_log.specs.Through.{GoesThrough}
-use Rattle.ngc_simulator.specs.declared.fault.AnswerFault.{AnswerFault}
-use Rattle.ngc_simulator.specs.declared.fault.AnswerFault.TheVariants as answers
+use Rattle.ngc_inputs.specs.declared.fault.AnswerFault.{AnswerFault}
+use Rattle.ngc_inputs.specs.declared.fault.AnswerFault.TheVariants as answers
 use Rattle.ngc_simulator.specs.declared.writing.Writing.{Writing}
 use Rattle.ngc_simulator.specs.declared.writing.Writing.TheVariants.{Log, Times, Dump, Samples}
-use Rattle.ngc_simulator.specs.Jobs.{AreGiven, IsNoCertificate}
+use Rattle.ngc_inputs.specs.Jobs.{AreGiven, IsNoCertificate}
 
 -- what a run over events comes to by what is written of it, and what a run to the end comes to
 abbrev pub RecordsRun : Writing → Job → List EventLine → Option (List ℕ) → Option (List ℕ) →

@@ -6,7 +6,7 @@ use Rattle.ngc_machine_files.specs.Machine.{MachineFile}
 use Rattle.ngc_machine_files.specs.declared.tools.Tool.{Tool}
 use Rattle.ngc_text.specs.Written.{AppendsBeginning}
 use Rattle.ngc_setup_sheet.specs.Sheets.{sheet_text, warnings_text}
-use Rattle.ngc_simulator.specs.declared.fault.AnswerFault.{AnswerFault}
+use Rattle.ngc_inputs.specs.declared.fault.AnswerFault.{AnswerFault}
 
 -- what is shown of a machine and its tools: the setup sheet, or its warnings alone
 abbrev pub shown_text : Bool → MachineFile → List Tool → List ℕ

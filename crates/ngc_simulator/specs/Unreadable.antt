@@ -13,8 +13,8 @@ use Rattle.ngc_report.specs.Quotes.{bytes_with, marked}
 use Rattle.ngc_report.specs.declared.form.Form.{Form}
 use Rattle.ngc_report.specs.declared.form.Form.TheVariants.{Words, Json}
 use Rattle.ngc_program_report.specs.Texts.{ending}
-use Rattle.ngc_simulator.specs.declared.fault.AnswerFault.{AnswerFault}
-use Rattle.ngc_simulator.specs.declared.fault.AnswerFault.TheVariants as answers
+use Rattle.ngc_inputs.specs.declared.fault.AnswerFault.{AnswerFault}
+use Rattle.ngc_inputs.specs.declared.fault.AnswerFault.TheVariants as answers
 
 abbrev pub unreadable_line : Form → List ℕ
 unreadable_line Words = codes "The program can't be read.\n"

@@ -9,20 +9,16 @@ ghost use Rattle.ngc_simulator.specs.Adapting.{Adapts, IsAsked, IsRequest, Under
 ghost use Rattle.ngc_simulator.specs.Adapting.{homes_of};
 ghost use Rattle.ngc_simulator.specs.Adapting.{IsOfProgram, IsTableFault, refused_text};
 ghost use Rattle.ngc_simulator.specs.Answers.{AdaptComes, NoRequest, adapt_inputs};
-ghost use Rattle.ngc_simulator.specs.Faults.{FailsByOutput, answer_status};
-ghost use Rattle.ngc_simulator.specs.Setups.{KeepsNamed};
-ghost use Rattle.ngc_simulator.specs.Unread.{FailsByInput, SourceFails, TellsUnread};
+ghost use Rattle.ngc_inputs.specs.Faults.{FailsByOutput, answer_status};
+ghost use Rattle.ngc_inputs.specs.Setups.{KeepsNamed};
+ghost use Rattle.ngc_inputs.specs.Unread.{FailsByInput, SourceFails, TellsUnread};
 
 use crate::done::{Done, Notes};
-use crate::fault::AnswerFault;
-use crate::fault_line::add_fault_line;
-use crate::files::Files;
-use crate::opening::open_file;
-use crate::setup::{FILE_LIMIT, read_shop};
 use ngc_adapt::{MOST_DROPPED, Options};
 use ngc_adapt_moves::Homes;
 use ngc_adapt_program::{Request, adapt_program, add_tool_table, control_named, dropped_codes};
 use ngc_command_line::AdaptOptions;
+use ngc_inputs::{AnswerFault, FILE_LIMIT, Files, add_fault_line, open_file, read_shop};
 use ngc_job::Job;
 use ngc_line_reader::Program;
 use ngc_machine_files::{Machine, Tools};

@@ -2,17 +2,14 @@
 ghost use Rattle.std.specs.Prelude.{◌≡◌, Ok, Some, option_map};
 ghost use Rattle.ngc_simulator.specs.Answers.{DrawComes, draw_inputs};
 ghost use Rattle.ngc_simulator.specs.Drawing.{view_named};
-ghost use Rattle.ngc_simulator.specs.Faults.{FailsByOutput};
-ghost use Rattle.ngc_simulator.specs.Unread.{FailsByInput, SourceFails};
+ghost use Rattle.ngc_inputs.specs.Faults.{FailsByOutput};
+ghost use Rattle.ngc_inputs.specs.Unread.{FailsByInput, SourceFails};
 
 use crate::done::Done;
 use crate::drawing::{draw_certified, draw_program, view_of};
-use crate::fault::AnswerFault;
-use crate::files::Files;
-use crate::opening::{read_certificate, read_program};
-use crate::setup::read_shop;
 use ngc_command_line::DrawOptions;
 use ngc_drawing::{Look, View};
+use ngc_inputs::{AnswerFault, Files, read_certificate, read_program, read_shop};
 use ngc_text::Sink;
 use std::alloc::Global;
 

@@ -3,11 +3,11 @@ ghost use Rattle.std.specs.Prelude.{OnErr, OnOk};
 ghost use Rattle.std.specs.Io.KnownBytes.{Appends};
 ghost use Rattle.ngc_text.specs.Failures.{CountsFailure};
 ghost use Rattle.ngc_text.specs.Written.{AppendsBeginning};
-ghost use Rattle.ngc_simulator.specs.Faults.{FailsByOutput};
+ghost use Rattle.ngc_inputs.specs.Faults.{FailsByOutput};
 ghost use Rattle.ngc_simulator.specs.Guides.{Guides, version_text};
 
-use crate::fault::AnswerFault;
 use ngc_command_line::{HelpFault, help_text};
+use ngc_inputs::AnswerFault;
 use ngc_text::{Sink, WriteFault, write_all};
 use std::alloc::Global;
 

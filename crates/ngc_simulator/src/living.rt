@@ -3,18 +3,14 @@ ghost use Rattle.std.specs.Prelude.{◌≡◌, ℕ, List, IfErr, Err, Some, opti
 ghost use Rattle.ngc_canonical.specs.State.{Setup};
 ghost use Rattle.ngc_text.specs.Failures.{Rises};
 ghost use Rattle.ngc_simulator.specs.Answers.{LiveComes, live_asked, live_inputs};
-ghost use Rattle.ngc_simulator.specs.Faults.{FailsByOutput, OfLiving};
-ghost use Rattle.ngc_simulator.specs.Judging.{IsVerdict};
+ghost use Rattle.ngc_inputs.specs.Faults.{FailsByOutput, OfLiving};
+ghost use Rattle.ngc_inputs.specs.Judging.{IsVerdict};
 ghost use Rattle.ngc_simulator.specs.Lives.{Lives, live_named};
-ghost use Rattle.ngc_simulator.specs.Unread.{FailsByInput, SourceFails};
+ghost use Rattle.ngc_inputs.specs.Unread.{FailsByInput, SourceFails};
 
 use crate::done::Done;
-use crate::fault::AnswerFault;
-use crate::files::Files;
-use crate::judging::{Verdict, judge_file};
-use crate::opening::{open_file, read_program};
-use crate::setup::read_shop;
 use ngc_command_line::LiveOptions;
+use ngc_inputs::{AnswerFault, Files, Verdict, judge_file, open_file, read_program, read_shop};
 use ngc_run_log::{LiveForm, LiveRun, feed_from};
 use ngc_text::{InputFault, Sink, Source};
 use std::alloc::{Allocator, Global};

@@ -9,18 +9,16 @@ ghost use Rattle.ngc_machine_maker.specs.InFile.{AreInFile};
 ghost use Rattle.ngc_machine_maker.specs.Ranges.{IsScale};
 ghost use Rattle.ngc_machine_maker.specs.Sentences.{refusal_line};
 ghost use Rattle.ngc_simulator.specs.Answers.{MachineComes, machine_inputs};
-ghost use Rattle.ngc_simulator.specs.Faults.{FailsByOutput};
+ghost use Rattle.ngc_inputs.specs.Faults.{FailsByOutput};
 ghost use Rattle.ngc_setup_sheet.specs.Sheets.{warning_remarks};
 ghost use Rattle.ngc_simulator.specs.Making.{AreChoices, AreFigures, IsAskedFor, IsMadeText};
 ghost use Rattle.ngc_simulator.specs.Making.{IsNotRead, IsUnmade, Makes, MakesFile};
 ghost use Rattle.ngc_simulator.specs.Making.{MakeFails, has_all_figures, has_source};
-ghost use Rattle.ngc_simulator.specs.Unread.{FailsByInput, SourceFails};
+ghost use Rattle.ngc_inputs.specs.Unread.{FailsByInput, SourceFails};
 
 use crate::done::{Done, Notes};
-use crate::fault::AnswerFault;
-use crate::files::Files;
-use crate::setup::bytes_of;
 use ngc_command_line::MachineOptions;
+use ngc_inputs::{AnswerFault, Files, bytes_of};
 use ngc_machine_files::Machine;
 use ngc_machine_maker::{
     Choices, FigureRefusal, Figures, MachineNumbers, Options, numbers_of, read_grbl,

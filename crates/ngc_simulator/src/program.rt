@@ -1,17 +1,14 @@
 ghost use Rattle.std.specs.Prelude.{◌≡◌};
 ghost use Rattle.ngc_simulator.specs.Answers.{Answers, ComesBy, IsQuiet, inputs_of};
-ghost use Rattle.ngc_simulator.specs.Faults.{FailsByOutput};
+ghost use Rattle.ngc_inputs.specs.Faults.{FailsByOutput};
 ghost use Rattle.ngc_simulator.specs.Status.{IsStatus};
-ghost use Rattle.ngc_simulator.specs.Unread.{FailsByInput, SourceFails};
+ghost use Rattle.ngc_inputs.specs.Unread.{FailsByInput, SourceFails};
 
 use crate::adapting::adapt_files;
 use crate::certifier::certify_files;
 use crate::checking::check_files;
 use crate::done::Done;
 use crate::drawing_files::draw_files;
-use crate::fault::AnswerFault;
-use crate::fault_line::add_fault_line;
-use crate::files::Files;
 use crate::guide::{write_help, write_version};
 use crate::lister::list_files;
 use crate::living::live_asked;
@@ -22,6 +19,7 @@ use crate::showing::show_files;
 use crate::through::run_through_asked;
 use ngc_command_line::Options;
 use ngc_fault_texts::{ExplainFault, explain};
+use ngc_inputs::{AnswerFault, Files, add_fault_line};
 use ngc_program_report::add_time_line;
 use ngc_text::{Chunk, Sink, write_all};
 use std::alloc::Global;

@@ -6,14 +6,14 @@ ghost use Rattle.ngc_text.specs.Failures.{Rises};
 ghost use Rattle.ngc_line_reader.specs.ProgramText.{program_of};
 ghost use Rattle.ngc_line_reader.specs.ProgramView.{text_in};
 ghost use Rattle.ngc_line_reader.specs.declared.program.fault.ReadFault.TheVariants.{Device};
-ghost use Rattle.ngc_simulator.specs.Faults.{FailsByOutput, FailsWith, OfCertifying, OfReporting};
-ghost use Rattle.ngc_simulator.specs.Jobs.{WhyNotMade};
+ghost use Rattle.ngc_inputs.specs.Faults.{FailsByOutput, FailsWith, OfCertifying, OfReporting};
+ghost use Rattle.ngc_inputs.specs.Jobs.{WhyNotMade};
 ghost use Rattle.ngc_simulator.specs.Reporting.{Reports};
 
 use crate::certifier::made_for;
-use crate::fault::AnswerFault;
 use ngc_canonical::{ProgramFault, has_deleted_lines};
 use ngc_certificate::{MakeFault, Setting};
+use ngc_inputs::AnswerFault;
 use ngc_job::Job;
 use ngc_line_reader::Program;
 use ngc_machine_files::{Machine, Tools};

@@ -1,18 +1,16 @@
 //! The report of a program, from the files that the command line names.
 ghost use Rattle.std.specs.Prelude.{◌≡◌};
 ghost use Rattle.ngc_simulator.specs.Answers.{ReportComes, form_asked, report_inputs, request_of};
-ghost use Rattle.ngc_simulator.specs.Faults.{FailsByOutput};
-ghost use Rattle.ngc_simulator.specs.Unread.{FailsByInput, SourceFails};
+ghost use Rattle.ngc_inputs.specs.Faults.{FailsByOutput};
+ghost use Rattle.ngc_inputs.specs.Unread.{FailsByInput, SourceFails};
 
 use crate::done::Done;
-use crate::fault::AnswerFault;
 use crate::faults_files::tell_faults;
-use crate::files::Files;
 use crate::mistaken_files::read_shop_telling;
-use crate::opening::open_file;
 use crate::reporting::report_program;
 use crate::unread_files::tell_unreadable;
 use ngc_command_line::ReportOptions;
+use ngc_inputs::{AnswerFault, Files, open_file};
 use ngc_program_report::ReportRequest;
 use ngc_report::Form;
 use ngc_text::Sink;

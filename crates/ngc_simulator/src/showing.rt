@@ -5,15 +5,14 @@ ghost use Rattle.ngc_text.specs.Failures.{CountsFailure};
 ghost use Rattle.ngc_text.specs.Written.{AppendsBeginning};
 ghost use Rattle.ngc_machine_files.specs.Machine.{file_of};
 ghost use Rattle.ngc_simulator.specs.Answers.{ShowComes, show_inputs};
-ghost use Rattle.ngc_simulator.specs.Faults.{FailsByOutput};
+ghost use Rattle.ngc_inputs.specs.Faults.{FailsByOutput};
 ghost use Rattle.ngc_simulator.specs.Showing.{shown_text};
-ghost use Rattle.ngc_simulator.specs.Unread.{FailsByInput, SourceFails};
+ghost use Rattle.ngc_inputs.specs.Unread.{FailsByInput, SourceFails};
 
 use crate::done::Done;
-use crate::fault::AnswerFault;
-use crate::files::Files;
 use crate::mistaken_files::read_shop_telling;
 use ngc_command_line::ShowOptions;
+use ngc_inputs::{AnswerFault, Files};
 use ngc_machine_files::{Machine, Tool};
 use ngc_report::Form;
 use ngc_setup_sheet::{write_sheet, write_warnings};

@@ -4,20 +4,16 @@ ghost use Rattle.ngc_machine_model.specs.Headline.{job_of};
 ghost use Rattle.ngc_checker.specs.Accepted.{commands_at};
 ghost use Rattle.ngc_run_log.specs.Runs.{FailsByWriting};
 ghost use Rattle.ngc_simulator.specs.Answers.{RunThroughComes, run_through_inputs, run_through_writing};
-ghost use Rattle.ngc_simulator.specs.Faults.{FailsByOutput, OfRunning};
-ghost use Rattle.ngc_simulator.specs.Judging.{IsVerdict};
+ghost use Rattle.ngc_inputs.specs.Faults.{FailsByOutput, OfRunning};
+ghost use Rattle.ngc_inputs.specs.Judging.{IsVerdict};
 ghost use Rattle.ngc_simulator.specs.Running.{RunsThrough, RecordsThrough};
-ghost use Rattle.ngc_simulator.specs.Unread.{FailsByInput, SourceFails};
+ghost use Rattle.ngc_inputs.specs.Unread.{FailsByInput, SourceFails};
 
 use crate::done::Done;
-use crate::fault::AnswerFault;
-use crate::files::Files;
-use crate::judging::{Verdict, judge_file};
-use crate::opening::read_program;
-use crate::setup::read_shop;
 use crate::writing::{Writing, writing_of};
 use ngc_checker::Accepted;
 use ngc_command_line::RunThroughOptions;
+use ngc_inputs::{AnswerFault, Files, Verdict, judge_file, read_program, read_shop};
 use ngc_program_report::RunTime;
 use ngc_run_log::{
     Report, RunFault, run_through, write_pulses_through, write_samples_through,

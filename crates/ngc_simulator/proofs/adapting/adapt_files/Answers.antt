@@ -2,9 +2,9 @@ use Rattle.std.proofs.Common.{Ok, Err, inr, ◌∙◌}
 use Rattle.ngc_program_report.proofs.WrittenLaws.{turned}
 use Rattle.ngc_adapt_program.specs.Programs.{program_written}
 use Rattle.ngc_simulator.specs.Answers.{AdaptComes, adapt_inputs}
-use Rattle.ngc_simulator.specs.Unread.{SourceFails}
+use Rattle.ngc_inputs.specs.Unread.{SourceFails}
 use Rattle.ngc_simulator.proofs.AdaptLaws.{adapted_files, not_unread, told_none}
-use Rattle.ngc_simulator.proofs.UnreadLaws.{unread_told}
+use Rattle.ngc_inputs.proofs.UnreadLaws.{unread_told}
 use Rattle.ngc_simulator.proofs.adapting.adapt_files.Goals as goal
 
 pub returns-in_err-notes-clause-comes : goal.returns-in_err-notes-clause-comes

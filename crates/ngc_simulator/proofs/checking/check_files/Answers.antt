@@ -1,13 +1,13 @@
 use Rattle.std.proofs.Common.{[], ◌∷◌, ◌++◌, Some, Ok, Err, ap, refl, ◌∙◌, inl, inr}
 use Rattle.ngc_simulator.proofs.FileLaws.{checked_files, unread_files}
 use Rattle.ngc_program_report.proofs.WrittenLaws.{turned}
-use Rattle.ngc_simulator.proofs.JobLaws.{if_known, keeps_same}
+use Rattle.ngc_inputs.proofs.JobLaws.{if_known, keeps_same}
 use Rattle.ngc_simulator.specs.Answers.{certificate_input, program_input, CheckComes, check_inputs}
-use Rattle.ngc_simulator.specs.Faults.{OfChecking}
-use Rattle.ngc_simulator.specs.Unread.{OfCertificate, OfProgram, SourceFails, program_unread, shop_inputs, unread_by}
-use Rattle.ngc_simulator.specs.declared.fault.AnswerFault.TheVariants as answers
+use Rattle.ngc_inputs.specs.Faults.{OfChecking}
+use Rattle.ngc_inputs.specs.Unread.{OfCertificate, OfProgram, SourceFails, program_unread, shop_inputs, unread_by}
+use Rattle.ngc_inputs.specs.declared.fault.AnswerFault.TheVariants as answers
 use Rattle.ngc_simulator.proofs.FileLaws.{or_of_reading}
-use Rattle.ngc_simulator.proofs.UnreadLaws.{all_read, check_told, is_read, shop_read, told_before, told_behind, unopened, unread_told}
+use Rattle.ngc_inputs.proofs.UnreadLaws.{all_read, check_told, is_read, shop_read, told_before, told_behind, unopened, unread_told}
 use Rattle.std.specs.Prelude.{option_map}
 use Rattle.ngc_line_reader.specs.ProgramText.{program_of}
 use Rattle.ngc_simulator.proofs.checking.check_files.Goals as goal

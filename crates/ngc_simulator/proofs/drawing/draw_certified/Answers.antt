@@ -4,11 +4,11 @@ use Rattle.ngc_certificate_text.specs.Certificate.{entries_at}
 use Rattle.ngc_certificate_text.specs.Contents.{said_of}
 use Rattle.ngc_line_reader.specs.ProgramView.{text_in}
 use Rattle.ngc_simulator.specs.Drawing.{DrawsGiven, IsGivenRefusal, fault_at, refusal_answer, setting_of}
-use Rattle.ngc_simulator.specs.Faults.{of_picture}
-use Rattle.ngc_simulator.specs.declared.fault.AnswerFault.TheVariants as answers
+use Rattle.ngc_inputs.specs.Faults.{of_picture}
+use Rattle.ngc_inputs.specs.declared.fault.AnswerFault.TheVariants as answers
 use Rattle.ngc_simulator.proofs.DrawLaws.{drawing_stopped, drawn, given_fault, given_stopped, refused_program}
 use Rattle.ngc_program_report.proofs.WrittenLaws.{turned}
-use Rattle.ngc_simulator.proofs.JobLaws.{keeps_same}
+use Rattle.ngc_inputs.proofs.JobLaws.{keeps_same}
 use Rattle.ngc_simulator.proofs.drawing.draw_certified.Goals as goal
 
 pub returns-in_err-commands-clause-draws : goal.returns-in_err-commands-clause-draws

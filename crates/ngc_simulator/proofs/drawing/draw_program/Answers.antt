@@ -2,11 +2,11 @@ use Rattle.std.proofs.Common.{[], Err, ap}
 use Rattle.ngc_canonical.specs.Interpreter.{setup_of}
 use Rattle.ngc_line_reader.specs.ProgramView.{text_in}
 use Rattle.ngc_simulator.specs.Drawing.{DrawsProgram, IsMadeRefusal}
-use Rattle.ngc_simulator.specs.Faults.{of_picture}
-use Rattle.ngc_simulator.specs.declared.fault.AnswerFault.TheVariants as answers
+use Rattle.ngc_inputs.specs.Faults.{of_picture}
+use Rattle.ngc_inputs.specs.declared.fault.AnswerFault.TheVariants as answers
 use Rattle.ngc_simulator.proofs.DrawLaws.{drawing_stopped, drawn, no_memory, refused_program}
 use Rattle.ngc_program_report.proofs.WrittenLaws.{turned}
-use Rattle.ngc_simulator.proofs.JobLaws.{keeps_same}
+use Rattle.ngc_inputs.proofs.JobLaws.{keeps_same}
 use Rattle.ngc_simulator.proofs.drawing.draw_program.Goals as goal
 
 pub returns-in_err-commands-clause-draws : goal.returns-in_err-commands-clause-draws

@@ -1,14 +1,14 @@
 use Rattle.std.proofs.Common.{◌∷◌, Some, Ok, Err, ap, ◌∙◌, inl, inr}
 use Rattle.std.specs.Prelude.{option_map}
-use Rattle.ngc_simulator.specs.declared.fault.AnswerFault.TheVariants as answers
+use Rattle.ngc_inputs.specs.declared.fault.AnswerFault.TheVariants as answers
 use Rattle.ngc_simulator.specs.Answers.{certificate_inputs, draw_inputs, program_input, DrawComes}
-use Rattle.ngc_simulator.specs.Faults.{OfDrawing}
-use Rattle.ngc_simulator.specs.Unread.{OfProgram, SourceFails, program_unread, shop_inputs, unread_by}
+use Rattle.ngc_inputs.specs.Faults.{OfDrawing}
+use Rattle.ngc_inputs.specs.Unread.{OfProgram, SourceFails, program_unread, shop_inputs, unread_by}
 use Rattle.ngc_simulator.proofs.DrawLaws.{plain_files}
 use Rattle.ngc_simulator.proofs.FileLaws.{or_of_reading}
 use Rattle.ngc_program_report.proofs.WrittenLaws.{turned}
-use Rattle.ngc_simulator.proofs.JobLaws.{keeps_same}
-use Rattle.ngc_simulator.proofs.UnreadLaws.{draw_told, shop_read, told_before, told_behind, unread_told}
+use Rattle.ngc_inputs.proofs.JobLaws.{keeps_same}
+use Rattle.ngc_inputs.proofs.UnreadLaws.{draw_told, shop_read, told_before, told_behind, unread_told}
 use Rattle.ngc_simulator.proofs.drawing_files.draw_plain.Goals as goal
 
 pub returns-in_err-shop-clause-comes : goal.returns-in_err-shop-clause-comes

@@ -3,16 +3,16 @@ use Rattle.std.specs.contracts.alloc.Global
 use Rattle.std.specs.Prelude.{option_map}
 use Rattle.ngc_certificate_text.specs.Contents.{said_of}
 use Rattle.ngc_line_reader.specs.ProgramText.{program_of}
-use Rattle.ngc_simulator.specs.declared.fault.AnswerFault.TheVariants as answers
+use Rattle.ngc_inputs.specs.declared.fault.AnswerFault.TheVariants as answers
 use Rattle.ngc_simulator.specs.Answers.{certificate_inputs, draw_inputs, program_input, DrawComes}
-use Rattle.ngc_simulator.specs.Faults.{OfDrawing}
-use Rattle.ngc_simulator.specs.Unread.{Input, OfCertificate, OfProgram, SourceFails, certificate_unread, program_unread, shop_inputs, unread_by}
+use Rattle.ngc_inputs.specs.Faults.{OfDrawing}
+use Rattle.ngc_inputs.specs.Unread.{Input, OfCertificate, OfProgram, SourceFails, certificate_unread, program_unread, shop_inputs, unread_by}
 use Rattle.ngc_simulator.proofs.DrawLaws.{given_files, with_certificate}
 use Rattle.ngc_simulator.proofs.FileLaws.{all_known, or_of_reading}
 use Rattle.ngc_program_report.proofs.WrittenLaws.{turned}
-use Rattle.ngc_simulator.proofs.JobLaws.{keeps_same}
+use Rattle.ngc_inputs.proofs.JobLaws.{keeps_same}
 use Rattle.ngc_simulator.proofs.RunLaws.{no_certificate}
-use Rattle.ngc_simulator.proofs.UnreadLaws.{Told, all_read, draw_told, is_read, shop_read, told_before, told_behind, unread_told}
+use Rattle.ngc_inputs.proofs.UnreadLaws.{Told, all_read, draw_told, is_read, shop_read, told_before, told_behind, unread_told}
 use Rattle.ngc_simulator.proofs.drawing_files.draw_with.Goals as goal
 
 pub returns-in_err-shop-clause-comes : goal.returns-in_err-shop-clause-comes

@@ -1,6 +1,6 @@
 use Rattle.std.proofs.Common.{Some, ◌∷◌, []}
 use Rattle.ngc_simulator.specs.Answers.{program_input}
-use Rattle.ngc_simulator.specs.Unread.{SourceFails}
+use Rattle.ngc_inputs.specs.Unread.{SourceFails}
 use Rattle.ngc_simulator.proofs.FaultsLaws.{all_read}
 use Rattle.ngc_simulator.proofs.faults_files.tell_named.Goals as goal
 

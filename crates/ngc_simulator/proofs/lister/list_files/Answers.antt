@@ -1,11 +1,11 @@
 use Rattle.std.proofs.Common.{[], ◌∷◌, Ok, Err, ap, ◌∙◌, inl, inr}
 use Rattle.ngc_simulator.proofs.FileLaws.{listed}
 use Rattle.ngc_program_report.proofs.WrittenLaws.{turned}
-use Rattle.ngc_simulator.proofs.JobLaws.{keeps_same}
+use Rattle.ngc_inputs.proofs.JobLaws.{keeps_same}
 use Rattle.ngc_simulator.specs.Answers.{program_input, ListComes, list_inputs}
-use Rattle.ngc_simulator.specs.Unread.{OfProgram, SourceFails, shop_inputs, unread_by}
-use Rattle.ngc_simulator.specs.declared.fault.AnswerFault.TheVariants as answers
-use Rattle.ngc_simulator.proofs.UnreadLaws.{list_told, shop_read, told_before, unopened, unread_told}
+use Rattle.ngc_inputs.specs.Unread.{OfProgram, SourceFails, shop_inputs, unread_by}
+use Rattle.ngc_inputs.specs.declared.fault.AnswerFault.TheVariants as answers
+use Rattle.ngc_inputs.proofs.UnreadLaws.{list_told, shop_read, told_before, unopened, unread_told}
 use Rattle.std.specs.Prelude.{option_map}
 use Rattle.ngc_simulator.proofs.lister.list_files.Goals as goal
 

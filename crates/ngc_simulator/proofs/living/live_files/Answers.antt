@@ -1,17 +1,17 @@
 use Rattle.std.proofs.Common.{[], ◌∷◌, ◌++◌, None, Some, Ok, Err, inl, inr, ap, refl, ◌∙◌}
 use Rattle.ngc_canonical.specs.Interpreter.{setup_of}
-use Rattle.ngc_simulator.specs.declared.fault.AnswerFault.TheVariants as answers
+use Rattle.ngc_inputs.specs.declared.fault.AnswerFault.TheVariants as answers
 use Rattle.ngc_simulator.proofs.FileLaws.{all_known, or_of_reading}
 use Rattle.ngc_program_report.proofs.WrittenLaws.{turned}
-use Rattle.ngc_simulator.proofs.JobLaws.{keeps_same}
+use Rattle.ngc_inputs.proofs.JobLaws.{keeps_same}
 use Rattle.ngc_simulator.proofs.LiveLaws.{from_input, lived_files}
-use Rattle.ngc_simulator.specs.Faults.{OfLiving}
+use Rattle.ngc_inputs.specs.Faults.{OfLiving}
 use Rattle.ngc_simulator.specs.Answers.{LiveComes, certificate_input, live_inputs, program_input}
-use Rattle.ngc_simulator.specs.Unread.{OfCertificate, OfProgram, OfSource, SourceFails, certificate_unread, program_unread, shop_inputs, unread_by}
-use Rattle.ngc_simulator.proofs.UnreadLaws.{all_read, is_read, live_told, shop_read, told_before, told_behind, unopened, unread_told}
+use Rattle.ngc_inputs.specs.Unread.{OfCertificate, OfProgram, OfSource, SourceFails, certificate_unread, program_unread, shop_inputs, unread_by}
+use Rattle.ngc_inputs.proofs.UnreadLaws.{all_read, is_read, live_told, shop_read, told_before, told_behind, unopened, unread_told}
 use Rattle.ngc_line_reader.specs.ProgramText.{program_of}
 use Rattle.ngc_line_reader.specs.ProgramView.{text_in}
-use Rattle.ngc_simulator.proofs.JudgingLaws.{judged_is_read, verdict_on}
+use Rattle.ngc_inputs.proofs.JudgingLaws.{judged_is_read, verdict_on}
 use Rattle.ngc_simulator.proofs.living.live_files.Goals as goal
 
 pub returns-in_err-shop-clause-comes : goal.returns-in_err-shop-clause-comes

@@ -7,8 +7,8 @@ use Rattle.ngc_program_report.proofs.WrittenLaws.{turned}
 use Rattle.ngc_text.specs.Written.{AppendsBeginning}
 use Rattle.std.specs.Io.KnownBytes.{Appends}
 use Rattle.ngc_simulator.specs.Making.{Makes, WritesNumbers}
-use Rattle.ngc_simulator.specs.declared.fault.AnswerFault.TheVariants as answers
-use Rattle.ngc_simulator.proofs.JobLaws.{keeps_same}
+use Rattle.ngc_inputs.specs.declared.fault.AnswerFault.TheVariants as answers
+use Rattle.ngc_inputs.proofs.JobLaws.{keeps_same}
 use Rattle.ngc_simulator.proofs.MakingLaws.{of_no_error, unmade}
 use Rattle.ngc_simulator.proofs.making.make.Goals as goal
 

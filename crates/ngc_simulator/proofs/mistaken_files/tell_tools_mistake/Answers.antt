@@ -1,6 +1,6 @@
 use Rattle.std.proofs.Common.{Some}
-use Rattle.ngc_simulator.specs.Unread.{OfTools, SourceFails, setup_input}
-use Rattle.ngc_simulator.proofs.UnreadLaws.{nothing_read}
+use Rattle.ngc_inputs.specs.Unread.{OfTools, SourceFails, setup_input}
+use Rattle.ngc_inputs.proofs.UnreadLaws.{nothing_read}
 use Rattle.ngc_simulator.proofs.mistaken_files.tell_tools_mistake.Goals as goal
 
 pub returns-in-Json-clause-unread : goal.returns-in-Json-clause-unread

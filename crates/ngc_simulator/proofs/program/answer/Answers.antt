@@ -1,6 +1,6 @@
 use Rattle.std.proofs.Common.{rules, Ok, Err, ap, refl, subst, ◌++◌, ◌∙◌}
 use Rattle.ngc_simulator.specs.Answers.{ComesBy}
-use Rattle.ngc_simulator.specs.Faults.{fault_line}
+use Rattle.ngc_inputs.specs.Faults.{fault_line}
 use Rattle.ngc_program_report.specs.Times.{time_line}
 use Rattle.ngc_simulator.specs.declared.done.Done.{Done}
 use Rattle.ngc_simulator.specs.declared.done.Done.TheVariants.{RunThrough}

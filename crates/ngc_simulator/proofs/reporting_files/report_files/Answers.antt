@@ -3,16 +3,16 @@ use Rattle.ngc_canonical.specs.Interpreter.{setup_of}
 use Rattle.ngc_report.specs.declared.form.Form.{Form}
 use Rattle.std.specs.Io.KnownBytes.{Keeps}
 use Rattle.ngc_program_report.proofs.WrittenLaws.{turned}
-use Rattle.ngc_simulator.proofs.JobLaws.{keeps_same}
+use Rattle.ngc_inputs.proofs.JobLaws.{keeps_same}
 use Rattle.ngc_simulator.proofs.ReportLaws.{asked, reported_files}
 use Rattle.ngc_simulator.specs.Answers.{ReportComes, ReportsOn, program_input, request_of, report_inputs}
 use Rattle.ngc_simulator.specs.AllFaults.{TellsFaults}
 use Rattle.ngc_simulator.specs.Mistaken.{TellsRefusal}
 use Rattle.ngc_simulator.specs.Reporting.{Reports}
-use Rattle.ngc_simulator.specs.Unread.{OfProgram, SourceFails, shop_inputs, unread_by}
-use Rattle.ngc_simulator.specs.declared.fault.AnswerFault.{AnswerFault}
-use Rattle.ngc_simulator.specs.declared.fault.AnswerFault.TheVariants as answers
-use Rattle.ngc_simulator.proofs.UnreadLaws.{certify_told, program_again, shop_read, told_before, told_behind, unopened, unread_told}
+use Rattle.ngc_inputs.specs.Unread.{OfProgram, SourceFails, shop_inputs, unread_by}
+use Rattle.ngc_inputs.specs.declared.fault.AnswerFault.{AnswerFault}
+use Rattle.ngc_inputs.specs.declared.fault.AnswerFault.TheVariants as answers
+use Rattle.ngc_inputs.proofs.UnreadLaws.{certify_told, program_again, shop_read, told_before, told_behind, unopened, unread_told}
 use Rattle.ngc_simulator.proofs.UnreadableLaws.{TellsKnown, faults_comes, reported_comes, told_comes}
 use Rattle.std.specs.Prelude.{IsSome, option_map}
 use Rattle.ngc_simulator.proofs.reporting_files.report_files.Goals as goal

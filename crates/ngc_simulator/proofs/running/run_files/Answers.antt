@@ -1,18 +1,18 @@
 use Rattle.std.proofs.Common.{[], ◌∷◌, ◌++◌, Some, Ok, Err, inl, refl, ◌∙◌, inr}
 use Rattle.ngc_canonical.specs.Interpreter.{setup_of}
-use Rattle.ngc_simulator.specs.declared.fault.AnswerFault.TheVariants as answers
+use Rattle.ngc_inputs.specs.declared.fault.AnswerFault.TheVariants as answers
 use Rattle.ngc_simulator.proofs.FileLaws.{all_known, or_of_reading}
 use Rattle.ngc_program_report.proofs.WrittenLaws.{turned}
-use Rattle.ngc_simulator.proofs.JobLaws.{keeps_same}
+use Rattle.ngc_inputs.proofs.JobLaws.{keeps_same}
 use Rattle.ngc_simulator.proofs.RunLaws.{ran_files, run_over}
-use Rattle.ngc_simulator.specs.Faults.{OfRunning}
+use Rattle.ngc_inputs.specs.Faults.{OfRunning}
 use Rattle.ngc_simulator.specs.Answers.{certificate_input, events_input, program_input, run_inputs, RunComes}
-use Rattle.ngc_simulator.specs.Unread.{OfCertificate, OfEvents, OfProgram, SourceFails, certificate_unread, program_unread, shop_inputs, unread_by}
-use Rattle.ngc_simulator.proofs.UnreadLaws.{all_read, is_read, run_told, shop_read, told_before, told_behind, unread_told}
+use Rattle.ngc_inputs.specs.Unread.{OfCertificate, OfEvents, OfProgram, SourceFails, certificate_unread, program_unread, shop_inputs, unread_by}
+use Rattle.ngc_inputs.proofs.UnreadLaws.{all_read, is_read, run_told, shop_read, told_before, told_behind, unread_told}
 use Rattle.std.specs.Prelude.{option_map}
 use Rattle.ngc_line_reader.specs.ProgramText.{program_of}
 use Rattle.ngc_line_reader.specs.ProgramView.{text_in}
-use Rattle.ngc_simulator.proofs.JudgingLaws.{judged_is_read, verdict_on}
+use Rattle.ngc_inputs.proofs.JudgingLaws.{judged_is_read, verdict_on}
 use Rattle.ngc_simulator.proofs.running.run_files.Goals as goal
 
 pub returns-in_err-shop-clause-comes : goal.returns-in_err-shop-clause-comes

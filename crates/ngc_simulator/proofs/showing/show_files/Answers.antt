@@ -7,14 +7,14 @@ use Rattle.ngc_text.specs.Written.{AppendsBeginning}
 use Rattle.ngc_machine_files.specs.Machine.{file_of}
 use Rattle.ngc_machine_files.specs.declared.tools.Tool.{Tool}
 use Rattle.ngc_simulator.specs.Answers.{ShowsOn, ShowComes}
-use Rattle.ngc_simulator.specs.Setups.{FileBytes}
-use Rattle.ngc_simulator.specs.Shops.{GivesShop}
+use Rattle.ngc_inputs.specs.Setups.{FileBytes}
+use Rattle.ngc_inputs.specs.Shops.{GivesShop}
 use Rattle.ngc_simulator.specs.Showing.{Shows, shown_text}
-use Rattle.ngc_simulator.specs.declared.fault.AnswerFault.{AnswerFault}
-use Rattle.ngc_simulator.specs.declared.fault.AnswerFault.TheVariants as answers
-use Rattle.ngc_simulator.specs.declared.setup.Shop.{Shop}
+use Rattle.ngc_inputs.specs.declared.fault.AnswerFault.{AnswerFault}
+use Rattle.ngc_inputs.specs.declared.fault.AnswerFault.TheVariants as answers
+use Rattle.ngc_inputs.specs.declared.setup.Shop.{Shop}
 use Rattle.ngc_program_report.proofs.WrittenLaws.{turned}
-use Rattle.ngc_simulator.proofs.SetupLaws.{on_setup}
+use Rattle.ngc_inputs.proofs.SetupLaws.{on_setup}
 use Rattle.ngc_simulator.proofs.showing.show_files.Goals as goal
 
 shown : (bytes : FileBytes) (options : ShowOptions) (shop : Shop) (old new : Option (List ℕ)) (outcome : Result (Unit {0}) AnswerFault)

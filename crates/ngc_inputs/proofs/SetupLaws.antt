@@ -1,0 +1,68 @@
+-- What is said of a file's text, and of what the files of a run say.
+use Rattle.std.proofs.Common.{◌≡◌, ℕ, List, [], Option, Some, None, Result, Ok, Err, IfSome, refl, subst, sym, ◌∙◌}
+use Rattle.std.specs.Prelude.{IsOk}
+use Rattle.ngc_canonical.specs.State.{Setup}
+use Rattle.ngc_machine_files.specs.Machine.{MachineFile, built_in_machine}
+use Rattle.ngc_machine_files.specs.MachineText.{machine_file}
+use Rattle.ngc_machine_files.specs.ToolText.{tool_table}
+use Rattle.ngc_machine_files.specs.declared.fault.FileFault.{FileFault}
+use Rattle.ngc_machine_files.specs.declared.tools.Tool.{Tool}
+use Rattle.ngc_inputs.specs.Setups.{FileBytes, IfSaid, KeepsFiles, IfMachine, IfTools, OnSetup, AreSetup, Refuses}
+use Rattle.ngc_inputs.specs.Shops.{RefusesMachine, RefusesShop, RefusesTools}
+use Rattle.ngc_inputs.specs.declared.fault.AnswerFault.{AnswerFault}
+use Rattle.ngc_inputs.specs.declared.fault.AnswerFault.TheVariants as answers
+
+-- of the bytes that were read, and so of those of the file
+pub carried : (known : Option (List ℕ)) (items slice : List ℕ) (P : List ℕ → Type 0) → slice ≡ items → IfSome known (λ bytes. items ≡ bytes) → P slice →
+    IfSome known P
+carried None items slice P same read p = tt
+carried (Some bytes) items slice P same read p = subst P (same ∙ read) p
+
+-- what holds of it holds where more holds
+pub said_weaker : {T : Type 0} (read : List ℕ → Result T FileFault) (builtin : T) (bytes : FileBytes) (name : Option (List ℕ))
+    (P Q : Result T FileFault → Type 0)
+    → ((says : Result T FileFault) → P says → Q says) → IfSaid read builtin bytes name P → IfSaid read builtin bytes name Q
+said_weaker read builtin bytes None P Q on p = on (Ok builtin) p
+said_weaker read builtin bytes (Some name) P Q on p = some_weaker (bytes (Some name)) p where
+  some_weaker : (known : Option (List ℕ)) → IfSome known (λ text. P (read text)) → IfSome known (λ text. Q (read text))
+  some_weaker None p = tt
+  some_weaker (Some text) p = on (read text) p
+
+-- files that were kept say what they said
+pub said_before : {T : Type 0} (read : List ℕ → Result T FileFault) (builtin : T) (old new : FileBytes) (name : Option (List ℕ))
+    (P : Result T FileFault → Type 0)
+    → KeepsFiles old new → IfSaid read builtin new name P → IfSaid read builtin old name P
+said_before read builtin old new None P keeps p = p
+said_before read builtin old new (Some name) P keeps p = subst (λ (known : Option (List ℕ)). IfSome known (λ text. P (read text))) (keeps (Some name)) p
+
+-- what holds of the machine and the tools that were read holds on what the two files say
+pub on_setup : (bytes : FileBytes) (machine tools : Option (List ℕ)) (setup : Setup) (P : Setup → Type 0)
+    → IfMachine bytes machine (λ says. says ≡ Ok setup.machine) → IfTools bytes tools (λ says. says ≡ Ok setup.tools) → P setup
+    → OnSetup bytes machine tools P
+on_setup bytes machine tools setup P machine_said tools_said p =
+    said_weaker machine_file built_in_machine bytes machine (λ says. says ≡ Ok setup.machine)
+    (λ m. IfTools bytes tools (λ t. (s : Setup) × AreSetup m t s × P s))
+    (λ m said_m.
+    said_weaker tool_table [] bytes tools (λ says. says ≡ Ok setup.tools) (λ t. (s : Setup) × AreSetup m t s × P s)
+    (λ t said_t. (setup, record { machine_said = said_m; tools_said = said_t }, p)) tools_said)
+    machine_said
+
+-- of a file's bytes, from a source that gives them
+pub of_file : (known source : Option (List ℕ)) (P : List ℕ → Type 0) → source ≡ known → IfSome source P → IfSome known P
+of_file known source P is p = subst (λ (k : Option (List ℕ)). IfSome k P) is p
+
+-- a machine file that is refused, and a tool table that is behind a machine file that was read
+pub refused_machine : (bytes : FileBytes) (machine tools : Option (List ℕ)) (fault : AnswerFault) → RefusesMachine bytes machine fault →
+    RefusesShop bytes machine tools fault
+refused_machine bytes machine tools (answers.Machine e) refuses = refuses
+refused_machine bytes machine tools (answers.Input e) refuses = tt
+refused_machine bytes machine tools _ refuses = absurd refuses
+
+pub refused_tools : (bytes after : FileBytes) (machine tools : Option (List ℕ)) (m : MachineFile) (fault : AnswerFault)
+    → IfMachine bytes machine (λ says. says ≡ Ok m) → KeepsFiles bytes after → RefusesTools after tools fault → RefusesShop bytes machine tools fault
+refused_tools bytes after machine tools m (answers.Tools e) read keeps refuses = (
+  said_weaker machine_file built_in_machine bytes machine (λ says. says ≡ Ok m) IsOk (λ says is_m. subst IsOk (sym is_m) refl) read,
+  said_before tool_table [] bytes after tools (Refuses e) keeps refuses,
+)
+refused_tools bytes after machine tools m (answers.Input e) read keeps refuses = tt
+refused_tools bytes after machine tools m _ read keeps refuses = absurd refuses

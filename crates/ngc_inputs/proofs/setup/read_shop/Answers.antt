@@ -1,0 +1,42 @@
+use Rattle.std.specs.Prelude.{option_map}
+use Rattle.ngc_machine_files.specs.Machine.{file_of}
+use Rattle.ngc_inputs.specs.Unread.{OfMachine, OfTools, SourceFails, setup_input, shop_inputs, unread_by}
+use Rattle.ngc_program_report.proofs.WrittenLaws.{turned}
+use Rattle.ngc_inputs.proofs.SetupLaws.{refused_machine, refused_tools}
+use Rattle.ngc_inputs.proofs.UnreadLaws.{machine_read, told_before, tools_told, unread_told}
+use Rattle.ngc_inputs.specs.Shops.{GivesShop}
+use Rattle.ngc_inputs.proofs.setup.read_shop.Goals as goal
+
+pub returns-in_err-machine-clause-said : goal.returns-in_err-machine-clause-said
+returns-in_err-machine-clause-said g c =
+    turned _ c.in_err-machine.field-0.0
+    (GivesShop (g.F.Files.bytes c.args.files.now) (option_map (λ n. n.now) c.args.machine) (option_map (λ n. n.now) c.args.tools)) c.from_residual.ensures.1
+    (refused_machine (g.F.Files.bytes c.args.files.now) (option_map (λ n. n.now) c.args.machine)
+    (option_map (λ n. n.now) c.args.tools) c.in_err-machine.field-0.0 c.in_err-machine.ensures.said)
+
+pub returns-in_err-tools-clause-said : goal.returns-in_err-tools-clause-said
+returns-in_err-tools-clause-said g c =
+    turned _ c.in_err-tools.field-0.0
+    (GivesShop (g.F.Files.bytes c.args.files.now) (option_map (λ n. n.now) c.args.machine) (option_map (λ n. n.now) c.args.tools))
+    c.from_residual-in_err-tools.ensures.1
+    (refused_tools (g.F.Files.bytes c.args.files.now) (g.F.Files.bytes c.read_machine.new.files) (option_map (λ n. n.now) c.args.machine)
+    (option_map (λ n. n.now) c.args.tools) (file_of c.in_ok-machine.machine) c.in_err-tools.field-0.0
+    c.in_ok-machine.ensures.said c.read_machine.ensures.keeps c.in_err-tools.ensures.said)
+
+pub returns-in_err-machine-clause-unread : goal.returns-in_err-machine-clause-unread
+returns-in_err-machine-clause-unread g c =
+    unread_told (SourceFails g.F.R.Source.remaining g.F.R.Source.failures) (g.F.Files.bytes c.args.files.now)
+    (shop_inputs (option_map (λ n. n.now) c.args.machine) (option_map (λ n. n.now) c.args.tools)) _ _ _ c.in_err-machine.field-0.0 c.from_residual.ensures.1
+    (told_before (SourceFails g.F.R.Source.remaining g.F.R.Source.failures) (g.F.Files.bytes c.args.files.now)
+    (setup_input OfMachine (option_map (λ n. n.now) c.args.machine)) (setup_input OfTools (option_map (λ n. n.now) c.args.tools)) _ _
+    (unread_by c.in_err-machine.field-0.0) c.in_err-machine.ensures.unread)
+
+pub returns-in_err-tools-clause-unread : goal.returns-in_err-tools-clause-unread
+returns-in_err-tools-clause-unread g c =
+    unread_told (SourceFails g.F.R.Source.remaining g.F.R.Source.failures) (g.F.Files.bytes c.args.files.now)
+    (shop_inputs (option_map (λ n. n.now) c.args.machine) (option_map (λ n. n.now) c.args.tools)) _ _ _ c.in_err-tools.field-0.0
+    c.from_residual-in_err-tools.ensures.1
+    (tools_told (SourceFails g.F.R.Source.remaining g.F.R.Source.failures) (g.F.Files.bytes c.args.files.now) (g.F.Files.bytes c.read_machine.new.files)
+    (option_map (λ n. n.now) c.args.machine) (option_map (λ n. n.now) c.args.tools) _ _ _ (unread_by c.in_err-tools.field-0.0)
+    (machine_read _ _ (file_of c.in_ok-machine.machine) c.in_ok-machine.ensures.said) c.read_machine.ensures.keeps c.in_ok-machine.ensures.unread
+    c.in_err-tools.ensures.unread)

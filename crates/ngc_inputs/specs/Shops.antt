@@ -1,0 +1,33 @@
+-- What reading the machine file and the tool table comes to.
+use Rattle.std.specs.Prelude.{◌≡◌, ℕ, List, Option, Result, Ok, Err, IsOk}
+use Rattle.ngc_machine_files.specs.Machine.{file_of}
+use Rattle.ngc_machine_files.specs.Tools.{tools_of}
+use Rattle.ngc_inputs.specs.declared.fault.AnswerFault.{AnswerFault}
+use Rattle.ngc_inputs.specs.declared.fault.AnswerFault.TheVariants as answers
+use Rattle.ngc_inputs.specs.declared.setup.Shop.{Shop}
+use Rattle.ngc_inputs.specs.Setups.{FileBytes, IfMachine, IfTools, Refuses}
+
+-- a machine file, or a tool table, is refused or isn't read
+abbrev pub RefusesMachine : FileBytes → Option (List ℕ) → AnswerFault → Type 0
+RefusesMachine bytes name (answers.Machine e) = IfMachine bytes name (Refuses e)
+RefusesMachine bytes name (answers.Input e) = Unit {0}
+RefusesMachine bytes name _ = ⊥
+
+abbrev pub RefusesTools : FileBytes → Option (List ℕ) → AnswerFault → Type 0
+RefusesTools bytes name (answers.Tools e) = IfTools bytes name (Refuses e)
+RefusesTools bytes name (answers.Input e) = Unit {0}
+RefusesTools bytes name _ = ⊥
+
+-- a refusal of one of the two files is that file's, and a tool table is refused behind a machine
+-- file that isn't
+abbrev pub RefusesShop : FileBytes → Option (List ℕ) → Option (List ℕ) → AnswerFault → Type 0
+RefusesShop bytes machine tools (answers.Tools e) =
+    IfMachine bytes machine IsOk × RefusesTools bytes tools (answers.Tools e)
+RefusesShop bytes machine tools fault = RefusesMachine bytes machine fault
+
+abbrev pub GivesShop : FileBytes → Option (List ℕ) → Option (List ℕ) →
+    Result Shop AnswerFault → Type 0
+GivesShop bytes machine tools (Ok shop) =
+    IfMachine bytes machine (λ says. says ≡ Ok (file_of shop.machine)) ×
+    IfTools bytes tools (λ says. says ≡ Ok (tools_of shop.tools))
+GivesShop bytes machine tools (Err fault) = RefusesShop bytes machine tools fault

@@ -1,0 +1,128 @@
+-- Which file isn't read, and why. Our own.
+use Rattle.std.specs.Prelude.{◌≡◌, ◌<◌, ◌⊎◌, ℕ, List, [], ◌∷◌, ◌++◌, length, Option, Some, None}
+use Rattle.std.specs.Prelude.{MatchOption, Result, Ok, Err, IsOk, IfSome}
+use Rattle.ngc_certificate_text.specs.Said.{certificate_said}
+use Rattle.ngc_certificate_text.specs.declared.fault.CertificateFault.{CertificateFault}
+use Rattle.ngc_certificate_text.specs.declared.fault.CertificateFault.TheVariants as texts
+use Rattle.ngc_events.specs.Events.{events_said}
+use Rattle.ngc_text.specs.Failures.{Rises}
+use Rattle.ngc_text.specs.declared.input_fault.InputFault.{InputFault}
+use Rattle.ngc_text.specs.declared.input_fault.InputFault.TheVariants as inputs
+use Rattle.ngc_line_reader.specs.ProgramText.{program_of}
+use Rattle.ngc_line_reader.specs.declared.program.fault.ReadFault.{ReadFault}
+use Rattle.ngc_line_reader.specs.declared.program.fault.ReadFault.TheVariants as reads
+use Rattle.ngc_machine_files.specs.MachineText.{machine_file}
+use Rattle.ngc_machine_files.specs.ToolText.{tool_table}
+use Rattle.ngc_inputs.specs.declared.fault.AnswerFault.{AnswerFault}
+use Rattle.ngc_inputs.specs.declared.fault.AnswerFault.TheVariants as answers
+use Rattle.ngc_inputs.specs.declared.setup.TheConstants.{FILE_LIMIT}
+use Rattle.ngc_inputs.specs.Setups.{FileBytes}
+
+-- ---- the files of a command
+
+-- what a file is read as
+pub data Kind : Type 0 where
+  OfMachine : Kind
+  OfTools : Kind
+  OfProgram : Kind
+  OfCertificate : Kind
+  OfEvents : Kind
+  OfSource : Kind
+
+-- what a text is read as is not refused
+abbrev pub IsReadAs : Kind → List ℕ → Type 0
+IsReadAs OfMachine text = IsOk (machine_file text)
+IsReadAs OfTools text = IsOk (tool_table text)
+IsReadAs OfProgram text = IsOk (program_of text)
+IsReadAs OfCertificate text = IsOk (certificate_said text)
+IsReadAs OfEvents text = IsOk (events_said text)
+IsReadAs OfSource text = Unit {0}
+
+-- a file that a command reads: what it is read as, and its name, or standard input
+pub record Input : Type 0 where
+  pub kind : Kind
+  pub name : Option (List ℕ)
+
+-- a machine file or a tool table, where one is named
+abbrev pub setup_input : Kind → Option (List ℕ) → List Input
+setup_input kind None = []
+setup_input kind (Some name) = record { kind = kind; name = Some name } ∷ []
+
+abbrev pub shop_inputs : Option (List ℕ) → Option (List ℕ) → List Input
+shop_inputs machine tools = setup_input OfMachine machine ++ setup_input OfTools tools
+
+-- P of one of these files, and those before it are read and not refused
+abbrev pub AtFirst : (Kind → Option (List ℕ) → Type 0) → FileBytes → List Input → Type 0
+AtFirst P bytes [] = ⊥
+AtFirst P bytes (input ∷ more) =
+    P input.kind (bytes input.name) ⊎
+    (IfSome (bytes input.name) (IsReadAs input.kind) × AtFirst P bytes more)
+
+-- ---- why a file isn't read
+
+-- a source that gave these bytes when it was opened failed later on
+pub record SourceFails {S : Type 0} (remaining : S → Option (List ℕ)) (failures : S → ℕ)
+    (known : Option (List ℕ)) : Type 0 where
+  pub opened : S
+  pub left : S
+  pub gave : remaining opened ≡ known
+  pub fails : Rises (failures opened) (failures left)
+
+-- a file with these bytes couldn't be opened, which is counted, or its source failed
+abbrev pub IsUnread : (Option (List ℕ) → Type 0) → Option (List ℕ) → ℕ → ℕ → Type 0
+IsUnread fails known old new = Rises old new ⊎ ((new ≡ old) × fails known)
+
+-- what it tells that a file can't be read whole
+abbrev pub TellsUnread : (Option (List ℕ) → Type 0) → Option (List ℕ) → ℕ → ℕ → InputFault → Type 0
+TellsUnread fails known old new inputs.Memory = new ≡ old
+TellsUnread fails known old new inputs.Device = IsUnread fails known old new
+TellsUnread fails known old new inputs.TooLong =
+    (new ≡ old) × IfSome known (λ bytes. FILE_LIMIT < length bytes)
+
+-- the same of a file that is read as such; a program and a certificate are never too long
+abbrev pub TellsKindUnread : (Option (List ℕ) → Type 0) → Kind → Option (List ℕ) → ℕ → ℕ →
+    InputFault → Type 0
+TellsKindUnread fails OfProgram known old new inputs.TooLong = ⊥
+TellsKindUnread fails OfCertificate known old new inputs.TooLong = ⊥
+TellsKindUnread fails kind known old new fault = TellsUnread fails known old new fault
+
+-- the first of these files that isn't read
+abbrev pub TellsFirstUnread : (Option (List ℕ) → Type 0) → FileBytes → List Input → ℕ → ℕ →
+    InputFault → Type 0
+TellsFirstUnread fails bytes files old new fault =
+    AtFirst (λ kind known. TellsKindUnread fails kind known old new fault) bytes files
+
+-- ---- what a fault says of it: 901, and 900 where a file is read whole; other faults say that all
+-- that was opened was read
+
+abbrev pub program_unread : ReadFault → Option InputFault
+program_unread (reads.Line line fault) = None
+program_unread reads.NoEnd = None
+program_unread reads.TooManyLines = None
+program_unread reads.Memory = None
+program_unread reads.Device = Some inputs.Device
+
+abbrev pub certificate_unread : CertificateFault → Option InputFault
+certificate_unread texts.Memory = None
+certificate_unread texts.ReadFailed = Some inputs.Device
+certificate_unread texts.WrongHeader = None
+certificate_unread (texts.BadLine line) = None
+certificate_unread (texts.OutOfRange line) = None
+
+abbrev pub unread_by : AnswerFault → Option InputFault
+unread_by (answers.Input fault) = Some fault
+unread_by (answers.Read fault) = program_unread fault
+unread_by (answers.Certificate fault) = certificate_unread fault
+unread_by _ = None
+
+-- The count of files that couldn't be opened rose where one couldn't, and else it is what it was.
+-- Where the outcome tells that a file isn't read, the first one that isn't is so.
+abbrev pub FailsBy : {T E : Type 0} → (E → Option InputFault) → (Option (List ℕ) → Type 0) →
+    FileBytes → List Input → ℕ → ℕ → Result T E → Type 0
+FailsBy unread fails bytes files old new (Ok value) = new ≡ old
+FailsBy unread fails bytes files old new (Err fault) =
+    MatchOption (unread fault) (new ≡ old) (TellsFirstUnread fails bytes files old new)
+
+abbrev pub FailsByInput : {T : Type 0} → (Option (List ℕ) → Type 0) → FileBytes → List Input → ℕ →
+    ℕ → Result T AnswerFault → Type 0
+FailsByInput fails bytes files old new outcome = FailsBy unread_by fails bytes files old new outcome

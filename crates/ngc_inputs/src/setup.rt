@@ -1,0 +1,142 @@
+//! The machine and its tools, from the files that the command line names.
+ghost use Rattle.std.specs.Prelude.{◌≡◌, IfErr, IfOk, IfSome, MatchResult, Ok, OnOk, Some};
+ghost use Rattle.std.specs.Prelude.{option_map};
+ghost use Rattle.ngc_machine_files.specs.Machine.{file_of};
+ghost use Rattle.ngc_machine_files.specs.Tools.{tools_of};
+ghost use Rattle.ngc_inputs.specs.Setups.{IfMachine, IfTools, KeepsFiles};
+ghost use Rattle.ngc_inputs.specs.Shops.{GivesShop, RefusesMachine, RefusesTools};
+ghost use Rattle.ngc_inputs.specs.Unread.{FailsByInput, OfMachine, OfTools, SourceFails};
+ghost use Rattle.ngc_inputs.specs.Unread.{TellsUnread, setup_input, shop_inputs};
+
+use crate::fault::AnswerFault;
+use crate::files::Files;
+use crate::opening::open_file;
+use ngc_machine_files::{Machine, Tools, built_in_machine};
+use ngc_text::{InputFault, read_whole};
+use std::alloc::Global;
+
+/// The machine and its tools.
+#[derive(Drop)]
+pub struct Shop {
+    pub machine: Machine<Global>,
+    pub tools: Tools<Global>,
+}
+
+/// How many bytes of a machine file, tool table or events file are read: a longer one is 901.
+pub const FILE_LIMIT: usize = 20_000_000;
+
+/// The bytes of a named file.
+pub fn bytes_of<F: Files>(alloc: Global, name: &str, files: &mut F) -> Result<Vec<u8>, InputFault>
+    ensures value { IfSome (F.bytes files.old (Some name.now))
+        (λ bytes. IfOk result (λ v. v.items ≡ bytes)) }
+    ensures keeps { KeepsFiles (F.bytes files.old) (F.bytes files.new) }
+    ensures counts { OnOk result (F.failures files.new ≡ F.failures files.old) }
+    // It isn't read only where it can't be opened, its source fails, or it is too long.
+    ensures unread { IfErr result
+        (TellsUnread (SourceFails F.R.remaining F.R.failures) (F.bytes files.old (Some name.now))
+        (F.failures files.old) (F.failures files.new)) }
+{
+    let mut source = open_file(Some(name), files)?;
+    read_whole(alloc, &mut source, FILE_LIMIT)
+}
+
+fn named_machine<F: Files>(
+    alloc: Global,
+    name: &str,
+    files: &mut F,
+) -> Result<Machine<Global>, AnswerFault>
+    ensures said { MatchResult result
+        (λ m. IfMachine (F.bytes files.old) (Some name.now) (λ says. says ≡ Ok (file_of m)))
+        (RefusesMachine (F.bytes files.old) (Some name.now)) }
+    ensures keeps { KeepsFiles (F.bytes files.old) (F.bytes files.new) }
+    ensures unread { FailsByInput (SourceFails F.R.remaining F.R.failures) (F.bytes files.old)
+        (setup_input OfMachine (Some name.now)) (F.failures files.old)
+        (F.failures files.new) result }
+{
+    let bytes = bytes_of(alloc, name, files)?;
+    match Machine::read(alloc, bytes.as_slice()) {
+        Ok(machine) => Ok(machine),
+        Err(fault) => Err(AnswerFault::Machine(fault)),
+    }
+}
+
+fn named_tools<F: Files>(
+    alloc: Global,
+    name: &str,
+    files: &mut F,
+) -> Result<Tools<Global>, AnswerFault>
+    ensures said { MatchResult result
+        (λ t. IfTools (F.bytes files.old) (Some name.now) (λ says. says ≡ Ok (tools_of t)))
+        (RefusesTools (F.bytes files.old) (Some name.now)) }
+    ensures keeps { KeepsFiles (F.bytes files.old) (F.bytes files.new) }
+    ensures unread { FailsByInput (SourceFails F.R.remaining F.R.failures) (F.bytes files.old)
+        (setup_input OfTools (Some name.now)) (F.failures files.old) (F.failures files.new) result }
+{
+    let bytes = bytes_of(alloc, name, files)?;
+    match Tools::read(alloc, bytes.as_slice()) {
+        Ok(tools) => Ok(tools),
+        Err(fault) => Err(AnswerFault::Tools(fault)),
+    }
+}
+
+/// The machine that the named file says, or the built-in one.
+fn read_machine<F: Files>(
+    alloc: Global,
+    name: Option<&str>,
+    files: &mut F,
+) -> Result<Machine<Global>, AnswerFault>
+    ensures said { MatchResult result
+        (λ m. IfMachine (F.bytes files.old) (option_map (λ n. n.now) name.entry)
+        (λ says. says ≡ Ok (file_of m)))
+        (RefusesMachine (F.bytes files.old) (option_map (λ n. n.now) name.entry)) }
+    ensures keeps { KeepsFiles (F.bytes files.old) (F.bytes files.new) }
+    ensures unread { FailsByInput (SourceFails F.R.remaining F.R.failures) (F.bytes files.old)
+        (setup_input OfMachine (option_map (λ n. n.now) name.entry)) (F.failures files.old)
+        (F.failures files.new) result }
+{
+    match name {
+        None => Ok(built_in_machine(alloc)),
+        Some(name) => named_machine(alloc, name, files),
+    }
+}
+
+/// The tools that the named file says, or none.
+fn read_tools<F: Files>(
+    alloc: Global,
+    name: Option<&str>,
+    files: &mut F,
+) -> Result<Tools<Global>, AnswerFault>
+    ensures said { MatchResult result
+        (λ t. IfTools (F.bytes files.old) (option_map (λ n. n.now) name.entry)
+        (λ says. says ≡ Ok (tools_of t)))
+        (RefusesTools (F.bytes files.old) (option_map (λ n. n.now) name.entry)) }
+    ensures keeps { KeepsFiles (F.bytes files.old) (F.bytes files.new) }
+    ensures unread { FailsByInput (SourceFails F.R.remaining F.R.failures) (F.bytes files.old)
+        (setup_input OfTools (option_map (λ n. n.now) name.entry)) (F.failures files.old)
+        (F.failures files.new) result }
+{
+    match name {
+        None => Ok(Tools::empty(alloc)),
+        Some(name) => named_tools(alloc, name, files),
+    }
+}
+
+/// The machine and its tools, read in that order.
+pub fn read_shop<F: Files>(
+    alloc: Global,
+    machine: Option<&str>,
+    tools: Option<&str>,
+    files: &mut F,
+) -> Result<Shop, AnswerFault>
+    ensures said { GivesShop (F.bytes files.old) (option_map (λ n. n.now) machine.entry)
+        (option_map (λ n. n.now) tools.entry) result }
+    ensures keeps { KeepsFiles (F.bytes files.old) (F.bytes files.new) }
+    // The first that isn't read can't be opened, its source fails, or it is too long.
+    ensures unread { FailsByInput (SourceFails F.R.remaining F.R.failures) (F.bytes files.old)
+        (shop_inputs (option_map (λ n. n.now) machine.entry) (option_map (λ n. n.now) tools.entry))
+        (F.failures files.old) (F.failures files.new) result }
+{
+    let machine = read_machine(alloc, machine, files)?;
+    let tools = read_tools(alloc, tools, files)?;
+    Ok(Shop { machine, tools })
+}
