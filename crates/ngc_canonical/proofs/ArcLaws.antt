@@ -1,4 +1,4 @@
--- An arc begins and ends where its words' ends say.
+-- An arc begins and ends at the points of its words.
 use Rattle.std.proofs.Common.{◌≡◌, ℕ, ℤ, Result, Ok, Err, ap, sym}
 use Rattle.std.specs.Prelude.{not, is_none, ◌&&◌, nat_lt}
 use Rattle.ngc_fixed_length.specs.declared.points.Point2.{Point2}
@@ -13,7 +13,7 @@ use Rattle.ngc_arc_geometry.specs.declared.fault.ArcFault.TheVariants.{NoAxisWor
 use Rattle.ngc_arc_geometry.specs.declared.given.Ends.{Ends}
 use Rattle.ngc_arc_geometry.specs.declared.given.Offsets.{Offsets}
 
--- what a step answered that another went before
+-- the result of a step that follows another step
 last_of : (x : Result (Unit {0}) ArcFault) (r : Result ArcShape ArcFault) (a : ArcShape) → (x >> r) ≡ Ok a → r ≡ Ok a
 last_of (Ok u) r a h = h
 last_of (Err e) r a h = cc
@@ -21,7 +21,7 @@ last_of (Err e) r a h = cc
 same_arc : (a b : ArcShape) → (let x : Result ArcShape ArcFault = Ok a in let y : Result ArcShape ArcFault = Ok b in x ≡ y) → a ≡ b
 same_arc a b h = cc
 
--- the arc is the one whose radii are compared
+-- the arc whose radii are compared is the result
 arc_compared : (t : ℕ) (s a : ArcShape) → with_equal_radii t s ≡ Ok a → s ≡ a
 arc_compared t s a h = same_arc s a (last_of _ (Ok s) a h)
 

@@ -1,4 +1,4 @@
--- Where no line begins with / block delete changes nothing.
+-- If no line begins with /, block delete changes nothing.
 use Rattle.std.proofs.Common.{◌≡◌, ℕ, zero, suc, ◌+◌, ◌<◌, ◌≤◌, List, [], ◌∷◌, length, drop, Some, Bool, true, false, refl, ap, sym, ◌∙◌, arith}
 use Rattle.std.proofs.Math.ListN.{drop_of_length-le}
 use Rattle.std.specs.Prelude.{slice_get, ◌||◌, if◌then◌else◌}
@@ -43,7 +43,7 @@ line_within [] i h = absurd (omega (arith, h))
 line_within (x ∷ lines) zero h = (x, refl)
 line_within (x ∷ lines) (suc i) h = line_within lines i (omega (arith, h))
 
--- a line of those that are left
+-- one of the remaining lines
 pub record SeenLine (lines : List Line) (i : ℕ) : Type 0 where
   pub line : Line
   pub at : slice_get lines i ≡ Some line
@@ -54,7 +54,7 @@ next_seen lines rs i h are = next_line lines rs i h.line.number h.line are h.at 
 pub seen_line : (lines : List Line) (i : ℕ) → i < length lines → SeenLine lines i
 seen_line lines i h = let found = line_within lines i h in record { line = found.0; at = found.1 }
 
--- whether a line is deleted from here on: this one, or one behind it
+-- whether a line is deleted from here on: this one, or one after it
 pub deleted_from : (lines : List Line) (rs : List Reading) (i : ℕ) (bytes : List ℕ) (deleted : Bool) (number : ℕ) →
     SaysDeleted bytes deleted → NextLine lines rs i number bytes
     → has_deleted (with_readings (drop i lines) (drop i rs)) ≡ (deleted || has_deleted (with_readings (drop (i + 1) lines) (drop (i + 1) rs)))

@@ -1,4 +1,4 @@
--- Of a line's effects only the last one stops.
+-- Among a line's effects, only the last one stops.
 use Rattle.std.proofs.Common.{◌≡◌, List, [], ◌∷◌, ◌++◌, Option, Some, None, Bool, true, false, Result, Ok, Err, refl}
 use Rattle.std.specs.Prelude.{ℤ, IfOk, option_map, option_to_list}
 use Rattle.ngc_fixed_length.specs.declared.modes.FeedMode.{FeedMode}
@@ -40,7 +40,7 @@ abbrev pub StopIsLast : List Effect → Type 0
 StopIsLast [] = Unit {0}
 StopIsLast (effect ∷ effects) = IsLastIfStop effect effects × StopIsLast effects
 
--- an effect that doesn't stop, where it stands
+-- an effect that doesn't stop, if there is one
 record Passes (effect : Option Effect) : Type 0 where
   ahead : (rest : List Effect) → StopIsLast rest → StopIsLast (option_to_list effect ++ rest)
 

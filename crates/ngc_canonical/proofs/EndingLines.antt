@@ -21,7 +21,7 @@ use Rattle.ngc_canonical.proofs.Ending.{StopIsLast, stops_last}
 use Rattle.ngc_canonical.proofs.EndingSteps.{HasNoEnd, Open, Left, IsEndOnly, ended_by, left_open, run_left}
 use Rattle.ngc_canonical.proofs.Joining.{onward, after, emitted}
 
--- the end stands behind all other commands
+-- the end follows all other commands
 abbrev pub Ends : State → Type 0
 Ends s = IsEndOnly s.commands
 
@@ -78,7 +78,7 @@ commands_end : (r : Result State ProgramFault) (commands : List Command) → IfO
 commands_end (Ok s) commands h e = subst IsEndOnly (same_commands s.commands commands e) h
 commands_end (Err fault) commands h e = absurd (cc e)
 
--- ---- the commands that are handed out
+-- ---- the commands that are returned
 
 line_left : (setup : Setup) (block_delete : Bool) (number : ℕ) (r : Reading) (s t : State) → s.ended ≡ false → HasNoEnd s.commands →
     after_line setup block_delete number r s ≡ Ok t → Left t

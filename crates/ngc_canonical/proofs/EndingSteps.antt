@@ -1,4 +1,4 @@
--- No effect but a stop adds an end, and a stop's end ends the program.
+-- Only a stop adds an end, and that end ends the program.
 use Rattle.std.proofs.Common.{◌≡◌, ℕ, zero, suc, List, [], ◌∷◌, ◌++◌, Option, Some, None, Bool, true, false, Result, Ok, refl}
 use Rattle.std.proofs.lemmas.Result.{IfOk-weaker}
 use Rattle.std.specs.Prelude.{ℤ, IfOk, unsigned_abs, not, if◌then◌else◌}
@@ -59,18 +59,18 @@ abbrev pub HasNoEnd : List Command → Type 0
 HasNoEnd [] = Unit {0}
 HasNoEnd (c ∷ cs) = IsNotEnd c.action × HasNoEnd cs
 
--- the program goes on
+-- the program continues
 pub record IsOpen (cs : List Command) (ended : Bool) : Type 0 where
   pub running : ended ≡ false
   pub no_end : HasNoEnd cs
 
--- nothing comes after the end, and where there is none the program goes on
+-- nothing follows the end, and without an end the program continues
 pub record IsLeft (cs : List Command) (ended : Bool) : Type 0 where
   pub last : EndIsLast cs
   pub no_end : ended ≡ false → HasNoEnd cs
   pub has_end : ended ≡ true → HasEnd cs
 
--- the end stands last, and nowhere else
+-- the end is the last command, and no other command is an end
 abbrev pub IsEndOnly : List Command → Type 0
 IsEndOnly cs = EndIsLast cs × HasEnd cs
 
@@ -108,7 +108,7 @@ ended_by cs line none =
     let last : Command = record { line = line; action = actions.End } in
     (last_behind cs last none, record { before = cs; last = last; are = refl; is_end = refl })
 
--- an action that is no end
+-- an action that is not an end
 passes : (a : Action) (s : State) → Open s → IsNotEnd a → IfOk (emit a s) Open
 passes a s h not_end =
     emitted Open a s (λ room. record { running = h.running; no_end = no_end_more s.commands (record { line = s.line; action = a }) h.no_end not_end })
@@ -135,7 +135,7 @@ change_tool_open : (tools : List Tool) (n : ℕ) (s : State) → Open s → IfOk
 change_tool_open tools zero s h = mount_open None s h
 change_tool_open tools (suc n) s h = mount_found_open (tool_at tools (suc n)) s h
 
--- ---- places
+-- ---- points and frames
 
 traverse_to_open : (end : Point3) (s : State) → Open s → IfOk (traverse_to end s) Open
 traverse_to_open end s h = moves (ways.Line s.place end) paces.Rapid s h

@@ -1,4 +1,5 @@
--- The lines of a program lead its motions on from the machine's start point, with even radii, and leave its commands few.
+-- The lines of a program join its motions from the machine's start point on, with even radii, and
+-- the number of commands stays in range.
 use Rattle.std.proofs.Common.{◌≡◌, ℕ, ◌≤◌, List, [], ◌∷◌, length, Option, Some, None, Bool, true, false, Result, Ok, Err, refl, sym, subst, lit≤}
 use Rattle.std.proofs.lemmas.Result.{IfOk-at_ok, IfOk-weaker}
 use Rattle.std.specs.Prelude.{ℤ, IfOk, ◌&&◌, if◌then◌else◌}
@@ -83,7 +84,7 @@ commands_from : (p : Point3) (r : Result State ProgramFault) (commands : List Co
 commands_from p (Ok s) commands h e = subst (AreFrom p) (same_commands s.commands commands e) (record { place = s.place; trail = h })
 commands_from p (Err fault) commands h e = absurd (cc e)
 
--- ---- the commands that are handed out
+-- ---- the commands that are returned
 
 pub went_on : (p : Point3) (setup : Setup) (block_delete : Bool) (number : ℕ) (r : Reading) (s t : State) → Holds p s →
     after_line setup block_delete number r s ≡ Ok t → Holds p t

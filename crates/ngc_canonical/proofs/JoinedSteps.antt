@@ -1,4 +1,5 @@
--- What each effect does leads the motions on from where the axes stand, with even radii, and leaves the commands few.
+-- Each effect continues the motions from where the axes are, with even radii, and the number of
+-- commands stays in range.
 use Rattle.std.proofs.Common.{◌≡◌, ℕ, zero, suc, List, [], ◌∷◌, Option, Some, None, Bool, true, false, Result, Ok, Err, refl}
 use Rattle.std.specs.Prelude.{ℤ, IfOk, unsigned_abs, not, if◌then◌else◌}
 use Rattle.ngc_fixed_length.specs.declared.modes.Turn.{Turn}
@@ -69,7 +70,7 @@ change_tool_holds : (p : Point3) (tools : List Tool) (n : ℕ) (s : State) → H
 change_tool_holds p tools zero s h = mount_holds p None s h
 change_tool_holds p tools (suc n) s h = mount_found_holds p (tool_at tools (suc n)) s h
 
--- ---- places
+-- ---- points and frames
 
 traverse_to_holds : (p end : Point3) (s : State) → Holds p s → IfOk (traverse_to end s) (Holds p)
 traverse_to_holds p end s h = moves p (ways.Line s.place end) paces.Rapid s h refl tt
@@ -113,13 +114,13 @@ straight_holds p is_machine_place words f s h =
     after (Holds p) (end_of is_machine_place s words) (λ end. go (ways.Line s.place end) (paces.Feed feed) s)
     (λ end. feed_holds p end feed s h))
 
--- ---- arcs, which begin where the axes stand, with even radii
+-- ---- arcs, which begin where the axes are, with even radii
 
 record IsArcFrom (p : Point3) (a : ArcShape) : Type 0 where
   begins : a.start ≡ p
   even : HasEvenRadii a
 
--- what is known of an arc that was made
+-- a property of each arc that was made
 made : (P : ArcShape → Type 0) (r : Result ArcShape ArcFault) → ((a : ArcShape) → r ≡ Ok a → P a) → IfOk (faulted faults.Arc r) P
 made P (Ok a) known = known a refl
 made P (Err e) known = tt

@@ -1,4 +1,5 @@
--- Each step of a program leads its motions on from where the axes stand, its arcs have even radii, and its commands stay few.
+-- Each step of a program continues the motions from where the axes are, its arcs have even radii,
+-- and the number of commands stays in range.
 use Rattle.std.proofs.Common.{◌≡◌, ℕ, ◌≤◌, ◌<◌, List, [], ◌∷◌, ◌++◌, length, Bool, true, false, Result, Ok, Err, refl, ap, sym, subst, ◌∙◌, arith}
 use Rattle.std.proofs.Common.{length-append}
 use Rattle.std.specs.Prelude.{IfOk, nat_lt, if◌then◌else◌}
@@ -18,18 +19,18 @@ use Rattle.ngc_canonical.specs.Steps.{◌>>=◌}
 use Rattle.ngc_canonical.specs.State.{State, with_command, emit, at_place, motion_in, go}
 use Rattle.ngc_commands.specs.Sequence.{COMMAND_LIMIT}
 
--- where ways lead to that begin at p
+-- the end of paths that begin at p
 abbrev pub led_to : Point3 → List Way → Point3
 led_to p [] = p
 led_to p (w ∷ ws) = led_to (end_of w) ws
 
--- the motions of these commands are joined, from p to q, and those that are arcs have even radii
+-- the motions of these commands are joined, from p to q, and the arcs among them have even radii
 pub record Leads (p : Point3) (commands : List Command) (q : Point3) : Type 0 where
   pub joined : AreJoined p (ways_of (actions_of commands))
   pub ends : led_to p (ways_of (actions_of commands)) ≡ q
   pub radii : HaveEvenRadii (ways_of (actions_of commands))
 
--- the commands so far lead from p to where the axes stand, and are few
+-- the commands so far lead from p to where the axes are, and their number is in range
 pub record IsTrail (p : Point3) (commands : List Command) (q : Point3) : Type 0 where
   pub leads : Leads p commands q
   pub few : length commands ≤ COMMAND_LIMIT
@@ -70,22 +71,22 @@ leads_on p q r cs ds first second =
       radii = subst HaveEvenRadii (sym e) (radii_append vs ws first.radii second.radii);
     }
 
--- one command more
+-- one more command
 added : (p q r : Point3) (cs : List Command) (c : Command) → IsTrail p cs q → Leads q (c ∷ []) r → length cs < COMMAND_LIMIT → IsTrail p (cs ++ (c ∷ [])) r
 added p q r cs c trail step room = record {
   leads = leads_on p q r cs (c ∷ []) trail.leads step;
   few = omega (arith, length-append cs (c ∷ []));
 }
 
--- ---- steps that may meet a fault
+-- ---- steps that may fail
 
--- what the first step leaves, the second takes up
+-- the second step continues from the result of the first
 pub onward : {A B : Type 0} (P : A → Type 0) (Q : B → Type 0) (r : Result A Fault) (f : A → Result B Fault) → IfOk r P → ((a : A) → P a → IfOk (f a) Q) →
     IfOk (r >>= f) Q
 onward P Q (Ok a) f first rest = rest a first
 onward P Q (Err e) f first rest = tt
 
--- whatever the first step leaves
+-- whatever the result of the first step is
 pub after : {A B : Type 0} (Q : B → Type 0) (r : Result A Fault) (f : A → Result B Fault) → ((a : A) → IfOk (f a) Q) → IfOk (r >>= f) Q
 after Q (Ok a) f rest = rest a
 after Q (Err e) f rest = tt
@@ -106,12 +107,12 @@ leads_nowhere : (p : Point3) (line : ℕ) (a : Action) → IsStill a → Leads p
 leads_nowhere p line (Move m) still = absurd still
 leads_nowhere p line _ still = record { joined = tt; ends = refl; radii = tt }
 
--- a command after which the axes stand where they stood
+-- a command that leaves the axes where they are
 pub stays : (p : Point3) (a : Action) (s : State) → Holds p s → IsStill a → IfOk (emit a s) (Holds p)
 stays p a s h still =
     emitted (Holds p) a s (λ room. added p s.place s.place s.commands (record { line = s.line; action = a }) h (leads_nowhere s.place s.line a still) room)
 
--- a motion, after which they stand at its end
+-- a motion, after which the axes are at its end
 pub moves : (p : Point3) (w : Way) (pace : Pace) (s : State) → Holds p s → start_of w ≡ s.place → IsEvenIfArc w → IfOk (go w pace s) (Holds p)
 moves p w pace s h begins even =
     let a : Action = Move (motion_in s.modes.path w pace) in

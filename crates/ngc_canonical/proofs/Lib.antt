@@ -1,20 +1,23 @@
--- A program's lines, one after another.
+-- A program's lines, in order.
 pub mod Lines
--- Moves one after another.
+-- Moves in order.
 pub mod CycleLaws
--- An arc begins and ends where its words' ends say.
+-- An arc begins and ends at the points of its words.
 pub mod ArcLaws
--- Each step of a program leads its motions on from where the axes stand, its arcs have even radii, and its commands stay few.
+-- Each step of a program continues the motions from where the axes are, its arcs have even radii,
+-- and the number of commands stays in range.
 pub mod Joining
--- What each effect does leads the motions on from where the axes stand, with even radii, and leaves the commands few.
+-- Each effect continues the motions from where the axes are, with even radii, and the number of
+-- commands stays in range.
 pub mod JoinedSteps
--- The lines of a program lead its motions on from the machine's start point, with even radii, and leave its commands few.
+-- The lines of a program join its motions from the machine's start point on, with even radii, and
+-- the number of commands stays in range.
 pub mod JoinedLines
--- Of a line's effects only the last one stops.
+-- Among a line's effects, only the last one stops.
 pub mod Ending
--- No effect but a stop adds an end, and a stop's end ends the program.
+-- Only a stop adds an end, and that end ends the program.
 pub mod EndingSteps
 -- A program ends with the end, and nothing is executed after it.
 pub mod EndingLines
--- Where no line begins with / block delete changes nothing.
+-- If no line begins with /, block delete changes nothing.
 pub mod BlockDelete

@@ -1,4 +1,4 @@
--- A program's lines, one after another.
+-- A program's lines, in order.
 use Rattle.std.proofs.Common.{◌≡◌, ℕ, zero, suc, ◌+◌, ◌≤◌, List, [], ◌∷◌, length, drop, Option, Some, Bool, true, false, Result, Ok, Err, refl, ap, sym}
 use Rattle.std.proofs.Common.{subst, ◌∙◌, arith}
 use Rattle.std.proofs.lemmas.Option.{same_Some}
@@ -29,7 +29,7 @@ use Rattle.ngc_canonical.specs.State.{Setup, State}
 use Rattle.ngc_canonical.specs.Meaning.{NumberedLine, Program, execute, at_line, after_line, go_on, then_lines, past_last, commands_of, Fails, remaining}
 use Rattle.ngc_canonical.specs.Meaning.{from_state, with_readings}
 
--- the line at an index has a reading, and stands in front of the lines behind it
+-- the line at an index has a reading, and precedes the remaining lines
 pub record NextLine (lines : List Line) (rs : List Reading) (i number : ℕ) (bytes : List ℕ) : Type 0 where
   pub reading : Reading
   pub reads : Reads bytes reading
@@ -51,7 +51,7 @@ next_line (x ∷ lines) (r ∷ rs) (suc i) number line are at n =
     let e : suc i + 1 ≡ suc (i + 1) = omega arith in
     record { reading = further.reading; reads = further.reads; behind = rw e further.behind }
 
--- a line that block delete takes out changes nothing, another leads to the lines behind it
+-- a line that block delete takes out changes nothing, another leads to the lines after it
 pub step_remaining : (setup : Setup) (p : Program) (block_delete : Bool) (number : ℕ) (r : Reading) (rest : List NumberedLine) (s : State) → s.ended ≡ false
     → from_state setup p (remaining block_delete (record { number = number; reading = r } ∷ rest)) s
     ≡ then_lines (after_line setup block_delete number r s) (λ t. from_state setup p (remaining block_delete rest) t)
@@ -63,7 +63,7 @@ step_remaining setup p block_delete number r rest s running = by_test (block_del
   by_test true e = rw (e, running) refl
   by_test false e = rw e refl
 
--- ---- a line that is kept
+-- ---- a line that was read
 
 abbrev pub bytes_in : List Line → ℕ → Option (List ℕ)
 bytes_in lines i = option_map (λ (l : Line). l.bytes) (slice_get lines i)
@@ -75,7 +75,7 @@ pub number_is : (lines : List Line) (i number : ℕ) (line : Line) → slice_get
     → line.number ≡ number
 number_is lines i number line at n = same_Some _ _ (sym (ap (option_map (λ (l : Line). l.number)) at) ∙ n)
 
--- a view of what was loaded says the same
+-- equal results show the same reading
 pub seen : (bytes : List ℕ) {d e : Bool} {p q : Parts} → ShowsReading bytes d p → e ≡ d → q ≡ p → ShowsReading bytes e q
 seen bytes {d} {e} {p} {q} h same parts = subst (λ (x : Bool). ShowsReading bytes x q) (sym same) (subst (λ (x : Parts). ShowsReading bytes d x) (sym parts) h)
 
@@ -83,7 +83,7 @@ then_same : (x : Result State Fault) → (x >>= λ (t : State). Ok (with_setting
 then_same (Ok t) = refl
 then_same (Err e) = refl
 
--- words with numbers for their values are executed as the line is that they stand on
+-- executing words whose values are numbers equals executing their line
 pub words_do : (setup : Setup) (items : List Item) (words : List (Letter × ℤ)) (s : State) → AllWithinLimit items → Some words ≡ number_words items
     → execute_words setup words s ≡ execute setup items s
 words_do setup items words s limit is =
@@ -92,7 +92,7 @@ words_do setup items words s limit is =
     Ok (with_settings values.1 t)) (number_values s.parameters items words limit (sym is))
     ∙ then_same (execute_words setup words s))
 
--- block delete takes it out
+-- block delete takes the line out
 pub left_out : (setup : Setup) (block_delete deleted : Bool) (line : Line) (s : State) → SaysDeleted line.bytes deleted → block_delete ≡ true → deleted ≡ true
     → IsTaken setup block_delete line (Ok tt) s s
 left_out setup block_delete deleted line s h on out =
@@ -108,7 +108,7 @@ not_out_kept block_delete deleted on kept = rw (on, kept) refl
 pub at_same_line : (s t : State) (number : ℕ) {line : ℕ} → line ≡ number → t ≡ record s { line = number } → t ≡ record s { line = line }
 at_same_line s t number same at = at ∙ ap (λ (n : ℕ). record s { line = n }) (sym same)
 
--- it is executed
+-- the line is executed
 pub executed_line : (setup : Setup) (block_delete deleted : Bool) (line : Line) (s t : State) (r : Reading) → SaysDeleted line.bytes deleted
     → (block_delete && deleted) ≡ false → t ≡ record s { line = line.number } → Reads line.bytes r
     → after_line setup block_delete line.number r s ≡ at_line line.number (execute setup r.items t)
@@ -117,7 +117,7 @@ executed_line setup block_delete deleted line s t r h kept at reads =
     let d : (block_delete && r.deleted) ≡ false = ap (λ (y : Bool). block_delete && y) (ap (λ (y : Reading). y.deleted) same ∙ sym h.says) ∙ kept in
     rw d (ap (λ (u : State). at_line line.number (execute setup r.items u)) (sym at))
 
--- any reading leads to the same
+-- every reading of a line has the same result
 pub taken_as : (setup : Setup) (block_delete : Bool) (line : Line) (answer : Result (Unit {0}) ProgramFault) (old new : State) (r : Reading)
     → IsTaken setup block_delete line answer old new → Reads line.bytes r → BecomesAt answer new (after_line setup block_delete line.number r old)
 taken_as setup block_delete line answer old new r h reads =
@@ -125,7 +125,7 @@ taken_as setup block_delete line answer old new r h reads =
 
 -- ---- from line to line
 
--- all that is left of a program at a line
+-- the result of the remaining lines from an index on
 abbrev pub left : Setup → Program → Bool → List Line → List Reading → ℕ → State → Result State ProgramFault
 left setup p block_delete lines rs i s = from_state setup p (remaining block_delete (with_readings (drop i lines) (drop i rs))) s
 
@@ -177,7 +177,7 @@ unfolding from_state
 left_none setup p block_delete lines rs i s h =
     ap (λ (l : List NumberedLine). from_state setup p (remaining block_delete l) s) (no_lines (drop i lines) (drop i rs) (drop_of_length-le lines h))
 
--- a refusal of a line is the program's
+-- the refusal of a line is the program's
 pub refused_fails : (fault : ProgramFault) (new : State) (says whole : Result State ProgramFault) → ((e : ProgramFault) → says ≡ Err e → whole ≡ Err e) →
     BecomesAt (Err fault) new says → Fails fault (commands_of whole)
 refused_fails (At line e) new says whole on h = ap commands_of (on (At line e) h)

@@ -19,7 +19,7 @@ use Rattle.ngc_canonical.specs.State.{State, go}
 use Rattle.ngc_canonical.specs.Places.{word_length, end_of}
 use Rattle.ngc_canonical.specs.Motions.{feed_in}
 
--- whether an axis word of the plane stands
+-- whether there is an axis word of the plane
 abbrev pub has_plane_word : Plane → AxisWords → Bool
 has_plane_word XY words = is_some words.x || is_some words.y
 has_plane_word ZX words = is_some words.z || is_some words.x
@@ -45,7 +45,7 @@ ends_of turn s words end = record {
   has_axis_word = has_plane_word s.modes.plane words;
 }
 
--- in radius format where R stands, and else in centre format
+-- radius format if there is an R, otherwise centre format
 abbrev pub arc_by : Option ℤ → State → ArcWords → Ends → Result ArcShape Fault
 arc_by (Some r) s words e = faulted faults.Arc (radius_format s.modes.units e r)
 arc_by None s words e = do
@@ -53,14 +53,14 @@ arc_by None s words e = do
   v ← word_length s.modes.units (along_v s.modes.plane words)
   faulted faults.Arc (centre_format s.modes.units e (record { u = u; v = v }))
 
--- the arc that the words give
+-- the arc of the words
 abbrev pub arc_of : Turn → AxisWords → ArcWords → State → Result ArcShape Fault
 arc_of turn axes words s = do
   end ← end_of false s axes
   r ← word_length s.modes.units words.r
   arc_by r s words (ends_of turn s axes end)
 
--- without an axis word of the plane there is no motion, whose feed or lengths could be at fault
+-- without an axis word of the plane there is no motion, so its feed and lengths are not checked
 abbrev pub arc : Turn → AxisWords → ArcWords → Option ℤ → State → Result State Fault
 arc turn axes words f s = do
   worded ← refuse_if (not (has_plane_word s.modes.plane axes)) (faults.Arc NoAxisWord)

@@ -1,4 +1,4 @@
--- A line's canned cycle: its words and those kept, and its moves as commands (NISTIR 6556, 3.5.16
+-- A line's canned cycle: its words, the kept words, and its moves as commands (NISTIR 6556, 3.5.16
 -- and 3.5.20).
 use Rattle.std.specs.Prelude.{ℕ, ◌==◌, ℤ, unsigned_abs, List, [], ◌∷◌, flat_map, Option, Some}
 use Rattle.std.specs.Prelude.{Result, Ok, is_some, unwrap_or, not}
@@ -49,7 +49,7 @@ word_v XY axes = axes.y
 word_v ZX axes = axes.x
 word_v YZ axes = axes.z
 
--- what the line gives, and what it leaves as it was kept: lengths, and for P a value
+-- the words of the line, and the kept ones for those that it leaves out: lengths, and for P a value
 abbrev pub kept_after : State → AxisWords → CycleWords → Result Kept Fault
 kept_after s axes words = do
   retract ← word_length s.modes.units words.r
@@ -87,15 +87,15 @@ cycle_of hole s axes words kept = do
     repeats = words.l;
   })
 
--- the machine's height before the series, which begins here if none is under way, and the place at
--- that height
+-- the machine's height before the series, and the point at that height; a series begins here if
+-- none is in progress
 abbrev pub series_of : State → ℤ
 series_of s = unwrap_or s.series (height s.modes.plane s.place)
 
 abbrev pub series_place : State → Point3
 series_place s = at_height s.modes.plane (in_plane s.modes.plane s.place) (series_of s)
 
--- the cycle begins at the programmed place, and clears to the programmed height before the series
+-- the cycle begins at the programmed point, and retracts to the programmed height before the series
 abbrev pub start_of : State → Start
 start_of s = record {
   place = to_program s.frames s.place;
@@ -115,7 +115,7 @@ make_move (moves.Dwell v) s = emit (actions.Dwell (unsigned_abs v)) s
 make_move moves.StopSpindle s = emit (actions.Spindle Off) s
 make_move moves.StartSpindle s = emit (actions.Spindle (spindle_state s.spindle s.speed)) s
 
--- one after another
+-- moves in order
 unfoldable pub make_moves : List CycleMove → State → Result State Fault
 make_moves [] s = Ok s
 make_moves (move ∷ rest) s = do
@@ -129,7 +129,7 @@ moves_from c start j n = flat_map (repeat_moves c start) (counting j n)
 abbrev pub all_moves : Cycle → Start → List CycleMove
 all_moves c start = moves_from c start 1 (repeats_of c.repeats)
 
--- the first refusal: the cycle's own, a feed of 0, a coordinate that words give beyond its range
+-- the first refusal: the cycle's own, a feed of 0, or a programmed coordinate out of range
 abbrev pub refusal : Cycle → Start → ℕ → Result (Unit {0}) Fault
 refusal c start feed = do
   checked ← faulted faults.Cycle (check c start)

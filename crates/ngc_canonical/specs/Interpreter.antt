@@ -1,4 +1,4 @@
--- How the interpreter holds the machine, its tools and the state of a program.
+-- The stored form of the machine, its tools and the state of a program.
 use Rattle.std.specs.Prelude.{◌≡◌, Result, Ok, Err}
 use Rattle.ngc_machine_files.specs.declared.machine.Machine.{Machine}
 use Rattle.ngc_machine_files.specs.declared.tools.Tools.{Tools}
@@ -34,7 +34,7 @@ state_of i = record {
   ended = i.ended;
 }
 
--- after a step that may be refused, the state is what the definition gives
+-- after a step that may be refused, the state is the definition's
 abbrev pub Becomes : Result (Unit {0}) LineRefusal → State → Result State Fault → Type 0
 Becomes (Ok u) new says = says ≡ Ok new
 Becomes (Err (Breaks e)) new says = says ≡ Err e

@@ -1,4 +1,4 @@
--- What holds of the commands of every program. Our own.
+-- Properties of the commands of every program. Our own.
 use Rattle.std.specs.Prelude.{◌≡◌, ◌≤◌, List, length, Ok, Bool, true, false}
 use Rattle.ngc_commands.specs.declared.command.Command.{Command}
 use Rattle.ngc_canonical.specs.Meaning.{Program, meaning, has_deleted}
@@ -25,7 +25,7 @@ FewCommands = (program : Program) (setup : Setup) (block_delete : Bool) (command
     meaning program setup block_delete ≡ Ok commands
     → length commands ≤ COMMAND_LIMIT
 
--- nothing comes after the end, and there is one
+-- nothing follows the end, and there is one
 abbrev pub EndsLast : Type 0
 EndsLast = (program : Program) (setup : Setup) (block_delete : Bool) (commands : List Command) →
     meaning program setup block_delete ≡ Ok commands
@@ -36,7 +36,7 @@ HaveEnd = (program : Program) (setup : Setup) (block_delete : Bool) (commands : 
     meaning program setup block_delete ≡ Ok commands
     → HasEnd commands
 
--- where no line begins with / a program means the same at both settings of block delete
+-- if no line begins with /, a program means the same at both settings of block delete
 abbrev pub SameAtBoth : Type 0
 SameAtBoth = (program : Program) (setup : Setup) → has_deleted program.lines ≡ false →
     meaning program setup true ≡ meaning program setup false

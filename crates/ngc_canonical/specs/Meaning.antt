@@ -27,13 +27,14 @@ pub record NumberedLine : Type 0 where
   pub number : ℕ
   pub reading : Reading
 
--- the lines of a program, how many the text has, and in a marked file the line of its second %
+-- the lines of a program, the number of lines of the text, and in a marked file the line of its
+-- second %
 pub record Program : Type 0 where
   pub lines : List NumberedLine
   pub count : ℕ
   pub mark : Option ℕ
 
--- what a line's words do, in order of execution
+-- the effects of a line's words, in order of execution
 abbrev pub effects_of : Modes → List (Letter × ℤ) → Result (List Effect) Fault
 effects_of modes words = do
   block ← faulted Modal (block_of words)
@@ -43,13 +44,14 @@ effects_of modes words = do
 abbrev pub with_settings : List (ℕ × ℤ) → State → State
 with_settings settings s = record s { parameters = after_settings settings s.parameters }
 
--- what words with these values do, and no setting
+-- the result of words with these values, without settings
 abbrev pub execute_words : Setup → List (Letter × ℤ) → State → Result State Fault
 execute_words setup words s = do
   what ← effects_of s.modes words
   run setup what s
 
--- a line: all values from the parameters before it, then what its words do, then its settings
+-- a line: all values use the parameters before it; then its words take effect, and then its
+-- settings
 abbrev pub execute : Setup → List Item → State → Result State Fault
 execute setup items s = do
   values ← faulted Value (line_values s.parameters items)
@@ -60,7 +62,7 @@ abbrev pub at_line : {A : Type 0} → ℕ → Result A Fault → Result A Progra
 at_line line (Ok x) = Ok x
 at_line line (Err e) = Err (At line e)
 
--- lines that begin with / are left out where block delete is on
+-- if block delete is on, lines that begin with / are left out
 abbrev pub remaining : Bool → List NumberedLine → List NumberedLine
 remaining block_delete [] = []
 remaining block_delete (line ∷ lines) =
@@ -83,12 +85,12 @@ abbrev pub commands_of : Result State ProgramFault → Result (List Command) Pro
 commands_of (Ok s) = Ok s.commands
 commands_of (Err e) = Err e
 
--- where the lines have run out: a marked file ends at its second %, as by M2
+-- after the last line: a marked file ends at its second %, as by M2
 abbrev pub past_last : Option ℕ → ℕ → State → Result State ProgramFault
 past_last None count s = Err (At count NoEnd)
 past_last (Some line) count s = at_line line (emit End (record s { line = line }))
 
--- what a line leads to, and then the lines after it, unless it was an end
+-- the state after a line, and then the lines after it, unless it was an end
 abbrev pub go_on : Bool → State → (State → Result State ProgramFault) → Result State ProgramFault
 go_on true s rest = Ok s
 go_on false s rest = rest s
@@ -98,7 +100,7 @@ abbrev pub then_lines : Result State ProgramFault → (State → Result State Pr
 then_lines (Ok s) rest = go_on s.ended s rest
 then_lines (Err e) rest = Err e
 
--- lines one after another
+-- lines in order
 unfoldable pub from_state : Setup → Program → List NumberedLine → State → Result State ProgramFault
 from_state setup program [] s = past_last program.mark program.count s
 from_state setup program (line ∷ lines) s =
@@ -117,8 +119,7 @@ with_readings (line ∷ lines) [] = []
 with_readings (line ∷ lines) (r ∷ rs) =
     record { number = line.number; reading = r } ∷ with_readings lines rs
 
--- in a marked file two lines stand beside those that are read: the first % and, behind them, the
--- second
+-- a marked file has two lines besides those that are read: the first % and, after them, the second
 abbrev pub mark_of : Bool → ℕ → Option ℕ
 mark_of true count = Some (count + 2)
 mark_of false count = None
@@ -131,19 +132,19 @@ program_said text rs =
       mark = mark_of text.marked (length text.lines);
     }
 
--- ---- what a call may answer
+-- ---- the results that a call may have
 
 abbrev pub Fails : {Y : Type 0} → ProgramFault → Result Y ProgramFault → Type 0
 Fails Memory says = Unit {0}
 Fails (At line e) says = says ≡ Err (At line e)
 
--- what was found is what the definition says
+-- the effects that were found are the definition's
 abbrev pub GivesEffects : Result (Unit {0}) Fault → List Effect →
     Result (List Effect) Fault → Type 0
 GivesEffects (Ok u) found says = says ≡ Ok found
 GivesEffects (Err e) found says = says ≡ Err e
 
--- what a function answered, seen by view, is what the definition says, unless memory ran out
+-- the result, seen by view, equals the definition's, unless memory ran out
 abbrev pub GivesMeaning : {X Y : Type 0} → (X → Y) → Result X ProgramFault →
     Result Y ProgramFault → Type 0
 GivesMeaning view (Ok x) says = says ≡ Ok (view x)

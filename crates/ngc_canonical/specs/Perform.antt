@@ -1,4 +1,4 @@
--- What each effect does, by cases (NISTIR 6556, 3.5 to 3.8): the state after it, or a fault.
+-- The result of each effect, by cases (NISTIR 6556, 3.5 to 3.8): the state after it, or a fault.
 use Rattle.std.specs.Prelude.{unsigned_abs, List, [], ◌∷◌, Result, Ok, true}
 use Rattle.ngc_fixed_length.specs.Limits.{nanometres_of}
 use Rattle.ngc_modal_state.specs.declared.code.MotionMode.{MotionMode}
@@ -22,7 +22,7 @@ use Rattle.ngc_canonical.specs.Cycles.{cycle}
 abbrev pub with_modes : Modes → State → State
 with_modes m s = record s { modes = m }
 
--- a code that is no cycle ends the series
+-- a code that is not a cycle ends the series
 abbrev pub with_motion : MotionMode → State → State
 with_motion (motions.Cycle hole) s = with_modes (record s.modes { motion = motions.Cycle hole }) s
 with_motion code s = unseries (with_modes (record s.modes { motion = code }) s)
@@ -68,7 +68,7 @@ perform setup (acts.Arc turn axes words f) s = arc turn axes words f s
 perform setup (acts.Cycle hole axes words) s = cycle hole axes words s
 perform setup (acts.Stopping code) s = stop code s
 
--- effects one after another
+-- effects in order
 abbrev pub run : Setup → List Effect → State → Result State Fault
 run setup [] s = Ok s
 run setup (effect ∷ effects) s = do

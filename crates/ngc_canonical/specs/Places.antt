@@ -1,5 +1,5 @@
--- Places that words give, and changes of the frames (NISTIR 6556, 3.5.5 G10, 3.5.8 G28 and G30,
--- 3.5.12 G53, 3.5.18 G92).
+-- Programmed points, and changes of the frames (NISTIR 6556, 3.5.5 G10, 3.5.8 G28 and G30, 3.5.12
+-- G53, 3.5.18 G92).
 use Rattle.std.specs.Prelude.{ℕ, zero, suc, ℤ, pos, List, Option, Some, None, Result, Ok, Bool}
 use Rattle.std.specs.Prelude.{true, false, is_some, option_map, ◌||◌, if◌then◌else◌}
 use Rattle.ngc_fixed_length.specs.Limits.{length_of}
@@ -22,7 +22,7 @@ use Rattle.ngc_canonical.specs.declared.fault.Fault.TheVariants.{Length, Frame}
 use Rattle.ngc_canonical.specs.Steps.{◌>>=◌, faulted}
 use Rattle.ngc_canonical.specs.State.{State, unseries, traverse_to}
 
--- a word's length, if it stands
+-- a word's length, if the word is present
 abbrev pub word_length : Units → Option ℤ → Result (Option ℤ) Fault
 word_length units None = Ok None
 word_length units (Some v) = do
@@ -36,12 +36,12 @@ axis_lengths units words = do
   z ← word_length units words.z
   Ok (record { x = x; y = y; z = z })
 
--- the machine place that lengths give; G53 makes them machine coordinates
+-- the machine point of lengths; with G53 they are machine coordinates
 abbrev pub end_at : Bool → State → AxisLengths → Result Point3 FrameFault
 end_at true s given = machine_target s.place given
 end_at false s given = target s.modes.distance s.frames s.place given
 
--- the place that axis words give: first their lengths, then their range
+-- the machine point of axis words: first their lengths, then their range
 abbrev pub end_of : Bool → State → AxisWords → Result Point3 Fault
 end_of is_machine_place s words = do
   given ← axis_lengths s.modes.units words
@@ -62,7 +62,7 @@ set_offset words s = do
   given ← axis_lengths s.modes.units words
   with_frames s (frame.set_axis s.frames s.place given)
 
--- G43 H takes the tool's offset, if there is such a tool; H0 and G49 take none
+-- G43 H uses the tool's offset, if there is such a tool; H0 and G49 set 0
 abbrev pub length_offset : List Tool → ℕ → Option ℤ
 length_offset tools zero = Some (pos 0)
 length_offset tools (suc n) = option_map (λ tool. tool.offset) (tool_at tools (suc n))
@@ -81,7 +81,8 @@ home_of machine homes.Second = machine.home30
 abbrev pub stands : AxisWords → Bool
 stands words = is_some words.x || is_some words.y || is_some words.z
 
--- G28 and G30: through the programmed place, if axis words stand, to the home position on all axes
+-- G28 and G30: to the home position on all axes, through the programmed point if there are axis
+-- words
 abbrev pub go_home : MachineFile → Home → AxisWords → State → Result State Fault
 go_home machine home words s = do
   through ← end_of false s words

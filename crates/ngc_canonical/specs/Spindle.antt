@@ -22,7 +22,7 @@ abbrev pub spindle_state : Option Turn → ℕ → SpindleState
 spindle_state None speed = turning.Off
 spindle_state (Some turn) speed = turning.Turning turn speed
 
--- S gives a command at once while the spindle turns
+-- S adds a command at once while the spindle turns
 abbrev pub tell_speed : Option Turn → State → Result State Fault
 tell_speed None s = Ok s
 tell_speed (Some turn) s = emit (actions.Spindle (turning.Turning turn s.speed)) s

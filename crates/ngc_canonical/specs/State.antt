@@ -1,4 +1,4 @@
--- What holds between two effects of a program.
+-- The state between two effects of a program.
 use Rattle.std.specs.Prelude.{ℕ, ℤ, pos, nat_lt, List, [], ◌∷◌, ◌++◌, length, Option, None, Result}
 use Rattle.std.specs.Prelude.{Ok, Err, Bool, true, false, if◌then◌else◌}
 use Rattle.ngc_fixed_length.specs.declared.modes.Turn.{Turn}
@@ -40,26 +40,26 @@ pub record State : Type 0 where
   pub modes : Modes
   pub frames : Offsets
   pub parameters : Parameters
-  -- where the axes stand, in the machine
+  -- where the axes are, in machine coordinates
   pub place : Point3
-  -- the feed that G94 takes, in nanometres a minute, and the spindle's speed, in millionths
+  -- the feed in force under G94, in nanometres a minute, and the spindle's speed, in millionths
   pub feed : ℕ
   pub speed : ℕ
-  -- which way the spindle turns
+  -- the direction in which the spindle turns
   pub spindle : Option Turn
   pub coolant : CoolantState
   -- the tool that M6 mounts
   pub selected : ℕ
-  -- what a cycle's line leaves out, from the lines before
+  -- the words of earlier lines, for a cycle's line that leaves them out
   pub kept : Kept
-  -- the machine's height before the series of cycles, if one is under way
+  -- the machine's height before the series of cycles, if one is in progress
   pub series : Option ℤ
   -- the commands so far, and whether the last is an end
   pub commands : List Command
   pub ended : Bool
 
 -- At the start all parameters are 0, feed and speed are 0, spindle and coolant are off, no tool is
--- selected, and the axes stand at the machine's start point.
+-- selected, and the axes are at the machine's start point.
 abbrev pub start_state : MachineFile → State
 start_state machine = record {
   line = 0;
@@ -78,7 +78,7 @@ start_state machine = record {
   ended = false;
 }
 
--- one command more, of the line that is executed
+-- one more command, of the line that is executed
 abbrev pub with_command : Action → State → State
 with_command action s =
     record s { commands = s.commands ++ record { line = s.line; action = action } ∷ [] }
@@ -87,8 +87,8 @@ abbrev pub emit : Action → State → Result State Fault
 emit action s = if nat_lt (length s.commands) COMMAND_LIMIT then Ok (with_command action s)
     else Err TooManyCommands
 
--- a change of frames, plane or tool length, and a motion code that is no cycle, end the series of
--- cycles
+-- a change of frames, plane or tool length, and a motion code that is not a cycle, end the series
+-- of cycles
 abbrev pub unseries : State → State
 unseries s = record s { series = None }
 
@@ -103,12 +103,12 @@ stops_in _ = false
 abbrev pub motion_in : PathControl → Way → Pace → Motion
 motion_in path way pace = record { way = way; pace = pace; stop = stops_in path }
 
--- a motion, after which the axes stand at its end
+-- a motion, after which the axes are at its end
 abbrev pub go : Way → Pace → State → Result State Fault
 go way pace s = do
   t ← emit (Move (motion_in s.modes.path way pace)) s
   Ok (at_place (end_of way) t)
 
--- a traverse to a place of the machine
+-- a traverse to a machine point
 abbrev pub traverse_to : Point3 → State → Result State Fault
 traverse_to end s = go (Line s.place end) Rapid s

@@ -18,7 +18,7 @@ use ngc_fixed_length::{Nm, Plane, Turn, Value};
 use ngc_modal_state::{ArcWords, AxisWords};
 use std::alloc::Allocator;
 
-// Whether an axis word of the plane stands.
+// Returns whether there is an axis word of the plane.
 fn has_plane_word(plane: Plane, axes: &AxisWords) -> bool
     ensures { result ≡ has_word plane axes.now }
 {
@@ -29,7 +29,7 @@ fn has_plane_word(plane: Plane, axes: &AxisWords) -> bool
     }
 }
 
-// The words I, J, K along the plane's axes.
+// Returns the word among I, J and K for the plane's first axis.
 fn along_u(plane: Plane, words: &ArcWords) -> Option<Value>
     ensures { result ≡ on_u plane words.now }
 {
@@ -75,7 +75,7 @@ impl<A: Allocator + Copy> Interpreter<A> {
         }
     }
 
-    // In radius format where R stands, and else in centre format.
+    // Uses radius format if there is an R, otherwise centre format.
     fn arc_by(&self, radius: Option<Nm>, words: &ArcWords, ends: &Ends) -> Result<Arc, Fault>
         requires { IsEnds ends.now }
         ensures value { result ≡ arc_given radius (state_of self.now) words.now ends.now }
@@ -93,7 +93,7 @@ impl<A: Allocator + Copy> Interpreter<A> {
         }
     }
 
-    // The arc that the words give.
+    // Returns the arc of the words.
     fn arc_of(&self, turn: Turn, axes: &AxisWords, words: &ArcWords) -> Result<Arc, Fault>
         ensures value { result ≡ arc_said turn axes.now words.now (state_of self.now) }
         ensures range { IfOk result (λ a. IsMachinePlace a.end) }
@@ -111,8 +111,8 @@ impl<A: Allocator + Copy> Interpreter<A> {
         self.arc_by(radius, words, &ends)
     }
 
-    /// G2, G3. Without an axis word of the plane nothing moves whose feed or lengths could be at
-    /// fault.
+    /// Executes G2 or G3. Without an axis word of the plane nothing moves, so feed and lengths are
+    /// not checked.
     pub(crate) fn arc(
         &mut self,
         turn: Turn,

@@ -1,4 +1,4 @@
-//! Canned cycles: what a line's words and those kept come to, and the moves as commands.
+//! Canned cycles: the line's words with the kept ones, and the moves as commands.
 ghost use Rattle.std.specs.Prelude.{◌≡◌, ◌≤◌, ◌+◌, ℕ, true, All, OnOk, IfOk};
 ghost use Rattle.ngc_offsets.specs.Frames.{IsReachable, to_machine as in_machine};
 ghost use Rattle.ngc_fixed_length.specs.Places.{in_plane, at_height};
@@ -72,7 +72,7 @@ fn hole_of(hole: CycleCode, kept: &Kept) -> Hole
     }
 }
 
-// The first refusal of a cycle.
+// Returns the first refusal of a cycle.
 fn refusal(cycle: &Cycle, start: &Start, feed: u64) -> Result<(), Fault>
     ensures value { result ≡ refused cycle.now start.now feed }
     ensures checked { OnOk result (check cycle.now start.now ≡ Ok tt) }
@@ -96,7 +96,7 @@ fn refusal(cycle: &Cycle, start: &Start, feed: u64) -> Result<(), Fault>
 }
 
 impl<A: Allocator + Copy> Interpreter<A> {
-    // What the line gives, and what it leaves as it was kept.
+    // Returns the words of the line, and the kept ones for those that it leaves out.
     fn kept_after(&self, axes: &AxisWords, words: &CycleWords) -> Result<Kept, Fault>
         ensures { result ≡ kept_then (state_of self.now) axes.now words.now }
     {
@@ -139,7 +139,7 @@ impl<A: Allocator + Copy> Interpreter<A> {
         })
     }
 
-    // The machine's height before the series, which begins here if none is under way.
+    // Returns the machine's height before the series. A series begins here if none is in progress.
     fn series(&self) -> Nm
         ensures value { result ≡ series_said (state_of self.now) }
         ensures range { IsMachinePlace (series_place_said (state_of self.now)) }
@@ -226,7 +226,7 @@ impl<A: Allocator + Copy> Interpreter<A> {
         Ok(())
     }
 
-    // All repeats in turn.
+    // Makes all repeats in order.
     #[tactic(auto, using(crate::proofs::CycleLaws::went_on, crate::proofs::CycleLaws::no_more))]
     fn make_repeats(&mut self, cycle: &Cycle, start: &Start) -> Result<(), LineRefusal>
         requires checked { check cycle.now start.now ≡ Ok tt }
@@ -237,7 +237,7 @@ impl<A: Allocator + Copy> Interpreter<A> {
         ensures { Becomes result (state_of self.new)
             (moves_made (all_moves cycle.now start.now) (state_of self.old)) }
     {
-        // By reference, since nothing is known of the size of an allocator.
+        // By reference, since the size of an allocator is unknown.
         let alloc = self.alloc;
         let mut moves = SmallVec::new(&alloc);
         for index in 0..cycle.repeats() {
@@ -254,7 +254,7 @@ impl<A: Allocator + Copy> Interpreter<A> {
         Ok(())
     }
 
-    /// G81, G82, G83, G85, G86, G89.
+    /// Executes G81, G82, G83, G85, G86 or G89.
     pub(crate) fn cycle(
         &mut self,
         hole: CycleCode,

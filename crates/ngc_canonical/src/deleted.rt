@@ -8,9 +8,9 @@ ghost use Rattle.ngc_canonical.specs.Meaning.{program_said, has_deleted};
 use ngc_line_reader::Program;
 use std::alloc::Allocator;
 
-/// Whether a line of a program begins with `/`. Where none does, block delete changes nothing.
+/// Returns whether a line of a program begins with `/`. If none does, block delete changes nothing.
 pub fn has_deleted_lines<A: Allocator>(program: &Program<A>) -> bool
-    // Whatever the lines' readings are: each line has one, and only one.
+    // For all readings of the lines. Each line has exactly one.
     ensures { (rs : List Reading) → AreReadings (text_in program.now).lines rs →
         result ≡ has_deleted (program_said (text_in program.now) rs).lines }
 {

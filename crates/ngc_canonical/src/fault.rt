@@ -8,34 +8,34 @@ use ngc_offsets::FrameFault;
 use ngc_parameters::EvalFault;
 use thiserror::Error;
 
-/// What a line breaks, beside its reading.
+/// What is wrong with a line that was read.
 #[derive(Clone, Copy, Debug, PartialEq, Eq, Error)]
 pub enum Fault {
-    /// 101, 102, 131 to 133
+    /// 101, 102, 131 to 133: a fault of a value.
     #[error(transparent)]
     Value(EvalFault),
-    /// 201 to 210
+    /// 201 to 210: a fault of words or modal codes.
     #[error(transparent)]
     Modal(ModalFault),
     /// 101: a length over 10^11 nm.
     #[error(transparent)]
     Length(NumberFault),
-    /// 221, 222
+    /// 221, 222: a fault of a coordinate or a tool number.
     #[error(transparent)]
     Frame(FrameFault),
-    /// 231 to 236
+    /// 231 to 236: a fault of a canned cycle.
     #[error(transparent)]
     Cycle(CycleFault),
-    /// 241 to 246
+    /// 241 to 246: a fault of an arc.
     #[error(transparent)]
     Arc(ArcFault),
-    /// 252: a motion at a feed, and the feed is 0.
+    /// 252: the feed is 0 for a motion at a feed.
     #[error("the feed is zero")]
     FeedZero,
-    /// 120
+    /// 120: the program has no end.
     #[error("the program has no end")]
     NoEnd,
-    /// 251: over 1,000,000.
+    /// 251: there are over 1,000,000 commands.
     #[error("the program has too many commands")]
     TooManyCommands,
 }
@@ -43,7 +43,7 @@ pub enum Fault {
 impl Fault {
     ghost use Rattle.ngc_canonical.specs.Faults.{fault_number};
 
-    /// The fault's number.
+    /// Returns the fault's number.
     pub fn number(&self) -> u16
         ensures { result ≡ fault_number self.now }
     {
@@ -73,7 +73,7 @@ pub enum ProgramFault {
 impl ProgramFault {
     ghost use Rattle.ngc_canonical.specs.Faults.{program_number};
 
-    /// The fault's number.
+    /// Returns the fault's number.
     pub fn number(&self) -> u16
         ensures { result ≡ program_number self.now }
     {

@@ -20,7 +20,7 @@ use std::alloc::{AllocError, Allocator};
 const COMMANDS: usize = 1_000_000;
 
 impl<A: Allocator> Interpreter<A> {
-    /// Makes the state before the first line: the axes are at the machine's start point, G54 is
+    /// Returns the state before the first line. The axes are at the machine's start point, G54 is
     /// selected with the machine file's origins, and there is no offset.
     pub fn new(alloc: A, machine: &Machine<A>) -> Result<Interpreter<A>, AllocError>
     where
@@ -76,14 +76,14 @@ impl<A: Allocator> Interpreter<A> {
         self.place
     }
 
-    /// Returns whether M2 or M30 was executed, after which no line is.
+    /// Returns whether M2 or M30 was executed. After that no line is executed.
     pub fn is_ended(&self) -> bool
         ensures { result ≡ (state_of self.now).ended }
     {
         self.ended
     }
 
-    /// One command more, of the line that is executed.
+    /// Adds a command of the line that is executed.
     pub(crate) fn emit(&mut self, action: Action) -> Result<(), LineRefusal>
         ensures value { Becomes result (state_of self.new) (emitted action (state_of self.old)) }
         ensures frames { OnOk result ((state_of self.new).frames ≡ (state_of self.old).frames) }
@@ -101,7 +101,7 @@ impl<A: Allocator> Interpreter<A> {
         }
     }
 
-    /// The axes stand there from now on.
+    /// Sets where the axes are.
     pub(crate) fn stand_at(&mut self, place: &Point3)
         requires { IsMachinePlace place.now }
         ensures { state_of self.new ≡ record (state_of self.old) { place = place.now } }
@@ -109,7 +109,7 @@ impl<A: Allocator> Interpreter<A> {
         self.place = *place;
     }
 
-    /// A motion, after which the axes stand at its end, and stop there in exact stop mode.
+    /// Adds a motion. After it the axes are at its end, and in exact stop mode they stop there.
     pub(crate) fn go(&mut self, way: Way, pace: Pace) -> Result<(), LineRefusal>
         requires { IsMachinePlace (end_of way) }
         ensures value { Becomes result (state_of self.new) (gone way pace (state_of self.old)) }
@@ -125,7 +125,7 @@ impl<A: Allocator> Interpreter<A> {
         }
     }
 
-    /// A traverse to a place of the machine.
+    /// Adds a traverse to a machine point.
     pub(crate) fn traverse_to(&mut self, end: &Point3) -> Result<(), LineRefusal>
         requires { IsMachinePlace end.now }
         ensures value { Becomes result (state_of self.new)
@@ -136,7 +136,7 @@ impl<A: Allocator> Interpreter<A> {
         self.go(Way::Line { start, end: *end }, Pace::Rapid)
     }
 
-    /// The commands.
+    /// Returns the commands.
     pub(crate) fn into_commands(self) -> Vec<Command, A>
         ensures { result.items ≡ (state_of self).commands }
     {

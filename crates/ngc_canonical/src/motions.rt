@@ -13,7 +13,7 @@ use ngc_fixed_length::{FeedMode, Value};
 use ngc_modal_state::AxisWords;
 use std::alloc::Allocator;
 
-/// The feed of a motion: that in force, or in inverse time the line's F.
+/// Returns the feed of a motion: the feed in force, or in inverse time mode the line's F.
 pub(crate) fn feed_in(mode: FeedMode, feed: u64, f: Option<Value>) -> Result<Feed, Fault>
     ensures { result ≡ feed_by mode feed f }
 {
@@ -27,7 +27,7 @@ pub(crate) fn feed_in(mode: FeedMode, feed: u64, f: Option<Value>) -> Result<Fee
 }
 
 impl<A: Allocator> Interpreter<A> {
-    /// G0.
+    /// Executes G0.
     pub(crate) fn traverse(
         &mut self,
         is_machine_place: bool,
@@ -42,7 +42,7 @@ impl<A: Allocator> Interpreter<A> {
         }
     }
 
-    /// G1.
+    /// Executes G1.
     pub(crate) fn straight(
         &mut self,
         is_machine_place: bool,

@@ -1,4 +1,4 @@
-//! What each effect does.
+//! The execution of each effect.
 ghost use Rattle.std.specs.Prelude.{◌≡◌};
 ghost use Rattle.ngc_canonical.specs.Interpreter.{setup_of, state_of, Becomes};
 ghost use Rattle.ngc_canonical.specs.Perform.{with_motion, stop as stopped, perform as performed};
@@ -11,7 +11,7 @@ use ngc_modal_state::{Effect, MotionMode, Stopping};
 use std::alloc::Allocator;
 
 impl<A: Allocator + Copy> Interpreter<A> {
-    // A code that is no cycle ends the series of cycles.
+    // A code that is not a cycle ends the series of cycles.
     fn set_motion(&mut self, motion: MotionMode)
         ensures { state_of self.new ≡ with_motion motion (state_of self.old) }
     {
@@ -37,7 +37,7 @@ impl<A: Allocator + Copy> Interpreter<A> {
         }
     }
 
-    // (Its answer is large, and looked at at once.)
+    // Inlined, since the result is large and is matched at once.
     #[inline(always)]
     fn perform(
         &mut self,
@@ -94,7 +94,7 @@ impl<A: Allocator + Copy> Interpreter<A> {
         Ok(())
     }
 
-    /// Effects one after another.
+    /// Performs effects in order.
     #[inline(never)]
     pub(crate) fn run(
         &mut self,

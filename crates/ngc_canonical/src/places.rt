@@ -1,4 +1,4 @@
-//! Places that words give, and changes of the frames.
+//! Programmed points, and changes of the frames.
 ghost use Rattle.std.specs.Prelude.{◌≡◌, ℤ, pos, IfOk};
 ghost use Rattle.ngc_offsets.specs.Ranges.{IsMachinePlace};
 ghost use Rattle.ngc_machine_files.specs.Machine.{file_of};
@@ -21,7 +21,7 @@ use ngc_modal_state::{AxisWords, Home};
 use ngc_offsets::{AxisLengths, machine_target};
 use std::alloc::Allocator;
 
-/// A word's length, if it stands.
+/// Returns a word's length, or `None` without the word.
 pub(crate) fn word_length(units: Units, word: Option<Value>) -> Result<Option<Nm>, Fault>
     ensures { result ≡ length_in units word }
 {
@@ -49,8 +49,8 @@ fn stands(words: &AxisWords) -> bool
     words.x.is_some() || words.y.is_some() || words.z.is_some()
 }
 
-// The tool length offset that G43 with its H, or G49, puts in force; none for a tool that the table
-// doesn't have.
+// Returns the tool length offset that G43 with its H, or G49, puts in force. Returns `None` for a
+// tool that the table doesn't have.
 fn tool_length<A: Allocator>(tools: &Tools<A>, h: Option<u32>) -> Option<Nm>
     ensures { result ≡ length_taken (tools_of tools.now) h }
 {
@@ -74,7 +74,7 @@ fn home_of<A: Allocator>(machine: &Machine<A>, home: Home) -> Point3
 }
 
 impl<A: Allocator> Interpreter<A> {
-    /// The place of the machine that axis words give; with G53 they are coordinates of the machine.
+    /// Returns the machine point of axis words. With G53 they are machine coordinates.
     #[inline(always)]
     pub(crate) fn end_of(&self, is_machine_place: bool, words: &AxisWords) -> Result<Point3, Fault>
         ensures value { result ≡ end_in is_machine_place (state_of self.now) words.now }
@@ -92,7 +92,7 @@ impl<A: Allocator> Interpreter<A> {
         }
     }
 
-    /// G10 L2.
+    /// Executes G10 L2.
     pub(crate) fn set_origin(
         &mut self,
         system: System,
@@ -114,7 +114,7 @@ impl<A: Allocator> Interpreter<A> {
         }
     }
 
-    /// G92.
+    /// Executes G92.
     pub(crate) fn set_offset(&mut self, words: &AxisWords) -> Result<(), LineRefusal>
         ensures { Becomes result (state_of self.new) (offset_set words.now (state_of self.old)) }
     {
@@ -131,7 +131,7 @@ impl<A: Allocator> Interpreter<A> {
         }
     }
 
-    /// G43 with its H, or G49.
+    /// Executes G43 with its H, or G49.
     pub(crate) fn set_length(&mut self, tools: &Tools<A>, h: Option<u32>) -> Result<(), LineRefusal>
         ensures { Becomes result (state_of self.new)
             (length_set (tools_of tools.now) h (state_of self.old)) }
@@ -145,7 +145,7 @@ impl<A: Allocator> Interpreter<A> {
         }
     }
 
-    /// G17, G18, G19.
+    /// Executes G17, G18 or G19.
     pub(crate) fn set_plane(&mut self, plane: Plane)
         ensures { state_of self.new ≡ unseries
             (record (state_of self.old) {
@@ -157,7 +157,7 @@ impl<A: Allocator> Interpreter<A> {
         self.series = None;
     }
 
-    /// G54 to G59.3.
+    /// Executes G54 to G59.3.
     pub(crate) fn select(&mut self, system: System)
         ensures { state_of self.new ≡ unseries
             (record (state_of self.old) { frames = selected (state_of self.old).frames system }) }
@@ -166,7 +166,7 @@ impl<A: Allocator> Interpreter<A> {
         self.series = None;
     }
 
-    /// G92.1.
+    /// Executes G92.1.
     pub(crate) fn clear_offset(&mut self)
         ensures { state_of self.new ≡ unseries
             (record (state_of self.old) { frames = cleared (state_of self.old).frames }) }
@@ -175,7 +175,7 @@ impl<A: Allocator> Interpreter<A> {
         self.series = None;
     }
 
-    /// G92.2.
+    /// Executes G92.2.
     pub(crate) fn suspend_offset(&mut self)
         ensures { state_of self.new ≡ unseries
             (record (state_of self.old) { frames = suspended (state_of self.old).frames }) }
@@ -184,7 +184,7 @@ impl<A: Allocator> Interpreter<A> {
         self.series = None;
     }
 
-    /// G92.3.
+    /// Executes G92.3.
     pub(crate) fn restore_offset(&mut self)
         ensures { state_of self.new ≡ unseries
             (record (state_of self.old) { frames = restored (state_of self.old).frames }) }
@@ -193,8 +193,8 @@ impl<A: Allocator> Interpreter<A> {
         self.series = None;
     }
 
-    /// G28, G30: through the programmed place, if axis words stand, to the home position on all
-    /// axes.
+    /// Executes G28 or G30: moves to the home position on all axes, through the programmed point if
+    /// there are axis words.
     pub(crate) fn go_home(
         &mut self,
         machine: &Machine<A>,

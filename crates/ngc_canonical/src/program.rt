@@ -1,4 +1,4 @@
-//! A program's lines, one after another.
+//! A program's lines, in order.
 ghost use Rattle.std.specs.Prelude.{◌≡◌, ◌≤◌, ◌<◌, ℕ, List, length, slice_get, Some, IfOk};
 ghost use Rattle.ngc_line_reader.specs.Grammar.{Reading};
 ghost use Rattle.ngc_line_reader.specs.Held.{AllWithinLimit};
@@ -29,8 +29,8 @@ use ngc_modal_state::{Block, Effect};
 use ngc_parameters::{Changes, LineValues};
 use std::alloc::Allocator;
 
-/// Where what lines say, their values and their effects are found, one line's after another's:
-/// room that is made once.
+/// Buffers for the words, values and effects of a line. They are made once and used again for each
+/// line.
 #[derive(Drop)]
 pub struct Work {
     pub(crate) line: Line,
@@ -39,7 +39,7 @@ pub struct Work {
 }
 
 impl Work {
-    /// Makes the room, which has no line yet.
+    /// Returns buffers that hold no line yet.
     pub fn new() -> Work {
         Work {
             line: Line::empty(),
@@ -50,7 +50,7 @@ impl Work {
 }
 
 impl<A: Allocator + Copy> Interpreter<A> {
-    // What a line does.
+    // Finds the effects of a line.
     fn effects(&self, words: &[Word], effects: &mut ArrayVec<Effect, 24>) -> Result<(), Fault>
         ensures { GivesEffects result effects.new.items
             (effects_in (state_of self.now).modes (pairs_of words.now)) }
@@ -65,7 +65,7 @@ impl<A: Allocator + Copy> Interpreter<A> {
         }
     }
 
-    // Settings are made behind all that the line does.
+    // Makes settings, after all other effects of the line.
     fn set(&mut self, changes: &Changes)
         ensures { state_of self.new ≡ with_settings (changes_of changes.now) (state_of self.old) }
     {
@@ -90,7 +90,7 @@ impl<A: Allocator + Copy> Interpreter<A> {
         }
     }
 
-    // Executes what a line says.
+    // Executes a line that was read.
     fn execute(
         &mut self,
         machine: &Machine<A>,
@@ -117,7 +117,7 @@ impl<A: Allocator + Copy> Interpreter<A> {
         }
     }
 
-    // Executes a line of the program. Where its values are numbers, nothing has to be worked out.
+    // Executes a line of the program. If its values are numbers, no expression is evaluated.
     fn execute_line(
         &mut self,
         machine: &Machine<A>,
@@ -153,8 +153,7 @@ impl<A: Allocator + Copy> Interpreter<A> {
     }
 
     /// Executes a line of the program, by its index from 0, unless block delete takes it out. A
-    /// fault is the program's first one, or 900. `work` is where what the line says, its values and
-    /// its effects are found.
+    /// fault is the program's first one, or 900. `work` holds the line's words, values and effects.
     pub fn take_line(
         &mut self,
         machine: &Machine<A>,
@@ -182,7 +181,8 @@ impl<A: Allocator + Copy> Interpreter<A> {
         }
     }
 
-    /// The lines have run out: a marked file ends at its second `%`, whose line is the mark.
+    /// Ends a program after its last line: a marked file ends at its second `%`, whose line is
+    /// `mark`.
     pub(crate) fn finish(
         mut self,
         mark: Option<u32>,
@@ -206,7 +206,7 @@ impl<A: Allocator + Copy> Interpreter<A> {
     }
 }
 
-// The line of the second `%` of a marked file.
+// Returns the line of the second `%` of a marked file.
 fn mark_of<A: Allocator>(program: &Program<A>) -> Option<u32>
     ensures { result ≡ marked_at (text_in program.now).marked (length (text_in program.now).lines) }
 {
@@ -217,11 +217,11 @@ fn mark_of<A: Allocator>(program: &Program<A>) -> Option<u32>
     }
 }
 
-/// The commands of a program on a machine with its tools, at a setting of block delete, in the
-/// order in which they are executed, or its first fault with its line (101, 102, 120, 131 to 133,
-/// 201 to 210, 221, 222, 231 to 236, 241 to 246, 251, 252), or 900.
+/// Returns the commands of a program on a machine with its tools, at a setting of block delete, in
+/// the order in which they are executed. Otherwise it returns the first fault with its line (101,
+/// 102, 120, 131 to 133, 201 to 210, 221, 222, 231 to 236, 241 to 246, 251, 252), or 900.
 ///
-/// With block delete on, lines that begin with `/` are taken out before anything is evaluated.
+/// With block delete on, lines that begin with `/` are left out before anything is evaluated.
 pub fn interpret<A: Allocator + Copy>(
     alloc: A,
     program: &Program<A>,
@@ -229,8 +229,7 @@ pub fn interpret<A: Allocator + Copy>(
     tools: &Tools<A>,
     block_delete: bool,
 ) -> Result<Vec<Command, A>, ProgramFault>
-    // Whatever the lines' readings are (each line has one, and only one), the answer is what they
-    // mean.
+    // For all readings of the lines (each line has exactly one), the result is what they mean.
     ensures commands { (rs : List Reading) → AreReadings (text_in program.now).lines rs →
         GivesMeaning (λ v. v.items) result
         (meaning (program_said (text_in program.now) rs)
@@ -239,10 +238,10 @@ pub fn interpret<A: Allocator + Copy>(
     // before it ends.
     ensures joined { IfOk result
         (λ v. AreJoined (file_of machine.now).start (ways_of (actions_of v.items))) }
-    // Each arc has some radius, in range, and nearly the same at both ends.
+    // Each arc has a radius in range, nearly the same at both ends.
     ensures radii { IfOk result (λ v. HaveEvenRadii (ways_of (actions_of v.items))) }
     ensures count { IfOk result (λ v. length v.items ≤ 1000000) }
-    // Nothing comes after the end.
+    // Nothing follows the end.
     ensures ended { IfOk result (λ v. EndIsLast v.items) }
     // The last command is the end.
     ensures has_end { IfOk result (λ v. HasEnd v.items) }

@@ -47,7 +47,7 @@ fn with_coolant(code: Coolant, had: CoolantState) -> CoolantState
 }
 
 impl<A: Allocator> Interpreter<A> {
-    /// S: the speed, which a turning spindle takes at once.
+    /// Executes S: sets the speed, which takes effect at once if the spindle turns.
     pub(crate) fn set_speed(&mut self, value: Value) -> Result<(), LineRefusal>
         ensures { Becomes result (state_of self.new) (speed_set value (state_of self.old)) }
     {
@@ -58,7 +58,7 @@ impl<A: Allocator> Interpreter<A> {
         }
     }
 
-    /// M3, M4, M5.
+    /// Executes M3, M4 or M5.
     pub(crate) fn set_spindle(&mut self, code: Spindle) -> Result<(), LineRefusal>
         ensures { Becomes result (state_of self.new) (spindle_set code (state_of self.old)) }
     {
@@ -73,7 +73,7 @@ impl<A: Allocator> Interpreter<A> {
         self.emit(Action::Mount(tool))
     }
 
-    /// M6: mounts the selected tool, or none; 222 where the table doesn't have it.
+    /// Executes M6: mounts the selected tool, or none. Returns 222 if the table doesn't have it.
     pub(crate) fn change_tool(&mut self, tools: &Tools<A>) -> Result<(), LineRefusal>
         ensures { Becomes result (state_of self.new)
             (tool_changed (tools_of tools.now) (state_of self.old).selected (state_of self.old)) }
@@ -87,7 +87,7 @@ impl<A: Allocator> Interpreter<A> {
         }
     }
 
-    /// M7, M8, M9.
+    /// Executes M7, M8 or M9.
     pub(crate) fn set_coolant(&mut self, code: Coolant) -> Result<(), LineRefusal>
         ensures { Becomes result (state_of self.new) (coolant_set code (state_of self.old)) }
     {

@@ -1,4 +1,4 @@
-//! What holds between two effects of a program.
+//! The state between two effects of a program.
 ghost use Rattle.std.proofs.Props.{props};
 ghost use Rattle.std.specs.Prelude.{◌≤◌, unsigned_abs, IfSome};
 ghost use Rattle.ngc_offsets.specs.Ranges.{MACHINE_LIMIT, IsMachinePlace};
@@ -11,14 +11,14 @@ use ngc_offsets::Frames;
 use ngc_parameters::Store;
 use std::alloc::Allocator;
 
-/// Why a line isn't executed: what it breaks, or want of memory.
+/// Why a line isn't executed: its fault, or lack of memory.
 #[derive(Clone, Copy)]
 pub enum LineRefusal {
     Breaks(Fault),
     Memory,
 }
 
-/// R, the bottom, P and Q of a canned cycle, for the lines that leave them out.
+/// R, the bottom, P and Q of a canned cycle, for lines that leave them out.
 #[derive(Clone, Copy)]
 pub struct Kept {
     pub retract: Nm,
@@ -28,7 +28,7 @@ pub struct Kept {
     pub peck: Nm,
 }
 
-/// Executes a program line by line: what holds between two lines, and the commands so far.
+/// Executes a program line by line: the state between two lines, and the commands so far.
 #[derive(Drop)]
 pub struct Interpreter<A: Allocator> {
     pub(crate) line: u32,
@@ -44,7 +44,7 @@ pub struct Interpreter<A: Allocator> {
     pub(crate) coolant: CoolantState,
     pub(crate) selected: u32,
     pub(crate) kept: Kept,
-    /// The machine's height before the series of canned cycles, if one is under way.
+    /// The machine's height before the series of canned cycles, if one is in progress.
     pub(crate) series: Option<Nm>,
     pub(crate) commands: Vec<Command, A>,
     pub(crate) ended: bool,

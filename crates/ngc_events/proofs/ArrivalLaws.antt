@@ -1,4 +1,4 @@
--- What a piece of a text adds to the lines that have arrived.
+-- The lines that a piece of a text completes.
 use Rattle.std.proofs.Common.{◌≡◌, ◌⊎◌, inl, inr, ℕ, ◌+◌, ◌<◌, ◌≤◌, ◌^◌, ap, Bool, true, false, Some, None, List, [], ◌∷◌, ◌++◌, length, subst, append_assoc}
 use Rattle.std.proofs.Common.{refl, sym, ◌∙◌, arith}
 use Rattle.std.specs.Prelude.{codes, decimal, ◌==◌, nat_le}
@@ -53,7 +53,7 @@ longest_line line said h =
 are_given : List EventLine → Bool
 are_given lines = list_all (λ (line : EventLine). is_given line.event line.times) lines
 
--- what follows the lines that have arrived
+-- the bytes that follow the lines that have arrived
 pub follows : (text piece : List ℕ) (lines : List EventLine) (now : Arriving) → HaveArrived text lines now →
     text ++ piece ≡ events_text lines ++ (now.begun ++ piece)
 follows text piece lines now h = ap (λ l. l ++ piece) h.spelled ∙ append_assoc (events_text lines) now.begun piece
@@ -101,7 +101,7 @@ more_begun text piece lines old new h feedless is =
       counted = h.counted;
     } in subst (HaveArrived (text ++ piece) lines) (sym is) arrived
 
--- ---- a line that says no event
+-- ---- a line that is no event
 
 wrong_line : (text piece : List ℕ) (lines : List EventLine) (old : Arriving) → HaveArrived text lines old → IsNoEvent (old.begun ++ piece) →
     IsWrongAfter (text ++ piece) lines (old.complete + 1)
@@ -113,7 +113,7 @@ wrong_line text piece lines old h none = record {
   number = omega (arith, h.counted);
 }
 
--- it is too long before its line feed comes
+-- the line is too long before its line feed arrives
 pub long_begun : (text piece : List ℕ) (lines : List EventLine) (old : Arriving) (at : ℕ) → HaveArrived text lines old → is_feedless piece ≡ true →
     LONGEST_LINE < length (old.begun ++ piece) → at ≡ old.complete + 1 → IsWrongAfter (text ++ piece) lines at
 long_begun text piece lines old at h feedless long is =
@@ -140,7 +140,7 @@ pub wrong_ended : (text piece part rest : List ℕ) (lines : List EventLine) (ol
 wrong_ended text piece part rest lines old at h split wrong is =
     subst (IsWrongAfter (text ++ piece) lines) (sym is) (wrong_line text piece lines old h (no_event old.begun piece part rest h.feedless split wrong))
 
--- ---- the lines that a text begins with
+-- ---- the complete lines at the front of a text
 
 pub arrived_begins : (text : List ℕ) (lines : List EventLine) (now : Arriving) → HaveArrived text lines now → Begins text lines
 arrived_begins text lines now h = record { after = now.begun; spelled = h.spelled; given = h.given }

@@ -1,4 +1,4 @@
--- The spelling of an event says it, and what says an event is its spelling.
+-- The text of an event is read as the event, and only that text is.
 use Rattle.std.proofs.Common.{◌≡◌, ◌⊎◌, inl, inr, ℕ, zero, suc, ◌<◌, ◌≤◌, ◌^◌, ap, subst, Bool, true, false, Option, Some, None, List, ◌++◌, length, take, drop}
 use Rattle.std.proofs.Common.{refl, sym, ◌∙◌, arith}
 use Rattle.std.specs.Prelude.{codes, decimal, ◌==◌, nat_le, if◌then◌else◌}
@@ -42,7 +42,7 @@ kept limit (Some m) n e = let k = if_within (nat_le m limit) m n e in (ap Some k
 number_spelled : (limit : ℕ) (t : List ℕ) (n : ℕ) → number_to limit t ≡ Some n → limit < 2 ^ 64 → (t ≡ decimal n) × (n ≤ limit)
 number_spelled limit t n e fits = let k = kept limit (decimal_in t) n e in (decimal_spelled t n k.0 (omega (arith, k.1, fits)), k.1)
 
--- ---- the spelling says the event
+-- ---- the text of an event is read as the event
 
 one : (n : ℕ) → (n == 1) ≡ true → n ≡ 1
 one n h = grind (arith, nat_tests)
@@ -94,7 +94,7 @@ words_feedless (StopSwitch true) times h = refl
 words_feedless (StopSwitch false) times h = refl
 words_feedless Start times h = refl
 
--- ---- what says an event is its spelling
+-- ---- a line that is read as an event is the event's text
 
 pub record Spells (line : List ℕ) (said : EventLine) : Type 0 where
   pub is : line ≡ words_of said.event said.times
@@ -110,7 +110,7 @@ bytes_same xs ys h = (bytes_eq-Decides xs ys).0 h
 some_same : {A : Type 0} (x y : A) → Some x ≡ Some y → x ≡ y
 some_same x y e = cc e
 
--- one word of several
+-- one word among several
 word_or : (line word : List ℕ) (event : Event) (others : Option Event) (said : Event) → word ≡ words_of event 1 → is_given event 1 ≡ true
     → (others ≡ Some said → Spells line (once said)) → (if bytes_eq line word then Some event else others) ≡ Some said → Spells line (once said)
 word_or line word event others said is given other h = elim (by_test (bytes_eq line word) (Some event) others said h) [

@@ -13,7 +13,7 @@ other_byte b h = grind (arith, nat_tests)
 feed_byte : (b : ℕ) → (b == 10) ≡ true → b ≡ 10
 feed_byte b h = grind (arith, nat_tests)
 
--- where no byte up to an index is a line feed, there is none in front of it
+-- if no byte before an index is a line feed, the text in front of the index has none
 feedless_front : (bytes : List ℕ) (n : ℕ) → n ≤ length bytes → ((k : ℕ) → k < n → (slice_index bytes k == 10) ≡ true → ⊥) → is_feedless (take n bytes) ≡ true
 feedless_front bytes zero h none = refl
 feedless_front [] (suc n) h none = absurd (omega (arith, h))

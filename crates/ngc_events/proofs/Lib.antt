@@ -1,12 +1,12 @@
--- What a piece of a text adds to the lines that have arrived.
+-- The lines that a piece of a text completes.
 pub mod ArrivalLaws
--- The spelling of an event says it, and what says an event is its spelling.
+-- The text of an event is read as the event, and only that text is.
 pub mod EventLaws
 -- The first line feed among bytes.
 pub mod FirstFeed
 -- Where the first line of a text ends.
 pub mod LineFeeds
--- Lines as they are read, one by one.
+-- Reading lines in order.
 pub mod ReadLaws
--- The text of events says them, and what says events is their text.
+-- The text of a list of events is read as the list, and only that text is.
 pub mod SpellingLaws

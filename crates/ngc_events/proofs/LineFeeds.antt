@@ -5,7 +5,7 @@ use Rattle.std.specs.List.{slice_split, onto_first}
 use Rattle.std.proofs.lemmas.List.{take_all}
 use Rattle.memchr.specs.Find.{IsFirstByte, is_byte}
 
--- the lines of a text, and last what stands behind the last line feed
+-- the lines of a text, and at the end the part after the last line feed
 abbrev pub lines_of : List ℕ → List (List ℕ)
 lines_of text = slice_split (λ b. b == 10) text
 
@@ -46,7 +46,7 @@ feedless (b ∷ rest) none = rw (none 0 (omega arith), feedless rest (λ j l. no
 pub no_feed_found : (text : List ℕ) → IsFirstByte (is_byte 10) text None → lines_of text ≡ text ∷ []
 no_feed_found text h = feedless text (λ j l. no_feed (get_or text j 0 == 10) (h j (omega arith) l))
 
--- what stands behind the first line feed
+-- the text after the first line feed
 pub rest_of : (text : List ℕ) (k : ℕ) → IsFirstByte (is_byte 10) text (Some k)
     → (take (length text - (k + 1)) (drop (k + 1) text) ≡ drop (k + 1) text) × (length (take (length text - (k + 1)) (drop (k + 1) text)) < length text)
 rest_of text k h =

@@ -1,4 +1,4 @@
--- Lines as they are read, one by one.
+-- Reading lines in order.
 use Rattle.std.proofs.Common.{◌≡◌, ℕ, ◌+◌, ◌<◌, ◌≤◌, ap, true, false, Option, Some, None, Result, Ok, Err, List, [], ◌∷◌, ◌++◌, length, take, drop}
 use Rattle.std.proofs.Common.{append_assoc, refl, sym, ◌∙◌, arith}
 use Rattle.std.specs.Prelude.{◌==◌, nat_le}
@@ -70,7 +70,7 @@ line_unended number text small some h =
     ap (lines_said number) (no_feed_found text h) ∙ last_said number text some
     ∙ ap (λ (r : Result EventLine EventsFault). in_front r (Ok [])) (line_few number None small)
 
--- the part behind the last line feed is the whole text where it is the only one
+-- if the part after the last line feed is the only part, it is the whole text
 only_part : (text last : List ℕ) → lines_of text ≡ last ∷ [] → last ≡ text
 only_part text last e = sym (ap (join_with_byte 10) e) ∙ join_with_byte-slice_split 10 text
 

@@ -1,4 +1,4 @@
--- The text of events says them, and what says events is their text.
+-- The text of a list of events is read as the list, and only that text is.
 use Rattle.std.proofs.Common.{◌≡◌, ℕ, ◌+◌, ◌≤◌, ap, subst, Bool, true, false, Option, Some, None, Result, Ok, Err, List, [], ◌∷◌, ◌++◌, length, append_assoc}
 use Rattle.std.proofs.Common.{refl, sym, ◌∙◌, arith}
 use Rattle.std.specs.Prelude.{◌==◌, nat_le, if◌then◌else◌}
@@ -25,7 +25,7 @@ Said = Result (List EventLine) EventsFault
 abbrev are_given : List EventLine → Bool
 are_given lines = list_all (λ (line : EventLine). is_given line.event line.times) lines
 
--- ---- the spelling says the events
+-- ---- the text of events is read as the events
 
 reads : (number : ℕ) (lines : List EventLine) → are_given lines ≡ true → number + length lines ≤ 1000001 → said_from number (events_text lines) ≡ Ok lines
 reads number [] given few = nothing_said number
@@ -40,7 +40,7 @@ reads number (line ∷ lines) given few =
     (event_reads line.event line.times parts.0))
     ∙ ap (in_front (Ok line)) (reads (number + 1) lines parts.1 (omega (arith, few)))
 
--- ---- what says events is their spelling
+-- ---- a text that is read as events is the text of these events
 
 record Spelled (number : ℕ) (parts : List (List ℕ)) (lines : List EventLine) : Type 0 where
   text : join_with_byte 10 parts ≡ events_text lines
@@ -66,7 +66,7 @@ last_spelled number last lines true e few h =
       is_zero n h = grind (arith, nat_tests)
 last_spelled number last lines false e few h = absurd (none_said number (nat_le number 1000000) lines h)
 
--- a line and those behind it
+-- a line and the lines after it
 record Parted (first : Result EventLine EventsFault) (others : Said) (lines : List EventLine) : Type 0 where
   line : EventLine
   behind : List EventLine
@@ -107,7 +107,7 @@ spelled number (part ∷ next ∷ parts) lines few h =
       few = omega (arith, more.few);
     })
 
--- ---- both ways
+-- ---- both directions
 
 pub text_said : (lines : List EventLine) → AreEvents lines → events_said (events_text lines) ≡ Ok lines
 unfolding events_said

@@ -9,7 +9,7 @@ use Rattle.ngc_events.specs.declared.fault.EventsFault.TheVariants.{BadLine, Too
 use Rattle.ngc_events.specs.Events.{event_said}
 use Rattle.ngc_events.specs.Spelling.{events_text, is_given}
 
--- the length of the longest line that says an event, as `tick 1000000` and `override 255`
+-- the length of the longest line of an event, as `tick 1000000` and `override 255`
 abbrev pub LONGEST_LINE : ℕ
 LONGEST_LINE = 12
 
@@ -22,13 +22,13 @@ pub record IsSplit (bytes line after : List ℕ) : Type 0 where
   pub feedless : IsTrue (is_feedless line)
   pub parts : bytes ≡ line ++ 10 ∷ after
 
--- how many lines are complete, and what has arrived of the next one
+-- the number of complete lines, and the bytes of the next line that have arrived
 pub record Arriving : Type 0 where
   pub complete : ℕ
   pub begun : List ℕ
 
--- A text is the lines of these events, and the beginning of another line. By the law of one
--- spelling it says these events up to that line, just as the text of an events file does.
+-- A text is the lines of these events, and a prefix of another line. By the law of one spelling it
+-- lists these events up to that line, just as the text of an events file does.
 pub record HaveArrived (text : List ℕ) (lines : List EventLine) (now : Arriving) : Type 0 where
   pub spelled : text ≡ events_text lines ++ now.begun
   pub given : IsTrue (list_all (λ (line : EventLine). is_given line.event line.times) lines)
@@ -41,7 +41,7 @@ pub record Begins (text : List ℕ) (lines : List EventLine) : Type 0 where
   pub spelled : text ≡ events_text lines ++ after
   pub given : IsTrue (list_all (λ (line : EventLine). is_given line.event line.times) lines)
 
--- the first line of a text says no event, whatever follows the text
+-- the first line of a text is no event, whatever follows the text
 pub record IsNoEvent (text : List ℕ) : Type 0 where
   pub line : List ℕ
   pub after : List ℕ
@@ -50,7 +50,7 @@ pub record IsNoEvent (text : List ℕ) : Type 0 where
   pub wrong : (LONGEST_LINE < length line) ⊎
       ((event_said line ≡ None) × (rest : List ℕ) × (after ≡ 10 ∷ rest))
 
--- a text is the lines of these events, and then a line that says no event: the line of this number
+-- a text is the lines of these events, and then a line, of this number, that is no event
 pub record IsWrongAfter (text : List ℕ) (lines : List EventLine) (at : ℕ) : Type 0 where
   pub wrong : List ℕ
   pub spelled : text ≡ events_text lines ++ wrong
@@ -58,21 +58,21 @@ pub record IsWrongAfter (text : List ℕ) (lines : List EventLine) (at : ℕ) : 
   pub no_event : IsNoEvent wrong
   pub number : at ≡ length lines + 1
 
--- the most lines that are counted
+-- the largest number of lines that are counted
 abbrev pub MOST_LINES : ℕ
 MOST_LINES = 2 ^ 64 - 1
 
--- why no more events are read after these
+-- why no event is read after these
 abbrev pub StopsAfter : List ℕ → List EventLine → EventsFault → Type 0
 StopsAfter text lines (BadLine number) = IsWrongAfter text lines number
 StopsAfter text lines TooManyLines = Begins text lines × (length lines ≡ MOST_LINES)
 StopsAfter text lines Memory = ⊥
 
--- the most bytes that may have arrived: each complete line as long as a line may be
+-- the most bytes that may have arrived, if each complete line has the greatest length
 abbrev pub filled : Arriving → ℕ
 filled now = (LONGEST_LINE + 1) * now.complete + length now.begun
 
--- and that may arrive at all
+-- the most bytes that may arrive at all
 abbrev pub MOST_TEXT : ℕ
 MOST_TEXT = (LONGEST_LINE + 1) * MOST_LINES + LONGEST_LINE
 
@@ -84,7 +84,7 @@ pub record TakesOne (text piece : List ℕ) (lines : List EventLine) (line : Eve
   pub arrived : HaveArrived (text ++ front) (lines ++ line ∷ []) new
   pub shorter : length rest < length piece
 
--- what is taken of a piece that follows a text
+-- the result for a piece that follows a text
 abbrev pub Takes : List ℕ → List EventLine → List ℕ → Arriving →
     Result (Option (EventLine × Bor (List ℕ))) EventsFault → Type 0
 Takes text lines piece new (Ok None) = HaveArrived (text ++ piece) lines new
@@ -99,7 +99,7 @@ pub record IsUnended (text : List ℕ) (lines : List EventLine) (at : ℕ) : Typ
   pub some : 0 < length begun
   pub number : at ≡ length lines + 1
 
--- the answer once no more of a text arrives
+-- the result after all of a text has arrived
 abbrev pub Ends : List ℕ → List EventLine → Result (Unit {0}) EventsFault → Type 0
 Ends text lines (Ok done) = text ≡ events_text lines
 Ends text lines (Err (BadLine number)) = IsUnended text lines number

@@ -1,4 +1,4 @@
--- What the bytes of an events file say: an event for each line, or the first fault. Our own.
+-- The events of the bytes of an events file: one for each line, or the first fault. Our own.
 use Rattle.std.specs.Prelude.{ℕ, zero, suc, ◌+◌, nat_le, ◌==◌, List, [], ◌∷◌, length, take, drop}
 use Rattle.std.specs.Prelude.{codes, Option, Some, None}
 use Rattle.std.specs.Prelude.{Result, Ok, Err, Bool, true, false, if◌then◌else◌}
@@ -15,12 +15,12 @@ use Rattle.ngc_events.specs.declared.fault.EventsFault.TheVariants.{BadLine, Too
 
 -- ---- numbers
 
--- a number, where it is no greater than the limit
+-- a number, if it is at most the limit
 abbrev pub up_to : ℕ → Option ℕ → Option ℕ
 up_to limit None = None
 up_to limit (Some n) = if nat_le n limit then Some n else None
 
--- the number whose decimal spelling a text is, where it is no greater than the limit
+-- the number that a text is in decimal digits, if it is at most the limit
 abbrev pub number_to : ℕ → List ℕ → Option ℕ
 number_to limit text = up_to limit (decimal_in text)
 
@@ -40,11 +40,11 @@ override number = option_map (λ n. once (Override n)) number
 abbrev pub begins : List ℕ → List ℕ → Bool
 begins front line = bytes_eq (take (length front) line) front
 
--- what stands behind such a beginning
+-- the rest of a line after such a front
 abbrev pub behind : List ℕ → List ℕ → List ℕ
 behind front line = drop (length front) line
 
--- the event that a word says
+-- the event of a word
 unfoldable pub word_said : List ℕ → Option Event
 word_said word =
     if bytes_eq word (codes "load") then Some Load else
@@ -54,7 +54,7 @@ word_said word =
     if bytes_eq word (codes "switch on") then Some (StopSwitch true) else
     if bytes_eq word (codes "switch off") then Some (StopSwitch false) else None
 
--- what a line says, its line feed left out
+-- the event of a line without its line feed
 unfoldable pub event_said : List ℕ → Option EventLine
 event_said line =
     if begins (codes "tick ") line then ticks (number_to 1000000 (behind (codes "tick ") line)) else
@@ -64,19 +64,19 @@ event_said line =
 
 -- ---- the lines of a text
 
--- what the line of this number says; one past the 1,000,000th is too many, whatever it says
+-- the result for the line of this number; a line after the 1,000,000th is too many, whatever it is
 abbrev pub line_said : ℕ → Option EventLine → Result EventLine EventsFault
 line_said number said =
     if nat_le number 1000000 then ok_or said (BadLine number) else Err TooManyLines
 
--- the first line's event in front of those of the others
+-- the first line's event in front of those of the other lines
 abbrev pub in_front : Result EventLine EventsFault → Result (List EventLine) EventsFault →
     Result (List EventLine) EventsFault
 in_front (Ok line) (Ok others) = Ok (line ∷ others)
 in_front (Ok line) (Err fault) = Err fault
 in_front (Err fault) others = Err fault
 
--- what lines say, of which the first has this number; the last one is what stands behind the last
+-- the events of lines, of which the first has this number; the last part is what follows the last
 -- line feed, and must be empty
 unfoldable pub lines_said : ℕ → List (List ℕ) → Result (List EventLine) EventsFault
 lines_said number [] = Ok []

@@ -1,10 +1,10 @@
--- How the answer of reading an events file goes with what its text says. Our own.
+-- How the result of reading an events file relates to the events of its text. Our own.
 use Rattle.std.specs.Prelude.{◌≡◌, List, Vec, Result, Ok, Err}
 use Rattle.ngc_events.specs.declared.event.EventLine.{EventLine}
 use Rattle.ngc_events.specs.declared.fault.EventsFault.{EventsFault}
 use Rattle.ngc_events.specs.declared.fault.EventsFault.TheVariants.{BadLine, TooManyLines, Memory}
 
--- the answer is what the text says, but for want of memory
+-- the result is that of the text, unless memory ran out
 abbrev pub GivesEvents : {A : Type 0} → Result (Vec EventLine A) EventsFault →
     Result (List EventLine) EventsFault → Type 0
 GivesEvents (Ok events) says = says ≡ Ok events.items

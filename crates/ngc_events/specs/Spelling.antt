@@ -1,4 +1,4 @@
--- The text of a list of events, and the law that it is the only one that says them. Our own.
+-- The text of a list of events, and the law that only this text is read as the list. Our own.
 use Rattle.std.specs.Prelude.{◌≡◌, ◌↔◌, ◌≤◌, ℕ, nat_le, ◌==◌, List, ◌++◌, length, flat_map, decimal}
 use Rattle.std.specs.Prelude.{codes, Ok}
 use Rattle.std.specs.Prelude.{IsTrue, Bool, true, false, ◌&&◌}
@@ -9,7 +9,7 @@ use Rattle.ngc_events.specs.declared.event.Event.TheVariants.{StopSwitch, Start}
 use Rattle.ngc_events.specs.declared.event.EventLine.{EventLine}
 use Rattle.ngc_events.specs.Events.{events_said}
 
--- an event that is given so many times
+-- the line of an event that occurs `times` times
 abbrev pub words_of : Event → ℕ → List ℕ
 words_of Load times = codes "load"
 words_of Tick times = codes "tick " ++ decimal times
@@ -26,7 +26,7 @@ event_text line = words_of line.event line.times ++ codes "\n"
 abbrev pub events_text : List EventLine → List ℕ
 events_text lines = flat_map event_text lines
 
--- how many times an event may be given by one line
+-- whether a line may have an event this number of times
 abbrev pub is_given : Event → ℕ → Bool
 is_given Load times = times == 1
 is_given Tick times = nat_le 1 times && nat_le times 1000000
@@ -41,7 +41,7 @@ pub record AreEvents (lines : List EventLine) : Type 0 where
   pub count : length lines ≤ 1000000
   pub each : IsTrue (list_all (λ (line : EventLine). is_given line.event line.times) lines)
 
--- a text says events just where they are events of a file, and it is their spelling
+-- a text is read as events exactly if they are events that a file can hold, and it is their text
 abbrev pub OneSpelling : Type 0
 OneSpelling =
     (text : List ℕ) (lines : List EventLine)

@@ -13,10 +13,10 @@ use arrayvec::ArrayVec;
 use memchr::memchr;
 use std::marker::Model;
 
-/// The lines of events whose text arrives in pieces of any size: each is read as soon as its line
+/// The events of a text that arrives in pieces of any size. Each event is read as soon as its line
 /// feed has arrived.
 ///
-/// Of the text no more is kept than a line that a piece's end cuts, which has at most 12 bytes.
+/// The only bytes that are stored are those of a line that a piece cuts, at most 12.
 #[derive(Drop)]
 pub struct EventLines {
     complete: u64,
@@ -33,7 +33,7 @@ impl Model for EventLines {
     ghost invariant = { λ l. Unit {0} };
 }
 
-// The first line of some bytes, and the bytes after its line feed.
+// Returns the first line of some bytes, and the bytes after its line feed.
 fn split_line(bytes: &[u8]) -> Option<(&[u8], &[u8])>
     ensures { MatchOption result (IsTrue (is_feedless bytes.now))
         (λ p. IsSplit bytes.now p.0.now p.1.now) }
@@ -44,7 +44,7 @@ fn split_line(bytes: &[u8]) -> Option<(&[u8], &[u8])>
 }
 
 impl EventLines {
-    /// Nothing of the text has arrived yet.
+    /// Returns the state before any byte of the text has arrived.
     pub fn new() -> EventLines
         ensures { HaveArrived [] [] result }
     {
@@ -54,7 +54,7 @@ impl EventLines {
         }
     }
 
-    // Adds to the line that isn't complete. No event has a line that is longer than 12 bytes.
+    // Adds bytes to the line that isn't complete. A line with an event has at most 12 bytes.
     fn add(&mut self, part: &[u8]) -> Result<(), EventsFault>
         requires { self.old.complete < MOST_LINES }
         ensures ok { OnOk result (self.new ≡ record self.old { begun = self.old.begun ++ part.now }) }
@@ -69,7 +69,7 @@ impl EventLines {
         }
     }
 
-    // The event of the line, which is complete now.
+    // Returns the event of the line, which is complete now.
     fn complete(&mut self) -> Result<EventLine, EventsFault>
         requires { self.old.complete < MOST_LINES }
         ensures line { IfOk result (λ line. event_said self.old.begun ≡ Some line) }
@@ -88,10 +88,10 @@ impl EventLines {
     }
 
     /// Takes bytes up to the first line feed, and returns the event of the line that it ends, with
-    /// the bytes after it; or `None` where there is no line feed, and all bytes are kept.
+    /// the bytes after it. Without a line feed it stores all bytes, and returns `None`.
     ///
-    /// A line that says no event is 711, with its line feed or with its 13th byte. After 2^64 - 1
-    /// lines there are too many (712). After a fault nothing more is taken.
+    /// A line that is no event is 711, at its line feed or at its 13th byte. After 2^64 - 1 lines
+    /// there are too many (712). After a fault no more bytes are taken.
     pub fn take<'p>(
         &mut self,
         piece: &'p [u8],
@@ -99,7 +99,7 @@ impl EventLines {
         ensures takes { (text : List ℕ) (lines : List Line) → HaveArrived text lines self.old →
             Takes text lines piece.now self.new result }
         ensures shorter { IfOk result (λ o. IfSome o (λ p. length p.1.now < length piece.now)) }
-        // A text is no longer than its lines may be.
+        // The text is at most as long as the number of its lines allows.
         ensures fills { IfOk result (λ o. MatchOption o
             (filled self.old + length piece.now ≤ filled self.new)
             (λ p. filled self.old + length piece.now ≤ filled self.new + length p.1.now)) }
@@ -126,8 +126,7 @@ impl EventLines {
         }
     }
 
-    /// Returns whether the text is complete, where no more of it arrives: a last line without its line
-    /// feed is 711.
+    /// Ends the text. A last line without its line feed is 711.
     pub fn finish(&self) -> Result<(), EventsFault>
         ensures { (text : List ℕ) (lines : List Line) → HaveArrived text lines self.now →
             Ends text lines result }

@@ -5,13 +5,13 @@ use thiserror::Error;
 /// Why an events file is refused.
 #[derive(Clone, Copy, Debug, PartialEq, Eq, Error)]
 pub enum EventsFault {
-    /// The line of this number, from 1, says no event or lacks its line feed.
+    /// 711: the line of this number, from 1, is no event or lacks its line feed.
     #[error("wrong line {}", .0)]
     BadLine(u64),
-    /// There are more than 1,000,000 lines.
+    /// 712: there are more than 1,000,000 lines.
     #[error("too many lines")]
     TooManyLines,
-    /// There was no memory for the events.
+    /// 900: there is not enough memory for the events.
     #[error("out of memory")]
     Memory,
 }
@@ -19,7 +19,7 @@ pub enum EventsFault {
 impl EventsFault {
     ghost use Rattle.ngc_events.specs.Faults.{number_of};
 
-    /// The fault's number: 711, 712 or 900.
+    /// Returns the fault's number: 711, 712 or 900.
     pub fn number(&self) -> u16
         ensures { result ≡ number_of self.now }
     {

@@ -1,7 +1,8 @@
 //! Laws about the definitions alone.
 ghost use Rattle.ngc_events.specs.Spelling.{OneSpelling};
 
-/// A text says events just where it is their spelling, so no list of events has two texts.
+/// States that a text is read as events exactly if it is their text. So each list of events has
+/// only one text.
 pub fn one_spelling()
     ensures { OneSpelling }
 {}

@@ -1,5 +1,5 @@
-//! The events of a controller: what the panel, the loader and the pulse clock give to it, what it
-//! answers, and the file that lists events, one a line.
+//! The events of a controller, which come from the panel, the loader and the pulse clock, the
+//! controller's replies, and the file that lists events, one per line.
 #![tactic(auto)]
 
 mod arriving;

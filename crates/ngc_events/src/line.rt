@@ -13,7 +13,7 @@ fn once(event: Event) -> EventLine
     EventLine { event, times: 1 }
 }
 
-// The number whose decimal spelling a text is, if it is no greater than the limit.
+// Returns the number that a text is in decimal digits, if it is at most the limit.
 fn number_to(limit: u32, text: &[u8]) -> Option<u32>
     ensures value { result ≡ number_said limit text.now }
     ensures within { IfSome result (λ n. n ≤ limit) }
@@ -24,7 +24,7 @@ fn number_to(limit: u32, text: &[u8]) -> Option<u32>
     }
 }
 
-// So many ticks.
+// Returns the event of a number of ticks, or `None` if the text isn't such a number.
 fn ticks(number: &[u8]) -> Option<EventLine>
     ensures { result ≡ ticks_said (number_said 1000000 number.now) }
 {
@@ -73,7 +73,7 @@ fn word_event(word: &[u8]) -> Option<Event>
     }
 }
 
-/// What a line says, its line feed left out.
+/// Returns the event of a line without its line feed, or `None`.
 #[tactic(auto, unfolding(crate::specs::Events::event_said))]
 pub(crate) fn event_in(line: &[u8]) -> Option<EventLine>
     ensures { result ≡ event_said line.now }

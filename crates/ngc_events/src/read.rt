@@ -9,10 +9,11 @@ use crate::line::event_in;
 use memchr::memchr;
 use std::alloc::Allocator;
 
-// How many lines a file may have.
+// The most lines that a file may have.
 const LINE_LIMIT: usize = 1_000_000;
 
-// What the first line of a text says, behind so many others, and the text behind it.
+// Returns the event of the first line of a text, and the text after the line. `before` lines come
+// before it.
 fn first_line(before: usize, text: &[u8]) -> Result<(EventLine, &[u8]), EventsFault>
     requires { 0 < length text.now }
     ensures { TakesLine result (before + 1) text.now }
@@ -30,8 +31,8 @@ fn first_line(before: usize, text: &[u8]) -> Result<(EventLine, &[u8]), EventsFa
     }
 }
 
-/// The events that a text says, line by line, or the first fault: 711 where a line says no event or
-/// lacks its line feed, 712 where there are more than 1,000,000 lines.
+/// Returns the events of a text, or the first fault: 711 if a line is no event or lacks its line
+/// feed, 712 if there are more than 1,000,000 lines.
 pub fn read_events<A: Allocator>(alloc: A, text: &[u8]) -> Result<Vec<EventLine, A>, EventsFault>
     ensures { GivesEvents result (events_said text.now) }
 {

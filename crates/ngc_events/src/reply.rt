@@ -12,12 +12,12 @@ pub enum Ending {
     End,
 }
 
-/// What the machine answers to an event that it takes.
+/// The machine's reply to an event that it takes.
 #[derive(Clone, Copy)]
 pub enum Reply {
     /// The next command was loaded: its index, from 0.
     Loaded(u32),
-    /// A tick: the position after a pulse in steps, if one was emitted, and the ending of a
+    /// A tick: the position after a pulse in steps, if a pulse was emitted, and the ending of a
     /// command, if one ended.
     Ticked {
         position: Option<StepPos>,
@@ -27,7 +27,7 @@ pub enum Reply {
     Held,
     /// The machine is held no longer.
     Resumed,
-    /// The override from now on, in percent.
+    /// The feed override from now on, in percent.
     Overridden(u8),
     /// Whether the optional stop switch is on from now on.
     Switched(bool),

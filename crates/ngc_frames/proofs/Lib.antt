@@ -1,6 +1,6 @@
 -- A frame is the same as itself.
 pub mod Same
--- From line to line.
+-- From line to line of a program.
 pub mod Steps
--- There and back between the program's coordinates and the machine's.
+-- Converting between the program's coordinates and the machine's.
 pub mod Points

@@ -1,4 +1,4 @@
--- There and back between the program's coordinates and the machine's.
+-- Converting between the program's coordinates and the machine's.
 use Rattle.std.proofs.Common.{◌≡◌, ℤ, ap, ap₂, arith, ◌∙◌}
 use Rattle.std.specs.Prelude.{◌+ℤ◌, ◌-ℤ◌}
 use Rattle.std.proofs.lemmas.Int.{ints}

@@ -1,4 +1,4 @@
--- From line to line.
+-- From line to line of a program.
 use Rattle.std.proofs.Common.{◌≡◌, ℕ, ◌+◌, ◌≤◌, List, [], ◌∷◌, ◌++◌, length, drop, Bool, true, false, Result, Ok, Err, refl, ap, ap₂, subst, sym, ◌∙◌}
 use Rattle.std.proofs.Math.ListN.{drop_of_length-le}
 use Rattle.std.proofs.lemmas.List.{append_assoc, append-nil}
@@ -70,7 +70,7 @@ module _ (setup : Setup) (block_delete : Bool) (lines : List Line) (rs : List Re
       → left setup block_delete lines rs i s ≡ change_at number (frame_of s) (frame_of t) ++ left setup block_delete lines rs (i + 1) t
   left_on t running next done e = left_done t false running next done e
 
--- the change that is added is the line's
+-- the change that is added is that of the line
 added : (s t : State) (before after : Frame) (number n : ℕ) (old new : List FrameChange) → before ≡ frame_of s → after ≡ frame_of t → number ≡ n
     → new ≡ old ++ change_at n before after → new ≡ old ++ change_at number (frame_of s) (frame_of t)
 added s t before after number n old new is_before is_after is_number is =
@@ -95,7 +95,7 @@ module _ (setup : Setup) (block_delete : Bool) (lines : List Line) (rs : List Re
       added s t before after number n old new is_before is_after is_number is
       ∙ ap (λ (l : List FrameChange). old ++ l) (sym (left_ended setup block_delete lines rs i number bytes s t running next done e))
 
--- nothing is left
+-- no lines remain
 pub none_left : (rest old total : List FrameChange) → rest ≡ [] → old ++ rest ≡ total → old ≡ total
 none_left rest old total none leads = sym (append-nil old) ∙ ap (λ (l : List FrameChange). old ++ l) (sym none) ∙ leads
 

@@ -20,27 +20,27 @@ abbrev pub change_at : ℕ → Frame → Frame → List FrameChange
 change_at number old new = if is_same_frame old new then []
     else record { line = number; frame = new } ∷ []
 
--- nothing comes after an end
+-- nothing follows an end
 abbrev pub go_on : Bool → State → (State → List FrameChange) → List FrameChange
 go_on true s rest = []
 go_on false s rest = rest s
 
--- the change of a line that led from a state to another, and then those of the lines after it; none
--- where the line is refused
+-- the change of a line that led from one state to another, and then those of the lines after it;
+-- none if the line is refused
 abbrev pub then_changes : ℕ → State → Result State ProgramFault →
     (State → List FrameChange) → List FrameChange
 then_changes number s (Ok t) rest =
     change_at number (frame_of s) (frame_of t) ++ go_on t.ended t rest
 then_changes number s (Err e) rest = []
 
--- of lines one after another
+-- the changes of lines in order
 unfoldable pub changes_from : Setup → List NumberedLine → State → List FrameChange
 changes_from setup [] s = []
 changes_from setup (line ∷ lines) s =
     then_changes line.number s (after_line setup false line.number line.reading s)
     (λ t. changes_from setup lines t)
 
--- of a program's lines, at a setting of block delete
+-- the changes of a program's lines, at a setting of block delete
 abbrev pub frame_changes : Setup → List NumberedLine → Bool → List FrameChange
 frame_changes setup lines block_delete =
     changes_from setup (remaining block_delete lines) (start_state setup.machine)

@@ -13,7 +13,7 @@ unfoldable pub triple : Point3 → List ℕ
 triple p = codes "[" ++ signed_decimal p.x ++ codes "," ++ signed_decimal p.y ++ codes ","
     ++ signed_decimal p.z ++ codes "]"
 
--- the line that set the value before it, 0 where it is as at the start
+-- the line that set the value before it, 0 if it is as at the start
 unfoldable pub line_fact : ℕ → List ℕ
 line_fact line = codes ",\"line\":" ++ decimal line ++ codes "}"
 
@@ -49,6 +49,6 @@ unfoldable pub frame_fact : FrameInForce → List ℕ
 frame_fact f = system_fact f
     ++ (origin_fact f ++ (axis_offset_fact f ++ (tool_length_fact f ++ unit_fact f)))
 
--- from where to where a motion goes by the program, and in which coordinates that is
+-- the start and the end of a motion in the program's coordinates, and which coordinates these are
 unfoldable pub motion_fact : FrameInForce → Point3 → Point3 → List ℕ
 motion_fact f from to = frame_fact f ++ ends_fact from to

@@ -19,7 +19,7 @@ is_same_unit _ _ = false
 abbrev pub is_same_point : Point3 → Point3 → Bool
 is_same_point p q = int_eq p.x q.x && (int_eq p.y q.y && int_eq p.z q.z)
 
--- one after another
+-- lists of points that are the same in order
 abbrev pub are_same_points : List Point3 → List Point3 → Bool
 are_same_points [] [] = true
 are_same_points [] (q ∷ qs) = false
@@ -40,7 +40,7 @@ is_same_part parts.AxisOffset a b = is_same_point a.frames.axis_offset b.frames.
 is_same_part parts.ToolLength a b = int_eq a.frames.length b.frames.length
 is_same_part parts.Unit a b = is_same_unit a.unit b.unit
 
--- all parts are; the axis offset that G92 saved is none of them until G92.3 brings it back
+-- all parts are the same; the axis offset that G92 saved is not a part until G92.3 restores it
 abbrev pub is_same_frame : Frame → Frame → Bool
 is_same_frame a b =
     is_same_part parts.Selection a b && (are_same_points a.frames.origins b.frames.origins &&

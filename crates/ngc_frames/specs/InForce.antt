@@ -16,7 +16,7 @@ frame_at frame (c ∷ cs) line = frame_at (if nat_le c.line line then c.frame el
 abbrev pub set_by : FramePart → ℕ → Frame → FrameChange → ℕ
 set_by part had frame c = if is_same_part part frame c.frame then had else c.line
 
--- the last line, up to this one, that changed a part, and at first the one that is given
+-- the last line, up to this one, that changed a part; if there is none, `set`
 abbrev pub line_that_set : FramePart → ℕ → ℕ → Frame → List FrameChange → ℕ
 line_that_set part line set frame [] = set
 line_that_set part line set frame (c ∷ cs) =

@@ -29,7 +29,7 @@ place_text p =
 unfoldable pub line_text : ℕ → List ℕ
 line_text line = codes " of line " ++ decimal line
 
--- nothing where it is as at the start
+-- nothing if it is as at the start
 unfoldable pub line_if_set : ℕ → List ℕ
 line_if_set line = if line == 0 then [] else line_text line
 
@@ -69,7 +69,7 @@ unfoldable pub offsets_words : FrameInForce → List ℕ
 offsets_words f = origin_words f
     ++ (axis_offset_words f ++ (tool_length_words f ++ unit_words f.unit_line f.frame.unit))
 
--- from where to where a motion goes by the program, and in which coordinates that is
+-- the start and the end of a motion in the program's coordinates, and which coordinates these are
 unfoldable pub motion_words : FrameInForce → Point3 → Point3 → List ℕ
 motion_words f from to =
     system_words f ++ (ends_words from to ++ (offsets_words f ++ codes ".\n"))

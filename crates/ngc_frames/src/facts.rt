@@ -138,9 +138,9 @@ fn add_frame(chunk: &mut Chunk, frame: &FrameInForce)
     add_unit(chunk, frame);
 }
 
-/// Adds as a fact from where to where a motion goes by the program's coordinates, and which
-/// coordinates these are, with the lines that set them: 0 for what is as at the start. Room for 1200
-/// bytes must be there.
+/// Adds as a fact the start and the end of a motion in the program's coordinates. It adds which
+/// coordinates these are, with the lines that set them: 0 for what is as at the start. The buffer
+/// must have space for 1200 bytes.
 #[tactic(auto, unfolding(crate::specs::Facts::motion_fact))]
 pub fn add_motion_fact(chunk: &mut Chunk, frame: &FrameInForce, from: &Place, to: &Place)
     requires { length chunk.old + 1200 ≤ CHUNK_SIZE }

@@ -8,7 +8,7 @@ ghost use Rattle.ngc_frames.specs.Frame.{system_origin};
 use ngc_fixed_length::{Point3, System, Units};
 use ngc_offsets::Frames;
 
-/// What the coordinates of a line mean: the coordinate systems and offsets in force, and the unit
+/// The meaning of a line's coordinates: the coordinate systems and offsets in force, and the unit
 /// of lengths.
 #[derive(Clone, Copy)]
 pub struct Frame {

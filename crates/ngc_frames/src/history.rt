@@ -16,7 +16,7 @@ use ngc_machine_files::{Machine, Tools};
 use std::alloc::Allocator;
 use thiserror::Error;
 
-/// There was no memory for the execution of the program or for the changes.
+/// A lack of memory for the execution of the program or for the changes.
 #[derive(Clone, Copy, Debug, Error)]
 #[error("out of memory")]
 pub struct OutOfMemory;
@@ -54,9 +54,9 @@ fn add_change<A: Allocator>(
     }
 }
 
-/// Returns the frame in force at the start of a program on a machine with its tools, at a setting of
-/// block delete, and each executed line after which another is in force, up to the end or the first
-/// line that is refused.
+/// Executes a program and returns the frame in force at its start, on a machine with its tools, at
+/// a setting of block delete. It also returns each executed line after which another frame is in
+/// force, up to the end or the first line that is refused.
 ///
 /// It executes the program once.
 pub fn frame_history<A: Allocator + Copy>(
@@ -67,7 +67,7 @@ pub fn frame_history<A: Allocator + Copy>(
     block_delete: bool,
 ) -> Result<FrameHistory<A>, OutOfMemory>
     ensures start { IfOk result (λ h. h.start ≡ start_frame (setup_of machine.now tools.now)) }
-    // Whatever the lines' readings are: each line has one, and only one.
+    // For all readings of the lines. Each line has exactly one.
     ensures changes { IfOk result (λ h. (rs : List Reading) →
         AreReadings (text_in program.now).lines rs →
         h.changes.items ≡ frame_changes (setup_of machine.now tools.now)

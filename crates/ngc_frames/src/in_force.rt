@@ -6,7 +6,7 @@ use crate::change::FrameChange;
 use crate::frame::{Frame, FramePart, is_same_part};
 
 /// The frame by which a line's motions are executed, and for each of its parts the line that set it
-/// last: 0 where it is as at the start, by the machine file.
+/// last: 0 if it is as at the start, by the machine file.
 #[derive(Clone, Copy)]
 pub struct FrameInForce {
     pub frame: Frame,
@@ -42,7 +42,7 @@ pub fn frame_at(start: &Frame, changes: &[FrameChange], line: u32) -> Frame
     frame
 }
 
-/// Returns the last line, up to this one, that changed a part of the frame; 0 where none did.
+/// Returns the last line, up to this one, that changed a part of the frame; 0 if none did.
 pub fn line_that_set(part: FramePart, start: &Frame, changes: &[FrameChange], line: u32) -> u32
     ensures { result ≡ line_that_set part line 0 start.now changes.now }
 {

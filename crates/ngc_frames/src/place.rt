@@ -7,7 +7,7 @@ use crate::frame::Frame;
 use ngc_collision::Place;
 use ngc_fixed_length::{Nm, Point3};
 
-// What lies between the program's coordinate on an axis and the machine's.
+// Returns the difference between the machine's coordinate on an axis and the program's.
 fn shift(origin: Nm, length: Nm, offset: Nm) -> i64
     ensures value { result ≡ origin +ℤ length +ℤ offset }
     ensures range { unsigned_abs result ≤ 300000000000 }
@@ -23,16 +23,16 @@ fn less(place: Nm, shift: i64) -> i64
     place.nanometres() - shift
 }
 
-// The program's coordinate on an axis.
+// Returns the program's coordinate on an axis.
 fn coordinate(place: Nm, origin: Nm, length: Nm, offset: Nm) -> i64
     ensures { result ≡ place -ℤ (origin +ℤ length +ℤ offset) }
 {
     less(place, shift(origin, length, offset))
 }
 
-/// Returns the coordinates by which the program names a point of the machine, in nanometres: of the
-/// tool's tip where its length offset is in force (G43), and else of the spindle nose. NISTIR 6556,
-/// 3.2.2.
+/// Returns the program's coordinates of a machine point, in nanometres. They are those of the
+/// tool's tip if its length offset is in force (G43), otherwise those of the spindle nose. NISTIR
+/// 6556, 3.2.2.
 pub fn program_point(place: &Point3, frame: &Frame) -> Place
     ensures { place_of result ≡ to_program frame.now.frames place.now }
 {
@@ -46,7 +46,7 @@ pub fn program_point(place: &Point3, frame: &Frame) -> Place
     }
 }
 
-/// Returns a point by its nanometres.
+/// Returns a point in nanometres.
 pub(crate) fn as_place(point: &Point3) -> Place
     ensures { place_of result ≡ point.now }
 {

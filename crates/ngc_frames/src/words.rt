@@ -185,8 +185,8 @@ fn add_offsets(chunk: &mut Chunk, frame: &FrameInForce)
     add_unit(chunk, frame.unit_line, frame.frame.unit);
 }
 
-/// Adds in words from where to where a motion goes by the program's coordinates, and which
-/// coordinates these are, with the lines that set them. Room for 1200 bytes must be there.
+/// Adds in words the start and the end of a motion in the program's coordinates. It adds which
+/// coordinates these are, with the lines that set them. The buffer must have space for 1200 bytes.
 #[tactic(auto, unfolding(crate::specs::Words::motion_words))]
 pub fn add_motion_words(chunk: &mut Chunk, frame: &FrameInForce, from: &Place, to: &Place)
     requires { length chunk.old + 1200 ≤ CHUNK_SIZE }

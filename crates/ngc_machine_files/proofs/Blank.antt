@@ -1,4 +1,4 @@
--- Files of white space and comments alone.
+-- Files that consist of white space and comments only.
 use Rattle.std.proofs.Common.{◌≡◌, ℕ, List, Bool, true, false, cond, Option, Some, None, IsSome, Result, Ok, Err, IfErr, IsOk, refl}
 use Rattle.std.specs.Str.{is_utf8}
 use Rattle.toml.specs.Data.{Data, table, Members, no_members, get}
@@ -13,7 +13,7 @@ parse_document-blank : (bytes : List ℕ) → IsBlank bytes → parse_document b
 unfolding parse_document lines
 parse_document-blank bytes blank = rw blank
 
--- which has no keys
+-- which is without keys
 keyless : (b : Bool) (members : Option Members) (tree : Data) (key : List ℕ) → members ≡ Some no_members →
     Some tree ≡ (cond b members None >>= (λ ms. Some (table ms))) → get key tree ≡ None
 keyless true None tree key e same = cc
@@ -23,7 +23,7 @@ keyless false members tree key e same = cc
 keyed-blank : (bytes : List ℕ) (tree : Data) (key : List ℕ) → Some tree ≡ tree_of bytes → IsBlank bytes → get key tree ≡ None
 keyed-blank bytes tree key same blank = keyless (is_utf8 bytes) (parse_document bytes) tree key (parse_document-blank bytes blank) same
 
--- what takes memory for a key alone takes none for a blank document
+-- what allocates only for a key allocates nothing for a blank document
 pub read-blank : {T E : Type 0} (r : Result T E) (bytes : List ℕ) (tree : Data) (key : List ℕ) → Some tree ≡ tree_of bytes →
     IfErr r (λ _. IsSome (get key tree)) → IsBlank bytes → IsOk r
 read-blank (Ok x) bytes tree key same h blank = refl

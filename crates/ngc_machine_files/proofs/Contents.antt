@@ -1,4 +1,4 @@
--- What stands in a machine file, part by part.
+-- The contents of a machine file, part by part.
 use Rattle.std.proofs.Common.{◌≡◌, ◌∙◌, ℤ, List, ◌∷◌, true, false, cond, codes, Option, Some, None, ap, sym, refl}
 use Rattle.toml.specs.Data.{Data}
 use Rattle.ngc_machine_files.specs.Tree.{◌>>=◌, known, has_only}
@@ -19,7 +19,7 @@ pub keys_one : (version : ℤ) → has_axis_rates version ≡ false → machine_
 unfolding machine_keys
 keys_one version h = ap (λ b. cond b (codes "axis_rate" ∷ codes "jump" ∷ codes "ring" ∷ codes "arc_feed" ∷ common_keys) common_keys) h
 
--- ---- all parts are there
+-- ---- all parts are present
 
 there : {A B : Type 0} (o : Option A) (x : A) (f : A → Option B) → Some x ≡ o → (o >>= f) ≡ f x
 there (Some y) x f h = let e : y ≡ x = cc in ap f e
@@ -42,7 +42,7 @@ missing : {A B : Type 0} (o : Option A) (f : A → Option B) → None ≡ o → 
 missing None f h = refl
 missing (Some x) f h = cc
 
--- all but the fixtures
+-- all parts but the fixtures
 pub values_none : (d : Data) (numbers : MachineNumbers) (rates : Coordinates) (points : MachinePoints) (origins : List Coordinates)
     → Some numbers ≡ machine_numbers d → has_only (machine_keys numbers.version) d ≡ true → Some rates ≡ machine_axis_rates numbers.version d
     → Some points ≡ machine_points d → Some origins ≡ machine_origins d → None ≡ machine_fixtures numbers.version d

@@ -1,4 +1,4 @@
--- Files whose ranges are all kept.
+-- Files whose values are all in range.
 use Rattle.std.proofs.Common.{◌≡◌, ◌≤ℤ◌, ◌<ℤ◌, ℕ, ℤ, pos, negsuc, List, Bool, true, false, ◌&&◌, Result, Ok, int_le, int_lt, refl, ap, suc, arith}
 use Rattle.std.specs.Prelude.{is_some}
 use Rattle.std.specs.List.{All, list_all}
@@ -21,7 +21,7 @@ use Rattle.ngc_machine_files.specs.declared.machine_contents.Coordinates.{Coordi
 use Rattle.ngc_machine_files.specs.declared.machine_contents.Corners.{Corners}
 use Rattle.ngc_machine_files.specs.declared.machine_contents.MachinePoints.{MachinePoints}
 
--- the first of two is no refusal, and then the second is none
+-- if a chain of checks passes, the first check passes, and so do the others
 passes : (b : Bool) (e : FileFault) (r : Result (Unit {0}) FileFault) → (refuse_unless b e >> r) ≡ Ok tt → (b ≡ true) × (r ≡ Ok tt)
 passes true e r h = (refl, h)
 passes false e r h = cc

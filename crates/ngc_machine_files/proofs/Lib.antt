@@ -1,14 +1,14 @@
--- Values and tables, and the trees that they stand for.
+-- TOML values and tables, and the trees that they represent.
 pub mod Trees
--- What stands in a machine file, part by part.
+-- The contents of a machine file, part by part.
 pub mod Contents
--- Tests on ranges, and the facts that they tell.
+-- Range tests, and the facts that they prove.
 pub mod Ranges
--- Files whose ranges are all kept.
+-- Files whose values are all in range.
 pub mod Good
--- Files of white space and comments alone.
+-- Files that consist of white space and comments only.
 pub mod Blank
--- What is kept of a name.
+-- How names are stored.
 pub mod Named
--- The first of a list, and the others after it.
+-- The first element of a list, and the rest.
 pub mod PartLists

@@ -1,4 +1,4 @@
--- What is kept of a name.
+-- How names are stored.
 use Rattle.std.proofs.Common.{◌≡◌, ◌≤◌, ◌∙◌, ℕ, ◌-◌, ◌+◌, List, ◌++◌, length, drop, true, arith, sym, ap}
 use Rattle.std.specs.Prelude.{replicate, nat_le}
 use Rattle.std.specs.List.{All, list_all}
@@ -15,7 +15,7 @@ printable c h =
     let (least, greatest) = and_parts (nat_le 32 c) (nat_le c 126) h in
     record { least = leb-true _ _ least; greatest = leb-true _ _ greatest }
 
--- a text that is a name, with zeros beyond it
+-- a text that is a name, padded with zeros
 pub text_kept : (text : List ℕ) → is_name text ≡ true → IsKept (record { characters = text ++ drop (length text) (replicate 40 0); count = length text })
 text_kept text h =
     let (sized, each) = and_parts _ (list_all is_printable text) h in

@@ -1,4 +1,4 @@
--- The first of a list, and the others after it.
+-- The first element of a list, and the rest.
 use Rattle.std.proofs.Common.{◌≡◌, ◌≤◌, ◌<◌, ◌-◌, ◌==◌, ℕ, List, [], ◌∷◌, length, take, drop, false, Some, slice_index_or, get_or, map, arith, ◌∙◌}
 use Rattle.std.proofs.Common.{ap, ◌++◌, ◌+◌, sym}
 use Rattle.std.proofs.Math.Seq.{take-length}
@@ -11,7 +11,7 @@ pub nonempty : {A : Type 0} (xs : List A) → (length xs == 0) ≡ false → 1 �
 nonempty [] h = cc
 nonempty (x ∷ xs) h = omega arith
 
--- fewer than four, with others still to come
+-- fewer than four so far, and at least one more follows
 pub room : {A B : Type 0} (xs : List A) (made : List B) (x : B) (i : ℕ) (rest : List B) → made ≡ x ∷ rest → length rest ≤ i →
     i < length (take (length xs - 1) (drop 1 xs)) → length xs ≤ 4 → length made < 4
 room xs made x i rest e r h few =
@@ -41,7 +41,7 @@ mapped-rest f (y ∷ ys) d n h all =
 pub one_to_four-yes : (parts : List Part) → 1 ≤ length parts → length parts ≤ 4 → one_to_four parts ≡ Some parts
 one_to_four-yes parts least greatest = grind (arith, nat_tests)
 
--- what was made of the first elements, and one more
+-- the results for the first elements, and one more
 pub mapped_more : {X Y : Type 0} (f : X → Y) (xs : List X) (ys more : List Y) (i : ℕ) (x : X) → i < length xs → x ≡ get_or xs i x → ys ≡ map f (take i xs)
     → more ≡ ys ++ f x ∷ [] → more ≡ map f (take (i + 1) xs)
 mapped_more f xs ys more i x inside at made pushed =

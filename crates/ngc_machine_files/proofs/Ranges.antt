@@ -1,4 +1,4 @@
--- Tests on ranges, and the facts that they tell.
+-- Range tests, and the facts that they prove.
 use Rattle.std.proofs.Common.{◌≡◌, ◌≤◌, ◌∙◌, ℕ, List, [], ◌∷◌, map, length, take, get_or, ◌<◌, arith, refl, ap, sym}
 use Rattle.std.proofs.Math.Path.{subst}
 use Rattle.std.specs.List.{All}

@@ -1,4 +1,4 @@
--- Values and tables, and the trees that they stand for.
+-- TOML values and tables, and the trees that they represent.
 use Rattle.std.proofs.Common.{◌≡◌, ℕ, ◌+◌, ◌<◌, ◌≤◌, List, [], ◌∷◌, ◌++◌, length, take, drop, get_or, Bool, true, false, cond, ◌&&◌, string_bytes, Option, Some}
 use Rattle.std.proofs.Common.{None, option_map, IfSome, suc, refl, ◌∙◌, ap, sym, arith, rules, append_assoc}
 use Rattle.std.specs.List.{list_all}
@@ -39,7 +39,7 @@ coordinates-items (a ∷ b ∷ []) h = refl
 coordinates-items (a ∷ b ∷ c ∷ []) h = absurd (h refl)
 coordinates-items (a ∷ b ∷ c ∷ d ∷ vs) h = refl
 
--- an array of another length
+-- an array of a length other than 3
 pub coordinates-length : (d : Data) (vs : List Value) → Some (items_view vs) ≡ as_array d → (length vs ≡ 3 → ⊥) → None ≡ coordinates d
 coordinates-length (array items) vs h n = let e : items ≡ items_view vs = cc in rw e (coordinates-items vs n)
 coordinates-length (string _) vs h n = refl
@@ -49,7 +49,7 @@ coordinates-length (boolean _) vs h n = refl
 coordinates-length (datetime _) vs h n = refl
 coordinates-length (table _) vs h n = refl
 
--- one more entry before the others
+-- one more entry in front of the others
 pub added_before : {A : Type 0} (done : List A) (x : A) (rest : Option (List A)) →
     option_map (λ xs. done ++ xs) (rest >>= (λ xs. Some (x ∷ xs))) ≡ option_map (λ xs. (done ++ x ∷ []) ++ xs) rest
 added_before done x None = refl
@@ -63,7 +63,7 @@ unread : (b : Bool) (tree : Option Members) → (b ≡ true → tree ≡ None) �
 unread true tree h = rw (h refl)
 unread false tree h = refl
 
--- and of bytes that are none
+-- bytes that are not a document have no tree
 pub tree_of-refused : (bytes : List ℕ) → (IsUtf8 bytes → parse_document bytes ≡ None) → tree_of bytes ≡ None
 tree_of-refused bytes h = unread (is_utf8 bytes) (parse_document bytes) (λ e. h (IsUtf8-from_is_utf8 bytes e))
 
@@ -73,7 +73,7 @@ longer n None rest h = tt
 longer n (Some x) None h = tt
 longer n (Some x) (Some xs) h = ap suc h
 
--- as many entries as items
+-- there are as many entries as items
 pub each-length : {A : Type 0} (read : Data → Option A) (vs : List Value) → IfSome (each read (items_view vs)) (λ xs. length xs ≡ length vs)
 each-length read [] = refl
 each-length read (v ∷ vs) = longer (length vs) (read (view v)) (each read (items_view vs)) (each-length read vs)
@@ -82,11 +82,11 @@ wrong_length : (n : ℕ) (r : Option (List Coordinates)) → IfSome r (λ xs. le
 wrong_length n None h e = refl
 wrong_length n (Some xs) h e = grind (arith, nat_tests)
 
--- origins that are not nine
+-- origins whose number isn't nine
 pub nine_coordinates-length : (vs : List Value) → (length vs ≡ 9 → ⊥) → None ≡ nine_coordinates (items_view vs)
 nine_coordinates-length vs e = sym (wrong_length (length vs) (each coordinates (items_view vs)) (each-length coordinates vs) e)
 
--- one more entry is read
+-- reading one more entry
 pub each-more : {A : Type 0} (read : Data → Option A) (vs : List Value) (i : ℕ) (v : Value) (x : A) → i < length vs → v ≡ get_or vs i v →
     Some x ≡ read (view v) → each read (items_view (drop i vs)) ≡ (each read (items_view (drop (i + 1) vs)) >>= (λ xs. Some (x ∷ xs)))
 each-more read vs i v x h at e = rw (drop_more vs i v h, ← at, ← e)
@@ -108,7 +108,7 @@ nine-all vs done i h e d inv =
     let all : each coordinates (items_view vs) ≡ Some done = rw (none, whole, append-nil) at inv in
     rw (all, d)
 
--- the loops that read entries: one more
+-- the loops that read entries: one more entry
 pub entries-more : {A : Type 0} (read : Data → Option A) (vs : List Value) (done : List A) (i : ℕ) (v : Value) (x : A) → i < length vs → v ≡ get_or vs i v →
     Some x ≡ read (view v)
     → each read (items_view vs) ≡ option_map (λ xs. done ++ xs) (each read (items_view (drop i vs)))
@@ -116,7 +116,7 @@ pub entries-more : {A : Type 0} (read : Data → Option A) (vs : List Value) (do
 entries-more read vs done i v x h at e inv =
     inv ∙ ap (option_map (λ xs. done ++ xs)) (each-more read vs i v x h at e) ∙ added_before done x (each read (items_view (drop (i + 1) vs)))
 
--- one that isn't right
+-- an entry that is wrong
 pub entries-none : {A : Type 0} (read : Data → Option A) (vs : List Value) (done : List A) (i : ℕ) (v : Value) → i < length vs → v ≡ get_or vs i v →
     None ≡ read (view v)
     → each read (items_view vs) ≡ option_map (λ xs. done ++ xs) (each read (items_view (drop i vs)))
@@ -125,7 +125,7 @@ entries-none read vs done i v h at e inv =
     let none : each read (items_view (drop i vs)) ≡ None = rw (drop_more vs i v h, ← at, ← e) in
     rw (inv, none)
 
--- all of them
+-- all entries
 pub entries-all : {A : Type 0} (read : Data → Option A) (vs : List Value) (done : List A) (i : ℕ) → length vs ≤ i
     → each read (items_view vs) ≡ option_map (λ xs. done ++ xs) (each read (items_view (drop i vs)))
     → Some done ≡ each read (items_view vs)

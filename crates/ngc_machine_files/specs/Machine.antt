@@ -1,4 +1,4 @@
--- What a machine file says, and the machine that is taken where none is given. Our own.
+-- The contents of a machine file, and the machine that is used without one. Our own.
 use Rattle.std.specs.Prelude.{ℕ, ℤ, pos, negsuc, List, [], Bool, false}
 use Rattle.std.specs.Prelude.{replicate}
 use Rattle.ngc_fixed_length.specs.Places.{zero_point}
@@ -26,7 +26,7 @@ pub record MachineFile : Type 0 where
   pub origins : List Point3
   pub fixtures : List Fixture
 
--- what a machine holds
+-- the contents of a machine
 abbrev pub file_of : {A : Type 0} → Machine A → MachineFile
 file_of m = record {
   step = m.step;

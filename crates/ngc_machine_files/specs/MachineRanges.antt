@@ -1,4 +1,4 @@
--- What every machine that is read holds to. Our own.
+-- The ranges that hold for every machine that is read. Our own.
 use Rattle.ngc_fixed_length.specs.Length.{IsStep}
 use Rattle.ngc_machine_files.specs.Machine.{MachineFile}
 use Rattle.ngc_machine_files.specs.Ranges.{IsRate, IsJump, IsRing, AreRates, IsArcBound, IsTravel, AreFixtures}

@@ -1,4 +1,4 @@
--- What a machine file of version 1 or 2 says. Our own.
+-- The meaning of a machine file of version 1 or 2. Our own.
 use Rattle.std.specs.Prelude.{ℕ, ◌==◌, ◌≤◌, nat_le, ℤ, pos, unsigned_abs, int_le, int_lt, int_rem}
 use Rattle.std.specs.Prelude.{List, [], ◌∷◌, length, map, replicate, Option, Some, None, Result, Ok}
 use Rattle.std.specs.Prelude.{Err, Bool, ◌&&◌, ◌||◌, codes, if◌then◌else◌, is_some}
@@ -28,7 +28,7 @@ use Rattle.ngc_machine_files.specs.Refusals.{◌>>◌, refuse_unless}
 use Rattle.ngc_machine_files.specs.Tree.{◌>>=◌, tree_of, known, has_only, whole_at, whole_or, coordinates, coordinates_at}
 use Rattle.ngc_machine_files.specs.Tree.{each, list_at, or_missing, name_at}
 
--- ---- the values that the keys name
+-- ---- the values of the keys
 
 pub record MachineValues : Type 0 where
   pub numbers : MachineNumbers
@@ -56,8 +56,8 @@ common_keys =
     ∷ codes "origins" ∷
     codes "fixture" ∷ []
 
--- version 2 has rates of the axes and may have a jump, a ring and the feed of arcs, and no other
--- version
+-- version 2 has rates of the axes, and may have a jump, a ring and the feed of arcs; no other
+-- version has them
 abbrev pub has_axis_rates : ℤ → Bool
 has_axis_rates version = int_eq version (pos 2)
 
@@ -67,14 +67,14 @@ machine_keys version =
     then codes "axis_rate" ∷ codes "jump" ∷ codes "ring" ∷ codes "arc_feed" ∷ common_keys
     else common_keys
 
--- three numbers, which bound no rate where the version has none
+-- three numbers; in a version without them, those that bound no rate
 unfoldable pub machine_axis_rates : ℤ → Data → Option Coordinates
 machine_axis_rates version tree =
     if has_axis_rates version
     then coordinates_at (codes "axis_rate") tree
     else Some (record { x = pos 1000000; y = pos 1000000; z = pos 1000000 })
 
--- a jump or a feed of arcs that is missing is 0, and a ring 16
+-- a missing jump or feed of arcs is 0, and a missing ring is 16
 abbrev pub machine_numbers : Data → Option MachineNumbers
 machine_numbers tree = do
   version ← whole_at (codes "version") tree
@@ -119,7 +119,7 @@ abbrev pub origins_of : Data → Option (List Coordinates)
 origins_of (array items) = nine_coordinates items
 origins_of _ = None
 
--- nine points, all zero where they are missing
+-- nine points, all zero if they are missing
 abbrev pub machine_origins : Data → Option (List Coordinates)
 machine_origins tree =
     or_missing (replicate 9 (record { x = pos 0; y = pos 0; z = pos 0 })) origins_of
@@ -142,7 +142,7 @@ named_corners value = do
 abbrev pub corners : ℤ → Data → Option Corners
 corners version value = if has_fixture_keys version value then named_corners value else None
 
--- tables of two corners each, none where they are missing
+-- tables of two corners each; no fixtures if the key is missing
 abbrev pub machine_fixtures : ℤ → Data → Option (List Corners)
 machine_fixtures version tree = list_at (corners version) (codes "fixture") tree
 
@@ -248,7 +248,7 @@ abbrev pub fixture_of : Corners → Fixture
 fixture_of f =
     record { low = place_of f.low; high = place_of f.high; name = name_from f.name }
 
--- 1 for arcs at their feed
+-- true if arcs run at their feed at every point
 abbrev pub has_arc_feed : ℤ → Bool
 has_arc_feed z = int_eq z (pos 1)
 
@@ -273,13 +273,13 @@ machine_from m = record {
   fixtures = map fixture_of m.fixtures;
 }
 
--- each of three numbers is between two
+-- each of three numbers lies between two bounds, both included
 pub record AreFrom (low high : ℤ) (p : Coordinates) : Type 0 where
   pub x : IsFrom low high p.x
   pub y : IsFrom low high p.y
   pub z : IsFrom low high p.z
 
--- the same as facts
+-- the same checks, as facts
 pub record IsGood (m : MachineValues) : Type 0 where
   pub step : IsStep m.numbers.step
   pub ticks_per_second : IsFrom (pos 1) (pos 1000000) m.numbers.ticks_per_second
@@ -305,6 +305,6 @@ checked_machine (Some m) = machine_ranges m >> Ok (machine_from m)
 abbrev pub values_in : List ℕ → Option MachineValues
 values_in bytes = tree_of bytes >>= machine_values
 
--- the machine that the bytes say, or why they are refused
+-- the machine that the bytes describe, or why they are refused
 abbrev pub machine_file : List ℕ → Result MachineFile FileFault
 machine_file bytes = checked_machine (values_in bytes)

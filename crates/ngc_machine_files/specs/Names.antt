@@ -10,15 +10,15 @@ use Rattle.ngc_machine_files.specs.declared.name.Name.TheInside.{Inside}
 abbrev pub is_printable : ℕ → Bool
 is_printable c = nat_le 32 c && nat_le c 126
 
--- 1 to 40 of them
+-- 1 to 40 printable characters
 abbrev pub is_name : List ℕ → Bool
 is_name text = nat_le 1 (length text) && nat_le (length text) 40 && list_all is_printable text
 
--- the text itself, where it is a name
+-- the text itself, if it is a name
 abbrev pub name_of : List ℕ → Option (List ℕ)
 name_of text = if is_name text then Some text else None
 
--- what has no name has no characters for one
+-- the characters of a name, none without a name
 abbrev pub name_from : Option (List ℕ) → List ℕ
 name_from None = []
 name_from (Some name) = name
@@ -27,12 +27,12 @@ pub record IsPrintable (c : ℕ) : Type 0 where
   pub least : 32 ≤ c
   pub greatest : c ≤ 126
 
--- a name, or none
+-- a name, or no characters
 pub record IsName (name : List ℕ) : Type 0 where
   pub greatest : length name ≤ 40
   pub printable : All IsPrintable name
 
--- ---- as the crate keeps it: 40 places, of which `count` are used
+-- ---- the stored form: 40 bytes, of which `count` are used
 
 abbrev pub used : Inside → List ℕ
 used n = take n.count n.characters
@@ -46,7 +46,7 @@ pub record IsKept (n : Inside) : Type 0 where
 abbrev pub kept : List ℕ → Inside
 kept name = record { characters = name ++ replicate (40 - length name) 0; count = length name }
 
--- nothing of it is lost
+-- storing a name loses nothing
 pub kept-used : (n : Inside) → IsKept n → kept (used n) ≡ n
 kept-used n h =
     let size : length (take n.count n.characters) ≡ n.count =

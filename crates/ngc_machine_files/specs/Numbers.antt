@@ -17,6 +17,6 @@ abbrev pub all_different : List ℕ → Bool
 all_different [] = true
 all_different (n ∷ ns) = not (has_number n ns) && all_different ns
 
--- no number stands there twice
+-- no number occurs twice
 abbrev pub AreDifferent : List ℕ → Type 0
 AreDifferent ns = IsTrue (all_different ns)

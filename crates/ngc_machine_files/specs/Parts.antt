@@ -6,11 +6,11 @@ use Rattle.std.proofs.lemmas.List.{length-take-le, take-append-drop}
 use Rattle.ngc_machine_files.specs.declared.parts.Part.{Part}
 use Rattle.ngc_machine_files.specs.declared.parts.Parts.TheInside.{Inside}
 
--- the list itself, where it has one to four parts
+-- the list itself, if it has one to four parts
 abbrev pub one_to_four : List Part → Option (List Part)
 one_to_four parts = if nat_le 1 (length parts) && nat_le (length parts) 4 then Some parts else None
 
--- ---- as the crate keeps them: four places, of which so many are used
+-- ---- the stored form: four places, of which `count` are used
 
 abbrev pub unused : Part
 unused = record { length = pos 0; radius = pos 0 }
@@ -27,7 +27,7 @@ pub record AreKept (p : Inside) : Type 0 where
 abbrev pub kept : List Part → Inside
 kept parts = record { places = parts ++ replicate (4 - length parts) unused; count = length parts }
 
--- nothing of them is lost
+-- storing parts loses nothing
 pub kept-used : (p : Inside) → AreKept p → kept (used p) ≡ p
 kept-used p h =
     let n : length (take p.count p.places) ≡ p.count =

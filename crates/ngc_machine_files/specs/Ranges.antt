@@ -1,4 +1,4 @@
--- How large the numbers of a machine and of its tools may be. Our own.
+-- The ranges of the numbers of a machine and of its tools. Our own.
 use Rattle.std.specs.Prelude.{ℕ, ◌≤◌, ℤ, pos, negsuc, ◌≤ℤ◌, ◌<ℤ◌, unsigned_abs, int_rem, ◌≡◌, List}
 use Rattle.std.specs.Prelude.{length, map}
 use Rattle.std.specs.List.{All}
@@ -9,15 +9,15 @@ use Rattle.ngc_machine_files.specs.declared.parts.Part.{Part}
 use Rattle.ngc_machine_files.specs.declared.tools.Tool.{Tool}
 use Rattle.ngc_machine_files.specs.Numbers.{AreDifferent}
 
--- how far from zero travel limits, home positions and origins lie, in nanometres
+-- the greatest size of a coordinate of travel limits, home positions and origins, in nanometres
 abbrev pub PLACE_LIMIT : ℕ
 PLACE_LIMIT = 1000000000
 
--- and the corners of fixtures
+-- the greatest size of a coordinate of a fixture's corner, in nanometres
 abbrev pub CORNER_LIMIT : ℕ
 CORNER_LIMIT = 4000000000
 
--- between two numbers, both included
+-- a number between two bounds, both included
 pub record IsFrom (low high z : ℤ) : Type 0 where
   pub least : low ≤ℤ z
   pub greatest : z ≤ℤ high
@@ -27,11 +27,11 @@ pub record IsRate (rate : ℕ) : Type 0 where
   pub least : 1 ≤ rate
   pub greatest : rate ≤ 1000000
 
--- how much the rate of an axis may change at once
+-- how much the rate of an axis may change at once, where two motions meet
 pub record IsJump (jump : ℕ) : Type 0 where
   pub greatest : jump ≤ 1000000
 
--- how many commands are loaded and not done at most
+-- the most commands that may be loaded and not done
 pub record IsRing (ring : ℕ) : Type 0 where
   pub least : 16 ≤ ring
   pub greatest : ring ≤ 1024
@@ -47,7 +47,7 @@ pub record IsArcBound (turn : ℕ) : Type 0 where
   pub least : 1 ≤ turn
   pub greatest : turn ≤ 1000000000000
 
--- no coordinate is larger in size
+-- each coordinate is at most the limit in size
 pub record IsSized (limit : ℕ) (p : Point3) : Type 0 where
   pub x : unsigned_abs p.x ≤ limit
   pub y : unsigned_abs p.y ≤ limit
@@ -71,7 +71,7 @@ pub record IsOnGrid (step : ℤ) (p : Point3) : Type 0 where
   pub y : int_rem p.y step ≡ pos 0
   pub z : int_rem p.z step ≡ pos 0
 
--- travel limits, and a start point within them and on the grid
+-- travel limits, and a start point within the travel and on the grid
 pub record IsTravel (step : ℤ) (low high start : Point3) : Type 0 where
   pub low_sized : IsSized PLACE_LIMIT low
   pub high_sized : IsSized PLACE_LIMIT high

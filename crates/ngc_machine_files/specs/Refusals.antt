@@ -1,9 +1,9 @@
--- Refusals in their order, and what a call may return. Our own.
+-- Checks in order, and the results that a call may have. Our own.
 use Rattle.std.specs.Prelude.{◌≡◌, ◌≢◌, Bool, Result, Ok, Err, if◌then◌else◌}
 use Rattle.ngc_machine_files.specs.declared.fault.FileFault.{FileFault}
 use Rattle.ngc_machine_files.specs.declared.fault.FileFault.TheVariants.{Memory}
 
--- the first, and where it refuses nothing the second
+-- the first check's refusal, or the second check's result if the first one passes
 infixl 10 ◌>>◌
 abbrev pub ◌>>◌ : {A : Type 0} → Result (Unit {0}) FileFault → Result A FileFault →
     Result A FileFault
@@ -13,7 +13,7 @@ abbrev pub ◌>>◌ : {A : Type 0} → Result (Unit {0}) FileFault → Result A 
 abbrev pub refuse_unless : Bool → FileFault → Result (Unit {0}) FileFault
 refuse_unless b e = if b then Ok tt else Err e
 
--- what a function returned is, seen by a view, what the definition says, unless memory was refused
+-- the result, seen through a view, equals the definition's, unless memory was refused
 abbrev pub GivesFile : {X Y : Type 0} → (X → Y) → Result X FileFault → Result Y FileFault → Type 0
 GivesFile view (Ok x) says = says ≡ Ok (view x)
 GivesFile view (Err e) says = e ≢ Memory → says ≡ Err e

@@ -1,4 +1,4 @@
--- What a tool table says. Our own.
+-- The meaning of a tool table. Our own.
 use Rattle.std.specs.Prelude.{ℕ, ◌≤◌, nat_le, ℤ, pos, negsuc, ◌-ℤ◌, unsigned_abs, List, [], ◌∷◌}
 use Rattle.std.specs.Prelude.{length, map, Option, Some, None, Result, Ok, Err, Bool, ◌&&◌, ◌||◌}
 use Rattle.std.specs.Prelude.{codes, if◌then◌else◌, is_some}
@@ -19,7 +19,7 @@ use Rattle.ngc_machine_files.specs.Ranges.{IsFrom}
 use Rattle.ngc_machine_files.specs.Refusals.{◌>>◌, refuse_unless}
 use Rattle.ngc_machine_files.specs.Tree.{◌>>=◌, tree_of, known, whole_at, list_of, list_at, name_at}
 
--- ---- the values that the keys name
+-- ---- the values of the keys
 
 pub record ToolNumbers : Type 0 where
   pub number : ℤ
@@ -68,7 +68,7 @@ part_entry value = do
   radius ← whole_at (codes "radius") tree
   Some (record { length = l; radius = radius })
 
--- version 2: parts from the bottom up, and it may have a name
+-- version 2: parts from the bottom up, and optionally a name
 abbrev pub tool_of_parts : Data → Option ToolNumbers
 tool_of_parts value = do
   tree ← known (codes "number" ∷ codes "offset" ∷ codes "bottom" ∷ codes "parts" ∷ codes "name" ∷ [])
@@ -80,7 +80,7 @@ tool_of_parts value = do
   name ← name_at tree
   Some (record { number = number; offset = offset; bottom = bottom; parts = parts; name = name })
 
--- a version that isn't known has the keys of version 1
+-- an unknown version has the keys of version 1
 abbrev pub tool_numbers : ℤ → Data → Option ToolNumbers
 tool_numbers version value =
     if int_eq version (pos 2) then tool_of_parts value else tool_of_length value
@@ -135,7 +135,7 @@ tool_of t = record {
   name = name_from t.name;
 }
 
--- the same as facts
+-- the same checks, as facts
 pub record IsPartEntry (p : PartEntry) : Type 0 where
   pub length : IsFrom (pos 0) (pos 1000000000) p.length
   pub radius : IsFrom (pos 0) (pos 1000000000) p.radius
@@ -163,6 +163,6 @@ checked_table (Some t) = table_ranges t >> Ok (map tool_of t.tools)
 abbrev pub values_in : List ℕ → Option TableValues
 values_in bytes = tree_of bytes >>= table_values
 
--- the tools that the bytes say, or why they are refused
+-- the tools that the bytes describe, or why they are refused
 abbrev pub tool_table : List ℕ → Result (List Tool) FileFault
 tool_table bytes = checked_table (values_in bytes)

@@ -1,4 +1,4 @@
--- What a tool table holds. Our own.
+-- The contents of a tool table. Our own.
 use Rattle.std.specs.Prelude.{ℕ, ◌==◌, List, Option}
 use Rattle.std.specs.List.{find}
 use Rattle.ngc_machine_files.specs.declared.tools.Tool.{Tool}

@@ -1,4 +1,4 @@
--- What stands in a TOML tree, where it is of the right kind and length. Our own.
+-- Reading values of a TOML tree, with tests of their kind and length. Our own.
 use Rattle.std.specs.Prelude.{ℕ, List, [], ◌∷◌, ℤ, Option, Some, None, Bool, true, false, ◌&&◌}
 use Rattle.std.specs.Prelude.{if◌then◌else◌, codes}
 use Rattle.std.specs.List.{list_any}
@@ -14,12 +14,12 @@ abbrev pub ◌>>=◌ : {A B : Type 0} → Option A → (A → Option B) → Opti
 (Some x) >>= f = f x
 None >>= f = None
 
--- the tree of a document, where the bytes are one
+-- the tree of a document, if the bytes are one
 abbrev pub tree_of : List ℕ → Option Data
 tree_of bytes =
     (if is_utf8 bytes then parse_document bytes else None) >>= (λ members. Some (table members))
 
--- the key is one of these
+-- the key is one of the list
 abbrev pub is_one_of : List (List ℕ) → List ℕ → Bool
 is_one_of keys key = list_any (bytes_eq key) keys
 
@@ -27,7 +27,7 @@ abbrev pub only : List (List ℕ) → Members → Bool
 only keys no_members = true
 only keys (member key value members) = is_one_of keys key && only keys members
 
--- a table without other keys than these
+-- a table without keys other than those of the list
 abbrev pub has_only : List (List ℕ) → Data → Bool
 has_only keys (table members) = only keys members
 has_only keys _ = false
@@ -35,7 +35,7 @@ has_only keys _ = false
 abbrev pub known : List (List ℕ) → Data → Option Data
 known keys tree = if has_only keys tree then Some tree else None
 
--- the whole number under a key
+-- the whole number of a key
 abbrev pub whole_at : List ℕ → Data → Option ℤ
 whole_at key tree = get key tree >>= as_integer
 
@@ -51,7 +51,7 @@ coordinates _ = None
 abbrev pub coordinates_at : List ℕ → Data → Option Coordinates
 coordinates_at key tree = get key tree >>= coordinates
 
--- each item by the same reading
+-- reads each item in the same manner
 abbrev pub each : {A : Type 0} → (Data → Option A) → Items → Option (List A)
 each read no_items = Some []
 each read (item value items) = do
@@ -63,12 +63,12 @@ abbrev pub list_of : {A : Type 0} → (Data → Option A) → Data → Option (L
 list_of read (array items) = each read items
 list_of read _ = None
 
--- what stands under a key, or this where nothing stands there
+-- the value of a key, or a default if the key is missing
 abbrev pub or_missing : {A : Type 0} → A → (Data → Option A) → Option Data → Option A
 or_missing default read None = Some default
 or_missing default read (Some value) = read value
 
--- the whole number under a key, another where nothing stands there
+-- the whole number of a key, or a default if the key is missing
 abbrev pub whole_or : ℤ → List ℕ → Data → Option ℤ
 whole_or default key tree = or_missing default as_integer (get key tree)
 
@@ -76,10 +76,10 @@ whole_or default key tree = or_missing default as_integer (get key tree)
 abbrev pub named : Data → Option (Option (List ℕ))
 named value = as_str value >>= (λ text. Some (name_of text))
 
--- the name under the key `name`, without characters where nothing stands there
+-- the name of the key `name`, without characters if the key is missing
 abbrev pub name_at : Data → Option (Option (List ℕ))
 name_at tree = or_missing (Some []) named (get (codes "name") tree)
 
--- the items under a key, none where nothing stands there
+-- the items of a key, none if the key is missing
 abbrev pub list_at : {A : Type 0} → (Data → Option A) → List ℕ → Data → Option (List A)
 list_at read key tree = or_missing [] (list_of read) (get key tree)

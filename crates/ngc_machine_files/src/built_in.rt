@@ -17,8 +17,8 @@ fn zero_point() -> Point3
     }
 }
 
-/// The machine that is taken where no machine file is given: travel of 300 mm by 300 mm by 100 mm
-/// below zero, steps of 0.01 mm, no fixture. It takes no memory.
+/// Returns the machine that is used without a machine file: travel of 300 mm by 300 mm by 100 mm
+/// below zero, steps of 0.01 mm, and no fixture. It allocates nothing.
 pub fn built_in_machine<A: Allocator>(alloc: A) -> Machine<A>
     ensures { file_of result ≡ row_file }
 {

@@ -5,38 +5,39 @@ use thiserror::Error;
 /// Why a machine file or a tool table is refused.
 #[derive(Clone, Copy, Debug, PartialEq, Eq, Error)]
 pub enum FileFault {
-    /// 261: not 1, nor 2 where that is known.
+    /// 261: the version is not 1, and not 2 where the format has a version 2.
     #[error("the version is unknown")]
     Version,
-    /// 262: not 500 to 50,000 nm.
+    /// 262: the step length is not 500 to 50,000 nm.
     #[error("the step length is out of range")]
     Step,
-    /// 263: not 1 to 1,000,000.
+    /// 263: the ticks per second are not 1 to 1,000,000.
     #[error("the ticks per second are out of range")]
     TicksPerSecond,
-    /// 264: a rate not 1 to 1,000,000, the bound for arcs not 1 to 10^12, a jump over 1,000,000, a
-    /// ring not 16 to 1,024, or a feed of arcs not 0 or 1.
+    /// 264: a rate is not 1 to 1,000,000, the bound for arcs not 1 to 10^12, a jump over 1,000,000,
+    /// a ring not 16 to 1,024, or a feed of arcs not 0 or 1.
     #[error("a rate is out of range")]
     Rates,
-    /// 265: a limit over 10^9 nm in size or above its counterpart, or a start point beyond them or
-    /// off the grid.
+    /// 265: a travel limit is over 10^9 nm in size, a low limit is above its high one, or the start
+    /// point is beyond the limits or off the grid.
     #[error("the travel limits or the start point are out of range")]
     Travel,
-    /// 266: over 10^9 nm in size.
+    /// 266: a home position or an origin is over 10^9 nm in size.
     #[error("a home position or an origin is out of range")]
     Places,
-    /// 267: over 4*10^9 nm in size, a low corner that is not below the high one, a name that isn't 1
-    /// to 40 printable ASCII characters, or over 256 fixtures.
+    /// 267: a corner is over 4*10^9 nm in size, a low corner is not below the high one, a name
+    /// isn't 1 to 40 printable ASCII characters, or there are over 256 fixtures.
     #[error("a fixture is out of range, or there are too many")]
     Fixtures,
-    /// 268: a number out of range or given twice, a tool without parts or with over four, a name as
-    /// for 267, or over 1,000 tools.
+    /// 268: a number is out of range, a tool's number occurs twice, a tool has no parts or over
+    /// four, a name isn't 1 to 40 printable ASCII characters, or there are over 1,000 tools.
     #[error("a tool is out of range or given twice, or there are too many")]
     Tools,
-    /// 269: not a TOML document, or a key that is unknown, missing or of the wrong kind or length.
+    /// 269: the file is not a TOML document, or a key is unknown, missing or of the wrong kind or
+    /// length.
     #[error("the file is not of the form that is asked")]
     Document,
-    /// 900
+    /// 900: memory was refused.
     #[error("out of memory")]
     Memory,
 }
@@ -44,7 +45,7 @@ pub enum FileFault {
 impl FileFault {
     ghost use Rattle.ngc_machine_files.specs.Faults.{number_of};
 
-    /// The fault's number.
+    /// Returns the fault's number.
     pub fn number(&self) -> u16
         ensures { result ≡ number_of self.now }
     {

@@ -1,4 +1,4 @@
-//! The machine and its tools, and the files that say them.
+//! The machine and its tools, and the files that describe them.
 #![tactic(auto)]
 
 mod built_in;

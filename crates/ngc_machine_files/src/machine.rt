@@ -16,7 +16,7 @@ pub struct Fixture {
     pub name: Name,
 }
 
-/// The greatest rate at which each axis may take part in a motion, in millionths of a path step a
+/// The greatest rate at which each axis may take part in a motion, in millionths of a path step per
 /// tick, each 1 to 1,000,000.
 #[derive(Clone, Copy)]
 pub struct AxisRates {
@@ -25,36 +25,38 @@ pub struct AxisRates {
     pub z: u32,
 }
 
-/// A machine. Lengths are nanometres, rates millionths of a path step a tick.
+/// A machine. Lengths are in nanometres, rates in millionths of a path step per tick.
 #[derive(Drop)]
 pub struct Machine<A: Allocator> {
     /// The step length, 500 to 50,000 nm.
     pub step: Nm,
-    /// 1 to 1,000,000.
+    /// The ticks per second, 1 to 1,000,000.
     pub ticks_per_second: u32,
     /// The greatest rate, 1 to 1,000,000.
     pub max_rate: u32,
-    /// The greatest rate of motions that may move an axis, for each axis, 1 to 1,000,000.
+    /// The greatest rate, for each axis, of motions that move this axis, 1 to 1,000,000.
     pub axis_rates: AxisRates,
-    /// The greatest change of the rate in a tick, 1 to 1,000,000.
+    /// The greatest change of the rate per tick, 1 to 1,000,000.
     pub change: u32,
     /// The greatest rate at a change of direction, 1 to 1,000,000.
     pub corner: u32,
-    /// How much the rate of one axis may change where two motions meet, 0 to 1,000,000; where it is
-    /// 0, `corner` alone rules.
+    /// The greatest change of an axis' rate where two motions meet, 0 to 1,000,000. If it is 0,
+    /// only `corner` limits the rate there.
     pub jump: u32,
     /// The bound of rates on arcs, 1 to 10^12.
     pub turn: u64,
-    /// How many commands are loaded and not done at most, 16 to 1,024.
+    /// The most commands that may be loaded and not done, 16 to 1,024.
     pub ring: u32,
-    /// Whether arcs run at their feed at every place, and not at the least that it allows at any.
+    /// Whether an arc runs at its feed at every point. If not, it runs at the lowest rate that its
+    /// feed allows at any point.
+    /// feed allows at any point.
     pub arc_feed: bool,
     /// The least coordinates of the travel, at most 10^9 nm in size.
     pub low: Point3,
     /// The greatest coordinates of the travel, at most 10^9 nm in size.
     pub high: Point3,
-    /// Where the axes stand when the machine is started: within the travel, whole multiples of the
-    /// step.
+    /// The position of the axes when the machine is started: within the travel, in whole multiples
+    /// of the step.
     pub start: Point3,
     /// The home position of G28, at most 10^9 nm in size.
     pub home28: Point3,
@@ -62,7 +64,8 @@ pub struct Machine<A: Allocator> {
     pub home30: Point3,
     /// The origins of the nine coordinate systems, at most 10^9 nm in size.
     pub origins: [Point3; 9],
-    /// At most 256, numbered from 0; at most 4*10^9 nm in size, low below high on each axis.
+    /// The fixtures: at most 256, numbered from 0. Coordinates are at most 4*10^9 nm in size, and
+    /// low is below high on each axis.
     pub fixtures: Vec<Fixture, A>,
     ghost step_in_range: { IsStep step },
     ghost ticks_in_range: { IsRate ticks_per_second },
@@ -93,7 +96,7 @@ impl<A: Allocator> Machine<A> {
     ghost use Rattle.ngc_machine_files.specs.Machine.{file_of};
     ghost use Rattle.ngc_machine_files.specs.MachineRanges.{IsMachine};
 
-    /// The same machine once more, whose fixtures take memory of any allocator. It fails where
+    /// Returns a copy of the machine, with the fixtures in another allocator's memory. It fails if
     /// memory is refused.
     pub fn copy<B: Allocator>(&self, alloc: B) -> Result<Machine<B>, AllocError>
         ensures same { IfOk result (λ m. file_of m ≡ file_of self.now) }

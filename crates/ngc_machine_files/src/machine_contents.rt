@@ -23,12 +23,12 @@ pub struct Coordinates {
     pub z: i64,
 }
 
-/// A fixture as the file gives it, of any size.
+/// A fixture as read from the file, with numbers of any size.
 #[derive(Clone, Copy)]
 pub struct Corners {
     pub low: Coordinates,
     pub high: Coordinates,
-    /// Without characters where it has none, and `None` where its text is no name.
+    /// The name, without characters if the key is missing; `None` if the text is not a name.
     pub name: Option<Name>,
 }
 
@@ -57,7 +57,7 @@ pub struct MachinePoints {
     pub home30: Coordinates,
 }
 
-/// What stands in a machine file, of any size.
+/// The contents of a machine file, with numbers of any size.
 #[derive(Drop)]
 pub struct MachineContents {
     pub numbers: MachineNumbers,
@@ -109,15 +109,15 @@ fn machine_numbers(tree: &Value) -> Option<MachineNumbers>
     })
 }
 
-/// Whether the version has rates of the axes.
+/// Returns whether the version has rates of the axes.
 fn has_axis_rates(numbers: &MachineNumbers) -> bool
     ensures { result ≡ has_axis_rates numbers.now.version }
 {
     numbers.version == 2
 }
 
-/// The rates of the axes: those of a file of version 2, and of any other version those that bound
-/// no rate.
+/// Returns the rates of the axes: those of a file of version 2, and for any other version those
+/// that bound no rate.
 #[tactic(auto, unfolding(crate::specs::MachineText::machine_axis_rates))]
 fn machine_axis_rates(numbers: &MachineNumbers, tree: &Value) -> Option<Coordinates>
     ensures { result ≡ machine_axis_rates numbers.now.version (view tree.now) }
@@ -173,7 +173,7 @@ fn machine_origins(tree: &Value) -> Option<[Coordinates; 9]>
     }
 }
 
-/// The keys of a machine file of version 2, of which version 1 has all but the first four.
+/// The keys of a machine file of version 2. Version 1 has all but the first four.
 pub const MACHINE_KEYS: [&str; 18] = [
     "axis_rate",
     "jump",
@@ -206,8 +206,8 @@ fn has_machine_keys(numbers: &MachineNumbers, tree: &Value) -> bool
 }
 
 impl MachineContents {
-    /// What the keys of a machine file name, where each is known, there, and of the right kind and
-    /// length.
+    /// Reads the values of the keys. Returns `None` if a key is unknown, missing or of the wrong
+    /// kind or length.
     pub(crate) fn read(alloc: Global, tree: &Value) -> Result<Option<MachineContents>, AllocError>
         ensures contents { IfOk result
             (λ o. option_map values_of o ≡ machine_values (view tree.now)) }

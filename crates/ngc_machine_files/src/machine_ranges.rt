@@ -23,10 +23,10 @@ use crate::numbers::{is_from_to, length};
 use ngc_fixed_length::{Nm, Point3};
 use std::alloc::{AllocError, Global};
 
-/// How far from zero travel limits, home positions and origins lie, in nanometres.
+/// The greatest size of a coordinate of travel limits, home positions and origins, in nanometres.
 const PLACE_LIMIT: u64 = 1_000_000_000;
 
-/// How far from zero the corners of fixtures lie, in nanometres.
+/// The greatest size of a coordinate of a fixture's corner, in nanometres.
 const CORNER_LIMIT: u64 = 4_000_000_000;
 
 fn is_sized(limit: u64, point: &Coordinates) -> bool
@@ -45,21 +45,21 @@ fn is_multiple(step: i64, coordinate: i64) -> bool
 }
 
 impl Coordinates {
-    /// Whether each number is at most the other's.
+    /// Returns whether each number is at most the other's.
     pub fn is_at_most(&self, other: &Coordinates) -> bool
         ensures { result ≡ is_at_most self.now other.now }
     {
         self.x <= other.x && self.y <= other.y && self.z <= other.z
     }
 
-    /// Whether each number is less than the other's.
+    /// Returns whether each number is less than the other's.
     pub fn is_below(&self, other: &Coordinates) -> bool
         ensures { result ≡ is_below self.now other.now }
     {
         self.x < other.x && self.y < other.y && self.z < other.z
     }
 
-    /// Whether each number is a whole multiple of the step, which is more than 0.
+    /// Returns whether each number is a whole multiple of the step, which is more than 0.
     pub fn is_on_grid(&self, step: i64) -> bool
         requires { pos 0 <ℤ step }
         ensures { result ≡ is_on_grid step self.now }
@@ -173,7 +173,7 @@ fn step_length(numbers: &MachineNumbers) -> Nm
     length(numbers.step)
 }
 
-/// A number of 1 to 1,000,000 without its sign.
+/// Returns a number of 1 to 1,000,000 as unsigned.
 fn rate(value: i64) -> u32
     requires { IsFrom (pos 1) (pos 1000000) value }
     ensures value { result ≡ unsigned_abs value }
@@ -182,7 +182,7 @@ fn rate(value: i64) -> u32
     value as u32
 }
 
-/// A number of 0 to 1,000,000 without its sign.
+/// Returns a number of 0 to 1,000,000 as unsigned.
 fn jump(value: i64) -> u32
     requires { IsFrom (pos 0) (pos 1000000) value }
     ensures value { result ≡ unsigned_abs value }
@@ -191,7 +191,7 @@ fn jump(value: i64) -> u32
     value as u32
 }
 
-/// A number of 16 to 1,024 without its sign.
+/// Returns a number of 16 to 1,024 as unsigned.
 fn ring(value: i64) -> u32
     requires { IsFrom (pos 16) (pos 1024) value }
     ensures value { result ≡ unsigned_abs value }
@@ -200,7 +200,7 @@ fn ring(value: i64) -> u32
     value as u32
 }
 
-/// Whether arcs run at their feed.
+/// Returns whether arcs run at their feed at every point.
 fn has_arc_feed(numbers: &MachineNumbers) -> bool
     ensures { result ≡ has_arc_feed numbers.now.arc_feed }
 {
@@ -272,7 +272,7 @@ fn fixtures(alloc: Global, corners: &[Corners]) -> Result<Vec<Fixture>, AllocErr
 }
 
 impl MachineContents {
-    /// The first number out of its range.
+    /// Checks the ranges in order, and returns the first fault.
     pub(crate) fn check(&self) -> Result<(), FileFault>
         ensures { result ≡ machine_ranges (values_of self.now) }
     {
@@ -300,7 +300,7 @@ impl MachineContents {
         Ok(())
     }
 
-    /// The machine of these values.
+    /// Returns the machine of these values.
     pub(crate) fn machine(&self, alloc: Global) -> Result<Machine<Global>, AllocError>
         requires { IsGood (values_of self.now) }
         ensures { IfOk result (λ m. file_of m ≡ machine_from (values_of self.now)) }

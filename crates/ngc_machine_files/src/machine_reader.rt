@@ -23,12 +23,12 @@ fn read_contents(alloc: Global, bytes: &[u8]) -> Result<Option<MachineContents>,
 impl Machine<Global> {
     /// Reads a machine file, version 1 or 2: a TOML document of whole numbers and names.
     ///
-    /// It is refused with 269 where it is no such document or a key is unknown, missing or of the
-    /// wrong kind or length, and else with the first of 261 to 267 that holds; with 900 where
-    /// memory was refused.
+    /// Returns 269 if the bytes are not such a document, or a key is unknown, missing or of the
+    /// wrong kind or length. Otherwise it returns the first of the faults 261 to 267 that holds, or
+    /// 900 if memory is refused.
     pub fn read(alloc: Global, bytes: &[u8]) -> Result<Machine<Global>, FileFault>
         ensures file { GivesFile file_of result (machine_file bytes.now) }
-        // A file of white space and comments alone is told as such even where there is no memory.
+        // A file of white space and comments only is reported as such even without memory.
         ensures blank { IsBlank bytes.now → result ≡ Err FileFault.Document }
     {
         let contents = match read_contents(alloc, bytes) {

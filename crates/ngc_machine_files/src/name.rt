@@ -4,11 +4,11 @@ ghost use Rattle.ngc_machine_files.specs.Names.{is_name, is_printable, name_of, 
 
 use std::marker::Model;
 
-/// The name of a fixture or a tool: 1 to 40 printable ASCII characters, or none where the file
-/// gives no name.
+/// The name of a fixture or a tool: 1 to 40 printable ASCII characters, or none if the file has no
+/// name for it.
 #[derive(Clone, Copy)]
 pub struct Name {
-    /// The places that aren't used hold zeros, so that equal names are equal here.
+    /// The bytes that aren't used are zero, so that equal names have equal bytes.
     characters: [u8; 40],
     count: u8,
 }
@@ -48,7 +48,7 @@ fn is_name(text: &[u8]) -> bool
 }
 
 impl Name {
-    /// Returns the name of what has none.
+    /// Returns the name without characters, for what has no name.
     pub fn none() -> Name
         ensures { result ≡ [] }
     {
@@ -74,7 +74,7 @@ impl Name {
         })
     }
 
-    /// Returns the characters, none where there is no name.
+    /// Returns the characters; there are none without a name.
     pub fn as_bytes(&self) -> &[u8]
         ensures characters { result.now ≡ self.now }
         ensures range { IsName self.now }
@@ -83,7 +83,7 @@ impl Name {
     }
 }
 
-/// The name that a file gives, and no characters where it gives none that is right.
+/// Returns the name that was read, or the name without characters for `None`.
 pub(crate) fn name_from(name: &Option<Name>) -> Name
     ensures { result ≡ name_from name.now }
 {

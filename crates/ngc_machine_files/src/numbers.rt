@@ -3,7 +3,7 @@ ghost use Rattle.ngc_machine_files.specs.Numbers.{from_to};
 
 use ngc_fixed_length::Nm;
 
-/// A number of nanometres as a length.
+/// Returns a number of nanometres as a length.
 pub(crate) fn length(nanometres: i64) -> Nm
     requires { unsigned_abs nanometres ≤ 10 ^ 11 }
     ensures { result ≡ nanometres }
@@ -11,7 +11,7 @@ pub(crate) fn length(nanometres: i64) -> Nm
     Nm::from_nanometres(i128::from(nanometres)).unwrap()
 }
 
-/// Whether a number is between two others, both included.
+/// Returns whether a number lies between two bounds, both included.
 pub(crate) fn is_from_to(low: i64, high: i64, value: i64) -> bool
     ensures { result ≡ from_to low high value }
 {

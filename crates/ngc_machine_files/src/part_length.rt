@@ -2,7 +2,8 @@ use crate::numbers::length;
 use ngc_fixed_length::Nm;
 use std::marker::Model;
 
-/// A length of 0 to 10^9 nm in 32 bits, since each command that mounts a tool has the tool's parts.
+/// A length of 0 to 10^9 nm. It is stored in 32 bits, since each command that mounts a tool holds
+/// the tool's parts.
 #[derive(Clone, Copy)]
 pub struct PartLength {
     nanometres: u32,
@@ -26,7 +27,7 @@ impl PartLength {
     ghost use Rattle.ngc_fixed_length.specs.Limits.{IsLength};
     ghost use Rattle.ngc_machine_files.specs.Numbers.{PART_LIMIT};
 
-    /// Returns a number of nanometres as a length of a part.
+    /// Returns a number of nanometres as the length of a part.
     pub(crate) fn new(nanometres: u32) -> PartLength
         requires { nanometres ≤ PART_LIMIT }
         ensures { result ≡ pos nanometres }
@@ -42,7 +43,7 @@ impl PartLength {
         i64::from(self.nanometres)
     }
 
-    /// Returns the same length as other lengths are.
+    /// Returns the same length as `Nm`.
     pub fn length(self) -> Nm
         ensures { result ≡ self }
     {

@@ -3,18 +3,18 @@ ghost use Rattle.std.specs.Prelude.{◌≡◌, ◌≤◌, ◌<◌, ◌∷◌, []
 use crate::part_length::PartLength;
 use std::marker::Model;
 
-/// A part of a tool: a box of this length, and of twice the radius on X and Y. Lengths are
-/// nanometres.
+/// A part of a tool: a box of this length along Z, whose sides along X and Y are twice the radius.
+/// Lengths are in nanometres.
 #[derive(Clone, Copy)]
 pub struct Part {
     pub length: PartLength,
     pub radius: PartLength,
 }
 
-/// One to four parts, the lowest first: each stands on the one before.
+/// One to four parts, the lowest first. Each part begins where the one below it ends.
 #[derive(Clone, Copy)]
 pub struct Parts {
-    /// The places that aren't used hold zeros, so that equal parts are equal here.
+    /// The places that aren't used hold zeros, so that equal parts have equal places.
     places: [Part; 4],
     count: usize,
 }
@@ -39,7 +39,7 @@ impl Model for Parts {
 impl Part {
     ghost use Rattle.ngc_machine_files.specs.Parts.{unused};
 
-    // What stands in a place that isn't used.
+    // Returns the value of a place that isn't used.
     fn unused() -> Part
         ensures { result ≡ unused }
     {
@@ -53,7 +53,7 @@ impl Part {
 impl Parts {
     ghost use Rattle.ngc_machine_files.specs.Parts.{one_to_four};
 
-    /// One part.
+    /// Returns a list of one part.
     pub fn one(part: Part) -> Parts
         ensures { result ≡ part ∷ [] }
     {
@@ -62,7 +62,7 @@ impl Parts {
         Parts { places, count: 1 }
     }
 
-    /// These parts, where they are one to four.
+    /// Returns these parts, or `None` if they aren't one to four.
     pub fn of(parts: &[Part]) -> Option<Parts>
         ensures { result ≡ one_to_four parts.now }
     {
@@ -76,7 +76,7 @@ impl Parts {
         Some(made)
     }
 
-    /// One more part, on top.
+    /// Adds a part on top.
     pub(crate) fn push(&mut self, part: Part)
         requires { length self.old < 4 }
         ensures { self.new ≡ self.old ++ part ∷ [] }
@@ -85,7 +85,7 @@ impl Parts {
         self.count += 1;
     }
 
-    /// The parts, the lowest first.
+    /// Returns the parts, the lowest first.
     pub fn as_slice(&self) -> &[Part]
         ensures parts { result.now ≡ self.now }
         ensures least { 1 ≤ length self.now }

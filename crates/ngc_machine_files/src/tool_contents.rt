@@ -11,26 +11,27 @@ use crate::tree::{Entry, entries_at, has_only, name_at, whole_at};
 use std::alloc::{AllocError, Global};
 use toml::Value;
 
-/// A part of a tool as the file gives it, of any size.
+/// A part of a tool as read from the file, with numbers of any size.
 #[derive(Clone, Copy)]
 pub struct PartEntry {
     pub length: i64,
     pub radius: i64,
 }
 
-/// A tool as the file gives it, of any size.
+/// A tool as read from the file, with numbers of any size.
 #[derive(Drop)]
 pub struct ToolEntry {
     pub number: i64,
     pub offset: i64,
-    /// Wide enough for a length of version 1 below zero.
+    /// The height of the lowest part's bottom. The type is wide enough for the negative of a length
+    /// of version 1.
     pub bottom: i128,
     pub parts: Vec<PartEntry>,
-    /// Without characters where it has none, and `None` where its text is no name.
+    /// The name, without characters if the key is missing; `None` if the text is not a name.
     pub name: Option<Name>,
 }
 
-/// What stands in a tool table, of any size.
+/// The contents of a tool table, with numbers of any size.
 #[derive(Drop)]
 pub struct ToolContents {
     pub version: i64,
@@ -58,7 +59,7 @@ fn below_zero(length: i64) -> i128
 }
 
 impl ToolEntry {
-    /// A tool of one part that ends at the controlled point.
+    /// Returns a tool of one part that ends at the controlled point.
     fn of_one(
         alloc: Global,
         number: i64,
@@ -86,7 +87,7 @@ impl ToolEntry {
     }
 }
 
-/// A tool of one part, as version 1 gives it.
+/// Reads a tool of one part, the form of version 1.
 fn tool_of_length(alloc: Global, value: &Value) -> Result<Option<ToolEntry>, AllocError>
     ensures { IfOk result (λ o. option_map numbers_of o ≡ tool_of_length (view value.now)) }
 {
@@ -107,7 +108,7 @@ fn tool_of_length(alloc: Global, value: &Value) -> Result<Option<ToolEntry>, All
     }
 }
 
-/// A tool of several parts, as version 2 gives it.
+/// Reads a tool of several parts, the form of version 2.
 fn tool_of_parts(alloc: Global, value: &Value) -> Result<Option<ToolEntry>, AllocError>
     ensures { IfOk result (λ o. option_map numbers_of o ≡ tool_of_parts (view value.now)) }
 {
@@ -138,7 +139,8 @@ fn tool_of_parts(alloc: Global, value: &Value) -> Result<Option<ToolEntry>, Allo
 }
 
 impl ToolEntry {
-    /// A tool of a table of this version, where each key is known, there, and of the right kind.
+    /// Reads a tool of a table of this version. Returns `None` if a key is unknown, missing or of
+    /// the wrong kind.
     fn read(alloc: Global, version: i64, value: &Value) -> Result<Option<ToolEntry>, AllocError>
         ensures { IfOk result
             (λ o. option_map numbers_of o ≡ tool_numbers version (view value.now)) }
@@ -170,7 +172,8 @@ fn tool_entries(
     Ok(Some(entries))
 }
 
-/// The tools of a table of this version; none where the key is missing, which takes no memory.
+/// Reads the tools of a table of this version. If the key is missing there are none, and nothing is
+/// allocated.
 fn tools_at(alloc: Global, version: i64, tree: &Value) -> Result<Option<Vec<ToolEntry>>, AllocError>
     ensures tools { IfOk result
         (λ o. option_map (λ v. map numbers_of v.items) o
@@ -187,8 +190,8 @@ fn tools_at(alloc: Global, version: i64, tree: &Value) -> Result<Option<Vec<Tool
 }
 
 impl ToolContents {
-    /// What the keys of a tool table name, where each is known, there, and of the right kind and
-    /// length.
+    /// Reads the values of the keys of a tool table. Returns `None` if a key is unknown, missing or
+    /// of the wrong kind or length.
     pub(crate) fn read(alloc: Global, tree: &Value) -> Result<Option<ToolContents>, AllocError>
         ensures contents { IfOk result
             (λ o. option_map values_of o ≡ table_values (view tree.now)) }

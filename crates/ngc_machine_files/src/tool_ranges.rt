@@ -131,7 +131,7 @@ fn tool(entry: &ToolEntry) -> Tool
 }
 
 impl ToolContents {
-    /// The first number out of its range.
+    /// Checks the ranges in order, and returns the first fault.
     pub(crate) fn check(&self) -> Result<(), FileFault>
         ensures { result ≡ table_ranges (values_of self.now) }
     {
@@ -144,7 +144,7 @@ impl ToolContents {
         Ok(())
     }
 
-    /// The tools of these values.
+    /// Returns the tools of these values.
     pub(crate) fn tools(&self, alloc: Global) -> Result<Tools<Global>, AllocError>
         requires { AreEntries (map numbers_of self.now.tools.items) }
         ensures { IfOk result

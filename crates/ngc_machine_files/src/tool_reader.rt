@@ -23,12 +23,13 @@ fn read_contents(alloc: Global, bytes: &[u8]) -> Result<Option<ToolContents>, Al
 impl Tools<Global> {
     /// Reads a tool table, version 1 or 2: a TOML document of whole numbers and names.
     ///
-    /// It is refused with 269 where it is no such document or a key is unknown, missing or of the
-    /// wrong kind, and else with 261 for another version and 268 for a number or a name out of
-    /// range, a tool's number twice or more than 1,000 tools; with 900 where memory was refused.
+    /// Returns 269 if the bytes are not such a document, or a key is unknown, missing or of the
+    /// wrong kind. Otherwise it returns 261 for another version, 268 for a number or a name out of
+    /// range, a tool's number that occurs twice or more than 1,000 tools, and 900 if memory is
+    /// refused.
     pub fn read(alloc: Global, bytes: &[u8]) -> Result<Tools<Global>, FileFault>
         ensures tools { GivesFile tools_of result (tool_table bytes.now) }
-        // A file of white space and comments alone is told as such even where there is no memory.
+        // A file of white space and comments only is reported as such even without memory.
         ensures blank { IsBlank bytes.now → result ≡ Err FileFault.Document }
     {
         let contents = match read_contents(alloc, bytes) {

@@ -14,8 +14,8 @@ use crate::name::Name;
 use std::alloc::{AllocError, Global};
 use toml::{Table, Value};
 
-/// The tree of a TOML document, none where the bytes are no document in UTF-8. An error is memory
-/// that was refused.
+/// Reads a TOML document. Returns `None` if the bytes are not a document in UTF-8, and an error if
+/// memory is refused.
 pub fn read_tree(alloc: Global, bytes: &[u8]) -> Result<Option<Value>, AllocError>
     ensures tree { IfOk result (λ tree. option_map view tree ≡ tree_of bytes.now) }
     ensures blank { IsBlank bytes.now → IsOk result }
@@ -27,7 +27,7 @@ pub fn read_tree(alloc: Global, bytes: &[u8]) -> Result<Option<Value>, AllocErro
     }
 }
 
-/// Whether a key is one of these.
+/// Returns whether a key is one of `keys`.
 pub fn is_one_of(key: &str, keys: &[&str]) -> bool
     ensures { result ≡ is_one_of (map (λ k. k.now) keys.entry.now) key.now }
 {
@@ -46,7 +46,7 @@ fn are_known(table: &Table, keys: &[&str]) -> bool
     table.keys().all(|key| is_one_of(key.as_str(), keys))
 }
 
-/// Whether this is a table without other keys than these.
+/// Returns whether the value is a table without keys other than `keys`.
 pub(crate) fn has_only(tree: &Value, keys: &[&str]) -> bool
     ensures { result ≡ has_only (map (λ k. k.now) keys.entry.now) (view tree.now) }
 {
@@ -56,14 +56,15 @@ pub(crate) fn has_only(tree: &Value, keys: &[&str]) -> bool
     }
 }
 
-/// The whole number under a key, none where something else stands there or nothing.
+/// Returns the whole number of a key, or `None` if the key is missing or has another value.
 pub fn whole_at(tree: &Value, key: &str) -> Option<i64>
     ensures { result ≡ whole_at key.now (view tree.now) }
 {
     tree.get(key)?.as_integer()
 }
 
-/// The whole number under a key, `missing` where nothing stands there, none where something else.
+/// Returns the whole number of a key, `missing` if the key is missing, or `None` if it has another
+/// value.
 pub(crate) fn whole_or(missing: i64, tree: &Value, key: &str) -> Option<i64>
     ensures { result ≡ whole_or missing key.now (view tree.now) }
 {
@@ -73,7 +74,7 @@ pub(crate) fn whole_or(missing: i64, tree: &Value, key: &str) -> Option<i64>
     }
 }
 
-/// An array of three whole numbers, none where the value is something else.
+/// Returns an array of three whole numbers, or `None` for another value.
 pub fn coordinates(value: &Value) -> Option<Coordinates>
     ensures { result ≡ coordinates (view value.now) }
 {
@@ -87,7 +88,8 @@ pub fn coordinates(value: &Value) -> Option<Coordinates>
     })
 }
 
-/// The array of three whole numbers under a key, none where something else stands there or nothing.
+/// Returns the array of three whole numbers of a key, or `None` if the key is missing or has
+/// another value.
 pub fn coordinates_at(tree: &Value, key: &str) -> Option<Coordinates>
     ensures { result ≡ coordinates_at key.now (view tree.now) }
 {
@@ -100,8 +102,8 @@ fn named(value: &Value) -> Option<Option<Name>>
     Some(Name::of(value.as_str()?))
 }
 
-/// The name under the key `name`: without characters where nothing stands there, an inner `None`
-/// where a text stands there that is no name, and `None` where something else.
+/// Returns the name of the key `name`: without characters if the key is missing, an inner `None`
+/// for a text that is not a name, and `None` for another value.
 pub(crate) fn name_at(tree: &Value) -> Option<Option<Name>>
     ensures { result ≡ name_at (view tree.now) }
 {
@@ -111,11 +113,11 @@ pub(crate) fn name_at(tree: &Value) -> Option<Option<Name>>
     }
 }
 
-/// What the items of an array are read as, in a file of a version.
+/// An item of an array, read as in a file of a version.
 pub(crate) trait Entry: Drop {
     ghost reading: { ℤ → Data → Option Self };
 
-    /// The value as an entry, where it is of the right kind and length.
+    /// Reads a value as an entry. Returns `None` if it is of the wrong kind or length.
     fn read(version: i64, value: &Value) -> Option<Self>
         ensures { result ≡ reading version (view value.now) };
 }
@@ -138,7 +140,8 @@ fn entries<E: Entry>(
     Ok(Some(entries))
 }
 
-/// The entries of the array under a key; none where nothing stands there, which takes no memory.
+/// Reads the entries of the array of a key. If the key is missing there are none, and nothing is
+/// allocated.
 pub(crate) fn entries_at<E: Entry>(
     alloc: Global,
     version: i64,

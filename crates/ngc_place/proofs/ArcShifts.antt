@@ -35,7 +35,7 @@ plane_moved YZ p v = refl
 from_moved : (c p d : Point2) → from (moved c d) (moved p d) ≡ from c p
 from_moved c p d = same_point _ _ _ _ (omega (arith, ints)) (omega (arith, ints))
 
--- how an arc's plane sees the shift
+-- the shift in the coordinates of an arc's plane
 abbrev pub seen : ℤ → StepPos → ArcShape → Point2
 seen step n a = in_plane a.plane (nanometres_of step n)
 
@@ -45,7 +45,7 @@ start_moved step n a = plane_moved a.plane a.start (nanometres_of step n)
 end_moved : (step : ℤ) (n : StepPos) (a : ArcShape) → end_of (arc_shifted step n true a) ≡ moved (end_of a) (seen step n a)
 end_moved step n a = plane_moved a.plane a.end (nanometres_of step n)
 
--- what the centre sees of a point stays
+-- a point relative to the centre stays
 centre_sees : (step : ℤ) (n : StepPos) (a : ArcShape) (p q : Point2) → q ≡ moved p (seen step n a) →
     from (arc_shifted step n true a).centre q ≡ from a.centre p
 centre_sees step n a p q h = ap (from (moved a.centre (seen step n a))) h ∙ from_moved a.centre p (seen step n a)
@@ -191,7 +191,7 @@ greatest_moved step n a f d e =
     ∙ ap (λ z. fold int_max z (map f (map (λ p. moved p (seen step n a)) (other_points a)))) (e (start_of a))
     ∙ fold_moved int_max f d (λ p. moved p (seen step n a)) (λ x y. max_moved x y d) e (f (start_of a)) (other_points a)
 
--- ---- the box rises
+-- ---- the box's corners rise
 
 difference_up : (x y l d e m g h : ℤ) → x ≡ l +ℤ d → y ≡ l +ℤ e → g ≡ m → h ≡ m → d ≤ℤ e → (x -ℤ g) ≤ℤ (y -ℤ h)
 difference_up x y l d e m g h i j k o up = omega (arith, ints, i, j, k, o, up)

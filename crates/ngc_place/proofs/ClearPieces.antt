@@ -1,4 +1,4 @@
--- A line's pieces that are clear are refused nowhere.
+-- The clear pieces of a line are not refused.
 use Rattle.std.proofs.Common.{◌≡◌, ℕ, zero, suc, ◌+◌, ◌*◌, ◌/◌, ◌<◌, ◌≤◌, ℤ, ◌-ℤ◌, unsigned_abs, refl, sym, subst, arith, Some, None, true, false}
 use Rattle.std.specs.Prelude.{Option, Bool, IsTrue, ◌==◌, not, if◌then◌else◌, option_map}
 use Rattle.std.specs.Option.{is_none}
@@ -79,7 +79,7 @@ rising s t h = grind (arith, nat_tests)
 rising_to_end : (s t : ℕ) → s < t → t ≡ 65536 → IsTrue (line_follows true s t)
 rising_to_end s t h e = grind (arith, nat_tests)
 
--- the box of a piece that is judged at one shift alone
+-- the box of a piece that is tested at a single shift
 one_box : (machine : MachineFile) (tool : Option Tool) (p q : Point3) (c k left : ℕ) → IsTrue (pieces_clear machine tool p q p q c k (suc left)) →
     IsTrue (is_clear machine tool (line_box machine.step p q (65536 * k / c) (65536 * (k + 1) / c)))
     × IsTrue (pieces_clear machine tool p q p q c (k + 1) left)

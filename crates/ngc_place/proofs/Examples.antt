@@ -61,8 +61,8 @@ drilling = line home above_hole ∷ line above_hole in_hole ∷ []
 abbrev fits_along_x : ℤ → ℤ → Bool
 fits_along_x from to = holds mill 1 (shifts_along X from to) (true ∷ true ∷ []) drilling
 
--- The hole may lie from X 0 mm, 6000 steps lower, to X 70 mm, where it touches the fixture, 1000
--- steps higher.
+-- The hole's shift ranges from X 0 mm, 6000 steps lower, to X 70 mm, where it touches the fixture,
+-- 1000 steps higher.
 left_of_vise : fits_along_x (negsuc 5999) (pos 1000) ≡ true
 left_of_vise = refl
 
@@ -72,7 +72,7 @@ beyond_travel = refl
 into_vise : fits_along_x (negsuc 5999) (pos 1001) ≡ false
 into_vise = refl
 
--- Right of the fixture it may lie from X 90 mm, 3000 steps higher, to the end of the travel at X 300
+-- Right of the fixture it ranges from X 90 mm, 3000 steps higher, to the end of the travel at X 300
 -- mm, 24000 steps higher.
 right_of_vise : fits_along_x (pos 3000) (pos 24000) ≡ true
 right_of_vise = refl
@@ -83,7 +83,8 @@ too_early = refl
 too_far : fits_along_x (pos 3000) (pos 24001) ≡ false
 too_far = refl
 
--- Both ends at the top of the travel: no shift up; down by 90 mm the hole ends at Z -100 mm.
+-- Both ends are at the top of the travel, so no shift up fits. Down by 90 mm the hole ends at Z
+-- -100 mm.
 abbrev fits_along_z : ℤ → ℤ → Bool
 fits_along_z from to = holds mill 1 (shifts_along Z from to) (true ∷ true ∷ []) drilling
 
@@ -96,8 +97,7 @@ up = refl
 too_deep : fits_along_z (negsuc 9000) (pos 0) ≡ false
 too_deep = refl
 
--- A hole whose place the machine fixes stays, whatever the shift, and a command without a mark
--- never holds.
+-- A hole whose point the machine fixes stays at any shift. A command without a mark never holds.
 stays : holds mill 1 (shifts_along X (negsuc 99999) (pos 99999)) (false ∷ false ∷ []) drilling ≡ true
 stays = refl
 

@@ -1,4 +1,5 @@
--- What holds over a box of shifts holds over each box within it, and is made at each of its shifts.
+-- A program that holds over a box of shifts holds over each box within it, and has motions at each
+-- of its shifts.
 use Rattle.std.proofs.Common.{◌≡◌, ℕ, zero, suc, ◌+◌, ◌*◌, ◌/◌, ◌≤◌, ℤ, ◌*ℤ◌, refl, subst, ap, ap₂, ◌∙◌, arith, List, [], ◌∷◌, ◌++◌, Some, None, Ok, true, false}
 use Rattle.std.specs.Prelude.{Option, Result, Bool, IsTrue, ◌&&◌, cond, nat_lt, nat_le, option_map}
 use Rattle.std.specs.List.{find, filter, list_all}
@@ -75,7 +76,7 @@ first_or_later x true false r s f g h = absurd (no_truth (f refl))
 first_or_later x false true r s f g h = refl
 first_or_later x false false r s f g h = g h
 
--- where each number that passes one test passes another, some number passes that one too
+-- if each number that passes one test passes another, some number passes the other test too
 some_found : (good test other : ℕ → Bool) (xs : List ℕ) → ((c : ℕ) → IsTrue (good c) → IsTrue (test c) → IsTrue (other c)) → IsTrue (list_all good xs) →
     IsTrue (is_some (find test xs)) → IsTrue (is_some (find other xs))
 some_found good test other [] f g h = absurd (no_truth h)
@@ -123,7 +124,7 @@ way_within machine most tool (Arc a) (Arc a') (Arc b') (Line u v) step least gre
 way_within machine most tool (Line p q) (Arc a') v' v step least greatest hw hv h = absurd hw
 way_within machine most tool (Arc a) (Line p' q') v' v step least greatest hw hv h = absurd hw
 
--- ---- points and ways rise where the origin does
+-- ---- points and paths rise with the origin
 
 same_point : (p : Point3) → IsAtMost p p
 same_point p = record { x = omega (arith, ints); y = omega (arith, ints); z = omega (arith, ints) }
@@ -196,7 +197,7 @@ none_of : {A : Type 0} (o : Option A) → IsTrue (is_none o) → o ≡ None
 none_of None h = refl
 none_of (Some x) h = absurd (no_truth h)
 
--- a list, and no refusal
+-- a list, without a refusal
 abbrev IsList : Result (List Entry) ℕ → Type 0
 IsList r = (entries : List Entry) × (r ≡ Ok entries)
 

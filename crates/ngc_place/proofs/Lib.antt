@@ -1,16 +1,17 @@
--- Roundings never fall where what is rounded rises.
+-- Rounding is monotonic.
 pub mod Rounded
--- What is clear over a box of places is clear over each box within it.
+-- If a box of points is clear, each box within it is clear.
 pub mod Within
--- The boxes of a way rise where its ends do.
+-- The boxes of a path rise with its ends.
 pub mod Rising
 -- The swept box of an arc that moves as a whole.
 pub mod ArcShifts
--- A line's pieces that are clear are refused nowhere.
+-- The clear pieces of a line are not refused.
 pub mod ClearPieces
--- What holds over a box of shifts holds over each box within it, and is made at each of its shifts.
+-- A program that holds over a box of shifts holds over each box within it, and has motions at each
+-- of its shifts.
 pub mod HoldsLaws
--- Quotients by a step, and what 32 bits make of them.
+-- Quotients by a step, and their conversion to 32 bits.
 pub mod Quotients
 -- Worked programs on a mill with steps of 0.01 mm, by computing the definitions.
 mod Examples

@@ -1,4 +1,4 @@
--- Quotients by a step, and what 32 bits make of them.
+-- Quotients by a step, and their conversion to 32 bits.
 use Rattle.std.proofs.Common.{◌≡◌, ◌+◌, ◌*◌, ◌/◌, ◌≤◌, ℤ, pos, negsuc, ◌+ℤ◌, ◌-ℤ◌, ◌*ℤ◌, ◌≤ℤ◌, unsigned_abs, to_z, of_z, arith, inl, inr}
 use Rattle.std.specs.Int.{int_div_euclid, w32, w64, w128}
 use Rattle.std.proofs.lemmas.Int.{ints, unsigned_abs-mul}
@@ -20,7 +20,7 @@ kept q small = let wide : to_z w64 (of_z w64 q) ≡ q = omega (arith, ints) in r
 pub kept_wide : (q : ℤ) → unsigned_abs q ≤ 2000000001 → to_z w32 (of_z w32 (to_z w128 (of_z w128 q))) ≡ q
 kept_wide q small = let wide : to_z w128 (of_z w128 q) ≡ q = omega (arith, ints) in rw wide (omega (arith, ints))
 
--- a coordinate in reach has a grid point that fits
+-- the nearest grid point of a coordinate in range fits in 32 bits
 pub grid_bound : (x s r : ℤ) → IsStep s → unsigned_abs x ≤ 300000000000 → 2 * unsigned_abs (x -ℤ (r *ℤ s)) ≤ unsigned_abs s →
     unsigned_abs r ≤ 600000000
 grid_bound x s r range small near =
@@ -32,7 +32,7 @@ grid_bound x s r range small near =
       | inr h ↦ h
     ]
 
--- sums and differences in 64 bits
+-- sums and differences fit in 64 bits
 pub sum_kept : (x y : ℤ) → unsigned_abs x ≤ 1000000000000000000 → unsigned_abs y ≤ 1000000000000000000 →
     to_z w64 (of_z w64 (to_z w64 (of_z w64 x) +ℤ to_z w64 (of_z w64 y))) ≡ x +ℤ y
 sum_kept x y small short = omega (arith, ints)

@@ -1,4 +1,4 @@
--- The boxes of a way rise where its ends do.
+-- The boxes of a path rise with its ends.
 use Rattle.std.proofs.Common.{ℕ, ◌*◌, ◌<◌, ◌≤◌, ℤ, pos, negsuc, ◌≤ℤ◌, arith}
 use Rattle.std.specs.Int.{int_min, int_max}
 use Rattle.std.proofs.lemmas.Int.{ints, clamps}
@@ -106,7 +106,7 @@ line_rises (pos k) p q u v s t range hs ht h i =
     }
 line_rises (negsuc k) p q u v s t range hs ht h i = absurd (omega (arith, ints, range.least))
 
--- ---- ways of one kind
+-- ---- paths of one kind
 
 abbrev pub WayRises : ℤ → Way → Way → Type 0
 WayRises step (Line p q) (Line u v) = IsAtMost p u × IsAtMost q v

@@ -1,4 +1,4 @@
--- Roundings never fall where what is rounded rises.
+-- Rounding is monotonic.
 use Rattle.std.proofs.Common.{◌≡◌, ℕ, suc, ◌+◌, ◌-◌, ◌*◌, ◌/◌, ◌<◌, ◌≤◌, ℤ, pos, negsuc, neg_ℤ, ◌+ℤ◌, ◌-ℤ◌, ◌*ℤ◌, ◌≤ℤ◌, arith, subst, ap}
 use borrow.Author.Differences.{up, down}
 use Rattle.std.specs.Int.{int_div_euclid}
@@ -30,7 +30,7 @@ below_up (negsuc x) (negsuc y) s h i = let j = div_up y x s h (omega (arith, int
 pub above_up : (x y : ℤ) (s : ℕ) → 0 < s → x ≤ℤ y → grid_above (pos s) x ≤ℤ grid_above (pos s) y
 above_up x y s h i = let j = below_up (neg_ℤ y) (neg_ℤ x) s h (omega (arith, ints, i)) in omega (arith, ints, j)
 
--- products by what isn't below zero
+-- products with a factor that isn't negative
 pub scale_up : (s : ℕ) (a b : ℤ) → a ≤ℤ b → (a *ℤ pos s) ≤ℤ (b *ℤ pos s)
 scale_up s (pos a) (pos b) h = let i : a ≤ b = omega (arith, ints, h) in omega (arith, ints, mul-le-mul_left s i)
 scale_up s (pos a) (negsuc b) h = absurd (omega (arith, ints, h))
@@ -47,7 +47,7 @@ sum_up x a b h = omega (arith, ints, h)
 difference : (a b : ℤ) → up (a -ℤ b) + (down a + up b) ≡ up a + down b + down (a -ℤ b)
 difference a b = omega (arith, ints)
 
--- t of s + t parts of the way from b to e
+-- the point after t of s + t parts of a line from b to e
 part_up : (b e c d : ℤ) (s t : ℕ) → b ≤ℤ c → e ≤ℤ d →
     ((b *ℤ pos (s + t)) +ℤ ((e -ℤ b) *ℤ pos t)) ≤ℤ ((c *ℤ pos (s + t)) +ℤ ((d -ℤ c) *ℤ pos t))
 part_up b e c d s t h i =

@@ -1,4 +1,4 @@
--- What is clear over a box of places is clear over each box within it.
+-- If a box of points is clear, each box within it is clear.
 use Rattle.std.proofs.Common.{ℕ, ◌+◌, arith, refl, Some, None, true, false, ℤ, ◌+ℤ◌, ◌≤ℤ◌, List, [], ◌∷◌}
 use Rattle.std.specs.Prelude.{Option, IsTrue, int_le, Bool, if◌then◌else◌}
 use Rattle.std.specs.List.{list_all}
@@ -85,7 +85,7 @@ bodies_within : (f : Fixture) (tool : Option Tool) (b c : Solid) → Within b c 
 bodies_within f None b c w h = let e = both (are_apart f b) true h in and (are_apart f c) true (apart_within f b c w e.0) refl
 bodies_within f (Some t) b c w h = stacked_within f t.bottom t.parts b c w h
 
--- ---- fixtures one after another
+-- ---- fixtures in order
 
 none_some : (i : ℕ) → IsTrue (is_none (Some i)) → ⊥
 none_some i h = no_truth h

@@ -1,6 +1,6 @@
--- When a program fits the machine at each shift of its origin within a box of shifts. A coordinate
--- of a piece's box never falls where the origin rises, so the least is that at the lowest shift, and
--- the greatest that at the highest. Our own.
+-- When a program fits the machine at each shift of its origin within a box of shifts. When the
+-- origin rises, a coordinate of a piece's box never falls. So its least value is that at the lowest
+-- shift, and its greatest value that at the highest. Our own.
 use Rattle.std.specs.Prelude.{◌≡◌, ℕ, zero, suc, ◌+◌, ◌*◌, ◌/◌, ◌≤◌, List, [], ◌∷◌, Option, None}
 use Rattle.std.specs.Prelude.{Result, Ok, Bool, true, false, ◌&&◌, IsTrue}
 use Rattle.std.specs.List.{find}
@@ -34,12 +34,12 @@ use Rattle.ngc_place.specs.Shifts.{shifted, way_shifted, end_moves, AreShifted}
 abbrev pub over : GridBox → GridBox → GridBox
 over a b = record { low = a.low; high = b.high }
 
--- all places of a box lie in the travel, and the tool meets no fixture there
+-- all points of a box lie in the travel, and the tool meets no fixture there
 abbrev pub is_clear : MachineFile → Option Tool → GridBox → Bool
 is_clear machine tool b = is_in_travel machine b && is_none (first_met machine tool b)
 
--- pieces k + 1 to k + left of a line in c pieces, at the lowest shift from p to q and at the highest
--- from u to v
+-- pieces k + 1 to k + left of a line in c pieces; at the lowest shift the line goes from p to q,
+-- and at the highest from u to v
 abbrev pub pieces_clear : MachineFile → Option Tool → Point3 → Point3 → Point3 → Point3 → ℕ → ℕ →
     ℕ → Bool
 pieces_clear machine tool p q u v c k zero = true
@@ -49,8 +49,8 @@ pieces_clear machine tool p q u v c k (suc left) =
     (line_box machine.step u v (WHOLE * k / c) (WHOLE * (k + 1) / c)))
     && pieces_clear machine tool p q u v c (k + 1) left
 
--- a way, as it is at the lowest shift and at the highest: a line in one of the numbers of pieces that
--- are tried, an arc undivided
+-- a path at the lowest shift and at the highest: a line in one of the numbers of pieces that are
+-- tried, an arc undivided
 abbrev pub way_clear : MachineFile → ℕ → Option Tool → Way → Way → Bool
 way_clear machine most tool (Line p q) (Line u v) =
     is_some (find (λ c. pieces_clear machine tool p q u v c 0 c) (tries most))
@@ -65,14 +65,14 @@ keeps_shape true end (Arc a) = end
 keeps_shape false true (Arc a) = false
 keeps_shape false false (Arc a) = true
 
--- where a tool is mounted no fixture is met
+-- no fixture is met where a tool is mounted
 abbrev pub place_clear : MachineFile → Option Tool → Point3 → Point3 → Bool
 place_clear machine tool p q =
     is_none (first_met machine tool
     (over (only (grid machine.step p)) (only (grid machine.step q))))
 
--- an action that ends where the origin moves it or doesn't, with the tool mounted and the place
--- reached so far, which moves or doesn't
+-- an action whose end moves with the origin or not, with the tool mounted and the point reached so
+-- far, which moves or not
 abbrev pub action_clear : MachineFile → ℕ → GridBox → Reached → Bool → Bool → Action → Bool
 action_clear machine most shifts r start end (Mount new) =
     place_clear machine new (shifted machine.step shifts.low start r.place)
@@ -83,7 +83,7 @@ action_clear machine most shifts r start end (Move m) =
     (way_shifted machine.step shifts.high start end m.way)
 action_clear machine most shifts r start end _ = true
 
--- Each action is clear at all shifts of a box. Each needs its mark, whether its end moves.
+-- Each action is clear at all shifts of a box. Each needs a mark that states whether its end moves.
 abbrev pub holds_from : MachineFile → ℕ → GridBox → Reached → Bool → List Bool → List Action → Bool
 holds_from machine most shifts r start moving [] = true
 holds_from machine most shifts r start [] (action ∷ actions) = false
@@ -98,7 +98,7 @@ holds machine most shifts moving commands =
 
 -- ---- the laws
 
--- where a program holds over a box of shifts, motions are made of it at each of them
+-- if a program holds over a box of shifts, the motions of the program exist at each of them
 abbrev pub HoldsIsMade : Type 0
 HoldsIsMade = (machine : MachineFile) (most : ℕ) (shifts : GridBox) (n : StepPos)
     (moving : List Bool) (commands others : List Command) (says : Result (List Entry) ℕ) →
@@ -107,7 +107,7 @@ HoldsIsMade = (machine : MachineFile) (most : ℕ) (shifts : GridBox) (n : StepP
     AreShifted machine.step n moving commands others → IsSettingMade machine most others says →
     (entries : List Entry) × (says ≡ Ok entries)
 
--- and a certificate, where it holds at both settings of block delete
+-- a certificate exists if the program holds at both settings of block delete
 abbrev pub HoldsIsCertified : Type 0
 HoldsIsCertified = (machine : MachineFile) (most : ℕ) (shifts : GridBox) (n : StepPos)
     (off_moving on_moving : List Bool) (off on others_off others_on : List Command)

@@ -1,11 +1,11 @@
--- Places and lines as the crate keeps them. Our own.
+-- The stored form of points and lines. Our own.
 use Rattle.std.specs.Prelude.{ℕ, ◌≤◌, unsigned_abs}
 use Rattle.ngc_collision.specs.declared.solid.Place.{Place}
 use Rattle.ngc_place.specs.declared.straight.Cuts.{Cuts}
 use Rattle.ngc_certificate_text.specs.Certificate.{WHOLE}
 
--- how far out a shifted point lies, in nanometres: a length, and the longest shift at the greatest
--- step
+-- the greatest size of a shifted point's coordinate, in nanometres: a length, and the longest shift
+-- at the greatest step
 abbrev pub SHIFTED_LIMIT : ℕ
 SHIFTED_LIMIT = 300000000000
 

@@ -16,13 +16,13 @@ use Rattle.ngc_commands.specs.Movement.{actions_of}
 use Rattle.ngc_place.specs.declared.axis.Axis.{Axis}
 use Rattle.ngc_place.specs.declared.axis.Axis.TheVariants.{X, Y, Z}
 
--- so many steps along one axis
+-- a number of steps along one axis
 abbrev pub along : Axis → ℤ → StepPos
 along X n = record { x = n; y = pos 0; z = pos 0 }
 along Y n = record { x = pos 0; y = n; z = pos 0 }
 along Z n = record { x = pos 0; y = pos 0; z = n }
 
--- how far an origin may be shifted along each axis, in steps: no travel is longer
+-- the greatest shift of an origin along each axis, in steps: no travel is longer
 abbrev pub SHIFT_LIMIT : ℕ
 SHIFT_LIMIT = 4000000
 
@@ -40,7 +40,7 @@ pub record AreShifts (b : GridBox) : Type 0 where
 abbrev pub shifts_along : Axis → ℤ → ℤ → GridBox
 shifts_along axis from to = record { low = along axis from; high = along axis to }
 
--- a point, which moves with the origin or doesn't
+-- a point that moves with the origin or not
 abbrev pub shifted : ℤ → StepPos → Bool → Point3 → Point3
 shifted step n true p = plus p (nanometres_of step n)
 shifted step n false p = p
@@ -56,12 +56,12 @@ arc_shifted step n true a = record {
 }
 arc_shifted step n false a = a
 
--- a way, by whether its start and its end move
+-- a path, by whether its start and its end move
 abbrev pub way_shifted : ℤ → StepPos → Bool → Bool → Way → Way
 way_shifted step n start end (Line p q) = Line (shifted step n start p) (shifted step n end q)
 way_shifted step n start end (Arc a) = Arc (arc_shifted step n end a)
 
--- whether the place that is reached moves, after an action whose end moves if it is a motion
+-- whether the reached point moves, after an action whose end moves if it is a motion
 abbrev pub end_moves : Bool → Bool → Action → Bool
 end_moves start end (Move m) = end
 end_moves start end _ = start
@@ -80,8 +80,8 @@ actions_shifted step n start (end ∷ moving) (action ∷ actions) =
     action_shifted step n start end action
     ∷ actions_shifted step n (end_moves start end action) moving actions
 
--- Other commands are these with the origin shifted, apart from the lines that give them. At first the
--- axes stand at the machine's start, which doesn't move.
+-- Other commands are these with the origin shifted, apart from the lines that they come from. At
+-- first the axes are at the machine's start point, which doesn't move.
 abbrev pub AreShifted : ℤ → StepPos → List Bool → List Command → List Command → Type 0
 AreShifted step n moving commands others =
     actions_of others ≡ actions_shifted step n false moving (actions_of commands)

@@ -13,7 +13,7 @@ pub enum Axis {
 impl Axis {
     ghost use Rattle.ngc_place.specs.Shifts.{along, shifts_along};
 
-    /// The shift of this many steps along the axis alone.
+    /// Returns the shift of this number of steps along the axis alone.
     fn along(self, steps: i32) -> StepPos
         ensures { result ≡ along self steps }
     {

@@ -1,4 +1,4 @@
-//! Grid points next to lengths, which may lie farther out than `Nm` reaches.
+//! Grid points next to lengths, which may be beyond the range of `Nm`.
 ghost use Rattle.std.specs.Prelude.{◌≡◌, ◌≤◌, ◌*◌, ◌^◌, pos, ◌≤ℤ◌, unsigned_abs};
 ghost use Rattle.ngc_fixed_length.specs.Length.{IsStep};
 ghost use Rattle.ngc_fixed_length.specs.Boxes.{grid_above, grid_below};
@@ -7,7 +7,8 @@ ghost use Rattle.ngc_place.specs.Inside.{SHIFTED_LIMIT};
 
 use ngc_fixed_length::{Nm, rounded_quotient};
 
-/// The last grid point that isn't above a length, in steps; length and step are in one unit.
+/// Returns the last grid point that isn't above a length, in steps. The length and the step have
+/// the same unit.
 pub(crate) fn last_grid_point(step: i64, length: i64) -> i32
     requires step { pos 500 ≤ℤ step }
     requires length { unsigned_abs length ≤ 2000000000 * unsigned_abs step }
@@ -17,7 +18,8 @@ pub(crate) fn last_grid_point(step: i64, length: i64) -> i32
     length.div_euclid(step) as i32
 }
 
-/// The first grid point that isn't below a length, in steps; length and step are in one unit.
+/// Returns the first grid point that isn't below a length, in steps. The length and the step have
+/// the same unit.
 pub(crate) fn first_grid_point(step: i64, length: i64) -> i32
     requires step { pos 500 ≤ℤ step }
     requires length { unsigned_abs length ≤ 2000000000 * unsigned_abs step }
@@ -27,7 +29,7 @@ pub(crate) fn first_grid_point(step: i64, length: i64) -> i32
     -last_grid_point(step, -length)
 }
 
-/// The grid point nearest to a coordinate, in steps; ties go away from zero.
+/// Returns the grid point nearest to a coordinate, in steps. Ties are rounded away from zero.
 pub(crate) fn nearest_step(step: Nm, coordinate: i64) -> i32
     requires step { IsStep step }
     requires near { unsigned_abs coordinate ≤ SHIFTED_LIMIT }

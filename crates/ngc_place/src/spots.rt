@@ -1,4 +1,4 @@
-//! Points that move with the origin, or don't.
+//! Points that move with the origin or not.
 ghost use Rattle.std.specs.Prelude.{◌≡◌, ◌≤◌, ◌+ℤ◌, ◌*ℤ◌, unsigned_abs};
 ghost use Rattle.ngc_fixed_length.specs.Length.{IsStep};
 ghost use Rattle.ngc_fixed_length.specs.Grid.{grid};
@@ -10,7 +10,7 @@ use crate::grid::nearest_step;
 use ngc_collision::Place;
 use ngc_fixed_length::{Nm, Point3, StepPos, nanometres_at};
 
-/// A coordinate, and this many steps more.
+/// Returns a coordinate plus this number of steps.
 pub(crate) fn moved(step: Nm, by: i32, coordinate: Nm) -> i64
     requires step { IsStep step }
     requires by { unsigned_abs by ≤ SHIFT_LIMIT }
@@ -20,7 +20,7 @@ pub(crate) fn moved(step: Nm, by: i32, coordinate: Nm) -> i64
     coordinate.nanometres() + nanometres_at(step, by)
 }
 
-/// A point at a shift of the origin, with which it moves or doesn't.
+/// Returns a point at a shift of the origin. The point moves with the origin or not.
 pub(crate) fn shifted(step: Nm, by: &StepPos, moves: bool, point: &Point3) -> Place
     requires step { IsStep step }
     requires by { IsShift by.now }
@@ -42,7 +42,7 @@ pub(crate) fn shifted(step: Nm, by: &StepPos, moves: bool, point: &Point3) -> Pl
     }
 }
 
-/// The grid point nearest to a place.
+/// Returns the grid point nearest to a point.
 pub(crate) fn to_grid(step: Nm, place: &Place) -> StepPos
     requires step { IsStep step }
     requires near { IsNear place.now }

@@ -15,17 +15,17 @@ use crate::spots::shifted;
 use ngc_collision::Place;
 use ngc_fixed_length::{Nm, Point3, StepPos};
 
-/// Parts of a line.
+/// The number of parts of a line.
 const WHOLE: u32 = 65_536;
 
-/// From which part of a line to which, in parts of 65,536.
+/// A section of a line: the parts at which it begins and ends, of 65,536.
 #[derive(Clone, Copy)]
 pub(crate) struct Cuts {
     pub(crate) from: u32,
     pub(crate) to: u32,
 }
 
-/// How many parts of a line lie before piece `k` of `count`.
+/// Returns the number of parts of a line before piece `k` of `count`.
 fn part_before(k: u32, count: u32) -> u32
     requires some { 1 ≤ count }
     requires limit { count ≤ 65535 }
@@ -37,7 +37,7 @@ fn part_before(k: u32, count: u32) -> u32
 }
 
 impl Cuts {
-    /// From where to where piece `k` of `count` of a line leads.
+    /// Returns the section of piece `k` of `count` of a line.
     pub(crate) fn of_piece(k: u32, count: u32) -> Cuts
         requires limit { count ≤ 65535 }
         requires k { k + 1 ≤ count }
@@ -52,7 +52,7 @@ impl Cuts {
     }
 }
 
-/// A length in 65,536ths of a nanometre.
+/// Returns a length in 65,536ths of a nanometre.
 fn in_parts(length: i64) -> i64
     requires { unsigned_abs length ≤ SHIFTED_LIMIT }
     ensures value { result ≡ length *ℤ pos 65536 }
@@ -61,7 +61,7 @@ fn in_parts(length: i64) -> i64
     length * 65_536
 }
 
-/// A step in 65,536ths of a nanometre.
+/// Returns a step in 65,536ths of a nanometre.
 fn step_in_parts(step: Nm) -> i64
     requires { IsStep step }
     ensures value { result ≡ step *ℤ pos 65536 }
@@ -71,7 +71,7 @@ fn step_in_parts(step: Nm) -> i64
     step.nanometres() * 65_536
 }
 
-/// From start to end, in nanometres.
+/// Returns `end - start`, in nanometres.
 fn way_between(start: i64, end: i64) -> i64
     requires start { unsigned_abs start ≤ SHIFTED_LIMIT }
     requires end { unsigned_abs end ≤ SHIFTED_LIMIT }
@@ -81,7 +81,7 @@ fn way_between(start: i64, end: i64) -> i64
     end - start
 }
 
-/// So many parts of a way.
+/// Returns `part` 65,536ths of a difference, in 65,536ths of a nanometre.
 fn part_of_way(way: i64, part: u32) -> i64
     requires way { unsigned_abs way ≤ 2 * SHIFTED_LIMIT }
     requires part { part ≤ WHOLE_LINE }
@@ -91,7 +91,8 @@ fn part_of_way(way: i64, part: u32) -> i64
     way * i64::from(part)
 }
 
-/// So many 65,536ths of the way from start to end, in 65,536ths of a nanometre.
+/// Returns the coordinate after `part` parts of a line from start to end, in 65,536ths of a
+/// nanometre.
 fn cut_at(start: i64, end: i64, part: u32) -> i64
     requires start { unsigned_abs start ≤ SHIFTED_LIMIT }
     requires end { unsigned_abs end ≤ SHIFTED_LIMIT }
@@ -102,7 +103,7 @@ fn cut_at(start: i64, end: i64, part: u32) -> i64
     in_parts(start) + part_of_way(way_between(start, end), part)
 }
 
-/// The lesser of two cuts.
+/// Returns the lesser of two cuts.
 fn lesser_cut(start: i64, end: i64, cuts: &Cuts) -> i64
     requires start { unsigned_abs start ≤ SHIFTED_LIMIT }
     requires end { unsigned_abs end ≤ SHIFTED_LIMIT }
@@ -114,7 +115,7 @@ fn lesser_cut(start: i64, end: i64, cuts: &Cuts) -> i64
     cut_at(start, end, cuts.from).min(cut_at(start, end, cuts.to))
 }
 
-/// The greater of two cuts.
+/// Returns the greater of two cuts.
 fn greater_cut(start: i64, end: i64, cuts: &Cuts) -> i64
     requires start { unsigned_abs start ≤ SHIFTED_LIMIT }
     requires end { unsigned_abs end ≤ SHIFTED_LIMIT }
@@ -126,7 +127,7 @@ fn greater_cut(start: i64, end: i64, cuts: &Cuts) -> i64
     cut_at(start, end, cuts.from).max(cut_at(start, end, cuts.to))
 }
 
-/// Of the grid points within a step of the way between two cuts the first, in steps.
+/// Returns the first of the grid points within a step of the line between two cuts, in steps.
 fn first_between(step: Nm, start: i64, end: i64, cuts: &Cuts) -> i32
     requires step { IsStep step }
     requires start { unsigned_abs start ≤ SHIFTED_LIMIT }
@@ -138,7 +139,7 @@ fn first_between(step: Nm, start: i64, end: i64, cuts: &Cuts) -> i32
     first_grid_point(step, lesser_cut(start, end, cuts) - step)
 }
 
-/// Of the grid points within a step of the way between two cuts the last, in steps.
+/// Returns the last of the grid points within a step of the line between two cuts, in steps.
 fn last_between(step: Nm, start: i64, end: i64, cuts: &Cuts) -> i32
     requires step { IsStep step }
     requires start { unsigned_abs start ≤ SHIFTED_LIMIT }
@@ -150,7 +151,7 @@ fn last_between(step: Nm, start: i64, end: i64, cuts: &Cuts) -> i32
     last_grid_point(step, greater_cut(start, end, cuts) + step)
 }
 
-/// Of the grid points that a piece of a line needs the first along an axis, in steps.
+/// Returns the first of the grid points that a piece of a line needs along an axis, in steps.
 fn first_needed(step: Nm, start: i64, end: i64, cuts: &Cuts) -> i32
     requires step { IsStep step }
     requires start { unsigned_abs start ≤ SHIFTED_LIMIT }
@@ -163,7 +164,7 @@ fn first_needed(step: Nm, start: i64, end: i64, cuts: &Cuts) -> i32
     first_between(step, start, end, cuts).max(least)
 }
 
-/// Of the grid points that a piece of a line needs the last along an axis, in steps.
+/// Returns the last of the grid points that a piece of a line needs along an axis, in steps.
 fn last_needed(step: Nm, start: i64, end: i64, cuts: &Cuts) -> i32
     requires step { IsStep step }
     requires start { unsigned_abs start ≤ SHIFTED_LIMIT }
@@ -186,7 +187,7 @@ pub(crate) struct Straight {
 }
 
 impl Straight {
-    /// The line from a start to an end, each of which moves with the origin or doesn't.
+    /// Returns the line from a start to an end, each of which moves with the origin or not.
     pub(crate) fn new(
         step: Nm,
         by: &StepPos,
@@ -206,7 +207,7 @@ impl Straight {
         }
     }
 
-    /// The lowest corner of the box of a piece.
+    /// Returns the lowest corner of the box of a piece.
     pub(crate) fn low(&self, step: Nm, cuts: &Cuts) -> StepPos
         requires step { IsStep step }
         requires on_line { AreOnLine cuts.now }
@@ -220,7 +221,7 @@ impl Straight {
         }
     }
 
-    /// The highest corner of the box of a piece.
+    /// Returns the highest corner of the box of a piece.
     pub(crate) fn high(&self, step: Nm, cuts: &Cuts) -> StepPos
         requires step { IsStep step }
         requires on_line { AreOnLine cuts.now }

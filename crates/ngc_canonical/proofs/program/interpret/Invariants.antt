@@ -1,5 +1,5 @@
--- What is left of the program from here on leads where all of it leads from the start, and the motions so far to where the axes
--- stand; and no end has come.
+-- Executing the remaining lines from here has the same result as executing all lines from the
+-- start. The motions so far lead to where the axes are, and there is no end yet.
 use Rattle.std.proofs.Common.{◌≡◌, List, false}
 use Rattle.ngc_line_reader.specs.Grammar.{Reading}
 use Rattle.ngc_line_reader.specs.ProgramText.{AreReadings}

@@ -1,4 +1,4 @@
--- The text says the events so far, and then what is left of it says.
+-- The events of the text are those read so far, and then those of the remaining text.
 use Rattle.std.proofs.Common.{◌≡◌, ◌+◌, length}
 use Rattle.std.specs.Prelude.{vec_len}
 use Rattle.ngc_events.specs.Events.{events_said}

@@ -1,4 +1,4 @@
--- The changes so far and those from here on are all changes; and no end has come.
+-- The changes so far, followed by those from here on, are all changes; and there is no end yet.
 use Rattle.std.proofs.Common.{◌≡◌, ◌++◌, List, false}
 use Rattle.ngc_line_reader.specs.Grammar.{Reading}
 use Rattle.ngc_line_reader.specs.ProgramText.{AreReadings}

@@ -1,4 +1,5 @@
--- The moves left lead from here where all of them lead from the beginning, and the frames stay.
+-- Making the remaining moves from here has the same result as making all of them from the
+-- beginning, and the frames stay.
 use Rattle.std.proofs.Common.{◌≡◌, drop}
 use Rattle.ngc_canonical.specs.Interpreter.{state_of}
 use Rattle.ngc_canonical.specs.Cycles.{make_moves}

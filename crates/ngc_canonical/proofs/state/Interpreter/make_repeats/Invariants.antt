@@ -1,4 +1,5 @@
--- The moves of the repeats left lead from here where all of them lead from the beginning, and the frames stay.
+-- Making the moves of the remaining repeats from here has the same result as making all of them
+-- from the beginning, and the frames stay.
 use Rattle.std.proofs.Common.{◌≡◌, ◌+◌, ◌-◌}
 use Rattle.ngc_canned_cycles.specs.Heights.{repeats_of}
 use Rattle.ngc_canonical.specs.Interpreter.{state_of}

@@ -1,4 +1,5 @@
--- The effects left lead from here where all of them lead from the beginning.
+-- Performing the remaining effects from here has the same result as performing all of them from the
+-- beginning.
 use Rattle.std.proofs.Common.{◌≡◌, drop}
 use Rattle.ngc_canonical.specs.Interpreter.{setup_of, state_of}
 use Rattle.ngc_canonical.specs.Perform.{run}
