@@ -28,7 +28,7 @@ inner_radius a = whole_root (lo a)
 abbrev pub outer_radius : ArcShape → ℕ
 outer_radius a = whole_root_above (hi a)
 
--- the square of the greatest radius that words may give, 2*10^9 nm
+-- the square of the greatest programmed radius, 2*10^9 nm
 abbrev pub SQUARE_LIMIT : ℕ
 SQUARE_LIMIT = 4000000000000000000
 

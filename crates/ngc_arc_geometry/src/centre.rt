@@ -34,8 +34,8 @@ impl Ends {
         }
     }
 
-    /// Returns the vector from the chord's middle to the centre. A circle of the radius, given by
-    /// its square, about an end must reach the middle.
+    /// Returns the vector from the chord's middle to the centre. `square` is the square of the
+    /// radius. A circle of this radius about an end must reach the middle.
     fn offset_from_middle(&self, square: u128, is_long: bool) -> Vector2
         requires chord { 0 < chord_square self.now }
         requires reached { chord_square self.now ≤ 4 * square }

@@ -1,4 +1,4 @@
--- The cycles that are refused, and the range of what their words give. Our own.
+-- The cycles that are refused, and the ranges of their words. Our own.
 use Rattle.std.specs.Prelude.{ℕ, ◌≤◌, ◌/◌, ◌%◌, ◌==◌, nat_le, nat_lt, ℤ, pos, ◌-ℤ◌, unsigned_abs}
 use Rattle.std.specs.Prelude.{int_le, int_lt, Option, Some, None, Result, Bool, true, false, not}
 use Rattle.std.specs.Prelude.{◌&&◌, ◌||◌}
@@ -69,7 +69,7 @@ check c s =
     refuse_if (needs_spindle c.hole && not s.turning) SpindleNotTurning >>
     refuse_if (is_inverse c.feed_mode) InverseTime
 
--- a coordinate that a word gives is in range; without a word any coordinate is
+-- a programmed coordinate is in range; without a word any coordinate is
 abbrev pub is_in_range_if_given : Option ℤ → ℤ → Bool
 is_in_range_if_given None c = true
 is_in_range_if_given (Some l) c = is_within COORDINATE_LIMIT c
@@ -79,8 +79,8 @@ is_repeat_in_range c s j =
     is_in_range_if_given c.u (repeat_place c s j).u
     && is_in_range_if_given c.v (repeat_place c s j).v
 
--- the coordinates that the words give are in range: R, the bottom, and the places of the first and
--- the last repeat
+-- the programmed coordinates are in range: R, the bottom, and the places of the first and the last
+-- repeat
 abbrev pub is_in_range : Cycle → Start → Bool
 is_in_range c s =
     is_within COORDINATE_LIMIT (retract_of c s) && is_within COORDINATE_LIMIT (bottom_of c s) &&

@@ -168,9 +168,9 @@ impl Cycle {
             && last
     }
 
-    /// Returns whether the coordinates that the words give are at most 10^9 nm in size: R, the
-    /// bottom, and the places of the first and the last repeat. Then `fill` makes the moves of each
-    /// repeat between them, too.
+    /// Returns whether the programmed coordinates are at most 10^9 nm in size: R, the bottom, and
+    /// the places of the first and the last repeat. Then `fill` makes the moves of each repeat
+    /// between them, too.
     pub fn is_in_range(&self, start: &Start) -> bool
         ensures value { result ≡ is_in_range self.now start.now }
         ensures lengths { IsTrue result → (j : ℕ) → 1 ≤ j → j ≤ repeats_of self.now.repeats →

@@ -60,7 +60,7 @@ impl Band {
 
 /// Returns the first coordinate after the greatest multiple of the step below a coordinate. The
 /// sides of boxes are multiples of the step, so the side for a coordinate from there on isn't below
-/// the given one.
+/// `coordinate`.
 fn after_multiple_below(step: Nm, coordinate: i64) -> i64
     requires step { IsStep step }
     requires coordinate { unsigned_abs coordinate ≤ 200000000000000 }

@@ -85,7 +85,7 @@ impl SettingJudge {
         }
     }
 
-    /// Checks a motion of the certificate, given by its index; its `pieces` pieces follow.
+    /// Checks the motion of the certificate with this index; its `pieces` pieces follow.
     pub(crate) fn motion<A: Allocator>(
         &mut self,
         machine: &Machine<A>,
@@ -146,7 +146,7 @@ impl SettingJudge {
         }
     }
 
-    /// Checks a motion of the certificate, given by its index, with all its pieces.
+    /// Checks the motion of the certificate with this index, with all its pieces.
     pub(crate) fn entry<A: Allocator>(
         &mut self,
         machine: &Machine<A>,

@@ -1,4 +1,4 @@
--- The position in the plane of a point that is given in its quadrant's coordinates. Our own.
+-- The position in the plane of a point in its quadrant's coordinates. Our own.
 use Rattle.std.specs.Prelude.{ℕ, pos, neg_ℤ}
 use Rattle.ngc_fixed_length.specs.declared.points.Point2.{Point2}
 use Rattle.ngc_circle_walk.specs.declared.spoke.Quadrant.{Quadrant}

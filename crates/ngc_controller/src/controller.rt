@@ -66,8 +66,8 @@ impl<K: ArcKernel + Drop, A: Allocator> Model for Controller<K, A> {
 
 impl<K: ArcKernel + Drop, A: Allocator + Copy> Controller<K, A> {
     /// Returns a controller whose machine is at rest at the start point, with nothing loaded and no
-    /// tool mounted. It allocates all its memory here. If there is too little (900), it gives back
-    /// the accepted program.
+    /// tool mounted. It allocates all its memory here. If there is too little (900), it returns the
+    /// accepted program.
     pub fn new(
         alloc: A,
         accepted: Accepted<A>,
@@ -375,7 +375,7 @@ impl<K: ArcKernel + Drop, A: Allocator + Copy> Controller<K, A> {
         Ok(Reply::Overridden(percent))
     }
 
-    /// Ends the run, and gives back the accepted program that [`Controller::new`] took.
+    /// Ends the run, and returns the accepted program that [`Controller::new`] took.
     pub fn into_accepted(self) -> Accepted<A>
         ensures { result ≡ self.accepted }
     {

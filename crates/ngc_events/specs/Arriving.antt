@@ -27,7 +27,7 @@ pub record Arriving : Type 0 where
   pub complete : ℕ
   pub begun : List ℕ
 
--- A text is the lines of these events, and a prefix of another line. By the law of one spelling it
+-- A text is the lines of these events, and a prefix of another line. By the law `OneSpelling` it
 -- lists these events up to that line, just as the text of an events file does.
 pub record HaveArrived (text : List ℕ) (lines : List EventLine) (now : Arriving) : Type 0 where
   pub spelled : text ≡ events_text lines ++ now.begun

@@ -32,8 +32,8 @@ token_count (setting index value) = length (symbols_of index) + length (symbols_
 token_count (comment bytes) = 0
 
 -- The words, with their columns and the indexes at which their tokens begin. The first item's
--- tokens begin at first; end is the text after the items; place gives the column of a byte from the
--- number of bytes from it on.
+-- tokens begin at first; end is the text after the items; place maps the number of bytes from a
+-- byte on to the byte's column.
 abbrev pub words_from : (ℕ → ℕ) → ℕ → List Item → List ℕ → List RawWord
 words_from place first [] end = []
 words_from place first (word letter value ∷ items) end =
@@ -90,7 +90,7 @@ abbrev pub word_count : List Item → ℕ
 word_count [] = 0
 word_count (item ∷ items) = item_words item + word_count items
 
--- numbers in range, and at most as many words as a line may have
+-- numbers in range, and no more words than a line may have
 abbrev pub WithinLimits : Reading → Type 0
 WithinLimits r = AllWithinLimit r.items × (word_count r.items ≤ 64)
 

@@ -34,7 +34,7 @@ text_from place [] = []
 text_from place (b ∷ rest) =
     option_to_list (kept place b (length rest == 0)) ++ text_from (place_after place b) rest
 
--- the text of a line, given without its line feed
+-- the text of a line, without its line feed
 abbrev pub text : List ℕ → List ℕ
 text line = text_from Outside line
 

@@ -24,8 +24,8 @@ abbrev mutual
 abbrev pub symbols : List Token → List Symbol
 symbols tokens = map (λ t. t.symbol) tokens
 
--- a symbol at the front of a text; place gives the column of a byte from the number of bytes from
--- it on
+-- a symbol at the front of a text; place maps the number of bytes from a byte on to the byte's
+-- column
 abbrev pub token_at : (ℕ → ℕ) → Symbol → List ℕ → Token
 token_at place symbol text = record { symbol = symbol; column = place (length text) }
 

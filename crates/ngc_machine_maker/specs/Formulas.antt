@@ -129,7 +129,7 @@ abbrev pub arcs_by : ℕ → Option Acceleration → ℕ
 arcs_by otherwise None = otherwise
 arcs_by otherwise (Some a) = a.micrometres_a_second_squared
 
--- the greatest acceleration towards the centre of an arc: the one given, or that of the slowest
+-- the greatest acceleration towards the centre of an arc: the one specified, or that of the slowest
 -- axis
 abbrev pub arcs_of : Figures → ℕ
 arcs_of f = arcs_by (least f.acceleration) f.arcs

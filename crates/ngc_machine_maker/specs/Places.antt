@@ -42,7 +42,7 @@ stops_of scale travel within stop p =
     and_then (stop_of scale travel.z within.z p.z (refusals.Outside stop axes.Z)) (λ z.
     Ok (record { x = x; y = y; z = z }))))
 
--- a home position is the start, unless a place is given
+-- a home position is the start, unless a place is specified
 abbrev pub stops_by : Scale → PerAxis ℕ → PerAxis Length → Stop → PerAxis ℕ →
     Option (PerAxis Length) → Result (PerAxis ℕ) FigureRefusal
 stops_by scale travel within stop start None = Ok start

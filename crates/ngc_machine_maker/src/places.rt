@@ -102,7 +102,7 @@ pub(crate) fn stops_of(
     Ok(PerAxis { x, y, z })
 }
 
-/// Returns a home position in steps: the start, unless a place is given.
+/// Returns a home position in steps: the start, unless a place is specified.
 pub(crate) fn stops_by(
     scale: &Scale,
     travel: &PerAxis<u32>,

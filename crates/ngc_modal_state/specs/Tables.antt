@@ -11,7 +11,7 @@ abbrev pub has_number : ℕ → List ℕ → Bool
 has_number n [] = false
 has_number n (k ∷ rest) = (n == k) || has_number n rest
 
--- the answer of the first row whose test holds
+-- the second entry of the first row whose test holds
 abbrev pub first_where : {A : Type 0} → List (Bool × A) → Option A
 first_where [] = None
 first_where ((holds, answer) ∷ rest) = if holds then Some answer else first_where rest

@@ -11,7 +11,7 @@ use crate::used::{uses_i, uses_j, uses_k, uses_r};
 use ngc_fixed_length::{FeedMode, Plane, Value};
 use ngc_line_reader::Letter;
 
-// Returns the answer of the first row whose test holds.
+// Returns the second entry of the first row whose test holds.
 fn first_where<T: Copy>(rows: &[(bool, T)]) -> Option<T>
     ensures { result ≡ first_in rows.now }
 {

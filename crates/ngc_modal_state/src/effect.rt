@@ -58,7 +58,7 @@ pub enum Effect {
     Path(PathControl),
     Distance(Distance),
     Return(RetractMode),
-    /// G28, G30: through the point that the axis words give.
+    /// G28, G30: through the point of the axis words.
     GoHome {
         home: Home,
         axes: AxisWords,

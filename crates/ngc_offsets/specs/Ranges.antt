@@ -3,7 +3,7 @@ use Rattle.std.specs.Prelude.{ℕ, ◌≤◌, ◌≡◌, ◌⊎◌, ℤ, unsigne
 use Rattle.ngc_fixed_length.specs.declared.points.Point3.{Point3}
 use Rattle.ngc_offsets.specs.Offsets.{Offsets}
 
--- a coordinate that words give: at most a metre
+-- a programmed coordinate: at most a metre
 abbrev pub COORDINATE_LIMIT : ℕ
 COORDINATE_LIMIT = 1000000000
 
@@ -15,7 +15,7 @@ OFFSET_LIMIT = 4000000000
 abbrev pub SHIFT_LIMIT : ℕ
 SHIFT_LIMIT = 12000000000
 
--- the sum of a coordinate that words give and these three
+-- the sum of a programmed coordinate and these three
 abbrev pub MACHINE_LIMIT : ℕ
 MACHINE_LIMIT = 13000000000
 
@@ -51,7 +51,7 @@ pub record AreInRange (f : Offsets) : Type 0 where
   pub saved : IsWithin OFFSET_LIMIT f.saved
   pub length : IsOffset f.length
 
--- a coordinate stays, or it is one that words may give
+-- a coordinate stays, or it is one in the range of programmed coordinates
 abbrev pub IsKeptOrGiven : ℤ → ℤ → Type 0
 IsKeptOrGiven current c = (c ≡ current) ⊎ IsCoordinate c
 

@@ -106,7 +106,7 @@ fn new_coordinate(had: Nm, given: Option<Nm>) -> Result<Nm, FrameFault>
     }
 }
 
-// Returns the axis offset after G92. With it, the machine place has the coordinates given. A
+// Returns the axis offset after G92. With it, the machine place has the coordinates `given`. A
 // missing coordinate stays.
 fn new_axis(
     place: &Point3,
@@ -234,8 +234,8 @@ impl Frames {
         Ok(plus(&programmed, &shift))
     }
 
-    /// G10 L2: sets a system's origin on the axes given. Returns `BeyondRange` if a length is over
-    /// 4*10^9 nm in size; the frames are then unchanged. NISTIR 6556, 3.5.5.
+    /// G10 L2: sets a system's origin on the programmed axes. Returns `BeyondRange` if a
+    /// length is over 4*10^9 nm in size; the frames are then unchanged. NISTIR 6556, 3.5.5.
     pub fn set_origin(&mut self, system: System, given: &AxisLengths) -> Result<(), FrameFault>
         ensures { Becomes result self.old self.new (set_origin self.old system given.now) }
     {
@@ -245,7 +245,7 @@ impl Frames {
         Ok(())
     }
 
-    /// G92: sets the axis offset so that the machine place has the programmed coordinates given,
+    /// G92: sets the axis offset so that the machine place has the programmed coordinates,
     /// and saves it. Returns `BeyondRange` if a coordinate is over 10^9 nm in size or an offset
     /// over 4*10^9 nm; the frames are then unchanged. NISTIR 6556, 3.5.18.
     pub fn set_axis(&mut self, place: Point3, given: &AxisLengths) -> Result<(), FrameFault>

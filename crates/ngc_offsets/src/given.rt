@@ -7,7 +7,7 @@ use crate::fault::FrameFault;
 use crate::range::coordinate;
 use ngc_fixed_length::{Distance, Nm, Point3};
 
-/// The lengths that a line gives for X, Y and Z.
+/// The lengths of a line's words X, Y and Z.
 #[derive(Clone, Copy)]
 pub struct AxisLengths {
     pub x: Option<Nm>,

@@ -8,7 +8,7 @@ ghost use Rattle.ngc_offsets.specs.Faults.{offset as offset_in};
 use crate::fault::FrameFault;
 use ngc_fixed_length::{Nm, Point3};
 
-/// The greatest size of a coordinate that words give, in nanometres.
+/// The greatest size of a programmed coordinate, in nanometres.
 pub const COORDINATE: u64 = 1_000_000_000;
 
 const OFFSET: u64 = 4_000_000_000;
@@ -28,7 +28,7 @@ fn limited(limit: u64, nanometres: i64) -> Result<Nm, FrameFault>
     }
 }
 
-/// Returns a coordinate that words give, or `BeyondRange` over 10^9 nm in size.
+/// Returns a programmed coordinate, or `BeyondRange` over 10^9 nm in size.
 pub(crate) fn coordinate(nanometres: i64) -> Result<Nm, FrameFault>
     ensures value { result ≡ coordinate_in nanometres }
     ensures range { IfOk result IsCoordinate }

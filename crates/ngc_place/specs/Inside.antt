@@ -5,7 +5,7 @@ use Rattle.ngc_place.specs.declared.straight.Cuts.{Cuts}
 use Rattle.ngc_certificate_text.specs.Certificate.{WHOLE}
 
 -- the greatest size of a shifted point's coordinate, in nanometres: a length, and the longest shift
--- at the greatest step
+-- with the longest step
 abbrev pub SHIFTED_LIMIT : ℕ
 SHIFTED_LIMIT = 300000000000
 

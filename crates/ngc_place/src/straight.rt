@@ -18,7 +18,7 @@ use ngc_fixed_length::{Nm, Point3, StepPos};
 /// The number of parts of a line.
 const WHOLE: u32 = 65_536;
 
-/// A section of a line: the parts at which it begins and ends, of 65,536.
+/// A section of a line: the 65,536ths of the line at which it begins and ends.
 #[derive(Clone, Copy)]
 pub(crate) struct Cuts {
     pub(crate) from: u32,

@@ -125,8 +125,8 @@ PlacesKeepFeed =
 
 -- The same for each arc with its height. At m nanometres from the centre a path step is at most
 -- step * radius / m long in the plane, and it rises by an nth of the height; a line of n path steps
--- along an axis rises as much. The squares of these lengths give that of the distance that a rate
--- covers per minute.
+-- along an axis rises as much. The square of the distance that a rate covers per minute follows
+-- from the squares of these lengths.
 pub record KeepsSlopedFeed (hz step radius n rise m f v : ℕ) : Type 0 where
   pub along_arc :
       square (v * (60 * hz)) * (square (n * step * radius) + square (rise * (m - step)))

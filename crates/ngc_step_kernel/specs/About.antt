@@ -1,4 +1,4 @@
--- A grid point of a plane as a wheel's point about a centre. The centre is given in nanometres.
+-- A grid point of a plane as a wheel's point about a centre. The centre is in nanometres.
 use Rattle.std.specs.Prelude.{◌≡◌, ℕ, pos, ◌+ℤ◌, ◌*ℤ◌}
 use Rattle.ngc_fixed_length.specs.declared.points.Point2.{Point2}
 use Rattle.ngc_circle_walk.specs.Around.{around}

@@ -208,8 +208,8 @@ impl<W: Wheel + Drop> ArcKernel for RoundPath<W> {
 }
 
 impl RoundPath<SquareWheel> {
-    /// Returns the number of square roots computed for the path: at most 16 when it is made, and no
-    /// more on the way.
+    /// Returns the number of square roots computed for the path: at most 16 when it is made, and
+    /// none while it is followed.
     pub fn roots(&self) -> u64
         ensures { result ≡ self.now.roots }
     {
