@@ -11,7 +11,7 @@ use ngc_modal_state::{Effect, MotionMode, Stopping};
 use std::alloc::Allocator;
 
 impl<A: Allocator + Copy> Interpreter<A> {
-    // A code that is not a cycle ends the series of cycles.
+    // Sets the motion mode. A code that is not a cycle ends the series of cycles.
     fn set_motion(&mut self, motion: MotionMode)
         ensures { state_of self.new ≡ with_motion motion (state_of self.old) }
     {

@@ -49,7 +49,6 @@ pub struct Machine<A: Allocator> {
     pub ring: u32,
     /// Whether an arc runs at its feed at every point. If not, it runs at the lowest rate that its
     /// feed allows at any point.
-    /// feed allows at any point.
     pub arc_feed: bool,
     /// The least coordinates of the travel, at most 10^9 nm in size.
     pub low: Point3,

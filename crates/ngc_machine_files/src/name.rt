@@ -58,7 +58,7 @@ impl Name {
         }
     }
 
-    /// Returns the text as a name, or `None` where it isn't 1 to 40 printable ASCII characters.
+    /// Returns the text as a name, or `None` if it isn't 1 to 40 printable ASCII characters.
     pub fn of(text: &str) -> Option<Name>
         ensures { result ≡ name_of text.now }
     {

@@ -71,8 +71,8 @@ action_shifted step n start end (Move m) =
     Move (record { way = way_shifted step n start end m.way; pace = m.pace; stop = m.stop })
 action_shifted step n start end action = action
 
--- Actions, each with whether its end moves where it is a motion. A motion's start moves as the end
--- of the motion before it does.
+-- Actions, each with a mark that states whether its end moves if it is a motion. A motion's start
+-- moves as the end of the motion before it does.
 abbrev pub actions_shifted : ℤ → StepPos → Bool → List Bool → List Action → List Action
 actions_shifted step n start moving [] = []
 actions_shifted step n start [] (action ∷ actions) = action ∷ actions
