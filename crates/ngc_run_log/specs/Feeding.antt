@@ -13,13 +13,13 @@ use Rattle.ngc_run_log.specs.Policy.{can_load}
 use Rattle.ngc_run_log.specs.Recording.{Records}
 use Rattle.ngc_run_log.specs.Tracing.{trace_text}
 
--- a load comes before an event that is sent: the ring is fed, the event is a tick, and the ring has
--- room for a command that is left
+-- A load comes before an event that is sent: the ring is fed, the event is a tick, and the ring has
+-- space for a command that isn't loaded yet.
 abbrev pub loads_first : Bool → Job → State → Event → Bool
 loads_first feeds job s event = (is_tick event && feeds) && can_load job s
 
--- The events that are given for those that are sent, each in the state before it: the same, and the
--- loads that come before ticks.
+-- The events that the machine processes for the sent ones, each in the state before it: the sent
+-- events, and the loads that come before ticks.
 abbrev pub AreGiven : Bool → Job → State → List Event → List Event → List State → Type 0
 AreGiven feeds job s [] [] [] = Unit {0}
 AreGiven feeds job s [] [] (t ∷ states) = ⊥
@@ -31,7 +31,7 @@ AreGiven feeds job s (e ∷ sent) (g ∷ given) (t ∷ states) =
     ((g ≡ Load) × AreGiven feeds job t (e ∷ sent) given states)
     ((g ≡ e) × AreGiven feeds job t sent given states)
 
--- the first of them
+-- a prefix of them
 abbrev pub AreBegun : Bool → Job → State → List Event → List Event → List State → Type 0
 AreBegun feeds job s sent [] states = Unit {0}
 AreBegun feeds job s [] (g ∷ given) states = ⊥
@@ -41,9 +41,9 @@ AreBegun feeds job s (e ∷ sent) (g ∷ given) (t ∷ states) =
     ((g ≡ Load) × AreBegun feeds job t (e ∷ sent) given states)
     ((g ≡ e) × AreBegun feeds job t sent given states)
 
--- ---- on the way
+-- ---- intermediate results
 
--- events were sent, and those that are given for them are recorded
+-- events were sent, and those that the machine processed for them are recorded
 pub record IsFed (feeds : Bool) (job : Job) (old new : State) (before after : Recorder)
     (written now : Option (List ℕ)) (sent : List Event) : Type 0 where
   pub given : List Event
@@ -52,7 +52,7 @@ pub record IsFed (feeds : Bool) (job : Job) (old new : State) (before after : Re
   pub are_given : AreGiven feeds job old sent given stretch.states
   pub records : Records given outcomes before after written now
 
--- the first of them were given, and then a write failed
+-- the machine processed a prefix of them, and then a write failed
 pub record IsFedShort (feeds : Bool) (job : Job) (old : State) (before : Recorder)
     (written now : Option (List ℕ)) (sent : List Event) : Type 0 where
   pub given : List Event
@@ -62,7 +62,7 @@ pub record IsFedShort (feeds : Bool) (job : Job) (old : State) (before : Recorde
   pub are_begun : AreBegun feeds job old sent given stretch.states
   pub begun : AppendsBeginning written now (before.chunk ++ trace_text before.trace outcomes)
 
--- `count` loads were given that come before a tick, whatever follows the tick
+-- the machine processed `count` loads that come before a tick, whatever follows the tick
 pub record IsLoaded (job : Job) (old new : State) (before after : Recorder)
     (written now : Option (List ℕ)) (count : ℕ) : Type 0 where
   pub few : count ≤ 1024

@@ -1,4 +1,4 @@
--- What a run comes to that is written in one of the forms. Our own.
+-- The result of a run that is written in one of the forms. Our own.
 use Rattle.std.specs.Prelude.{◌≡◌, ℕ, List, ◌++◌, length, Option, None, Ok, Err, Result}
 use Rattle.std.specs.Io.KnownBytes.{Appends, Keeps}
 use Rattle.ngc_text.specs.Written.{AppendsBeginning}
@@ -25,8 +25,8 @@ use Rattle.ngc_run_log.specs.Switching.{switches}
 use Rattle.ngc_run_log.specs.Runs.{IsRun, Reports}
 use Rattle.ngc_run_log.specs.Through.{IsSmoothRun, TellsEnd}
 
--- the log of a run's outcomes, without ticks or with them, or the dump or the samples of its ticks'
--- pulses: of the very pulses that a safe run bounds
+-- The log of a run's outcomes, without ticks or with them, or the dump or the samples of its ticks'
+-- pulses. These are the pulses that a safe run bounds.
 abbrev pub text_as : Form → Job → List Event → List Outcome → List State → List ℕ
 text_as Log job events outcomes states = log outcomes
 text_as Times job events outcomes states = timed_log 0 outcomes
@@ -38,7 +38,7 @@ text_as (Samples inverted) job events outcomes states =
 
 -- ---- over lists of events
 
--- all events were given, and all was written
+-- all events were processed, and all text was written
 pub record IsWrittenRun (form : Form) (job : Job) (lines : List EventLine)
     (old new : Option (List ℕ)) (report : Report) : Type 0 where
   pub outcomes : List Outcome
@@ -46,7 +46,7 @@ pub record IsWrittenRun (form : Form) (job : Job) (lines : List EventLine)
   pub written : Appends old new (text_as form job (events_of lines) outcomes run.states)
   pub reports : Reports job (events_of lines) outcomes report
 
--- the first of the events were given, and what was written begins their text
+-- a prefix of the events was processed, and what was written is a prefix of their text
 pub record IsUnwrittenRun (form : Form) (job : Job) (lines : List EventLine)
     (old new : Option (List ℕ)) : Type 0 where
   pub given : List Event
@@ -56,7 +56,7 @@ pub record IsUnwrittenRun (form : Form) (job : Job) (lines : List EventLine)
   pub run : IsRun job given outcomes
   pub written : AppendsBeginning old new (text_as form job given outcomes run.states)
 
--- That memory ran out says that nothing was written.
+-- If memory runs out, nothing was written.
 abbrev pub ComesAs : Form → Job → List EventLine → Option (List ℕ) → Option (List ℕ) →
     Result Report RunFault → Type 0
 ComesAs form job lines old new (Ok report) = IsWrittenRun form job lines old new report
@@ -65,7 +65,8 @@ ComesAs form job lines old new (Err Memory) = Keeps old new
 
 -- ---- through the program
 
--- every command is done at the end, which is told last, nothing comes next, and all was written
+-- Every command is done at the end, the end is reported last, no event comes next, and all text was
+-- written.
 pub record IsWrittenThrough (form : Form) (job : Job) (old new : Option (List ℕ))
     (report : Report) : Type 0 where
   pub events : List Event
@@ -77,7 +78,7 @@ pub record IsWrittenThrough (form : Form) (job : Job) (old new : Option (List �
   pub written : Appends old new (text_as form job events outcomes smooth.run.states)
   pub reports : Reports job events outcomes report
 
--- some such events were given, and what was written begins their text
+-- some events of a smooth run were processed, and what was written is a prefix of their text
 pub record IsWrittenOff (form : Form) (job : Job) (old new : Option (List ℕ)) : Type 0 where
   pub given : List Event
   pub outcomes : List Outcome
@@ -110,7 +111,7 @@ abbrev pub PulsesGoThrough : Job → Option (List ℕ) → Option (List ℕ) →
     Result Report RunFault → Type 0
 PulsesGoThrough = GoesThroughAs Pulses
 
--- ---- the samples, in which the bits of a mask are turned over
+-- ---- the samples, with the bits of a mask inverted
 
 abbrev pub SamplesCome : ℕ → Job → List EventLine → Option (List ℕ) → Option (List ℕ) →
     Result Report RunFault → Type 0
@@ -120,7 +121,7 @@ abbrev pub SamplesGoThrough : ℕ → Job → Option (List ℕ) → Option (List
     Result Report RunFault → Type 0
 SamplesGoThrough inverted = GoesThroughAs (Samples inverted)
 
--- ---- on the way, from a trace on
+-- ---- intermediate results, from a trace on
 
 pub record IsTracedRun (trace : Trace) (job : Job) (lines : List EventLine)
     (old new : Option (List ℕ)) (report : Report) : Type 0 where

@@ -1,4 +1,4 @@
--- A run whose events arrive while it goes on. Our own.
+-- A run whose events arrive while it is in progress. Our own.
 use Rattle.std.specs.Prelude.{◌≡◌, ◌⊎◌, ℕ, List, ◌++◌, Option, Result, Ok, Err, Bool}
 use Rattle.std.specs.Io.KnownBytes.{Appends, Consumes}
 use Rattle.ngc_text.specs.Failures.{Rises}
@@ -37,7 +37,7 @@ use Rattle.ngc_run_log.specs.Switching.{AreSwitches}
 use Rattle.ngc_run_log.specs.Times.{ticks_after}
 use Rattle.ngc_run_log.specs.Tracing.{samples_in}
 
--- in which form the run is written
+-- the form in which the run is written
 abbrev pub form_of : LiveForm → Form
 form_of live.Log = forms.Log
 form_of live.Times = forms.Times
@@ -45,7 +45,7 @@ form_of (live.Samples inverted) = forms.Samples inverted
 
 -- ---- the text between two pieces
 
--- what is kept of a trace once all its text is written
+-- the text state that is kept of a trace once all its text is written
 abbrev pub paused_at : Trace → TextState
 paused_at Log = texts.Log
 paused_at (Times ticks) = texts.Times ticks
@@ -53,13 +53,13 @@ paused_at (Pulses d) = texts.Log
 paused_at (Samples d s) = texts.Samples (settled d)
 paused_at Untold = texts.Log
 
--- and the trace that goes on there
+-- and the trace that continues from there
 abbrev pub trace_from : TextState → Switches → Trace
 trace_from texts.Log s = Log
 trace_from (texts.Times ticks) s = Times ticks
 trace_from (texts.Samples d) s = Samples (settled d) s
 
--- what is kept before the first event, and after outcomes
+-- the text state before the first event, and after outcomes
 abbrev pub first_paused : LiveForm → StepPos → TextState
 first_paused live.Log position = texts.Log
 first_paused live.Times position = texts.Times 0
@@ -73,8 +73,8 @@ paused (live.Samples inverted) position list outcomes = texts.Samples
 
 -- ---- the run so far
 
--- what is known of a live run: its job, the machine's state, what has arrived, what the commands
--- switch, what is kept of the text so far, and whether the ring is fed
+-- What is known of a live run: its job, the machine's state, the text that has arrived, what the
+-- commands switch, the text state so far, and whether the ring is fed.
 pub record LiveData : Type 0 where
   pub job : Job
   pub state : State
@@ -83,7 +83,7 @@ pub record LiveData : Type 0 where
   pub paused : TextState
   pub feeds : Bool
 
--- what makes each run of a job a safe one, which is done in time, and its text that of its pulses
+-- what makes each run of a job safe and done in time, and its text that of its pulses
 pub record IsReady (form : LiveForm) (job : Job) (list : List Switch) : Type 0 where
   pub safe : RunsSafely job
   pub in_time : RunsInTime job
@@ -91,9 +91,9 @@ pub record IsReady (form : LiveForm) (job : Job) (list : List Switch) : Type 0 w
   pub joined : AreJoined job.machine.start (ways_of (actions_of job.commands))
   pub are : AreSwitches (form_of form) job.commands list
 
--- The events of these lines were given, with the loads that come before ticks where the ring is fed.
--- The text of their run, which is a safe one, was written since the beginning, and the machine is
--- in the run's last state.
+-- The machine processed the events of these lines, with the loads that come before ticks where the
+-- ring is fed. The text of their run, which is safe, was written since the start, and the machine
+-- is in the run's last state.
 pub record HasRun (form : LiveForm) (live : LiveData) (lines : List EventLine)
     (first now : Option (List ℕ)) : Type 0 where
   pub given : List Event
@@ -106,24 +106,24 @@ pub record HasRun (form : LiveForm) (live : LiveData) (lines : List EventLine)
   pub ready : IsReady form live.job live.switches
   pub paused : live.paused ≡ paused form (start_of_job live.job) live.switches outcomes
 
--- This text has arrived since the beginning, and the events of all lines that are complete in it
--- were given, and the whole text of their run was written.
+-- This text has arrived since the start. The events of all lines that are complete in it were
+-- processed, and the whole text of their run was written.
 pub record IsLive (form : LiveForm) (live : LiveData) (text : List ℕ)
     (first now : Option (List ℕ)) : Type 0 where
   pub lines : List EventLine
   pub arrived : HaveArrived text lines live.arriving
   pub has_run : HasRun form live lines first now
 
--- A line of the text says no event. The events of the lines before it were given, and the whole text
--- of their run was written.
+-- A line of the text isn't an event. The events of the lines before it were processed, and the
+-- whole text of their run was written.
 pub record IsStopped (form : LiveForm) (live : LiveData) (text : List ℕ)
     (first now : Option (List ℕ)) (fault : EventsFault) : Type 0 where
   pub lines : List EventLine
   pub stops : StopsAfter text lines fault
   pub has_run : HasRun form live lines first now
 
--- A write failed. The text begins with some lines, the first of their events were given, and what
--- was written begins the text of their run.
+-- A write failed. The text begins with some lines, a prefix of their events was processed, and what
+-- was written is a prefix of the text of their run.
 pub record IsBrokenLive (form : LiveForm) (feeds : Bool) (job : Job) (text : List ℕ)
     (first now : Option (List ℕ)) : Type 0 where
   pub lines : List EventLine
@@ -134,7 +134,7 @@ pub record IsBrokenLive (form : LiveForm) (feeds : Bool) (job : Job) (text : Lis
   pub are_begun : AreBegun feeds job (opening job.machine) (events_of lines) given run.states
   pub written : AppendsBeginning first now (text_as (form_of form) job given outcomes run.states)
 
--- the result of the text that has arrived, with the piece that was fed last
+-- the result for the text that has arrived, with the piece that was fed last
 abbrev pub Feeds : LiveForm → LiveData → List ℕ → Option (List ℕ) → Option (List ℕ) →
     Result (Unit {0}) LiveFault → Type 0
 Feeds form live text first now (Ok done) = IsLive form live text first now
@@ -142,7 +142,7 @@ Feeds form live text first now (Err (Events fault)) = IsStopped form live text f
 Feeds form live text first now (Err Read) = ⊥
 Feeds form live text first now (Err (Write fault)) = IsBrokenLive form live.feeds live.job text first now
 
--- the sink's count of failures rose where a write failed, and else it is what it was
+-- the sink's count of failures rose if a write failed, and is unchanged otherwise
 abbrev pub FailsLive : Result (Unit {0}) LiveFault → ℕ → ℕ → Type 0
 FailsLive (Ok done) old new = new ≡ old
 FailsLive (Err (Events fault)) old new = new ≡ old
@@ -151,8 +151,8 @@ FailsLive (Err (Write fault)) old new = Rises old new
 
 -- ---- events from a source
 
--- The result of what a source gave: it ended after the last line; or a line of it says no event, or
--- lacks its line feed at the end; or it failed; or a write did.
+-- The result of reading a source: it ended after the last line; or a line of it isn't an event, or
+-- lacks its line feed at the end; or the source failed; or a write failed.
 abbrev pub LiveEnds : LiveForm → LiveData → List ℕ → Option (List ℕ) → Option (List ℕ) →
     Result (Unit {0}) LiveFault → Type 0
 LiveEnds form live text first now (Ok done) =
@@ -163,35 +163,35 @@ LiveEnds form live text first now (Err (Events fault)) =
 LiveEnds form live text first now (Err Read) = IsLive form live text first now
 LiveEnds form live text first now (Err (Write fault)) = IsBrokenLive form live.feeds live.job text first now
 
--- this text was read of the source, with this result
+-- this text was read from the source, with this result
 pub record LivesOn (form : LiveForm) (live : LiveData) (source rest first now : Option (List ℕ))
     (result : Result (Unit {0}) LiveFault) : Type 0 where
   pub text : List ℕ
   pub read : Consumes source rest text
   pub ends : LiveEnds form live text first now result
 
--- so far
+-- the text that was read so far
 pub record LivesSoFar (form : LiveForm) (live : LiveData) (source rest first now : Option (List ℕ)) :
     Type 0 where
   pub text : List ℕ
   pub read : Consumes source rest text
   pub is_live : IsLive form live text first now
 
--- the source's count of failures rose where it failed, and else it is what it was
+-- the source's count of failures rose if it failed, and is unchanged otherwise
 abbrev pub FailsByReading : Result (Unit {0}) LiveFault → ℕ → ℕ → Type 0
 FailsByReading (Ok done) old new = new ≡ old
 FailsByReading (Err (Events fault)) old new = new ≡ old
 FailsByReading (Err Read) old new = Rises old new
 FailsByReading (Err (Write fault)) old new = new ≡ old
 
--- what a line that says no event stops
+-- the result of a line that isn't an event
 abbrev pub live_result : Result (Unit {0}) EventsFault → Result (Unit {0}) LiveFault
 live_result (Ok done) = Ok done
 live_result (Err fault) = Err (Events fault)
 
--- ---- on the way
+-- ---- intermediate results
 
--- a piece was taken: lines that it completed were given, and the rest is kept or stops the run
+-- a piece was taken: lines that it completed were processed, and the rest is kept or stops the run
 abbrev pub Reaches : List ℕ → List EventLine → Arriving → Result (Unit {0}) EventsFault → Type 0
 Reaches text lines now (Ok done) = HaveArrived text lines now
 Reaches text lines now (Err fault) = StopsAfter text lines fault
@@ -203,14 +203,14 @@ pub record GivesPiece (feeds : Bool) (job : Job) (old new : State) (before after
   pub fed : IsFed feeds job old new before after written now (events_of more)
   pub reaches : Reaches text (lines ++ more) arriving result
 
--- a write failed before all was given
+-- a write failed before all events were processed
 pub record CutsPiece (feeds : Bool) (job : Job) (old : State) (before : Recorder) (written now : Option (List ℕ))
     (text : List ℕ) (lines : List EventLine) : Type 0 where
   pub more : List EventLine
   pub begins : Begins text (lines ++ more)
   pub cut : IsFedShort feeds job old before written now (events_of more)
 
--- some lines of a piece were given, and these bytes of it are left
+-- some lines of a piece were processed, and these bytes of it are left
 pub record GivesFront (feeds : Bool) (job : Job) (old new : State) (before after : Recorder)
     (written now : Option (List ℕ)) (text piece : List ℕ) (lines : List EventLine) (left : List ℕ)
     (arriving : Arriving) : Type 0 where

@@ -1,4 +1,4 @@
--- The text of a run's log: what came of each event. Our own format.
+-- The text of a run's log: the outcome of each event. Our own format.
 use Rattle.std.specs.Prelude.{ℕ, List, [], ◌++◌, flat_map, decimal, codes, Option, Some, None, Ok}
 use Rattle.std.specs.Prelude.{Err, Bool, true, false}
 use Rattle.std.specs.Fmt.{signed_decimal}

@@ -16,15 +16,15 @@ use Rattle.ngc_run_log.specs.Through.{IsSmoothRun, TellsEnd}
 
 -- ---- parts of a program
 
--- how many commands there are up to the next change of the tool, with it; or all of them
+-- the number of commands up to the next change of the tool, including it; or all of them
 abbrev pub part_length : List Command → ℕ
 part_length [] = 0
 part_length (c ∷ cs) = if mounts c.action then 1 else suc (part_length cs)
 
 -- ---- and of a run
 
--- from a command that isn't done up to the end of the next change of the tool, or of the last
--- command: so many ticks
+-- The `n` ticks from a command that isn't done up to the end of the next change of the tool, or of
+-- the last command.
 pub record IsPart (job : Job) (old new : State) (n : ℕ) (events : List Event)
     (outcomes : List Outcome) : Type 0 where
   pub some : old.done < length job.commands
@@ -32,7 +32,7 @@ pub record IsPart (job : Job) (old new : State) (n : ℕ) (events : List Event)
   pub done : new.done ≡ old.done + part_length (drop old.done job.commands)
   pub ticks : n ≡ count_by is_tick events
 
--- one part after another
+-- parts in order
 abbrev pub GoesInParts : Job → State → List ℕ → List Event → List Outcome → State → Type 0
 GoesInParts job old [] events outcomes new = (events ≡ []) × (outcomes ≡ []) × (new ≡ old)
 GoesInParts job old (n ∷ ns) events outcomes new =
@@ -41,8 +41,8 @@ GoesInParts job old (n ∷ ns) events outcomes new =
     (events ≡ first ++ later) × (outcomes ≡ told ++ more) × IsPart job old mid n first told ×
     GoesInParts job mid ns later more new
 
--- a run by itself through all commands, the end told last and nothing to come next, has so many
--- ticks, and each part so many of them
+-- A run by itself through all commands has `n` ticks, and its parts have these `times`. The end is
+-- reported last, and no event comes next.
 pub record IsTimedThrough (job : Job) (n : ℕ) (times : List ℕ) : Type 0 where
   pub events : List Event
   pub outcomes : List Outcome
@@ -54,15 +54,15 @@ pub record IsTimedThrough (job : Job) (n : ℕ) (times : List ℕ) : Type 0 wher
   pub parts : GoesInParts job (opening job.machine) times events outcomes
       (last_state (opening job.machine) smooth.run.states)
 
--- ---- on the way
+-- ---- intermediate results
 
--- so many commands more are done, of which the last one tells its end where nothing is left to load
+-- `count` more commands are done. The last one reports its end if no command is left to load.
 pub record FinishesPart (count unloaded : ℕ) (old new : ControllerData) (before after : Recorder) :
     Type 0 where
   pub goes : GoesBy (count * 2 ^ 103) (min count unloaded) count old new before after None None
   pub told : unloaded < count → TellsDone old.job new.state.done goes.outcomes
 
--- so many commands more are done, in parts
+-- `does` more commands are done, in parts
 pub record GoesParted (n loads does : ℕ) (old new : ControllerData) (before after : Recorder)
     (parts : List ℕ) : Type 0 where
   pub goes : GoesBy n loads does old new before after None None

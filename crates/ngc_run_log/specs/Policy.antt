@@ -1,16 +1,16 @@
--- Which event a run by itself gives next, by the state of the machine. Our own.
+-- The event that a run by itself processes next, by the state of the machine. Our own.
 use Rattle.std.specs.Prelude.{◌≡◌, nat_lt, List, [], ◌∷◌, length, Option, Some, None, Bool, ◌&&◌}
 use Rattle.std.specs.Prelude.{if◌then◌else◌}
 use Rattle.ngc_events.specs.declared.event.Event.{Event}
 use Rattle.ngc_events.specs.declared.event.Event.TheVariants.{Load, Tick, Start}
 use Rattle.ngc_machine_model.specs.State.{Job, State, loaded}
 
--- the ring has room, and a command is left to load
+-- the ring has space, and a command is left to load
 abbrev pub can_load : Job → State → Bool
 can_load job s = nat_lt (length s.ring) job.machine.ring && nat_lt (loaded s) (length job.commands)
 
--- Where the machine is stopped, a start. Else a load, where one is possible. Else a tick, while a
--- command is not done. Then nothing more.
+-- If the machine is stopped, the next event is a start. Otherwise it is a load if one is possible,
+-- and a tick while a command isn't done. After that there is none.
 abbrev pub next_event : Job → State → Option Event
 next_event job s =
     if s.stopped then Some Start else

@@ -1,4 +1,4 @@
--- What is recorded of a stretch of a run. Our own.
+-- The recorded result of a part of a run. Our own.
 use Rattle.std.specs.Prelude.{◌≡◌, ℕ, ◌+◌, ◌≤◌, List, ◌++◌, length, count_by, Option}
 use Rattle.std.specs.Io.KnownBytes.{Appends}
 use Rattle.ngc_text.specs.Written.{AppendsBeginning}
@@ -26,12 +26,12 @@ pub record AreAtMost (n : ℕ) (report : Report) : Type 0 where
   pub path_steps : report.path_steps ≤ n
   pub refused : report.refused ≤ n
 
--- nor has the recorder counted more
+-- and the recorder hasn't counted more
 pub record HasFew (n : ℕ) (recorder : Recorder) : Type 0 where
   pub report : AreAtMost n recorder.report
   pub ticks : ticks_of recorder.trace ≤ n
 
--- A text came behind what was collected. A beginning of both is written, and the rest is still
+-- A text was added after the collected one. A prefix of both is written, and the rest is still
 -- collected.
 pub record Collects (old new : Option (List ℕ)) (before text after : List ℕ) : Type 0 where
   pub front : List ℕ
@@ -45,14 +45,14 @@ pub record Records (events : List Event) (outcomes : List Outcome) (before after
   pub trace : after.trace ≡ trace_after before.trace outcomes
   pub collects : Collects written now before.chunk (trace_text before.trace outcomes) after.chunk
 
--- all these events were given and recorded
+-- all these events were processed and recorded
 pub record IsRecorded (job : Job) (old new : State) (before after : Recorder)
     (written now : Option (List ℕ)) (events : List Event) : Type 0 where
   pub outcomes : List Outcome
   pub stretch : Stretch job old new events outcomes
   pub records : Records events outcomes before after written now
 
--- the first of these events were given, and then a write failed
+-- a prefix of these events was processed, and then a write failed
 pub record IsCutShort (job : Job) (old : State) (before : Recorder) (written now : Option (List ℕ))
     (events : List Event) : Type 0 where
   pub given : List Event

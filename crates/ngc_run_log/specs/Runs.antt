@@ -1,4 +1,4 @@
--- What a run over lists of events comes to. Our own.
+-- The result of a run over lists of events. Our own.
 use Rattle.std.specs.Prelude.{◌≡◌, ℕ, List, [], ◌∷◌, ◌++◌, length, count_by, Option, Ok, Err}
 use Rattle.std.specs.Prelude.{Result, Bool, true, false}
 use Rattle.std.specs.Io.KnownBytes.{Appends, Keeps}
@@ -21,13 +21,13 @@ abbrev pub is_refusal : Outcome → Bool
 is_refusal (Ok reply) = false
 is_refusal (Err e) = true
 
--- the last of these positions, or p where there is none
+-- the last of these positions, or `p` if there is none
 abbrev pub last_position : StepPos → List StepPos → StepPos
 last_position p [] = p
 last_position p (q ∷ qs) = last_position q qs
 
--- a run over these events, from the opening state: it is safe, goes on at each tick that is free
--- to, and is done in time
+-- A run over these events, from the opening state. It is safe, moves on at each tick that is free
+-- to, and is done in time.
 pub record IsRun (job : Job) (events : List Event) (outcomes : List Outcome) : Type 0 where
   pub states : List State
   pub runs : Run job (opening job.machine) events outcomes states
@@ -43,7 +43,7 @@ pub record Reports (job : Job) (events : List Event) (outcomes : List Outcome) (
   pub refused : report.refused ≡ count_by is_refusal outcomes
   pub position : report.position ≡ last_position (start_of_job job) (positions outcomes)
 
--- all events were given, and what was written is the log of what came of them
+-- all events were processed, and what was written is the log of their outcomes
 pub record IsLoggedRun (job : Job) (lines : List EventLine) (old new : Option (List ℕ))
     (report : Report) : Type 0 where
   pub outcomes : List Outcome
@@ -51,7 +51,8 @@ pub record IsLoggedRun (job : Job) (lines : List EventLine) (old new : Option (L
   pub logged : Appends old new (log outcomes)
   pub reports : Reports job (events_of lines) outcomes report
 
--- the first of the events were given, and what was written begins the log of what came of them
+-- a prefix of the events was processed, and what was written is a prefix of the log of their
+-- outcomes
 pub record IsBrokenRun (job : Job) (lines : List EventLine) (old new : Option (List ℕ)) :
     Type 0 where
   pub given : List Event
@@ -61,15 +62,15 @@ pub record IsBrokenRun (job : Job) (lines : List EventLine) (old new : Option (L
   pub run : IsRun job given outcomes
   pub logged : AppendsBeginning old new (log outcomes)
 
--- What a run comes to, of the bytes of its sink where they are known. That memory ran out says that
--- nothing was written.
+-- The result of a run, with the bytes of its sink where they are known. If memory runs out, nothing
+-- was written.
 abbrev pub ComesTo : Job → List EventLine → Option (List ℕ) → Option (List ℕ) →
     Result Report RunFault → Type 0
 ComesTo job lines old new (Ok report) = IsLoggedRun job lines old new report
 ComesTo job lines old new (Err (Write fault)) = IsBrokenRun job lines old new
 ComesTo job lines old new (Err Memory) = Keeps old new
 
--- the sink's count of failures rose where a write failed, and else it is what it was
+-- the sink's count of failures rose if a write failed, and is unchanged otherwise
 abbrev pub FailsByWriting : Result Report RunFault → ℕ → ℕ → Type 0
 FailsByWriting (Ok report) old new = new ≡ old
 FailsByWriting (Err (Write fault)) old new = Rises old new

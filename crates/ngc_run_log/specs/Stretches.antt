@@ -1,4 +1,4 @@
--- How a run goes on that nobody touches: from one event to a later one. Our own.
+-- How a run continues without the operator: from one event to a later one. Our own.
 use Rattle.std.specs.Prelude.{◌≡◌, ℕ, suc, slice_get, ◌+◌, ◌-◌, ◌*◌, ◌^◌, ◌≤◌, ◌<◌, List, [], ◌∷◌}
 use Rattle.std.specs.Prelude.{◌++◌, length, count_by, Option, None, Some, Ok, Err, Bool, true}
 use Rattle.std.specs.Prelude.{false}
@@ -28,8 +28,8 @@ use Rattle.ngc_run_log.specs.Recording.{Records}
 use Rattle.ngc_run_log.specs.Runs.{is_refusal}
 use Rattle.ngc_run_log.specs.Through.{IsLoadTickOrStart, TellsEnd}
 
--- the machine goes at an override of 100 percent, what is loaded are the job's next commands, each
--- on its path, and what is done of the head is within bounds
+-- The override is 100 percent. The loaded commands are the job's next ones, each on its path, and
+-- the finished part of the head is within bounds.
 pub record IsUntouched (job : Job) (s : State) : Type 0 where
   pub machine : IsMachine job.machine
   pub not_held : s.held ≡ false
@@ -41,7 +41,7 @@ pub record IsUntouched (job : Job) (s : State) : Type 0 where
   pub travelled : s.travelled ≤ STEPS_LIMIT * MILLION
   pub dwelt : s.dwelt ≤ DWELL_LIMIT
 
--- what is done of the head: the millionths that were travelled, or the ticks that were dwelt
+-- the finished part of the head: the millionths of its path, or the ticks of its dwell
 abbrev pub spent : State → ℕ
 spent s = s.travelled + s.dwelt
 
@@ -49,7 +49,7 @@ spent s = s.travelled + s.dwelt
 abbrev pub SPENT_LIMIT : ℕ
 SPENT_LIMIT = 2 ^ 101
 
--- how a command ended in an outcome, if one did
+-- the end of a command in an outcome, if one ended
 abbrev pub ending_in : Outcome → Option Ending
 ending_in (Ok (Ticked p ending)) = ending
 ending_in (Ok (Loaded k)) = None
@@ -67,7 +67,7 @@ is_stop End = false
 
 -- ---- one event
 
--- it was given, and what came of it is recorded
+-- the event was processed, and its outcome is recorded
 pub record IsGiven (event : Event) (old new : ControllerData) (before after : Recorder)
     (written now : Option (List ℕ)) (outcome : Outcome) : Type 0 where
   pub job : new.job ≡ old.job
@@ -78,7 +78,7 @@ pub record IsGiven (event : Event) (old new : ControllerData) (before after : Re
   pub dwelt : new.state.dwelt ≤ DWELL_LIMIT
   pub records : Records (event ∷ []) (outcome ∷ []) before after written now
 
--- it was given, and then a write failed
+-- the event was processed, and then a write failed
 pub record IsGivenLast (event : Event) (old : ControllerData) (before : Recorder)
     (written now : Option (List ℕ)) : Type 0 where
   pub outcome : Outcome
@@ -89,8 +89,8 @@ pub record IsGivenLast (event : Event) (old : ControllerData) (before : Recorder
 
 -- ---- several events
 
--- at most n events were given and recorded, each the next one by the policy, by which so many
--- commands were loaded and so many done
+-- At most `n` events were processed and recorded, each the next one by the policy. They load
+-- `loads` commands and finish `does` commands.
 pub record GoesBy (n loads does : ℕ) (old new : ControllerData) (before after : Recorder)
     (written now : Option (List ℕ)) : Type 0 where
   pub events : List Event
@@ -107,7 +107,7 @@ pub record GoesBy (n loads does : ℕ) (old new : ControllerData) (before after 
   pub done : new.state.done ≡ old.state.done + does
   pub ring : length new.state.ring + does ≡ length old.state.ring + loads
 
--- some events were given, each the next one by the policy, and then a write failed
+-- some events were processed, each the next one by the policy, and then a write failed
 pub record BreaksOff (old : ControllerData) (before : Recorder) (written now : Option (List ℕ)) :
     Type 0 where
   pub events : List Event
@@ -119,15 +119,15 @@ pub record BreaksOff (old : ControllerData) (before : Recorder) (written now : O
   pub follows : FollowPolicy old.job old.state events stretch.states
   pub begun : AppendsBeginning written now (before.chunk ++ trace_text before.trace outcomes)
 
--- ---- what a tick leaves
+-- ---- the result of a tick
 
--- the head goes on
+-- the head continues
 pub record Works (old new : State) : Type 0 where
   pub running : new.stopped ≡ false
   pub ring : new.ring ≡ old.ring
   pub spends : spent old < spent new
 
--- ticks of which nothing is told: the head goes on
+-- ticks without an output: the head continues
 pub record Coasts (old new : ControllerData) (before after : Recorder) (written : Option (List ℕ)) :
     Type 0 where
   pub goes : GoesBy (spent new.state - spent old.state) 0 0 old new before after written written
@@ -135,12 +135,12 @@ pub record Coasts (old new : ControllerData) (before after : Recorder) (written 
   pub running : new.state.stopped ≡ false
   pub spends : spent old.state ≤ spent new.state
 
--- what a tick leaves, by how a command ended in it: the machine is stopped behind a stop alone
+-- the result of a tick, by how a command ended in it: the machine is stopped only after a stop
 abbrev pub LeavesBy : Option Ending → State → State → Type 0
 LeavesBy None old new = Works old new
 LeavesBy (Some ending) old new = new.stopped ≡ is_stop ending
 
--- where the head that ended is the program's end, that is told last
+-- if the head that ended is the program's end, that is reported last
 abbrev pub TellsBy : Option Ending → List Queued → List Outcome → Type 0
 TellsBy None ring outcomes = Unit {0}
 TellsBy (Some ending) [] outcomes = Unit {0}
@@ -157,9 +157,9 @@ pub record TicksBy (old new : ControllerData) (before after : Recorder)
   pub leaves : LeavesBy ending old.state new.state
   pub tells : TellsBy ending old.state.ring goes.outcomes
 
--- ---- what comes behind an ending
+-- ---- after an ending
 
--- nothing where it is no stop
+-- nothing, unless it is a stop
 pub record GoesBehind (ending : Ending) (old new : ControllerData) (before after : Recorder)
     (written now : Option (List ℕ)) : Type 0 where
   pub goes : GoesBy 1 0 0 old new before after written now

@@ -40,14 +40,14 @@ switch_by actions.OptionalStop = Nothing
 abbrev pub switches : List Command → List Switch
 switches commands = map (λ (c : Command). switch_by c.action) commands
 
--- what is switched in a tick in which a command ends like this, or none
+-- what is switched in a tick in which a command has this ending, or none ends
 abbrev pub switch_in : List Switch → Option Ending → Switch
 switch_in list None = Nothing
 switch_in list (Some (Done k)) = unwrap_or (slice_get list k) Nothing
 switch_in list (Some (Stopped k)) = Nothing
 switch_in list (Some End) = AllOff
 
--- what is known of these where a run is written in a form
+-- the facts about these switches for a run that is written in a form
 abbrev pub AreSwitches : Form → List Command → List Switch → Type 0
 AreSwitches forms.Log commands list = Unit {0}
 AreSwitches forms.Times commands list = Unit {0}

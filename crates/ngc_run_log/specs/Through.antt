@@ -1,4 +1,4 @@
--- What a run comes to that goes through the program by itself. Our own.
+-- The result of a run that goes through the program by itself. Our own.
 use Rattle.std.specs.Prelude.{◌≡◌, ℕ, List, [], ◌∷◌, ◌++◌, length, count_by, Option, Some, None, Ok}
 use Rattle.std.specs.Prelude.{Err, Result}
 use Rattle.std.specs.List.{AllByRecursion}
@@ -19,7 +19,7 @@ use Rattle.ngc_machine_model.specs.Stretch.{last_state}
 use Rattle.ngc_run_log.specs.Policy.{next_event, FollowPolicy}
 use Rattle.ngc_run_log.specs.Runs.{is_refusal, IsRun, Reports}
 
--- nobody touches the panel but to start again
+-- the operator only starts the machine again
 abbrev pub IsLoadTickOrStart : Event → Type 0
 IsLoadTickOrStart Load = Unit {0}
 IsLoadTickOrStart Tick = Unit {0}
@@ -29,20 +29,21 @@ IsLoadTickOrStart Resume = ⊥
 IsLoadTickOrStart (Override n) = ⊥
 IsLoadTickOrStart (StopSwitch on) = ⊥
 
--- a run over such events, each of which is the next one by the policy, and none of which is refused
+-- a run over loads, ticks and starts, each of which is the next event by the policy, and none of
+-- which is refused
 pub record IsSmoothRun (job : Job) (events : List Event) (outcomes : List Outcome) : Type 0 where
   pub run : IsRun job events outcomes
   pub kinds : AllByRecursion IsLoadTickOrStart events
   pub follows : FollowPolicy job (opening job.machine) events run.states
   pub none_refused : count_by is_refusal outcomes ≡ 0
 
--- the last outcome tells the program's end
+-- the last outcome reports the program's end
 abbrev pub TellsEnd : List Outcome → Type 0
 TellsEnd outcomes =
     (before : List Outcome) × (outcomes ≡ before ++ Ok (Ticked None (Some End)) ∷ [])
 
--- every command is done at the end, which is told last, nothing comes next, and what was written is
--- the log of what came of all events
+-- Every command is done at the end, the end is reported last, no event comes next, and what was
+-- written is the log of all outcomes.
 pub record IsLoggedThrough (job : Job) (old new : Option (List ℕ)) (report : Report) : Type 0 where
   pub events : List Event
   pub outcomes : List Outcome
@@ -53,14 +54,15 @@ pub record IsLoggedThrough (job : Job) (old new : Option (List ℕ)) (report : R
   pub logged : Appends old new (log outcomes)
   pub reports : Reports job events outcomes report
 
--- some such events were given, and what was written begins the log of what came of them
+-- some events of a smooth run were processed, and what was written is a prefix of the log of their
+-- outcomes
 pub record IsBrokenOff (job : Job) (old new : Option (List ℕ)) : Type 0 where
   pub given : List Event
   pub outcomes : List Outcome
   pub smooth : IsSmoothRun job given outcomes
   pub logged : AppendsBeginning old new (log outcomes)
 
--- What it comes to, of the bytes of its sink where they are known. That memory ran out says that
+-- The result of the run, with the bytes of its sink where they are known. If memory runs out,
 -- nothing was written.
 abbrev pub GoesThrough : Job → Option (List ℕ) → Option (List ℕ) → Result Report RunFault → Type 0
 GoesThrough job old new (Ok report) = IsLoggedThrough job old new report

@@ -8,7 +8,7 @@ use Rattle.ngc_events.specs.declared.reply.Reply.TheVariants.{Overridden, Switch
 use Rattle.ngc_machine_model.specs.Step.{Outcome}
 use Rattle.ngc_run_log.specs.Log.{ending_text, position_text, text_of}
 
--- how many ticks were given before the event of a line took effect, and a space
+-- the number of ticks before the event of a line took effect, and a space
 abbrev pub time_text : ℕ → List ℕ
 time_text ticks = decimal ticks ++ codes " "
 
@@ -20,7 +20,7 @@ abbrev pub timed_ending : ℕ → Option Ending → List ℕ
 timed_ending ticks None = []
 timed_ending ticks (Some ending) = time_text ticks ++ ending_text (Some ending)
 
--- the lines of the log that an outcome has, each with its ticks in front
+-- the lines of the log for an outcome, each with its ticks in front
 abbrev pub timed_text : ℕ → Outcome → List ℕ
 timed_text ticks (Ok (Ticked p ending)) = timed_position ticks p ++ timed_ending ticks ending
 timed_text ticks (Ok (Loaded k)) = time_text ticks ++ text_of (Ok (Loaded k))
@@ -31,11 +31,11 @@ timed_text ticks (Ok (Switched on)) = time_text ticks ++ text_of (Ok (Switched o
 timed_text ticks (Ok Started) = time_text ticks ++ text_of (Ok Started)
 timed_text ticks (Err e) = time_text ticks ++ text_of (Err e)
 
--- the most ticks that are counted, after which the count stays
+-- the most ticks that are counted; the count stays there
 abbrev pub MOST_TICKS : ℕ
 MOST_TICKS = 2 ^ 64 - 1
 
--- how many were given once an event had this outcome
+-- the number of ticks after an event with this outcome
 abbrev pub ticks_with : ℕ → Outcome → ℕ
 ticks_with ticks (Ok (Ticked p ending)) = min (ticks + 1) MOST_TICKS
 ticks_with ticks (Ok (Loaded k)) = ticks
@@ -50,7 +50,7 @@ abbrev pub ticks_after : ℕ → List Outcome → ℕ
 ticks_after ticks [] = ticks
 ticks_after ticks (o ∷ outcomes) = ticks_after (ticks_with ticks o) outcomes
 
--- the log of outcomes before which these ticks were given
+-- the log of outcomes that follow this number of ticks
 abbrev pub timed_log : ℕ → List Outcome → List ℕ
 timed_log ticks [] = []
 timed_log ticks (o ∷ outcomes) = timed_text ticks o ++ timed_log (ticks_with ticks o) outcomes

@@ -1,5 +1,5 @@
--- What is written of a run on the way: its log, the dump or the samples of its pulses, or nothing.
--- Our own.
+-- The text of a run in progress: its log, the dump or the samples of its pulses, or nothing. Our
+-- own.
 use Rattle.std.specs.Prelude.{ℕ, List, [], ◌∷◌, ◌++◌, flat_map, Option, Ok, Err}
 use Rattle.ngc_fixed_length.specs.declared.points.StepPos.{StepPos}
 use Rattle.ngc_events.specs.declared.reply.Reply.TheVariants.{Loaded, Ticked, Held, Resumed}
@@ -20,7 +20,7 @@ use Rattle.ngc_run_log.specs.Log.{log}
 use Rattle.ngc_run_log.specs.Times.{ticks_after, timed_log}
 use Rattle.ngc_run_log.specs.Switching.{switch_in}
 
--- the ticks among outcomes: where the pulse of each leads to, if it has one
+-- the ticks among outcomes: the position to which the pulse of each leads, if it has one
 abbrev pub tick_in : Outcome → List (Option StepPos)
 tick_in (Ok (Ticked position ending)) = position ∷ []
 tick_in (Ok (Loaded k)) = []
@@ -34,7 +34,7 @@ tick_in (Err e) = []
 abbrev pub ticks_in : List Outcome → List (Option StepPos)
 ticks_in outcomes = flat_map tick_in outcomes
 
--- the ticks with what is switched in each, where this is what the commands switch
+-- the ticks with what is switched in each; `list` is what the commands switch
 abbrev pub sample_in : List Switch → Outcome → List SampleTick
 sample_in list (Ok (Ticked position ending)) =
     record { position = position; switch = switch_in list ending } ∷ []
@@ -46,7 +46,7 @@ sample_in list (Ok (Switched on)) = []
 sample_in list (Ok Started) = []
 sample_in list (Err e) = []
 
--- an outcome's tick, if it is one, in which this is switched
+-- an outcome's tick, if it is one, with what is switched in it
 abbrev pub sampled : Switch → Outcome → List SampleTick
 sampled switch (Ok (Ticked position ending)) =
     record { position = position; switch = switch } ∷ []
@@ -87,7 +87,7 @@ dump_text d outcomes = ticks_text d (ticks_in outcomes)
 abbrev pub dump_after : DumpState → List Outcome → DumpState
 dump_after d outcomes = after_ticks d (ticks_in outcomes)
 
--- what these outcomes add
+-- the text that these outcomes add
 abbrev pub trace_text : Trace → List Outcome → List ℕ
 trace_text Log outcomes = log outcomes
 trace_text (Times ticks) outcomes = timed_log ticks outcomes
@@ -102,7 +102,7 @@ trace_after (Pulses d) outcomes = Pulses (dump_after d outcomes)
 trace_after (Samples d s) outcomes = Samples (after_samples d (samples_in s.list.now outcomes)) s
 trace_after Untold outcomes = Untold
 
--- how many ticks it has counted whose number is bounded: of samples those that aren't written yet
+-- the number of counted ticks that is bounded: for samples, those that aren't written yet
 abbrev pub ticks_of : Trace → ℕ
 ticks_of Log = 0
 ticks_of (Times ticks) = 0
@@ -110,12 +110,12 @@ ticks_of (Pulses d) = d.ticks
 ticks_of (Samples d s) = d.resting
 ticks_of Untold = 0
 
--- what is switched in an outcome's tick, where that is written
+-- what is switched in an outcome's tick, if that is written
 abbrev pub switched_by : Trace → Outcome → Switch
 switched_by (Samples d s) (Ok (Ticked position ending)) = switch_in s.list.now ending
 switched_by _ _ = Nothing
 
--- behind the last event
+-- after the last event
 abbrev pub last_text : Trace → List ℕ
 last_text Log = []
 last_text (Times ticks) = []

@@ -15,8 +15,8 @@ use ngc_step_kernel::ArcPath;
 use ngc_text::{Sink, WriteFault};
 use std::alloc::Allocator;
 
-// Loads commands while the ring has room for one that is left. The load that the machine refuses at
-// the end leaves it as it was, and isn't given.
+// Loads commands while the ring has space for one that is left. The machine refuses the last load
+// and stays as it was; that load isn't recorded.
 fn load_all<A: Allocator + Copy, W: Sink>(
     controller: &mut Controller<ArcPath, A>,
     recorder: &mut Recorder,
@@ -47,7 +47,7 @@ fn load_all<A: Allocator + Copy, W: Sink>(
     Ok(())
 }
 
-// Gives a tick, before which the ring is fed.
+// Feeds the ring and processes a tick.
 fn feed_tick<A: Allocator + Copy, W: Sink>(
     controller: &mut Controller<ArcPath, A>,
     recorder: &mut Recorder,
@@ -76,7 +76,7 @@ fn feed_tick<A: Allocator + Copy, W: Sink>(
     }
 }
 
-// Gives `times` ticks, before each of which the ring is fed.
+// Processes `times` ticks, and feeds the ring before each of them.
 fn feed_ticks<A: Allocator + Copy, W: Sink>(
     controller: &mut Controller<ArcPath, A>,
     times: u32,
@@ -114,8 +114,8 @@ fn takes_loads(feeds: bool, event: Event) -> bool
     }
 }
 
-/// Gives the event of a line as often as it says. Where the ring is fed, loads come before each
-/// tick while one is possible.
+/// Processes the event of a line the number of times that the line says. If the ring is fed, loads
+/// come before each tick while one is possible.
 pub(crate) fn give_line<A: Allocator + Copy, W: Sink>(
     controller: &mut Controller<ArcPath, A>,
     feeds: bool,

@@ -1,4 +1,5 @@
-//! Runs of the machine over lists of events, their log, their pulses, as a dump or as samples, and their time.
+//! Runs of the machine over lists of events: their log, their pulses as a dump or as samples, and
+//! their time.
 #![tactic(auto)]
 
 mod feeding;

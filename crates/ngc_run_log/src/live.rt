@@ -1,4 +1,4 @@
-//! A run whose events arrive while it goes on.
+//! A run whose events arrive while it is in progress.
 ghost use Rattle.std.specs.Prelude.{◌≡◌, ◌≢◌, ◌≤◌, ◌+◌, ◌^◌, ℕ, Err, List, [], ◌++◌, length, Option};
 ghost use Rattle.std.specs.Prelude.{IfOk, IfErr, OnOk, OnErr};
 ghost use Rattle.ngc_machine_model.specs.Headline.{job_of};
@@ -29,7 +29,7 @@ use ngc_text::{Sink, WriteFault};
 use std::alloc::Allocator;
 use std::marker::Model;
 
-/// A run of what was accepted, whose events arrive while it goes on.
+/// A run of an accepted program whose events arrive while it is in progress.
 ///
 /// It keeps no list of events, and its memory doesn't grow.
 #[derive(Drop)]
@@ -38,7 +38,7 @@ pub struct LiveRun<A: Allocator> {
     lines: EventLines,
     switches: Vec<Switch, A>,
     paused: TextState,
-    // Whether loads come before ticks while the ring has room.
+    // Whether loads come before ticks while the ring has space.
     feeds_ring: bool,
 }
 
@@ -89,7 +89,7 @@ fn ended(taken: Result<(), EventsFault>) -> Result<(), LiveFault>
     }
 }
 
-// Gives the events of the lines that a piece completes, up to a line that says none.
+// Processes the events of the lines that a piece completes, up to a line that isn't an event.
 fn give_lines<A: Allocator + Copy, W: Sink>(
     controller: &mut Controller<ArcPath, A>,
     feeds_ring: bool,
@@ -132,9 +132,10 @@ fn give_lines<A: Allocator + Copy, W: Sink>(
 }
 
 impl<A: Allocator + Copy> LiveRun<A> {
-    /// A run to which nothing is fed yet, of what was accepted, at a setting of block delete. Where
-    /// `feeds_ring` is set, loads come before each tick while the ring has room for a command that
-    /// is left. It takes all its memory here; where there is too little, that is 900.
+    /// Returns a run of an accepted program, at a setting of block delete, to which nothing is fed
+    /// yet. If `feeds_ring` is set, loads come before each tick while the ring has space for a
+    /// command that is left. The run allocates all its memory here; if there is too little, that is
+    /// 900.
     pub fn new(
         alloc: A,
         accepted: Accepted<A>,
@@ -168,16 +169,16 @@ impl<A: Allocator + Copy> LiveRun<A> {
         })
     }
 
-    /// Takes a piece of the text of events, gives the event of each line that is complete now, and
-    /// writes all that results from them.
+    /// Takes a piece of the text of events, processes the event of each line that is complete now,
+    /// and writes all resulting text.
     ///
-    /// Each line says an event as in an events file, and there is no limit on their number. A line that says none
-    /// stops the run with 711 and its number, when its line feed or its 13th byte arrives; the text
-    /// of the lines before it is written. Where a write fails (902), a prefix of the text is
-    /// written. After a fault nothing more is fed.
+    /// Each line is an event as in an events file. Their number isn't limited. A line that isn't an
+    /// event stops the run with 711 and its number, when its line feed or its 13th byte arrives;
+    /// the text of the lines before it is written. If a write fails (902), a prefix of the text is
+    /// written. Feed nothing more after a fault.
     pub fn feed<W: Sink>(&mut self, piece: &[u8], sink: &mut W) -> Result<(), LiveFault>
-        // Whatever text has arrived before: the sink has the text of the run over the events of
-        // all lines that are complete.
+        // For any text that arrived before: the sink has the text of the run over the events of all
+        // complete lines.
         ensures feeds { (form : Written) (text : List ℕ) (first : Option (List ℕ)) →
             IsLive form self.old text first (W.written sink.old) →
             Feeds form self.new (text ++ piece.now) first (W.written sink.new) result }
@@ -214,8 +215,7 @@ impl<A: Allocator + Copy> LiveRun<A> {
         ended(taken)
     }
 
-    /// Returns whether the text of events is complete, where no more of it arrives: a last line without
-    /// its line feed is 711.
+    /// Returns whether the text of events is complete. A last line without its line feed is 711.
     pub fn finish(&self) -> Result<(), EventsFault>
         ensures { (text : List ℕ) (lines : List Line) → HaveArrived text lines self.now.arriving →
             Ends text lines result }

@@ -5,22 +5,22 @@ use ngc_events::EventsFault;
 use ngc_text::WriteFault;
 use thiserror::Error;
 
-/// Why a live run goes on no longer.
+/// The reason why a live run ended early.
 #[derive(Clone, Copy, Debug, PartialEq, Eq, Error)]
 pub enum LiveFault {
-    /// 711, 712: a line says no event.
+    /// 711, 712: a line isn't an event.
     #[error(transparent)]
     Events(EventsFault),
     /// 901: the source of the events failed.
     #[error("a source failed")]
     Read,
-    /// 902
+    /// 902: a write failed.
     #[error(transparent)]
     Write(WriteFault),
 }
 
 impl LiveFault {
-    /// The fault's number.
+    /// Returns the fault's number.
     pub fn number(&self) -> u16
         ensures { result ≡ live_number self.now }
     {

@@ -1,10 +1,10 @@
-/// In which form a live run is written.
+/// The form in which a live run is written.
 #[derive(Clone, Copy)]
 pub enum LiveForm {
-    /// The log: what came of each event.
+    /// The log: the outcome of each event.
     Log,
-    /// The log, each line of which begins with how many ticks were given before its event.
+    /// The log with ticks: each line begins with the number of ticks before its event.
     Times,
-    /// The pulses as samples: two bytes for each tick, in which the bits of a mask are turned over.
+    /// The pulses as samples: two bytes for each tick, with the bits of a mask inverted.
     Samples(u8),
 }

@@ -1,4 +1,4 @@
-//! Events from a source, as it gives them.
+//! Events from a source, as they arrive.
 ghost use Rattle.std.specs.Prelude.{◌≡◌, [], Option, List, ℕ, OnOk};
 ghost use Rattle.std.specs.Io.KnownBytes.{IsAtEnd};
 ghost use Rattle.ngc_run_log.specs.Living.{FailsByReading, FailsLive, IsLive, LivesOn};
@@ -9,15 +9,15 @@ use crate::live_fault::LiveFault;
 use ngc_text::{Sink, Source};
 use std::alloc::Allocator;
 
-// How many bytes are pulled from a source at once.
+// The number of bytes that are pulled from a source at once.
 const PIECE_SIZE: usize = 4_096;
 
-/// Feeds a run what a source gives, as it gives it, until the source ends. All that results from
-/// the events in what was pulled is written before more is pulled.
+/// Feeds a run with the bytes of a source as they arrive, until the source ends. All text that
+/// results from the pulled events is written before more is pulled.
 ///
-/// A source that fails is 901. A line that says no event (711) ends the run, and so does a last line
-/// without its line feed; the text of the lines before it is written. Where a write fails (902), a
-/// prefix of the text is written.
+/// A source that fails is 901. A line that isn't an event (711) ends the run, and so does a last
+/// line without its line feed; the text of the lines before it is written. If a write fails (902),
+/// a prefix of the text is written.
 pub fn feed_from<A: Allocator + Copy, S: Source, W: Sink>(
     live: &mut LiveRun<A>,
     source: &mut S,
@@ -29,7 +29,7 @@ pub fn feed_from<A: Allocator + Copy, S: Source, W: Sink>(
         (W.written sink.new) result }
     ensures job { live.new.job ≡ live.old.job }
     ensures feeds_ring { live.new.feeds ≡ live.old.feeds }
-    // It is done only where the source has ended.
+    // It returns `Ok` only if the source has ended.
     ensures end { OnOk result (IsAtEnd (S.remaining source.new)) }
     ensures source { FailsByReading result (S.failures source.old) (S.failures source.new) }
     ensures failures { FailsLive result (W.failures sink.old) (W.failures sink.new) }

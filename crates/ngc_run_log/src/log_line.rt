@@ -79,8 +79,8 @@ fn add_reply(chunk: &mut Chunk, reply: &Reply)
     }
 }
 
-/// Adds what the log says of an outcome: nothing, a line, or two where a command ended with the
-/// step that was made.
+/// Adds the log's text for an outcome: nothing, one line, or two lines if a command ended with the
+/// step.
 pub(crate) fn add_outcome(chunk: &mut Chunk, outcome: &Result<Reply, EventFault>)
     requires { HasLineRoom chunk.old }
     ensures text { chunk.new ≡ chunk.old ++ text_of outcome.now }
@@ -92,7 +92,7 @@ pub(crate) fn add_outcome(chunk: &mut Chunk, outcome: &Result<Reply, EventFault>
     }
 }
 
-// How many ticks were given.
+// Adds the number of ticks so far.
 fn add_time(chunk: &mut Chunk, ticks: u64)
     requires { length chunk.old + 100 ≤ CHUNK_SIZE }
     ensures text { chunk.new ≡ chunk.old ++ time_text ticks }
@@ -141,8 +141,8 @@ fn add_timed_reply(chunk: &mut Chunk, ticks: u64, reply: &Reply)
     }
 }
 
-/// Adds what the log says of an outcome, as `add_outcome` does; each line begins with how many ticks
-/// were given before.
+/// Adds the log's text for an outcome, as `add_outcome` does; each line begins with the number of
+/// ticks so far.
 pub(crate) fn add_timed_outcome(chunk: &mut Chunk, ticks: u64, outcome: &Result<Reply, EventFault>)
     requires { HasLineRoom chunk.old }
     ensures text { chunk.new ≡ chunk.old ++ timed_text ticks outcome.now }

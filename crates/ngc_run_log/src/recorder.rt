@@ -1,4 +1,4 @@
-//! What is kept of a run while it goes on.
+//! The record of a run in progress.
 ghost use Rattle.std.specs.Prelude.{◌≡◌, ◌+◌, ◌^◌, ◌++◌, ℕ, List, [], ◌∷◌, replicate, Option, None};
 ghost use Rattle.std.specs.Prelude.{Ok, IfOk, OnOk, OnErr};
 ghost use Rattle.std.specs.Io.KnownBytes.{Appends};
@@ -17,7 +17,7 @@ use ngc_events::{Event, EventFault, Reply};
 use ngc_fixed_length::StepPos;
 use ngc_text::{Chunk, Sink, WriteFault};
 
-/// The report so far, and what its text has beyond what is written.
+/// The report so far, and the text that isn't written yet.
 #[derive(Drop)]
 pub(crate) struct Recorder<'s> {
     report: Report,
@@ -26,7 +26,7 @@ pub(crate) struct Recorder<'s> {
 }
 
 impl<'s> Recorder<'s> {
-    /// Nothing is given yet, and the machine stands at a position, in steps.
+    /// Returns a recorder without events, for a machine at a position in steps.
     pub(crate) fn new(trace: Trace<'s>, position: StepPos) -> Recorder<'s>
         ensures report { result.report
             ≡ record { ticks = 0; path_steps = 0; refused = 0; position = position } }
@@ -47,7 +47,7 @@ impl<'s> Recorder<'s> {
         }
     }
 
-    /// Counts an event, and records what came of it.
+    /// Counts an event and records its outcome.
     pub(crate) fn add<W: Sink>(
         &mut self,
         event: Event,
@@ -78,7 +78,7 @@ impl<'s> Recorder<'s> {
         self.trace.tell(outcome, &mut self.chunk, sink)
     }
 
-    /// Counts ticks of which nothing is told.
+    /// Counts ticks without an output.
     pub(crate) fn rest(&mut self, count: u64)
         requires { HasFew (2 ^ 125 + 2 ^ 102) self.old }
         ensures { (written : Option (List ℕ)) →
@@ -89,7 +89,7 @@ impl<'s> Recorder<'s> {
         self.trace.rest(count);
     }
 
-    /// How many ticks were given.
+    /// Returns the number of ticks so far.
     pub(crate) fn ticks(&self) -> u128
         ensures { result ≡ self.now.report.ticks }
     {
@@ -103,7 +103,7 @@ impl<'s> Recorder<'s> {
         self.trace.paused()
     }
 
-    /// Writes the rest of the text, and answers the report.
+    /// Writes the rest of the text and returns the report.
     pub(crate) fn finish<W: Sink>(self, sink: &mut W) -> Result<Report, WriteFault>
         requires { HasFew (2 ^ 126) self }
         ensures report { IfOk result (λ report. report ≡ self.entry.report) }

@@ -7,21 +7,21 @@ use ngc_fixed_length::StepPos;
 use ngc_text::WriteFault;
 use thiserror::Error;
 
-/// What a run came to.
+/// The result of a run.
 #[derive(Clone, Copy)]
 pub struct Report {
-    /// How many ticks were given.
+    /// The number of ticks.
     pub ticks: u128,
-    /// How many path steps were made: pulses, each of which moves one axis or more.
+    /// The number of path steps: pulses, each of which moves one axis or more.
     pub path_steps: u128,
-    /// How many events were refused.
+    /// The number of refused events.
     pub refused: u128,
-    /// Where the machine stands, in steps.
+    /// The machine's last position, in steps.
     pub position: StepPos,
 }
 
 impl Report {
-    /// Counts an event, and what came of it.
+    /// Counts an event and its outcome.
     pub(crate) fn count(&mut self, event: Event, outcome: &Result<Reply, EventFault>)
         requires { AreAtMost (2 ^ 126) self.old }
         ensures { Counts (event ∷ []) (outcome.now ∷ []) self.old self.new }
@@ -45,19 +45,19 @@ impl Report {
     }
 }
 
-/// Why a run has no report.
+/// The reason why a run has no report.
 #[derive(Clone, Copy, Debug, PartialEq, Eq, Error)]
 pub enum RunFault {
-    /// 900
+    /// 900: there is too little memory.
     #[error("out of memory")]
     Memory,
-    /// 902
+    /// 902: a write failed.
     #[error(transparent)]
     Write(WriteFault),
 }
 
 impl RunFault {
-    /// The fault's number.
+    /// Returns the fault's number.
     pub fn number(&self) -> u16
         ensures { result ≡ number_of self.now }
     {

@@ -21,8 +21,8 @@ use ngc_step_kernel::ArcPath;
 use ngc_text::{Sink, WriteFault};
 use std::alloc::Allocator;
 
-// Gives the ticks that follow of which nothing is told, at most so many, where a line gives ticks.
-// Answers how many.
+// Processes the ticks without an output that follow, at most `most`, if a line repeats ticks.
+// Returns their number.
 fn coast<A: Allocator + Copy>(
     controller: &mut Controller<ArcPath, A>,
     event: Event,
@@ -44,7 +44,7 @@ fn coast<A: Allocator + Copy>(
     ticks as u32
 }
 
-/// Gives the event of a line as often as it says.
+/// Processes the event of a line the number of times that the line says.
 pub(crate) fn run_line<A: Allocator + Copy, W: Sink>(
     controller: &mut Controller<ArcPath, A>,
     line: &EventLine,
@@ -104,7 +104,7 @@ fn run_lines<A: Allocator + Copy, W: Sink>(
     recorder.finish(sink)
 }
 
-// Runs what was accepted over events, and writes it in a form.
+// Runs an accepted program over events and writes the run in a form.
 fn run_as<A: Allocator + Copy, W: Sink>(
     alloc: A,
     accepted: Accepted<A>,
@@ -117,7 +117,7 @@ fn run_as<A: Allocator + Copy, W: Sink>(
         lines.now (W.written sink.old) (W.written sink.new) result }
     ensures counts { FailsByWriting result (W.failures sink.old) (W.failures sink.new) }
 {
-    // What holds of all that was accepted makes the run a safe one, which is done in time.
+    // The facts about the accepted program make the run safe and done in time.
     let ticks_per_second = accepted.machine().ticks_per_second;
     let kept = match switches_for(alloc, form, accepted.commands(block_delete)) {
         Ok(kept) => kept,
@@ -137,9 +137,9 @@ fn run_as<A: Allocator + Copy, W: Sink>(
     }
 }
 
-/// Runs what was accepted, at a setting of block delete, over events in their order, and writes the
-/// log: a line for what came of each event, and none for a tick in which nothing was commanded and
-/// nothing ended.
+/// Runs an accepted program, at a setting of block delete, over events in their order, and writes
+/// the log: a line for the outcome of each event. A tick in which nothing was commanded and nothing
+/// ended has no line.
 pub fn run<A: Allocator + Copy, W: Sink>(
     alloc: A,
     accepted: Accepted<A>,
@@ -154,8 +154,9 @@ pub fn run<A: Allocator + Copy, W: Sink>(
     run_as(alloc, accepted, block_delete, lines, Form::Log, sink)
 }
 
-/// Runs what was accepted over events as [`run`] does, and writes the log with ticks: each line begins
-/// with how many ticks were given before its event took effect. After 2^64 - 1 ticks the number stays.
+/// Runs an accepted program over events as [`run`] does, and writes the log with ticks: each line
+/// begins with the number of ticks before its event took effect. After 2^64 - 1 ticks the number
+/// stays.
 pub fn write_timed_log<A: Allocator + Copy, W: Sink>(
     alloc: A,
     accepted: Accepted<A>,
@@ -170,10 +171,10 @@ pub fn write_timed_log<A: Allocator + Copy, W: Sink>(
     run_as(alloc, accepted, block_delete, lines, Form::Times, sink)
 }
 
-/// Runs what was accepted, at a setting of block delete, over events in their order, and writes the
-/// pulses of its ticks as a value change dump: a step and a direction of each axis, in nanoseconds.
-/// What is no tick writes nothing. Want of memory is 900, with nothing written; where a write
-/// failed (902) a beginning of the dump is written.
+/// Runs an accepted program, at a setting of block delete, over events in their order, and writes
+/// the pulses of its ticks as a value change dump: a step and a direction of each axis, in
+/// nanoseconds. Only ticks write something. If memory runs out, that is 900, and nothing is
+/// written. If a write fails (902), a prefix of the dump is written.
 pub fn write_pulses<A: Allocator + Copy, W: Sink>(
     alloc: A,
     accepted: Accepted<A>,
@@ -188,10 +189,10 @@ pub fn write_pulses<A: Allocator + Copy, W: Sink>(
     run_as(alloc, accepted, block_delete, lines, Form::Pulses, sink)
 }
 
-/// Runs what was accepted, at a setting of block delete, over events in their order, and writes its
-/// samples: two bytes for each tick, with the steps and directions, the spindle and the coolant, in
-/// which the bits of `inverted` are turned over. What is no tick writes nothing. Want of memory is
-/// 900, with nothing written; where a write failed (902) a beginning of the samples is written.
+/// Runs an accepted program, at a setting of block delete, over events in their order, and writes
+/// its samples: two bytes for each tick, with the steps and directions, the spindle and the
+/// coolant. The bits of `inverted` are inverted. Only ticks write something. If memory runs out,
+/// that is 900, and nothing is written. If a write fails (902), a prefix of the samples is written.
 pub fn write_samples<A: Allocator + Copy, W: Sink>(
     alloc: A,
     accepted: Accepted<A>,

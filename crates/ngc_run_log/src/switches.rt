@@ -49,7 +49,7 @@ fn switches_of<A: Allocator + Copy>(
     Ok(list)
 }
 
-/// What the commands switch, where that is written. Only want of memory is a fault.
+/// Returns what the commands switch, if the form writes that. Too little memory is the only fault.
 pub(crate) fn switches_for<A: Allocator + Copy>(
     alloc: A,
     form: Form,
@@ -65,7 +65,7 @@ pub(crate) fn switches_for<A: Allocator + Copy>(
 }
 
 impl<'s> Switches<'s> {
-    /// What is switched in a tick in which a command ends like this, or none.
+    /// Returns what is switched in a tick in which a command has this ending, or none ends.
     pub(crate) fn by(&self, ending: &Option<Ending>) -> Switch
         ensures { result ≡ switch_in self.now.list.now ending.now }
     {

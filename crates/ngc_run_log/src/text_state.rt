@@ -1,11 +1,11 @@
 use ngc_pulses::PulseSamples;
 
-/// What is kept of the text of a live run while no event arrives, once all of it is written.
+/// The state of a live run's text while no event arrives, once all of it is written.
 #[derive(Drop)]
 pub(crate) enum TextState {
     /// The log: nothing is kept.
     Log,
-    /// The log with ticks: how many were given.
+    /// The log with ticks: the number of ticks so far.
     Times(u64),
     /// The samples.
     Samples(PulseSamples),

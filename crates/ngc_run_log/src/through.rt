@@ -1,4 +1,4 @@
-//! A run through a whole program: nobody touches the panel but to start again behind a stop.
+//! A run through a whole program: the operator only starts the machine again after a stop.
 ghost use Rattle.std.specs.Prelude.{◌≡◌, ◌≤◌, ◌<◌, ◌+◌, ◌-◌, ◌*◌, ◌^◌, ℕ, List, Option, min};
 ghost use Rattle.std.specs.Prelude.{length, Some, true, false, OnOk, OnErr, IfOk};
 ghost use Rattle.ngc_machine_model.specs.Headline.{job_of, RunsInTime, RunsSafely};
@@ -30,7 +30,7 @@ use ngc_step_kernel::ArcPath;
 use ngc_text::{Sink, WriteFault};
 use std::alloc::Allocator;
 
-// Gives an event, and records what came of it.
+// Processes an event and records its outcome.
 fn give<A: Allocator + Copy, W: Sink>(
     controller: &mut Controller<ArcPath, A>,
     event: Event,
@@ -46,7 +46,7 @@ fn give<A: Allocator + Copy, W: Sink>(
     ensures failures { CountsFailure (W.failures sink.old) (W.failures sink.new) result }
 {
     let outcome = controller.event(event);
-    // No command dwells for ever.
+    // Every dwell ends.
     let _dwelt = controller.dwelt();
     match recorder.add(event, &outcome, sink) {
         Ok(()) => Ok(outcome),
@@ -54,7 +54,7 @@ fn give<A: Allocator + Copy, W: Sink>(
     }
 }
 
-// Loads the next command, for which there must be room.
+// Loads the next command, for which the ring must have space.
 fn load_next<A: Allocator + Copy, W: Sink>(
     controller: &mut Controller<ArcPath, A>,
     recorder: &mut Recorder,
@@ -80,7 +80,7 @@ fn load_next<A: Allocator + Copy, W: Sink>(
     }
 }
 
-// Starts again where the machine is stopped.
+// Starts again if the machine is stopped.
 fn start_again<A: Allocator + Copy, W: Sink>(
     controller: &mut Controller<ArcPath, A>,
     recorder: &mut Recorder,
@@ -103,7 +103,7 @@ fn start_again<A: Allocator + Copy, W: Sink>(
     }
 }
 
-// How a command ended in an outcome, if one did.
+// Returns the end of a command in an outcome, if one ended.
 fn ending_in(outcome: &Result<Reply, EventFault>) -> Option<Ending>
     ensures { result ≡ ending_in outcome.now }
 {
@@ -113,7 +113,7 @@ fn ending_in(outcome: &Result<Reply, EventFault>) -> Option<Ending>
     }
 }
 
-// Gives a tick, and answers how a command ended in it, if one did.
+// Processes a tick. Returns the end of a command in it, if one ended.
 fn tick<A: Allocator + Copy, W: Sink>(
     controller: &mut Controller<ArcPath, A>,
     recorder: &mut Recorder,
@@ -137,7 +137,7 @@ fn tick<A: Allocator + Copy, W: Sink>(
     }
 }
 
-// Gives the ticks that follow of which nothing is told.
+// Processes the ticks without an output that follow.
 fn coast<A: Allocator + Copy>(controller: &mut Controller<ArcPath, A>, recorder: &mut Recorder)
     requires untouched { IsUntouched controller.old.job controller.old.state }
     requires runs { controller.old.state.stopped ≡ false }
@@ -148,12 +148,12 @@ fn coast<A: Allocator + Copy>(controller: &mut Controller<ArcPath, A>, recorder:
         Coasts controller.old controller.new recorder.old recorder.new written }
 {
     let count = controller.coast(u64::MAX);
-    // No command dwells for ever.
+    // Every dwell ends.
     let _dwelt = controller.dwelt();
     recorder.rest(count);
 }
 
-// Starts again where a command ended by a stop.
+// Starts again if a command ended by a stop.
 fn go_on_behind<A: Allocator + Copy, W: Sink>(
     ending: Ending,
     controller: &mut Controller<ArcPath, A>,
@@ -178,7 +178,7 @@ fn go_on_behind<A: Allocator + Copy, W: Sink>(
     }
 }
 
-// Gives ticks until the command at the head is done, and starts again if it was a stop.
+// Processes ticks until the command at the head is done, and starts again if it was a stop.
 fn finish_head<A: Allocator + Copy, W: Sink>(
     controller: &mut Controller<ArcPath, A>,
     recorder: &mut Recorder,
@@ -209,7 +209,7 @@ fn finish_head<A: Allocator + Copy, W: Sink>(
     }
 }
 
-// Loads so many commands.
+// Loads `count` commands.
 pub(crate) fn fill_ring<A: Allocator + Copy, W: Sink>(
     controller: &mut Controller<ArcPath, A>,
     count: usize,
@@ -240,7 +240,7 @@ pub(crate) fn fill_ring<A: Allocator + Copy, W: Sink>(
     Ok(())
 }
 
-// Loads so many commands more into a full ring, each behind the end of its head.
+// Loads `count` more commands into a full ring, each after the end of the head.
 pub(crate) fn keep_full<A: Allocator + Copy, W: Sink>(
     controller: &mut Controller<ArcPath, A>,
     count: usize,
@@ -275,7 +275,7 @@ pub(crate) fn keep_full<A: Allocator + Copy, W: Sink>(
     Ok(())
 }
 
-// Goes on until so many commands are done, where none is left to load.
+// Continues until `count` commands are done, with none left to load.
 pub(crate) fn finish<A: Allocator + Copy, W: Sink>(
     controller: &mut Controller<ArcPath, A>,
     count: usize,
@@ -306,7 +306,7 @@ pub(crate) fn finish<A: Allocator + Copy, W: Sink>(
     Ok(())
 }
 
-// Gives the events that take all commands, of which there are so many, to their end.
+// Processes the events that take all `count` commands to their end.
 fn go_on<A: Allocator + Copy, W: Sink>(
     controller: &mut Controller<ArcPath, A>,
     count: usize,
@@ -340,7 +340,7 @@ fn go_on<A: Allocator + Copy, W: Sink>(
     finish(controller, first, recorder, sink)
 }
 
-// Goes through all commands, of which there are so many.
+// Goes through all `count` commands.
 fn go_through<A: Allocator + Copy, W: Sink>(
     controller: &mut Controller<ArcPath, A>,
     count: usize,
@@ -369,7 +369,7 @@ fn go_through<A: Allocator + Copy, W: Sink>(
     recorder.finish(sink)
 }
 
-// Goes through what was accepted, and writes it in a form.
+// Runs an accepted program through to its end and writes the run in a form.
 fn go_through_as<A: Allocator + Copy, W: Sink>(
     alloc: A,
     accepted: Accepted<A>,
@@ -382,7 +382,7 @@ fn go_through_as<A: Allocator + Copy, W: Sink>(
         (W.written sink.new) result }
     ensures counts { FailsByWriting result (W.failures sink.old) (W.failures sink.new) }
 {
-    // What holds of all that was accepted makes the run a safe one, which is done in time.
+    // The facts about the accepted program make the run safe and done in time.
     let ticks_per_second = accepted.machine().ticks_per_second;
     let kept = match switches_for(alloc, form, accepted.commands(block_delete)) {
         Ok(kept) => kept,
@@ -403,10 +403,10 @@ fn go_through_as<A: Allocator + Copy, W: Sink>(
     }
 }
 
-/// Runs what was accepted through to its end, at a setting of block delete, and writes the log: the
-/// ring is kept full while commands are left, each command gets the ticks that it takes, and behind
-/// each stop the machine is started again. Want of memory is 900, with nothing written; where a
-/// write failed (902) a beginning of the log is written.
+/// Runs an accepted program through to its end, at a setting of block delete, and writes the log.
+/// The ring is kept full while commands are left, each command gets the ticks that it takes, and
+/// the machine is started again after each stop. If memory runs out, that is 900, and nothing is
+/// written. If a write fails (902), a prefix of the log is written.
 pub fn run_through<A: Allocator + Copy, W: Sink>(
     alloc: A,
     accepted: Accepted<A>,
@@ -420,9 +420,9 @@ pub fn run_through<A: Allocator + Copy, W: Sink>(
     go_through_as(alloc, accepted, block_delete, Form::Log, sink)
 }
 
-/// Runs what was accepted through to its end as [`run_through`] does, and writes the log with ticks:
-/// each line begins with how many ticks were given before its event took effect. After 2^64 - 1 ticks
-/// the number stays.
+/// Runs an accepted program through to its end as [`run_through`] does, and writes the log with
+/// ticks: each line begins with the number of ticks before its event took effect. After 2^64 - 1
+/// ticks the number stays.
 pub fn write_timed_log_through<A: Allocator + Copy, W: Sink>(
     alloc: A,
     accepted: Accepted<A>,
@@ -437,9 +437,9 @@ pub fn write_timed_log_through<A: Allocator + Copy, W: Sink>(
     go_through_as(alloc, accepted, block_delete, Form::Times, sink)
 }
 
-/// Runs what was accepted through to its end as [`run_through`] does, and writes the pulses of all
-/// its ticks as a value change dump. Want of memory is 900, with nothing written; where a write
-/// failed (902) a beginning of the dump is written.
+/// Runs an accepted program through to its end as [`run_through`] does, and writes the pulses of
+/// all its ticks as a value change dump. If memory runs out, that is 900, and nothing is written.
+/// If a write fails (902), a prefix of the dump is written.
 pub fn write_pulses_through<A: Allocator + Copy, W: Sink>(
     alloc: A,
     accepted: Accepted<A>,
@@ -454,9 +454,9 @@ pub fn write_pulses_through<A: Allocator + Copy, W: Sink>(
     go_through_as(alloc, accepted, block_delete, Form::Pulses, sink)
 }
 
-/// Runs what was accepted through to its end as [`run_through`] does, and writes the samples of all
-/// its ticks, in which the bits of `inverted` are turned over. Want of memory is 900, with nothing
-/// written; where a write failed (902) a beginning of the samples is written.
+/// Runs an accepted program through to its end as [`run_through`] does, and writes the samples of
+/// all its ticks. The bits of `inverted` are inverted. If memory runs out, that is 900, and nothing
+/// is written. If a write fails (902), a prefix of the samples is written.
 pub fn write_samples_through<A: Allocator + Copy, W: Sink>(
     alloc: A,
     accepted: Accepted<A>,

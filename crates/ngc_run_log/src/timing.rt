@@ -1,4 +1,4 @@
-//! How long a run through a program takes, and with each tool.
+//! The time of a run through a program, and the time with each tool.
 ghost use Rattle.std.specs.Prelude.{◌≡◌, ◌≤◌, ◌<◌, ◌+◌, ◌^◌, length, false, None, OnOk, IfErr};
 ghost use Rattle.std.specs.Prelude.{IfOk};
 ghost use Rattle.ngc_machine_model.specs.Headline.{job_of, RunsInTime, RunsSafely};
@@ -23,17 +23,17 @@ use ngc_step_kernel::ArcPath;
 use ngc_text::{DeviceFault, Sink};
 use std::alloc::Allocator;
 
-/// How long a run through a program takes.
+/// The time of a run through a program.
 #[derive(Drop)]
 pub struct Timing<A: Allocator> {
-    /// How many ticks were given.
+    /// The number of ticks.
     pub ticks: u128,
-    /// How many of them up to the end of the first change of the tool, and then from the end of
-    /// each change to that of the next one, or to the program's end.
+    /// The ticks of each part. The first part ends with the first change of the tool. Each later
+    /// one begins there and ends with the next change, or with the program.
     pub parts: Vec<u128, A>,
 }
 
-/// A sink that drops what it takes, and never fails.
+/// A sink that drops its input and never fails.
 #[derive(Drop)]
 struct Nowhere;
 
@@ -47,7 +47,7 @@ impl Sink for Nowhere {
     }
 }
 
-// How many commands there are up to the next change of the tool, with it.
+// Returns the number of commands up to the next change of the tool, including it.
 fn part_length(commands: &[Command]) -> usize
     ensures { result ≡ part_length commands.now }
 {
@@ -83,7 +83,7 @@ fn load_first<A: Allocator + Copy>(
     }
 }
 
-// Goes on until so many commands more are done, and loads as many of those that aren't yet.
+// Continues until `count` more commands are done. Loads up to `count` of the `unloaded` commands.
 fn finish_part<A: Allocator + Copy>(
     controller: &mut Controller<ArcPath, A>,
     count: usize,
@@ -115,8 +115,7 @@ fn finish_part<A: Allocator + Copy>(
     }
 }
 
-// Goes through all commands, of which so many aren't loaded yet, and answers the ticks of each
-// part.
+// Goes through all commands, of which `unloaded` aren't loaded yet. Returns the ticks of each part.
 fn time_parts<A: Allocator + Copy>(
     alloc: A,
     controller: &mut Controller<ArcPath, A>,
@@ -186,9 +185,9 @@ fn time_all<A: Allocator + Copy>(
     }
 }
 
-/// How long it takes to run what was accepted through to its end, at a setting of block delete, as
-/// [`run_through`](crate::run_through) does, in ticks; and how long with each tool. What was accepted
-/// is handed back. Nothing is written. Only want of memory is a fault (900).
+/// Returns the ticks of a run of an accepted program through to its end, at a setting of block
+/// delete, as [`run_through`](crate::run_through) does, and the ticks with each tool. It also
+/// returns the accepted program. Nothing is written. Too little memory (900) is the only fault.
 pub fn time_through<A: Allocator + Copy>(
     alloc: A,
     accepted: Accepted<A>,
@@ -200,7 +199,7 @@ pub fn time_through<A: Allocator + Copy>(
     ensures back { IfOk result (λ r. r.1 ≡ accepted) }
     ensures memory { IfErr result (λ fault. fault ≡ RunFault.Memory) }
 {
-    // What holds of all that was accepted makes the run a safe one, which is done in time.
+    // The facts about the accepted program make the run safe and done in time.
     let _machine = accepted.machine();
     let mut controller = match Controller::<ArcPath, A>::new(alloc, accepted, block_delete) {
         Ok(controller) => controller,

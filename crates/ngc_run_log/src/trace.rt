@@ -1,4 +1,4 @@
-//! What is written of a run: its log, its pulses in one of two forms, or nothing.
+//! The text of a run: its log, its pulses in one of two forms, or nothing.
 ghost use Rattle.std.specs.Prelude.{◌≡◌, ◌≤◌, ◌+◌, ◌^◌, ◌++◌, ◌∷◌, [], replicate, Ok, None, OnOk};
 ghost use Rattle.std.specs.Prelude.{OnErr};
 ghost use Rattle.ngc_events.specs.declared.reply.Reply.TheVariants.{Ticked};
@@ -23,24 +23,24 @@ use ngc_fixed_length::StepPos;
 use ngc_pulses::{PulseDump, PulseSamples, Switch};
 use ngc_text::{Chunk, Sink, WriteFault};
 
-/// In which form a run is written.
+/// The form in which a run is written.
 #[derive(Clone, Copy)]
 pub(crate) enum Form {
-    /// What came of each event.
+    /// The log: the outcome of each event.
     Log,
-    /// The same, each line of which begins with how many ticks were given before its event.
+    /// The log with ticks: each line begins with the number of ticks before its event.
     Times,
     /// The pulses of its ticks as a value change dump.
     Pulses,
-    /// The pulses of its ticks as samples, in which the bits of a mask are turned over.
+    /// The pulses of its ticks as samples, with the bits of a mask inverted.
     Samples(u8),
 }
 
-/// What is known of the text after some events.
+/// The state of the text after some events.
 #[derive(Drop)]
 pub(crate) enum Trace<'s> {
     Log,
-    // How many ticks were given.
+    // The number of ticks so far.
     Times(u64),
     Pulses(PulseDump),
     Samples(PulseSamples, Switches<'s>),
@@ -82,7 +82,7 @@ fn add_changes(dump: &mut PulseDump, outcome: &Result<Reply, EventFault>, chunk:
     }
 }
 
-// Adds what the log says of an outcome, behind what the chunk has no room for.
+// Adds the log's text for an outcome. Writes the chunk first if it has too little space.
 fn write_outcome<W: Sink>(
     outcome: &Result<Reply, EventFault>,
     chunk: &mut Chunk,
@@ -104,14 +104,14 @@ fn write_outcome<W: Sink>(
     Ok(())
 }
 
-// How many ticks were given once ticks follow in which nothing was commanded and nothing ended.
+// Returns the number of ticks after `count` more in which nothing was commanded and nothing ended.
 fn after_quiet(ticks: u64, count: u64) -> u64
     ensures { result ≡ ticks_after ticks (replicate count (Ok (Ticked None None))) }
 {
     ticks.saturating_add(count)
 }
 
-// Counts an outcome's tick, if it is one.
+// Returns `ticks`, plus 1 if the outcome is that of a tick.
 fn count_tick(ticks: u64, outcome: &Result<Reply, EventFault>) -> u64
     ensures { result ≡ ticks_with ticks outcome.now }
 {
@@ -121,7 +121,8 @@ fn count_tick(ticks: u64, outcome: &Result<Reply, EventFault>) -> u64
     }
 }
 
-// Adds what the log with ticks says of an outcome, after what the chunk has no room for.
+// Adds the text of the log with ticks for an outcome. Writes the chunk first if it has too little
+// space.
 fn write_timed<W: Sink>(
     ticks: &mut u64,
     outcome: &Result<Reply, EventFault>,
@@ -146,7 +147,7 @@ fn write_timed<W: Sink>(
     Ok(())
 }
 
-// Adds the changes of an outcome's tick, behind what the chunk has no room for.
+// Adds the changes of an outcome's tick. Writes the chunk first if it has too little space.
 fn write_changes<W: Sink>(
     dump: &mut PulseDump,
     outcome: &Result<Reply, EventFault>,
@@ -171,7 +172,7 @@ fn write_changes<W: Sink>(
     Ok(())
 }
 
-// Adds the last time of a dump, behind what the chunk has no room for.
+// Adds the last time of a dump. Writes the chunk first if it has too little space.
 fn close_dump<W: Sink>(dump: &PulseDump, chunk: &mut Chunk, sink: &mut W) -> Result<(), WriteFault>
     requires { dump.now.ticks ≤ 2 ^ 126 }
     ensures text { OnOk result
@@ -190,7 +191,7 @@ fn close_dump<W: Sink>(dump: &PulseDump, chunk: &mut Chunk, sink: &mut W) -> Res
     Ok(())
 }
 
-// Writes the bytes of a reply's tick, if it is one, in which this is switched.
+// Writes the bytes of a reply's tick, if it is one, with what is switched in it.
 fn write_sample<W: Sink>(
     samples: &mut PulseSamples,
     switch: Switch,
@@ -215,7 +216,7 @@ fn write_sample<W: Sink>(
     }
 }
 
-// Writes the bytes of an outcome's tick, if it is one, in which this is switched.
+// Writes the bytes of an outcome's tick, if it is one, with what is switched in it.
 fn write_tick<W: Sink>(
     samples: &mut PulseSamples,
     switch: Switch,
@@ -241,7 +242,7 @@ fn write_tick<W: Sink>(
 }
 
 impl<'s> Trace<'s> {
-    /// Before the first event, with a machine that stands at a position, in steps.
+    /// Returns the trace before the first event, for a machine at a position in steps.
     pub(crate) fn new(
         form: Form,
         ticks_per_second: u32,
@@ -261,7 +262,7 @@ impl<'s> Trace<'s> {
         }
     }
 
-    /// After some events of which all text is written.
+    /// Returns the trace after some events whose text is all written.
     pub(crate) fn going_on(paused: &TextState, switches: Switches<'s>) -> Trace<'s>
         ensures { result ≡ trace_from paused.now switches.entry }
     {
@@ -283,7 +284,7 @@ impl<'s> Trace<'s> {
         }
     }
 
-    /// Adds what stands before the text of the first event.
+    /// Adds the text before that of the first event.
     pub(crate) fn open(&self, chunk: &mut Chunk)
         requires { HasLineRoom chunk.old }
         ensures { chunk.new ≡ chunk.old ++ opening_text self.now }
@@ -307,7 +308,7 @@ impl<'s> Trace<'s> {
         }
     }
 
-    // What is switched in an outcome's tick, where that is written.
+    // Returns what is switched in an outcome's tick, if the form writes that.
     fn switched_by(&self, outcome: &Result<Reply, EventFault>) -> Switch
         ensures { result ≡ switched_by self.now outcome.now }
     {
@@ -317,7 +318,7 @@ impl<'s> Trace<'s> {
         }
     }
 
-    /// Adds the text of an outcome. What the chunk hasn't room for is written.
+    /// Adds the text of an outcome. Writes the chunk if it has too little space.
     pub(crate) fn tell<W: Sink>(
         &mut self,
         outcome: &Result<Reply, EventFault>,
@@ -344,8 +345,7 @@ impl<'s> Trace<'s> {
         }
     }
 
-    /// Adds what stands behind the text of the last event. What the chunk hasn't room for is
-    /// written.
+    /// Adds the text after that of the last event. Writes the chunk if it has too little space.
     pub(crate) fn close<W: Sink>(
         &mut self,
         chunk: &mut Chunk,
