@@ -1,4 +1,4 @@
--- How far lines are written, where others come behind them.
+-- The written part of a list of lines, when other lines follow them.
 use Rattle.std.proofs.Common.{◌≡◌, ℕ, List, [], ◌++◌, Option, Some, None, Result, Ok, Err, ap, sym, subst, ◌∙◌, refl}
 use Rattle.std.proofs.lemmas.List.{append_assoc, append-nil}
 use Rattle.std.proofs.lemmas.List.Concat.{flat_map-append}
@@ -12,7 +12,7 @@ use Rattle.ngc_setup_sheet.specs.Writes.{Writes}
 use Rattle.ngc_setup_sheet.specs.Spelling.{line_text, lines_text}
 use Rattle.ngc_setup_sheet.specs.declared.line.Line.{Line}
 
--- of a whole some lines are written, and the rest is still to come
+-- some lines of a whole are written, and the rest remains
 pub record Ahead (old now : Option (List ℕ)) (before chunk : List ℕ) (rest whole : List Line) : Type 0 where
   pub done : List Line
   pub splits : whole ≡ done ++ rest
@@ -61,14 +61,14 @@ last (Ok u) old mid new before between after left whole h k =
 last (Err e) old mid new before between after left whole h k =
     stopped old mid new before between left [] left whole (sym (append-nil left)) h k
 
--- nothing is left
+-- nothing remains
 pub finished : (old now : Option (List ℕ)) (before chunk : List ℕ) (rest whole : List Line) → rest ≡ []
     → Ahead old now before chunk rest whole → WritesFront old now (before ++ lines_text whole) chunk
 finished old now before chunk rest whole none h =
     subst (λ (l : List ℕ). WritesFront old now l chunk)
     (ap (λ l. before ++ lines_text l) (sym (h.splits ∙ ap (λ l. h.done ++ l) none ∙ append-nil h.done))) h.front
 
--- what is left over is written out, or not
+-- the remaining text is written out, or not
 pub part_out : (r : Result (Unit {0}) WriteFault) (old mid new : Option (List ℕ)) (text after : List ℕ)
     → WritesFront old mid text after → OnErr r (AppendsBeginning mid new after) → OnErr r (AppendsBeginning old new text)
 part_out (Ok u) old mid new text after h k = tt

@@ -1,4 +1,4 @@
--- Lines of which the warnings alone are written, in a style.
+-- Lines of which only the warnings are written, in a style.
 use Rattle.std.proofs.Common.{◌≡◌, ℕ, ◌+◌, ◌<◌, List, [], ◌∷◌, ◌++◌, length, get_or, drop, flat_map, Option, Result, true, false, cond, ap, sym, ◌∙◌, refl}
 use Rattle.std.specs.Prelude.{map, filter}
 use Rattle.std.proofs.lemmas.List.{append-nil, map-append}
@@ -52,7 +52,7 @@ told_of_all s (l ∷ ls) =
     ∙ sym (flat_map-append line_text (chosen s (l ∷ [])) (chosen s ls))
     ∙ ap lines_text (sym (chosen-append s (l ∷ []) ls))
 
--- ---- what is still to be written, one step further
+-- ---- the remaining text, one step further
 
 pub next_fixture_warned : (s : Style) (m : MachineFile) (r : Reach) (fs : List Fixture) (i : ℕ) (f : Fixture) → i < length fs → f ≡ get_or fs i f
     → chosen s (fixtures_from m r i (drop i fs)) ≡ chosen s (fixture_lines m r i f) ++ chosen s (fixtures_from m r (i + 1) (drop (i + 1) fs))

@@ -1,10 +1,10 @@
--- How far lines are written, where others come behind them.
+-- The written part of a list of lines, when other lines follow them.
 pub mod Ahead
--- What is still to be written, one step further.
+-- The remaining text, one step further.
 pub mod Steps
--- Lines of which the warnings alone are written, in a style.
+-- Lines of which only the warnings are written, in a style.
 pub mod Alone
--- Values and tables, and the trees that they stand for.
+-- Values and tables, and the trees that they represent.
 pub mod Values
--- The lines of a file, one after another.
+-- The lines of a file, in order.
 pub mod Seeking

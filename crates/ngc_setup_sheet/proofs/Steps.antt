@@ -1,4 +1,4 @@
--- What is still to be written, one step further.
+-- The remaining text, one step further.
 use Rattle.std.proofs.Common.{◌≡◌, ℕ, ◌+◌, ◌<◌, List, ◌++◌, length, get_or, drop, ap, sym, flat_map, ◌∙◌}
 use Rattle.std.proofs.lemmas.List.{drop_more}
 use Rattle.ngc_machine_files.specs.Machine.{MachineFile}

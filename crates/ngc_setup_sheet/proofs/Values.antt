@@ -1,4 +1,4 @@
--- Values and tables, and the trees that they stand for.
+-- Values and tables, and the trees that they represent.
 use Rattle.std.proofs.Common.{◌≡◌, ℕ, List, [], ◌∷◌, length, take, Bool, true, false, cond, string_bytes, Option, Some, option_map, not, refl, arith}
 use Rattle.std.specs.List.{find}
 use Rattle.std.specs.Map.{keys_of}
@@ -8,7 +8,7 @@ use Rattle.toml.proofs.Views.{Entry}
 use Rattle.ngc_machine_files.specs.Tree.{is_one_of}
 use Rattle.ngc_setup_sheet.specs.Asks.{unknown_key, item_count}
 
--- ---- how many items, and whether all pass
+-- ---- the number of items, and whether all pass
 
 pub item_count-items : (vs : List Value) → item_count (items_view vs) ≡ length vs
 item_count-items [] = refl

@@ -2,24 +2,24 @@
 use Rattle.std.specs.Prelude.{ℕ, ◌+◌, ◌*◌, ◌/◌, unsigned_abs}
 use Rattle.ngc_machine_files.specs.Machine.{MachineFile}
 
--- how many units a number has, to the nearest; halves go up
+-- a number in a unit, to the nearest; halves go up
 abbrev pub rounded : ℕ → ℕ → ℕ
 rounded number unit = (2 * number + unit) / (2 * unit)
 
--- the speed of a step a tick, in nanometres a second
+-- the speed of one step per tick, in nanometres per second
 abbrev pub step_speed : MachineFile → ℕ
 step_speed m = unsigned_abs m.step * m.ticks_per_second
 
--- the speed of a rate: of so many millionths of a step a tick, in millionths of a nanometre a
--- second
+-- the speed of a rate: the rate is in millionths of a step per tick, the speed in millionths of a
+-- nanometre per second
 abbrev pub speed : MachineFile → ℕ → ℕ
 speed m rate = rate * step_speed m
 
--- so many steps a tick more in each tick, in nanometres per second squared
+-- an acceleration in steps per tick, per tick, as nanometres per second squared
 abbrev pub gain : MachineFile → ℕ → ℕ
 gain m steps = steps * (step_speed m * m.ticks_per_second)
 
--- ---- in thousandths of what a shop counts in
+-- ---- in thousandths of the units that a shop uses
 
 abbrev pub steps_a_millimetre : MachineFile → ℕ
 steps_a_millimetre m = rounded 1000000000 (unsigned_abs m.step)

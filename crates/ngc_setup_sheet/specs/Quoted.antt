@@ -1,4 +1,4 @@
--- The line of a file in which a key stands, as it is shown. Our own.
+-- The line of a file that has a key, as it is shown. Our own.
 use Rattle.std.specs.Prelude.{ℕ, ◌+◌, ◌-◌, ◌==◌, nat_eq, List, [], ◌∷◌, length, drop, codes, Bool}
 use Rattle.std.specs.Prelude.{false, ◌&&◌, ◌||◌, if◌then◌else◌}
 use Rattle.std.specs.List.{starts_with}
@@ -18,7 +18,7 @@ abbrev pub lines_of : List ℕ → List (List ℕ)
 lines_of [] = []
 lines_of (b ∷ bytes) = if b == 10 then [] ∷ lines_of bytes else longer_first b (lines_of bytes)
 
--- the first of them, and what comes behind its line feed
+-- the first line, and the bytes after its line feed
 abbrev pub line_of : List ℕ → List ℕ
 line_of [] = []
 line_of (b ∷ bytes) = if b == 10 then [] else b ∷ line_of bytes
@@ -27,7 +27,7 @@ abbrev pub behind_line : List ℕ → List ℕ
 behind_line [] = []
 behind_line (b ∷ bytes) = if b == 10 then bytes else behind_line bytes
 
--- behind spaces and tabs
+-- the bytes after spaces and tabs
 abbrev pub unindented : List ℕ → List ℕ
 unindented [] = []
 unindented (b ∷ bytes) = if b == 32 || b == 9 then unindented bytes else b ∷ bytes
@@ -44,8 +44,8 @@ begins word line = starts_with nat_eq (unindented line) word
 abbrev pub gives : List ℕ → List ℕ → Bool
 gives key line = begins key line && ends_key (drop (length key) (unindented line))
 
--- what a line is to the search for a key in a table, where so many headers still come before the
--- table
+-- The meaning of a line for the search for a key in a table. The number counts the headers that
+-- still come before the table.
 abbrev pub sought : List ℕ → List ℕ → ℕ → List ℕ → Seek
 sought header key ahead line =
     if begins header line
@@ -74,7 +74,7 @@ header_text sections.Tools = codes "[[tool]]"
 header_text (sections.FirstTool n) = codes "[[tool]]"
 header_text (sections.SecondTool n) = codes "[[tool]]"
 
--- how many headers come before it
+-- the number of headers before it
 abbrev pub headers : Section → ℕ
 headers sections.Machine = 0
 headers (sections.FirstFixture n) = n + 1

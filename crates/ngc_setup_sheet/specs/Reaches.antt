@@ -9,7 +9,7 @@ use Rattle.ngc_machine_files.specs.declared.parts.Part.{Part}
 use Rattle.ngc_machine_files.specs.declared.tools.Tool.{Tool}
 use Rattle.ngc_setup_sheet.specs.declared.reach.Reach.{Reach}
 
--- where parts end of which the lowest stands on this height: each stands on the one before
+-- the height where the stack of parts ends, whose lowest begins at this height
 abbrev pub top_of : ℤ → List Part → ℤ
 top_of foot [] = foot
 top_of foot (part ∷ parts) = top_of (foot +ℤ part.length) parts
@@ -37,11 +37,11 @@ with_tools r (t ∷ ts) = with_tools (with_tool r t) ts
 abbrev pub reach_of : List Tool → Reach
 reach_of tools = with_tools nothing tools
 
--- what lies from one coordinate to another lies beyond the other; they may touch
+-- the range from one coordinate to another lies beyond the other range; they may touch
 abbrev pub is_beyond : ℤ → ℤ → ℤ → ℤ → Bool
 is_beyond low high other_low other_high = int_le high other_low || int_le other_high low
 
--- on some axis a fixture lies beyond the travel, widened by how far the tools reach
+-- on some axis a fixture lies beyond the travel, widened by the tools' reach
 abbrev pub is_out_of_reach : MachineFile → Reach → Fixture → Bool
 is_out_of_reach m r f =
     is_beyond (m.low.x -ℤ r.radius) (m.high.x +ℤ r.radius) f.low.x f.high.x ||
@@ -52,8 +52,7 @@ is_out_of_reach m r f =
 abbrev pub is_outside : ℤ → ℤ → ℤ → Bool
 is_outside low high z = int_lt z low || int_lt high z
 
--- no tool's tip can be brought to a point: it lies outside the travel, which tools lengthen
--- downwards
+-- no tool's tip reaches a point: it lies outside the travel, which tools lengthen downwards
 abbrev pub is_outside_travel : MachineFile → Reach → Point3 → Bool
 is_outside_travel m r p =
     is_outside m.low.x m.high.x p.x

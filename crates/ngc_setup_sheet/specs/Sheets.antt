@@ -1,4 +1,4 @@
--- What a setup sheet tells of a machine and of its tools. Our own.
+-- What a setup sheet says about a machine and its tools. Our own.
 use Rattle.std.specs.Prelude.{ℕ, ◌+◌, min, nat_lt, ℤ, pos, ◌+ℤ◌, ◌*ℤ◌, List, [], ◌∷◌, ◌++◌, map}
 use Rattle.std.specs.Prelude.{filter, flat_map, ◌==◌, Bool, true, false, not, ◌&&◌, if◌then◌else◌}
 use Rattle.std.specs.Ordering.{int_eq}
@@ -25,7 +25,7 @@ use Rattle.ngc_setup_sheet.specs.declared.line.Warning.{Warning}
 use Rattle.ngc_setup_sheet.specs.declared.line.Warning.TheVariants as warnings
 use Rattle.ngc_setup_sheet.specs.declared.reach.Reach.{Reach}
 
--- a line that is there where something holds
+-- a line that is present if a condition holds
 abbrev pub line_where : Bool → Line → List Line
 line_where holds l = if holds then l ∷ [] else []
 
@@ -56,8 +56,7 @@ jump_facts m =
     line_where (nat_lt 0 m.jump)
     (lines.Fact facts.Jump (figures.Speed (millimetres_a_minute m m.jump)))
 
--- how many commands the ring takes, where that isn't 16, and the feed on arcs, where it is kept at
--- each place
+-- the ring's capacity, unless that is 16, and the feed on arcs, if it is kept at each point
 abbrev pub ring_facts : MachineFile → List Line
 ring_facts m = line_where (not (m.ring == 16)) (lines.Fact facts.Ring (figures.Count m.ring))
 
@@ -80,7 +79,7 @@ machine_places m =
     ∷ lines.Fact facts.Home (figures.Place m.home28) ∷
     lines.Fact facts.SecondHome (figures.Place m.home30) ∷ []
 
--- where an origin is that isn't set, as each is where the file names none
+-- the position of an origin that isn't set, as each is if the file has none
 abbrev pub is_zero : Point3 → Bool
 is_zero p = int_eq p.x (pos 0) && (int_eq p.y (pos 0) && int_eq p.z (pos 0))
 
@@ -142,7 +141,7 @@ fixtures_from m r i (f ∷ fs) = fixture_lines m r i f ++ fixtures_from m r (i +
 
 -- ---- tools
 
--- the parts of which the lowest stands on this height: each stands on the one before
+-- the lines of a stack of parts, whose lowest begins at this height
 abbrev pub part_line : ℤ → Part → Line
 part_line foot part =
     lines.Fact facts.Part

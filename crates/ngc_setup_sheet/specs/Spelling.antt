@@ -1,4 +1,4 @@
--- How the lines of a setup sheet are spelled. Our own.
+-- How the lines of a setup sheet are written. Our own.
 use Rattle.std.specs.Prelude.{ℕ, ◌*◌, ◌/◌, ◌%◌, ◌-ℤ◌, unsigned_abs, List, [], ◌++◌, flat_map, codes}
 use Rattle.std.specs.Prelude.{decimal, length, ◌==◌, if◌then◌else◌}
 use Rattle.ngc_fixed_length.specs.declared.modes.System.{System}
@@ -27,7 +27,7 @@ abbrev pub place_text : Point3 → List ℕ
 place_text p =
     codes "X " ++ length_text p.x ++ codes " Y " ++ length_text p.y ++ codes " Z " ++ mm_text p.z
 
--- coordinate systems are told by the codes that select them
+-- a coordinate system is named by the code that selects it
 unfoldable pub system_text : System → List ℕ
 system_text systems.First = codes "G54"
 system_text systems.Second = codes "G55"
@@ -108,17 +108,17 @@ warning_text (warnings.Short n) = codes "tool " ++ decimal n
 warning_text (warnings.Offset n) = codes "tool " ++ decimal n
     ++ codes " has an offset of more than twice or less than half its length"
 
--- an object of a JSON document, behind a comma and a line feed. A JSON string has its characters as
--- they are but for quotation marks, backslashes and control characters, which it escapes (RFC
--- 8259): of these a warning has none
+-- An object of a JSON document, after a comma and a line feed. A JSON string has its characters as
+-- they are, except quotation marks, backslashes and control characters, which it escapes (RFC
+-- 8259). A warning has none of these.
 abbrev pub warning_object : Warning → List ℕ
 warning_object w = codes ",\n{\"fact\":\"warning\",\"text\":\"" ++ warning_text w ++ codes "\"}"
 
--- a comment of a TOML document, on a line of its own: it ends at the line feed
+-- a comment of a TOML document, on its own line: it ends at the line feed
 abbrev pub warning_remark : Warning → List ℕ
 warning_remark w = codes "# Warning: " ++ warning_text w ++ codes "\n"
 
--- a name after a number, where there is one
+-- a name after a number, if there is one
 abbrev pub bracketed : List ℕ → List ℕ
 bracketed name = if length name == 0 then [] else codes " (" ++ name ++ codes ")"
 

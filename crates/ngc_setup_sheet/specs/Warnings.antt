@@ -22,7 +22,7 @@ is_odd_acceleration m =
 abbrev pub is_slow_on_arcs : MachineFile → Bool
 is_slow_on_arcs m = nat_lt (pull m) 1000000000000000000
 
--- from one coordinate to another it is less than so many nanometres
+-- two coordinates are less than `least` nanometres apart
 abbrev pub is_shorter : ℤ → ℤ → ℤ → Bool
 is_shorter least low high = int_lt (high -ℤ low) least
 
@@ -36,7 +36,7 @@ is_thin f =
     is_shorter (pos 100000) f.low.x f.high.x
     || (is_shorter (pos 100000) f.low.y f.high.y || is_shorter (pos 100000) f.low.z f.high.z)
 
--- how long the body of a tool is
+-- the length of a tool's body
 abbrev pub body_length : Tool → ℤ
 body_length t = top_of (pos 0) t.parts
 

@@ -1,4 +1,4 @@
--- Lines on their way to a sink. Our own.
+-- Lines that are written to a sink. Our own.
 use Rattle.std.specs.Prelude.{ℕ, List, map, filter, Option, Result}
 use Rattle.ngc_text.specs.declared.writing.WriteFault.{WriteFault}
 use Rattle.ngc_certificate_text.specs.Collects.{Collects}
@@ -8,7 +8,7 @@ use Rattle.ngc_setup_sheet.specs.declared.line.Line.{Line}
 use Rattle.ngc_setup_sheet.specs.declared.writer.Style.{Style}
 use Rattle.ngc_setup_sheet.specs.declared.writer.Style.TheVariants as styles
 
--- the text of lines comes behind what was collected; where a write fails, a beginning of both is
+-- the text of lines is added after the collected text; if a write fails, a prefix of both is
 -- written
 abbrev pub Writes : Option (List ℕ) → Option (List ℕ) → List ℕ → List ℕ →
     Result (Unit {0}) WriteFault → List Line → Type 0
@@ -20,7 +20,7 @@ styled styles.Lines l = l
 styled styles.Facts l = as_fact l
 styled styles.Remarks l = as_remark l
 
--- those of these lines that are warnings, in a style
+-- the warnings among these lines, in a style
 abbrev pub chosen : Style → List Line → List Line
 chosen styles.Lines told = filter is_warning told
 chosen styles.Facts told = map as_fact (filter is_warning told)

@@ -10,7 +10,7 @@ use ngc_fixed_length::Nm;
 use ngc_machine_files::Machine;
 use std::alloc::Allocator;
 
-/// How many units a number has: to the nearest, halves upwards.
+/// Returns a number in a unit, rounded to the nearest, halves upwards.
 fn rounded(number: u128, unit: u128) -> u128
     requires number { number < 2 ^ 120 }
     requires some { 0 < unit }
@@ -29,7 +29,7 @@ fn size_of(step: Nm) -> u64
     step.nanometres().unsigned_abs()
 }
 
-/// The speed of a step a tick, in nanometres a second.
+/// Returns the speed of one step per tick, in nanometres per second.
 fn step_speed<A: Allocator>(machine: &Machine<A>) -> u64
     ensures value { result ≡ step_speed (file_of machine.now) }
     ensures bound { result ≤ 50000000000 }
@@ -37,7 +37,7 @@ fn step_speed<A: Allocator>(machine: &Machine<A>) -> u64
     size_of(machine.step) * u64::from(machine.ticks_per_second)
 }
 
-/// The speed of a rate, in millionths of a nanometre a second.
+/// Returns the speed of a rate, in millionths of a nanometre per second.
 pub(crate) fn speed<A: Allocator>(machine: &Machine<A>, rate: u32) -> u64
     requires { rate ≤ 1000000 }
     ensures value { result ≡ speed (file_of machine.now) rate }
@@ -46,7 +46,7 @@ pub(crate) fn speed<A: Allocator>(machine: &Machine<A>, rate: u32) -> u64
     u64::from(rate) * step_speed(machine)
 }
 
-/// So many steps a tick each tick, in nanometres per second squared.
+/// Returns an acceleration in steps per tick, per tick, as nanometres per second squared.
 pub(crate) fn gain<A: Allocator>(machine: &Machine<A>, steps: u64) -> u128
     requires { steps ≤ 1000000000000 }
     ensures value { result ≡ gain (file_of machine.now) steps }
@@ -55,14 +55,14 @@ pub(crate) fn gain<A: Allocator>(machine: &Machine<A>, steps: u64) -> u128
     u128::from(steps) * (u128::from(step_speed(machine)) * u128::from(machine.ticks_per_second))
 }
 
-/// Steps a millimetre, in thousandths.
+/// Returns the steps per millimetre, in thousandths.
 pub(crate) fn steps_a_millimetre<A: Allocator>(machine: &Machine<A>) -> u128
     ensures { result ≡ steps_a_millimetre (file_of machine.now) }
 {
     rounded(1_000_000_000, u128::from(size_of(machine.step)))
 }
 
-/// The speed of a rate, in thousandths of a millimetre a minute.
+/// Returns the speed of a rate, in thousandths of a millimetre per minute.
 pub(crate) fn millimetres_a_minute<A: Allocator>(machine: &Machine<A>, rate: u32) -> u128
     requires { rate ≤ 1000000 }
     ensures { result ≡ millimetres_a_minute (file_of machine.now) rate }
@@ -70,7 +70,7 @@ pub(crate) fn millimetres_a_minute<A: Allocator>(machine: &Machine<A>, rate: u32
     rounded(60 * u128::from(speed(machine, rate)), 1_000_000_000)
 }
 
-/// The acceleration along the path, in thousandths of a millimetre per second squared.
+/// Returns the acceleration along the path, in thousandths of a millimetre per second squared.
 pub(crate) fn acceleration<A: Allocator>(machine: &Machine<A>) -> u128
     ensures { result ≡ acceleration (file_of machine.now) (file_of machine.now).change }
 {

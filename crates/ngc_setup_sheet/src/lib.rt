@@ -1,5 +1,5 @@
-//! The setup sheet of a machine: what its file and its tool table say in a shop's units, with
-//! warnings of what looks wrong; and of a file that is refused, its first mistake.
+//! The setup sheet of a machine: its file and its tool table in a shop's units, with warnings of
+//! what looks wrong. For a file that is refused, its first mistake.
 #![tactic(auto)]
 
 mod figures;

@@ -8,26 +8,26 @@ pub enum Axis {
     Z,
 }
 
-/// From a coordinate or a height to another, in nanometres.
+/// The range from one coordinate or height to another, in nanometres.
 #[derive(Clone, Copy)]
 pub struct Span {
     pub low: i64,
     pub high: i64,
 }
 
-/// What a line with a figure tells.
+/// The subject of a line with a figure.
 #[derive(Clone, Copy)]
 pub enum Fact {
     /// The step length.
     Step,
-    /// Steps a millimetre.
+    /// The steps per millimetre.
     Steps,
     Ticks,
     GreatestSpeed,
     CornerSpeed,
-    /// How much an axis' speed may change at once where two motions meet.
+    /// The change of an axis' speed that is allowed at once where two motions meet.
     Jump,
-    /// How many commands are loaded and not done at most.
+    /// The most commands that are loaded and not done.
     Ring,
     /// Where the feed of an arc is kept.
     ArcFeed,
@@ -46,13 +46,13 @@ pub enum Fact {
     Origin(System),
     /// A fixture's extent on the axis.
     Extent(Axis),
-    /// What G43 takes.
+    /// The offset that G43 applies.
     Offset,
     /// A part of a tool.
     Part,
 }
 
-/// A number with its unit. Lengths are nanometres, and what is rounded is in thousandths of the
+/// A number with its unit. Lengths are in nanometres, and rounded numbers in thousandths of the
 /// unit.
 #[derive(Clone, Copy)]
 pub enum Figure {
@@ -60,9 +60,9 @@ pub enum Figure {
     PerMillimetre(u128),
     PerSecond(u32),
     Count(u32),
-    /// At each place.
+    /// At each point.
     ByPlace,
-    /// In thousandths of a millimetre a minute.
+    /// In thousandths of a millimetre per minute.
     Speed(u128),
     /// In thousandths of a millimetre per second squared.
     Acceleration(u128),
@@ -77,7 +77,7 @@ pub enum Figure {
 pub enum Warning {
     Speed,
     Acceleration,
-    /// A weak pull towards the centres of arcs.
+    /// A low acceleration towards the centres of arcs.
     Arcs,
     Travel(Axis),
     /// The origin of the coordinate system is out of reach.
@@ -92,14 +92,14 @@ pub enum Warning {
     Offset(u32),
 }
 
-/// A line of a setup sheet, or what stands elsewhere in place of a warning.
+/// A line of a setup sheet, or another form of a warning.
 #[derive(Clone, Copy)]
 pub enum Line {
-    /// What follows is of the machine.
+    /// The heading of the machine's lines.
     Machine,
-    /// What follows is of the fixture with this number and name.
+    /// The heading of the lines of the fixture with this number and name.
     Fixture(usize, Name),
-    /// What follows is of the tool with this number and name.
+    /// The heading of the lines of the tool with this number and name.
     Tool(u32, Name),
     Fact(Fact, Figure),
     Warning(Warning),

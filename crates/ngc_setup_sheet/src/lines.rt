@@ -1,4 +1,4 @@
-//! What is told of a machine, of a fixture and of a tool.
+//! The lines of a machine, of a fixture and of a tool.
 ghost use Rattle.std.specs.Prelude.{◌≡◌, ◌≤◌, ◌<◌, ◌+◌, ◌++◌, min, length, unsigned_abs};
 ghost use Rattle.arrayvec.specs.ArrayVec.{array_vec_len};
 ghost use Rattle.ngc_machine_files.specs.Machine.{file_of};
@@ -25,7 +25,7 @@ use ngc_fixed_length::{Nm, Point3, System};
 use ngc_machine_files::{Fixture, Machine, Part, Parts, Tool};
 use std::alloc::Allocator;
 
-/// Room for what is told of a machine, of a fixture or of a tool.
+/// Space for the lines of a machine, of a fixture or of a tool.
 pub(crate) type Lines = ArrayVec<Line, 48>;
 
 const SHORT_TRAVEL: i64 = 10_000_000;
@@ -38,7 +38,7 @@ fn add_all(lines: &mut Lines, told: &[Line])
     let _ = lines.try_extend_from_slice(told);
 }
 
-/// Adds a line where something holds.
+/// Adds a line if a condition holds.
 fn add_where(lines: &mut Lines, holds: bool, line: Line)
     requires { array_vec_len lines.old < 48 }
     ensures items { lines.new.items ≡ lines.old.items ++ line_where holds line }

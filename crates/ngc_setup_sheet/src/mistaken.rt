@@ -34,10 +34,10 @@ fn tools_mistake(tree: &Option<Value>, fault: FileFault) -> Mistake
     }
 }
 
-/// Writes the first mistake of a machine file that is refused with this fault: which key it is,
-/// what is asked of it, and in a second line the line of the file in which it stands.
+/// Writes the first mistake of a machine file that is refused with this fault: the key, its
+/// requirement, and in a second line the line of the file that has the key.
 ///
-/// Nothing is written where memory for the file's tree is refused. After a fault (902) a beginning
+/// If the memory for the file's tree is refused, nothing is written. After a fault (902) a prefix
 /// of the text is written, and the sink has counted the failure.
 pub fn write_machine_mistake<W: Sink>(
     alloc: Global,
@@ -51,7 +51,7 @@ pub fn write_machine_mistake<W: Sink>(
     ensures fault { OnErr result
         (AppendsBeginning (W.written sink.old) (W.written sink.new)
         (machine_mistake_text bytes.now fault)) }
-    // A file of white space and comments alone takes no memory.
+    // A file with only white space and comments takes no memory.
     ensures blank { IsBlank bytes.now →
         OnOk result (Appends (W.written sink.old) (W.written sink.new)
         (machine_mistake_text bytes.now fault)) }

@@ -39,7 +39,8 @@ fn unknown(section: Section, tree: &Value) -> Option<Word>
     }
 }
 
-/// The first mistake of a table: a key that is unknown goes before a rule that isn't met.
+/// Returns the first mistake of a table. An unknown key takes precedence over a rule that isn't
+/// met.
 fn table_mistake(fault: FileFault, section: Section, tree: &Value) -> Option<Mistake>
     ensures { result ≡ table_mistake fault section (view tree.now) }
 {
@@ -52,7 +53,7 @@ fn table_mistake(fault: FileFault, section: Section, tree: &Value) -> Option<Mis
     }
 }
 
-/// The values of the array under a key, none where it is missing.
+/// Returns the values of the array under a key, or none if it is missing.
 fn values_at<'t>(tree: &'t Value, key: &str) -> &'t [Value]
     ensures { items_view result.now ≡ items_at key.now (view tree.now) }
 {
@@ -95,7 +96,7 @@ fn first_fixture(tree: &Value) -> Section
     }
 }
 
-/// The first mistake of a machine file that is a document.
+/// Returns the first mistake of a machine file that is a document.
 pub(crate) fn machine_mistake_in(fault: FileFault, tree: &Value) -> Mistake
     ensures { result ≡ machine_mistake_in fault (view tree.now) }
 {
@@ -158,7 +159,7 @@ fn tool_mistake(fault: FileFault, section: Section, values: &[Value]) -> Option<
     }
 }
 
-/// The first mistake of a tool table that is a document.
+/// Returns the first mistake of a tool table that is a document.
 pub(crate) fn tools_mistake_in(fault: FileFault, tree: &Value) -> Mistake
     ensures { result ≡ tools_mistake_in fault (view tree.now) }
 {

@@ -1,4 +1,4 @@
-//! The line of a file in which a key stands.
+//! The line of a file that has a key.
 ghost use Rattle.std.specs.Prelude.{◌≡◌, ◌+◌, ◌≤◌, ◌++◌, length};
 ghost use Rattle.ngc_text.specs.Collected.{CHUNK_SIZE};
 ghost use Rattle.ngc_setup_sheet.specs.Quoted.{line_of, behind_line, lines_of, unindented};
@@ -8,7 +8,7 @@ ghost use Rattle.ngc_setup_sheet.specs.Quoted.{header_text, headers, quote_of};
 use crate::mistake::Section;
 use ngc_text::Chunk;
 
-/// The first line, and what comes behind it.
+/// Returns the first line and the bytes after it.
 fn split_line(bytes: &[u8]) -> (&[u8], &[u8])
     ensures line { result.0.now ≡ line_of bytes.now }
     ensures behind { result.1.now ≡ behind_line bytes.now }
@@ -54,13 +54,13 @@ fn gives(key: &[u8], line: &[u8]) -> bool
     line.starts_with(key) && ends_key(&line[key.len()..])
 }
 
-/// What a line is to the search for a key.
+/// The meaning of a line for the search for a key.
 #[derive(Clone, Copy)]
 pub enum Seek {
     Found,
     /// The table ends here.
     Ended,
-    /// So many headers still come before the table.
+    /// This number of headers still comes before the table.
     Ahead(u128),
 }
 

@@ -10,8 +10,8 @@ use ngc_fixed_length::{Nm, Point3};
 use ngc_machine_files::{Fixture, Machine, Part, Parts, Tool};
 use std::alloc::Allocator;
 
-/// How far the bodies of tools go from the controlled point, in nanometres: to each side, down, and
-/// up.
+/// The extent of the bodies of tools from the controlled point, in nanometres: to each side, down,
+/// and up.
 #[derive(Clone, Copy)]
 pub(crate) struct Reach {
     pub radius: i64,
@@ -37,7 +37,7 @@ fn greater(a: i64, b: i64) -> i64
     a.max(b)
 }
 
-/// Where a part ends that stands on this height.
+/// Returns the height where a part ends that begins at the height `foot`.
 pub(crate) fn end_of(foot: i64, part: &Part) -> i64
     requires { unsigned_abs foot ≤ 1000000000000 }
     ensures value { result ≡ foot +ℤ part.now.length }
@@ -46,7 +46,7 @@ pub(crate) fn end_of(foot: i64, part: &Part) -> i64
     foot + part.length.nanometres()
 }
 
-/// Where parts end of which the lowest stands on this height.
+/// Returns the height where the stack of parts ends, whose lowest begins at the height `foot`.
 pub(crate) fn top_of(foot: Nm, parts: &Parts) -> i64
     ensures value { result ≡ top_of foot parts.now }
     ensures bound { unsigned_abs result ≤ 500000000000 }
@@ -83,7 +83,7 @@ impl Reach {
         }
     }
 
-    /// Of all of these tools, and of the controlled point itself.
+    /// Returns the reach of all of these tools and of the controlled point itself.
     pub(crate) fn of(tools: &[Tool]) -> Reach
         ensures value { result ≡ reach_of tools.now }
         ensures bound { IsReach result }
@@ -146,7 +146,7 @@ fn is_above_or_below(low: Nm, high: Nm, reach: &Reach, other_low: Nm, other_high
     )
 }
 
-/// Whether a fixture lies where no tool comes, wherever within the travel the machine stands.
+/// Returns whether a fixture lies where no tool comes, at any position within the travel.
 pub(crate) fn is_out_of_reach<A: Allocator>(
     machine: &Machine<A>,
     reach: &Reach,
@@ -180,8 +180,7 @@ fn is_outside_in_height(low: Nm, high: Nm, reach: &Reach, place: Nm) -> bool
     is_outside(raised(low, reach.bottom), high, place)
 }
 
-/// Returns whether no tool's tip can be brought to a point, wherever within the travel the machine
-/// stands.
+/// Returns whether no tool's tip reaches a point, at any position within the travel.
 pub(crate) fn is_outside_travel<A: Allocator>(
     machine: &Machine<A>,
     reach: &Reach,

@@ -75,12 +75,12 @@ fn write_all<A: Allocator, W: Sink>(
     write_tools(chunk, tools, sink)
 }
 
-/// Writes the setup sheet of a machine and of its tools, in millimetres, with a warning below what
-/// looks wrong.
+/// Writes the setup sheet of a machine and of its tools, in millimetres, with a warning below each
+/// line that looks wrong.
 ///
-/// Fixtures and origins count as out of reach by these tools, or without any by the controlled
-/// point. It takes no memory. After a fault (902) a beginning of the text is written, and the sink
-/// has counted the failure.
+/// Fixtures and origins count as out of reach by these tools, or by the controlled point if there
+/// are none. The function allocates no memory. After a fault (902) a prefix of the text is written,
+/// and the sink has counted the failure.
 pub fn write_sheet<A: Allocator, W: Sink>(
     machine: &Machine<A>,
     tools: &[Tool],

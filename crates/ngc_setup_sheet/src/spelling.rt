@@ -1,4 +1,4 @@
-//! How lines are spelled.
+//! How lines are written.
 ghost use Rattle.std.specs.Prelude.{◌≡◌, ◌+◌, ◌≤◌, ◌++◌, codes, decimal, length};
 ghost use Rattle.ngc_text.specs.Collected.{CHUNK_SIZE, HasLineRoom};
 ghost use Rattle.ngc_text.specs.Millimetres.{mm_text};
@@ -128,7 +128,7 @@ fn add_part(chunk: &mut Chunk, heights: &Span, diameter: i64)
     chunk.add_millimetres(i128::from(diameter));
 }
 
-/// Adds a number behind which a unit stands.
+/// Adds a number with its unit after it.
 fn add_rounded(chunk: &mut Chunk, number: u128, unit: &[u8])
     requires room { length chunk.old + 60 ≤ CHUNK_SIZE }
     requires unit { length unit.now ≤ 10 }
@@ -231,7 +231,7 @@ fn add_warning(chunk: &mut Chunk, warning: &Warning)
     }
 }
 
-/// Adds a line that tells a fact.
+/// Adds a line with a fact.
 fn add_fact(chunk: &mut Chunk, told: &Fact, figure: &Figure)
     requires { HasLineRoom chunk.old }
     ensures { chunk.new ≡ chunk.old
@@ -270,7 +270,7 @@ fn add_warning_remark(chunk: &mut Chunk, warning: &Warning)
     chunk.add_text(b"\n");
 }
 
-/// Adds a name after a number, where there is one.
+/// Adds a name after a number, if there is one.
 fn add_bracketed(chunk: &mut Chunk, name: &Name)
     requires { length chunk.old + 60 ≤ CHUNK_SIZE }
     ensures text { chunk.new ≡ chunk.old ++ bracketed name.now }
@@ -284,7 +284,7 @@ fn add_bracketed(chunk: &mut Chunk, name: &Name)
     }
 }
 
-/// Adds the line above what is told of a fixture or a tool.
+/// Adds the heading of a fixture or a tool.
 fn add_heading<I: Integer>(chunk: &mut Chunk, kind: &[u8], number: I, name: &Name)
     requires room { HasLineRoom chunk.old }
     requires kind { length kind.now ≤ 20 }

@@ -1,4 +1,4 @@
-//! The warnings of a sheet alone.
+//! The warnings of a sheet on their own.
 ghost use Rattle.std.specs.Prelude.{◌≡◌, ◌++◌, flat_map, OnOk, OnErr};
 ghost use Rattle.std.specs.Io.KnownBytes.{Appends};
 ghost use Rattle.ngc_text.specs.Failures.{CountsFailure};
@@ -83,11 +83,11 @@ fn warn_of_all<A: Allocator, W: Sink>(
     warn_of_tools(chunk, style, tools, sink)
 }
 
-/// Writes the warnings of a machine and of its tools, those of the setup sheet alone and in its
-/// order, each a line that begins with `warning: `; nothing where nothing looks wrong.
+/// Writes only the warnings of the setup sheet of a machine and its tools, in the sheet's order.
+/// Each is a line that begins with `warning: `. If nothing looks wrong, nothing is written.
 ///
-/// It takes no memory. After a fault (902) a beginning of the text is written, and the sink has
-/// counted the failure.
+/// The function allocates no memory. After a fault (902) a prefix of the text is written, and the
+/// sink has counted the failure.
 pub fn write_warnings<A: Allocator, W: Sink>(
     machine: &Machine<A>,
     tools: &[Tool],
@@ -109,11 +109,11 @@ pub fn write_warnings<A: Allocator, W: Sink>(
 }
 
 /// Writes the warnings that `write_warnings` writes, in its order, each as an object of a JSON
-/// document behind a comma and a line feed; nothing where nothing looks wrong.
+/// document after a comma and a line feed. If nothing looks wrong, nothing is written.
 ///
-/// An object has the member `fact`, which is `warning`, and then `text`, the warning's words. So
-/// the objects continue an array in which something stands. It takes no memory. After a fault (902)
-/// a beginning of the text is written, and the sink has counted the failure.
+/// An object has the member `fact`, which is `warning`, and then `text`, the warning's words. The
+/// objects continue an array that isn't empty. The function allocates no memory. After a fault
+/// (902) a prefix of the text is written, and the sink has counted the failure.
 pub fn write_warning_facts<A: Allocator, W: Sink>(
     machine: &Machine<A>,
     tools: &[Tool],
@@ -135,11 +135,11 @@ pub fn write_warning_facts<A: Allocator, W: Sink>(
 }
 
 /// Writes the warnings that `write_warnings` writes, in its order, each as a comment of a TOML
-/// document on a line of its own, which begins with `# Warning: `; nothing where nothing looks
-/// wrong.
+/// document on its own line, which begins with `# Warning: `. If nothing looks wrong, nothing is
+/// written.
 ///
-/// It takes no memory. After a fault (902) a beginning of the text is written, and the sink has
-/// counted the failure.
+/// The function allocates no memory. After a fault (902) a prefix of the text is written, and the
+/// sink has counted the failure.
 pub fn write_warning_remarks<A: Allocator, W: Sink>(
     machine: &Machine<A>,
     tools: &[Tool],

@@ -25,14 +25,14 @@ pub(crate) fn is_odd_acceleration<A: Allocator>(machine: &Machine<A>) -> bool
     greatest < 1_000_000_000_000 || 20_000_000_000_000_000 < greatest
 }
 
-/// Returns whether arcs pull towards their centres by less than 1 mm/s^2 at most.
+/// Returns whether the acceleration towards the centres of arcs is less than 1 mm/s^2 at most.
 pub(crate) fn is_slow_on_arcs<A: Allocator>(machine: &Machine<A>) -> bool
     ensures { result ≡ is_slow_on_arcs (file_of machine.now) }
 {
     pull(machine) < 1_000_000_000_000_000_000
 }
 
-/// Whether two coordinates are less than so many nanometres apart.
+/// Returns whether two coordinates are less than `least` nanometres apart.
 pub(crate) fn is_shorter(least: i64, low: Nm, high: Nm) -> bool
     ensures { result ≡ is_shorter least low high }
 {

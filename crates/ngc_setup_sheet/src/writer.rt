@@ -11,7 +11,7 @@ use crate::line::Line;
 use crate::spelling::add_line;
 use ngc_text::{Chunk, Sink, WriteFault};
 
-/// How warnings are told.
+/// The style of warnings.
 #[derive(Clone, Copy)]
 pub(crate) enum Style {
     /// As lines of the sheet.
@@ -35,7 +35,7 @@ fn write_line<W: Sink>(chunk: &mut Chunk, line: &Line, sink: &mut W) -> Result<(
     Ok(())
 }
 
-/// Writes lines, one after another.
+/// Writes lines in order.
 pub(crate) fn write_lines<W: Sink>(
     chunk: &mut Chunk,
     lines: &[Line],
@@ -123,7 +123,7 @@ fn write_if_warning<W: Sink>(
     }
 }
 
-/// Writes those lines that are warnings, one after another, in a style.
+/// Writes the warnings among the lines in order, in a style.
 pub(crate) fn write_warning_lines<W: Sink>(
     chunk: &mut Chunk,
     style: Style,
