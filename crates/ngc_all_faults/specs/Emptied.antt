@@ -6,7 +6,7 @@ use Rattle.std.specs.Prelude.{ℕ, ◌-◌, ◌==◌, List, [], ◌∷◌, Bool,
 abbrev pub left_after : ℕ → ℕ → ℕ
 left_after left b = if b == 10 then left - 1 else left
 
--- line feeds stay, and so does each byte of other lines
+-- whether a byte stays: line feeds do, and so does each byte of other lines
 abbrev pub kept : ℕ → ℕ → Bool
 kept left b = b == 10 || not (left == 1)
 

@@ -65,8 +65,8 @@ IsFirst setup block_delete bytes (Some f) = HasFirst setup block_delete bytes f
 abbrev pub after : TextFault → List ℕ → Option (List ℕ)
 after f bytes = option_map (λ n. emptied n bytes) (line_of f)
 
--- The faults of a text, at most `most`: the first, and then those of the text after it. None is
--- missing: they end if the text has no fault, or after `most` faults.
+-- The faults of a text, at most `most`: the first, and then those of the text with its line
+-- emptied. None is missing: they end if the text has no fault, or after `most` faults.
 abbrev pub AreFaults : Setup → Bool → ℕ → Option (List ℕ) → List TextFault → Type 0
 AreFaults setup block_delete most None [] = Unit {0}
 AreFaults setup block_delete most None (f ∷ fs) = ⊥

@@ -15,7 +15,7 @@ use thiserror::Error;
 /// The greatest number of faults that the search returns.
 pub const MOST_FAULTS: usize = 100;
 
-/// There is no memory for the program or for the faults.
+/// Too little memory for the program or for the faults.
 #[derive(Clone, Copy, Debug, Error)]
 #[error("out of memory")]
 pub struct OutOfMemory;

@@ -1,4 +1,4 @@
--- What is found over lines, one line further.
+-- The mistakes over lines, one line further.
 use Rattle.std.proofs.Common.{◌≡◌, ℕ, zero, suc, ◌+◌, List, [], ◌∷◌, ◌++◌, length, drop, Option, Some, None, Bool, ap, sym, ◌∙◌, refl, arith}
 use Rattle.std.specs.List.{slice_get}
 use Rattle.std.specs.Option.{option_map}
@@ -12,7 +12,7 @@ use Rattle.ngc_word_warnings.specs.declared.slip.Kind.{Kind}
 use Rattle.ngc_word_warnings.specs.declared.slip.Slip.{Slip}
 use Rattle.ngc_word_warnings.specs.declared.slip.Slips.{Slips}
 
--- what is known of the line at index i
+-- the facts about the line at index `i`
 pub record At (lines : List Line) (i number : ℕ) (bytes : List ℕ) : Type 0 where
   pub line : Line
   pub is : slice_get lines i ≡ Some line
@@ -27,7 +27,7 @@ at lines i number bytes told said = by (slice_get lines i) refl told said where
   by None is told said = cc
   by (Some l) is told said = record { line = l; is = is; number_is = cc told; bytes_are = cc said }
 
--- the line is the first of those that are left
+-- the line is the first of the remaining ones
 from_here : (lines : List Line) (i : ℕ) (l : Line) → slice_get lines i ≡ Some l → drop i lines ≡ l ∷ drop (suc i) lines
 from_here [] i l is = cc is
 from_here (x ∷ xs) zero l is = let same : x ≡ l = cc is in ap (λ (y : Line). y ∷ xs) same
@@ -38,7 +38,7 @@ next_here lines i l is =
     let one : suc i ≡ i + 1 = omega arith in
     from_here lines i l is ∙ ap (λ (n : ℕ). l ∷ drop n lines) one
 
--- one is counted, and then those that come after
+-- one is counted, and then the later ones
 one_more : (found : Option Slips) (number : ℕ) (slip : Option Slip) (fs : List Found) →
     with_later (counted found number slip) fs ≡ with_later found (found_in number slip ++ fs)
 one_more None number None fs = refl

@@ -1,2 +1,2 @@
--- What is found over lines, one line further.
+-- The mistakes over lines, one line further.
 pub mod Further

@@ -1,4 +1,4 @@
--- What the words of a program say that passes and is nearly always a mistake. Our own.
+-- Mistakes in the words of a program that passes. Our own.
 use Rattle.std.specs.Prelude.{ℕ, ◌+◌, ◌-◌, ◌*◌, ◌==◌, ◌&&◌, nat_le, ℤ, pos, int_lt, List, [], ◌∷◌}
 use Rattle.std.specs.Prelude.{find, length, slice_get, drop, take_while, Option, Some, None, Result}
 use Rattle.std.specs.Prelude.{Ok, Err, ◌++◌, ◌||◌, Bool, false, true, not, if◌then◌else◌}
@@ -39,8 +39,8 @@ use Rattle.ngc_word_warnings.specs.declared.slip.Slips.{Slips}
 abbrev pub has_letter : Letter → RawWord → Bool
 has_letter letter word = letter_byte word.letter == letter_byte letter
 
--- The number that a line has after a letter, in millionths: none where it has no such word, and
--- where that word's value has brackets or a parameter.
+-- The number after a letter in a line, in millionths. There is none if the line has no such word,
+-- or if that word's value has brackets or a parameter.
 abbrev pub number_after : Letter → Parts → Option ℤ
 number_after letter said =
     option_and_then (written_number said.tokens) (find (has_letter letter) said.words)
@@ -63,7 +63,7 @@ unmounted commands number =
 
 -- ---- the offset of another tool
 
--- an offset's number, in millionths, that is another than the tool's; H0 is no tool's
+-- an offset's number, in millionths, that isn't the tool's; H0 is no tool's
 abbrev pub other_offset : Option Tool → ℤ → Option Slip
 other_offset None offset = None
 other_offset (Some tool) offset =
@@ -98,7 +98,7 @@ count_if true = 1
 abbrev pub has_word : Letter → Parts → Bool
 has_word letter said = list_any (has_letter letter) said.words
 
--- how many of the axis words a line has
+-- the number of axis words in a line
 abbrev pub axis_words : Parts → ℕ
 axis_words said =
     count_if (has_word letters.X said) + count_if (has_word letters.Y said)
@@ -107,7 +107,7 @@ axis_words said =
 abbrev pub goes_home : Parts → Bool
 goes_home said = has_code letters.G (pos 28000000) said || has_code letters.G (pos 30000000) said
 
--- how many of them are written as 0
+-- the number of them that are written as 0
 abbrev pub is_zero : Letter → Parts → Bool
 is_zero letter said = is_number (pos 0) (number_after letter said)
 
@@ -127,8 +127,8 @@ part_home said =
 
 -- ---- no length offset
 
--- whether a length offset is in force after the words of a line: G43 takes one, but with H0, and G49
--- takes none
+-- whether a length offset is in force after the words of a line: G43 applies one, except with H0,
+-- and G49 cancels it
 abbrev pub is_offset_after : Bool → Parts → Bool
 is_offset_after before said =
     if has_code letters.G (pos 43000000) said then not (is_zero letters.H said)
@@ -153,7 +153,7 @@ abbrev pub or_else : Option Slip → Option Slip → Option Slip
 or_else (Some slip) later = Some slip
 or_else None later = later
 
--- the first of these commands on which it does
+-- the first of these commands that feeds down without an offset
 abbrev pub bare_feed : Reached → List Command → Option Slip
 bare_feed r [] = None
 bare_feed r (c ∷ cs) =
@@ -164,7 +164,7 @@ without_offset is_offset r cs = if is_offset then None else bare_feed r cs
 
 -- ---- from line to line
 
--- before the first line
+-- the state before the first line
 abbrev pub beginning : MachineFile → Between
 beginning machine = record { count = 0; reached = at_start machine; is_offset = false }
 
@@ -172,7 +172,7 @@ beginning machine = record { count = 0; reached = at_start machine; is_offset = 
 abbrev pub given : ℕ → List Command → Between → List Command
 given number commands b = take_while (λ c. nat_le c.line number) (drop b.count commands)
 
--- after that line, with these words
+-- the state after that line, with these words
 abbrev pub passed : ℕ → List Command → Parts → Between → Between
 passed number commands said b = record {
   count = b.count + length (given number commands b);
@@ -182,7 +182,7 @@ passed number commands said b = record {
 
 -- ---- a line
 
--- what is wrong with a line that has these words and commands of its own, of a kind
+-- the mistake of this kind in a line with these words and its own commands
 abbrev pub slip_in : Kind → List Command → Between → List Command → Parts → Between → Option Slip
 slip_in kinds.Unmounted commands before own said after_it =
     option_and_then (unmounted commands) (number_after letters.T said)
@@ -197,13 +197,13 @@ abbrev pub last_line : Option Command → ℕ
 last_line None = 0
 last_line (Some c) = c.line
 
--- A line is executed where it doesn't come after that of the last command, and block delete doesn't
--- take it out.
+-- A line is executed if it doesn't come after that of the last command, and block delete doesn't
+-- remove it.
 abbrev pub is_executed : Bool → List Command → ℕ → Bool → Bool
 is_executed deletes commands number deleted =
     nat_le number (last_line (slice_get commands (length commands - 1))) && not (deletes && deleted)
 
--- what is wrong with the line with this number, and what holds after it
+-- the mistake in the line with this number, and the state after it
 abbrev pub step_taken : Kind → List Command → Between → ℕ → Parts → Step
 step_taken kind commands b number said = record {
   slip = slip_in kind commands b (given number commands b) said (passed number commands said b);
@@ -237,7 +237,7 @@ all_found kind deletes commands b (l ∷ ls) =
     found_in l.number (step_of kind deletes commands b l).slip
     ++ all_found kind deletes commands (step_of kind deletes commands b l).between ls
 
--- the first with their number, or none
+-- the first and the number of all, or none
 abbrev pub slips_among : List Found → Option Slips
 slips_among [] = None
 slips_among (f ∷ fs) = Some (record { first = f; count = length (f ∷ fs) })
@@ -246,16 +246,16 @@ abbrev pub slips_of : Kind → Bool → MachineFile → List Command → List Li
 slips_of kind deletes machine commands lines =
     slips_among (all_found kind deletes commands (beginning machine) lines)
 
--- ---- as they are counted
+-- ---- the count of mistakes
 
--- one line more has one
+-- the count with one more line
 abbrev pub counted : Option Slips → ℕ → Option Slip → Option Slips
 counted found number None = found
 counted None number (Some slip) =
     Some (record { first = record { line = number; slip = slip }; count = 1 })
 counted (Some s) number (Some slip) = Some (record s { count = s.count + 1 })
 
--- with those that come after
+-- the count with later mistakes
 abbrev pub with_later : Option Slips → List Found → Option Slips
 with_later None fs = slips_among fs
 with_later (Some s) fs = Some (record s { count = s.count + length fs })

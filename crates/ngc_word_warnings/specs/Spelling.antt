@@ -31,7 +31,7 @@ remark_text (slips.OtherOffset offset tool) = offset_remark offset tool
 remark_text (slips.NoOffset tool) = codes "write G43 H" ++ decimal tool
 remark_text slips.PartHome = codes "X, Y and Z all go home"
 
--- the numbers that it is about, as members of an object
+-- the numbers of the mistake, as members of an object
 unfoldable pub number_facts : Slip → List ℕ
 number_facts (slips.Unmounted tool) = codes ",\"tool\":" ++ length_text tool
 number_facts (slips.OtherOffset offset tool) =
@@ -56,12 +56,12 @@ spelled form None = []
 spelled Words (Some s) = slips_words s
 spelled Json (Some s) = slips_fact s
 
--- the line of a kind, or nothing where the program has no such mistake
+-- the line of a kind, or nothing if the program has no such mistake
 abbrev pub kind_line : Form → Kind → Bool → MachineFile → List Command → List Line → List ℕ
 kind_line form kind deletes machine commands lines =
     spelled form (slips_of kind deletes machine commands lines)
 
--- all of a program at a setting of block delete, with its commands there
+-- the lines of a program at a setting of block delete, with its commands there
 abbrev pub word_warnings : Form → Bool → MachineFile → List Command → List Line → List ℕ
 word_warnings form deletes machine commands lines =
     kind_line form kinds.Unmounted deletes machine commands lines

@@ -1,7 +1,7 @@
-//! What the words of a program say that passes and is nearly always a mistake.
+//! Warnings about words of a program that pass but are nearly always a mistake.
 //!
-//! Each kind is a line of text, or a fact of a JSON document, with the number of the program's
-//! lines that it is about and the first of them:
+//! Each kind is a line of text, or a fact of a JSON document. It has the number of the program's
+//! lines with the mistake, and the first of them:
 //!
 //! ```text
 //! warning: T words of tools that are never mounted: 1, the first in line 5: write M6 T3.

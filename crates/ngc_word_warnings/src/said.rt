@@ -1,4 +1,4 @@
-//! What a line of a program says in words that are written as numbers.
+//! The words of a program's line that are written as numbers.
 ghost use Rattle.std.specs.Prelude.{◌≡◌, find};
 ghost use Rattle.ngc_line_reader.specs.ScanLine.{parts_of};
 ghost use Rattle.ngc_word_warnings.specs.Slips.{axis_words, count_if, has_code, has_letter};
@@ -39,7 +39,7 @@ fn word_with(line: &Line, letter: Letter) -> Option<RawWord>
         .copied()
 }
 
-// Whether the line has a word with a letter.
+// Returns whether the line has a word with a letter.
 fn has_word(line: &Line, letter: Letter) -> bool
     ensures { result ≡ has_word letter (parts_of line.now) }
 {
@@ -49,7 +49,7 @@ fn has_word(line: &Line, letter: Letter) -> bool
         .any(|word| has_letter(letter, word))
 }
 
-/// Whether the line has a word that is written as this letter and number, in millionths.
+/// Returns whether the line has a word that is written as this letter and number, in millionths.
 pub(crate) fn has_code(line: &Line, letter: Letter, number: i64) -> bool
     ensures { result ≡ has_code letter number (parts_of line.now) }
 {
@@ -66,7 +66,7 @@ fn count_if(is_so: bool) -> u8
     if is_so { 1 } else { 0 }
 }
 
-/// How many of the words X, Y and Z the line has.
+/// Returns the number of the words X, Y and Z in the line.
 pub(crate) fn axis_words(line: &Line) -> u8
     ensures { result ≡ axis_words (parts_of line.now) }
 {
@@ -75,14 +75,14 @@ pub(crate) fn axis_words(line: &Line) -> u8
         + count_if(has_word(line, Letter::Z))
 }
 
-/// Whether the line has a word with this letter that is written as 0.
+/// Returns whether the line has a word with this letter that is written as 0.
 pub(crate) fn is_zero(line: &Line, letter: Letter) -> bool
     ensures { result ≡ is_zero letter (parts_of line.now) }
 {
     is_number(0, number_after(line, letter))
 }
 
-/// How many of the words X, Y and Z the line has that are written as 0.
+/// Returns the number of the words X, Y and Z in the line that are written as 0.
 pub(crate) fn zero_words(line: &Line) -> u8
     ensures { result ≡ zero_words (parts_of line.now) }
 {
@@ -91,7 +91,7 @@ pub(crate) fn zero_words(line: &Line) -> u8
         + count_if(is_zero(line, Letter::Z))
 }
 
-/// The number that the line has after a letter, in millionths, or `None` where no such word is
+/// Returns the number after a letter in the line, in millionths, or `None` if no such word is
 /// written as a number.
 pub(crate) fn number_after(line: &Line, letter: Letter) -> Option<i64>
     ensures { result ≡ number_after letter (parts_of line.now) }

@@ -3,7 +3,7 @@
 pub enum Kind {
     /// A T word with the number of a tool that no command of the program mounts.
     Unmounted,
-    /// G43 with the H of another tool than the one that is mounted then; H0 is no tool's.
+    /// G43 with the H of a tool that isn't the mounted one; H0 is no tool's.
     OtherOffset,
     /// A feed downwards with a tool whose offset in the tool table isn't 0, while no length offset
     /// is in force: before any G43, after G49, or after G43 H0.
@@ -13,12 +13,12 @@ pub enum Kind {
     PartHome,
 }
 
-/// A mistake in the words of a line, with the numbers that it is about.
+/// A mistake in the words of a line, with its numbers.
 #[derive(Clone, Copy)]
 pub enum Slip {
     /// The number of the T word, in millionths, of a tool that no command mounts.
     Unmounted { tool: i64 },
-    /// The number of the H word, in millionths, and that of the tool that is mounted.
+    /// The number of the H word, in millionths, and that of the mounted tool.
     OtherOffset { offset: i64, tool: u32 },
     /// The number of the tool that feeds downwards.
     NoOffset { tool: u32 },
@@ -38,6 +38,6 @@ pub struct Found {
 #[derive(Clone, Copy)]
 pub struct Slips {
     pub first: Found,
-    /// How many lines have one, at least 1.
+    /// The number of lines with a mistake, at least 1.
     pub count: usize,
 }

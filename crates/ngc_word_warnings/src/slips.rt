@@ -22,7 +22,7 @@ use ngc_line_reader::{Letter, Line, Program, read_line};
 use ngc_machine_files::{Machine, Tool};
 use std::alloc::Allocator;
 
-// Whether an action mounts the tool of this number, in millionths.
+// Returns whether an action mounts the tool of this number, in millionths.
 fn mounts_tool(number: i64, action: &Action) -> bool
     ensures { result ≡ mounts_tool number action.now }
 {
@@ -165,7 +165,7 @@ fn without_offset(is_offset: bool, reached: Reached, commands: &[Command]) -> Op
     }
 }
 
-/// The commands of the lines up to this one.
+/// Returns the commands of the lines up to this one.
 fn up_to(number: u32, commands: &[Command]) -> &[Command]
     ensures value { result.now ≡ take_while (λ c. nat_le c.line number) commands.now }
     ensures few { length result.now ≤ length commands.now }
@@ -189,7 +189,7 @@ impl Between {
         }
     }
 
-    // The commands of the line with this number.
+    // Returns the commands of the line with this number.
     fn given<'a>(&self, number: u32, commands: &'a [Command]) -> &'a [Command]
         requires { self.now.count ≤ length commands.now }
         ensures value { result.now ≡ given number commands.now self.now }
@@ -198,7 +198,7 @@ impl Between {
         up_to(number, &commands[self.count..])
     }
 
-    // What holds after a line with these commands.
+    // Returns the state after a line with these commands.
     fn after_line(&self, line: &Line, given: &[Command]) -> Between
         requires { self.now.count + length given.now ≤ usize.MAX }
         ensures { result ≡ record {
@@ -321,9 +321,9 @@ fn counted(found: Option<Slips>, line: u32, slip: Option<Slip>) -> Option<Slips>
     }
 }
 
-/// The mistakes of a kind in the lines of a program that are executed on a machine, whether block
-/// delete takes out lines or not, where these are the program's commands; or `None` where no line
-/// has one. It takes time in proportion to the lines and the commands.
+/// Returns the mistakes of a kind in the lines of a program that are executed on a machine, or
+/// `None` if no line has one. `commands` are the program's commands at the same setting of block
+/// delete. The time is in proportion to the lines and the commands.
 pub fn slips_of<A: Allocator, B: Allocator>(
     kind: Kind,
     deletes: bool,

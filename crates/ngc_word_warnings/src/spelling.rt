@@ -1,4 +1,4 @@
-//! How mistakes in words are written, in words or as facts of a JSON document.
+//! How mistakes are written, in words or as facts of a JSON document.
 ghost use Rattle.std.specs.Prelude.{◌≡◌, ◌+◌, ◌≤◌, ◌++◌, length};
 ghost use Rattle.ngc_text.specs.Collected.{CHUNK_SIZE};
 ghost use Rattle.ngc_word_warnings.specs.Spelling.{kind_text, offset_remark, remark_text, number_facts};
@@ -109,7 +109,7 @@ fn add_fact(chunk: &mut Chunk, slips: &Slips)
     chunk.add_text(b"}");
 }
 
-/// Adds the line of what is found, and nothing where that is nothing.
+/// Adds the line of the mistakes that were found, or nothing if there are none.
 #[tactic(auto, unfolding(crate::specs::Spelling::spelled))]
 pub(crate) fn add_slips(chunk: &mut Chunk, form: Form, found: &Option<Slips>)
     requires { length chunk.old + 400 ≤ CHUNK_SIZE }

@@ -87,18 +87,19 @@ fn warnings_of<A: Allocator, B: Allocator>(
     chunk
 }
 
-/// Writes what the words of a program say that is nearly always a mistake, where block delete
-/// takes out lines or not, and these are the program's commands on the machine there. The kinds
-/// are T words of tools that are never mounted, G43 with the H of another tool than the mounted
-/// one, feeds downwards without a length offset with a tool whose offset in the tool table isn't
-/// 0, and G28 or G30 with one or two axis words, each 0, where other controls move only these axes
-/// home. Each kind that occurs has a line with the number of the program's lines that have it, and
-/// the first of them, from 1, with its numbers; of a program without any nothing is written. Words
-/// whose values have brackets or parameters are not looked at, nor lines after that of the last
+/// Writes the warnings about the words of a program on a machine, at a setting of block delete.
+/// `commands` are the program's commands there.
+///
+/// The kinds are T words of tools that are never mounted, G43 with the H of a tool that isn't the
+/// mounted one, feeds downwards without a length offset with a tool whose offset in the tool table
+/// isn't 0, and G28 or G30 with one or two axis words, each 0, where other controls move only these
+/// axes home. Each kind that occurs has a line with the number of the program's lines that have it,
+/// and the first of them, from 1, with its numbers. A program without mistakes has no line. Words
+/// whose values have brackets or parameters are ignored, and so are lines after that of the last
 /// command.
 ///
-/// It takes no memory. After a fault (902, and only where the sink failed) a prefix of the text is
-/// written.
+/// The function allocates no memory. After a fault (902, only if the sink failed) a prefix of the
+/// text is written.
 pub fn write_word_warnings<A: Allocator, B: Allocator, W: Sink>(
     form: Form,
     deletes: bool,

@@ -1,4 +1,4 @@
--- What is found so far, with what the rest of the lines has, is what all lines have.
+-- The mistakes found so far, with those of the remaining lines, are those of all lines.
 use Rattle.std.proofs.Common.{◌≡◌, ◌≤◌, drop, length}
 use Rattle.ngc_machine_files.specs.Machine.{file_of}
 use Rattle.ngc_line_reader.specs.ProgramView.{text_in}
