@@ -70,7 +70,7 @@ coolant_text coolants.Mist = codes "mist"
 coolant_text coolants.Flood = codes "flood"
 coolant_text coolants.Both = codes "both"
 
--- no tool is 0
+-- the tool's number, or 0 without a tool
 abbrev pub number_of_tool : Option Tool → ℕ
 number_of_tool None = 0
 number_of_tool (Some tool) = tool.number
@@ -85,7 +85,7 @@ way_text (Line start end) paces.Rapid = codes " traverse "
 way_text (Line start end) (paces.Feed feed) = codes " feed "
 way_text (Arc arc) pace = codes " arc " ++ arc_text arc ++ codes " to "
 
--- and after it
+-- the text after the end of a motion
 abbrev pub pace_text : Pace → List ℕ
 pace_text paces.Rapid = []
 pace_text (paces.Feed feed) = feed_text feed

@@ -141,7 +141,7 @@ fn add_way(chunk: &mut Chunk, way: &Way, pace: &Pace)
     }
 }
 
-// Adds the text after it.
+// Adds the text after the end of a motion.
 fn add_pace(chunk: &mut Chunk, pace: &Pace)
     requires { length chunk.old + 50 ≤ CHUNK_SIZE }
     ensures text { chunk.new ≡ chunk.old ++ pace_text pace.now }

@@ -53,7 +53,7 @@ ticks_text_is d (Some q ∷ ticks) =
     ap (λ l. tick_text d (Some q) ++ l) (ticks_text_is next ticks ∙ ap (λ n. dumped d.ticks_per_second next.stamped (changes n next.directions rest)) more)
     ∙ sym (dumped-append d.ticks_per_second d.stamped (tick_changes d.ticks steps) (changes (suc d.ticks) (directions_after steps) rest))
 
--- ---- one list of ticks after another
+-- ---- two lists of ticks in order
 
 pub ticks_text-append : (d : DumpState) (ts us : List (Option StepPos)) → ticks_text d (ts ++ us) ≡ ticks_text d ts ++ ticks_text (after_ticks d ts) us
 ticks_text-append d [] us = refl

@@ -29,7 +29,7 @@ change_begun s t x z a changes wrote =
     subst P (append_assoc a (rest_bytes s) (changed_bytes s t) ∙ ap (λ l. a ++ l) (sym (changes_something s t changes)))
     (begun_more x z (a ++ rest_bytes s) (changed_bytes s t) wrote)
 
--- ---- one list of ticks after another
+-- ---- two lists of ticks in order
 
 pub samples_text-append : (s : SampleState) (ts us : List SampleTick) →
     samples_text s (ts ++ us) ≡ samples_text s ts ++ samples_text (after_samples s ts) us

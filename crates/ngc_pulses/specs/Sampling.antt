@@ -15,7 +15,7 @@ pub record SampleTick : Type 0 where
   pub position : Option StepPos
   pub switch : Switch
 
--- it changes no wire
+-- the switch changes no wire
 abbrev pub stays : Switch → Bool
 stays Nothing = true
 stays (Spindle on) = false

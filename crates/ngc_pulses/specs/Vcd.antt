@@ -26,8 +26,8 @@ pub record Change : Type 0 where
   pub wire : Wire
   pub high : Bool
 
--- the step of an axis with this movement in a tick: the direction turns if it is not already the
--- same
+-- the step of an axis with this movement in a tick: the direction changes if it isn't the same
+-- already
 abbrev pub axis_step : Bool → ℤ → AxisStep
 axis_step up (pos zero) = record { steps = false; turns = false; up = up }
 axis_step up (pos (suc n)) = record { steps = true; turns = not up; up = true }
@@ -40,7 +40,7 @@ steps_of d pulse =
 abbrev pub directions_after : Steps → Directions
 directions_after s = record { x = s.x.up; y = s.y.up; z = s.z.up }
 
--- the direction, 1 for up, if it turns
+-- the direction, 1 for up, if it changes
 abbrev pub turn : ℕ → Wire → AxisStep → List Change
 turn half wire s = if s.turns then record { half = half; wire = wire; high = s.up } ∷ [] else []
 
