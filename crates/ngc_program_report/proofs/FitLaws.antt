@@ -1,4 +1,4 @@
--- The text of what was accepted, by the machine, the tools and the commands that are passed.
+-- The text of an accepted program, from its machine, tools and commands.
 use Rattle.std.proofs.Common.{◌≡◌, List, ◌++◌, Bool, ap₂}
 use Rattle.ngc_commands.specs.declared.command.Command.{Command}
 use Rattle.ngc_certificate_text.specs.Certificate.{Entry}

@@ -1,4 +1,4 @@
--- Where a certificate is valid, each box of each piece lies within the travel.
+-- If a certificate is valid, each box of each piece lies within the travel.
 use Rattle.std.proofs.Common.{◌≡◌, ℕ, ◌+◌, List, [], ◌∷◌, Option, None}
 use Rattle.std.specs.Prelude.{Bool, IsTrue, map}
 use Rattle.std.specs.List.{All}

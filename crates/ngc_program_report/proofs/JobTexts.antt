@@ -1,4 +1,4 @@
--- The texts of a job, from those of what was accepted of it.
+-- The texts of a job, from those of the accepted program.
 use Rattle.std.proofs.Common.{◌≡◌, ℕ, List, Option, Some, None, Bool, false, ap, ap₂, refl, subst, sym, ◌∙◌}
 use Rattle.std.specs.Prelude.{is_some, slice_get, true}
 use Rattle.ngc_canonical.specs.Meaning.{with_readings}
@@ -26,19 +26,19 @@ use Rattle.ngc_program_report.specs.JobReports.{IsFitText, IsFrameAt, IsRefusals
 use Rattle.ngc_program_report.specs.Texts.{LastsFor, accepted_text, fits_text, is_on, refusal_text, refusals_text}
 use Rattle.ngc_program_report.specs.Times.{ProgramTimeData}
 
--- what was accepted of a job is told as the job is
+-- the report of the accepted program is the report of the job
 pub accepted_as : (j : JobData) (c : CertificateData) (form : Form) (apart : Bool) (off_time on_time : ProgramTimeData) (lines : List Line) → apart ≡ is_some j.on
     → accepted_text form apart (accepted_of j) c off_time on_time lines
     ≡ fits_text form (is_some j.on) (setup_in j) j.off (commands_in true j) c off_time on_time lines
 accepted_as j c form apart off_time on_time lines is =
     ap (λ (d : Bool). fits_text form d (setup_in j) j.off (commands_in true j) c off_time on_time lines) is
 
--- where no line begins with `/` both settings have the same commands
+-- if no line begins with `/`, both settings have the same commands
 pub alike : (off : List Command) (on : Option (List Command)) → is_some on ≡ false → on_or off on ≡ off
 alike off None is = refl
 alike off (Some on) is = absurd (cc is)
 
--- so long what was accepted of a job takes, so long does the job
+-- the job takes the same time as the accepted program
 pub lasts_off : (a : AcceptedData) (j : JobData) (time : ProgramTimeData) → a ≡ accepted_of j → LastsFor a.machine (commands_at false a) time
     → LastsFor j.machine j.off time
 lasts_off a j time is lasts = subst (λ (x : AcceptedData). LastsFor x.machine (commands_at false x) time) is lasts
@@ -61,7 +61,7 @@ fit_text j c form apart a off_time on_time lines is_apart is off_lasts on_lasts 
   tells = ap (λ (x : AcceptedData). accepted_text form apart x c off_time on_time lines) is ∙ accepted_as j c form apart off_time on_time lines is_apart;
 }
 
--- ---- what is in the way
+-- ---- obstacles
 
 pub first_as : (j : JobData) (form : Form) (s : Setting) (k : ℕ) (lines : List Line) (frame : FrameInForce) (named : Bool) (m : MachineFile) (b : Bool)
     (cs : List Command) → named ≡ is_some j.on → m ≡ j.machine → b ≡ is_on s → cs ≡ commands_in b j
@@ -71,7 +71,7 @@ first_as j form s k lines frame named m b cs is_named is_machine is_set are =
     ∙ ap (λ (x : MachineFile). refusal_text form (is_some j.on) s x cs k lines frame) is_machine
     ∙ ap (λ (l : List Command). refusal_text form (is_some j.on) s j.machine l k lines frame) (are ∙ ap (λ (x : Bool). commands_in x j) is_set)
 
--- the frame of a command, from what was worked out of it
+-- the frame of a command, from its computed value
 pub frame_as : (j : JobData) (s : Setting) (k : ℕ) (lines : List Line) (m : MachineFile) (tools : List Tool) (b : Bool) (cs : List Command) (n : ℕ)
     (start : Frame) (changes : List FrameChange) (frame : FrameInForce)
     → m ≡ j.machine → tools ≡ j.tools → b ≡ is_on s → cs ≡ commands_in b j → n ≡ line_of (slice_get cs k)
@@ -109,7 +109,7 @@ all_text j cuts s k form named m off on off_ks on_ks is_named is_machine is_off 
       ∙ ap (λ (cs : List Command). refusals_text form (is_some j.on) j.machine j.off cs off_ks on_ks) is_on;
 }
 
--- where both settings have the same commands, what isn't cleared is told once
+-- if both settings have the same commands, the commands that aren't cleared are reported once
 pub are_alike : (j : JobData) (cuts : ℕ) (ks : List ℕ) → is_some j.on ≡ false → AreUncleared j.machine cuts j.off ks
     → AreUncleared j.machine cuts (commands_in true j) ks
 are_alike j cuts ks none are = subst (λ (cs : List Command). AreUncleared j.machine cuts cs ks) (sym (alike j.off j.on none)) are

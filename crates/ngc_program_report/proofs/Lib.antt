@@ -1,16 +1,16 @@
--- What is written in pieces, from what is written of each.
+-- A text that is written in pieces, from the text of each piece.
 pub mod WrittenLaws
--- Texts that are added one after another.
+-- Texts that are added in order.
 pub mod Added
--- Times of uses are written one after another.
+-- Times of uses are written in order.
 pub mod UseTimeLaws
--- The text of what was accepted, by the machine, the tools and the commands that are passed.
+-- The text of an accepted program, from its machine, tools and commands.
 pub mod FitLaws
--- The texts of a job, from those of what was accepted of it.
+-- The texts of a job, from those of the accepted program.
 pub mod JobTexts
--- The fixture that a command meets, where none is met at the start.
+-- The fixture that a command meets, if none is met at the start.
 pub mod MetLaws
--- What it says of the settings that no certificate is made because of a command.
+-- What the refusal of a command by the checker implies for the settings.
 pub mod NotMadeLaws
--- Where a certificate is valid, each box of each piece lies within the travel.
+-- If a certificate is valid, each box of each piece lies within the travel.
 pub mod InsideLaws

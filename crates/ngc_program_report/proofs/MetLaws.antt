@@ -1,4 +1,4 @@
--- The fixture that a command meets, where none is met at the start.
+-- The fixture that a command meets, if none is met at the start.
 use Rattle.std.proofs.Common.{◌≡◌, ℕ, ◌-◌, arith, List, length, take, drop, Option, None, ap, sym, ◌∙◌}
 use Rattle.std.specs.Prelude.{min}
 use Rattle.std.proofs.lemmas.List.{take_all, take_min, drop_min, length-drop}

@@ -1,4 +1,4 @@
--- What it says of the settings that no certificate is made because of a command.
+-- What the refusal of a command by the checker implies for the settings.
 use Rattle.std.proofs.Common.{◌≡◌, ℕ, List, [], Option, Some, None, Result, Ok, Err, Bool, true, false, refl, subst, sym, ◌∙◌}
 use Rattle.std.specs.Prelude.{is_some}
 use Rattle.ngc_machine_files.specs.Machine.{MachineFile}
@@ -52,14 +52,14 @@ module _ (machine : MachineFile) (cuts : ℕ) (off on : List Command) (k : ℕ) 
       let says = subst (λ (o : Option ℕ). Err (NotCleared On k) ≡ from_start o (join_settings made.0 made.1)) start made.4 in
       subst (λ (r : Result (List Entry) ℕ). IsSettingMade machine cuts on r) (joined_on made.0 made.1 k says).1 made.3
 
-  -- and then all are cleared with block delete off
+  -- and then all commands are cleared with block delete off
   pub off_cleared : IsMade machine cuts off on (Err (NotCleared On k)) → AreUncleared machine cuts off []
   off_cleared made =
       let says = subst (λ (o : Option ℕ). Err (NotCleared On k) ≡ from_start o (join_settings made.0 made.1)) start made.4 in
       let ok = (joined_on made.0 made.1 k says).0 in
       made_says machine cuts off (Ok ok.0) (subst (λ (r : Result (List Entry) ℕ). IsSettingMade machine cuts off r) ok.1 made.2)
 
--- where both settings have the same commands, one that is refused at either is refused at both
+-- if both settings have the same commands, a command that is refused at either is refused at both
 pub alike_refused : (j : JobData) (cuts k : ℕ) → IsStartClear j.machine → is_some j.on ≡ false
     → IsMade j.machine cuts j.off (commands_in true j) (Err (NotCleared On k)) → IsSettingMade j.machine cuts j.off (Err k)
 alike_refused j cuts k start none made =
@@ -70,7 +70,7 @@ none_met : (o : Option ℕ) → is_some o ≡ false → o ≡ None
 none_met None is = refl
 none_met (Some fixture) is = absurd (cc is)
 
--- where no fixture is met at the start
+-- if no fixture is met at the start
 pub start_clear : (machine : MachineFile) (met : Bool) → met ≡ is_some (place_fault machine None (grid machine.step machine.start)) → met ≡ false
     → IsStartClear machine
 start_clear machine met is none = none_met (place_fault machine None (grid machine.step machine.start)) (sym is ∙ none)

@@ -1,4 +1,4 @@
--- Times of uses are written one after another.
+-- Times of uses are written in order.
 use Rattle.std.proofs.Common.{◌≡◌, ℕ, ◌*◌, ◌/◌, ◌%◌, List, [], ◌∷◌, ◌++◌, Option, codes, ap, ap₂, refl, subst, sym, ◌∙◌}
 use Rattle.std.specs.Prelude.{decimal}
 use Rattle.std.proofs.KnownBytes.{Appends-nil}
@@ -15,7 +15,7 @@ use Rattle.ngc_program_report.specs.Times.{clock_text, three_digits, tool_value,
 use Rattle.ngc_program_report.specs.declared.run_time.RunTime.{RunTime}
 use Rattle.ngc_program_report.proofs.WrittenLaws.{appends_as, begins_as, begins_first, begins_last}
 
--- a beginning of a text is written, and this is left of it
+-- a prefix of a text is written, and the rest remains
 pub record IsLeft (old now : Option (List ℕ)) (left all : List ℕ) : Type 0 where
   pub front : List ℕ
   pub wrote : Appends old now front
@@ -47,7 +47,7 @@ none_left old now left all is h =
 
 -- ---- a time
 
--- its text says no more of it than these
+-- its text depends only on these numbers
 same_time : (form : Form) (tool : Option Tool) (a b : RunTime) → a.ticks ≡ b.ticks → a.ticks_per_second ≡ b.ticks_per_second →
     use_time form tool a ≡ use_time form tool b
 unfolding use_time

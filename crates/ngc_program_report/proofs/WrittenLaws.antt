@@ -1,4 +1,4 @@
--- What is written in pieces, from what is written of each.
+-- A text that is written in pieces, from the text of each piece.
 use Rattle.std.proofs.Common.{◌≡◌, ℕ, List, ◌++◌, Option, Result, Ok, Err, OnOk, OnErr, IsErrAnd, ap, subst, sym, ◌∙◌}
 use Rattle.std.proofs.lemmas.List.{append_assoc}
 use Rattle.std.specs.Io.KnownBytes.{Appends}
@@ -6,15 +6,15 @@ use Rattle.ngc_text.proofs.Appended.{appends_both}
 use Rattle.ngc_text.specs.Written.{AppendsBeginning}
 use Rattle.ngc_text.specs.declared.writing.WriteFault.{WriteFault}
 
--- a beginning of one text begins more
+-- a prefix of one text is a prefix of a longer one
 pub begins_first : (old new : Option (List ℕ)) (a more : List ℕ) → AppendsBeginning old new a → AppendsBeginning old new (a ++ more)
 begins_first old new a more h = (h.0, h.1 ++ more, ap (λ l. l ++ more) h.2 ∙ append_assoc h.0 h.1 more, h.3)
 
--- one text and then a beginning of another
+-- one text and then a prefix of another
 pub begins_last : (old mid new : Option (List ℕ)) (a b : List ℕ) → Appends old mid a → AppendsBeginning mid new b → AppendsBeginning old new (a ++ b)
 begins_last old mid new a b h k = (a ++ k.0, k.1, ap (λ l. a ++ l) k.2 ∙ sym (append_assoc a k.0 k.1), appends_both old mid new a k.0 h k.3)
 
--- the same of another spelling of a text
+-- the same for an equal text
 pub appends_as : (old new : Option (List ℕ)) (a b : List ℕ) → a ≡ b → Appends old new a → Appends old new b
 appends_as old new a b is h = let P : List ℕ → Type 0 = λ l. Appends old new l in subst P is h
 
@@ -33,7 +33,7 @@ pub err_weaker : (r : Result (Unit {0}) WriteFault) (P Q : Type 0) → (P → Q)
 err_weaker (Ok u) P Q on p = tt
 err_weaker (Err e) P Q on p = on p
 
--- what holds of an error holds of the outcome that it was turned into
+-- what holds for an error holds for the result to which it was converted
 pub turned : {T E : Type 0} (r : Result T E) (e : E) (P : Result T E → Type 0) → IsErrAnd r (λ a. a ≡ e) → P (Err e) → P r
 turned (Ok value) e P is p = absurd is
 turned (Err a) e P is p = subst (λ x. P (Err x)) (sym is) p

@@ -17,7 +17,7 @@ abbrev pub way_of : Action → Option Way
 way_of (Move m) = Some m.way
 way_of _ = None
 
--- the way of the motion that is reported, where a motion is
+-- the path of the reported command, if it is a motion
 abbrev pub told_way : List Command → Option ℕ → Option Way
 told_way commands None = None
 told_way commands (Some k) = option_and_then (λ c. way_of c.action) (slice_get commands k)
@@ -26,7 +26,7 @@ unfoldable pub motion_text : Form → FrameInForce → Point3 → Point3 → Lis
 motion_text Words f from to = motion_words f from to
 motion_text Json f from to = motion_fact f from to
 
--- where it begins and ends by the program
+-- where it begins and ends in the program's coordinates
 unfoldable pub coordinates_text : Form → FrameInForce → Option Way → List ℕ
 coordinates_text form f None = []
 coordinates_text form f (Some way) =

@@ -21,7 +21,7 @@ abbrev pub read_quote : Form → List ℕ → ReadFault → List ℕ
 read_quote form bytes (reads.Line n e) = marked form n e.column (bytes_with n (lines_of bytes))
 read_quote form bytes _ = []
 
--- its line, with a mark below the column or the word that it is about
+-- the line of a fault, with a mark below its column or word
 abbrev pub fault_quote : Form → List ℕ → TextFault → List ℕ
 fault_quote form bytes (Unread e) = read_quote form bytes e
 fault_quote form bytes (Refused n e) = named_quote form n e (bytes_with n (lines_of bytes))
@@ -34,7 +34,8 @@ abbrev pub delete_words : Bool → List ℕ
 delete_words true = codes ", with block delete on"
 delete_words false = []
 
--- its number; whether others come before it, and whether it comes with block delete on alone
+-- The fault's number. The flags say whether others come before it, and whether it occurs only with
+-- block delete on.
 abbrev pub fault_words : ℕ → Bool → Bool → List ℕ
 fault_words number earlier only_on =
     codes "Fault " ++ decimal number ++ earlier_words earlier ++ delete_words only_on ++ codes ".\n"
@@ -64,17 +65,17 @@ same_line None None = true
 same_line (Some m) (Some n) = m == n
 same_line _ _ = false
 
--- of the same line, with the same number
+-- two faults in the same line, with the same number
 abbrev pub is_same : TextFault → TextFault → Bool
 is_same f g = same_line (line_of f) (line_of g) && number_of f == number_of g
 
--- a fault that isn't among others
+-- the text of a fault that isn't in a list
 abbrev pub fault_text : Form → List ℕ → Bool → List TextFault → TextFault → Bool → List ℕ
 fault_text form bytes only_on others f earlier =
     if list_any (is_same f) others then []
     else fault_quote form bytes f ++ fault_line form f earlier only_on
 
--- those that aren't, in order; each but the first comes after earlier ones
+-- the text of those that aren't in a list, in order; each but the first comes after earlier ones
 abbrev pub list_text : Form → List ℕ → Bool → List TextFault → Bool → List TextFault → List ℕ
 list_text form bytes only_on others earlier [] = []
 list_text form bytes only_on others earlier (f ∷ fs) =
@@ -89,7 +90,7 @@ abbrev pub faulty_line : Form → TextFault → List ℕ
 faulty_line form (Unread e) = unread_line form
 faulty_line form (Refused n e) = refused_line form
 
--- The report: the faults with block delete off, then those that come with block delete on alone. It
+-- The report: the faults with block delete off, then those that occur only with block delete on. It
 -- ends with the number of the first fault.
 abbrev pub faults_text : Form → List ℕ → TextFault → List TextFault → List TextFault → List ℕ
 faults_text form bytes first off on =

@@ -1,4 +1,4 @@
--- What the report of a job says. Our own.
+-- The text of the report of a job. Our own.
 use Rattle.std.specs.Prelude.{◌≡◌, ℕ, List, [], Option, Some, None, is_some, Result, Ok, Err, Bool}
 use Rattle.std.specs.Prelude.{true, false, IsTrue, slice_get}
 use Rattle.std.specs.List.{list_all}
@@ -36,7 +36,7 @@ use Rattle.ngc_program_report.specs.Times.{ProgramTimeData}
 abbrev pub setup_in : JobData → Setup
 setup_in j = record { machine = j.machine; tools = j.tools }
 
--- the report of a job for which this certificate is made, of a program with these lines
+-- the report of a job with this certificate, for a program with these lines
 pub record IsFitText (j : JobData) (c : CertificateData) (form : Form) (lines : List Line)
     (text : List ℕ) : Type 0 where
   pub off_time : ProgramTimeData
@@ -46,19 +46,19 @@ pub record IsFitText (j : JobData) (c : CertificateData) (form : Form) (lines : 
   pub tells : text ≡ fits_text form (is_some j.on) (setup_in j) j.off (commands_in true j) c
       off_time on_time lines
 
--- the report of a program with a valid certificate tells of no side on which something is missing
+-- the report of a program with a valid certificate has no negative margin
 abbrev pub ValidStaysInside : Type 0
 ValidStaysInside = (machine : MachineFile) (commands : List Command) (motions : List Entry) →
     IsMachine machine → IsValid machine commands motions →
     IsTrue (list_all is_line_inside (fit_lines machine commands motions))
 
--- no fixture is met at the start, where no tool is mounted
+-- at the start, without a tool, no fixture is met
 abbrev pub IsStartClear : MachineFile → Type 0
 IsStartClear machine = place_fault machine None (grid machine.step machine.start) ≡ None
 
--- Where no certificate is made because of command k at a setting, that command is the first that
--- isn't cleared there; with block delete off all are cleared before one of `On` is refused, unless
--- both settings have the same commands.
+-- If no certificate is made because of command `k` at a setting, that command is the first that
+-- isn't cleared there. If it is refused at `On`, all commands are cleared with block delete off,
+-- unless both settings have the same commands.
 abbrev pub OffBegins : Bool → Setting → ℕ → List ℕ → Type 0
 OffBegins true On k ks = ks ≡ []
 OffBegins apart s k ks = BeginsWith k ks
@@ -67,8 +67,8 @@ abbrev pub OnBegins : Setting → ℕ → List ℕ → Type 0
 OnBegins Off k ks = Unit {0}
 OnBegins On k ks = BeginsWith k ks
 
--- the report of all its commands that aren't cleared, at either setting, where no certificate is
--- made because of command k at a setting
+-- the report of all commands that aren't cleared, at either setting, if no certificate is made
+-- because of command `k` at a setting
 pub record IsRefusalsText (j : JobData) (cuts : ℕ) (s : Setting) (k : ℕ) (form : Form)
     (text : List ℕ) : Type 0 where
   pub off_ks : List ℕ
@@ -80,17 +80,18 @@ pub record IsRefusalsText (j : JobData) (cuts : ℕ) (s : Setting) (k : ℕ) (fo
   pub tells : text ≡ refusals_text form (is_some j.on) j.machine j.off (commands_in true j)
       off_ks on_ks
 
--- the report of command k alone, which isn't cleared at a setting
+-- the report of only command `k`, which isn't cleared at a setting
 abbrev pub first_text : JobData → Form → Setting → ℕ → List Line → FrameInForce → List ℕ
 first_text j form s k lines frame =
     refusal_text form (is_some j.on) s j.machine (commands_in (is_on s) j) k lines frame
 
--- the line that gives command k
+-- the program line of command `k`
 abbrev pub line_of : Option Command → ℕ
 line_of None = 0
 line_of (Some c) = c.line
 
--- by this frame command k is executed at a setting, whatever the readings of the program's lines are
+-- command `k` is executed in this frame at a setting, whatever the readings of the program's lines
+-- are
 abbrev pub IsFrameAt : JobData → Setting → ℕ → List Line → FrameInForce → Type 0
 IsFrameAt j s k lines frame = (rs : List Reading) → AreReadings lines rs →
     frame ≡ frame_in_force (start_frame (setup_in j))
@@ -103,15 +104,15 @@ pub record IsFirstText (j : JobData) (form : Form) (s : Setting) (k : ℕ) (line
   pub executed : IsFrameAt j s k lines frame
   pub tells : text ≡ first_text j form s k lines frame
 
--- the report of one of which command k isn't cleared: of all such commands, or of that one alone
+-- the report of a job whose command `k` isn't cleared: of all such commands, or of only that one
 abbrev pub IsRefusalText : Bool → JobData → ReportRequest → Setting → ℕ → List Line → List ℕ →
     Type 0
 IsRefusalText true j request s k lines text =
     IsRefusalsText j request.cuts s k request.form text
 IsRefusalText false j request s k lines text = IsFirstText j request.form s k lines text
 
--- such a text was written, or a beginning of one where the sink failed; or memory ran out, and
--- nothing was written
+-- this text was written, or a prefix of it if the sink failed; or memory ran out, and nothing was
+-- written
 abbrev pub Tells : (List ℕ → Type 0) → Option (List ℕ) → Option (List ℕ) →
     Result (Unit {0}) ReportFault → Type 0
 Tells IsText old new (Ok u) = (text : List ℕ) × IsText text × Appends old new text
@@ -119,7 +120,7 @@ Tells IsText old new (Err faults.Memory) = Keeps old new
 Tells IsText old new (Err (faults.Write fault)) =
     (text : List ℕ) × IsText text × AppendsBeginning old new text
 
--- the sink's count of failures rose where a write failed, and else it is what it was
+-- the sink's count of failures rose if a write failed, and is unchanged otherwise
 abbrev pub FailsByWriting : Result (Unit {0}) ReportFault → ℕ → ℕ → Type 0
 FailsByWriting (Ok u) old new = new ≡ old
 FailsByWriting (Err faults.Memory) old new = new ≡ old

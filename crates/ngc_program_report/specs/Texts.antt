@@ -33,15 +33,15 @@ use Rattle.ngc_program_report.specs.Coordinates.{coordinates_text, told_way}
 use Rattle.ngc_program_report.specs.Met.{met_at}
 use Rattle.ngc_program_report.specs.Times.{ProgramTimeData, seconds_text, time_text, uses_text}
 
--- ---- how long it takes
+-- ---- the time of a program
 
--- a machine goes through these commands in this time, and through each part of them
+-- a machine runs these commands in this time, and each part of them
 abbrev pub LastsFor : MachineFile → List Command → ProgramTimeData → Type 0
 LastsFor machine commands time =
     IsTimedThrough (job_of machine commands) time.whole.ticks time.parts ×
     (time.whole.ticks_per_second ≡ machine.ticks_per_second)
 
--- the line that tells it
+-- the line with the time
 abbrev pub takes_words : RunTime → List ℕ
 takes_words time =
     codes "It takes " ++ decimal time.ticks ++ codes " ticks, " ++ time_text time ++ codes " at "
@@ -58,7 +58,7 @@ abbrev pub takes_line : Form → RunTime → List ℕ
 takes_line Words time = takes_words time
 takes_line Json time = takes_fact time
 
--- the whole and each use
+-- the time of the whole and of each use
 abbrev pub duration_text : Form → List Command → ProgramTimeData → List ℕ
 duration_text form commands time = takes_line form time.whole ++ uses_text form commands time
 
@@ -71,7 +71,7 @@ setting_line Words On = codes "With block delete on:\n"
 setting_line Json Off = codes ",\n{\"fact\":\"setting\",\"block_delete\":false}"
 setting_line Json On = codes ",\n{\"fact\":\"setting\",\"block_delete\":true}"
 
--- what stands before the first setting of a report, and before the other
+-- the text before the first setting of a report, and before the other
 abbrev pub heading : Form → Bool → Bool → Setting → List ℕ
 heading form first named s =
     (if first then opening form else []) ++ (if named then setting_line form s else [])
@@ -80,13 +80,13 @@ abbrev pub is_on : Setting → Bool
 is_on Off = false
 is_on On = true
 
--- what looks wrong at a setting: of the commands there, and of the words of the program's lines
+-- warnings at a setting: for the commands there, and for the words of the program's lines
 abbrev pub remarks : Form → Setting → MachineFile → List Command → List Line → List ℕ
 remarks form s machine commands lines =
     report_text form (warning_lines machine commands)
     ++ word_warnings form (is_on s) machine commands lines
 
--- what fits at a setting, how long it takes, and what looks wrong there
+-- what fits at a setting, the time there, and the warnings
 abbrev pub setting_text : Form → Bool → Bool → Setting → MachineFile → List Command → List Entry →
     ProgramTimeData → List Line → List ℕ
 setting_text form first named s machine commands motions time lines =
@@ -94,12 +94,13 @@ setting_text form first named s machine commands motions time lines =
     ++ (report_text form (fit_lines machine commands motions)
     ++ (duration_text form commands time ++ remarks form s machine commands lines))
 
--- what looks wrong of the machine and of its tools
+-- the warnings about the machine and its tools
 abbrev pub shop_text : Form → Setup → List ℕ
 shop_text Words setup = warnings_text setup.machine setup.tools
 shop_text Json setup = warning_facts setup.machine setup.tools
 
--- at both settings, or once where they are alike; and the shop
+-- the text for both settings, or once if they have the same commands; and the warnings about
+-- machine and tools
 abbrev pub fits_text : Form → Bool → Setup → List Command → List Command → CertificateData →
     ProgramTimeData → ProgramTimeData → List Line → List ℕ
 fits_text form false setup off on c off_time on_time lines =
@@ -110,27 +111,27 @@ fits_text form true setup off on c off_time on_time lines =
     ++ (setting_text form false true On setup.machine on c.on on_time lines
     ++ (shop_text form setup ++ closing form))
 
--- of what was accepted
+-- the text for an accepted program
 abbrev pub accepted_text : Form → Bool → AcceptedData → CertificateData → ProgramTimeData →
     ProgramTimeData → List Line → List ℕ
 accepted_text form named a c off_time on_time lines = fits_text form named
     (record { machine = a.machine; tools = a.tools }) a.off a.on c off_time on_time lines
 
--- the number of the fault that is answered, which `ngc explain` knows more of
+-- the number of the reported fault, which `ngc explain` explains
 abbrev pub hint : Form → ℕ → List ℕ
 hint Words number = codes "`ngc explain " ++ decimal number ++ codes "` tells more.\n"
 hint Json number = codes ",\n{\"fact\":\"fault\",\"number\":" ++ decimal number ++ codes "}"
 
--- the end of a report of what is refused
+-- the end of a report of a refused program
 abbrev pub ending : Form → ℕ → List ℕ
 ending form number = hint form number ++ closing form
 
--- the command that a refusal is told of, and none where the start point isn't clear
+-- the command that a refusal reports, or none if the start point isn't clear
 abbrev pub told_command : Option ℕ → ℕ → Option ℕ
 told_command None k = Some k
 told_command (Some fixture) k = None
 
--- the line of the program that gives the command which is told
+-- the program line of the reported command
 abbrev pub told_number : List Command → Option ℕ → Option ℕ
 told_number commands None = None
 told_number commands (Some k) = option_map (λ c. c.line) (slice_get commands k)
@@ -139,7 +140,7 @@ abbrev pub quoted_if : Form → Option ℕ → List Line → List ℕ
 quoted_if form None lines = []
 quoted_if form (Some number) lines = quoted form number lines
 
--- what is in the way of a command, its line, and where it goes by the program
+-- the obstacle of a command, its program line, and its coordinates in the program
 abbrev pub cause_text : Form → MachineFile → List Command → Option ℕ → Option ℕ → List Line →
     FrameInForce → List ℕ
 cause_text form machine commands told fixture lines frame =
@@ -147,7 +148,7 @@ cause_text form machine commands told fixture lines frame =
     ++ (quoted_if form (told_number commands told) lines
     ++ (coordinates_text form frame (told_way commands told) ++ ending form 304))
 
--- what is in the way of command k at a setting
+-- the obstacle of command `k` at a setting
 abbrev pub refusal_text : Form → Bool → Setting → MachineFile → List Command → ℕ →
     List Line → FrameInForce → List ℕ
 refusal_text form named s machine commands k lines frame =
@@ -156,7 +157,7 @@ refusal_text form named s machine commands k lines frame =
     (told_command (place_fault machine None (grid machine.step machine.start)) k)
     (met_at machine commands k) lines frame
 
--- all that is in the way at a setting
+-- all obstacles at a setting
 abbrev pub setting_refusals : Form → Bool → Bool → Setting → MachineFile → List Command →
     List ℕ → List ℕ
 setting_refusals form first named s machine commands ks =
@@ -165,7 +166,7 @@ setting_refusals form first named s machine commands ks =
     (all_lines machine commands
     (is_some (place_fault machine None (grid machine.step machine.start))) ks)
 
--- at both settings, or once where they are alike
+-- the text for both settings, or once if they have the same commands
 abbrev pub refusals_text : Form → Bool → MachineFile → List Command → List Command → List ℕ →
     List ℕ → List ℕ
 refusals_text form false machine off on off_ks on_ks =
@@ -174,12 +175,12 @@ refusals_text form true machine off on off_ks on_ks =
     setting_refusals form true true Off machine off off_ks
     ++ (setting_refusals form false true On machine on on_ks ++ ending form 304)
 
--- a program that is refused
+-- the line for a program that is refused
 abbrev pub refused_line : Form → List ℕ
 refused_line Words = codes "The program is refused.\n"
 refused_line Json = codes ",\n{\"fact\":\"verdict\",\"fits\":false}"
 
--- at a line, with the word that a fault names
+-- the rejection at a line, with the word that a fault names
 abbrev pub rejection_text : Form → Bool → Setting → ℕ → Fault → List Line → List ℕ
 rejection_text form named s number fault lines =
     heading form true named s

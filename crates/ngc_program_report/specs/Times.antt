@@ -1,4 +1,4 @@
--- How long a run through a program takes, as it is told. Our own.
+-- The time of a run through a program, as text. Our own.
 use Rattle.std.specs.Prelude.{ℕ, ◌*◌, ◌/◌, ◌%◌, List, [], ◌∷◌, ◌++◌, drop, codes, decimal, Option}
 use Rattle.std.specs.Prelude.{None, Some, if◌then◌else◌}
 use Rattle.ngc_commands.specs.declared.command.Command.{Command}
@@ -22,7 +22,7 @@ abbrev pub clock_text : ℕ → List ℕ
 clock_text seconds = decimal (seconds / 3600) ++ codes ":" ++ two_digits (seconds / 60 % 60)
     ++ codes ":" ++ two_digits (seconds % 60)
 
--- the whole seconds of so many ticks, and the whole thousandths of what is left
+-- the whole seconds of this number of ticks, and the whole thousandths of the rest
 abbrev pub time_text : RunTime → List ℕ
 time_text time =
     clock_text (time.ticks / time.ticks_per_second) ++ codes "."
@@ -34,25 +34,25 @@ seconds_text time =
     decimal (time.ticks / time.ticks_per_second) ++ codes "."
     ++ three_digits (time.ticks % time.ticks_per_second * 1000 / time.ticks_per_second)
 
--- the line that tells it
+-- the line with the time
 abbrev pub time_line : RunTime → List ℕ
 time_line time =
     codes "ngc: ticks " ++ decimal time.ticks ++ codes " time " ++ time_text time ++ codes "\n"
 
 -- ---- with each tool
 
--- the whole run, and its ticks up to the end of the first change of the tool, and of each change to
+-- the whole run; and its ticks up to the end of the first change of the tool, and of each change to
 -- that of the next
 pub record ProgramTimeData : Type 0 where
   pub whole : RunTime
   pub parts : List ℕ
 
--- the ticks of the uses that are told: what comes before the first change is one of them where
--- something moves there
+-- the ticks of the reported uses; the part before the first change is one of them if something
+-- moves there
 abbrev pub ticks_told : List Command → List ℕ → List ℕ
 ticks_told commands parts = if moves (use_of None commands) then parts else drop 1 parts
 
--- its number, or null without one
+-- the tool's number, or null without a tool
 unfoldable pub tool_value : Option Tool → List ℕ
 tool_value None = codes "null"
 tool_value (Some tool) = decimal tool.number
@@ -78,7 +78,7 @@ use_times form whole (u ∷ us) [] = []
 use_times form whole (u ∷ us) (n ∷ ns) =
     use_time form u.tool (record whole { ticks = n }) ++ use_times form whole us ns
 
--- of a program
+-- the lines of a program
 abbrev pub uses_text : Form → List Command → ProgramTimeData → List ℕ
 uses_text form commands time =
     use_times form time.whole (tool_uses commands) (ticks_told commands time.parts)

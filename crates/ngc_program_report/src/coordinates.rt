@@ -33,7 +33,7 @@ fn way_of(action: &Action) -> Option<Way>
     }
 }
 
-/// Returns the way of the command that is reported, where it is a motion.
+/// Returns the path of the reported command, or `None` if it isn't a motion.
 pub(crate) fn told_way(commands: &[Command], told: Option<usize>) -> Option<Way>
     ensures { result ≡ told_way commands.now told }
 {
@@ -72,8 +72,8 @@ fn coordinates_of(form: Form, frame: &FrameInForce, way: &Option<Way>) -> Chunk
     }
 }
 
-/// Writes where a way begins and ends by the program's coordinates, and which coordinates these
-/// are; nothing where there is no way.
+/// Writes where a path begins and ends in the program's coordinates, and which coordinates these
+/// are. Without a path, nothing is written.
 pub(crate) fn write_coordinates<W: Sink>(
     form: Form,
     frame: &FrameInForce,

@@ -18,7 +18,7 @@ use ngc_line_reader::ReadFault;
 use ngc_report::{Form, write_named_source, write_source_line};
 use ngc_text::{Chunk, Sink, WriteFault, write_all};
 
-// The line of a fault, with a mark below the column or the word that it is about.
+// Writes the line of a fault, with a mark below its column or word.
 fn write_quote<W: Sink>(
     form: Form,
     text: &[u8],
@@ -152,7 +152,7 @@ fn same_line(one: Option<u32>, other: Option<u32>) -> bool
     }
 }
 
-// Whether two faults are of the same line and have the same number.
+// Returns whether two faults are in the same line and have the same number.
 fn is_same(one: &TextFault, other: &TextFault) -> bool
     ensures { result ≡ is_same one.now other.now }
 {
@@ -189,7 +189,7 @@ fn write_new<W: Sink>(
     }
 }
 
-// The faults of a setting that aren't among others.
+// Writes the faults of a setting that aren't in the other list.
 fn write_list<W: Sink>(
     form: Form,
     text: &[u8],
@@ -227,10 +227,10 @@ fn faulty_line(form: Form, first: &TextFault) -> &'static [u8]
 }
 
 /// Writes the report of all faults of a program's text: those with block delete off, and then those
-/// that come with block delete on alone, of another line or with another number. Each has its line,
+/// that occur only with block delete on, in another line or with another number. Each has its line,
 /// with a mark, and its number. The report ends with the number of the first.
 ///
-/// After a fault (902, and only where the sink failed) a prefix of the text is written.
+/// After a fault (902, only if the sink failed) a prefix of the text is written.
 pub fn write_faults<W: Sink>(
     form: Form,
     text: &[u8],

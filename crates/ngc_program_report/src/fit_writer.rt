@@ -42,7 +42,7 @@ fn write_takes_line<W: Sink>(form: Form, time: &RunTime, output: &mut W) -> Resu
     chunk.write_out(output)
 }
 
-// How long a program takes, and with each tool.
+// Writes the time of a program, and the time with each tool.
 fn write_duration<A: Allocator, W: Sink>(
     form: Form,
     commands: &[Command],
@@ -61,7 +61,7 @@ fn write_duration<A: Allocator, W: Sink>(
     write_use_times(form, commands, time, output)
 }
 
-// Whether block delete takes out lines at a setting.
+// Returns whether block delete removes lines at a setting.
 pub(crate) fn is_on(setting: Setting) -> bool
     ensures { result ≡ is_on setting }
 {
@@ -71,7 +71,7 @@ pub(crate) fn is_on(setting: Setting) -> bool
     }
 }
 
-// What looks wrong at a setting.
+// Writes the warnings at a setting.
 fn write_remarks<A: Allocator, W: Sink>(
     form: Form,
     program: &Program<A>,
@@ -92,7 +92,7 @@ fn write_remarks<A: Allocator, W: Sink>(
     write_word_warnings(form, is_on(setting), program, machine, commands, output)
 }
 
-// What fits at a setting, how long it takes, and what looks wrong there.
+// Writes what fits at a setting, the time there, and the warnings.
 fn write_setting<A: Allocator, W: Sink>(
     form: Form,
     program: &Program<A>,
@@ -127,7 +127,7 @@ fn write_setting<A: Allocator, W: Sink>(
     write_remarks(form, program, setting, machine, commands, output)
 }
 
-// What looks wrong of the machine and of its tools.
+// Writes the warnings about the machine and its tools.
 fn write_shop<A: Allocator, W: Sink>(
     form: Form,
     machine: &Machine<A>,
@@ -148,7 +148,8 @@ fn write_shop<A: Allocator, W: Sink>(
     }
 }
 
-// The shop, and the end of a report of what fits.
+// Writes the warnings about the machine and its tools, and the end of a report of a program that
+// fits.
 fn write_fit_end<A: Allocator, W: Sink>(
     form: Form,
     machine: &Machine<A>,
@@ -167,7 +168,7 @@ fn write_fit_end<A: Allocator, W: Sink>(
     write_all(output, closing(form))
 }
 
-// What fits at both settings, which are alike.
+// Writes what fits at both settings, which have the same commands.
 pub(crate) fn write_once<A: Allocator, W: Sink>(
     form: Form,
     program: &Program<A>,
@@ -203,7 +204,7 @@ pub(crate) fn write_once<A: Allocator, W: Sink>(
     write_fit_end(form, machine, tools, output)
 }
 
-// What fits at each setting.
+// Writes what fits at each setting.
 pub(crate) fn write_both<A: Allocator, W: Sink>(
     form: Form,
     program: &Program<A>,

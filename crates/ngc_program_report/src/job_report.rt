@@ -1,4 +1,4 @@
-//! The reports of jobs: of those that fit, and of those that don't.
+//! The reports of jobs that fit, and of those that don't.
 ghost use Rattle.std.specs.Prelude.{◌≡◌, ◌≤◌, is_some, slice_get, Err, IfOk, OnErr, OnOk, true};
 ghost use Rattle.std.specs.Io.KnownBytes.{Appends};
 ghost use Rattle.ngc_certificate.specs.Made.{IsMade};
@@ -29,11 +29,11 @@ use ngc_report::Form;
 use ngc_text::{Sink, WriteFault};
 use std::alloc::Allocator;
 
-/// Writes the report of a job for which a certificate was made: how far it goes and with how much
-/// room, how each tool is used, how long it takes, and what looks wrong of its commands and of the
-/// words of the program. Nothing is written before
-/// it is known how long the job takes, nor for want of memory (900); where a write fails (902), a
-/// beginning is written.
+/// Writes the report of a job with a certificate: its extent and margins, the use of each tool, the
+/// time, and the warnings about its commands and the words of the program.
+///
+/// Nothing is written before the time is computed, and nothing if memory runs out (900). If a write
+/// fails (902), a prefix is written.
 pub fn report_fit<A: Allocator + Copy, W: Sink>(
     alloc: A,
     program: &Program<A>,
@@ -78,7 +78,7 @@ fn line_of(commands: &[Command], command: usize) -> u32
     }
 }
 
-// The frame by which a command is executed at a setting.
+// Returns the frame in which a command is executed at a setting.
 fn frame_at<A: Allocator + Copy>(
     alloc: A,
     program: &Program<A>,
@@ -94,7 +94,7 @@ fn frame_at<A: Allocator + Copy>(
     Ok(history.in_force(line))
 }
 
-// The report of a command that isn't cleared at a setting.
+// Writes the report of a command that isn't cleared at a setting.
 fn report_first<A: Allocator, W: Sink>(
     program: &Program<A>,
     job: &Job<A>,
@@ -125,8 +125,9 @@ fn report_first<A: Allocator, W: Sink>(
     )
 }
 
-// The commands that aren't cleared with block delete off, where no certificate is made because of a
-// command at a setting. Where the settings differ, one that is refused at `On` has them all cleared.
+// Returns the commands that aren't cleared with block delete off, if no certificate is made because
+// of a command at a setting. If the settings differ and one is refused at `On`, all are cleared
+// with block delete off.
 fn off_uncleared<A: Allocator + Copy>(
     alloc: A,
     job: &Job<A>,
@@ -152,7 +153,7 @@ fn off_uncleared<A: Allocator + Copy>(
     }
 }
 
-// The same with block delete on.
+// Returns the commands that aren't cleared with block delete on.
 fn on_uncleared<A: Allocator + Copy>(
     alloc: A,
     job: &Job<A>,
@@ -178,7 +179,7 @@ fn on_uncleared<A: Allocator + Copy>(
     }
 }
 
-// The report of all commands that aren't cleared, where no certificate is made because of one.
+// Writes the report of all commands that aren't cleared, if no certificate is made because of one.
 fn report_all<A: Allocator + Copy, W: Sink>(
     alloc: A,
     job: &Job<A>,
@@ -220,10 +221,11 @@ fn report_all<A: Allocator + Copy, W: Sink>(
     Ok(())
 }
 
-/// Writes the report of a job for which no certificate is made, because a command, counted from 0,
-/// isn't cleared at a setting of block delete: what is in the way of that command, and where it goes
-/// by the program's coordinates; or what is in the way of all that aren't cleared. Nothing is written for want of memory (900); where a write fails (902), a
-/// beginning is written.
+/// Writes the report of a job without a certificate, because a command, counted from 0, isn't
+/// cleared at a setting of block delete. It reports the obstacle of that command and its
+/// coordinates in the program, or the obstacles of all commands that aren't cleared.
+///
+/// If memory runs out (900), nothing is written. If a write fails (902), a prefix is written.
 pub fn report_refusal<A: Allocator + Copy, W: Sink>(
     alloc: A,
     program: &Program<A>,

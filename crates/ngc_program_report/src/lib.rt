@@ -1,5 +1,5 @@
-//! What is told of a job: that it fits, with how much room and how long it takes, or what is in the
-//! way.
+//! Reports of jobs: a job that fits, with its margins and its time, or one that doesn't, with its
+//! obstacles.
 #![tactic(auto)]
 
 mod coordinates;

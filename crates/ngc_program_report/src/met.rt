@@ -1,4 +1,4 @@
-//! Which fixture a command meets.
+//! The fixture that a command meets.
 ghost use Rattle.std.specs.Prelude.{◌≡◌};
 ghost use Rattle.ngc_machine_files.specs.Machine.{file_of};
 ghost use Rattle.ngc_program_report.specs.Met.{fixture_of, met_at, met_by, met_first};
@@ -8,7 +8,7 @@ use ngc_commands::{Action, Command, Reached};
 use ngc_machine_files::Machine;
 use std::alloc::Allocator;
 
-// The fixture that a piece is refused for.
+// Returns the fixture for which a piece is refused.
 fn fixture_of(refusal: Option<PieceRefusal>) -> Option<u32>
     ensures { result ≡ fixture_of refusal }
 {
@@ -23,7 +23,8 @@ fn fixture_of(refusal: Option<PieceRefusal>) -> Option<u32>
     }
 }
 
-// The fixture that an action meets: a tool change where the axes stand, a motion in one piece.
+// Returns the fixture that an action meets: a tool change at the axes' position, a motion in one
+// piece.
 fn met_by<A: Allocator>(machine: &Machine<A>, reached: &Reached, action: &Action) -> Option<u32>
     ensures { result ≡ met_by (file_of machine.now) reached.now action.now }
 {
@@ -52,8 +53,8 @@ fn met_first<A: Allocator>(
     }
 }
 
-/// The fixture that is met at the start, or by command `at`, counted from 0: by a tool change where
-/// the axes stand, and by a motion in one piece.
+/// Returns the fixture that is met at the start, or by command `at`, counted from 0: by a tool
+/// change at the axes' position, and by a motion in one piece.
 pub fn met_at<A: Allocator>(machine: &Machine<A>, commands: &[Command], at: usize) -> Option<u32>
     ensures { result ≡ met_at (file_of machine.now) commands.now at }
 {

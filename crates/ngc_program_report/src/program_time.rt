@@ -2,9 +2,9 @@ use crate::run_time::RunTime;
 use std::alloc::Allocator;
 use std::marker::Model;
 
-/// How long a program takes on a machine: the whole run, and how many of its ticks go to each part,
-/// up to the end of the first change of the tool, and from the end of each change to that of the
-/// next, or to the program's end.
+/// The time of a program on a machine: the whole run, and the ticks of each part. The first part
+/// ends with the first change of the tool. Each later one begins there and ends with the next
+/// change, or with the program.
 #[derive(Drop)]
 pub(crate) struct ProgramTime<A: Allocator> {
     pub(crate) whole: RunTime,

@@ -27,7 +27,7 @@ use ngc_report::{Form, write_line, write_named, write_refusal, write_refusals};
 use ngc_text::{Sink, WriteFault, write_all};
 use std::alloc::Allocator;
 
-// The command that a refusal is told of: none where the start point isn't clear.
+// Returns the command that a refusal reports, or `None` if the start point isn't clear.
 fn told_command<A: Allocator>(machine: &Machine<A>, command: u32) -> Option<usize>
     ensures { result ≡ told_command
         (place_fault (file_of machine.now) None
@@ -39,7 +39,7 @@ fn told_command<A: Allocator>(machine: &Machine<A>, command: u32) -> Option<usiz
     }
 }
 
-// The line of the program that gives the command which is told.
+// Returns the program line of the reported command.
 fn told_number(commands: &[Command], told: Option<usize>) -> Option<u32>
     ensures { result ≡ told_number commands.now told }
 {
@@ -72,7 +72,7 @@ fn write_told_line<A: Allocator, W: Sink>(
     }
 }
 
-// Where the command which is told goes by the program, and the end.
+// Writes the program coordinates of the reported command, and the end.
 fn write_way_end<W: Sink>(
     form: Form,
     frame: &FrameInForce,
@@ -91,8 +91,7 @@ fn write_way_end<W: Sink>(
     write_ending(form, 304, output)
 }
 
-// The line of the program that gives the command which is told, where that goes by the program, and
-// the end.
+// Writes the program line of the reported command, its program coordinates, and the end.
 fn write_cause_end<A: Allocator, W: Sink>(
     form: Form,
     program: &Program<A>,
@@ -115,7 +114,7 @@ fn write_cause_end<A: Allocator, W: Sink>(
     write_way_end(form, frame, way, output)
 }
 
-// What is in the way of a command, and its line.
+// Writes the obstacle of a command, and its program line.
 fn write_cause<A: Allocator, W: Sink>(
     form: Form,
     program: &Program<A>,
@@ -142,7 +141,7 @@ fn write_cause<A: Allocator, W: Sink>(
     write_cause_end(form, program, number, frame, &way, output)
 }
 
-// What is in the way of a command at a setting.
+// Writes the obstacle of a command at a setting.
 pub(crate) fn write_refused<A: Allocator, W: Sink>(
     form: Form,
     program: &Program<A>,
@@ -172,7 +171,7 @@ pub(crate) fn write_refused<A: Allocator, W: Sink>(
     )
 }
 
-// Whether a fixture is met at the start.
+// Returns whether a fixture is met at the start.
 pub(crate) fn is_start_refused<A: Allocator>(machine: &Machine<A>) -> bool
     ensures { result ≡ is_some
         (place_fault (file_of machine.now) None
@@ -181,7 +180,7 @@ pub(crate) fn is_start_refused<A: Allocator>(machine: &Machine<A>) -> bool
     place_fault(machine, None, &machine.start.to_grid(machine.step)).is_some()
 }
 
-// All that is in the way at a setting.
+// Writes all obstacles at a setting.
 fn write_setting_refusals<A: Allocator, W: Sink>(
     form: Form,
     first: bool,
@@ -207,7 +206,7 @@ fn write_setting_refusals<A: Allocator, W: Sink>(
     write_refusals(form, machine, commands, start, indices, output)
 }
 
-/// All that is in the way at both settings, which are alike.
+/// Writes all obstacles at both settings, which have the same commands.
 pub(crate) fn write_all_once<A: Allocator, W: Sink>(
     form: Form,
     machine: &Machine<A>,
@@ -238,7 +237,7 @@ pub(crate) fn write_all_once<A: Allocator, W: Sink>(
     write_ending(form, 304, output)
 }
 
-/// All that is in the way at each setting.
+/// Writes all obstacles at each setting.
 pub(crate) fn write_all_both<A: Allocator, W: Sink>(
     form: Form,
     machine: &Machine<A>,
@@ -290,7 +289,7 @@ pub(crate) fn refused_line(form: Form) -> &'static [u8]
     }
 }
 
-// What a fault names of its line, and the end.
+// Writes what a fault names in its line, and the end.
 fn write_rejection_end<A: Allocator, W: Sink>(
     form: Form,
     program: &Program<A>,
@@ -312,8 +311,8 @@ fn write_rejection_end<A: Allocator, W: Sink>(
     write_ending(form, fault.number(), output)
 }
 
-/// Writes the report of a program that is refused at a setting of block delete: its line at fault,
-/// by its number, and the word that the fault names.
+/// Writes the report of a program that is refused at a setting of block delete: the faulty line, by
+/// its number, and the word that the fault names.
 pub fn write_rejection<A: Allocator, W: Sink>(
     form: Form,
     program: &Program<A>,

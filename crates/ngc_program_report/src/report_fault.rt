@@ -4,13 +4,13 @@ ghost use Rattle.ngc_program_report.specs.declared.report_fault.ReportFault.TheV
 use ngc_text::WriteFault;
 use thiserror::Error;
 
-/// Why a report of a job isn't written whole.
+/// The reason why a report of a job is incomplete.
 #[derive(Clone, Copy, Debug, Error)]
 pub enum ReportFault {
-    /// 900
+    /// 900: memory ran out; nothing is written.
     #[error("out of memory")]
     Memory,
-    /// 902: the output isn't written, or only a beginning of it.
+    /// 902: a write failed; a prefix of the output is written, or nothing.
     #[error(transparent)]
     Write(WriteFault),
 }

@@ -1,4 +1,4 @@
-//! What stands before and behind the reports of programs.
+//! The text before and after the reports of programs.
 ghost use Rattle.std.specs.Prelude.{◌≡◌, ◌+◌, ◌≤◌, ◌++◌, length, OnOk, OnErr};
 ghost use Rattle.std.specs.Io.KnownBytes.{Appends};
 ghost use Rattle.ngc_text.specs.Collected.{HasLineRoom};
@@ -11,7 +11,7 @@ use ngc_certificate::Setting;
 use ngc_report::Form;
 use ngc_text::{Chunk, Sink, WriteFault};
 
-// The line that names a setting.
+// Returns the line that names a setting.
 fn setting_line(form: Form, setting: Setting) -> &'static [u8]
     ensures { result.now ≡ setting_line form setting }
 {
@@ -23,7 +23,7 @@ fn setting_line(form: Form, setting: Setting) -> &'static [u8]
     }
 }
 
-/// What stands before a report: nothing in words, and the first fact of the JSON document.
+/// Returns the text before a report: nothing in words, and the first fact of the JSON document.
 pub fn opening(form: Form) -> &'static [u8]
     ensures text { result.now ≡ opening form }
     ensures short { length result.now ≤ 40 }
@@ -34,7 +34,7 @@ pub fn opening(form: Form) -> &'static [u8]
     }
 }
 
-/// What stands behind a report.
+/// Returns the text after a report.
 pub(crate) fn closing(form: Form) -> &'static [u8]
     ensures text { result.now ≡ closing form }
     ensures short { length result.now ≤ 3 }
@@ -45,7 +45,7 @@ pub(crate) fn closing(form: Form) -> &'static [u8]
     }
 }
 
-// What stands before the first setting of a report, and before the other.
+// Returns the text before the first setting of a report, or before the other.
 fn heading_of(form: Form, first: bool, named: bool, setting: Setting) -> Chunk
     ensures { result ≡ heading form first named setting }
 {
@@ -116,7 +116,7 @@ fn ending_of(form: Form, number: u16) -> Chunk
     chunk
 }
 
-/// Writes the end of a report of what is refused: the number of its fault, with `ngc explain` in
+/// Writes the end of a report of a refused program: the number of its fault, with `ngc explain` in
 /// words, and the closing.
 pub fn write_ending<W: Sink>(form: Form, number: u16, output: &mut W) -> Result<(), WriteFault>
     ensures ok { OnOk result

@@ -1,4 +1,4 @@
-//! What the program tells of a run through a program.
+//! The output about the time of a run.
 ghost use Rattle.std.specs.Prelude.{◌≡◌, ◌+◌, ◌≤◌, ◌++◌, length};
 ghost use Rattle.ngc_text.specs.Collected.{CHUNK_SIZE};
 ghost use Rattle.ngc_program_report.specs.Texts.{takes_fact, takes_line, takes_words};
@@ -50,7 +50,7 @@ pub(crate) fn add_time(chunk: &mut Chunk, time: &RunTime)
     add_three_digits(chunk, time.ticks % per_second * 1000 / per_second);
 }
 
-/// The line that tells a run's time on standard error: hours, minutes, seconds and thousandths of a
+/// Adds the line for a run's time on standard error: hours, minutes, seconds and thousandths of a
 /// second, rounded down.
 pub fn add_time_line(chunk: &mut Chunk, time: &RunTime)
     requires { length chunk.old + 500 ≤ CHUNK_SIZE }
@@ -100,7 +100,7 @@ fn add_takes_fact(chunk: &mut Chunk, time: &RunTime)
     chunk.add_text(b"}");
 }
 
-/// The line of a report that tells how long a program takes.
+/// Adds the line of a report with the time of a program.
 pub(crate) fn add_takes_line(chunk: &mut Chunk, form: Form, time: &RunTime)
     requires { length chunk.old + 600 ≤ CHUNK_SIZE }
     ensures { chunk.new ≡ chunk.old ++ takes_line form time.now }

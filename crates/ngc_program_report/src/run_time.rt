@@ -1,6 +1,6 @@
 ghost use Rattle.std.specs.Prelude.{◌≤◌};
 
-/// How long a run took: its ticks, and how many of them the machine gives a second.
+/// The time of a run: its ticks, and the machine's ticks per second.
 #[derive(Clone, Copy)]
 pub struct RunTime {
     pub ticks: u128,

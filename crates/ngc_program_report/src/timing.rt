@@ -1,4 +1,4 @@
-//! How long a program takes on a machine.
+//! The time of a program on a machine.
 ghost use Rattle.std.specs.Prelude.{◌≡◌, IfErr, IfOk, true};
 ghost use Rattle.ngc_certificate.specs.Valid.{IsValid};
 ghost use Rattle.ngc_certificate_text.specs.Contents.{said_of};
@@ -16,7 +16,7 @@ use ngc_job::Job;
 use ngc_run_log::time_through;
 use std::alloc::Allocator;
 
-/// A job is accepted with a certificate that is valid for it.
+/// Accepts a job with a certificate that is valid for it.
 pub(crate) fn accept<A: Allocator>(job: Job<A>, certificate: &Certificate<A>) -> Accepted<A>
     requires off { IsValid job.machine job.off (said_of certificate.now).off }
     requires on { IsValid job.machine (commands_in true job) (said_of certificate.now).on }
@@ -28,8 +28,8 @@ pub(crate) fn accept<A: Allocator>(job: Job<A>, certificate: &Certificate<A>) ->
     }
 }
 
-/// How long a program takes that was accepted, at a setting of block delete, and what was accepted
-/// once more; 900 where memory runs out.
+/// Returns the time of an accepted program, at a setting of block delete, together with the
+/// accepted program. If memory runs out, that is 900.
 pub(crate) fn time_of<A: Allocator + Copy>(
     alloc: A,
     accepted: Accepted<A>,

@@ -1,4 +1,4 @@
-//! How long a program takes with each tool, as a report tells it.
+//! The time of a program with each tool, as a report states it.
 ghost use Rattle.std.specs.Prelude.{◌≡◌, ◌+◌, ◌≤◌, ◌++◌, length, OnOk, OnErr};
 ghost use Rattle.std.specs.Io.KnownBytes.{Appends};
 ghost use Rattle.ngc_text.specs.Failures.{CountsFailure};
@@ -97,7 +97,7 @@ fn write_use_time<W: Sink>(
     use_time_of(form, tool, time).write_out(output)
 }
 
-// The ticks of the uses that are told.
+// Returns the ticks of the reported uses.
 fn ticks_told<'a>(commands: &[Command], parts: &'a [u128]) -> &'a [u128]
     ensures { result.now ≡ ticks_told commands.now parts.now }
 {
@@ -110,7 +110,7 @@ fn ticks_told<'a>(commands: &[Command], parts: &'a [u128]) -> &'a [u128]
     }
 }
 
-/// How long a program takes with each tool, a line for each use.
+/// Writes the time of a program with each tool, a line for each use.
 pub(crate) fn write_use_times<A: Allocator, W: Sink>(
     form: Form,
     commands: &[Command],
