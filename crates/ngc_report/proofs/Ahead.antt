@@ -1,4 +1,4 @@
--- How far lines are told, where others come behind them.
+-- The reported part of a list of lines, when other lines follow them.
 use Rattle.std.proofs.Common.{◌≡◌, ℕ, List, [], ◌++◌, Option, Some, None, Result, Ok, Err, ap, sym, subst, ◌∙◌, refl}
 use Rattle.std.proofs.lemmas.List.{append_assoc, append-nil}
 use Rattle.std.proofs.lemmas.List.Concat.{flat_map-append}
@@ -13,7 +13,7 @@ use Rattle.ngc_report.specs.Forms.{spelled, report_text}
 use Rattle.ngc_report.specs.declared.form.Form.{Form}
 use Rattle.ngc_report.specs.declared.line.Line.{Line}
 
--- of a whole some lines are told, and the rest is still to come
+-- some lines of a whole are reported, and the rest remains
 pub record Ahead (f : Form) (old now : Option (List ℕ)) (before chunk : List ℕ) (rest whole : List Line) : Type 0 where
   pub done : List Line
   pub splits : whole ≡ done ++ rest
@@ -23,7 +23,7 @@ joined : (f : Form) (before : List ℕ) (a b : List Line) → (before ++ report_
 joined f before a b =
     append_assoc before (report_text f a) (report_text f b) ∙ ap (λ l. before ++ l) (sym (flat_map-append (spelled f) a b))
 
--- nothing is told yet
+-- nothing is reported yet
 pub appends_none : (o : Option (List ℕ)) → Appends o o []
 appends_none None = tt
 appends_none (Some xs) = sym (append-nil xs)
@@ -31,7 +31,7 @@ appends_none (Some xs) = sym (append-nil xs)
 pub begun : (f : Form) (old : Option (List ℕ)) (before : List ℕ) (whole : List Line) → Ahead f old old before before whole whole
 begun f old before whole = record { done = []; splits = refl; front = ([], appends_none old, append-nil before) }
 
--- some more are told
+-- some more are reported
 pub went : (f : Form) (old mid new : Option (List ℕ)) (before between after : List ℕ) (more rest left whole : List Line) → left ≡ more ++ rest
     → Ahead f old mid before between left whole → WritesFront mid new (between ++ report_text f more) after → Ahead f old new before after rest whole
 went f old mid new before between after more rest left whole is h k = record {
@@ -42,7 +42,7 @@ went f old mid new before between after more rest left whole is h k = record {
       (front_more old mid new (before ++ report_text f h.done) between after (report_text f more) h.front k);
 }
 
--- a write fails while they are told
+-- a write fails while they are reported
 pub stopped : (f : Form) (old mid new : Option (List ℕ)) (before between : List ℕ) (more rest left whole : List Line) → left ≡ more ++ rest
     → Ahead f old mid before between left whole → AppendsBeginning mid new (between ++ report_text f more) →
     AppendsBeginning old new (before ++ report_text f whole)
@@ -54,7 +54,7 @@ stopped f old mid new before between more rest left whole is h k =
     subst (λ (l : List ℕ). AppendsBeginning old new l) (joined f before (h.done ++ more) rest ∙ ap (λ l. before ++ report_text f l) all)
     (longer old new (before ++ report_text f (h.done ++ more)) (report_text f rest) so_far)
 
--- the last are told, or not
+-- the last are reported, or not
 pub last : (f : Form) (r : Result (Unit {0}) WriteFault) (old mid new : Option (List ℕ)) (before between after : List ℕ) (left whole : List Line)
     → Ahead f old mid before between left whole → Tells f mid new between after r left → Tells f old new before after r whole
 last f (Ok u) old mid new before between after left whole h k =

@@ -1,4 +1,4 @@
--- A difference of two coordinates is held by 64 bits.
+-- A difference of two coordinates fits in 64 bits.
 use Rattle.std.proofs.Common.{arith, ◌-ℤ◌, ◌≡◌, ◌≤◌, ℤ, FitsSigned, unsigned_abs, to_z, of_z, w64, ap, refl, ◌∙◌}
 use Rattle.std.proofs.lemmas.Int.{ints, to_z-of_z, fits_signed_from_abs}
 

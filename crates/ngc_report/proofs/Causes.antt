@@ -1,4 +1,4 @@
--- The commands that are refused, one after another.
+-- The commands that are refused, in order.
 use Rattle.std.proofs.Common.{◌≡◌, ◌<◌, ◌≤◌, ◌+◌, ◌-◌, ℕ, List, [], ◌∷◌, ◌++◌, length, take, drop, get_or, Option, None, ap, sym, subst, ◌∙◌, refl, arith}
 use Rattle.std.proofs.lemmas.List.{append-nil, drop_more, drop_all}
 use Rattle.std.proofs.Math.Seq.{take-add}
@@ -18,7 +18,7 @@ use Rattle.ngc_report.specs.declared.line.Line.{Line}
 use Rattle.ngc_commands.specs.declared.reached.Reached.{Reached}
 use Rattle.ngc_report.proofs.Ahead.{Ahead}
 
--- nothing is left to tell
+-- nothing remains to report
 pub finished : (f : Form) (old now : Option (List ℕ)) (before chunk : List ℕ) (rest whole : List Line) → rest ≡ []
     → Ahead f old now before chunk rest whole → WritesFront old now (before ++ report_text f whole) chunk
 finished f old now before chunk rest whole none h =
@@ -32,7 +32,7 @@ next_cause machine commands ks i inside =
     ap (λ (l : List ℕ). causes_lines machine commands l) (drop_more ks i 0 inside)
     ∙ flat_map-cons (λ j. scene_lines machine j None (scene_at machine commands j)) (get_or ks i 0) (drop (i + 1) ks)
 
--- behind the last
+-- after the last
 pub none_left : (machine : MachineFile) (commands : List Command) (ks : List ℕ) (i : ℕ) → length ks ≤ i → causes_lines machine commands (drop i ks) ≡ []
 none_left machine commands ks i behind = ap (λ (l : List ℕ). causes_lines machine commands l) (drop_all i ks behind)
 

@@ -28,7 +28,7 @@ counted_on concern w (l ∷ ls) =
     counted_on concern (record w { count = w.count + 1; last = l }) ls
     ∙ ap (λ (n : ℕ). Some (record w { count = n; last = last_of l ls })) (omega arith)
 
--- what is counted is the warning
+-- the count is that of the warning
 pub all_counted : (concern : Concern) (ls : List ℕ) → fold (counted concern) None ls ≡ warning concern ls
 all_counted concern [] = refl
 all_counted concern (l ∷ ls) =

@@ -1,4 +1,4 @@
--- The motions of a use, where there may be fewer.
+-- The motions of a use, if there may be fewer.
 use Rattle.std.proofs.Common.{◌≡◌, ℕ, ◌+◌, ◌-◌, ◌≤◌, inl, inr, List, [], ◌∷◌, ◌++◌, length, drop, take, min, ap, sym, ◌∙◌, arith}
 use Rattle.std.proofs.lemmas.List.{drop-take, take_all, drop_all, drop-drop, length-drop}
 use Rattle.ngc_text.proofs.Firsts.{enough}

@@ -39,7 +39,7 @@ all_boxes P (e ∷ es) each =
     (All-map P (λ (p : Piece). p.bounds) e.pieces (All-head (λ (e : Entry). All (λ (p : Piece). P p.bounds) e.pieces) e es each))
     (all_boxes P es (All-tail (λ (e : Entry). All (λ (p : Piece). P p.bounds) e.pieces) e es each)))
 
--- what holds of two boxes and then of their joint box holds of the joint box of all
+-- if two boxes with a property have a joint box with it, so does the joint box of all
 all_joint : (P : GridBox → Type 0) → ((a b : GridBox) → P a → P b → P (joint_box a b)) → (a : GridBox) (bs : List GridBox) → P a → All P bs
     → P (fold joint_box a bs)
 all_joint P two a [] first each = first
@@ -184,7 +184,7 @@ extent_inside machine motions m pieces =
     all_joint (λ (b : GridBox). IsTrue (is_in_travel machine b)) (joint_inside machine) (only (grid machine.step machine.start)) (flat_map boxes_of motions)
     (start_inside machine m) (all_boxes (λ (b : GridBox). IsTrue (is_in_travel machine b)) motions pieces)
 
--- the lines of uses tell no extent
+-- the lines of uses have no extent
 uses_inside : (machine : MachineFile) (us : List ToolUse) (motions : List Entry) → IsTrue (list_all is_line_inside (use_lines machine us motions))
 uses_inside machine [] motions = refl
 uses_inside machine (u ∷ us) motions = uses_inside machine us _

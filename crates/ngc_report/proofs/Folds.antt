@@ -1,4 +1,4 @@
--- What is found over a list, one element further.
+-- The result over a list, one element further.
 use Rattle.std.proofs.Common.{◌≡◌, ℕ, ◌+◌, ◌<◌, ◌≤◌, List, [], ◌∷◌, ◌++◌, length, get_or, drop, flat_map, Option, ap, sym, ◌∙◌, refl}
 use Rattle.std.specs.Prelude.{fold, map}
 use Rattle.std.proofs.lemmas.List.{drop_more, at_drop_all}

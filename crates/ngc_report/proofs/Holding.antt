@@ -1,4 +1,4 @@
--- Every point that a program may come to lies in its extent.
+-- Every point that a program may reach lies in its extent.
 use Rattle.std.proofs.Common.{◌≡◌, ℕ, zero, suc, ◌+◌, ◌<◌, ◌≤◌, ℤ, ◌≤ℤ◌, List, [], ◌∷◌, length, subst, ap, arith}
 use Rattle.std.specs.Prelude.{fold, map}
 use Rattle.std.specs.List.{All}

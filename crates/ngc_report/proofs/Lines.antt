@@ -6,7 +6,7 @@ use Rattle.std.specs.Option.{option_map}
 use Rattle.ngc_line_reader.specs.Program.{Line}
 use Rattle.ngc_report.specs.Quotes.{line_with}
 
--- what is known of the line at index i
+-- the facts about the line at index `i`
 pub record At (lines : List Line) (i number : ℕ) : Type 0 where
   pub line : Line
   pub is : slice_get lines i ≡ Some line

@@ -54,7 +54,7 @@ gap_law f b =
     (flat (int_le b.high.x f.low.x) (int_le f.high.x b.low.x) (int_le b.high.y f.low.y) (int_le f.high.y b.low.y) (int_le b.high.z f.low.z)
     (int_le f.high.z b.low.z))
 
--- the lesser of two isn't below 0 exactly where both aren't
+-- the lesser of two isn't below 0 exactly if both aren't
 least_left : (m n : Margin) → int_le (pos 0) (narrower m n).left ≡ (int_le (pos 0) m.left && int_le (pos 0) n.left)
 least_left m n = grind (arith, ints)
 
@@ -69,6 +69,6 @@ tightest_law r =
     (triples (int_le (pos 0) r.x.below) (int_le (pos 0) r.x.above) (int_le (pos 0) r.y.below) (int_le (pos 0) r.y.above) (int_le (pos 0) r.z.below)
     (int_le (pos 0) r.z.above))
 
--- where the first of two tests holds, both hold exactly where the second does
+-- if the first of two tests holds, both hold exactly if the second does
 pub both_hold : (p q r : Bool) → p ≡ true → r ≡ q → r ≡ (p && q)
 both_hold p q r holds is = is ∙ ap (λ (b : Bool). b && q) (sym holds)

@@ -1,4 +1,4 @@
--- How far a program goes. Our own.
+-- The extent of a program. Our own.
 use Rattle.std.specs.Prelude.{ℕ, ◌<◌, ℤ, pos, ◌+ℤ◌, ◌-ℤ◌, List, length, fold, map, flat_map, IsTrue}
 use Rattle.std.specs.Prelude.{if◌then◌else◌}
 use Rattle.std.specs.List.{All}
@@ -27,30 +27,30 @@ use Rattle.ngc_machine_files.specs.Machine.{MachineFile}
 abbrev pub joint_box : GridBox → GridBox → GridBox
 joint_box a b = record { low = lesser_corner a.low b.low; high = greater_corner a.high b.high }
 
--- the box of a motion: of a line that of its grid ends, of an arc its swept box
+-- the box of a motion: of a line, that of its grid ends; of an arc, its swept box
 abbrev pub reach : ℤ → Way → GridBox
 reach step (Line start end) = box_of (grid step start) (grid step end)
 reach step (Arc arc) = swept_box step arc
 
--- a step farther and a step less on each axis
+-- one step more and one step less on each axis
 abbrev pub next_corner : StepPos → StepPos
 next_corner p = record { x = p.x +ℤ pos 1; y = p.y +ℤ pos 1; z = p.z +ℤ pos 1 }
 
 abbrev pub previous_corner : StepPos → StepPos
 previous_corner p = record { x = p.x -ℤ pos 1; y = p.y -ℤ pos 1; z = p.z -ℤ pos 1 }
 
--- a box with a step less on each side
+-- a box with one step less on each side
 abbrev pub shrunk : GridBox → GridBox
 shrunk b = record { low = next_corner b.low; high = previous_corner b.high }
 
--- the box of all pieces of an arc that is cut at each quadrant point, a step inside the arc: at its
--- ends as large as in one piece, and a step less at the quadrant points
+-- the box of all pieces of an arc that is cut at each quadrant point, a step inside the arc: the
+-- same as in one piece at its ends, and a step less at the quadrant points
 abbrev pub cut_reach : ℤ → ArcShape → GridBox
 cut_reach step a = joint_box (shrunk (swept_box step a))
     (joint_box (cut_box step a (shapes.start_of a) (shapes.start_of a))
     (cut_box step a (shapes.end_of a) (shapes.end_of a)))
 
--- the box of all pieces of a motion, where a large arc is cut so; small arcs aren't cut
+-- the box of all pieces of a motion, if a large arc is cut like this; small arcs aren't cut
 abbrev pub reach_in_pieces : ℤ → Way → GridBox
 reach_in_pieces step (Line start end) = reach step (Line start end)
 reach_in_pieces step (Arc a) = if is_large step a then cut_reach step a else swept_box step a
@@ -60,14 +60,14 @@ abbrev pub extent : MachineFile → List Command → GridBox
 extent machine commands = fold joint_box (only (grid machine.step machine.start))
     (map (reach machine.step) (ways_of (actions_of commands)))
 
--- it holds each point of each path that a motion may take
+-- the extent contains each point of each path that a motion may take
 abbrev pub ExtentHoldsPaths : Type 0
 ExtentHoldsPaths =
     (machine : MachineFile) (commands : List Command) → All (λ w. (path : List StepPos) (k : ℕ) →
     IsPathOf machine.step w path → k < length path →
     IsIn (extent machine commands) (point path k)) (ways_of (actions_of commands))
 
--- and the start point
+-- the extent contains the start point
 abbrev pub ExtentHoldsStart : Type 0
 ExtentHoldsStart = (machine : MachineFile) (commands : List Command) →
     IsIn (extent machine commands) (grid machine.step machine.start)
@@ -83,13 +83,13 @@ abbrev pub fit_extent : MachineFile → List Entry → GridBox
 fit_extent machine motions =
     fold joint_box (only (grid machine.step machine.start)) (flat_map boxes_of motions)
 
--- it holds each point of the box of each piece
+-- the extent contains each point of the box of each piece
 abbrev pub FitExtentHoldsPieces : Type 0
 FitExtentHoldsPieces =
     (machine : MachineFile) (motions : List Entry) → All (λ (e : Entry). All (λ (p : Piece).
     (q : StepPos) → IsIn p.bounds q → IsIn (fit_extent machine motions) q) e.pieces) motions
 
--- and the start point
+-- the extent contains the start point
 abbrev pub FitExtentHoldsStart : Type 0
 FitExtentHoldsStart = (machine : MachineFile) (motions : List Entry) →
     IsIn (fit_extent machine motions) (grid machine.step machine.start)
@@ -111,11 +111,11 @@ travel_box m = record {
   };
 }
 
--- what lies of the extent within the travel
+-- the part of the extent that lies within the travel
 abbrev pub extent_in_travel : MachineFile → List Command → GridBox
 extent_in_travel machine commands = common_box (extent machine commands) (travel_box machine)
 
--- it holds each point of the extent that lies within the travel limits
+-- it contains each point of the extent that lies within the travel limits
 abbrev pub ExtentInTravelHolds : Type 0
 ExtentInTravelHolds = (machine : MachineFile) (commands : List Command) (p : StepPos) →
     IsStep machine.step → IsIn (extent machine commands) p →

@@ -1,5 +1,5 @@
--- The lines of a report as facts: objects of one JSON document (RFC 8259), each behind a comma, on
--- a line of its own. Lengths are in nanometres. Our own.
+-- The lines of a report as facts: objects of one JSON document (RFC 8259), each after a comma, on
+-- its own line. Lengths are in nanometres. Our own.
 use Rattle.std.specs.Prelude.{ℕ, ℤ, List, [], ◌++◌, codes, decimal, Option, Some, None, length}
 use Rattle.std.specs.Prelude.{◌==◌, flat_map, if◌then◌else◌}
 use Rattle.std.specs.Fmt.{signed_decimal}
@@ -24,7 +24,7 @@ use Rattle.ngc_report.specs.declared.warnings.Warning.{Warning}
 
 -- ---- values
 
--- a name beside a number, where there is one
+-- a name with a number, if there is one
 unfoldable pub name_fact : List ℕ → List ℕ → List ℕ
 name_fact key name =
     if length name == 0 then []

@@ -1,4 +1,4 @@
--- How a report is spelled: in words, or as a JSON document. Our own.
+-- The forms of a report: in words, or as a JSON document. Our own.
 use Rattle.std.specs.Prelude.{ℕ, List, [], ◌++◌, codes, flat_map}
 use Rattle.ngc_report.specs.Facts.{line_fact}
 use Rattle.ngc_report.specs.Words.{line_text}
@@ -10,17 +10,17 @@ unfoldable pub spelled : Form → Line → List ℕ
 spelled Words l = line_text l
 spelled Json l = line_fact l
 
--- lines, one after another
+-- lines in order
 abbrev pub report_text : Form → List Line → List ℕ
 report_text form report = flat_map (spelled form) report
 
--- what stands before the whole: a JSON document is an array, whose first fact gives the version of
--- this format
+-- The text before the whole. A JSON document is an array whose first fact has the version of this
+-- format.
 abbrev pub opening : Form → List ℕ
 opening Words = []
 opening Json = codes "[{\"fact\":\"report\",\"version\":1}"
 
--- and behind it
+-- the text after the whole
 abbrev pub closing : Form → List ℕ
 closing Words = []
 closing Json = codes "\n]\n"

@@ -1,4 +1,4 @@
--- The side of the travel with the least room. Our own.
+-- The side of the travel with the least margin. Our own.
 use Rattle.std.specs.Prelude.{ℤ, pos, int_le, int_lt, ◌≡◌, if◌then◌else◌}
 use Rattle.ngc_report.specs.Rooms.{is_inside}
 use Rattle.ngc_report.specs.declared.margins.Axis.{Axis}
@@ -12,7 +12,7 @@ use Rattle.ngc_report.specs.declared.travel.Room.{Room}
 abbrev pub margin : Axis → Side → ℤ → Margin
 margin axis side left = record { axis = axis; side = side; left = left }
 
--- of two the one with less room, and the first where both have as much
+-- the smaller of two margins, and the first if they are equal
 abbrev pub narrower : Margin → Margin → Margin
 narrower m n = if int_lt n.left m.left then n else m
 
@@ -22,6 +22,6 @@ axis_margin axis r = narrower (margin axis Below r.below) (margin axis Above r.a
 abbrev pub tightest : Room → Margin
 tightest r = narrower (narrower (axis_margin X r.x) (axis_margin Y r.y)) (axis_margin Z r.z)
 
--- a box lies within the travel exactly where it does so on this side
+-- a box lies within the travel exactly if it does so on this side
 abbrev pub TightestTells : Type 0
 TightestTells = (r : Room) → is_inside r ≡ int_le (pos 0) (tightest r).left

@@ -1,4 +1,4 @@
--- Which word of a line a fault names, and how it is marked below the quoted line. Our own.
+-- The word of a line that a fault names, and its mark below the quoted line. Our own.
 use Rattle.std.specs.Prelude.{ℕ, ◌==◌, ℤ, List, [], ◌∷◌, ◌++◌, codes, find, Option, Some, None}
 use Rattle.std.specs.Prelude.{is_none, Result, Ok, Err, Bool, true, false, ◌&&◌, if◌then◌else◌}
 use Rattle.std.specs.List.{slice_get}
@@ -33,13 +33,13 @@ abbrev pub number_of : Symbol → Option ℤ
 number_of (symbols.Number n) = Some n
 number_of _ = None
 
--- the number that a word's value is written as, in millionths; none where it has brackets or a
+-- the number as which a word's value is written, in millionths; none if the value has brackets or a
 -- parameter
 abbrev pub written_number : List Token → RawWord → Option ℤ
 written_number tokens word = option_and_then (λ t. number_of t.symbol) (slice_get tokens word.first)
 
--- Of words with one letter any is wanted, or one that is written as this number, or one that isn't
--- written as a number.
+-- Of the words with one letter, any is wanted, or one that is written as this number, or one that
+-- isn't written as a number.
 abbrev pub is_wanted : Wanted → Option ℤ → Bool
 is_wanted Any written = true
 is_wanted (Number millionths) (Some n) = int_eq n millionths
@@ -91,7 +91,7 @@ missing_text missing.Axis = codes "An axis word is missing."
 missing_text (missing.Letter letter) =
     codes "The word " ++ letter_text letter ++ codes " is missing."
 
--- what is said of the word that a fault names
+-- the sentence about the word that a fault names
 abbrev pub phrase : Fault → List ℕ
 phrase (Modal (UnknownCode letter millionths)) = unknown_text letter millionths
 phrase (Modal (WithoutUse letter)) = idle_text letter
@@ -117,7 +117,7 @@ told_by Json fault = fact_sentence fault
 unfoldable pub sentence : Form → Fault → List ℕ
 sentence form fault = if has_phrase fault then told_by form fault else []
 
--- both below the line with this number, or nothing where there is none
+-- both below the line with this number, or nothing if there is none
 abbrev pub named_below : Form → ℕ → Fault → Option (List ℕ) → List ℕ
 named_below form number fault None = []
 named_below form number fault (Some bytes) =
@@ -126,7 +126,7 @@ named_below form number fault (Some bytes) =
 abbrev pub named_line : Form → ℕ → Fault → List Line → List ℕ
 named_line form number fault lines = named_below form number fault (bytes_with number lines)
 
--- a line with both below it, or nothing where there is none
+-- a line with both below it, or nothing if there is none
 abbrev pub named_quote : Form → ℕ → Fault → Option (List ℕ) → List ℕ
 named_quote form number fault None = []
 named_quote form number fault (Some bytes) =

@@ -1,4 +1,4 @@
--- How near the bodies of tools come to fixtures. Our own.
+-- The distances between the bodies of tools and fixtures. Our own.
 use Rattle.std.specs.Prelude.{ℕ, ◌+◌, nat_lt, int_lt, List, [], ◌∷◌, fold, flat_map, Option, Some}
 use Rattle.std.specs.Prelude.{None, Bool, ◌&&◌, ◌||◌, if◌then◌else◌, option_map, slice_get}
 use Rattle.std.specs.Ordering.{int_eq}
@@ -13,7 +13,7 @@ use Rattle.ngc_collision.specs.Body.{Solid, bodies, span}
 use Rattle.ngc_report.specs.Gaps.{gap}
 use Rattle.ngc_report.specs.declared.nearest.Nearest.{Nearest}
 
--- of two as near the one with the lower number counts as nearer
+-- of two at the same distance, the one with the lower number is nearer
 abbrev pub is_nearer : Nearest → Nearest → Bool
 is_nearer m n =
     int_lt m.distance n.distance || (int_eq m.distance n.distance && nat_lt m.fixture n.fixture)
@@ -27,7 +27,7 @@ abbrev pub distances : ℕ → List Fixture → Solid → List Nearest
 distances i [] b = []
 distances i (f ∷ fs) b = record { fixture = i; distance = gap f b } ∷ distances (i + 1) fs b
 
--- those of the parts of a tool, over a box of places, over pieces, and over motions
+-- the distances of the parts of a tool, over a box of positions, over pieces, and over motions
 abbrev pub around : MachineFile → Option Tool → GridBox → List Nearest
 around machine tool b = flat_map (distances 0 machine.fixtures) (bodies tool (span machine.step b))
 
@@ -41,7 +41,7 @@ over_motion machine tool e = over_pieces machine tool e.pieces
 abbrev pub nearest : MachineFile → Option Tool → List Entry → Option Nearest
 nearest machine tool motions = fold nearer None (flat_map (over_motion machine tool) motions)
 
--- the name of a fixture by its number, without characters where it has none
+-- the name of a fixture by its number, empty if it has none
 abbrev pub fixture_name : MachineFile → ℕ → List ℕ
 fixture_name machine i = name_from (option_map (λ f. f.name) (slice_get machine.fixtures i))
 

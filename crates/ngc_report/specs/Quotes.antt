@@ -11,7 +11,7 @@ use Rattle.ngc_report.specs.declared.form.Form.TheVariants.{Words, Json}
 abbrev pub line_with : ℕ → List Line → Option Line
 line_with number lines = find (λ l. l.number == number) lines
 
--- in a JSON string a quotation mark and a backslash stand behind a backslash
+-- a JSON string has a backslash before a quotation mark and before a backslash
 abbrev pub escaped : ℕ → List ℕ
 escaped b = if b == 34 || b == 92 then 92 ∷ b ∷ [] else b ∷ []
 
@@ -27,14 +27,14 @@ quote Json number (Some bytes) = fact_quote number bytes
 abbrev pub bytes_with : ℕ → List Line → Option (List ℕ)
 bytes_with number lines = option_map (λ l. l.bytes) (line_with number lines)
 
--- the line with this number, or nothing where there is none
+-- the line with this number, or nothing if there is none
 abbrev pub quoted : Form → ℕ → List Line → List ℕ
 quoted form number lines = quote form number (bytes_with number lines)
 
 -- ---- marks
 
--- how many columns stand in front of a column of a line that is shown behind `Line 3: `; a line has
--- at most 256, and one too long is marked behind them
+-- The number of columns before a column of a line that is shown after `Line 3: `. A line has at
+-- most 256, and one that is too long is marked after them.
 abbrev pub indent : ℕ → ℕ → ℕ
 indent number column = length (decimal number) + min column 257 + 6
 
@@ -50,7 +50,7 @@ unfoldable pub mark : Form → ℕ → ℕ → List ℕ
 mark Words number column = words_mark number column
 mark Json number column = fact_mark number column
 
--- a line with the mark, or nothing where there is no such line
+-- a line with the mark, or nothing if there is no such line
 unfoldable pub marked : Form → ℕ → ℕ → Option (List ℕ) → List ℕ
 marked form number column None = []
 marked form number column (Some bytes) = quote form number (Some bytes) ++ mark form number column

@@ -30,14 +30,14 @@ use Rattle.ngc_report.specs.declared.travel.AxisRoom.{AxisRoom}
 use Rattle.ngc_report.specs.declared.uses.ToolUse.{ToolUse}
 use Rattle.ngc_report.specs.declared.warnings.Concern.TheVariants.{NoTool}
 
--- the text of lines comes behind what was collected; where a write fails, a beginning of both is
+-- the text of lines is added after the collected text; if a write fails, a prefix of both is
 -- written
 abbrev pub Tells : Form → Option (List ℕ) → Option (List ℕ) → List ℕ → List ℕ →
     Result (Unit {0}) WriteFault → List Line → Type 0
 Tells form old new before after result told =
     Collects old new before after result (report_text form told)
 
--- how far a program goes along each axis
+-- the extent of a program along each axis
 abbrev pub along : Axis → ℤ → ℤ → ℤ → AxisRoom → Line
 along axis step low high r =
     lines.Along (record { axis = axis; low = low *ℤ step; high = high *ℤ step; room = r })
@@ -55,8 +55,8 @@ motions_in u = u.traverses + u.feeds + u.arcs
 abbrev pub near_line : MachineFile → Option Nearest → Line
 near_line machine n = lines.Near n (nearest_name machine n)
 
--- each use, with what it comes nearest to; a certificate's motions go with those of the uses in
--- order
+-- Each use, with its nearest fixture. The motions of a certificate belong to the uses' motions in
+-- order.
 abbrev pub use_lines : MachineFile → List ToolUse → List Entry → List Line
 use_lines machine [] motions = []
 use_lines machine (u ∷ us) motions =
@@ -65,11 +65,11 @@ use_lines machine (u ∷ us) motions =
 
 -- ---- reports
 
--- without a tool a motion is tested for the spindle nose alone
+-- without a tool, a motion is tested only for the spindle nose
 abbrev pub fit_line : MachineFile → List Command → Line
 fit_line machine commands = lines.Fits (warning_about machine NoTool commands)
 
--- of a program that fits
+-- the lines of a program that fits
 abbrev pub fit_lines : MachineFile → List Command → List Entry → List Line
 fit_lines machine commands motions =
     fit_line machine commands ∷ (alongs machine (fit_extent machine motions)
@@ -81,7 +81,7 @@ ArePiecesInTravel machine motions =
     All (λ (e : Entry). All (λ (p : Piece). IsTrue (is_in_travel machine p.bounds)) e.pieces)
     motions
 
--- a line that tells an extent tells of no side on which something is missing
+-- a line with an extent has no negative margin
 abbrev pub is_line_inside : Line → Bool
 is_line_inside (lines.Along a) = is_inside_on a.room
 is_line_inside _ = true
@@ -107,16 +107,15 @@ cause_lines machine commands None fixture = start_lines machine fixture
 cause_lines machine commands (Some k) fixture =
     scene_lines machine k fixture (scene_at machine commands k)
 
--- of one that doesn't: at a command, or at the start
+-- the lines of a program that is refused at a command, or at the start
 abbrev pub refusal_lines : MachineFile → List Command → Option ℕ → Option ℕ → List Line
 refusal_lines machine commands command fixture =
     lines.Refused
     ∷ (alongs machine (extent machine commands) ++ cause_lines machine commands command fixture)
 
--- ---- all that is refused
+-- ---- all refused commands
 
--- each command with one of these indices that is a motion or a change of the tool, with what is in
--- its way
+-- each command with one of these indices that is a motion or a tool change, with its obstacle
 abbrev pub causes_lines : MachineFile → List Command → List ℕ → List Line
 causes_lines machine commands ks =
     flat_map (λ k. scene_lines machine k None (scene_at machine commands k)) ks
@@ -129,13 +128,13 @@ abbrev pub start_lines_if : MachineFile → Bool → List Line
 start_lines_if machine false = []
 start_lines_if machine true = start_lines machine None
 
--- how far a program goes at a setting, without a certificate: where nothing is refused, each
--- position lies within the travel
+-- the extent of a program at a setting, without a certificate; if nothing is refused, each position
+-- lies within the travel
 abbrev pub told_extent : MachineFile → List Command → Bool → List ℕ → GridBox
 told_extent machine commands false [] = extent_in_travel machine commands
 told_extent machine commands _ _ = extent machine commands
 
--- of a setting at which these commands are refused, and the start or not
+-- the lines of a setting at which these commands are refused, and perhaps the start
 abbrev pub all_lines : MachineFile → List Command → Bool → List ℕ → List Line
 all_lines machine commands start ks =
     verdict_line machine commands start ks

@@ -1,4 +1,4 @@
--- What is left between a box of grid points and the travel limits. Our own.
+-- The margins between a box of grid points and the travel limits. Our own.
 use Rattle.std.specs.Prelude.{ℤ, pos, ◌-ℤ◌, ◌*ℤ◌, int_le, Bool, ◌&&◌, ◌≡◌}
 use Rattle.ngc_fixed_length.specs.declared.points.GridBox.{GridBox}
 use Rattle.ngc_machine_files.specs.Machine.{MachineFile}
@@ -6,8 +6,8 @@ use Rattle.ngc_collision.specs.Body.{is_in_travel}
 use Rattle.ngc_report.specs.declared.travel.AxisRoom.{AxisRoom}
 use Rattle.ngc_report.specs.declared.travel.Room.{Room}
 
--- along an axis, in nanometres: how far the lowest point lies above the least coordinate of the
--- travel, and the highest below the greatest
+-- the margins along an axis, in nanometres: from the least coordinate of the travel to the lowest
+-- point, and from the highest point to the greatest coordinate
 abbrev pub axis_room : ℤ → ℤ → ℤ → ℤ → ℤ → AxisRoom
 axis_room step low high least greatest =
     record { below = (low *ℤ step) -ℤ least; above = greatest -ℤ (high *ℤ step) }
@@ -19,14 +19,14 @@ room m b = record {
   z = axis_room m.step b.low.z b.high.z m.low.z m.high.z;
 }
 
--- nothing is missing on either side
+-- neither margin is negative
 abbrev pub is_inside_on : AxisRoom → Bool
 is_inside_on r = int_le (pos 0) r.below && int_le (pos 0) r.above
 
 abbrev pub is_inside : Room → Bool
 is_inside r = is_inside_on r.x && (is_inside_on r.y && is_inside_on r.z)
 
--- a box lies within the travel exactly where nothing is missing
+-- a box lies within the travel exactly if no margin is negative
 abbrev pub RoomTells : Type 0
 RoomTells =
     (machine : MachineFile) (b : GridBox) → is_inside (room machine b) ≡ is_in_travel machine b

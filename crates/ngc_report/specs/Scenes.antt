@@ -1,4 +1,4 @@
--- What is in the way of a command. Our own.
+-- The obstacle of a command. Our own.
 use Rattle.std.specs.Prelude.{◌≡◌, ◌≤◌, length, ℕ, ℤ, pos, ◌-ℤ◌, ◌*ℤ◌, int_le, List, take}
 use Rattle.std.specs.Prelude.{slice_get, Option, Some, None, option_map, option_and_then}
 use Rattle.std.specs.Prelude.{if◌then◌else◌}
@@ -26,15 +26,15 @@ use Rattle.ngc_report.specs.declared.scene.Obstacle.TheVariants as obstacles
 use Rattle.ngc_report.specs.declared.scene.Scene.{Scene}
 use Rattle.ngc_report.specs.declared.refusals.Standing.{Standing}
 
--- how the machine stands behind commands
+-- the machine's state after commands
 abbrev pub standing : MachineFile → List Command → Reached
 standing machine commands = after_all (at_start machine) commands
 
--- where a grid point lies, in nanometres
+-- the position of a grid point, in nanometres
 abbrev pub lying : ℤ → StepPos → Place
 lying step p = record { x = p.x *ℤ step; y = p.y *ℤ step; z = p.z *ℤ step }
 
--- where the machine goes for a point of the program: to the grid point nearest to it
+-- the position to which the machine moves for a point of the program: the nearest grid point
 abbrev pub reached_at : MachineFile → Point3 → Place
 reached_at machine p = lying machine.step (grid machine.step p)
 
@@ -64,7 +64,7 @@ moving machine line tool m =
 abbrev pub start_scene : MachineFile → Scene
 start_scene machine = still machine 0 None machine.start
 
--- a motion with the tool mounted then, and a change with the new one
+-- a motion with the tool that is mounted then, and a tool change with the new tool
 abbrev pub scene_by : MachineFile → Reached → ℕ → Action → Option Scene
 scene_by machine s line (Move m) = Some (moving machine line s.tool m)
 scene_by machine s line (Mount tool) = Some (still machine line tool s.place)
@@ -73,21 +73,21 @@ scene_by machine s line _ = None
 abbrev pub scene_of : MachineFile → Reached → Command → Option Scene
 scene_of machine s c = scene_by machine s c.line c.action
 
--- that of command k
+-- the scene of command `k`
 abbrev pub scene_at : MachineFile → List Command → ℕ → Option Scene
 scene_at machine commands k =
     option_and_then (scene_of machine (standing machine (take k commands))) (slice_get commands k)
 
--- how far the lowest end of a tool lies above the controlled point
+-- the height of the lowest end of a tool above the controlled point
 abbrev pub foot : Option Tool → ℤ
 foot None = pos 0
 foot (Some tool) = tool.bottom
 
--- the height from which on the whole tool is over a fixture
+-- the lowest height at which the whole tool is over a fixture
 abbrev pub over_height : Option Tool → Fixture → ℤ
 over_height tool f = f.high.z -ℤ foot tool
 
--- where that is in the travel
+-- that height, if it is within the travel
 abbrev pub over : MachineFile → Option Tool → Fixture → Option ℤ
 over machine tool f =
     if int_le (over_height tool f) machine.high.z then Some (over_height tool f) else None
@@ -99,8 +99,8 @@ named machine tool i =
     (record { number = i; fixture = f; over = over machine tool f }))
     (slice_get machine.fixtures i)
 
--- The fixture that is named. Else the side of the travel that the motion in pieces leaves, or the
--- first fixture that is met over the motion in one piece.
+-- The fixture that is named. Otherwise the side of the travel that the motion in pieces leaves, or
+-- the first fixture that is met over the motion in one piece.
 abbrev pub obstacle : MachineFile → Scene → Option ℕ → Option Obstacle
 obstacle machine scene (Some i) = named machine scene.tool i
 obstacle machine scene None =
@@ -108,7 +108,7 @@ obstacle machine scene None =
     then option_and_then (named machine scene.tool) (first_met machine scene.tool scene.bounds)
     else Some (obstacles.Travel (tightest (room machine scene.in_pieces)))
 
--- the machine stands so behind the first of these commands
+-- the machine's state after the first of these commands
 pub record StandsBehind (machine : MachineFile) (commands : List Command) (s : Standing) :
     Type 0 where
   pub within : s.count ≤ length commands

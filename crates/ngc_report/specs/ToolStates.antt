@@ -1,4 +1,4 @@
--- What the commands before one leave, as far as a warning needs it. Our own.
+-- The state after the commands before one, as far as a warning needs it. Our own.
 use Rattle.std.specs.Prelude.{nat_lt, ℤ, List, [], ◌∷◌, Option, Some, None, Bool, true, false}
 use Rattle.std.specs.Prelude.{if◌then◌else◌}
 use Rattle.ngc_fixed_length.specs.declared.points.GridBox.{GridBox}
@@ -18,7 +18,7 @@ use Rattle.ngc_report.specs.declared.tool_state.Entry.{Entry}
 use Rattle.ngc_report.specs.declared.warnings.Concern.{Concern}
 use Rattle.ngc_report.specs.declared.warnings.Concern.TheVariants.{LowAcross}
 
--- at speed 0 it stands still
+-- at speed 0 the spindle stands still
 abbrev pub turns : SpindleState → Bool
 turns Off = false
 turns (Turning turn speed) = nat_lt 0 speed
@@ -61,7 +61,7 @@ abbrev pub with_feed : ℤ → Option GridBox → Action → Option GridBox
 with_feed step found (Move m) = with_way step found m.pace m.way
 with_feed step found _ = found
 
--- the least box that holds the box of each feed, and none where nothing is fed
+-- the least box that holds the box of each feed, or none without feeds
 abbrev pub area : ℤ → Option GridBox → List Command → Option GridBox
 area step found [] = found
 area step found (c ∷ cs) = area step (with_feed step found c.action) cs

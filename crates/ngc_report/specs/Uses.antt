@@ -70,7 +70,7 @@ is_dwell c = dwells c.action
 abbrev pub is_stop : Command → Bool
 is_stop c = stops c.action
 
--- ---- how far the tool goes along lines, in nanometres
+-- ---- the distance along lines, in nanometres
 
 abbrev pub traversed : Command → ℕ
 traversed c = if is_traverse c then length_of c else 0
@@ -84,7 +84,7 @@ fed c = if is_feed c then length_of c else 0
 abbrev pub stretch : List Command → List Command
 stretch commands = take_while (λ c. not (is_change c)) commands
 
--- what is done with a tool that is mounted before these commands
+-- the use of a tool that is mounted before these commands
 abbrev pub use_of : Option Tool → List Command → ToolUse
 use_of tool commands = record {
   tool = tool;
@@ -109,7 +109,7 @@ abbrev pub changes : List Command → List ToolUse
 changes [] = []
 changes (c ∷ cs) = begun c.action cs ++ changes cs
 
--- one without a tool comes first where it moves something
+-- the use without a tool comes first, if it moves something
 abbrev pub first_use : ToolUse → Option ToolUse
 first_use u = if moves u then Some u else None
 
@@ -120,6 +120,6 @@ with_first (Some u) uses = u ∷ uses
 abbrev pub tool_uses : List Command → List ToolUse
 tool_uses commands = with_first (first_use (use_of None commands)) (changes commands)
 
--- those that are still to come
+-- the remaining uses
 abbrev pub uses_left : ToolUses → List ToolUse
 uses_left uses = with_first uses.first (changes uses.later.now)

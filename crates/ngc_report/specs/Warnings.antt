@@ -1,4 +1,4 @@
--- What passes and is nearly always a mistake. Our own.
+-- Mistakes in a program that passes. Our own.
 use Rattle.std.specs.Prelude.{ℕ, ◌+◌, ◌*◌, min, nat_lt, nat_le, ℤ, int_lt, unsigned_abs, List, []}
 use Rattle.std.specs.Prelude.{◌∷◌, ◌++◌}
 use Rattle.std.specs.Prelude.{length, Option, Some, None, Bool, false, not, ◌&&◌, ◌||◌}
@@ -40,11 +40,11 @@ use Rattle.ngc_report.specs.declared.warnings.Warning.{Warning}
 
 -- ---- without a tool
 
--- a box doesn't stay at the height of a grid point
+-- a box that leaves the height of a grid point
 abbrev pub leaves : StepPos → GridBox → Bool
 leaves p b = not (int_eq b.low.z p.z) || not (int_eq b.high.z p.z)
 
--- a motion that doesn't stay at the height of the start, without a tool
+-- a motion that leaves the height of the start, without a tool
 abbrev pub is_unarmed : MachineFile → Option Tool → Way → Bool
 is_unarmed machine None way = leaves (grid machine.step machine.start) (reach machine.step way)
 is_unarmed machine (Some tool) way = false
@@ -58,27 +58,27 @@ is_idle is_turning tool pace = false
 
 -- ---- too fast
 
--- the speed of a step a tick, in nanometres a second
+-- the speed of one step per tick, in nanometres per second
 abbrev pub step_speed : MachineFile → ℕ
 step_speed machine = unsigned_abs machine.step * machine.ticks_per_second
 
--- a rate, and no more than that of an axis along which a motion goes from low to high
+-- a rate, limited to that of an axis along which a motion goes from `low` to `high`
 abbrev pub rate_on_axis : ℤ → ℤ → ℕ → ℕ → ℕ
 rate_on_axis low high of_axis rate = if int_eq low high then rate else min rate of_axis
 
--- the greatest rate of a motion with this box, in millionths of a step a tick
+-- the greatest rate of a motion with this box, in millionths of a step per tick
 abbrev pub greatest_rate : MachineFile → GridBox → ℕ
 greatest_rate m b =
     rate_on_axis b.low.x b.high.x m.axis_rates.x
     (rate_on_axis b.low.y b.high.y m.axis_rates.y
     (rate_on_axis b.low.z b.high.z m.axis_rates.z m.max_rate))
 
--- its greatest speed along an axis, in millionths of a nanometre a second
+-- its greatest speed along an axis, in millionths of a nanometre per second
 abbrev pub greatest_speed : MachineFile → Way → ℕ
 greatest_speed machine way =
     greatest_rate machine (reach machine.step way) * step_speed machine
 
--- a feed in nanometres a minute that is above it
+-- a feed in nanometres per minute that is above it
 abbrev pub is_fast : MachineFile → Way → Pace → Bool
 is_fast machine way (Feed (PerMinute feed)) =
     nat_lt (60 * greatest_speed machine way) (1000000 * feed)
@@ -89,15 +89,16 @@ is_fast machine way _ = false
 abbrev pub square_apart : Point2 → Point2 → ℕ
 square_apart p q = square_between p.u q.u + square_between p.v q.v
 
--- the ends lie less than 0.01 mm apart, and less than a degree about the centre: the square of the
--- chord of a degree is the 3,283rd part of the squared radius
+-- The ends lie less than 0.01 mm apart, and less than a degree about the centre: the square of the
+-- chord of a degree is the 3,283rd part of the squared radius.
 abbrev pub ends_meet : ArcShape → Bool
 ends_meet a =
     nat_lt (square_apart (start_of a) (end_of a)) 100000000
     && nat_le (3283 * square_apart (start_of a) (end_of a)) (inner_radius a * inner_radius a)
 
--- such ends, and no full circle: where two of the points at which a full circle crosses the axes
--- through its centre are on the arc it is longer than a degree, and so longer than 359 degrees
+-- Such ends, but no full circle. If two of the points at which a full circle crosses the axes
+-- through its centre are on the arc, it is longer than a degree, and therefore longer than 359
+-- degrees.
 abbrev pub is_nearly_full : Way → Bool
 is_nearly_full (Arc a) = ends_meet a && (not (is_full a) && nat_lt 1 (length (extremes a)))
 is_nearly_full (Line start end) = false
@@ -120,11 +121,11 @@ goes_home machine start end =
 abbrev pub is_low : MachineFile → Solid → Bool
 is_low machine b = list_any (λ f. int_lt b.low.z f.high.z) machine.fixtures
 
--- some body of the tool does while the machine goes all over a box
+-- some body of the tool is low, for some position in a box
 abbrev pub comes_low : MachineFile → Option Tool → GridBox → Bool
 comes_low machine tool b = list_any (is_low machine) (bodies tool (span machine.step b))
 
--- a traverse home on which it does
+-- a traverse home on which the tool comes low
 abbrev pub is_low_home : MachineFile → Option Tool → Way → Pace → Bool
 is_low_home machine tool (Line start end) Rapid =
     goes_home machine start end && comes_low machine tool (reach machine.step (Line start end))
@@ -169,7 +170,7 @@ concerns machine NearlyFull s m = is_nearly_full m.way
 concerns machine LowHome s m = is_low_home machine s.reached.tool m.way m.pace
 concerns machine LowAcross s m = is_low_across machine.step s.area s.entry m.way m.pace
 
--- a motion, with what holds then of tool and spindle
+-- a motion, with the tool and the spindle at that point
 abbrev pub is_concerned : MachineFile → Concern → ToolState → Action → Bool
 is_concerned machine concern s (Move m) = concerns machine concern s m
 is_concerned machine concern s _ = false
@@ -187,7 +188,7 @@ abbrev pub last_of : ℕ → List ℕ → ℕ
 last_of line [] = line
 last_of line (next ∷ lines) = last_of next lines
 
--- none, or one with their number, the first and the last
+-- no warning, or one with the number of lines, the first and the last
 abbrev pub warning : Concern → List ℕ → Option Warning
 warning concern [] = None
 warning concern (line ∷ lines) = Some (record {
@@ -208,11 +209,11 @@ warned_lines (Some w) = lines.Warned w ∷ []
 abbrev pub warned : MachineFile → Concern → List Command → List told.Line
 warned machine concern commands = warned_lines (warning_about machine concern commands)
 
--- of traverses
+-- the warnings about traverses
 abbrev pub traverse_lines : MachineFile → List Command → List told.Line
 traverse_lines machine commands = warned machine LowHome commands ++ warned machine LowAcross commands
 
--- of a motion by itself, and of traverses
+-- the warnings about single motions, and about traverses
 abbrev pub motion_lines : MachineFile → List Command → List told.Line
 motion_lines machine commands =
     warned machine FastFeed commands
@@ -223,9 +224,9 @@ warning_lines machine commands =
     warned machine NoTool commands
     ++ (warned machine IdleSpindle commands ++ motion_lines machine commands)
 
--- ---- as they are counted
+-- ---- the count of commands
 
--- one command more is concerned
+-- the count with one more command
 abbrev pub counted : Concern → Option Warning → ℕ → Option Warning
 counted concern None line =
     Some (record { concern = concern; count = 1; line = line; last = line })

@@ -26,7 +26,7 @@ use Rattle.ngc_report.specs.declared.warnings.Warning.{Warning}
 
 -- ---- lengths
 
--- what is left on a side of the travel, or how much too far it goes there
+-- the margin on a side of the travel, or the distance beyond it
 abbrev pub room_words : ℤ → List ℕ
 room_words (pos n) = codes " mm left"
 room_words (negsuc n) = codes " mm too far"
@@ -53,7 +53,7 @@ unfoldable pub tool_text : Option Tool → List ℕ
 tool_text None = codes "no tool"
 tool_text (Some tool) = codes "tool " ++ decimal tool.number
 
--- a name after a number, where there is one
+-- a name after a number, if there is one
 unfoldable pub bracketed : List ℕ → List ℕ
 bracketed name = if length name == 0 then [] else codes " (" ++ name ++ codes ")"
 
@@ -88,7 +88,7 @@ command_text k s =
     ++ called_text s.tool ++ codes ", from " ++ place_text (place_of s.from) ++
     codes " to " ++ place_text (place_of s.to) ++ codes ".\n"
 
--- the height from which on a fixture is passed over, where the travel has it
+-- the height from which a fixture is passed over, if the travel includes it
 unfoldable pub over_text : Option ℤ → List ℕ
 over_text None = codes ".\n"
 over_text (Some height) = codes "; from Z " ++ mm_text height ++ codes " up it passes over.\n"

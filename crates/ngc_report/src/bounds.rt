@@ -1,4 +1,4 @@
-//! How far a program goes.
+//! The extent of a program.
 ghost use Rattle.std.specs.Prelude.{◌≡◌, ◌∷◌, ◌+ℤ◌, ◌-ℤ◌, [], fold, map, pos};
 ghost use Rattle.std.specs.Int.{int_min, int_max};
 ghost use Rattle.ngc_commands.specs.Movement.{ways_of};
@@ -26,7 +26,7 @@ pub(crate) fn joint_box(one: &GridBox, other: &GridBox) -> GridBox
     }
 }
 
-/// The box in which every path of a motion lies. The step is 500 to 50,000 nm.
+/// Returns the box in which every path of a motion lies. The step is 500 to 50,000 nm.
 pub fn reach(step: Nm, way: &Way) -> GridBox
     requires { IsStep step }
     ensures { result ≡ reach step way.now }
@@ -37,14 +37,14 @@ pub fn reach(step: Nm, way: &Way) -> GridBox
     }
 }
 
-/// The lesser of a coordinate's next one and another.
+/// Returns the lesser of `low` plus 1 and `other`.
 fn lesser_next(low: i32, other: i32) -> i32
     ensures { result ≡ int_min (low +ℤ pos 1) other }
 {
     if low < other { low + 1 } else { other }
 }
 
-/// The greater of the coordinate before one and another.
+/// Returns the greater of `high` minus 1 and `other`.
 fn greater_previous(high: i32, other: i32) -> i32
     ensures { result ≡ int_max (high -ℤ pos 1) other }
 {
@@ -91,10 +91,10 @@ fn cut_reach(arc: &Arc, step: Nm) -> GridBox
     joint_with_shrunk(&arc.swept_box(step), &ends)
 }
 
-/// Returns the box of all pieces of a motion, where a large arc is cut a step inside at each quadrant
+/// Returns the box of all pieces of a motion, if a large arc is cut a step inside at each quadrant
 /// point. The step is 500 to 50,000 nm.
 ///
-/// It is a step smaller than `reach` where a large arc passes a quadrant point.
+/// The box is a step smaller than `reach` on a side where a large arc passes a quadrant point.
 pub(crate) fn reach_in_pieces(step: Nm, way: &Way) -> GridBox
     requires { IsStep step }
     ensures { result ≡ reach_in_pieces step way.now }
@@ -121,7 +121,7 @@ fn with_action(step: Nm, bounds: GridBox, action: &Action) -> GridBox
     }
 }
 
-/// The least box of grid points that holds the start point and the box of each motion.
+/// Returns the least box of grid points that holds the start point and the box of each motion.
 pub fn extent<A: Allocator>(machine: &Machine<A>, commands: &[Command]) -> GridBox
     ensures { result ≡ extent (file_of machine.now) commands.now }
 {
@@ -141,8 +141,8 @@ fn common_box(one: &GridBox, other: &GridBox) -> GridBox
     }
 }
 
-/// Returns the part of the extent that lies within the travel limits, in which each position of a
-/// program that fits lies.
+/// Returns the part of the extent that lies within the travel limits. It contains each position of
+/// a program that fits.
 pub(crate) fn extent_in_travel<A: Allocator>(machine: &Machine<A>, commands: &[Command]) -> GridBox
     ensures { result ≡ extent_in_travel (file_of machine.now) commands.now }
 {
@@ -159,11 +159,11 @@ fn with_pieces(bounds: GridBox, pieces: &[Piece]) -> GridBox
     joint
 }
 
-/// Returns the least box of grid points that holds the start point and the box of each piece of
-/// the motions.
+/// Returns the least box of grid points that holds the start point and the box of each piece of the
+/// motions.
 ///
-/// Where the motions are those of a certificate, each position of the program lies in this box. It
-/// is smaller than `extent` where an arc is cut.
+/// If the motions are those of a certificate, each position of the program lies in this box. It is
+/// smaller than `extent` if an arc is cut.
 pub fn fit_extent<A: Allocator, B: Allocator>(machine: &Machine<A>, motions: &Motions<B>) -> GridBox
     ensures { result ≡ fit_extent (file_of machine.now) motions.now }
 {

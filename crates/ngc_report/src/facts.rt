@@ -1,4 +1,4 @@
-//! How the lines of a report are spelled as facts of a JSON document.
+//! How the lines of a report are written as facts of a JSON document.
 ghost use Rattle.std.specs.Prelude.{◌≡◌, ◌+◌, ◌≤◌, ◌++◌, codes, decimal, length};
 ghost use Rattle.std.specs.Fmt.{signed_decimal};
 ghost use Rattle.ngc_collision.specs.Inside.{place_of};
@@ -22,7 +22,7 @@ use ngc_collision::Place;
 use ngc_machine_files::{Name, Tool};
 use ngc_text::Chunk;
 
-/// Adds a name beside a number, where there is one.
+/// Adds a name with a number, if there is one.
 #[tactic(auto, unfolding(crate::specs::Facts::name_fact))]
 fn add_name(chunk: &mut Chunk, key: &[u8], name: &Name)
     requires room { length chunk.old + 100 ≤ CHUNK_SIZE }
@@ -246,7 +246,7 @@ fn add_warning(chunk: &mut Chunk, warning: &Warning)
     chunk.add_text(b"}");
 }
 
-// Adds that a program fits, and on which motions only the spindle nose was tested.
+// Adds that a program fits, and the motions on which only the spindle nose was tested.
 fn add_nose(chunk: &mut Chunk, nose: &Warning)
     requires { HasLineRoom chunk.old }
     ensures { chunk.new ≡ chunk.old ++ nose_fact nose.now }
@@ -271,7 +271,7 @@ fn add_fits(chunk: &mut Chunk, nose: &Option<Warning>)
     }
 }
 
-/// Adds the fact that a line tells.
+/// Adds the fact of a line.
 #[tactic(auto, unfolding(crate::specs::Facts::line_fact))]
 pub(crate) fn add_fact(chunk: &mut Chunk, line: &Line)
     requires { HasLineRoom chunk.old }

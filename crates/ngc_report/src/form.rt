@@ -1,8 +1,8 @@
-/// How a report is spelled.
+/// The form in which a report is written.
 #[derive(Clone, Copy)]
 pub enum Form {
-    /// In sentences, with lengths in millimetres.
+    /// Sentences, with lengths in millimetres.
     Words,
-    /// As a JSON document of facts, with lengths in nanometres.
+    /// A JSON document of facts, with lengths in nanometres.
     Json,
 }

@@ -1,4 +1,4 @@
-//! How far the body of a tool stays away from fixtures.
+//! The gap between the body of a tool and fixtures.
 ghost use Rattle.std.specs.Prelude.{◌≡◌, ◌<◌, ◌^◌, ◌-ℤ◌, unsigned_abs};
 ghost use Rattle.std.specs.Int.{int_max};
 ghost use Rattle.ngc_collision.specs.Inside.{solid_of};
@@ -16,7 +16,7 @@ fn greater(a: i128, b: i128) -> i128
     a.max(b)
 }
 
-/// How far one coordinate lies above another.
+/// Returns the height of one coordinate above another.
 fn rise(from: i64, to: i64) -> i128
     ensures value { result ≡ to -ℤ from }
     ensures bound { unsigned_abs result < 2 ^ 70 }
@@ -31,8 +31,9 @@ fn axis_gap(low: i64, high: i64, least: i64, greatest: i64) -> i128
     greater(rise(high, least), rise(greatest, low))
 }
 
-/// How far a box stays away from a fixture, in nanometres: the greatest of the gaps along the three
-/// axes, by which the fixture might be larger on every side. It is below zero where they overlap.
+/// Returns the gap between a box and a fixture, in nanometres: the greatest of the gaps along the
+/// three axes. The fixture might be larger by this much on every side. It is below zero if they
+/// overlap.
 pub fn gap(fixture: &Fixture, solid: &Solid) -> i128
     ensures value { result ≡ gap fixture.now (solid_of solid.now) }
     ensures bound { unsigned_abs result < 2 ^ 70 }

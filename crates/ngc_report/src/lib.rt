@@ -1,7 +1,8 @@
-//! What a program does on a machine, in numbers and in words: how far it goes, and with how much
-//! room.
+//! Reports of a program on a machine, in numbers and in words: its extent, and the margins to the
+//! travel limits.
 //!
-//! A report is lines of text, with lengths in millimetres, exactly. Of a program that fits, where
+//! A report is lines of text, with lengths in millimetres, exactly. An example for a program that
+//! fits, where tool 3 is mounted after a motion without a tool:
 //! tool 3 is mounted after a motion without a tool:
 //!
 //! ```text
@@ -15,10 +16,10 @@
 //! 1; nearest fixture 2, 4.25 mm away.
 //! ```
 //!
-//! Where motions without a tool leave the height of the start, the first line is `The program fits,
+//! If motions without a tool leave the height of the start, the first line is `The program fits,
 //! but without a tool only the spindle nose was tested: motions 2, the first in line 3, the last in
-//! line 4.` Without fixtures a use ends behind its stops. Of a program that is refused, commands and
-//! fixtures count from 0:
+//! line 4.` Without fixtures a use ends after its stops. In the report of a program that is
+//! refused, commands and fixtures count from 0:
 //!
 //! ```text
 //! The program does not fit.

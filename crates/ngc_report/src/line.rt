@@ -6,7 +6,7 @@ use crate::uses::ToolUse;
 use crate::warnings::Warning;
 use ngc_machine_files::Name;
 
-/// How far a program goes along an axis, in nanometres, and what is left there.
+/// The extent of a program along an axis, in nanometres, and the margins there.
 #[derive(Clone, Copy)]
 pub struct Along {
     pub axis: Axis,
@@ -18,23 +18,23 @@ pub struct Along {
 /// A line of a report.
 #[derive(Clone, Copy)]
 pub enum Line {
-    /// Every position is inside the travel and clear of every fixture. On these motions, if there
-    /// are any, no tool is mounted, so that only the spindle nose was tested.
+    /// Every position is inside the travel and clear of every fixture. On the motions of the
+    /// warning, if there is one, no tool is mounted, so that only the spindle nose was tested.
     Fits(Option<Warning>),
-    /// A motion, a tool change or the start isn't.
+    /// A motion, a tool change or the start isn't clear.
     Refused,
-    /// How far it goes along an axis.
+    /// The extent along an axis.
     Along(Along),
     /// The use of a tool.
     Use(ToolUse),
-    /// The fixture that it comes nearest to, with its name.
+    /// The nearest fixture, with its name.
     Near(Option<Nearest>, Name),
     /// The start, which is refused.
     Start(Scene),
     /// The command that is refused, by its index from 0.
     Command(usize, Scene),
-    /// What is in the way.
+    /// The obstacle.
     InTheWay(Option<Obstacle>),
-    /// What passes and is nearly always a mistake.
+    /// A warning about a program that passes.
     Warned(Warning),
 }

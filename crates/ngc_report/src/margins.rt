@@ -1,4 +1,4 @@
-//! Where a box comes nearest to the travel limits, or leaves them farthest.
+//! The side on which a box is nearest to the travel limits, or leaves them farthest.
 ghost use Rattle.std.specs.Prelude.{◌≡◌};
 ghost use Rattle.ngc_report.specs.Margins.{narrower, axis_margin, tightest};
 
@@ -19,8 +19,8 @@ pub enum Side {
     Above,
 }
 
-/// What is left on one side of the travel, in nanometres; below zero by how much a box leaves it
-/// there.
+/// The distance from a box to one side of the travel, in nanometres. It is below zero if the box
+/// leaves the travel there.
 #[derive(Clone, Copy)]
 pub struct Margin {
     pub axis: Axis,
@@ -51,8 +51,8 @@ fn axis_margin(axis: Axis, room: &AxisRoom) -> Margin
 }
 
 impl Room {
-    /// The side with the least room; of sides with as little the first, in the order X below, X
-    /// above, Y below and on.
+    /// Returns the side with the least margin. Of equal ones it is the first, in the order X below,
+    /// X above, Y below and so on.
     pub fn tightest(&self) -> Margin
         ensures { result ≡ tightest self.now }
     {

@@ -25,7 +25,7 @@ use ngc_modal_state::{MissingWord, ModalFault};
 use ngc_text::{Chunk, Sink, WriteFault};
 use std::alloc::Allocator;
 
-/// Returns the byte that spells a letter, in upper case.
+/// Returns the byte of a letter, in upper case.
 pub fn letter_byte(letter: Letter) -> u8
     ensures { result ≡ letter_byte letter }
 {
@@ -53,13 +53,13 @@ pub fn letter_byte(letter: Letter) -> u8
     }
 }
 
-/// Which of a line's words with one letter is wanted.
+/// The wanted word among the words of a line with one letter.
 #[derive(Clone, Copy)]
 enum Wanted {
     Any,
-    /// One whose value is written as this number, in millionths.
+    /// A word whose value is written as this number, in millionths.
     Number(i64),
-    /// One whose value has brackets or a parameter.
+    /// A word whose value has brackets or a parameter.
     Reckoned,
 }
 
@@ -72,8 +72,8 @@ fn number_of(symbol: Symbol) -> Option<i64>
     }
 }
 
-/// Returns the number that a word's value is written as, in millionths, among the tokens of its
-/// line, or `None` where the value has brackets or a parameter.
+/// Returns the number as which a word's value is written, in millionths, or `None` if the value has
+/// brackets or a parameter. `tokens` are those of its line.
 pub fn written_number(tokens: &[Token], word: &RawWord) -> Option<i64>
     ensures { result ≡ written_number tokens.now word.now }
 {
@@ -134,11 +134,11 @@ fn named_word(line: &Line, fault: &Fault) -> Option<RawWord>
     }
 }
 
-/// The column, from 1, of the word of a line that a fault names: of an unknown code (204), and of a
-/// word that nothing uses (207). There is none of any other fault, where no such word stands, and
-/// where the line's bytes, without its line feed, can't be read.
+/// Returns the column, from 1, of the word of a line that a fault names: of an unknown code (204),
+/// and of a word that nothing uses (207). It is `None` for any other fault, if there is no such
+/// word, and if the line's bytes, without its line feed, can't be read.
 ///
-/// An unknown code is the first word of its letter that is written as that number, and else the
+/// An unknown code is the first word of its letter that is written as that number, or else the
 /// first whose value has brackets or a parameter (our own).
 pub fn mark_of(bytes: &[u8], fault: &Fault) -> Option<u16>
     ensures { result ≡ mark_of bytes.now fault.now }
@@ -210,7 +210,7 @@ fn add_phrase(chunk: &mut Chunk, fault: &Fault)
     }
 }
 
-// Whether a fault names a word.
+// Returns whether a fault names a word.
 fn has_phrase(fault: &Fault) -> bool
     ensures { result ≡ has_phrase fault.now }
 {
@@ -284,7 +284,7 @@ fn named<A: Allocator>(program: &Program<A>, form: Form, number: u32, fault: &Fa
     chunk
 }
 
-/// Writes which word of a line a fault is about, below what `write_line` writes of that line, by
+/// Writes the word of a line that a fault is about, below what `write_line` writes of that line, by
 /// its number in the file, from 1:
 ///
 /// ```text
@@ -294,10 +294,10 @@ fn named<A: Allocator>(program: &Program<A>, form: Form, number: u32, fault: &Fa
 /// ```
 ///
 /// The sentence may be `Nothing uses the word K.`, `The word P is missing.` or `An axis word is
-/// missing.`; what is missing has no mark. Nothing is written of faults but 204, 207 and 208, and
-/// where no such line is read.
+/// missing.`; a missing word has no mark. Nothing is written for faults other than 204, 207 and
+/// 208, or if the program has no such line.
 ///
-/// After a fault (902, and only where the sink failed) a beginning of the text is written.
+/// After a fault (902, only if the sink failed) a prefix of the text is written.
 pub fn write_named<A: Allocator, W: Sink>(
     form: Form,
     program: &Program<A>,
@@ -328,10 +328,10 @@ fn named_quote(form: Form, number: u32, bytes: Option<&[u8]>, fault: &Fault) -> 
     chunk
 }
 
-/// Writes a line of a program's text, by its number from 1, and below it which word the fault is
-/// about, as `write_named` does. Nothing is written where there is no such line.
+/// Writes a line of a program's text, by its number from 1, and below it the word that the fault is
+/// about, as `write_named` does. If there is no such line, nothing is written.
 ///
-/// After a fault (902, and only where the sink failed) a prefix of the text is written.
+/// After a fault (902, only if the sink failed) a prefix of the text is written.
 pub fn write_named_source<W: Sink>(
     form: Form,
     text: &[u8],

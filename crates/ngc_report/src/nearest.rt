@@ -1,4 +1,4 @@
-//! How near the bodies of tools come to fixtures.
+//! The distances between the bodies of tools and fixtures.
 ghost use Rattle.std.specs.Prelude.{◌≡◌, ◌<◌, ◌≤◌, ◌^◌, unsigned_abs, length, fold, flat_map, take};
 ghost use Rattle.std.specs.Prelude.{drop};
 ghost use Rattle.ngc_collision.specs.Inside.{solid_of};
@@ -13,8 +13,8 @@ use ngc_fixed_length::GridBox;
 use ngc_machine_files::{Machine, Name, Tool};
 use std::alloc::Allocator;
 
-/// The fixture that is nearest, by its number from 0, and its distance in nanometres. It is below
-/// zero where the two overlap.
+/// The nearest fixture, by its number from 0, and its distance in nanometres. The distance is below
+/// zero if the two overlap.
 #[derive(Clone, Copy)]
 pub struct Nearest {
     pub fixture: u32,
@@ -38,7 +38,7 @@ fn nearer(best: Option<Nearest>, fixture: u32, distance: i128) -> Option<Nearest
     }
 }
 
-/// The nearer of the nearest so far and every fixture.
+/// Returns the nearest of the nearest so far and every fixture.
 fn nearest_to<A: Allocator>(
     machine: &Machine<A>,
     solid: &Solid,
@@ -94,7 +94,7 @@ fn fixture_name<A: Allocator>(machine: &Machine<A>, number: u32) -> Name
     }
 }
 
-/// The name of the nearest fixture, without characters where there is none.
+/// Returns the name of the nearest fixture, empty if there is none.
 pub(crate) fn nearest_name<A: Allocator>(machine: &Machine<A>, nearest: &Option<Nearest>) -> Name
     ensures { result ≡ nearest_name (file_of machine.now) nearest.now }
 {
@@ -107,9 +107,9 @@ pub(crate) fn nearest_name<A: Allocator>(machine: &Machine<A>, nearest: &Option<
 impl Nearest {
     ghost use Rattle.ngc_report.specs.Nearing.{nearest};
 
-    /// The nearest fixture over all pieces of the motions from `first` to before `end`, which are
-    /// made with this tool: of those as near the one with the lowest number. `None` without
-    /// fixtures or without motions.
+    /// Returns the nearest fixture over all pieces of the motions from `first` to before `end`,
+    /// which are made with this tool. Of fixtures at the same distance it is the one with the
+    /// lowest number. It is `None` without fixtures or without motions.
     ///
     /// `end` is at most the number of motions.
     pub fn over<A: Allocator, B: Allocator>(

@@ -13,7 +13,7 @@ use ngc_line_reader::Program;
 use ngc_text::{Chunk, Sink, WriteFault, shown_bytes};
 use std::alloc::Allocator;
 
-/// The bytes of the line with this number in the file.
+/// Returns the bytes of the line with this number in the file.
 pub(crate) fn line_bytes<A: Allocator>(program: &Program<A>, number: u32) -> Option<&[u8]>
     ensures { option_map (λ b. b.now) result
         ≡ option_map (λ l. l.bytes) (line_with number (text_in program.now).lines) }
@@ -76,10 +76,10 @@ pub(crate) fn quote_of(form: Form, number: u32, bytes: Option<&[u8]>) -> Chunk
 }
 
 /// Writes a line of a program as `Line 3: G0 X400`, by its number in the file, from 1. Bytes that a
-/// terminal doesn't print are shown as `?`, and tabs as spaces. Nothing is written where no such
-/// line is read.
+/// terminal doesn't print are shown as `?`, and tabs as spaces. If the program has no such line,
+/// nothing is written.
 ///
-/// After a fault (902, and only where the sink failed) a beginning of the text is written.
+/// After a fault (902, only if the sink failed) a prefix of the text is written.
 pub fn write_line<A: Allocator, W: Sink>(
     form: Form,
     program: &Program<A>,

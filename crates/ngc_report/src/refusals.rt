@@ -20,7 +20,7 @@ use ngc_machine_files::Machine;
 use ngc_text::{Chunk, Sink, WriteFault};
 use std::alloc::Allocator;
 
-/// How the machine stands behind the first of the commands.
+/// The machine's state after the first of the commands.
 #[derive(Clone, Copy)]
 pub(crate) struct Standing {
     pub(crate) count: usize,
@@ -28,7 +28,7 @@ pub(crate) struct Standing {
 }
 
 impl Standing {
-    /// At the start.
+    /// Returns the state at the start.
     fn first<A: Allocator>(machine: &Machine<A>, commands: &[Command]) -> Standing
         ensures { StandsBehind (file_of machine.now) commands.now result }
     {
@@ -38,7 +38,7 @@ impl Standing {
         }
     }
 
-    /// Behind so many commands.
+    /// Returns the state after `count` commands.
     fn at<A: Allocator>(&self, machine: &Machine<A>, commands: &[Command], count: usize) -> Standing
         requires last { StandsBehind (file_of machine.now) commands.now self.now }
         requires count { count ≤ length commands.now }
@@ -54,7 +54,7 @@ impl Standing {
         Standing { count, reached }
     }
 
-    /// The scene of a command.
+    /// Returns the scene of a command.
     fn scene<A: Allocator>(
         &mut self,
         machine: &Machine<A>,
@@ -198,11 +198,11 @@ fn tell_everything<A: Allocator, W: Sink>(
     tell_refused(chunk, form, machine, commands, start, indices, sink)
 }
 
-/// Writes the report of a program of which these commands are refused, by their indices from 0, and
-/// the start, if it is: how far it goes along each axis, and for each what it does and what is in
-/// its way. With none of them the program fits. It takes the least time where the indices rise.
+/// Writes the report of a program whose commands at these indices, from 0, are refused, and the
+/// start, if it is: its extent along each axis, and for each command what it does and its obstacle.
+/// Without indices the program fits. The function is fastest if the indices rise.
 ///
-/// After a fault (902, and only where the sink failed) a beginning of the text is written.
+/// After a fault (902, only if the sink failed) a prefix of the text is written.
 pub fn write_refusals<A: Allocator, W: Sink>(
     form: Form,
     machine: &Machine<A>,

@@ -98,7 +98,7 @@ pub(crate) fn alongs<A: Allocator>(machine: &Machine<A>, bounds: &GridBox) -> [L
     ]
 }
 
-/// The motions of a use, but no more than so many.
+/// Returns the number of motions of a use, but at most `most`.
 fn motions_up_to(one: &ToolUse, most: usize) -> usize
     ensures { result ≡ min (motions_in one.now) most }
 {
@@ -141,7 +141,7 @@ fn tell_uses<A: Allocator, B: Allocator, W: Sink>(
     Ok(())
 }
 
-/// That a program fits, and on which of its motions only the spindle nose was tested.
+/// Returns the line that a program fits, and the motions on which only the spindle nose was tested.
 pub(crate) fn fit_line<A: Allocator>(machine: &Machine<A>, commands: &[Command]) -> Line
     ensures { result ≡ fit_line (file_of machine.now) commands.now }
 {
@@ -271,11 +271,10 @@ fn tell_refusal<A: Allocator, W: Sink>(
     tell_cause(chunk, form, machine, commands, command, fixture, sink)
 }
 
-/// Writes the report of a program that fits, whose certificate has these motions: how far it goes
-/// along each axis with what is left there, and the uses of tools, each with the fixture that it
-/// comes nearest to.
+/// Writes the report of a program that fits, whose certificate has these motions: its extent along
+/// each axis with the margins there, and the uses of tools, each with its nearest fixture.
 ///
-/// After a fault (902, and only where the sink failed) a beginning of the text is written.
+/// After a fault (902, only if the sink failed) a prefix of the text is written.
 pub fn write_fit<A: Allocator, B: Allocator, W: Sink>(
     form: Form,
     machine: &Machine<A>,
@@ -299,10 +298,10 @@ pub fn write_fit<A: Allocator, B: Allocator, W: Sink>(
 }
 
 /// Writes the report of a program that is refused at a command, by its index from 0, or at the
-/// start: how far it goes along each axis, what the command does, and what is in its way. A fixture
-/// that the fault names is told from 0.
+/// start: its extent along each axis, what the command does, and its obstacle. A fixture that the
+/// fault names is reported with its number from 0.
 ///
-/// After a fault (902, and only where the sink failed) a beginning of the text is written.
+/// After a fault (902, only if the sink failed) a prefix of the text is written.
 pub fn write_refusal<A: Allocator, W: Sink>(
     form: Form,
     machine: &Machine<A>,

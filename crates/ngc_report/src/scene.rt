@@ -1,4 +1,4 @@
-//! What is in the way of a command.
+//! The obstacle of a command.
 ghost use Rattle.std.specs.Prelude.{◌≡◌, ◌≤◌, unsigned_abs};
 ghost use Rattle.ngc_commands.specs.Movement.{start_of};
 ghost use Rattle.ngc_machine_files.specs.Machine.{file_of};
@@ -17,21 +17,22 @@ use ngc_fixed_length::{GridBox, Nm, Point3, StepPos, nanometres_at};
 use ngc_machine_files::{Fixture, Machine, Tool};
 use std::alloc::Allocator;
 
-/// What a command that may be refused does: a motion, a change of the tool, or none, which is the
-/// start.
+/// The part of a command that may be refused: a motion, a tool change, or the start, which has no
+/// command.
 #[derive(Clone, Copy)]
 pub struct Scene {
-    /// The line of the program, from 1; 0 of the start.
+    /// The line of the program, from 1; 0 for the start.
     pub line: u32,
-    /// The grid point where the motion begins; of a change and of the start where the axes stand.
+    /// The grid point where the motion begins. For a tool change and for the start it is the axes'
+    /// position.
     pub from: Place,
     /// The grid point where it ends.
     pub to: Place,
-    /// The tool that is mounted then, of a change the new one.
+    /// The tool that is mounted then; for a tool change, the new one.
     pub tool: Option<Tool>,
-    /// The box of grid points of the whole motion, or the point where the axes stand.
+    /// The box of grid points of the whole motion, or the axes' position.
     pub bounds: GridBox,
-    /// The box of grid points of its pieces, where a large arc is cut a step inside at each quadrant
+    /// The box of grid points of its pieces, if a large arc is cut a step inside at each quadrant
     /// point.
     pub in_pieces: GridBox,
 }
@@ -42,15 +43,15 @@ pub struct Met {
     /// Its number, from 0.
     pub number: u32,
     pub fixture: Fixture,
-    /// The height of the controlled point, in nanometres, from which on the whole tool is over the
-    /// fixture, where that is in the travel.
+    /// The lowest height of the controlled point, in nanometres, at which the whole tool is over
+    /// the fixture; `None` if it is outside the travel.
     pub over: Option<i64>,
 }
 
-/// What is in the way.
+/// The obstacle of a command.
 #[derive(Clone, Copy)]
 pub enum Obstacle {
-    /// This side of the travel, which the motion in pieces leaves farthest.
+    /// The side of the travel that the motion in pieces leaves farthest.
     Travel(Margin),
     /// A fixture that the tool's body meets.
     Fixture(Met),
@@ -65,7 +66,7 @@ fn start_of(way: &Way) -> Point3
     }
 }
 
-/// How the machine stands behind commands.
+/// Returns the machine's state after commands.
 pub(crate) fn standing<A: Allocator>(machine: &Machine<A>, commands: &[Command]) -> Reached
     ensures { result ≡ standing (file_of machine.now) commands.now }
 {
@@ -83,7 +84,8 @@ fn lying(step: Nm, point: &StepPos) -> Place
     }
 }
 
-/// Where the machine goes for a point of the program: to the nearest grid point.
+/// Returns the position to which the machine moves for a point of the program: the nearest grid
+/// point.
 fn reached_at<A: Allocator>(machine: &Machine<A>, point: &Point3) -> Place
     ensures { result ≡ reached_at (file_of machine.now) point.now }
 {
@@ -135,7 +137,7 @@ pub(crate) fn scene_of<A: Allocator>(
     }
 }
 
-// How far the lowest end of a tool lies above the controlled point.
+// Returns the height of the lowest end of a tool above the controlled point.
 fn foot(tool: &Option<Tool>) -> i64
     ensures value { result ≡ foot tool.now }
     ensures range { unsigned_abs result ≤ 100000000000 }
@@ -177,14 +179,15 @@ fn named<A: Allocator>(machine: &Machine<A>, tool: &Option<Tool>, number: u32) -
 }
 
 impl Scene {
-    /// The start, without a tool.
+    /// Returns the scene of the start, without a tool.
     pub fn start<A: Allocator>(machine: &Machine<A>) -> Scene
         ensures { result ≡ start_scene (file_of machine.now) }
     {
         still(machine, 0, None, machine.start)
     }
 
-    /// That of a command, by its index from 0, if it is a motion or a change of the tool.
+    /// Returns the scene of a command, by its index from 0, or `None` if it is no motion and no
+    /// tool change.
     pub fn at<A: Allocator>(
         machine: &Machine<A>,
         commands: &[Command],
@@ -198,9 +201,10 @@ impl Scene {
         }
     }
 
-    /// Returns what is in the way: the fixture that a fault names; where none is named, the side of
-    /// the travel that the motion in pieces leaves farthest, or else the first fixture that the
-    /// tool's body meets somewhere over the box of the whole motion. `None` where neither is.
+    /// Returns the obstacle, or `None` if there is none. It is the fixture that a fault names.
+    /// Without a named fixture it is the side of the travel that the motion in pieces leaves
+    /// farthest, or else the first fixture that the tool's body meets somewhere over the box of the
+    /// whole motion.
     pub fn obstacle<A: Allocator>(
         &self,
         machine: &Machine<A>,

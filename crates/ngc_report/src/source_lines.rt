@@ -1,4 +1,4 @@
-//! A line of a program's file as a report shows it, also where the file isn't read as a program.
+//! A line of a program's file as a report shows it, even if the file can't be read as a program.
 ghost use Rattle.std.specs.Prelude.{◌≡◌, ◌∷◌, ◌+◌, ◌++◌, ◌≤◌, ◌<◌, length, replicate, OnOk, OnErr};
 ghost use Rattle.std.specs.Option.{option_map};
 ghost use Rattle.std.specs.Io.KnownBytes.{Appends};
@@ -14,7 +14,7 @@ use itoa::Buffer;
 use memchr::memchr;
 use ngc_text::{Chunk, Sink, WriteFault};
 
-/// The first line, and what stands behind its line feed.
+/// Returns the first line and the bytes after its line feed.
 fn cut_line(bytes: &[u8]) -> (&[u8], &[u8])
     requires { 1 ≤ length bytes.now }
     ensures parts { split_lines bytes.now ≡ result.0.now ∷ split_lines result.1.now }
@@ -26,7 +26,7 @@ fn cut_line(bytes: &[u8]) -> (&[u8], &[u8])
     }
 }
 
-/// The bytes of the line with this number, from 1.
+/// Returns the bytes of the line with this number, from 1.
 pub(crate) fn source_line(bytes: &[u8], number: u32) -> Option<&[u8]>
     ensures { option_map (λ b. b.now) result ≡ bytes_with number (lines_of bytes.now) }
 {
@@ -53,7 +53,7 @@ fn add_spaces(chunk: &mut Chunk, count: usize)
     chunk.add_text(&spaces[..count]);
 }
 
-// How many columns stand in front of a column of a line that is shown behind its number.
+// Returns the number of columns before a column of a line that is shown after its number.
 fn indent(number: u32, column: u16) -> usize
     ensures value { result ≡ indent number column }
     ensures few { result ≤ 320 }
@@ -110,10 +110,10 @@ fn marked_line(form: Form, number: u32, column: u16, bytes: Option<&[u8]>) -> Ch
 }
 
 /// Writes a line of a program's text, by its number from 1, with a mark below the column, from 1,
-/// at which it is refused. Of a line of more than 256 bytes the first 256 are shown. Nothing is
-/// written where there is no such line.
+/// at which it is refused. Of a line of more than 256 bytes the first 256 are shown. If there is no
+/// such line, nothing is written.
 ///
-/// After a fault (902, and only where the sink failed) a beginning of the text is written.
+/// After a fault (902, only if the sink failed) a prefix of the text is written.
 pub fn write_source_line<W: Sink>(
     form: Form,
     text: &[u8],

@@ -1,4 +1,4 @@
-//! What the commands before one leave, as far as a warning needs it.
+//! The state after the commands before one, as far as a warning needs it.
 ghost use Rattle.std.specs.Prelude.{◌≡◌, None};
 ghost use Rattle.ngc_fixed_length.specs.Length.{IsStep};
 ghost use Rattle.ngc_machine_files.specs.Machine.{file_of};
@@ -13,24 +13,24 @@ use ngc_fixed_length::{GridBox, Nm};
 use ngc_machine_files::Machine;
 use std::alloc::Allocator;
 
-/// Where the last series of feeds began.
+/// The start of the last series of feeds.
 #[derive(Clone, Copy)]
 pub struct Entry {
-    /// The height at which its first feed began; `None` where nothing was fed since the start or
-    /// the last change of tools.
+    /// The height at which its first feed began; `None` if nothing was fed since the start or the
+    /// last tool change.
     pub height: Option<Nm>,
-    /// Whether a feed that follows belongs to the series.
+    /// Whether a following feed belongs to the series.
     pub is_open: bool,
 }
 
-/// The tool, the place and the spindle between two commands.
+/// The tool, the position and the spindle between two commands.
 #[derive(Clone, Copy)]
 pub struct ToolState {
     pub reached: Reached,
     /// Whether the spindle turns, at a speed above 0.
     pub is_turning: bool,
     pub entry: Entry,
-    /// The least box that holds the boxes of all feeds of the program, where a warning needs it.
+    /// The least box that holds the boxes of all feeds of the program, if a warning needs it.
     pub area: Option<GridBox>,
 }
 
@@ -140,7 +140,7 @@ fn area_for(concern: Concern, step: Nm, commands: &[Command]) -> Option<GridBox>
 }
 
 impl ToolState {
-    /// Returns what holds before the first command: at the start, without a tool, with the spindle
+    /// Returns the state before the first command: at the start, without a tool, with the spindle
     /// off.
     pub(crate) fn at_start<A: Allocator>(
         machine: &Machine<A>,
@@ -157,7 +157,7 @@ impl ToolState {
         }
     }
 
-    /// Returns what holds after an action.
+    /// Returns the state after an action.
     pub(crate) fn after(self, action: &Action) -> ToolState
         ensures { result ≡ next self action.now }
     {

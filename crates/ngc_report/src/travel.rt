@@ -1,4 +1,4 @@
-//! What is left to the travel limits.
+//! The margins to the travel limits.
 ghost use Rattle.std.specs.Prelude.{◌≡◌, ◌≤◌, ◌-ℤ◌, ◌*ℤ◌, unsigned_abs};
 ghost use Rattle.ngc_fixed_length.specs.Boxes.{grid_above, grid_below};
 ghost use Rattle.ngc_fixed_length.specs.Length.{IsStep};
@@ -10,16 +10,16 @@ use ngc_fixed_length::{GridBox, Nm, StepPos, nanometres_at};
 use ngc_machine_files::Machine;
 use std::alloc::Allocator;
 
-/// What is left between a box and the travel limits along an axis, in nanometres. Where the box
-/// leaves the travel it is below zero, by as much as the box leaves it.
+/// The margins between a box and the travel limits along an axis, in nanometres. If the box leaves
+/// the travel, a margin is below zero by that distance.
 #[derive(Clone, Copy)]
 pub struct AxisRoom {
     pub below: i64,
     pub above: i64,
 }
 
-/// What is left along each axis. Travel limits needn't lie on the grid, so it is no whole number of
-/// steps.
+/// The margins along each axis. Travel limits needn't lie on the grid, so a margin isn't always a
+/// whole number of steps.
 #[derive(Clone, Copy)]
 pub struct Room {
     pub x: AxisRoom,
@@ -27,7 +27,7 @@ pub struct Room {
     pub z: AxisRoom,
 }
 
-// The first grid point that isn't below a coordinate, in steps.
+// Returns the first grid point that isn't below a coordinate, in steps.
 fn first_grid_point(step: Nm, coordinate: Nm) -> i32
     requires { IsStep step }
     ensures { result ≡ grid_above step coordinate }
@@ -35,7 +35,7 @@ fn first_grid_point(step: Nm, coordinate: Nm) -> i32
     -(-coordinate.nanometres()).div_euclid(step.nanometres()) as i32
 }
 
-// The last grid point that isn't above a coordinate, in steps.
+// Returns the last grid point that isn't above a coordinate, in steps.
 fn last_grid_point(step: Nm, coordinate: Nm) -> i32
     requires { IsStep step }
     ensures { result ≡ grid_below step coordinate }
@@ -43,7 +43,7 @@ fn last_grid_point(step: Nm, coordinate: Nm) -> i32
     coordinate.nanometres().div_euclid(step.nanometres()) as i32
 }
 
-/// The box of the grid points within the travel limits.
+/// Returns the box of the grid points within the travel limits.
 pub(crate) fn travel_box<A: Allocator>(machine: &Machine<A>) -> GridBox
     ensures { result ≡ travel_box (file_of machine.now) }
 {
@@ -88,7 +88,7 @@ fn axis_room(step: Nm, low: i32, high: i32, least: Nm, greatest: Nm) -> AxisRoom
 impl AxisRoom {
     ghost use Rattle.ngc_report.specs.Rooms.{is_inside_on};
 
-    /// The box leaves the travel on neither side of the axis.
+    /// Returns whether the box stays within the travel on both sides of the axis.
     pub fn is_inside(&self) -> bool
         ensures { result ≡ is_inside_on self.now }
     {
@@ -99,7 +99,7 @@ impl AxisRoom {
 impl Room {
     ghost use Rattle.ngc_report.specs.Rooms.{room, is_inside};
 
-    /// What is left to a machine's travel limits about a box of grid points.
+    /// Returns the margins between a box of grid points and a machine's travel limits.
     pub fn about<A: Allocator>(machine: &Machine<A>, bounds: &GridBox) -> Room
         ensures { result ≡ room (file_of machine.now) bounds.now }
     {
@@ -111,7 +111,7 @@ impl Room {
         }
     }
 
-    /// The box stays within the travel.
+    /// Returns whether the box stays within the travel.
     pub fn is_inside(&self) -> bool
         ensures { result ≡ is_inside self.now }
     {

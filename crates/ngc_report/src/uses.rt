@@ -8,27 +8,27 @@ use crate::ways::length_of;
 use ngc_commands::{Action, Command, Motion, Pace, Way};
 use ngc_machine_files::Tool;
 
-/// The use of a tool: from the command that mounts it to the next change, or to the end. Its
-/// motions are traverses, feeds along lines, and arcs.
+/// The use of a tool, from the command that mounts it to the next change or to the end. Its motions
+/// are traverses, feeds along lines, and arcs.
 #[derive(Clone, Copy)]
 pub struct ToolUse {
-    /// As it is mounted; `None` without a tool.
+    /// The tool as it is mounted; `None` without a tool.
     pub tool: Option<Tool>,
     pub traverses: usize,
-    /// The sum of their lengths in nanometres, each rounded down.
+    /// The sum of the traverses' lengths in nanometres, each rounded down.
     pub traverse_way: u128,
-    /// Those along lines.
+    /// The number of feeds along lines.
     pub feeds: usize,
-    /// The sum of their lengths, likewise.
+    /// The sum of the feeds' lengths in nanometres, each rounded down.
     pub feed_way: u128,
     pub arcs: usize,
     pub dwells: usize,
-    /// M0, M1 and M60.
+    /// The number of M0, M1 and M60.
     pub stops: usize,
 }
 
-/// The uses of tools in a list of commands, one after another: first that without a tool, where
-/// something moves before the first change, and then one for each change. It takes no memory.
+/// The uses of tools in a list of commands, in order. First is the use without a tool, if something
+/// moves before the first change, and then one for each change. The iteration allocates no memory.
 #[derive(Drop)]
 pub struct ToolUses<'a> {
     first: Option<ToolUse>,
@@ -125,7 +125,7 @@ fn fed(command: &Command) -> u64
     }
 }
 
-/// The commands before the next change.
+/// Returns the commands before the next change.
 fn stretch(commands: &[Command]) -> &[Command]
     ensures { result.now ≡ stretch commands.now }
 {
@@ -188,7 +188,7 @@ fn stops_in(commands: &[Command]) -> usize
 }
 
 impl ToolUse {
-    /// The use of a tool that is mounted before these commands.
+    /// Returns the use of a tool that is mounted before these commands.
     pub fn of(tool: Option<Tool>, commands: &[Command]) -> ToolUse
         ensures { result ≡ use_of tool commands.now }
     {
@@ -205,7 +205,7 @@ impl ToolUse {
         }
     }
 
-    /// Whether there is a motion.
+    /// Returns whether there is a motion.
     pub fn moves(&self) -> bool
         ensures { result ≡ moves self.now }
     {
@@ -213,7 +213,7 @@ impl ToolUse {
     }
 }
 
-/// The tool of the next change, and the commands behind it.
+/// Returns the tool of the next change, and the commands after it.
 fn next_change(commands: &[Command]) -> Option<(Option<Tool>, &[Command])>
     ensures { MatchOption result (changes commands.now ≡ [])
         (λ p. changes commands.now ≡ use_of p.0 p.1.now ∷ changes p.1.now) }
@@ -227,7 +227,7 @@ fn next_change(commands: &[Command]) -> Option<(Option<Tool>, &[Command])>
 }
 
 impl<'a> ToolUses<'a> {
-    /// All uses.
+    /// Returns an iteration over all uses.
     pub fn new(commands: &'a [Command]) -> ToolUses<'a>
         ensures { uses_left result ≡ tool_uses commands.now }
     {
@@ -238,7 +238,7 @@ impl<'a> ToolUses<'a> {
         }
     }
 
-    /// The next use, or `None` behind the last one.
+    /// Returns the next use, or `None` after the last one.
     pub fn next_use(&mut self) -> Option<ToolUse>
         ensures { MatchOption result (uses_left self.old ≡ [])
             (λ u. uses_left self.old ≡ u ∷ uses_left self.new) }

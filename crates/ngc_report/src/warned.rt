@@ -1,4 +1,4 @@
-//! How warnings on a program are written.
+//! How warnings about a program are written.
 ghost use Rattle.std.specs.Prelude.{OnOk, OnErr};
 ghost use Rattle.std.specs.Io.KnownBytes.{Appends};
 ghost use Rattle.ngc_text.specs.Failures.{CountsFailure};
@@ -97,16 +97,17 @@ fn tell_warnings<A: Allocator, W: Sink>(
     tell_motions(chunk, form, machine, commands, sink)
 }
 
-/// Writes the warnings on a program: motions without a tool that leave the height of the start,
-/// feeds with a tool while the spindle is off or at speed 0, feeds above the machine's greatest
-/// speed along an axis, arcs of more than 359 degrees whose ends lie less than 0.01 mm apart,
-/// traverses home along X or Y below the top of a fixture, and traverses along X or Y inside the
-/// area of the feeds, lower than the last feeds began. Each kind that occurs has a line with the
-/// number of its commands, and the line of the program, from 1, that has the first; of a program
-/// without any nothing is written.
+/// Writes the warnings about a program. They are: motions without a tool that leave the height of
+/// the start, feeds with a tool while the spindle is off or at speed 0, feeds above the machine's
+/// greatest speed along an axis, arcs of more than 359 degrees whose ends lie less than 0.01 mm
+/// apart, traverses home along X or Y below the top of a fixture, and traverses along X or Y inside
+/// the area of the feeds, lower than the last feeds began.
 ///
-/// It takes no memory. After a fault (902, and only where the sink failed) a beginning of the text
-/// is written.
+/// Each kind that occurs has a line with the number of its commands, and the line of the program,
+/// from 1, that has the first. A program without mistakes has no line.
+///
+/// The function allocates no memory. After a fault (902, only if the sink failed) a prefix of the
+/// text is written.
 pub fn write_warnings<A: Allocator, W: Sink>(
     form: Form,
     machine: &Machine<A>,

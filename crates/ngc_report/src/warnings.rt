@@ -1,4 +1,4 @@
-//! What passes and is nearly always a mistake.
+//! Mistakes in a program that passes.
 ghost use Rattle.std.specs.Prelude.{◌≡◌, ◌+◌, ◌*◌, ◌≤◌, ◌<◌, ◌^◌, ◌∷◌, [], map, fold, unsigned_abs};
 ghost use Rattle.ngc_fixed_length.specs.Limits.{MILLION};
 ghost use Rattle.std.specs.List.{list_any};
@@ -25,25 +25,25 @@ use ngc_fixed_length::{GridBox, Nm, Point2, Point3, StepPos};
 use ngc_machine_files::{Machine, Tool};
 use std::alloc::Allocator;
 
-/// What a warning is about.
+/// The subject of a warning.
 #[derive(Clone, Copy)]
 pub enum Concern {
-    /// Motions without a tool that don't stay at the height of the start.
+    /// Motions without a tool that leave the height of the start.
     NoTool,
     /// Feeds with a tool while the spindle is off, or at speed 0.
     IdleSpindle,
-    /// Feeds a minute above the greatest speed that the machine has along an axis on this motion.
+    /// Feeds per minute above the greatest speed that the machine has along an axis on this motion.
     /// Inverse time feeds and traverses don't count.
     FastFeed,
-    /// Arcs of more than 359 degrees, and no full circles, whose ends lie less than 0.01 mm apart in
-    /// the plane: mostly an arc of less than a degree, whose ends were rounded.
+    /// Arcs of more than 359 degrees, but no full circles, whose ends lie less than 0.01 mm apart
+    /// in the plane: usually an arc of less than a degree whose ends were rounded.
     NearlyFull,
     /// Traverses along a line to a home position, not only up or down, on which a part of the
     /// tool's body, or without a tool the controlled point, comes below the top of a fixture.
     LowHome,
-    /// Traverses along a line, not only up or down, of which an end is lower than the height at
-    /// which the last feeds began, and which reach inside the area of the program's feeds, as seen
-    /// from above: mostly a retract that is missing, or that isn't high enough.
+    /// Traverses along a line, not only up or down, with an end lower than the height at which the
+    /// last feeds began, that reach inside the area of the program's feeds, as seen from above:
+    /// usually a retract that is missing, or that isn't high enough.
     LowAcross,
 }
 
@@ -51,15 +51,15 @@ pub enum Concern {
 #[derive(Clone, Copy)]
 pub struct Warning {
     pub concern: Concern,
-    /// How many commands it is about, at least 1.
+    /// The number of commands, at least 1.
     pub count: usize,
-    /// The line of the program that gives the first of them, from 1.
+    /// The program line of the first command, from 1.
     pub line: u32,
-    /// The line that gives the last of them.
+    /// The program line of the last command.
     pub last: u32,
 }
 
-/// Whether a box doesn't stay at the height of a grid point.
+/// Returns whether a box leaves the height of a grid point.
 fn leaves(point: &StepPos, bounds: &GridBox) -> bool
     ensures { result ≡ leaves point.now bounds.now }
 {
@@ -95,7 +95,7 @@ fn size_of(step: Nm) -> u64
     step.nanometres().unsigned_abs()
 }
 
-/// The speed of a step a tick, in nanometres a second.
+/// Returns the speed of one step per tick, in nanometres per second.
 fn step_speed<A: Allocator>(machine: &Machine<A>) -> u64
     ensures value { result ≡ step_speed (file_of machine.now) }
     ensures bound { result ≤ 50000000000 }
@@ -103,7 +103,7 @@ fn step_speed<A: Allocator>(machine: &Machine<A>) -> u64
     size_of(machine.step) * u64::from(machine.ticks_per_second)
 }
 
-/// A rate, and no more than that of an axis along which a motion goes from one coordinate to another.
+/// Returns a rate, limited to that of an axis along which a motion goes from `low` to `high`.
 fn rate_on_axis(low: i32, high: i32, of_axis: u32, rate: u32) -> u32
     ensures value { result ≡ rate_on_axis low high of_axis rate }
     ensures bound { result ≤ rate }
@@ -111,7 +111,7 @@ fn rate_on_axis(low: i32, high: i32, of_axis: u32, rate: u32) -> u32
     if low == high { rate } else { rate.min(of_axis) }
 }
 
-/// The greatest rate of a motion with this box, in millionths of a step a tick.
+/// Returns the greatest rate of a motion with this box, in millionths of a step per tick.
 fn greatest_rate<A: Allocator>(machine: &Machine<A>, bounds: &GridBox) -> u32
     ensures value { result ≡ greatest_rate (file_of machine.now) bounds.now }
     ensures bound { result ≤ MILLION }
@@ -122,7 +122,7 @@ fn greatest_rate<A: Allocator>(machine: &Machine<A>, bounds: &GridBox) -> u32
     rate_on_axis(low.x, high.x, rates.x, y)
 }
 
-/// The greatest speed of a motion along an axis, in millionths of a nanometre a second.
+/// Returns the greatest speed of a motion along an axis, in millionths of a nanometre per second.
 fn greatest_speed<A: Allocator>(machine: &Machine<A>, way: &Way) -> u64
     ensures value { result ≡ greatest_speed (file_of machine.now) way.now }
     ensures bound { result ≤ 50000000000000000 }
@@ -141,7 +141,7 @@ fn is_fast<A: Allocator>(machine: &Machine<A>, way: &Way, pace: &Pace) -> bool
     }
 }
 
-// The squared distance of two points of the plane, in square nanometres.
+// Returns the squared distance of two points of the plane, in square nanometres.
 fn square_apart(from: &Point2, to: &Point2) -> u128
     ensures value { result ≡ square_apart from.now to.now }
     ensures bound { result ≤ 8 * 10 ^ 22 }
@@ -149,7 +149,8 @@ fn square_apart(from: &Point2, to: &Point2) -> u128
     square_between(from.u, to.u) + square_between(from.v, to.v)
 }
 
-// A radius, and with it its square, are only found where the ends are near.
+// Returns whether the ends of an arc nearly meet. The radius and its square are computed only if
+// the ends are near.
 fn ends_meet(arc: &Arc) -> bool
     ensures { result ≡ ends_meet arc.now }
 {
@@ -238,21 +239,21 @@ fn is_low_home<A: Allocator>(
     }
 }
 
-// Whether a box reaches inside an area along X.
+// Returns whether a box reaches inside an area along X.
 fn is_into_x(area: &GridBox, bounds: &GridBox) -> bool
     ensures { result ≡ is_into_x area.now bounds.now }
 {
     bounds.low.x < area.high.x && area.low.x < bounds.high.x
 }
 
-// Whether a box reaches inside an area along Y.
+// Returns whether a box reaches inside an area along Y.
 fn is_into_y(area: &GridBox, bounds: &GridBox) -> bool
     ensures { result ≡ is_into_y area.now bounds.now }
 {
     bounds.low.y < area.high.y && area.low.y < bounds.high.y
 }
 
-// Whether a box reaches inside an area, as seen from above.
+// Returns whether a box reaches inside an area, as seen from above.
 fn is_across(area: &GridBox, bounds: &GridBox) -> bool
     ensures { result ≡ is_across area.now bounds.now }
 {
@@ -372,7 +373,7 @@ fn with_command<A: Allocator>(
     }
 }
 
-/// The warning of a program, or `None` where no command is concerned.
+/// Returns the warning of a program, or `None` if no command is concerned.
 pub(crate) fn warning_about<A: Allocator>(
     machine: &Machine<A>,
     concern: Concern,

@@ -1,4 +1,4 @@
-//! How long straight ways are, in nanometres.
+//! The lengths of straight paths, in nanometres.
 ghost use Rattle.std.specs.Prelude.{◌≡◌, ◌*◌, ◌^◌, ◌<◌, ◌≤◌, ◌-ℤ◌, unsigned_abs};
 ghost use Rattle.ngc_report.specs.Ways.{square_between, line_length, straight_length, length_of};
 
@@ -41,8 +41,8 @@ fn straight_length(way: &Way) -> u64
     }
 }
 
-/// How long the line is that a command moves along, rounded down to a nanometre; 0 where it moves
-/// along none.
+/// Returns the length of the line along which a command moves, rounded down to a nanometre, or 0 if
+/// there is no line.
 pub(crate) fn length_of(command: &Command) -> u64
     ensures value { result ≡ length_of command.now }
     ensures bound { result < 2 ^ 39 }

@@ -1,4 +1,4 @@
-//! How the lines of a report are spelled.
+//! How the lines of a report are written.
 ghost use Rattle.std.specs.Prelude.{◌≡◌, ◌+◌, ◌≤◌, ◌++◌, codes, decimal, length};
 ghost use Rattle.ngc_text.specs.Collected.{CHUNK_SIZE, HasLineRoom};
 ghost use Rattle.ngc_collision.specs.Inside.{place_of};
@@ -19,7 +19,7 @@ use ngc_collision::Place;
 use ngc_machine_files::{Name, Tool};
 use ngc_text::Chunk;
 
-/// Adds a count, of 20 digits at most.
+/// Adds a count, of at most 20 digits.
 pub(crate) fn add_count(chunk: &mut Chunk, count: usize)
     requires { length chunk.old + 40 ≤ CHUNK_SIZE }
     ensures text { chunk.new ≡ chunk.old ++ decimal count }
@@ -47,7 +47,7 @@ fn room_words(nanometres: i64) -> &'static [u8]
     }
 }
 
-/// Adds what is left on a side, or how much too far the program goes there.
+/// Adds the margin on a side, or the distance beyond it.
 #[tactic(auto, unfolding(crate::specs::Words::room_text))]
 fn add_room(chunk: &mut Chunk, nanometres: i64)
     requires { length chunk.old + 58 ≤ CHUNK_SIZE }
@@ -95,7 +95,7 @@ fn side_name(side: Side) -> &'static [u8]
     }
 }
 
-/// Adds a name after a number, where there is one.
+/// Adds a name after a number, if there is one.
 #[tactic(auto, unfolding(crate::specs::Words::bracketed))]
 fn add_bracketed(chunk: &mut Chunk, name: &Name)
     requires { length chunk.old + 43 ≤ CHUNK_SIZE }
@@ -315,7 +315,7 @@ fn add_warning(chunk: &mut Chunk, warning: &Warning)
     chunk.add_text(b".\n");
 }
 
-// Adds that a program fits, and on which motions only the spindle nose was tested.
+// Adds that a program fits, and the motions on which only the spindle nose was tested.
 fn add_nose(chunk: &mut Chunk, nose: &Warning)
     requires { HasLineRoom chunk.old }
     ensures { chunk.new ≡ chunk.old ++ nose_text nose.now }

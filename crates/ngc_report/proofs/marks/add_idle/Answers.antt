@@ -1,4 +1,4 @@
--- One text behind the other.
+-- One text after the other.
 use Rattle.std.proofs.lemmas.List.{append_assoc}
 use Rattle.ngc_report.proofs.marks.add_idle.Goals as goal
 

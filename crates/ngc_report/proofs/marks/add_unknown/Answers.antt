@@ -1,4 +1,4 @@
--- One text behind the other.
+-- One text after the other.
 use Rattle.std.proofs.Common.{◌≡◌, arith, to_z, of_z}
 use Rattle.std.specs.Int.{w128}
 use Rattle.std.proofs.lemmas.Int.{ints}

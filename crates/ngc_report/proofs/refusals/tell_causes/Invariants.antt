@@ -1,4 +1,4 @@
--- What is told, and what is still to tell.
+-- The reported part, and the rest.
 use Rattle.std.proofs.Common.{◌≡◌, drop}
 use Rattle.ngc_machine_files.specs.Machine.{file_of}
 use Rattle.ngc_report.specs.Reports.{causes_lines}

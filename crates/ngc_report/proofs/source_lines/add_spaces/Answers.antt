@@ -1,4 +1,4 @@
--- A beginning of many spaces.
+-- A prefix of many spaces.
 use Rattle.std.proofs.Common.{◌++◌, ap, ◌∙◌}
 use Rattle.std.proofs.lemmas.List.{take-replicate}
 use Rattle.ngc_report.proofs.source_lines.add_spaces.Goals as goal

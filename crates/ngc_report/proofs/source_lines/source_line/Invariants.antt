@@ -1,4 +1,4 @@
--- The line with the number is the one so many lines further.
+-- The line with the number is `left` lines further.
 use Rattle.std.proofs.Common.{◌≡◌, length}
 use Rattle.ngc_line_reader.specs.Program.{lines_of}
 use Rattle.ngc_report.specs.Quotes.{bytes_with}
