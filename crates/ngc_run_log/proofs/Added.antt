@@ -5,7 +5,7 @@ use Rattle.ngc_text.proofs.Appended.{begins_after}
 use Rattle.ngc_text.specs.Written.{AppendsBeginning}
 use Rattle.ngc_text.specs.Collected.{WritesFront}
 
--- what is still collected of a text isn't written whole
+-- the text is not all written while a part of it is still collected
 pub front_begun_all : (x y z : Option (List ℕ)) (before after : List ℕ) → WritesFront x y before after → AppendsBeginning y z after →
     AppendsBeginning x z before
 front_begun_all x y z before after w b =

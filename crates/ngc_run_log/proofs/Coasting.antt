@@ -1,4 +1,4 @@
--- The machine stays untouched in ticks of which nothing is told.
+-- The machine stays untouched in ticks without an output.
 use Rattle.std.proofs.Common.{◌≡◌, inl, inr, ℕ, zero, suc, ◌+◌, ◌-◌, ◌≤◌, List, [], ◌∷◌, length, replicate, Option, None, Some, Ok, Bool, true, false, refl, ap}
 use Rattle.std.proofs.Common.{sym, subst, ◌∙◌, arith}
 use Rattle.std.specs.Prelude.{MatchBool, nat_lt, nat_le, if◌then◌else◌}
@@ -77,9 +77,9 @@ quiet_dwelt (suc n) job s (x ∷ xs) r =
     let later = quiet_dwelt n job x xs r.1 in
     omega (arith, first, later)
 
--- ---- the head goes on
+-- ---- the head continues
 
--- after n such ticks, which lead to these states, the last one t
+-- after `n` such ticks, which lead to these states, the last one `t`
 record HasCoasted (job : Job) (s t : State) (n : ℕ) (xs : List State) : Type 0 where
   untouched : IsUntouched job t
   ring : t.ring ≡ s.ring

@@ -1,4 +1,4 @@
--- What a run comes to, from what is recorded of it.
+-- The result of a run, from its record.
 use Rattle.std.proofs.Common.{◌≡◌, ◌≤◌, ℕ, List, [], ◌++◌, length, take, Option, Bool, Result, Ok, Err, IfOk, OnOk, ap, sym, subst, ◌∙◌, arith}
 use Rattle.std.proofs.lemmas.List.{append_assoc, append-nil, take_all}
 use Rattle.std.specs.Io.KnownBytes.{Appends}
@@ -24,7 +24,7 @@ use Rattle.ngc_run_log.specs.Runs.{last_position, IsRun, Reports}
 use Rattle.ngc_machine_model.specs.Stretch.{Stretch}
 use Rattle.ngc_run_log.specs.Recording.{Counts, HasFew, Records, IsRecorded, IsCutShort}
 
--- nothing was given yet: the machine stands in this state, and the recorder is new
+-- no event was processed yet: the machine is in this state, and the recorder is new
 pub record AreNew (first : Trace) (job : Job) (state : State) (recorder : Recorder) : Type 0 where
   pub opens : state ≡ opening job.machine
   pub report : recorder.report ≡ record { ticks = 0; path_steps = 0; refused = 0; position = state.position }
@@ -143,12 +143,12 @@ run_traced trace job s t a b x y z lines i report new safe in_time h done wrote 
       reports = subst R (sym same) (reports trace job s a b (events_of lines) whole.outcomes new whole.records.counts);
     }
 
--- two facts of an answer
+-- two facts about a result
 pub if_ok_both : {T E : Type 0} (P R : T → Type 0) {Q : Type 0} (r : Result T E) → IfOk r P → OnOk r Q → ((x : T) → P x → Q → R x) → IfOk r R
 if_ok_both P R (Ok x) p q f = f x p q
 if_ok_both P R (Err e) p q f = tt
 
--- all events were given, and then a write failed
+-- all events were processed, and then a write failed
 pub run_untraced : (trace : Trace) (job : Job) (s t : State) (a b : Recorder) (x y z : Option (List ℕ)) (lines : List EventLine) (i : ℕ) →
     AreNew trace job s a → RunsSafely job → RunsInTime job → length lines ≤ i
     → IsRecorded job s t a b x y (events_of (take i lines)) → AppendsBeginning y z (b.chunk ++ last_text b.trace) → IsUntracedRun trace job lines x z
@@ -164,7 +164,7 @@ run_untraced trace job s t a b x y z lines i new safe in_time h done wrote =
       written = all_begun trace a b x y z (events_of lines) whole.outcomes new.trace new.chunk whole.records wrote;
     }
 
--- a write failed before all events were given
+-- a write failed before all events were processed
 pub run_cut : (trace : Trace) (job : Job) (s : State) (a : Recorder) (x z : Option (List ℕ)) (lines : List EventLine) → AreNew trace job s a → RunsSafely job →
     RunsInTime job → IsCutShort job s a x z (events_of lines) →
     IsUntracedRun trace job lines x z

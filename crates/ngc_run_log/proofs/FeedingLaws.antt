@@ -1,4 +1,4 @@
--- What is given for events that are sent, where a ring is fed.
+-- The processed events for sent ones, if a ring is fed.
 use Rattle.std.proofs.Common.{◌≡◌, ◌+◌, ◌-◌, ◌≤◌, ◌<◌, ℕ, zero, suc, List, [], ◌∷◌, ◌++◌, length, replicate, Option, Some, None, Bool, true, false, ◌&&◌, Ok, Err, refl, ap, sym, subst, ◌∙◌, arith}
 use Rattle.std.specs.Prelude.{MatchBool, nat_lt, slice_get}
 use Rattle.std.proofs.lemmas.Bool.Decides.{nat_tests}
@@ -36,7 +36,7 @@ match_true {P} Q b is p = subst (λ c. MatchBool c P Q) (sym is) p
 match_false : {Q : Type 0} (P : Type 0) (b : Bool) → b ≡ false → Q → MatchBool b P Q
 match_false {Q} P b is q = subst (λ c. MatchBool c P Q) (sym is) q
 
--- ---- one list of events after another
+-- ---- two lists of events in order
 
 pub given_joined : (feeds : Bool) (job : Job) (s : State) (es fs gs hs : List Event) (xs ys : List State) → AreGiven feeds job s es gs xs →
     AreGiven feeds job (last_state s xs) fs hs ys → AreGiven feeds job s (es ++ fs) (gs ++ hs) (xs ++ ys)
@@ -119,7 +119,7 @@ plain_cut feeds job s a x y e n plain cut = record {
   begun = cut.begun;
 }
 
--- ---- events that were sent, one after another
+-- ---- events that were sent, in order
 
 pub nothing_fed_yet : (feeds : Bool) (job : Job) (s : State) (a : Recorder) (x : Option (List ℕ)) → IsFed feeds job s s a a x x []
 nothing_fed_yet feeds job s a x = record {
@@ -151,7 +151,7 @@ begun_longer feeds job s (e ∷ es) more (g ∷ gs) (x ∷ xs) p =
     match_map (loads_first feeds job s e) (λ r. (r.0, begun_longer feeds job x (e ∷ es) more gs xs r.1))
     (λ r. (r.0, begun_longer feeds job x es more gs xs r.1)) p
 
--- and then the first of the events that follow
+-- and then a prefix of the following events
 pub fed_cut : (feeds : Bool) (job : Job) (s t : State) (a b : Recorder) (x y z : Option (List ℕ)) (es fs more : List Event) → IsFed feeds job s t a b x y es →
     IsFedShort feeds job t b y z fs → IsFedShort feeds job s a x z (es ++ (fs ++ more))
 fed_cut feeds job s t a b x y z es fs more p q =
@@ -169,7 +169,7 @@ fed_cut feeds job s t a b x y z es fs more p q =
 
 -- ---- loads
 
--- a load is taken just where one is possible
+-- a load is taken exactly if one is possible
 pub record TakesLoad (job : Job) (s t : State) : Type 0 where
   pub possible : can_load job s ≡ true
   pub longer : length t.ring ≡ length s.ring + 1
@@ -210,7 +210,7 @@ right_false : (a b : Bool) → b ≡ false → (a && b) ≡ false
 right_false true b h = h
 right_false false b h = refl
 
--- and where none is taken, none is possible
+-- and if none is taken, none is possible
 none_left : (cs : List Command) (k : ℕ) → slice_get cs k ≡ None → length cs ≤ k
 none_left [] k h = omega arith
 none_left (c ∷ cs) zero h = let bad : Some c ≡ None = h in cc
@@ -320,7 +320,7 @@ load_more job at s t u a b c x y z k r same p does goes recorded small =
           begun = begun;
         }))
 
--- ---- a tick behind loads
+-- ---- a tick after loads
 
 pub tick_fed : (job at : Job) (s t u : State) (a b c : Recorder) (x y z : Option (List ℕ)) (k : ℕ) (o : Outcome) → at ≡ job → IsLoaded job s t a b x y k →
     can_load job t ≡ false → Step at t Tick o u → GoesOn at t Tick u → Records (Tick ∷ []) (o ∷ []) b c y z →
@@ -371,7 +371,7 @@ load_cut job at s t u a b x y z k r same p does goes wrote =
       begun = begun_behind (replicate k Load) p.outcomes (Ok r ∷ []) a b x y z p.records wrote;
     }
 
--- ---- how much is counted
+-- ---- the size of the counts
 
 pub few_loaded : (job : Job) (s t : State) (a b : Recorder) (x y : Option (List ℕ)) (k n m : ℕ) → IsLoaded job s t a b x y k → HasFew n a → n + 1024 ≤ m → HasFew m b
 few_loaded job s t a b x y k n m p few h =
@@ -398,7 +398,7 @@ ring_full_now job at s n k same is few h = ring_full job s (omega (arith, is, fe
 pub ring_longer : (at : Job) (s t : State) (r : Reply) → Step at s Load (Ok r) t → length t.ring ≡ length s.ring + 1
 ring_longer at s t r p = (load_taken at s r t p).longer
 
--- ---- ticks, one after another
+-- ---- ticks, in order
 
 pub ticks_more : (job at : Job) (s t u : State) (a b c : Recorder) (x y z : Option (List ℕ)) (k : ℕ) → at ≡ job → IsFed true job s t a b x y (replicate k Tick) →
     IsFed true at t u b c y z (Tick ∷ []) → IsFed true job s u a c x z (replicate (k + 1) Tick)

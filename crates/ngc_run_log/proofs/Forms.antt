@@ -1,4 +1,4 @@
--- What a run comes to in one of the forms.
+-- The result of a run in one of the forms.
 use Rattle.std.proofs.Common.{◌≡◌, ◌++◌, [], ◌∷◌, ℕ, List, Option, Bool, true, false, Result, Ok, Err, refl, ap, subst, sym, ◌∙◌}
 use Rattle.std.proofs.lemmas.List.{append-nil, map-append}
 use Rattle.std.specs.Io.KnownBytes.{Appends}
@@ -114,7 +114,7 @@ pub text_of_run : (form : Form) (job : Job) (trace : Trace) (es : List Event) (o
     Run job (opening job.machine) es os xs → whole_text trace os ≡ text_as form job es os xs
 text_of_run form job trace es os xs t r = ap (λ (x : Trace). whole_text x os) t.is ∙ first_text form job t.list es os xs t.machine t.joined t.are r
 
--- ---- what a run comes to
+-- ---- the result of a run
 
 written_run : (form : Form) (trace : Trace) (job : Job) (lines : List EventLine) (x y : Option (List ℕ)) (report : Report) → IsTraceOf form job trace →
     IsTracedRun trace job lines x y report → IsWrittenRun form job lines x y report
@@ -147,7 +147,7 @@ pub run_unwritten : (form : Form) (trace : Trace) (job asked : Job) (lines : Lis
     IsUnwrittenRun form asked lines x y
 run_unwritten form trace job asked lines x y t same r = unwritten_run form trace asked lines x y t (subst (λ (j : Job). IsUntracedRun trace j lines x y) same r)
 
--- ---- what a run through the program comes to
+-- ---- the result of a run through the program
 
 written_through : (form : Form) (trace : Trace) (job : Job) (x y : Option (List ℕ)) (report : Report) → IsTraceOf form job trace →
     IsTracedThrough trace job x y report → IsWrittenThrough form job x y report

@@ -1,4 +1,4 @@
--- Stretches of a run, one after another.
+-- Parts of a run, in order.
 use Rattle.std.proofs.Common.{◌≡◌, ◌+◌, ◌≤◌, ℕ, List, [], ◌∷◌, ◌++◌, length, Option, count_by, refl, ap, sym, subst, ◌∙◌, arith, lit≤, Bool, cond, Some, None}
 use Rattle.std.proofs.Common.{Ok, Err}
 use Rattle.std.proofs.KnownBytes.{Appends-nil}
@@ -90,7 +90,7 @@ counts_joined es fs os ps r s t a b =
           ∙ ap (last_position r.position) (sym places);
     }
 
--- an outcome leads to one position at the most
+-- an outcome leads to at most one position
 few_positions : (os : List Outcome) → ((o : Outcome) → length (position_in o) ≤ 1) → length (positions os) ≤ length os
 few_positions [] few = omega arith
 few_positions (o ∷ os) few = omega (arith, few o, few_positions os few, length-append (position_in o) (positions os))
@@ -105,7 +105,7 @@ collected_both a b c x y z s t p q = record {
       sym (append_assoc x s t) ∙ ap (λ l. l ++ t) p.splits ∙ append_assoc p.front y t ∙ ap (λ l. p.front ++ l) q.splits ∙ sym (append_assoc p.front q.front z);
 }
 
--- a write that failed leaves a beginning of all
+-- a failed write leaves a prefix of all
 pub begun_after : (a b c : Option (List ℕ)) (x y s t : List ℕ) → Collects a b x s y → AppendsBeginning b c (y ++ t) → AppendsBeginning a c (x ++ (s ++ t))
 begun_after a b c x y s t p q =
     let P : List ℕ → Type 0 = λ text. AppendsBeginning a c text in
@@ -113,7 +113,7 @@ begun_after a b c x y s t p q =
     ap (λ l. p.front ++ l) (append-nil (y ++ t)) ∙ sym (append_assoc p.front y t) ∙ ap (λ l. l ++ t) (sym p.splits) ∙ append_assoc x s t in
     subst P whole (begins_after a b c p.front (y ++ t) [] p.writes q)
 
--- ---- what is recorded
+-- ---- the record
 
 pub records_joined : (es fs : List Event) (os ps : List Outcome) (a b c : Recorder) (x y z : Option (List ℕ)) → Records es os a b x y → Records fs ps b c y z →
     Records (es ++ fs) (os ++ ps) a c x z
@@ -144,11 +144,11 @@ none_recorded a x = record {
   collects = record { front = []; writes = Appends-nil x; splits = ap (λ l. a.chunk ++ l) (trace_text-none a.trace) ∙ append-nil a.chunk };
 }
 
--- a beginning of a text begins a longer one
+-- a prefix of a text is a prefix of a longer one
 pub begun_more : (x y : Option (List ℕ)) (text more : List ℕ) → AppendsBeginning x y text → AppendsBeginning x y (text ++ more)
 begun_more x y text more wrote = (wrote.0, wrote.1 ++ more, ap (λ l. l ++ more) wrote.2 ∙ append_assoc wrote.0 wrote.1 more, wrote.3)
 
--- ---- stretches, recorded
+-- ---- recorded parts of a run
 
 pub recorded_both : (job : Job) (s t u : State) (a b c : Recorder) (x y z : Option (List ℕ)) (es fs : List Event)
     → IsRecorded job s t a b x y es → IsRecorded job t u b c y z fs → IsRecorded job s u a c x z (es ++ fs)
@@ -158,7 +158,7 @@ recorded_both job s t u a b c x y z es fs p q = record {
   records = records_joined es fs p.outcomes q.outcomes a b c x y z p.records q.records;
 }
 
--- and then the first of the events that follow
+-- and then a prefix of the following events
 pub cut_after : (job : Job) (s t : State) (a b : Recorder) (x y z : Option (List ℕ)) (es fs more : List Event)
     → IsRecorded job s t a b x y es → IsCutShort job t b y z fs → IsCutShort job s a x z (es ++ (fs ++ more))
 cut_after job s t a b x y z es fs more p q =
@@ -173,7 +173,7 @@ cut_after job s t a b x y z es fs more p q =
       begun = begun_behind es p.outcomes q.outcomes a b x y z p.records q.begun;
     }
 
--- nothing is given yet
+-- no event was processed yet
 pub nothing_recorded : (job : Job) (s : State) (a : Recorder) (x : Option (List ℕ)) → IsRecorded job s s a a x x []
 nothing_recorded job s a x = record {
   outcomes = [];
@@ -202,7 +202,7 @@ one_cut job s t a x y e o does goes wrote = record {
   begun = wrote;
 }
 
--- ---- how large the counts are
+-- ---- the size of the counts
 
 one_position : (o : Outcome) → length (position_in o) ≤ 1
 one_position (Ok (Ticked (Some p) ending)) = lit≤ tt

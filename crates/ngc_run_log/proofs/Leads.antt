@@ -28,7 +28,7 @@ use Rattle.ngc_machine_model.proofs.PulseRules.{IsOnHead, WalksIn, head_path, ti
 use Rattle.ngc_pulses.specs.Dumping.{pulses_over}
 use Rattle.ngc_run_log.specs.Tracing.{tick_in, ticks_in}
 
--- a tick leads from p to q, as it is told
+-- a tick leads from `p` to `q`, as it is reported
 abbrev Leads : Option StepPos → StepPos → StepPos → Type 0
 Leads None p q = q ≡ p
 Leads (Some told) p q = q ≡ told
@@ -99,7 +99,7 @@ tick_tells job true ring old o new e f walks t = rests_tell job old o new t
 tick_tells job false [] old o new e f walks t = rests_tell job old o new t
 tick_tells job false (l ∷ ls) old o new e f walks t = head_tells job l ls old o new e f walks t
 
--- ---- what is no tick
+-- ---- an event that is no tick
 
 abbrev IsStill : State → Outcome → State → Type 0
 IsStill old o new = (tick_in o ≡ []) × (new.position ≡ old.position)
@@ -146,7 +146,7 @@ still_leads : (old new : State) (o : Outcome) (es : List Event) (os : List Outco
 still_leads old new o es os xs s rest =
     rest ∙ ap (λ (p : StepPos). pulses_over p (ticks_in os)) s.1 ∙ ap (λ l. pulses_over old.position (l ++ ticks_in os)) (sym s.0)
 
--- what is known on the way
+-- the facts at an intermediate state
 record Walking (job : Job) (s : State) : Type 0 where
   slow : job.machine.max_rate ≤ MILLION
   fits : Fits s.ring s.travelled

@@ -2,37 +2,37 @@
 pub mod Added
 -- The log with ticks of more outcomes.
 pub mod Timed
--- What outcomes add to a text, one after another.
+-- The text that outcomes add, in order.
 pub mod Traces
--- Ticks of which nothing is told, as they are recorded.
+-- The record of ticks without an output.
 pub mod Quiet
--- Stretches of a run, one after another.
+-- Parts of a run, in order.
 pub mod Joined
--- Which event comes next in a run by itself, and the policy over stretches that are joined.
+-- The next event in a run by itself, and the policy over joined parts of a run.
 pub mod Policy
 -- One more event of a line, and one more line.
 pub mod Turns
--- What a run comes to, from what is recorded of it.
+-- The result of a run, from its record.
 pub mod Comes
--- A tick goes on with the head, where the machine is neither held nor stopped.
+-- A tick continues the head if the machine is neither held nor stopped.
 pub mod Ticks
 -- Loads, ticks and starts: none is refused, and the machine stays untouched.
 pub mod Untouched
--- The machine stays untouched in ticks of which nothing is told.
+-- The machine stays untouched in ticks without an output.
 pub mod Coasting
--- What a run through a program comes to, from what is recorded of it.
+-- The result of a run through a program, from its record.
 pub mod WholeRun
--- A run by itself, one part after another.
+-- A run by itself, part by part.
 pub mod Parted
 -- The pulses of a run are those that its outcomes command.
 pub mod Leads
--- What a run comes to in one of the forms.
+-- The result of a run in one of the forms.
 pub mod Forms
--- A run that goes on from piece to piece of its events' text.
+-- A run that continues from piece to piece of its events' text.
 pub mod LiveLaws
--- The lines of a piece, one after another.
+-- The lines of a piece, in order.
 pub mod PieceLaws
--- What is given for events that are sent, where a ring is fed.
+-- The processed events for sent ones, if a ring is fed.
 pub mod FeedingLaws
--- Events from a source, one piece after another.
+-- Events from a source, piece by piece.
 pub mod LiveSources

@@ -1,4 +1,4 @@
--- A run that goes on from piece to piece of its events' text.
+-- A run that continues from piece to piece of its events' text.
 use Rattle.std.proofs.Common.{◌≡◌, ◌++◌, [], ℕ, List, Option, Some, None, Bool, true, false, refl, ap, ap₂, subst, sym, ◌∙◌, arith}
 use Rattle.std.proofs.lemmas.List.{append_assoc, append-nil}
 use Rattle.std.proofs.lemmas.Grind.{flat_map-append}
@@ -46,7 +46,7 @@ use Rattle.ngc_run_log.proofs.Forms.{are_switches, IsTraceOf, text_of_run}
 use Rattle.ngc_run_log.proofs.FeedingLaws.{begun_joined, begun_all, given_joined}
 use Rattle.ngc_run_log.proofs.Joined.{stretches_joined}
 
--- ---- the trace that goes on
+-- ---- the trace that continues
 
 pub opens_empty : (o : TextState) (s : Switches) → opening_text (trace_from o s) ≡ []
 opens_empty texts.Log s = refl
@@ -121,7 +121,7 @@ is_began form job list s ready same = record {
   is = refl;
 }
 
--- and the trace that goes on behind outcomes
+-- and the trace that continues after outcomes
 abbrev pub behind : LiveForm → LiveData → Switches → List Outcome → Trace
 behind form live s outcomes = trace_from (paused form (start_of_job live.job) s.list.now outcomes) s
 
@@ -257,7 +257,7 @@ breaks form live t lines more first x z s text given ps h same begins stretch ar
           (begins_after first x z old now [] (wrote_before form live lines first x s h same) wrote);
     }
 
--- before all of a piece was given
+-- before all events of a piece were processed
 pub broken_within : (form : LiveForm) (live : LiveData) (job : Job) (feeds : Bool) (lines more : List EventLine) (first x z : Option (List ℕ)) (s : Switches)
     (a : Recorder) (text : List ℕ) → HasRun form live lines first x → s.list.now ≡ live.switches → a.trace ≡ trace_from live.paused s →
     a.chunk ≡ opening_text (trace_from live.paused s) → Begins text (lines ++ more) → IsFedShort live.feeds live.job live.state a x z (events_of more) →

@@ -1,4 +1,4 @@
--- Events from a source, one piece after another.
+-- Events from a source, piece by piece.
 use Rattle.std.proofs.Common.{◌≡◌, ◌≢◌, ◌++◌, [], ℕ, List, Option, Ok, Err, Result, inl, inr, refl, subst}
 use Rattle.std.proofs.lemmas.List.{append-nil}
 use Rattle.std.proofs.KnownBytes.{Consumes-kept, Consumes-nil, Consumes-trans}
@@ -15,14 +15,14 @@ pub lives_yet : (form : LiveForm) (live : LiveData) (source first now : Option (
     LivesSoFar form live source source first now
 lives_yet form live source first now h = record { text = []; read = Consumes-nil source; is_live = h }
 
--- a piece more
+-- one more piece
 pub lives_more : (form : LiveForm) (old new : LiveData) (source mid rest first x y : Option (List ℕ)) (piece : List ℕ) →
     (h : LivesSoFar form old source mid first x) → Consumes mid rest piece → Feeds form new (h.text ++ piece) first y (Ok tt) →
     LivesSoFar form new source rest first y
 lives_more form old new source mid rest first x y piece h read feeds =
     record { text = h.text ++ piece; read = Consumes-trans source mid rest h.text piece h.read read; is_live = feeds }
 
--- a piece that ends it
+-- a piece that ends the run
 pub lives_fails : (form : LiveForm) (old new : LiveData) (source mid rest first x y : Option (List ℕ)) (piece : List ℕ) (fault : LiveFault) →
     (h : LivesSoFar form old source mid first x) → Consumes mid rest piece → Feeds form new (h.text ++ piece) first y (Err fault) →
     LivesOn form new source rest first y (Err fault)
@@ -69,7 +69,7 @@ lives_done form live source mid rest first now piece h none read ends = record {
   ends = (h.is_live.lines, h.is_live.has_run, ends h.text h.is_live.lines h.is_live.arrived);
 }
 
--- which fault ends the feeding of a piece
+-- the fault that ends the feeding of a piece
 pub fails_reading : (fault : LiveFault) (old new : ℕ) → (let r : Result (Unit {0}) LiveFault = Err fault in let read : Result (Unit {0}) LiveFault = Err Read in r ≢ read) →
     new ≡ old → FailsByReading (Err fault) old new
 fails_reading (Events e) old new not_read same = same

@@ -1,4 +1,4 @@
--- A run by itself, one part after another.
+-- A run by itself, part by part.
 use Rattle.std.proofs.Common.{◌≡◌, ℕ, zero, suc, take, ◌+◌, ◌-◌, ◌*◌, ◌^◌, ◌<◌, ◌≤◌, min, List, [], ◌∷◌, ◌++◌, length, drop, count_by, None, Bool, true, false}
 use Rattle.std.proofs.Common.{refl, ap, sym, subst, ◌∙◌, arith}
 use Rattle.std.specs.Prelude.{slice_get, cond}
@@ -45,7 +45,7 @@ one_more_part job old mid new (k ∷ ks) n es fs os ps (es1, es2, os1, os2, s, e
   one_more_part job s mid new ks n es2 fs os2 ps later p,
 )
 
--- what comes before the first part belongs to it, where no tick is given
+-- events before the first part belong to it if there is no tick among them
 pub part_behind : (job : Job) (old mid new : State) (n : ℕ) (ns : List ℕ) (es fs : List Event) (os ps : List Outcome) → Stretch job old mid es os →
     count_by is_tick es ≡ 0 → mid.done ≡ old.done →
     GoesInParts job mid (n ∷ ns) fs ps new → GoesInParts job old (n ∷ ns) (es ++ fs) (os ++ ps) new
@@ -68,7 +68,7 @@ part_behind job old mid new n ns es fs os ps before none same (fs1, fs2, ps1, ps
       later,
     )
 
--- ---- on the way
+-- ---- intermediate results
 
 pub none_parted : (n p : ℕ) (ns : List ℕ) (old : ControllerData) (a : Recorder) → p ≡ 0 → ns ≡ [] → IsUntouched old.job old.state →
     GoesParted n p 0 old old a a ns
@@ -129,7 +129,7 @@ part_more n k p r f d u t count old mid new a b c ns s m ticks is_length at some
       told = λ any all. told_behind old.job mid.job new.state.done s.goes.outcomes m.goes.outcomes s.goes.job (m.told (last all));
     }
 
--- a part has a command at least, and no more than there are
+-- a part has at least one command, and no more than there are
 pub some_length : (cs : List Command) → 1 ≤ length cs → 1 ≤ part_length cs
 some_length [] some = absurd (omega (arith, some))
 some_length (c ∷ cs) some = by (mounts c.action) where
@@ -144,7 +144,7 @@ few_length (c ∷ cs) = let less = few_length cs in by (mounts c.action) less wh
   by true less = omega arith
   by false less = omega (arith, less)
 
--- the part that comes next: it has so many commands
+-- the next part has `k` commands
 pub record IsNext (done left k : ℕ) (old mid : ControllerData) : Type 0 where
   pub at : mid.state.done ≡ done
   pub lengths : length mid.job.commands ≡ length old.job.commands
@@ -177,7 +177,7 @@ is_next n p done left k old mid a b ns cs s opened rest same is_length more =
       within = omega (arith, few, whole, long, lengths, more);
     }
 
--- where it is the last one, it has more commands than are left to load
+-- the last part has more commands than are left to load
 pub more_than_left : (room left ring k : ℕ) → 1 ≤ room → (0 < left → ring ≡ room) → 1 ≤ k → k ≡ ring + left → left < k
 more_than_left room zero ring k any full some is = omega (arith, some)
 more_than_left room (suc n) ring k any full some is = let all = full (omega arith) in omega (arith, any, all, is)

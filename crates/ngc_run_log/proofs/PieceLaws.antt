@@ -1,4 +1,4 @@
--- The lines of a piece, one after another.
+-- The lines of a piece, in order.
 use Rattle.std.proofs.Common.{◌≡◌, ◌++◌, [], ◌∷◌, ℕ, List, Option, Result, Ok, Err, Bool, replicate, refl, ap, subst, sym, ◌∙◌}
 use Rattle.std.proofs.lemmas.List.{append_assoc, append-nil}
 use Rattle.std.proofs.lemmas.Grind.{flat_map-append}
@@ -22,7 +22,7 @@ of_line line = replicate line.times line.event
 one_more : (lines : List EventLine) (line : EventLine) → events_of lines ++ (of_line line ++ []) ≡ events_of (lines ++ line ∷ [])
 one_more lines line = sym (flat_map-append of_line lines (line ∷ []))
 
--- nothing of a piece is given yet
+-- no line of a piece was processed yet
 pub front_none : (feeds : Bool) (job : Job) (s : State) (a : Recorder) (x : Option (List ℕ)) (text piece : List ℕ) (lines : List EventLine) (now : Arriving) →
     HaveArrived text lines now → GivesFront feeds job s s a a x x text piece lines piece now
 front_none feeds job s a x text piece lines now h =
@@ -36,7 +36,7 @@ front_none feeds job s a x text piece lines now h =
       arrived = subst T (sym (append-nil text)) (subst L (sym (append-nil lines)) h);
     }
 
--- one line more
+-- one more line
 pub front_more : (feeds : Bool) (job at : Job) (s t u : State) (a b c : Recorder) (x y z : Option (List ℕ)) (text piece left rest : List ℕ) (lines : List EventLine)
     (line : EventLine) (old new : Arriving) → at ≡ job → (g : GivesFront feeds job s t a b x y text piece lines left old) →
     TakesOne (text ++ g.front) left (lines ++ g.more) line rest new → IsFed feeds at t u b c y z (of_line line) →
@@ -56,7 +56,7 @@ front_more feeds job at s t u a b c x y z text piece left rest lines line old ne
       arrived = subst L (append_assoc lines g.more (line ∷ [])) (subst T (append_assoc text g.front one.front) one.arrived);
     }
 
--- what is left of the piece
+-- the rest of the piece
 pub all_fed : (text piece left front : List ℕ) → piece ≡ front ++ left → (text ++ front) ++ left ≡ text ++ piece
 all_fed text piece left front splits = append_assoc text front left ∙ ap (λ l. text ++ l) (sym splits)
 

@@ -1,4 +1,4 @@
--- Which event comes next in a run by itself, and the policy over stretches that are joined.
+-- The next event in a run by itself, and the policy over joined parts of a run.
 use Rattle.std.proofs.Common.{◌≡◌, ◌+◌, ◌<◌, ◌≤◌, ℕ, List, [], ◌∷◌, ◌++◌, length, Option, Some, None, Bool, true, false, refl, ap, subst, sym, ◌∙◌, arith}
 use Rattle.std.specs.Prelude.{nat_lt, ◌&&◌, if◌then◌else◌}
 use Rattle.std.proofs.lemmas.Bool.{lt-ltb, le-ltb}
@@ -61,20 +61,20 @@ none_is_next job s runs all =
     (second_false (nat_lt (length s.ring) job.machine.ring) (nat_lt (loaded s) (length job.commands)) (le-ltb (loaded s) (length job.commands) (omega (arith, all))))
     (le-ltb s.done (length job.commands) (omega (arith, all)))
 
--- ---- it depends on these alone
+-- ---- it depends only on these values
 
 abbrev event_of : Job → Bool → List Queued → ℕ → Option Event
 event_of job stopped ring done =
     event_by stopped (nat_lt (length ring) job.machine.ring && nat_lt (done + length ring) (length job.commands)) (nat_lt done (length job.commands))
 
--- the machine runs on with the same commands
+-- the machine continues with the same commands
 pub still_ticks : (job at : Job) (s t : State) → next_event job s ≡ Some Tick → s.stopped ≡ false → at ≡ job → t.stopped ≡ false → t.ring ≡ s.ring →
     t.done ≡ s.done → next_event at t ≡ Some Tick
 still_ticks job at s t comes ran same runs ring done =
     ap (λ (j : Job). event_of j t.stopped t.ring t.done) same ∙ ap (λ b. event_of job b t.ring t.done) (runs ∙ sym ran)
     ∙ ap (λ r. event_of job s.stopped r t.done) ring ∙ ap (λ n. event_of job s.stopped s.ring n) done ∙ comes
 
--- ---- one stretch and then another
+-- ---- one part of a run and then another
 
 pub follows_joined : (job : Job) (s t : State) (es fs : List Event) (os : List Outcome) (xs ys : List State) → Run job s es os xs → FollowPolicy job s es xs →
     t ≡ last_state s xs → FollowPolicy job t fs ys → FollowPolicy job s (es ++ fs) (xs ++ ys)

@@ -1,4 +1,4 @@
--- Ticks of which nothing is told, as they are recorded.
+-- The record of ticks without an output.
 use Rattle.std.proofs.Common.{◌≡◌, ◌+◌, ℕ, zero, suc, List, [], ◌∷◌, ◌++◌, length, replicate, count_by, Option, None, Ok, refl, ap, sym, subst, ◌∙◌, arith}
 use Rattle.std.specs.List.{AllByRecursion}
 use Rattle.std.proofs.KnownBytes.{Appends-nil}
@@ -91,7 +91,7 @@ quiet_dumped n d = ap Pulses (ap (after_ticks d) (quiet_in n) ∙ none_after n d
 pub quiet_rested : (n : ℕ) (d : SampleState) (s : Switches) → trace_after (Samples d s) (replicate n quiet) ≡ Samples (rested n d) s
 quiet_rested n d s = ap (λ k. Samples k s) (ap (after_samples d) (quiet_sampled s.list.now n) ∙ rests_after n d)
 
--- ---- as they are recorded
+-- ---- their record
 
 pub quiet_recorded : (n : ℕ) (a b : Recorder) (x : Option (List ℕ)) → b.report ≡ record a.report { ticks = a.report.ticks + n } →
     b.trace ≡ trace_after a.trace (replicate n quiet) → b.chunk ≡ a.chunk →
@@ -107,7 +107,7 @@ quiet_recorded n a b x counted traced same = record {
   collects = record { front = []; writes = Appends-nil x; splits = ap (λ l. a.chunk ++ l) (quiet_text a.trace n) ∙ append-nil a.chunk ∙ sym same };
 }
 
--- where ticks are what is given
+-- if the processed events are ticks
 pub quiet_given : (job : Job) (s t : State) (a b : Recorder) (x : Option (List ℕ)) (e : Event) (n : ℕ) → e ≡ Tick →
     Stretch job s t (replicate n Tick) (replicate n quiet) → Records (replicate n Tick) (replicate n quiet) a b x x →
     IsRecorded job s t a b x x (replicate n e)

@@ -1,4 +1,4 @@
--- A tick goes on with the head, where the machine is neither held nor stopped.
+-- A tick continues the head if the machine is neither held nor stopped.
 use Rattle.std.proofs.Common.{◌≡◌, inl, inr, ℕ, suc, ◌+◌, ◌-◌, ◌*◌, ◌<◌, ◌≤◌, ap, subst, sym, ◌∙◌, arith, refl, List, [], ◌∷◌, length, drop, Option, Some, None}
 use Rattle.std.proofs.Common.{Ok, true, false, Bool, min}
 use Rattle.std.specs.Prelude.{MatchBool, nat_lt, nat_le, if◌then◌else◌}
@@ -26,12 +26,12 @@ use Rattle.ngc_machine_model.specs.Progress.{IsFree, TravelsAtLeast, GoesOn}
 use Rattle.ngc_machine_model.proofs.Cases.{match_with}
 use Rattle.ngc_run_log.specs.Stretches.{IsUntouched, is_stop, LeavesBy, TellsBy}
 
--- the head is done where a command ended
+-- the head is done if a command ended
 abbrev pub HasLeft : Option Ending → State → State → Type 0
 HasLeft None old new = (new.done ≡ old.done) × (new.ring ≡ old.ring)
 HasLeft (Some e) old new = (new.done ≡ suc old.done) × (new.ring ≡ drop 1 old.ring)
 
--- what such a tick does: the head goes on, or it is done
+-- the effect of such a tick: the head continues, or it is done
 pub record Goes (ring : List Queued) (old : State) (o : Outcome) (new : State) : Type 0 where
   pub position : Option StepPos
   pub ended : Option Ending
@@ -64,7 +64,7 @@ least_some : (job : Job) (l : Queued) → IsMachine job.machine → MayTake job 
 least_some job l m take some =
     (may_travel_least job.machine l.command.action job.commands 0 (path_steps l) 1 m (moves job l.command.action l.path take (omega (arith, some)))).some
 
--- what a tick of rate v leaves on a motion of x millionths
+-- the rest of a motion of `x` millionths after a tick of rate `v`
 goes_by : (ring : List Queued) (old new : State) (o : Outcome) (v x m : ℕ) (p : Option StepPos) (q : StepPos) (e : Ending) (b : Bool) →
     is_stop e ≡ false → old.stopped ≡ false → x ≤ STEPS_LIMIT * MILLION → MILLION ≤ x → v ≤ MILLION → old.travelled ≤ STEPS_LIMIT * MILLION → 1 ≤ m →
     min m (x - old.travelled) ≤ v →
@@ -108,7 +108,7 @@ motion_runs : (a : Action) (s : State) → IsMotion a → is_stop (ending a s) �
 motion_runs (actions.Move m) s h = refl
 motion_runs _ s h = let e = h.1 in cc
 
--- nor is it the program's end
+-- and it isn't the program's end
 motion_goes : (a : Action) (e : Ending) (l : Queued) (ls : List Queued) (outcomes : List Outcome) → IsMotion l.command.action →
     TellsBy (Some e) (l ∷ ls) outcomes
 motion_goes a e l ls outcomes motion = λ end. (let is = motion.1 in cc)
@@ -128,7 +128,7 @@ travel_goes job l ls old o new m take short far runs some go t =
     (λ b. (let less : old.travelled + v < millionths l = grind (arith, nat_tests) in less))
     (motion_goes l.command.action (ending l.command.action old) l ls (o ∷ []) motion) t.says t.goes_on
 
--- ---- an action that travels nothing
+-- ---- an action without a path
 
 dwell_goes : (job : Job) (ring : List Queued) (old : State) (o : Outcome) (new : State) → old.travelled ≤ STEPS_LIMIT * MILLION → old.stopped ≡ false →
     Dwells job old o new → Goes ring old o new
@@ -147,7 +147,7 @@ dwell_goes job ring old o new far runs d =
       tells = tt;
     }
 
--- what an action leaves of the panel
+-- the state of the panel after an action
 pub record LeavesPanel (s t : State) : Type 0 where
   pub held : s.held ≡ t.held
   pub percent : s.percent ≡ t.percent
@@ -163,7 +163,7 @@ by_switch : (b : Bool) (k : ℕ) → b ≡ is_stop (if b then Stopped k else Don
 by_switch true k = refl
 by_switch false k = refl
 
--- the machine is stopped behind a stop, and else runs on
+-- the machine is stopped after a stop, and continues otherwise
 stop_tells : (a : Action) (s t : State) → t.stopped ≡ false → t.stop_switch ≡ s.stop_switch → (after a t).stopped ≡ is_stop (ending a s)
 stop_tells actions.Stop s t runs switch = refl
 stop_tells actions.OptionalStop s t runs switch = switch ∙ by_switch s.stop_switch s.done
@@ -217,7 +217,8 @@ ring_goes : (job : Job) (ring : List Queued) (old : State) (o : Outcome) (new : 
 ring_goes job [] old o new u is runs some g t = absurd (omega (arith, some))
 ring_goes job (l ∷ ls) old o new u is runs some g t = head_goes job l ls old o new u is runs g t
 
--- In a state that is neither held nor stopped, with a command at the head, a tick ends the command, or spends more on it.
+-- In a state that is neither held nor stopped, with a command at the head, a tick ends the command,
+-- or spends more on it.
 pub tick_goes : (job : Job) (old : State) (o : Outcome) (new : State) → IsUntouched job old → old.stopped ≡ false → 1 ≤ length old.ring →
     Step job old Tick o new → GoesOn job old Tick new → Goes old.ring old o new
 tick_goes job old o new u runs some t g =

@@ -1,4 +1,4 @@
--- What outcomes add to a text, one after another.
+-- The text that outcomes add, in order.
 use Rattle.std.proofs.Common.{◌≡◌, ℕ, Option, subst, sym, ◌+◌, ◌≤◌, List, [], ◌∷◌, ◌++◌, length, Ok, Err, refl, ap, ◌∙◌, arith, lit≤}
 use Rattle.std.proofs.lemmas.List.{append-nil, length-append}
 use Rattle.std.proofs.lemmas.Grind.{flat_map-append}
@@ -48,7 +48,7 @@ trace_after-none (Pulses d) = refl
 trace_after-none (Samples d s) = refl
 trace_after-none Untold = refl
 
--- an outcome is one tick at the most
+-- an outcome is at most one tick
 one_tick : (o : Outcome) → length (tick_in o) ≤ 1
 one_tick (Ok (Ticked p ending)) = lit≤ tt
 one_tick (Ok (Loaded k)) = lit≤ tt
@@ -63,7 +63,7 @@ few_in : (os : List Outcome) → length (ticks_in os) ≤ length os
 few_in [] = omega arith
 few_in (o ∷ os) = omega (arith, one_tick o, few_in os, length-append (tick_in o) (ticks_in os))
 
--- and one of the ticks that are sampled
+-- and at most one sampled tick
 one_sample : (list : List Switch) (o : Outcome) → length (sample_in list o) ≤ 1
 one_sample list (Ok (Ticked p ending)) = lit≤ tt
 one_sample list (Ok (Loaded k)) = lit≤ tt
@@ -85,7 +85,7 @@ few_ticks (Pulses d) os = omega (arith, ticks_after d (ticks_in os), few_in os)
 few_ticks (Samples d s) os = omega (arith, few_rest d (samples_in s.list.now os), few_sampled s.list.now os)
 few_ticks Untold os = omega arith
 
--- ---- a tick that is sampled
+-- ---- a sampled tick
 
 pub sampled_begun : (s : SampleState) (switch : Switch) (p : Option StepPos) (ending : Option Ending) (o : Outcome) (x y : Option (List ℕ)) (a : List ℕ) →
     o ≡ Ok (Ticked p ending) → AppendsBeginning x y (a ++ sample_text s (record { position = p; switch = switch })) →

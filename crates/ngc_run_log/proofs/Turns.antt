@@ -44,7 +44,7 @@ turn_cut job at s t u a b x y z e o k n same h done does goes wrote =
     (cut_after job s t a b x y z (replicate k e) (e ∷ []) (replicate (n - k - 1) e) done
     (one_cut job t u b y z e o (subst S same does) (subst G same goes) wrote))
 
--- and others at once behind it
+-- and immediately following ones
 pub turns_recorded : (job at now : Job) (s t u v : State) (a b c d : Recorder) (x y z : Option (List ℕ)) (e : Event) (o : Outcome) (k n m : ℕ) → at ≡ job
     → IsRecorded job s t a b x y (replicate k e) → Step at t e o u → GoesOn at t e u → Records (e ∷ []) (o ∷ []) b c y z → now ≡ at →
     IsRecorded now u v c d z z (replicate n e) → k + 1 + n ≡ m

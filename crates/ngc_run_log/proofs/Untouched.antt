@@ -56,7 +56,7 @@ get_behind (x ∷ xs) i = refl
 
 -- ---- a load
 
--- the next command comes into the ring
+-- the next command is added to the ring
 pub record Comes (job : Job) (old : State) (o : Outcome) (new : State) : Type 0 where
   pub says : o ≡ Ok (Loaded (loaded old))
   pub added : Queued
@@ -272,7 +272,7 @@ tick_breaks old a x y u runs some next g =
     let t = tick_goes old.job old.state g.outcome g.reached u runs some g.step g.goes_on in
     breaks_one Tick old a x y g tt next (fine_as g.outcome (Ticked t.position t.ended) t.says)
 
--- ---- one stretch and then another
+-- ---- one part of a run and then another
 
 abbrev pub none_yet : (n : ℕ) (old : ControllerData) (a : Recorder) (x : Option (List ℕ)) → IsUntouched old.job old.state → GoesBy n 0 0 old old a a x x
 none_yet n old a x u = record {
@@ -336,7 +336,7 @@ breaks_later n p f old mid a b x y z s t =
       begun = begun_behind s.events s.outcomes t.outcomes a b x y z s.records t.begun;
     }
 
--- how large the counts are behind it
+-- the size of the counts after it
 pub few_behind : (n p f m k : ℕ) (old new : ControllerData) (a b : Recorder) (x y : Option (List ℕ)) → GoesBy n p f old new a b x y → HasFew m a →
     m + n ≤ k → HasFew k b
 few_behind n p f m k old new a b x y s few h =
@@ -358,7 +358,7 @@ at_most_more n m a few h = record {
 pub spent_little : (job : Job) (s : State) → IsUntouched job s → spent s ≤ SPENT_LIMIT
 spent_little job s u = omega (arith, u.travelled, u.dwelt)
 
--- ---- the end told
+-- ---- the reported end
 
 pub tells_behind : (xs ys : List Outcome) → TellsEnd ys → TellsEnd (xs ++ ys)
 tells_behind xs ys t = (xs ++ t.0, ap (λ l. xs ++ l) t.1 ∙ sym (append_assoc xs t.0 (Ok (Ticked None (Some End)) ∷ [])))
@@ -407,7 +407,7 @@ tick_last ended e old mid new a b c x y z some same s t =
       tells = subst R same (by_behind e mid.state.ring s.outcomes here.goes.outcomes here.tells);
     }
 
--- and a start behind it
+-- and a start after it
 pub head_done : (e : Ending) (old mid new : ControllerData) (a b c : Recorder) (x y z : Option (List ℕ)) → EndsHead e old mid a b x y →
     GoesBehind e mid new b c y z → FinishesHead old new a c x z
 head_done e old mid new a b c x y z s t = record {

@@ -1,4 +1,4 @@
--- What a run through a program comes to, from what is recorded of it.
+-- The result of a run through a program, from its record.
 use Rattle.std.proofs.Common.{◌≡◌, ◌≤◌, ℕ, suc, List, [], ◌∷◌, ◌++◌, length, Option, Some, Bool, true, false, ap, sym, subst, ◌∙◌, arith, refl}
 use Rattle.std.specs.Prelude.{slice_get}
 use Rattle.std.specs.Io.KnownBytes.{Appends}
@@ -60,7 +60,7 @@ opens_runs job s t events outcomes safe in_time opens stretch follows =
     } in
     (run, stretch.last ∙ ap (λ (x : State). last_state x stretch.states) opens, subst F opens follows)
 
--- where the last command stands
+-- the index of the last command
 pub count_to : (before : List Command) (last : Command) → suc (length before) ≡ length (before ++ last ∷ [])
 count_to [] last = refl
 count_to (c ∷ before) last = ap suc (count_to before last)
@@ -122,7 +122,7 @@ through_broken trace old a x z are_new safe in_time s =
       written = some_begun trace a x z s.outcomes are_new.trace are_new.chunk s.begun;
     }
 
--- ---- of what was accepted
+-- ---- for an accepted program
 
 pub few_accepted : (a : AcceptedData) (block_delete : Bool) → IsAccepted a → length (commands_at block_delete a) ≤ COMMAND_LIMIT
 few_accepted a false ok = ok.off_commands.count

@@ -10,7 +10,7 @@ abbrev pub can_load : Job → State → Bool
 can_load job s = nat_lt (length s.ring) job.machine.ring && nat_lt (loaded s) (length job.commands)
 
 -- If the machine is stopped, the next event is a start. Otherwise it is a load if one is possible,
--- and a tick while a command isn't done. After that there is none.
+-- and a tick while a command isn't done. After the last command there is none.
 abbrev pub next_event : Job → State → Option Event
 next_event job s =
     if s.stopped then Some Start else

@@ -1,4 +1,4 @@
--- So many ticks were given.
+-- The ticks that were processed so far.
 use Rattle.std.proofs.Common.{◌≡◌, ◌+◌, ◌*◌, ℕ, replicate, true}
 use Rattle.ngc_events.specs.declared.event.Event.TheVariants.{Tick}
 use Rattle.ngc_run_log.specs.Feeding.{IsFed}

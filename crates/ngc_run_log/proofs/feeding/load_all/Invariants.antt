@@ -1,4 +1,4 @@
--- So many loads were given.
+-- The loads that were processed so far.
 use Rattle.std.proofs.Common.{◌≡◌, ◌≤◌, length}
 use Rattle.ngc_run_log.specs.Feeding.{IsLoaded}
 use Rattle.ngc_run_log.proofs.feeding.load_all.Given as goal

@@ -1,4 +1,4 @@
--- Some lines of the piece were given, and the rest of it is left.
+-- Some lines of the piece were processed, and the rest of it remains.
 use Rattle.std.proofs.Common.{◌≡◌, ◌+◌, ◌-◌, ◌*◌, ◌^◌, ◌≤◌, List, ℕ, length}
 use Rattle.ngc_events.specs.declared.event.EventLine.{EventLine}
 use Rattle.ngc_events.specs.Arriving.{HaveArrived, filled}

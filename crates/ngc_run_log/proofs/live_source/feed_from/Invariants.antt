@@ -1,4 +1,4 @@
--- What the source lost so far has arrived.
+-- All bytes that were read from the source so far have arrived.
 use Rattle.std.proofs.Common.{◌≡◌, ◌+◌, ◌-◌, [], List, ℕ, Option}
 use Rattle.ngc_events.specs.Arriving.{MOST_TEXT, filled}
 use Rattle.ngc_run_log.specs.Living.{IsLive, LivesSoFar}

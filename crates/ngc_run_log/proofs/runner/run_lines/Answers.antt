@@ -8,7 +8,7 @@ use Rattle.ngc_run_log.proofs.Untouched.{at_most_more}
 use Rattle.ngc_run_log.proofs.Comes.{AreNew, new_recorder, none_counted, run_traced, run_untraced, run_cut, if_ok_both}
 use Rattle.ngc_run_log.proofs.runner.run_lines.Goals as goal
 
--- what is read behind the last line
+-- the value that is read after the last line
 abbrev none : EventLine
 none = record { event = Load; times = 0 }
 
