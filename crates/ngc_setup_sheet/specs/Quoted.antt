@@ -57,7 +57,7 @@ found_or seeks.Found here behind = here
 found_or seeks.Ended here behind = []
 found_or (seeks.Ahead ahead) here behind = behind ahead
 
--- The line that is found, where the first has this number.
+-- The line that is found; the first line has this number.
 abbrev pub quote_from : List ℕ → List ℕ → ℕ → ℕ → List (List ℕ) → List ℕ
 quote_from header key ahead number [] = []
 quote_from header key ahead number (line ∷ lines) =

@@ -1,4 +1,4 @@
--- How far the tools of a table reach. Our own.
+-- The reach of the tools of a table. Our own.
 use Rattle.std.specs.Prelude.{◌≤◌, ℤ, pos, ◌+ℤ◌, ◌-ℤ◌, int_lt, int_le, unsigned_abs, List, []}
 use Rattle.std.specs.Prelude.{◌∷◌, Bool, ◌||◌}
 use Rattle.std.specs.Int.{int_min, int_max}
@@ -9,7 +9,7 @@ use Rattle.ngc_machine_files.specs.declared.parts.Part.{Part}
 use Rattle.ngc_machine_files.specs.declared.tools.Tool.{Tool}
 use Rattle.ngc_setup_sheet.specs.declared.reach.Reach.{Reach}
 
--- the height where the stack of parts ends, whose lowest begins at this height
+-- the height at which a stack of parts ends that begins at the height `foot`
 abbrev pub top_of : ℤ → List Part → ℤ
 top_of foot [] = foot
 top_of foot (part ∷ parts) = top_of (foot +ℤ part.length) parts
@@ -58,7 +58,7 @@ is_outside_travel m r p =
     is_outside m.low.x m.high.x p.x
     || (is_outside m.low.y m.high.y p.y || is_outside (m.low.z +ℤ r.bottom) m.high.z p.z)
 
--- no farther than tools go
+-- the bounds of a reach: at most 10^12 nm in each direction
 pub record IsReach (r : Reach) : Type 0 where
   pub radius : unsigned_abs r.radius ≤ 1000000000000
   pub bottom : unsigned_abs r.bottom ≤ 1000000000000

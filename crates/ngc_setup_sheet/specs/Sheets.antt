@@ -38,7 +38,7 @@ from fact low high = lines.Fact fact (figures.Span (record { low = low; high = h
 
 -- ---- the machine
 
--- an axis goes no faster than the machine
+-- an axis isn't faster than the machine
 abbrev pub axis_speed : MachineFile → ℕ → ℕ
 axis_speed m rate = millimetres_a_minute m (min m.max_rate rate)
 
@@ -141,7 +141,7 @@ fixtures_from m r i (f ∷ fs) = fixture_lines m r i f ++ fixtures_from m r (i +
 
 -- ---- tools
 
--- the lines of a stack of parts, whose lowest begins at this height
+-- the lines of a stack of parts that begins at this height
 abbrev pub part_line : ℤ → Part → Line
 part_line foot part =
     lines.Fact facts.Part
@@ -172,7 +172,7 @@ sheet m tools =
 abbrev pub sheet_text : MachineFile → List Tool → List ℕ
 sheet_text m tools = lines_text (sheet m tools)
 
--- ---- its warnings alone
+-- ---- only its warnings
 
 abbrev pub is_warning : Line → Bool
 is_warning (lines.Warning w) = true

@@ -25,7 +25,7 @@ pub enum Fact {
     Ticks,
     GreatestSpeed,
     CornerSpeed,
-    /// The change of an axis' speed that is allowed at once where two motions meet.
+    /// The allowed sudden change of an axis' speed where two motions meet.
     Jump,
     /// The most commands that are loaded and not done.
     Ring,

@@ -1,4 +1,4 @@
-//! How far the tools of a table reach.
+//! The reach of the tools of a table.
 ghost use Rattle.std.specs.Prelude.{◌≡◌, ◌≤◌, ◌+◌, ◌+ℤ◌, ◌-ℤ◌, ◌||◌, unsigned_abs, int_le};
 ghost use Rattle.std.specs.Int.{int_min, int_max};
 ghost use Rattle.ngc_machine_files.specs.Machine.{file_of};
@@ -37,7 +37,7 @@ fn greater(a: i64, b: i64) -> i64
     a.max(b)
 }
 
-/// Returns the height where a part ends that begins at the height `foot`.
+/// Returns the height at which a part ends that begins at the height `foot`.
 pub(crate) fn end_of(foot: i64, part: &Part) -> i64
     requires { unsigned_abs foot ≤ 1000000000000 }
     ensures value { result ≡ foot +ℤ part.now.length }
@@ -46,7 +46,7 @@ pub(crate) fn end_of(foot: i64, part: &Part) -> i64
     foot + part.length.nanometres()
 }
 
-/// Returns the height where the stack of parts ends, whose lowest begins at the height `foot`.
+/// Returns the height at which a stack of parts ends that begins at the height `foot`.
 pub(crate) fn top_of(foot: Nm, parts: &Parts) -> i64
     ensures value { result ≡ top_of foot parts.now }
     ensures bound { unsigned_abs result ≤ 500000000000 }
@@ -146,7 +146,7 @@ fn is_above_or_below(low: Nm, high: Nm, reach: &Reach, other_low: Nm, other_high
     )
 }
 
-/// Returns whether a fixture lies where no tool comes, at any position within the travel.
+/// Returns whether a fixture is out of reach for all tools, at any position within the travel.
 pub(crate) fn is_out_of_reach<A: Allocator>(
     machine: &Machine<A>,
     reach: &Reach,

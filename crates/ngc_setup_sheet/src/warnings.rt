@@ -25,7 +25,7 @@ pub(crate) fn is_odd_acceleration<A: Allocator>(machine: &Machine<A>) -> bool
     greatest < 1_000_000_000_000 || 20_000_000_000_000_000 < greatest
 }
 
-/// Returns whether the acceleration towards the centres of arcs is less than 1 mm/s^2 at most.
+/// Returns whether the greatest acceleration towards the centres of arcs is less than 1 mm/s^2.
 pub(crate) fn is_slow_on_arcs<A: Allocator>(machine: &Machine<A>) -> bool
     ensures { result ≡ is_slow_on_arcs (file_of machine.now) }
 {
