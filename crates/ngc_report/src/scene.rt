@@ -17,8 +17,7 @@ use ngc_fixed_length::{GridBox, Nm, Point3, StepPos, nanometres_at};
 use ngc_machine_files::{Fixture, Machine, Tool};
 use std::alloc::Allocator;
 
-/// The part of a command that may be refused: a motion, a tool change, or the start, which has no
-/// command.
+/// The subject of a refusal: a motion, a tool change, or the start, which is no command.
 #[derive(Clone, Copy)]
 pub struct Scene {
     /// The line of the program, from 1; 0 for the start.
