@@ -11,7 +11,7 @@ use ngc_text::{Device, write_all};
 use std::process::ExitCode;
 use std::{env, io};
 
-// The words behind the program's name.
+// Returns the words behind the program's name.
 fn words_of(rt: &HostRuntime) -> Result<Vec<String>, UsageFault> {
     let words = match env::args(rt) {
         Ok(words) => words,

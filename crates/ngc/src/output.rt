@@ -18,7 +18,7 @@ impl Output {
         }
     }
 
-    /// Whether a write was refused because nobody reads any more.
+    /// Returns whether a write was refused because nobody reads any more.
     pub fn is_closed(&self) -> bool {
         self.is_closed
     }

@@ -67,7 +67,7 @@ unchanged modes words line e none =
     ap (λ (named : Bool). concat (pieces_of named modes words (items_of line))) h.0
     ∙ all_stay modes words (items_of line) (ap (filter_map (rule_for modes words)) same ∙ h.1) ∙ whole line
 
--- what is written of an item, and of those after it
+-- an item as it is rewritten, and of those after it
 pub written_next : (unnamed : Bool) (modes : Modes) (words : List Word) (rest item others : List ℕ) → items_of rest ≡ item ∷ items_of others
     → concat (pieces_of unnamed modes words (items_of rest))
     ≡ traverse (unnamed && is_axis_item item) ++ (item_front modes words item ++ (item_written modes words item ++ concat (pieces_of (unnamed && not (is_axis_item item)) modes words (items_of others))))

@@ -47,7 +47,7 @@ is_odd rest = is_open rest || is_nested rest
 abbrev pub in_brackets : ℕ → ℕ
 in_brackets b = if b == 40 then 91 else (if b == 41 then 93 else b)
 
--- the comment that is written of an odd one, and what follows it
+-- an odd comment as it is rewritten, and what follows it
 abbrev pub plain : List ℕ → List ℕ
 plain rest =
     if is_open rest

@@ -1,4 +1,4 @@
--- What holds of a whole program: each line adds what it has.
+-- Facts about a whole program: each line adds its own.
 use Rattle.std.specs.Prelude.{ℕ, ◌-◌, ◌==◌, ◌&&◌, ◌||◌, not, nat_lt, Bool, true, false, List, []}
 use Rattle.std.specs.Prelude.{◌∷◌, length}
 use Rattle.std.specs.Prelude.{drop, map, fold, slice_index, Option, Some, None, if◌then◌else◌}
@@ -78,7 +78,7 @@ abbrev pub facts_after : Facts → List ℕ → Facts
 facts_after before line =
     facts_by before (levels_after before.levels (level_of (body_of line))) (words_of (body_of line))
 
--- what holds of a program without lines
+-- the facts about a program without lines
 abbrev pub no_facts : Facts
 no_facts =
     record {
@@ -89,6 +89,6 @@ no_facts =
       levels = levels.None;
     }
 
--- what holds of a program's text
+-- the facts about a program's text
 abbrev pub facts_of : List ℕ → Facts
 facts_of text = fold facts_after no_facts (lines_of text)

@@ -15,7 +15,7 @@ use Rattle.ngc_adapt.specs.Numbers.{is_blank, has_byte, begins, is_whole, value_
 abbrev pub upper : ℕ → ℕ
 upper b = if nat_le 97 b && nat_le b 122 then b - 32 else b
 
--- the letter that an upper case letter is; a colon names a program, as O does
+-- the meaning of an upper case letter; a colon names a program, as O does
 abbrev pub capital : ℕ → Option Letter
 capital b =
     if b == 58 then Some letters.O else (

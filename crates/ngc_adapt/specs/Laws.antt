@@ -20,7 +20,7 @@ ItemsAreTheLine = (line : List ℕ) → concat (items_of line) ≡ line
 
 -- What may be left out or replaced, or get another word in front: a line number that is too long;
 -- G43, G53, G80, G82, G86, G89, an idle code and a code of the dialect's own; an M code that our
--- language doesn't have; X or U beside G4; an I or J that is 0; the number of a program; words of
+-- language doesn't have; X or U with G4; an I or J that is 0; the number of a program; words of
 -- rotary axes; and D, E, H, K, L, P, Q and R.
 abbrev pub may_change_by : List Word → Letter → Number → Bool
 may_change_by words letters.A number = true
@@ -53,20 +53,19 @@ may_change_by words _ number = false
 abbrev pub may_change : List Word → Word → Bool
 may_change words w = w.number.is_signed || may_change_by words w.letter w.number
 
--- no rule changes anything else: no X, Y or Z but for X beside G4 and a sign in front of a
--- parameter, and no feed, speed, tool or M code of our language but for such a sign
+-- no rule changes anything else: no X, Y or Z except X with G4, and no feed, speed, tool or M code
+-- of our language; a sign in front of a parameter is the exception
 abbrev pub OnlyTheseWordsChange : Type 0
 OnlyTheseWordsChange = (modes : Modes) (words : List Word) (w : Word) (rule : Rule) →
     rule_for modes words w ≡ Some rule → may_change words w ≡ true
 
--- the pieces that are written of a line, without the empty ones; a line that can't be read has its
--- items
+-- the pieces of a rewritten line, without the empty ones; a line that can't be read has its items
 abbrev pub items_left : Modes → List ℕ → Option (List Word) → List (List ℕ)
 items_left modes line None = items_of line
 items_left modes line (Some words) = filter (λ piece. nat_lt 0 (length piece)) (pieces modes words line)
 
--- What is written of a line reads back as the items that stay and those that take another's place:
--- no two of them run together.
+-- The rewritten line reads back as its unchanged items and the replacements: no two of them run
+-- together.
 abbrev pub WrittenReadsBack : Type 0
 WrittenReadsBack = (modes : Modes) (line : List ℕ) →
     items_of (written modes line) ≡ items_left modes line (words_of line)

@@ -1,5 +1,5 @@
--- What is written of a line: its items, without the words that a rule leaves out, and with what
--- stands for those that a rule replaces.
+-- A line as it is rewritten: its items, without the words that a rule leaves out, and with the
+-- replacements of those that a rule replaces.
 use Rattle.std.specs.Prelude.{ℕ, Bool, false, List, [], ◌∷◌, ◌++◌, ◌&&◌, not, codes, Option, Some}
 use Rattle.std.specs.Prelude.{None}
 use Rattle.std.specs.Prelude.{◌||◌, option_and_then, is_some, if◌then◌else◌}
@@ -23,7 +23,7 @@ abbrev pub by_rule : Modes → List Word → List ℕ → Option Rule → List �
 by_rule modes words item None = item
 by_rule modes words item (Some rule) = replacement modes words item rule
 
--- what is written of an item
+-- an item as it is rewritten
 abbrev pub item_written : Modes → List Word → List ℕ → List ℕ
 item_written modes words item = by_rule modes words item (item_rule modes words item)
 
@@ -31,7 +31,7 @@ abbrev pub front_by : Modes → List Word → Option Rule → List ℕ
 front_by modes words None = []
 front_by modes words (Some rule) = front modes words rule
 
--- what is written in front of an item
+-- the text in front of an item
 abbrev pub item_front : Modes → List Word → List ℕ → List ℕ
 item_front modes words item = front_by modes words (item_rule modes words item)
 
@@ -45,7 +45,7 @@ is_axis_item item = is_axis_word (word_in (item_of item))
 abbrev pub traverse : Bool → List ℕ
 traverse named = if named then codes "G0 " else []
 
--- What is written of items, piece by piece. Where G0 is to be named, it goes in front of the first
+-- Items as they are rewritten, piece by piece. If G0 has to be named, it goes in front of the first
 -- axis word.
 abbrev pub pieces_of : Bool → Modes → List Word → List (List ℕ) → List (List ℕ)
 pieces_of unnamed modes words [] = []
@@ -58,7 +58,7 @@ pieces_of unnamed modes words (item ∷ rest) =
 abbrev pub pieces : Modes → List Word → List ℕ → List (List ℕ)
 pieces modes words line = pieces_of (is_first_traverse modes words) modes words (items_of line)
 
--- what a line with these words is rewritten to
+-- the text to which a line with these words is rewritten
 abbrev pub rewritten : Modes → List Word → List ℕ → List ℕ
 rewritten modes words line = concat (pieces modes words line)
 
@@ -88,11 +88,11 @@ modes_by deletable modes (Some words) =
 unfoldable pub rules_of : Modes → List ℕ → List Rule
 rules_of modes line = rules_by modes (words_of line)
 
--- what is written of a line; one that can't be read stays as it is
+-- a line as it is rewritten; one that can't be read is unchanged
 unfoldable pub written : Modes → List ℕ → List ℕ
 written modes line = written_by modes line (words_of line)
 
--- what a line leaves in force
+-- the modes after a line
 unfoldable pub next_modes : Modes → List ℕ → Modes
 next_modes modes line = modes_by (may_be_deleted line) modes (words_of line)
 
@@ -110,6 +110,6 @@ has_end modes (Some words) = list_any (λ w. is_end_word modes words w) words
 unfoldable pub is_end : Modes → List ℕ → Bool
 is_end modes line = has_end modes (words_of line) && not (may_be_deleted line)
 
--- what stands in the way on a line
+-- the refusals of a line
 unfoldable pub refusals_of : Modes → List ℕ → List WordRefusal
 refusals_of modes line = refusals_by modes line (words_of line)

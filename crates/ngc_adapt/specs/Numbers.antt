@@ -59,7 +59,7 @@ is_nought b = b == 48
 abbrev pub is_zero : List ℕ → Bool
 is_zero text = list_all is_nought (whole_digits text) && list_all is_nought (decimals text)
 
--- the number that digits give
+-- the number that digits form
 abbrev pub digits_value : List ℕ → ℕ
 digits_value digits = fold (λ n d. 10 * n + (d - 48)) 0 digits
 
@@ -141,7 +141,7 @@ value_length text =
     then prefix_len is_lead text + bracket_length 0 (after_lead text)
     else prefix_len is_lead text + prefix_len is_of_number (after_lead text)
 
--- a value that a parameter or a bracket gives
+-- the value of a parameter or a bracket
 abbrev pub is_computed : List ℕ → Bool
 is_computed value = has_byte 35 value || begins 91 (after_lead value)
 
@@ -152,7 +152,7 @@ byte_count byte bytes = count_by (λ b. b == byte) bytes
 abbrev pub is_whole : List ℕ → Bool
 is_whole value = (byte_count 91 value == byte_count 93 value) && list_any is_ascii_digit value
 
--- what a number of at most 32 characters says
+-- the number that at most 32 characters form
 abbrev pub written_number : List ℕ → Option Number
 written_number value = option_and_then facts_if_number (short_text value)
 
@@ -169,8 +169,8 @@ stays_open depth (b ∷ rest) =
 abbrev pub is_signed : List ℕ → Bool
 is_signed value = has_sign (drop (prefix_len is_blank value) value) && stays_open 1 value
 
--- of a value that is computed nothing is known but whether it has a sign in front and whether a
--- name is in it: a function or an operator that is a word
+-- of a computed value only two facts are known: whether it has a sign in front and whether a name
+-- is in it: a function or an operator that is a word
 abbrev pub computed_number : List ℕ → Number
 computed_number value =
     record {
@@ -184,7 +184,7 @@ computed_number value =
       is_signed = is_signed value;
     }
 
--- what a value says: one that is computed, or a number of at most 32 characters
+-- the number of a value: one that is computed, or a number of at most 32 characters
 abbrev pub number_of : List ℕ → Option Number
 number_of value =
     if is_computed value then (if is_whole value then Some (computed_number value) else None)

@@ -1,5 +1,5 @@
 -- A line whose words can be read: block delete without a level, a first comment that our language
--- can read, and none that makes the line too long. Our own.
+-- can read, and none that makes the line too long.
 use Rattle.std.specs.Prelude.{ℕ, ◌+◌, ◌&&◌, not, nat_lt, Bool, true, false, List, [], ◌∷◌, ◌++◌}
 use Rattle.std.specs.Prelude.{length, take, drop, fold, slice_index, if◌then◌else◌}
 use Rattle.std.specs.Char.{is_ascii_digit}
@@ -39,7 +39,7 @@ has_level line =
     && (nat_lt (slash_length line) (length line)
     && is_ascii_digit (slice_index line (slash_length line)))
 
--- a level that says nothing, since the whole program has no other
+-- a level without effect, since the whole program has no other
 abbrev pub has_idle_level : Levels → List ℕ → Bool
 has_idle_level levels line = is_one levels && has_level line
 

@@ -1,4 +1,4 @@
--- What no rule rewrites: the words that are left, each with a reason and a way out.
+-- What no rule rewrites: the words that are left, each with a reason and how to avoid it.
 use Rattle.std.specs.Prelude.{ℕ, ◌&&◌, ◌||◌, not, Bool, true, false, List, [], ◌∷◌, Option, Some}
 use Rattle.std.specs.Prelude.{None}
 use Rattle.std.specs.Prelude.{codes as codes_of, is_some, if◌then◌else◌}
@@ -81,7 +81,7 @@ p_refusal modes words number =
     if number.is_zero && sets_origin modes words then Some refusals.UnknownSystem
     else time_refusal modes words number
 
--- what stands in the way of a word that no rule changes
+-- the refusal of a word that no rule changes
 abbrev pub letter_refusal : Modes → List Word → Letter → Number → Option WordRefusal
 letter_refusal modes words letters.A number = Some refusals.RotaryAxis
 letter_refusal modes words letters.B number = Some refusals.RotaryAxis
@@ -96,13 +96,13 @@ letter_refusal modes words letters.M number = m_refusal number.code
 letter_refusal modes words letters.P number = p_refusal modes words number
 letter_refusal modes words _ number = None
 
--- what stands in the way of a word: its letter or code, or a function in its value
+-- the refusal of a word: its letter or code, or a function in its value
 abbrev pub word_refusal : Modes → List Word → Word → Option WordRefusal
 word_refusal modes words w =
     option_or (letter_refusal modes words w.letter w.number)
     (refuse w.number.has_name refusals.Function)
 
--- what stands in the way of a word, unless a rule changes it by its letter
+-- the refusal of a word, unless a rule changes it by its letter
 unfoldable pub refusal_for : Modes → List Word → Word → Option WordRefusal
 refusal_for modes words w =
     if is_some (rule_of modes words w.letter w.number) then None else word_refusal modes words w
@@ -111,7 +111,7 @@ refusal_for modes words w =
 abbrev pub unread_refusal : List ℕ → WordRefusal
 unread_refusal line = if has_byte 60 line then refusals.NamedParameter else refusals.Unread
 
--- what stands in the way on a line
+-- the refusals of a line
 abbrev pub refusals_by : Modes → List ℕ → Option (List Word) → List WordRefusal
 refusals_by modes line None = unread_refusal line ∷ []
 refusals_by modes line (Some words) = filter_map (refusal_for modes words) words
@@ -142,7 +142,7 @@ refusal_name refusals.UnknownSystem = codes_of "unknown_system"
 refusal_name refusals.ToolOffset = codes_of "tool_offset"
 refusal_name refusals.Unread = codes_of "unread"
 
--- what it is, and the way out
+-- what it is, and how to avoid it
 abbrev pub sentence : WordRefusal → List ℕ
 sentence refusals.CutterCompensation =
     codes_of "let the CAM program compensate for the cutter: in computer"

@@ -48,7 +48,7 @@ was_text c was =
     ++ rule_name c.rule ++ codes " " ++ class_of c.rule ++ codes ": " ++ or_nothing (trimmed was)
     ++ codes " -> "
 
--- and what is written
+-- and the text that replaces it
 abbrev pub change_text : Change → List ℕ → List ℕ → List ℕ
 change_text c was is = was_text c was ++ (or_nothing (trimmed is) ++ codes "\n")
 
@@ -110,7 +110,7 @@ items_report number written unnamed modes words (item ∷ rest) =
     ++ (item_report number written modes words item (item_rule modes words item)
     ++ items_report number written (unnamed && not (is_axis_item item)) modes words rest)
 
--- line N: NAME left: what it is, and the way out
+-- line N: NAME left: what it is, and how to avoid it
 abbrev pub refusal_text : ℕ → WordRefusal → List ℕ
 refusal_text number refusal =
     codes "line " ++ decimal number ++ codes ": " ++ refusal_name refusal ++ codes " left: "
@@ -121,7 +121,7 @@ report_by number written modes line None = []
 report_by number written modes line (Some words) =
     items_report number written (is_first_traverse modes words) modes words (items_of line)
 
--- the changes of a line of the source with this number, and then what stands in the way on it
+-- the changes of a line of the source with this number, and then its refusals
 unfoldable pub line_report : ℕ → ℕ → Modes → List ℕ → List ℕ
 line_report number written modes line =
     report_by number written modes line (words_of line)

@@ -1,5 +1,5 @@
--- The rules by which a word of a line is left out or replaced, each with its condition, and what a
--- line leaves in force.
+-- The rules by which a word of a line is left out or replaced, each with its condition, and the
+-- modes after a line.
 use Rattle.std.specs.Prelude.{ℕ, ◌+◌, ◌-◌, ◌==◌, ◌/◌, ◌%◌, ◌&&◌, ◌||◌, not, nat_lt, Bool, true}
 use Rattle.std.specs.Prelude.{false}
 use Rattle.std.specs.Prelude.{List, [], ◌∷◌, ◌++◌, length, take, drop, filter, decimal, Option}
@@ -224,7 +224,7 @@ cycle_after before words =
     if has codes.PLAIN_CYCLES words then cycles.Plain else (
     if has codes.CYCLES words then cycles.Unknown else before)))
 
--- the number that a code is, where it has no tenths
+-- a code as a whole number, if it has no tenths
 abbrev pub whole_number : Option ℕ → Option ℕ
 whole_number None = None
 whole_number (Some code) = if code % 10 == 0 then Some (code / 10) else None
@@ -291,7 +291,7 @@ is_first_traverse modes words =
 abbrev pub motion_before : Modes → List Word → Motion
 motion_before modes words = if is_first_traverse modes words then motions.Straight else modes.motion
 
--- what is in force after a line whose words or codes aren't known
+-- the modes after a line whose words or codes aren't known
 abbrev pub lost_modes : Modes → Bool → Modes
 lost_modes modes altered =
     record {
@@ -334,7 +334,7 @@ has_plane words =
 abbrev pub changes_tool : List Word → Bool
 changes_tool words = has_m codes.TOOL_CHANGE words || has_m codes.TOOL_IN_SPINDLE words
 
--- what a line leaves in force that block delete may take out: what it sets isn't known
+-- the modes after a line that block delete may take out: what it sets isn't known
 abbrev pub modes_either : Modes → List Word → Modes
 modes_either modes words =
     if has_unknown modes words then lost_modes modes (is_altered modes words) else
@@ -363,7 +363,7 @@ has_tolerance modes words =
     has codes.BLENDED_PATH words && not (has_user_of_p modes words)
     && (not (has_place words) || is_straight_or_off (motion_after modes.motion words))
 
--- a motion has no such offset: a line has none, an arc has those of its plane
+-- a motion doesn't take an offset: a line has none, an arc has those of its plane
 abbrev pub has_no_offset : Motion → Plane → Letter → Bool
 has_no_offset motions.Straight plane letter = true
 has_no_offset motions.Unnamed plane letter = true
@@ -372,7 +372,7 @@ has_no_offset motions.Arc planes.Zx letters.J = true
 has_no_offset motions.Arc planes.Yz letters.I = true
 has_no_offset motion plane letter = false
 
--- a line that nothing but its motion and its modes could give words to
+-- a line whose words only its motion and its modes can take
 abbrev pub is_plain_line : Modes → List Word → Bool
 is_plain_line modes words =
     not (has_unknown modes words || has codes.FOR_ONE_LINE words || has codes.ALTERING words)
@@ -454,7 +454,7 @@ has_dwelling_cycle modes words =
     is_plain_line modes words && is_cycle (motion_after modes.motion words)
     && is_dwelling (cycle_after modes.cycle words)
 
--- G82, G86 or G89 begins a cycle without P, where no earlier P goes on
+-- G82, G86 or G89 begins a cycle without P, where no earlier P applies
 abbrev pub lacks_dwell : Modes → List Word → Bool
 lacks_dwell modes words =
     not (is_linuxcnc modes.dialect) && is_no_cycle modes.motion && has_axes words
@@ -539,7 +539,7 @@ system_rule modes words number =
     && is_known_number (system_after modes.system words))
     rules.SystemInForce
 
--- the offsets, counts and times that no motion of such a kind takes
+-- the offsets, counts and times that no motion of this kind takes
 abbrev pub takes_no : Motion → Cycle → Letter → Bool
 takes_no motions.Straight cycle letters.P = true
 takes_no motions.Straight cycle letters.Q = true
@@ -664,7 +664,7 @@ rule_of modes words letters.U number = time_rule (has_dwell modes words) number
 rule_of modes words letters.X number = time_rule (has_dwell modes words) number
 rule_of modes words _ number = None
 
--- a rule that changes a word by its letter goes before the one for its sign
+-- a rule that changes a word by its letter takes precedence over the one for its sign
 unfoldable pub rule_for : Modes → List Word → Word → Option Rule
 rule_for modes words w =
     option_or (rule_of modes words w.letter w.number)
@@ -714,7 +714,7 @@ abbrev pub system_number : Option ℕ → Option ℕ
 system_number None = None
 system_number (Some code) = Some (if nat_lt code 591 then (code - 530) / 10 else code - 584)
 
--- the digits of a time in milliseconds, with noughts in front if there are fewer than four
+-- the digits of a time in milliseconds, with zeros in front if there are fewer than four
 abbrev pub padded : List ℕ → List ℕ
 padded digits = take (4 - length digits) (codes_of "0000") ++ digits
 
@@ -724,7 +724,7 @@ in_seconds digits =
     let all = padded digits in
     take (length all - 3) all ++ (codes_of "." ++ drop (length all - 3) all)
 
--- what is written in front of a word that a rule changes
+-- the text in front of a word that a rule changes
 abbrev pub front : Modes → List Word → Rule → List ℕ
 front modes words rules.ToolOffset =
     codes_of "H" ++ (number_text (mounted_after modes words) ++ codes_of " ")
@@ -739,7 +739,7 @@ signed_text item =
     then take 1 item ++ (codes_of "[0" ++ (without_blanks (drop 1 item) ++ codes_of "] "))
     else item
 
--- what is written in place of a word that a rule changes
+-- the replacement of a word that a rule changes
 abbrev pub replacement : Modes → List Word → List ℕ → Rule → List ℕ
 replacement modes words item rules.Inches = codes_of "G20 "
 replacement modes words item rules.Millimetres = codes_of "G21 "

@@ -30,7 +30,7 @@ line_end returns_alone b = if returns_alone && b == 13 then 10 else b
 abbrev pub text_of : List ℕ → List ℕ
 text_of file = map (line_end (has_returns_alone file)) (filter is_text_byte (after_mark file))
 
--- what is changed of the file
+-- the changes to the file
 abbrev pub changes_of : List ℕ → TextChanges
 changes_of file =
     record {

@@ -17,20 +17,20 @@ use crate::rule::{Modes, Rule};
 use arrayvec::ArrayVec;
 use std::alloc::{AllocError, Allocator};
 
-/// What became of a line.
+/// The result of a line.
 #[derive(Drop)]
 pub struct AdaptedLine {
     /// The rules that changed it: the first traverse, and those of its words from left to right.
     pub rules: ArrayVec<Rule, MOST_RULES>,
-    /// What stands in the way: that the line can't be read, or its words from left to right.
+    /// The refusals: that the line can't be read, or those of its words from left to right.
     pub refusals: ArrayVec<WordRefusal, MOST_REFUSALS>,
-    /// What the line leaves in force.
+    /// The modes that the line leaves in force.
     pub modes: Modes,
     /// Whether the line ends the program, and block delete can't take it out.
     pub is_end: bool,
 }
 
-// The only thing that stands in the way on a line that can't be read.
+// Returns the only refusal of a line that can't be read.
 fn one_refusal(refusal: WordRefusal) -> ArrayVec<WordRefusal, MOST_REFUSALS>
     ensures { result.items ≡ refusal ∷ [] }
 {
@@ -39,8 +39,7 @@ fn one_refusal(refusal: WordRefusal) -> ArrayVec<WordRefusal, MOST_REFUSALS>
     refusals
 }
 
-// Adds what a line with these words is rewritten to, item by item, and a line of the report for each
-// change.
+// Rewrites a line with these words item by item, and adds a line of the report for each change.
 fn add_items<A: Allocator>(
     number: usize,
     written: usize,
@@ -71,7 +70,7 @@ fn add_items<A: Allocator>(
     Ok(())
 }
 
-// The same. A line that no rule changes is copied as a whole, and has no change to report.
+// Does the same. A line that no rule changes is copied as a whole, and has no change to report.
 fn add_line<A: Allocator>(
     number: usize,
     written: usize,
@@ -98,13 +97,13 @@ fn add_line<A: Allocator>(
     Ok(())
 }
 
-/// Adds to `out` what is written of a line, whose line feed is not part of it, and to `report` a line
-/// for each change and then one for each thing that stands in the way on it. Returns the rules that
-/// changed it, what stands in the way, what it leaves in force and whether it ends the program.
+/// Adds the rewritten line to `out`, and to `report` a line for each change and then one for each
+/// refusal. The line is passed without its line feed. Returns the rules that changed it, its
+/// refusals, the modes that it leaves in force and whether it ends the program.
 ///
-/// `number` is its line in the source and `written` its line in what is written, both from 1. A line
-/// that no rule changes is copied byte for byte. After an error, which means that memory was refused,
-/// `out` and `report` have any prefix of what is added.
+/// `number` is its line in the source and `written` its line in the output, both from 1. A line
+/// that no rule changes is copied byte for byte. After an error, which means that memory was
+/// refused, `out` and `report` have any prefix of the added text.
 #[tactic(auto, unfolding(crate::specs::Lines::rules_of, crate::specs::Lines::written, crate::specs::Lines::next_modes, crate::specs::Lines::is_end, crate::specs::Lines::refusals_of, crate::specs::Reports::line_report))]
 pub fn adapt_line<A: Allocator>(
     number: usize,

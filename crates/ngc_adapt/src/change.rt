@@ -7,7 +7,7 @@ use crate::rule::Rule;
 pub struct Change {
     /// The line of the source, from 1.
     pub line: usize,
-    /// The line of what is written, from 1.
+    /// The line in the output, from 1.
     pub written_line: usize,
     /// The rule that changed it.
     pub rule: Rule,
@@ -16,7 +16,7 @@ pub struct Change {
 impl Change {
     ghost use Rattle.ngc_adapt.specs.Changes.{change_at};
 
-    // The change of a line by a rule, and the line of what is written.
+    // Returns the change of a line by a rule, and its line in the output.
     pub(crate) fn at(number: usize, written: usize, rule: Rule) -> Change
         ensures { result ≡ change_at number written rule }
     {

@@ -32,12 +32,12 @@ pub const PLAIN: [u16; 25] = [
     922, 923, 930, 940, 980, 990,
 ];
 
-/// Codes that say what always holds in our language: G13.1 no polar interpolation, G15 no polar
+/// Codes for what always holds in our language: G13.1 no polar interpolation, G15 no polar
 /// coordinates, G40.1 no turning with the path, G50 no scaling, G50.1 no mirror image, G67 no macro
 /// calls, G69 no rotation, G91.1 offsets of arcs from the current point, G97 S in turns a minute.
 pub const IDLE: [u16; 9] = [131, 150, 401, 500, 501, 670, 690, 911, 970];
 
-/// Codes that end what a code of `IDLE` says, as G68 turns the coordinates.
+/// Codes that end what a code of `IDLE` sets, such as G68, which rotates the coordinates.
 pub const ALTERING: [u16; 11] = [121, 160, 411, 421, 510, 511, 660, 680, 682, 901, 960];
 
 /// The units of other controls: inches and millimetres.
@@ -57,7 +57,7 @@ pub const PROGRAM_END: [u16; 2] = [20, 300];
 /// The M codes of our language.
 pub const MACHINE_CODES: [u16; 14] = [0, 10, 20, 30, 40, 50, 60, 70, 80, 90, 300, 480, 490, 600];
 
-/// The dwell, which has a time beside it.
+/// The dwell, which takes a time on its line.
 pub const DWELL: [u16; 1] = [40];
 
 /// G10, which sets an origin or a tool.
@@ -84,7 +84,7 @@ pub const SYSTEMS: [u16; 9] = [540, 550, 560, 570, 580, 590, 591, 592, 593];
 /// M6, which mounts the tool that is selected.
 pub const TOOL_CHANGE: [u16; 1] = [60];
 
-/// M61, which says which tool is in the spindle.
+/// M61, which sets the number of the tool in the spindle.
 pub const TOOL_IN_SPINDLE: [u16; 1] = [610];
 
 /// M50 to M53, switches of the panel.

@@ -22,14 +22,14 @@ pub(crate) fn code_length(line: &[u8]) -> usize
     line.iter().take_while(|b| is_before_comment(**b)).count()
 }
 
-// What is in front of the first comment.
+// Returns what is in front of the first comment.
 pub(crate) fn code_of(line: &[u8]) -> &[u8]
     ensures { result.now ≡ spec.code_of line.now }
 {
     line.split_at(code_length(line)).0
 }
 
-// The first comment and what follows it.
+// Returns the first comment and what follows it.
 pub(crate) fn comment_of(line: &[u8]) -> &[u8]
     ensures { result.now ≡ spec.comment_of line.now }
 {
@@ -42,7 +42,7 @@ fn bytes_after_last(rest: &[u8]) -> usize
     rest.iter().rev().take_while(|b| is_in_comment(**b)).count()
 }
 
-// How many bytes are in front of the last closing parenthesis.
+// Returns how many bytes are in front of the last closing parenthesis.
 fn text_length(rest: &[u8]) -> usize
     ensures value { result ≡ spec.text_length rest.now }
     ensures within { result ≤ length rest.now }
@@ -64,7 +64,7 @@ fn has_digit(text: &[u8]) -> bool
     text.iter().any(|b| b.is_ascii_digit())
 }
 
-// The bytes that follow the first ones, or none.
+// Returns the bytes that follow the first ones, or none.
 pub(crate) fn after(count: usize, text: &[u8]) -> &[u8]
     ensures { result.now ≡ drop count text.now }
 {
@@ -75,7 +75,7 @@ pub(crate) fn after(count: usize, text: &[u8]) -> &[u8]
     }
 }
 
-// Whether a comment has another inside, and no digit follows the first closing parenthesis.
+// Returns whether a comment has another inside, and no digit follows the first closing parenthesis.
 fn is_nested(rest: &[u8]) -> bool
     ensures { result ≡ spec.is_nested rest.now }
 {
@@ -112,7 +112,7 @@ fn add_in_brackets<A: Allocator>(text: &[u8], out: &mut Vec<u8, A>) -> Result<()
     Ok(())
 }
 
-// Adds the comment that is written of an odd one, and what follows it.
+// Adds an odd comment as it is rewritten, and what follows it.
 pub(crate) fn add_plain<A: Allocator>(rest: &[u8], out: &mut Vec<u8, A>) -> Result<(), AllocError>
     ensures { IfOk result (λ _. out.new.items ≡ out.old.items ++ spec.plain rest.now) }
 {

@@ -28,21 +28,21 @@ impl Dialect {
         matches!(self, Dialect::LinuxCnc)
     }
 
-    // Whether G43 without H takes the offset of the mounted tool.
+    // Returns whether G43 without H takes the offset of the mounted tool.
     pub(crate) fn takes_mounted_tool(self) -> bool
         ensures { result ≡ takes_mounted_tool self }
     {
         matches!(self, Dialect::LinuxCnc | Dialect::Mach3)
     }
 
-    // Whether P0 of G10 L2 is the coordinate system in force.
+    // Returns whether P0 of G10 L2 is the coordinate system in force.
     pub(crate) fn has_system_zero(self) -> bool
         ensures { result ≡ has_system_zero self }
     {
         matches!(self, Dialect::LinuxCnc | Dialect::Grbl)
     }
 
-    // Whether G70 and G71 are units.
+    // Returns whether G70 and G71 are units.
     pub(crate) fn has_own_units(self) -> bool
         ensures { result ≡ has_own_units self }
     {

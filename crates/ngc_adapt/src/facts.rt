@@ -20,7 +20,7 @@ pub enum Levels {
     Several,
 }
 
-/// What holds of a whole program. A line that can't be read may have anything.
+/// Facts about a whole program. A line that can't be read may have anything.
 #[derive(Clone, Copy)]
 pub struct Facts {
     /// Whether a word A isn't 0.
@@ -77,7 +77,7 @@ fn has_jump(words: &[Word]) -> bool
     has_m(&code::CALLS, words) || (has_m(&code::SUBPROGRAM_END, words) && has_p(words))
 }
 
-// The digit of a slash of block delete: a slash alone is the level 1.
+// Returns the digit of a slash of block delete: a slash alone is the level 1.
 fn level_digit(rest: &[u8]) -> u8
     ensures { result ≡ spec.level_digit rest.now }
 {
@@ -93,7 +93,7 @@ fn level_digit(rest: &[u8]) -> u8
     }
 }
 
-// The level of block delete at which a line is taken out.
+// Returns the level of block delete at which a line is taken out.
 fn level_of(line: &[u8]) -> Option<u8>
     ensures { result ≡ spec.level_of line.now }
 {
@@ -159,7 +159,7 @@ impl Facts {
         }
     }
 
-    // What holds after a line without its end.
+    // Returns the facts after a line, which is passed without its end.
     fn after(&self, body: &[u8]) -> Facts
         ensures { result ≡ spec.facts_by self.now
             (spec.levels_after self.now.levels (spec.level_of body.now)) (words_of body.now) }
@@ -184,7 +184,7 @@ impl Facts {
         }
     }
 
-    /// Returns what holds of a program's text, after one pass over it.
+    /// Returns the facts about a program's text, after one pass over it.
     pub fn of(text: &[u8]) -> Facts
         ensures { result ≡ facts_of text.now }
     {

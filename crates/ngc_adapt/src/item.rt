@@ -9,17 +9,17 @@ use crate::number::{
 };
 use arrayvec::ArrayVec;
 
-/// The most words of a line that is read.
+/// The greatest number of words of a line that is read.
 pub const MOST_WORDS: usize = 64;
 
 /// What a word's letter is for.
 #[derive(Clone, Copy, PartialEq, Eq)]
 pub enum Letter {
-    /// A place or an angle of the rotary axis A.
+    /// A position or an angle of the rotary axis A.
     A,
-    /// Of the rotary axis B.
+    /// A position or an angle of the rotary axis B.
     B,
-    /// Of the rotary axis C.
+    /// A position or an angle of the rotary axis C.
     C,
     /// The number of a tool's radius.
     D,
@@ -41,7 +41,7 @@ pub enum Letter {
     J,
     /// An offset along Z.
     K,
-    /// How smooth a path is, beside G187.
+    /// The smoothness of a path, with G187.
     E,
     /// A count, or what G10 sets.
     L,
@@ -49,17 +49,17 @@ pub enum Letter {
     O,
     /// A tool.
     T,
-    /// A place on an axis beside X, or a time beside G4.
+    /// A position on an axis parallel to X, or a time with G4.
     U,
-    /// A place on an axis beside Y.
+    /// A position on an axis parallel to Y.
     V,
-    /// A place on an axis beside Z.
+    /// A position on an axis parallel to Z.
     W,
-    /// A place on the axis X, or a time beside G4.
+    /// A position on the axis X, or a time with G4.
     X,
-    /// A place on the axis Y.
+    /// A position on the axis Y.
     Y,
-    /// A place on the axis Z.
+    /// A position on the axis Z.
     Z,
     /// The number of a tool offset.
     H,
@@ -84,7 +84,7 @@ pub struct Word {
     pub number: Number,
 }
 
-/// What a part of a line is.
+/// The kind of an item of a line.
 #[derive(Clone, Copy)]
 pub enum Item {
     /// A blank, the slash of block delete, or a percent sign.
@@ -109,7 +109,7 @@ pub fn upper(byte: u8) -> u8
     }
 }
 
-// The letter that an upper case letter is; a colon names a program, as O does.
+// Returns the meaning of an upper case letter; a colon names a program, as O does.
 fn capital(byte: u8) -> Option<Letter>
     ensures { result ≡ spec.capital byte }
 {
@@ -164,7 +164,7 @@ pub(crate) fn comment_length(text: &[u8]) -> usize
     text.iter().take_while(|b| is_in_comment(**b)).count()
 }
 
-// How many bytes a setting has after its #.
+// Returns how many bytes a setting has after its #.
 fn setting_length(rest: &[u8]) -> usize
     ensures value { result ≡ spec.setting_length rest.now }
     ensures within { result ≤ length rest.now }
@@ -177,7 +177,7 @@ fn setting_length(rest: &[u8]) -> usize
     }
 }
 
-// How many bytes the first item of a line has, without the blanks after it.
+// Returns how many bytes the first item of a line has, without the blanks after it.
 fn bare_length(line: &[u8]) -> usize
     ensures value { result ≡ spec.bare_length line.now }
     ensures within { result ≤ length line.now }
@@ -204,7 +204,7 @@ fn bare_length(line: &[u8]) -> usize
     }
 }
 
-// How many bytes the first item of a line has.
+// Returns how many bytes the first item of a line has.
 fn item_length(line: &[u8]) -> usize
     ensures value { result ≡ spec.item_length line.now }
     ensures within { result ≤ length line.now }
@@ -227,14 +227,14 @@ fn is_mark(byte: u8) -> bool
     is_blank(byte) || byte == b'/' || byte == b'%'
 }
 
-// Whether what follows an opening parenthesis is a comment.
+// Returns whether what follows an opening parenthesis is a comment.
 fn is_comment(rest: &[u8]) -> bool
     ensures { result ≡ spec.is_comment rest.now }
 {
     has_byte(b')', rest) && !has_byte(b'(', rest)
 }
 
-// Whether what follows a # is a setting.
+// Returns whether what follows a # is a setting.
 fn is_setting(rest: &[u8]) -> bool
     ensures { result ≡ spec.is_setting rest.now }
 {
@@ -253,14 +253,14 @@ fn word_item(letter: Option<Letter>, number: Option<Number>) -> Item
     }
 }
 
-// What an item is that a letter may begin.
+// Returns the kind of an item that may begin with a letter.
 fn word_at(first: u8, rest: &[u8]) -> Item
     ensures { result ≡ spec.word_item (spec.letter_of first) (number rest.now) }
 {
     word_item(capital(upper(first)), number_of(rest))
 }
 
-// What an item is that begins with a byte.
+// Returns the kind of an item that begins with a byte.
 #[tactic(auto, unfolding(crate::specs::Items::item_of))]
 fn item_from(first: u8, rest: &[u8]) -> Item
     ensures { result ≡ spec.item_of (first ∷ rest.now) }
@@ -288,7 +288,7 @@ fn item_from(first: u8, rest: &[u8]) -> Item
     word_at(first, rest)
 }
 
-/// Returns what an item of a line is.
+/// Returns the kind of an item of a line.
 #[tactic(auto, unfolding(crate::specs::Items::item_of))]
 pub fn item_of(bytes: &[u8]) -> Item
     ensures { result ≡ spec.item_of bytes.now }

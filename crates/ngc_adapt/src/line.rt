@@ -14,13 +14,13 @@ use crate::rule::{Modes, Rule, is_axis, is_m_code};
 use arrayvec::ArrayVec;
 use std::alloc::{AllocError, Allocator};
 
-/// The most rules that change a line: one for each word, and one for the line.
+/// The greatest number of rules that change a line: one for each word, and one for the line.
 pub const MOST_RULES: usize = MOST_WORDS + 1;
 
-/// The most words of a line that stand in the way.
+/// The most refusals of a line.
 pub const MOST_REFUSALS: usize = MOST_WORDS;
 
-// The rule that changes an item, if one does, and whether the item is a word of an axis.
+// Returns the rule that changes an item, if one does, and whether the item is a word of an axis.
 pub(crate) fn rule_and_axis(modes: &Modes, words: &[Word], item: &[u8]) -> (Option<Rule>, bool)
     ensures rule { result.0 ≡ item_rule modes.now words.now item.now }
     ensures axis { result.1 ≡ is_axis_item item.now }
@@ -42,7 +42,7 @@ fn traverse_rule(named: bool) -> ArrayVec<Rule, MOST_RULES>
     rules
 }
 
-// The rules that change a line with these words.
+// Returns the rules that change a line with these words.
 pub(crate) fn rules_among(modes: &Modes, words: &[Word]) -> ArrayVec<Rule, MOST_RULES>
     requires { length words.now ≤ 64 }
     ensures { result.items ≡ rules_among modes.now words.now }
@@ -56,7 +56,7 @@ pub(crate) fn rules_among(modes: &Modes, words: &[Word]) -> ArrayVec<Rule, MOST_
     rules
 }
 
-// What stands in the way of these words of a line.
+// Returns the refusals of these words of a line.
 pub(crate) fn refusals_among(modes: &Modes, words: &[Word]) -> ArrayVec<WordRefusal, MOST_REFUSALS>
     requires { length words.now ≤ 64 }
     ensures { result.items ≡ filter_map (refusal_for modes.now words.now) words.now }
@@ -70,7 +70,7 @@ pub(crate) fn refusals_among(modes: &Modes, words: &[Word]) -> ArrayVec<WordRefu
     refusals
 }
 
-// Adds what is written of an item by the rule that changes it, and in front of it.
+// Adds an item as the rule that changes it rewrites it, and the text in front of it.
 pub(crate) fn add_item<A: Allocator>(
     modes: &Modes,
     words: &[Word],
@@ -106,7 +106,7 @@ pub(crate) fn add_traverse<A: Allocator>(
     Ok(())
 }
 
-// What a line with these words leaves in force.
+// Returns the modes after a line with these words.
 pub(crate) fn modes_after(modes: &Modes, words: &[Word], line: &[u8]) -> Modes
     ensures { result ≡ (if may_be_deleted line.now then modes_either modes.now words.now
         else modes_after modes.now words.now) }
@@ -131,7 +131,7 @@ fn has_end_word(modes: &Modes, words: &[Word]) -> bool
     words.iter().any(|word| is_end_word(modes, words, word))
 }
 
-// Whether a line with these words ends the program, and block delete can't take it out.
+// Returns whether a line with these words ends the program, and block delete can't take it out.
 pub(crate) fn ends_program(modes: &Modes, words: &[Word], line: &[u8]) -> bool
     ensures { result ≡ (list_any (λ w. is_end_word modes.now words.now w) words.now
         && not (may_be_deleted line.now)) }

@@ -8,14 +8,14 @@ ghost use Rattle.ngc_adapt.specs.Numbers as numbers;
 
 use arrayvec::ArrayVec;
 
-// The most characters of a number that is read. CAM programs write up to twenty.
+// The greatest number of characters of a number that is read. CAM programs write up to twenty.
 pub const LONGEST_NUMBER: usize = 32;
 
-/// What the rules ask of a number. Of a value that is computed they know only whether a name is in
-/// it.
+/// The facts about a number that the rules use. Of a computed value they know only whether a name
+/// is in it.
 #[derive(Clone, Copy, Default)]
 pub struct Number {
-    /// The code in tenths that it is, as 592 for `G59.2`.
+    /// Its code in tenths, as 592 for `G59.2`.
     pub code: Option<u16>,
     /// Whether it is exactly 0.
     pub is_zero: bool,
@@ -25,7 +25,7 @@ pub struct Number {
     pub is_count: bool,
     /// Whether it is written with a point.
     pub has_point: bool,
-    /// Whether a parameter or a bracket gives it.
+    /// Whether it is the value of a parameter or a bracket.
     pub is_computed: bool,
     /// Whether a name is in what computes it, such as `cos` or `MOD`.
     pub has_name: bool,
@@ -85,7 +85,7 @@ fn digit_count(text: &[u8]) -> usize
     text.iter().take_while(|b| b.is_ascii_digit()).count()
 }
 
-// The digits in front of the point, and what follows them.
+// Returns the digits in front of the point, and what follows them.
 pub fn split_whole(text: &[u8]) -> (&[u8], &[u8])
     ensures front { result.0.now ≡ numbers.whole_digits text.now }
     ensures rest { result.1.now ≡ numbers.after_whole text.now }
@@ -106,7 +106,7 @@ fn are_digits(text: &[u8]) -> bool
     text.iter().all(|b| b.is_ascii_digit())
 }
 
-// The number that digits give, or 1000 where that is less.
+// Returns the number that digits form, at most 1000.
 #[tactic(auto, using(crate::proofs::Digits::valued))]
 fn limited_value(digits: &[u8]) -> u16
     ensures { result ≡ min (numbers.digits_value digits.now) 1000 }
@@ -118,7 +118,7 @@ fn limited_value(digits: &[u8]) -> u16
     value
 }
 
-// The tenths that the first decimal gives.
+// Returns the first decimal as tenths.
 fn tenths(decimals: &[u8]) -> u16
     ensures value { result ≡ numbers.digits_value (take 1 decimals.now) }
     ensures few { result < 256 }
@@ -129,7 +129,7 @@ fn tenths(decimals: &[u8]) -> u16
     }
 }
 
-// The code in tenths that the parts of a number are, if they are one.
+// Returns the code in tenths that the parts of a number form, if they form one.
 fn code_in(negative: bool, whole: &[u8], decimals: &[u8]) -> Option<u16>
     ensures { result ≡ numbers.code_in negative whole.now decimals.now }
 {
@@ -151,7 +151,7 @@ pub fn make_number(whole: &[u8], rest: &[u8]) -> bool
         && (!whole.is_empty() || !decimals.is_empty())
 }
 
-// The characters of a value, if there are at most 32.
+// Returns the characters of a value, if there are at most 32.
 #[tactic(auto, using(crate::proofs::Filtered::filter_step, crate::proofs::Filtered::longer, crate::proofs::Filtered::filter_end))]
 pub fn without_blanks(value: &[u8]) -> Option<ArrayVec<u8, LONGEST_NUMBER>>
     ensures { option_map (λ text. text.items) result ≡ numbers.short_text value.now }
@@ -174,7 +174,7 @@ pub(crate) fn is_ink(byte: u8) -> bool
     !is_blank(byte)
 }
 
-// How many characters a value begins with.
+// Returns how many characters a value begins with.
 #[tactic(auto, using(crate::proofs::Digits::counted))]
 fn ink_length(value: &[u8]) -> usize
     ensures count { result ≡ prefix_len numbers.is_ink value.now }
@@ -190,7 +190,7 @@ fn are_blanks(text: &[u8]) -> bool
 }
 
 /// Returns the characters of a value that has no blank in front of one of them, if there are at most
-/// 32. They are what `without_blanks` gives, without a copy.
+/// 32. They are the result of `without_blanks`, without a copy.
 #[tactic(auto, using(crate::proofs::OnePiece::short_piece))]
 pub fn in_one_piece(value: &[u8]) -> Option<&[u8]>
     ensures piece { option_map (λ text. text.now) result ≡ numbers.in_one_piece value.now }
@@ -217,7 +217,7 @@ fn is_lead(byte: u8) -> bool
     is_blank(byte) || byte == b'+' || byte == b'-' || byte == b'#'
 }
 
-// How many blanks, signs and # a value begins with.
+// Returns how many blanks, signs and # a value begins with.
 #[tactic(auto, using(crate::proofs::Digits::counted))]
 fn lead_length(value: &[u8]) -> usize
     ensures count { result ≡ prefix_len numbers.is_lead value.now }
@@ -226,7 +226,7 @@ fn lead_length(value: &[u8]) -> usize
     value.iter().take_while(|b| is_lead(**b)).count()
 }
 
-// How many bytes a bracket has, to its end or to that of the line.
+// Returns how many bytes a bracket has, to its end or to that of the line.
 #[tactic(auto, using(crate::proofs::BracketLaws::bracket_step, crate::proofs::BracketLaws::bracket_end))]
 fn bracket_length(text: &[u8]) -> usize
     ensures count { result ≡ numbers.bracket_length 0 text.now }
@@ -274,7 +274,7 @@ pub(crate) fn value_length(text: &[u8]) -> usize
     }
 }
 
-// Whether a parameter or a bracket gives a value.
+// Returns whether a value is that of a parameter or a bracket.
 fn is_computed(value: &[u8]) -> bool
     ensures { result ≡ numbers.is_computed value.now }
 {
@@ -300,7 +300,7 @@ pub(crate) fn is_whole(value: &[u8]) -> bool
     byte_count(b'[', value) == byte_count(b']', value) && has_digit(value)
 }
 
-// What the characters of a number say.
+// Returns the number that the characters form.
 fn number_in(text: &[u8]) -> Option<Number>
     ensures { result ≡ numbers.facts_if_number text.now }
 {
@@ -322,7 +322,7 @@ fn number_in(text: &[u8]) -> Option<Number>
     })
 }
 
-// What a number of at most 32 characters says.
+// Returns the number that at most 32 characters form.
 fn written_number(value: &[u8]) -> Option<Number>
     ensures { result ≡ numbers.written_number value.now }
 {
@@ -345,7 +345,7 @@ fn has_name(value: &[u8]) -> bool
     value.iter().any(|b| is_name_byte(*b))
 }
 
-// How many blanks a text begins with.
+// Returns how many blanks a text begins with.
 #[tactic(auto, using(crate::proofs::Digits::counted))]
 pub(crate) fn blank_length(text: &[u8]) -> usize
     ensures count { result ≡ prefix_len numbers.is_blank text.now }
@@ -373,14 +373,14 @@ pub(crate) fn stays_open(value: &[u8]) -> bool
     depth == 1
 }
 
-// Whether a value is a parameter or a bracket with a sign in front.
+// Returns whether a value is a parameter or a bracket with a sign in front.
 fn is_signed(value: &[u8]) -> bool
     ensures { result ≡ numbers.is_signed value.now }
 {
     has_sign(value.split_at(blank_length(value)).1) && stays_open(value)
 }
 
-// What is known of a value that is computed.
+// Returns what is known of a value that is computed.
 fn computed_number(value: &[u8]) -> Number
     ensures { result ≡ numbers.computed_number value.now }
 {

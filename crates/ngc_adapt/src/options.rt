@@ -1,9 +1,9 @@
 use crate::dialect::Dialect;
 
-/// The most M codes that can be dropped.
+/// The greatest number of M codes that can be dropped.
 pub const MOST_DROPPED: usize = 16;
 
-/// What the user says of a program.
+/// The user's options for a program.
 #[derive(Clone, Copy)]
 pub struct Options {
     /// The control that it is written for.

@@ -14,10 +14,10 @@ use crate::rule::Rule;
 use arrayvec::ArrayVec;
 use std::alloc::{AllocError, Allocator};
 
-// The most characters of a line of our language.
+// The greatest number of characters of a line of our language.
 const LONGEST_LINE: usize = 256;
 
-/// The most rules that make a line plain.
+/// The greatest number of rules that make a line plain.
 pub const MOST_PLAIN_RULES: usize = 3;
 
 fn is_one(levels: Levels) -> bool
@@ -26,7 +26,7 @@ fn is_one(levels: Levels) -> bool
     matches!(levels, Levels::One(_))
 }
 
-// How many bytes a line has up to its first slash.
+// Returns how many bytes a line has up to its first slash.
 fn slash_length(line: &[u8]) -> usize
     ensures value { result ≡ spec.slash_length line.now }
 {
@@ -42,14 +42,14 @@ fn has_level(line: &[u8]) -> bool
         && line[length].is_ascii_digit()
 }
 
-// Whether a line has a level that says nothing, since the whole program has no other.
+// Returns whether a line has a level without effect, since the whole program has no other.
 pub(crate) fn has_idle_level(levels: Levels, line: &[u8]) -> bool
     ensures { result ≡ spec.has_idle_level levels line.now }
 {
     is_one(levels) && has_level(line)
 }
 
-// The first bytes of a line, or all.
+// Returns the first bytes of a line, or all.
 fn up_to(count: usize, line: &[u8]) -> &[u8]
     ensures { result.now ≡ take count line.now }
 {
@@ -60,14 +60,14 @@ fn up_to(count: usize, line: &[u8]) -> &[u8]
     }
 }
 
-// The slash of block delete, and the blanks in front of it.
+// Returns the slash of block delete, and the blanks in front of it.
 pub(crate) fn slash_of(line: &[u8]) -> &[u8]
     ensures { result.now ≡ take (spec.slash_length line.now) line.now }
 {
     up_to(slash_length(line), line)
 }
 
-// The slash and the digit after it.
+// Returns the slash and the digit after it.
 pub(crate) fn slash_and_level(line: &[u8]) -> &[u8]
     ensures { result.now ≡ take (spec.slash_length line.now + 1) line.now }
 {
@@ -90,7 +90,7 @@ pub(crate) fn add_without_level<A: Allocator>(
     out.extend_from_slice(after(slash_length(line).saturating_add(1), line))
 }
 
-// What follows a comment.
+// Returns what follows a comment.
 pub(crate) fn after_comment(comment: &[u8]) -> &[u8]
     ensures { result.now ≡ spec.after_comment comment.now }
 {
@@ -136,7 +136,7 @@ pub fn is_idle(line: &[u8]) -> bool
     are_blanks(code_of(line)) && are_blanks(after_comment(comment_of(line)))
 }
 
-/// Returns whether a line is plain as it is: it has no level of block delete that says nothing, its
+/// Returns whether a line is plain as it is: it has no level of block delete without effect, its
 /// first comment is one that our language can read, and no comment makes it too long.
 pub fn is_plain(levels: Levels, line: &[u8]) -> bool
     ensures { result ≡ spec.is_plain levels line.now }
@@ -183,11 +183,11 @@ pub fn plain_rules<A: Allocator + Copy>(
     Ok(rules)
 }
 
-/// Adds a line to `out` whose words can be read: without a level of block delete, where `levels` has
-/// one alone; with a first comment that our language can read, where parentheses inside are brackets
-/// and a closing one is added; and without a comment that makes it longer than 256 characters. A
-/// line that is plain is copied byte for byte. Call it on each line of a program before its facts
-/// and before `adapt_line`.
+/// Adds a line to `out` in a form whose words can be read. It has no level of block delete, where
+/// `levels` has only one. Its first comment is one that our language can read: parentheses inside
+/// become brackets, and a closing one is added. A comment that makes the line longer than 256
+/// characters is left out. A line that is plain is copied byte for byte. Call it on each line of a
+/// program before its facts and before `adapt_line`.
 ///
 /// After an error, which means that memory was refused, `out` has any prefix of it.
 #[tactic(auto, unfolding(crate::specs::Plain::plain_line), using(crate::proofs::PlainLaws::plain_same))]

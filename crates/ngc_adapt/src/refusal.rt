@@ -7,7 +7,7 @@ use crate::item::{Letter, Word};
 use crate::number::{Number, has_byte};
 use crate::rule::{Modes, Motion, has, has_offset_number, is_known, is_one_of, is_own};
 
-/// What no rule rewrites.
+/// A word or line that no rule rewrites.
 #[derive(Clone, Copy, PartialEq, Eq)]
 pub enum WordRefusal {
     /// G41 or G42.
@@ -100,7 +100,7 @@ impl WordRefusal {
         }
     }
 
-    /// Returns what it is, and the way out.
+    /// Returns the text that says what it is and how to avoid it.
     pub fn sentence(self) -> &'static str
         ensures { result.now ≡ sentence self }
     {
@@ -157,7 +157,7 @@ fn refuse(holds: bool, refusal: WordRefusal) -> Option<WordRefusal>
     if holds { Some(refusal) } else { None }
 }
 
-// What stands in the way of an M code.
+// Returns the refusal of an M code.
 fn m_refusal(code: Option<u16>) -> Option<WordRefusal>
     ensures { result ≡ spec.m_refusal code }
 {
@@ -171,7 +171,7 @@ fn m_refusal(code: Option<u16>) -> Option<WordRefusal>
     }
 }
 
-// What stands in the way of a code that a whole family of codes shares.
+// Returns the refusal of a code that a whole family of codes shares.
 fn family_refusal(code: Option<u16>) -> Option<WordRefusal>
     ensures { result ≡ spec.family_refusal code }
 {
@@ -202,7 +202,7 @@ fn family_refusal(code: Option<u16>) -> Option<WordRefusal>
     }
 }
 
-/// What stands in the way on a line that can't be read.
+/// Returns the refusals of a line that can't be read.
 pub(crate) fn unread_refusal(line: &[u8]) -> WordRefusal
     ensures { result ≡ spec.unread_refusal line.now }
 {
@@ -228,14 +228,14 @@ impl Modes {
     ghost use Rattle.ngc_adapt.specs.Refusals.{letter_refusal, word_refusal, refusal_for};
     ghost use Rattle.ngc_adapt.specs.Refusals.{own_refusal};
 
-    // Whether our language doesn't have a code.
+    // Returns whether our language doesn't have a code.
     fn is_foreign(&self, code: Option<u16>) -> bool
         ensures { result ≡ is_foreign self.now code }
     {
         is_one_of(&code::IDLE, code) || is_own(self.dialect, code) || !is_known(self.dialect, code)
     }
 
-    // What stands in the way of a code of no such family.
+    // Returns the refusal of a code that is in no such family.
     fn own_refusal(&self, words: &[Word], code: Option<u16>) -> Option<WordRefusal>
         ensures { result ≡ own_refusal self.now words.now code }
     {
@@ -248,14 +248,14 @@ impl Modes {
         }
     }
 
-    // What stands in the way of a code.
+    // Returns the refusal of a code.
     fn g_refusal(&self, words: &[Word], code: Option<u16>) -> Option<WordRefusal>
         ensures { result ≡ g_refusal self.now words.now code }
     {
         family_refusal(code).or(self.own_refusal(words, code))
     }
 
-    // What stands in the way of a P whose unit isn't known.
+    // Returns the refusal of a P whose unit isn't known.
     fn time_refusal(&self, words: &[Word], number: &Number) -> Option<WordRefusal>
         ensures { result ≡ time_refusal self.now words.now number.now }
     {
@@ -269,7 +269,7 @@ impl Modes {
         )
     }
 
-    // What stands in the way of P.
+    // Returns the refusal of P.
     fn p_refusal(&self, words: &[Word], number: &Number) -> Option<WordRefusal>
         ensures { result ≡ p_refusal self.now words.now number.now }
     {
@@ -280,7 +280,7 @@ impl Modes {
         }
     }
 
-    // What stands in the way of a word by its letter.
+    // Returns the refusal of a word by its letter.
     fn letter_refusal(&self, words: &[Word], letter: Letter, number: &Number) -> Option<WordRefusal>
         ensures { result ≡ letter_refusal self.now words.now letter number.now }
     {
@@ -295,7 +295,7 @@ impl Modes {
         }
     }
 
-    // What stands in the way of a word that no rule changes.
+    // Returns the refusal of a word that no rule changes.
     fn word_refusal(&self, words: &[Word], word: &Word) -> Option<WordRefusal>
         ensures { result ≡ word_refusal self.now words.now word.now }
     {
@@ -303,7 +303,7 @@ impl Modes {
             .or(refuse(word.number.has_name, WordRefusal::Function))
     }
 
-    /// Returns what stands in the way of a word of a line, unless a rule changes it by its letter.
+    /// Returns the refusal of a word of a line, unless a rule changes it by its letter.
     #[tactic(auto, unfolding(crate::specs::Refusals::refusal_for))]
     pub fn refusal_for(&self, words: &[Word], word: &Word) -> Option<WordRefusal>
         ensures { result ≡ refusal_for self.now words.now word.now }

@@ -1,4 +1,4 @@
-//! What is written in place of a word that a rule changes.
+//! Replacements for the words that a rule changes.
 ghost use Rattle.std.specs.Prelude.{◌≡◌, ◌++◌, ◌∷◌, [], IfOk, codes, filter, length, take, drop};
 ghost use Rattle.std.specs.Char.{is_ascii_digit};
 ghost use Rattle.ngc_adapt.specs.Numbers.{is_ink as ink};
@@ -54,7 +54,7 @@ fn add_word<A: Allocator>(
     Ok(())
 }
 
-// Adds what is written in front of a word that a rule changes.
+// Adds the text in front of a word that a rule changes.
 pub(crate) fn add_front<A: Allocator>(
     modes: &Modes,
     words: &[Word],
@@ -93,7 +93,7 @@ fn add_digits<A: Allocator>(item: &[u8], out: &mut Vec<u8, A>) -> Result<(), All
     Ok(())
 }
 
-// Adds the digits of an item, with noughts in front if there are fewer than four.
+// Adds the digits of an item, with zeros in front if there are fewer than four.
 fn add_padded<A: Allocator>(item: &[u8], out: &mut Vec<u8, A>) -> Result<(), AllocError>
     ensures { IfOk result (λ _. out.new.items ≡ out.old.items
         ++ spec.padded (filter is_ascii_digit item.now)) }
@@ -189,7 +189,7 @@ fn add_program_number<A: Allocator>(item: &[u8], out: &mut Vec<u8, A>) -> Result
     Ok(())
 }
 
-// Adds what is written in place of a word that a rule changes.
+// Adds the replacement of a word that a rule changes.
 pub(crate) fn add_replacement<A: Allocator>(
     modes: &Modes,
     words: &[Word],

@@ -76,7 +76,7 @@ impl Rule {
         }
     }
 
-    // Where the rule is among all.
+    // Returns the index of the rule among all.
     fn rank(self) -> u8
         ensures { result ≡ rank self }
     {
@@ -123,7 +123,7 @@ fn last_blanks(text: &[u8]) -> usize
     text.iter().rev().take_while(|b| is_blank(**b)).count()
 }
 
-// A text without the blanks at its end.
+// Returns a text without the blanks at its end.
 fn trimmed(text: &[u8]) -> &[u8]
     ensures { result.now ≡ spec.trimmed text.now }
 {
@@ -151,7 +151,7 @@ fn add_place<A: Allocator>(change: &Change, report: &mut Vec<u8, A>) -> Result<(
     Ok(())
 }
 
-// Adds a line for a change up to what is written.
+// Adds a line for a change, up to the text that replaces it.
 fn add_was<A: Allocator>(
     change: &Change,
     was: &[u8],
@@ -170,7 +170,7 @@ fn add_was<A: Allocator>(
     Ok(())
 }
 
-// Adds the word nothing where no byte is there.
+// Adds the word `nothing` where there is no byte.
 fn add_nothing_at<A: Allocator>(count: usize, report: &mut Vec<u8, A>) -> Result<(), AllocError>
     ensures { IfOk result (λ _. report.new.items ≡ report.old.items
         ++ (if count == 0 then codes "nothing" else [])) }
@@ -181,8 +181,8 @@ fn add_nothing_at<A: Allocator>(count: usize, report: &mut Vec<u8, A>) -> Result
     Ok(())
 }
 
-// Ends the line of a change, where what is written begins at this byte of the report: without the
-// blanks at its end, or as the word nothing.
+// Ends the line of a change, whose new text begins at this byte of the report: without the blanks
+// at its end, or as the word `nothing` if it is empty.
 fn end_change<A: Allocator>(start: usize, report: &mut Vec<u8, A>) -> Result<(), AllocError>
     requires { start ≤ length report.old.items }
     ensures { IfOk result (λ _. report.new.items ≡ take start report.old.items
@@ -300,7 +300,7 @@ fn add_long_report<A: Allocator>(
 }
 
 /// Adds a line for each change that makes a line plain: `number` is its line in the source and
-/// `written` its line in what is written, both from 1. An error means that memory was refused.
+/// `written` its line in the output, both from 1. An error means that memory was refused.
 #[tactic(auto, unfolding(crate::specs::Reports::plain_report))]
 pub fn add_plain_report<A: Allocator + Copy>(
     alloc: A,
@@ -398,7 +398,7 @@ pub(crate) fn add_refusal<A: Allocator>(
     Ok(())
 }
 
-// Adds a line for each thing that stands in the way on a line of the source with this number, from 1.
+// Adds a line for each refusal of the line of the source with this number, from 1.
 #[tactic(auto, using(crate::proofs::ReportLaws::refusals_step))]
 pub(crate) fn add_refusals<A: Allocator>(
     number: usize,
@@ -460,7 +460,7 @@ fn add_counts_of<A: Allocator>(
     Ok(())
 }
 
-/// Adds how often each rule applied, a line for each rule that did.
+/// Adds the number of times each rule applied: a line for each rule that did.
 pub fn add_counts<A: Allocator>(
     changes: &[Change],
     report: &mut Vec<u8, A>,

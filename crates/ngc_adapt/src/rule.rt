@@ -27,7 +27,7 @@ pub enum Rule {
     LineNumber,
     /// G53 without a place.
     MachineCoordinates,
-    /// A code that says what always holds in our language.
+    /// A code for what always holds in our language.
     IdleCode,
     /// G70, which is G20 in our language.
     Inches,
@@ -47,7 +47,7 @@ pub enum Rule {
     Seconds,
     /// G82, G86 or G89 without P.
     CycleDwell,
-    /// K of a cycle of fanuc's, which is L in our language.
+    /// K of a cycle of Fanuc's, which is L in our language.
     HoleCount,
     /// A word that is 0 and that nothing on its line uses.
     UnusedZero,
@@ -59,9 +59,9 @@ pub enum Rule {
     ZeroRotation,
     /// A word of a rotary axis that has nothing but 0 in the whole program.
     IdleAxis,
-    /// M50 to M53, which work switches of the panel.
+    /// M50 to M53, which act as switches of the panel.
     Switch,
-    /// M61, which says which tool is in the spindle.
+    /// M61, which sets the number of the tool in the spindle.
     ToolInSpindle,
     /// An M code that the user drops, and the P, Q and E of a code that is left out.
     Dropped,
@@ -163,7 +163,7 @@ pub enum Cycle {
     Pecking,
 }
 
-/// What the lines before leave in force, as far as the rules ask for it.
+/// The modes in force after the previous lines, as far as the rules use them.
 #[derive(Clone, Copy)]
 pub struct Modes {
     pub dialect: Dialect,
@@ -238,7 +238,7 @@ pub(crate) fn is_axis(letter: Letter) -> bool
     )
 }
 
-// Whether a letter names an axis of our language.
+// Returns whether a letter names an axis of our language.
 fn is_linear(letter: Letter) -> bool
     ensures { result ≡ spec.is_linear letter }
 {
@@ -269,7 +269,7 @@ fn is_of_place(letter: Letter) -> bool
     is_axis(letter) || matches!(letter, Letter::I | Letter::J | Letter::K | Letter::R)
 }
 
-// Whether a code is known that takes neither P nor Q.
+// Returns whether a code is known that takes neither P nor Q.
 fn takes_no_p(code: Option<u16>) -> bool
     ensures { result ≡ spec.takes_no_p code }
 {
@@ -284,7 +284,7 @@ fn takes_no_p(code: Option<u16>) -> bool
         || is_one_of(&code::IDLE, code)
 }
 
-// Whether a code is one that a dialect has and our language doesn't.
+// Returns whether a code is one that a dialect has and our language doesn't.
 pub(crate) fn is_own(dialect: Dialect, code: Option<u16>) -> bool
     ensures { result ≡ spec.is_own dialect code }
 {
@@ -332,7 +332,7 @@ fn is_unknown_g(dialect: Dialect, word: &Word) -> bool
     is_g(word.letter) && !is_known(dialect, word.number.code)
 }
 
-// Whether a line has a code of a kind.
+// Returns whether a line has a code of a kind.
 pub(crate) fn has(codes: &[u16], words: &[Word]) -> bool
     ensures { result ≡ spec.has codes.now words.now }
 {
@@ -345,14 +345,14 @@ fn has_axes(words: &[Word]) -> bool
     words.iter().any(|word| is_axis(word.letter))
 }
 
-// Whether a line has words of a place or a path to it.
+// Returns whether a line has words of a place or a path to it.
 fn has_place(words: &[Word]) -> bool
     ensures { result ≡ spec.has_place words.now }
 {
     words.iter().any(|word| is_of_place(word.letter))
 }
 
-// Whether a line has a word of an axis of our language.
+// Returns whether a line has a word of an axis of our language.
 fn has_linear(words: &[Word]) -> bool
     ensures { result ≡ spec.has_linear words.now }
 {
@@ -371,7 +371,7 @@ fn has_tool(words: &[Word]) -> bool
     words.iter().any(|word| is_t(word.letter))
 }
 
-// Whether a line has an M code of a kind.
+// Returns whether a line has an M code of a kind.
 pub(crate) fn has_m(codes: &[u16], words: &[Word]) -> bool
     ensures { result ≡ spec.has_m codes.now words.now }
 {
@@ -411,7 +411,7 @@ pub(crate) fn has_offset_number(words: &[Word]) -> bool
     words.iter().any(|word| is_offset_number(word.letter))
 }
 
-// The number that a code is, where it has no tenths.
+// Returns the code as a whole number, if it has no tenths.
 fn whole_number(code: Option<u16>) -> Option<u16>
     ensures { result ≡ spec.whole_number code }
 {
@@ -433,7 +433,7 @@ fn has_origin_count(words: &[Word]) -> bool
     words.iter().any(is_for_origin)
 }
 
-// The number of the tool that T selects.
+// Returns the number of the tool that T selects.
 #[tactic(auto, using(crate::proofs::WordLaws::find_step, crate::proofs::WordLaws::find_end))]
 fn tool_of(words: &[Word]) -> Option<u16>
     ensures { result ≡ spec.number_in (find (λ (w : Word). spec.is_t w.letter) words.now) }
@@ -446,7 +446,7 @@ fn tool_of(words: &[Word]) -> Option<u16>
     None
 }
 
-// The code of the coordinate system that a line names.
+// Returns the code of the coordinate system that a line names.
 #[tactic(auto, using(crate::proofs::WordLaws::find_step, crate::proofs::WordLaws::find_end))]
 fn system_of(words: &[Word]) -> Option<u16>
     ensures { result ≡ spec.code_in (find (λ w. spec.is_code codes.SYSTEMS w) words.now) }
@@ -459,7 +459,7 @@ fn system_of(words: &[Word]) -> Option<u16>
     None
 }
 
-// The tool that is selected after a line.
+// Returns the tool that is selected after a line.
 fn selected_after(before: Option<u16>, words: &[Word]) -> Option<u16>
     ensures { result ≡ spec.selected_after before words.now }
 {
@@ -470,7 +470,7 @@ fn selected_after(before: Option<u16>, words: &[Word]) -> Option<u16>
     }
 }
 
-// The code of the coordinate system in force after a line.
+// Returns the code of the coordinate system in force after a line.
 fn system_after(before: Option<u16>, words: &[Word]) -> Option<u16>
     ensures { result ≡ spec.system_after before words.now }
 {
@@ -530,7 +530,7 @@ impl Motion {
     ghost use Rattle.ngc_adapt.specs.Rules.{has_no_offset, is_unnamed, start_motion, is_cycle};
     ghost use Rattle.ngc_adapt.specs.Rules.{takes_no};
 
-    // The mode that a line leaves in force.
+    // Returns the mode that a line leaves in force.
     pub(crate) fn after(self, words: &[Word]) -> Motion
         ensures { result ≡ motion_after self words.now }
     {
@@ -574,7 +574,7 @@ impl Motion {
         matches!(self, Motion::Cycle)
     }
 
-    // Whether no such motion takes an offset, a count or a time.
+    // Returns whether the motion takes no offset, count or time with this letter.
     fn takes_no(self, cycle: Cycle, letter: Letter) -> bool
         ensures { result ≡ takes_no self cycle letter }
     {
@@ -593,7 +593,7 @@ impl Motion {
         }
     }
 
-    // The motion in force where a program starts.
+    // Returns the motion in force where a program starts.
     fn start(dialect: Dialect) -> Motion
         ensures { result ≡ start_motion dialect }
     {
@@ -603,7 +603,7 @@ impl Motion {
         }
     }
 
-    // Whether a motion in a plane has no such offset.
+    // Returns whether a motion in a plane doesn't take an offset.
     fn has_no_offset(self, plane: Plane, letter: Letter) -> bool
         ensures { result ≡ has_no_offset self plane letter }
     {
@@ -653,7 +653,7 @@ fn unless(lost: bool, number: Option<u16>) -> Option<u16>
 impl Plane {
     ghost use Rattle.ngc_adapt.specs.Rules.{plane_after};
 
-    // The plane that a line leaves in force.
+    // Returns the plane that a line leaves in force.
     fn after(self, words: &[Word]) -> Plane
         ensures { result ≡ plane_after self words.now }
     {
@@ -672,7 +672,7 @@ impl Plane {
 impl Cycle {
     ghost use Rattle.ngc_adapt.specs.Rules.{cycle_after, is_dwelling};
 
-    // The cycle that a line leaves in force.
+    // Returns the cycle that a line leaves in force.
     fn after(self, words: &[Word]) -> Cycle
         ensures { result ≡ cycle_after self words.now }
     {
@@ -716,8 +716,8 @@ impl Modes {
     ghost use Rattle.ngc_adapt.specs.Rules.{motion_before, has_look_ahead, own_rule};
     ghost use Rattle.ngc_adapt.specs.Rules.{tolerance_rule};
 
-    /// Returns what is in force where a program starts: the plane XY, G54, and no motion mode but
-    /// in grbl, which starts with G0. No tool is known to be mounted.
+    /// Returns the modes at the start of a program: the plane XY, G54, and no motion mode but in
+    /// grbl, which starts with G0. No tool is known to be mounted.
     pub fn start(options: &Options, facts: &Facts) -> Modes
         ensures { result ≡ start_modes options.now facts.now }
     {
@@ -735,14 +735,14 @@ impl Modes {
         }
     }
 
-    // Whether the user drops a code.
+    // Returns whether the user drops a code.
     fn is_dropped(&self, code: Option<u16>) -> bool
         ensures { result ≡ is_dropped self.now code }
     {
         self.drop.iter().any(|c| is_same_code(*c, code))
     }
 
-    // Whether a word is an M code that moves nothing and is left out.
+    // Returns whether a word is an M code that moves nothing and is left out.
     fn is_left_out(&self, word: &Word) -> bool
         ensures { result ≡ is_left_out self.now word.now }
     {
@@ -768,7 +768,7 @@ impl Modes {
         (is_g(word.letter) && !takes_no_p(word.number.code)) || self.is_unknown_m(word)
     }
 
-    // Whether a word is a code, other than those for looking ahead, that may take P or Q.
+    // Returns whether a word is a code, other than those for looking ahead, that may take P or Q.
     fn takes_p_elsewhere(&self, word: &Word) -> bool
         ensures { result ≡ takes_p_elsewhere self.now word.now }
     {
@@ -800,28 +800,29 @@ impl Modes {
         words.iter().any(|word| self.is_unknown_m(word))
     }
 
-    // Whether a line has a code that isn't known.
+    // Returns whether a line has a code that isn't known.
     pub(crate) fn has_unknown(&self, words: &[Word]) -> bool
         ensures { result ≡ has_unknown self.now words.now }
     {
         has_unknown_g(self.dialect, words) || self.has_unknown_m(words)
     }
 
-    // Whether nothing but the motion and the modes of a line could take its words.
+    // Returns whether only the motion and the modes of a line can take its words.
     fn is_plain_line(&self, words: &[Word]) -> bool
         ensures { result ≡ is_plain_line self.now words.now }
     {
         !(self.has_unknown(words) || has(&code::FOR_ONE_LINE, words) || has(&code::ALTERING, words))
     }
 
-    // Whether a line moves, or names an arc, and nothing but its motion could have an offset.
+    // Returns whether a line moves, or names an arc, and nothing but its motion could have an
+    // offset.
     fn is_motion_line(&self, words: &[Word]) -> bool
         ensures { result ≡ is_motion_line self.now words.now }
     {
         (has_axes(words) || has(&code::ARCS, words)) && self.is_plain_line(words)
     }
 
-    // The tool in the spindle after a line.
+    // Returns the tool in the spindle after a line.
     pub(crate) fn mounted_after(&self, words: &[Word]) -> Option<u16>
         ensures { result ≡ mounted_after self.now words.now }
     {
@@ -834,7 +835,7 @@ impl Modes {
         }
     }
 
-    // The code of the coordinate system in force after a line.
+    // Returns the code of the coordinate system in force after a line.
     pub(crate) fn system_after(&self, words: &[Word]) -> Option<u16>
         ensures { result ≡ system_after self.now.system words.now }
     {
@@ -851,7 +852,7 @@ impl Modes {
             && !(has_motion(words) || self.has_unknown(words) || has(&code::FOR_ONE_LINE, words))
     }
 
-    // The motion in force before a line, under its name.
+    // Returns the motion in force before a line, under its name.
     fn motion_before(&self, words: &[Word]) -> Motion
         ensures { result ≡ motion_before self.now words.now }
     {
@@ -862,7 +863,7 @@ impl Modes {
         }
     }
 
-    // What is in force after a line whose words or codes aren't known.
+    // Returns the modes after a line whose words or codes aren't known.
     pub(crate) fn lost(&self, altered: bool) -> Modes
         ensures { result ≡ lost_modes self.now altered }
     {
@@ -880,14 +881,14 @@ impl Modes {
         }
     }
 
-    // Whether a code of this line or of one before ends what our language always has.
+    // Returns whether a code of this line or of one before ends what our language always has.
     fn is_altered(&self, words: &[Word]) -> bool
         ensures { result ≡ is_altered self.now words.now }
     {
         self.altered || has(&code::ALTERING, words)
     }
 
-    /// Returns what a line with these words leaves in force.
+    /// Returns the modes after a line with these words.
     pub fn after(&self, words: &[Word]) -> Modes
         ensures { result ≡ modes_after self.now words.now }
     {
@@ -909,8 +910,8 @@ impl Modes {
         }
     }
 
-    /// Returns what a line with these words leaves in force that block delete may take out: what it
-    /// sets isn't known.
+    /// Returns the modes after a line with these words that block delete may take out: what it sets
+    /// isn't known.
     pub fn either(&self, words: &[Word]) -> Modes
         ensures { result ≡ modes_either self.now words.now }
     {
@@ -933,7 +934,7 @@ impl Modes {
         }
     }
 
-    // Whether P and Q are the tolerance of G64.
+    // Returns whether P and Q are the tolerance of G64.
     fn has_tolerance(&self, words: &[Word]) -> bool
         ensures { result ≡ has_tolerance self.now words.now }
     {
@@ -942,7 +943,7 @@ impl Modes {
             && (!has_place(words) || self.motion.after(words).is_straight_or_off())
     }
 
-    // Whether nothing on a line has the offset of a letter.
+    // Returns whether nothing on a line has the offset of a letter.
     fn is_idle_offset(&self, words: &[Word], letter: Letter) -> bool
         ensures { result ≡ is_idle_offset self.now words.now letter }
     {
@@ -953,7 +954,7 @@ impl Modes {
                 .has_no_offset(self.plane.after(words), letter)
     }
 
-    // Whether a motion code beside G80 ends the cycle in force as well.
+    // Returns whether a motion code beside G80 ends the cycle in force as well.
     fn has_other_motion(&self, words: &[Word]) -> bool
         ensures { result ≡ has_other_motion self.now words.now }
     {
@@ -962,14 +963,15 @@ impl Modes {
             || (has(&code::CYCLES, words) && self.motion.is_no_cycle())
     }
 
-    // Whether what our language always has holds on a line.
+    // Returns whether a line keeps everything that our language always has.
     fn is_unaltered(&self, words: &[Word]) -> bool
         ensures { result ≡ is_unaltered self.now words.now }
     {
         !self.is_altered(words)
     }
 
-    // Whether G5.1 or G187 is on a line that doesn't move and where nothing else takes P, Q or E.
+    // Returns whether G5.1 or G187 is on a line that doesn't move and where nothing else takes P, Q
+    // or E.
     fn has_look_ahead(&self, words: &[Word]) -> bool
         ensures { result ≡ has_look_ahead self.now words.now }
     {
@@ -978,7 +980,7 @@ impl Modes {
             && !(has_place(words) || self.has_p_elsewhere(words))
     }
 
-    // The rule that changes a code that a dialect has and our language doesn't.
+    // Returns the rule that changes a code that a dialect has and our language doesn't.
     fn own_rule(&self, words: &[Word], code: Option<u16>) -> Option<Rule>
         ensures { result ≡ own_rule self.now words.now code }
     {
@@ -996,7 +998,7 @@ impl Modes {
         }
     }
 
-    // Whether the cycle in force holds at the bottom of each hole for P.
+    // Returns whether the cycle in force holds at the bottom of each hole for P.
     fn has_dwelling_cycle(&self, words: &[Word]) -> bool
         ensures { result ≡ has_dwelling_cycle self.now words.now }
     {
@@ -1005,7 +1007,7 @@ impl Modes {
             && self.cycle.after(words).is_dwelling()
     }
 
-    // Whether G82, G86 or G89 begins a cycle without P, where no earlier P goes on.
+    // Returns whether G82, G86 or G89 begins a cycle without P, where no earlier P applies.
     fn lacks_dwell(&self, words: &[Word]) -> bool
         ensures { result ≡ lacks_dwell self.now words.now }
     {
@@ -1016,7 +1018,7 @@ impl Modes {
             && !has_p(words)
     }
 
-    // Whether G43 has no H, where a tool is known to be mounted.
+    // Returns whether G43 has no H, where a tool is known to be mounted.
     fn lacks_offset(&self, words: &[Word]) -> bool
         ensures { result ≡ lacks_offset self.now words.now }
     {
@@ -1026,7 +1028,7 @@ impl Modes {
             && is_known_number(self.mounted_after(words))
     }
 
-    // The rule that changes a code.
+    // Returns the rule that changes a code.
     fn code_rule(&self, words: &[Word], code: Option<u16>) -> Option<Rule>
         ensures { result ≡ code_rule self.now words.now code }
     {
@@ -1045,7 +1047,7 @@ impl Modes {
         }
     }
 
-    // The rule that changes an M code.
+    // Returns the rule that changes an M code.
     fn machine_rule(&self, words: &[Word], code: Option<u16>) -> Option<Rule>
         ensures { result ≡ machine_rule self.now words.now code }
     {
@@ -1062,7 +1064,7 @@ impl Modes {
         }
     }
 
-    // The rule that leaves P or Q out.
+    // Returns the rule that leaves P or Q out.
     fn tolerance_rule(&self, words: &[Word]) -> Option<Rule>
         ensures { result ≡ tolerance_rule self.now words.now }
     {
@@ -1073,7 +1075,7 @@ impl Modes {
         }
     }
 
-    // Whether P, Q or E belongs to an M code that is left out.
+    // Returns whether P, Q or E belongs to an M code that is left out.
     fn has_dropped_value(&self, words: &[Word]) -> bool
         ensures { result ≡ has_dropped_value self.now words.now }
     {
@@ -1082,21 +1084,21 @@ impl Modes {
             && (!has_place(words) || self.motion.after(words).is_straight_or_off())
     }
 
-    // The rule that leaves a value of an M code out.
+    // Returns the rule that leaves a value of an M code out.
     fn dropped_rule(&self, words: &[Word]) -> Option<Rule>
         ensures { result ≡ dropped_rule self.now words.now }
     {
         when(self.has_dropped_value(words), Rule::Dropped)
     }
 
-    // Whether a line of fanuc's dwells.
+    // Returns whether a line of fanuc's dwells.
     fn has_dwell(&self, words: &[Word]) -> bool
         ensures { result ≡ has_dwell self.now words.now }
     {
         self.dialect.is_fanuc() && has(&code::DWELL, words) && !self.has_unknown(words)
     }
 
-    // The rule that makes milliseconds seconds.
+    // Returns the rule that converts milliseconds to seconds.
     fn milliseconds_rule(&self, words: &[Word], number: &Number) -> Option<Rule>
         ensures { result ≡ milliseconds_rule self.now words.now number.now }
     {
@@ -1108,14 +1110,14 @@ impl Modes {
         )
     }
 
-    // Whether a line sets the origin of a coordinate system.
+    // Returns whether a line sets the origin of a coordinate system.
     pub(crate) fn sets_origin(&self, words: &[Word]) -> bool
         ensures { result ≡ sets_origin self.now words.now }
     {
         has(&code::SETTING, words) && has_origin_count(words) && !self.has_unknown(words)
     }
 
-    // The rule that names the coordinate system in force.
+    // Returns the rule that names the coordinate system in force.
     fn system_rule(&self, words: &[Word], number: &Number) -> Option<Rule>
         ensures { result ≡ system_rule self.now words.now number.now }
     {
@@ -1128,7 +1130,7 @@ impl Modes {
         )
     }
 
-    // Whether nothing on a line uses a word.
+    // Returns whether nothing on a line uses a word.
     fn is_unused(&self, words: &[Word], letter: Letter) -> bool
         ensures { result ≡ is_unused self.now words.now letter }
     {
@@ -1140,7 +1142,7 @@ impl Modes {
                 .takes_no(self.cycle.after(words), letter)
     }
 
-    // Whether no code of a line takes the number of a tool's offset.
+    // Returns whether no code of a line takes the number of a tool's offset.
     fn is_unused_offset(&self, words: &[Word]) -> bool
         ensures { result ≡ is_unused_offset self.now words.now }
     {
@@ -1149,14 +1151,14 @@ impl Modes {
             && (!self.dialect.is_fanuc() || has(&code::TOOL_LENGTH_END, words))
     }
 
-    // Whether K counts the holes of a cycle.
+    // Returns whether K counts the holes of a cycle.
     fn counts_holes(&self, words: &[Word]) -> bool
         ensures { result ≡ counts_holes self.now words.now }
     {
         self.dialect.is_fanuc() && self.is_plain_line(words) && self.motion.after(words).is_cycle()
     }
 
-    // The rule that changes K where it is no offset that is 0.
+    // Returns the rule that changes K where it isn't an offset of 0.
     fn count_rule(&self, words: &[Word], number: &Number) -> Option<Rule>
         ensures { result ≡ count_rule self.now words.now number.now }
     {
@@ -1167,7 +1169,7 @@ impl Modes {
         }
     }
 
-    // The rule that leaves an offset out.
+    // Returns the rule that leaves an offset out.
     fn offset_rule(&self, words: &[Word], letter: Letter, is_zero: bool) -> Option<Rule>
         ensures { result ≡ offset_rule self.now words.now letter is_zero }
     {
@@ -1177,7 +1179,7 @@ impl Modes {
         )
     }
 
-    // The rule that leaves R out.
+    // Returns the rule that leaves R out.
     fn rotation_rule(&self, words: &[Word], number: &Number) -> Option<Rule>
         ensures { result ≡ rotation_rule self.now words.now number.now }
     {
@@ -1190,7 +1192,7 @@ impl Modes {
         )
     }
 
-    // The rule that leaves a word of a rotary axis out.
+    // Returns the rule that leaves a word of a rotary axis out.
     fn axis_rule(&self, turns: bool, words: &[Word]) -> Option<Rule>
         ensures { result ≡ axis_rule turns self.now words.now }
     {
@@ -1204,7 +1206,7 @@ impl Modes {
         )
     }
 
-    // The rule that changes P.
+    // Returns the rule that changes P.
     fn p_rule(&self, words: &[Word], number: &Number) -> Option<Rule>
         ensures { result ≡ p_rule self.now words.now number.now }
     {
@@ -1215,7 +1217,7 @@ impl Modes {
             .or(unused_rule(self.is_unused(words, Letter::P), number.is_zero))
     }
 
-    // The rule that changes Q.
+    // Returns the rule that changes Q.
     fn q_rule(&self, words: &[Word], number: &Number) -> Option<Rule>
         ensures { result ≡ q_rule self.now words.now number.now }
     {
@@ -1225,7 +1227,7 @@ impl Modes {
         ))
     }
 
-    // The rule that makes the number of a program a comment.
+    // Returns the rule that makes the number of a program a comment.
     fn number_rule(&self, words: &[Word], number: &Number) -> Option<Rule>
         ensures { result ≡ number_rule self.now words.now number.now }
     {
@@ -1235,14 +1237,14 @@ impl Modes {
         )
     }
 
-    // The rule that changes E.
+    // Returns the rule that changes E.
     fn e_rule(&self, words: &[Word]) -> Option<Rule>
         ensures { result ≡ e_rule self.now words.now }
     {
         when(self.has_look_ahead(words), Rule::LookAhead).or(self.dropped_rule(words))
     }
 
-    // The rule that changes K.
+    // Returns the rule that changes K.
     fn k_rule(&self, words: &[Word], number: &Number) -> Option<Rule>
         ensures { result ≡ k_rule self.now words.now number.now }
     {
@@ -1259,7 +1261,7 @@ impl Modes {
             .or(when(word.number.is_signed, Rule::SignedParameter))
     }
 
-    // The rule that changes a word of a line by its letter.
+    // Returns the rule that changes a word of a line by its letter.
     pub(crate) fn rule_of(&self, words: &[Word], word: &Word) -> Option<Rule>
         ensures { result ≡ rule_of self.now words.now word.now.letter word.now.number }
     {

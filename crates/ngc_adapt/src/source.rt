@@ -16,7 +16,7 @@ fn count_to_feed(text: &[u8]) -> usize
     text.iter().take_while(|b| is_no_feed(**b)).count()
 }
 
-// How many bytes the first line of a text has, with its line feed.
+// Returns how many bytes the first line of a text has, with its line feed.
 fn line_length(text: &[u8]) -> usize
     ensures value { result ≡ spec.line_length text.now }
     ensures within { result ≤ length text.now }
@@ -30,7 +30,7 @@ fn line_length(text: &[u8]) -> usize
     }
 }
 
-// The first line of a text, and what follows it.
+// Returns the first line of a text, and what follows it.
 #[tactic(auto, using(crate::proofs::SourceLaws::lines_step))]
 pub fn split_line(text: &[u8]) -> (&[u8], &[u8])
     requires { 0 < length text.now }
@@ -46,7 +46,7 @@ fn ends(byte: u8, text: &[u8]) -> bool
     !text.is_empty() && text[text.len() - 1] == byte
 }
 
-// A text without its last byte, if it is this one.
+// Returns a text without its last byte, if it is this one.
 fn without_end(byte: u8, text: &[u8]) -> &[u8]
     ensures value { result.now ≡ spec.without_end byte text.now }
     ensures within { length result.now ≤ length text.now }
@@ -58,7 +58,7 @@ fn without_end(byte: u8, text: &[u8]) -> &[u8]
     }
 }
 
-// How many bytes a line has without its line feed and a carriage return before it.
+// Returns how many bytes a line has without its line feed and a carriage return before it.
 pub fn body_length(line: &[u8]) -> usize
     ensures value { result ≡ spec.body_length line.now }
     ensures within { result ≤ length line.now }

@@ -8,7 +8,7 @@ use std::alloc::{AllocError, Allocator};
 // U+FEFF in UTF-8.
 const BYTE_ORDER_MARK: [u8; 3] = [0xEF, 0xBB, 0xBF];
 
-/// What is changed of a file to make it a text of lines.
+/// The changes to a file that make it a text of lines.
 #[derive(Clone, Copy, PartialEq, Eq)]
 pub struct TextChanges {
     /// Whether a byte order mark in front is left out.
@@ -22,7 +22,7 @@ pub struct TextChanges {
 impl TextChanges {
     ghost use Rattle.ngc_adapt.specs.Text.{changes_of, is_changed};
 
-    /// Returns what is changed of a file.
+    /// Returns the changes to a file.
     pub fn of(file: &[u8]) -> TextChanges
         ensures { result ≡ changes_of file.now }
     {
@@ -53,7 +53,7 @@ fn has_text_bytes_alone(file: &[u8]) -> bool
     file.iter().all(|b| is_text_byte(*b))
 }
 
-// Whether carriage returns end the lines of a file.
+// Returns whether carriage returns end the lines of a file.
 fn has_returns_alone(file: &[u8]) -> bool
     ensures { result ≡ spec.has_returns_alone file.now }
 {
@@ -98,7 +98,7 @@ fn lines_of<A: Allocator>(alloc: A, file: &[u8]) -> Result<Vec<u8, A>, AllocErro
 #[tactic(auto, using(crate::proofs::TextLaws::same_text))]
 pub fn text_of<A: Allocator>(alloc: A, file: &[u8]) -> Result<Vec<u8, A>, AllocError>
     ensures text { IfOk result (λ text. text.items ≡ spec.text_of file.now) }
-    // A file of which nothing is changed is copied byte for byte.
+    // A file without changes is copied byte for byte.
     ensures copied { IfOk result
         (λ text. spec.is_changed (spec.changes_of file.now) ≡ false → text.items ≡ file.now) }
 {

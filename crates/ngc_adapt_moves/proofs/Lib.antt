@@ -2,7 +2,7 @@
 pub mod Digits
 -- The words of a line.
 pub mod WordLaws
--- What is written of a line.
+-- The rewritten text of a line.
 pub mod LineLaws
 -- Values, places and lines worked by hand, by computing the definitions.
 pub mod Examples

@@ -54,7 +54,7 @@ abbrev pub from : Axis → Option ℤ → Circle
 from axis (Some value) = circles.From axis value
 from axis None = circles.Left refusals.CircleNotKnown
 
--- the number of an axis word that leads an axis to where it starts
+-- the number of an axis word that leaves an axis where it starts
 abbrev pub staying : Option Distance → Option ℤ → Option ℤ
 staying (Some distances.Absolute) start = start
 staying (Some distances.Incremental) start = Some (pos 0)
@@ -71,7 +71,7 @@ abbrev pub circle_by : Option Plane → Places → Places → List Word → Circ
 circle_by (Some plane) places after words = circle_in plane places after words
 circle_by None places after words = circles.Left refusals.CircleNotKnown
 
--- what becomes of a full circle without an axis word of its plane
+-- the result for a full circle without an axis word of its plane
 abbrev pub circle_of : Places → Places → List Word → Circle
 circle_of places after words =
     if not (is_arc after words) then circles.Other
@@ -116,7 +116,7 @@ centre_by None plane places words = centres.Left refusals.ArcDistanceNotKnown
 centre_by (Some arcs.Origin) (Some plane) places words = centre_in plane places words
 centre_by (Some arcs.Origin) None places words = centres.Left refusals.ArcPlaceNotKnown
 
--- what becomes of the offsets of an arc
+-- the result for the offsets of an arc
 abbrev pub centre_of : Places → Places → List Word → Centre
 centre_of places after words =
     if not (is_arc after words) then centres.Other

@@ -108,7 +108,7 @@ homing_in (Some homes) None distance words = homings.Left refusals.UnitsNotKnown
 homing_in (Some homes) (Some units) distance words =
     homing_to distance (targets units (home_of homes words) words) words
 
--- what becomes of a line that sends one or two axes home
+-- the result for a line that sends one or two axes home
 abbrev pub homing_of : Places → List Word → Homing
 homing_of places words =
     if not (is_part_home words) then homings.Other else (

@@ -30,7 +30,7 @@ place_text number written_number =
 abbrev pub rule_text : Rule → List ℕ
 rule_text rule = rule_name rule ++ (codes " " ++ (class_of rule ++ codes ": "))
 
--- what a line was and what is written: a slash parts the lines
+-- what a line was and what is written: a slash separates the lines
 abbrev pub was_text : Plan → List ℕ → List ℕ
 was_text plan line = line ++ (codes " -> " ++ (rewritten (codes " / ") plan line ++ codes "\n"))
 
@@ -42,7 +42,7 @@ unfoldable pub shift_along : Axis → Option ℤ → List ℕ
 shift_along axis (Some value) = codes " " ++ (offset_letter axis ∷ value_text value)
 shift_along axis None = []
 
--- by how much a centre is moved
+-- the distance by which a centre is moved
 unfoldable pub shift_text : Place → List ℕ
 shift_text shift =
     codes " (centre moved by" ++ (shift_along axes.X shift.x ++ (shift_along axes.Y shift.y
@@ -83,7 +83,7 @@ refusals_text number plan =
     ++ (refusal_if number (feeding_refusal plan.feeding)
     ++ refusal_if number (balance_refusal plan.balance)))))
 
--- the report of a line of which the rules make this
+-- the report of a line with this result of the rules
 unfoldable pub plan_report : ℕ → ℕ → Plan → List ℕ → List ℕ
 plan_report number written_number plan line =
     changes_text number written_number plan line ++ refusals_text number plan

@@ -1,4 +1,4 @@
--- What the words of a line say.
+-- The meaning of a line's words.
 use Rattle.std.specs.Prelude.{ℕ, ℤ, ◌&&◌, ◌||◌, not, Bool, true, false, List, count_by, find, Option}
 use Rattle.std.specs.Prelude.{Some, None}
 use Rattle.std.specs.List.{list_any}

@@ -1,5 +1,5 @@
--- What is written of a line: its items, with what stands for those that a rule changes, and further
--- lines.
+-- What is written of a line: its items, with the replacements of those that a rule changes, and
+-- further lines.
 use Rattle.std.specs.Prelude.{ℕ, ℤ, ◌&&◌, ◌||◌, not, Bool, true, false, List, [], ◌∷◌, ◌++◌, codes}
 use Rattle.std.specs.Prelude.{Option, Some, None, if◌then◌else◌}
 use Rattle.ngc_adapt.specs.Items.{items_of, may_be_deleted}
@@ -174,7 +174,7 @@ abbrev pub lines_by : Places → Option (List Word) → ℕ
 lines_by places None = 1
 lines_by places (Some words) = line_count (plan_of places words)
 
--- what is written of a line; one that can't be read stays as it is, and is reported
+-- a line as it is rewritten; one that can't be read is unchanged, and is reported
 unfoldable pub written : Places → List ℕ → List ℕ
 written places line = written_by places line (words_of line)
 

@@ -93,7 +93,7 @@ abbrev pub is_z : Axis → Bool
 is_z axes.Z = true
 is_z _ = false
 
--- where an axis is as the motion of a line begins: G43 and G49 give Z other coordinates
+-- where an axis is as the motion of a line begins: G43 and G49 change the coordinate of Z
 abbrev pub start_unless : Bool → Places → List Word → Axis → Option ℤ
 start_unless lost places words axis =
     if lost || (is_z axis && has codes.TOOL_LENGTH words) then None else along axis places.place

@@ -1,4 +1,4 @@
--- What the rules make of a line with these words.
+-- The result of the rules for a line with these words.
 use Rattle.std.specs.Prelude.{ℕ, ◌+◌, ℤ, ◌&&◌, ◌||◌, not, Bool, true, false, List, [], ◌∷◌, ◌++◌, Option}
 use Rattle.std.specs.Prelude.{Some, None, if◌then◌else◌}
 use Rattle.ngc_adapt.specs.declared.dialect.Dialect.{Dialect}
@@ -232,7 +232,7 @@ abbrev pub centre_change : Centre → Word → Option Text
 centre_change (centres.By offsets) w = offset_text offsets w.letter
 centre_change _ w = None
 
--- a centre that is moved goes before offsets from the current point
+-- a moved centre takes precedence over offsets from the current point
 abbrev pub arc_change : Balance → Centre → Word → Option Text
 arc_change (balances.Moved moved) centre w = offset_text moved.offsets w.letter
 arc_change _ centre w = centre_change centre w

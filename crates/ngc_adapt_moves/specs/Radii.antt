@@ -101,7 +101,7 @@ at_end s = squared (s.end_u -ℤ s.centre_u) (s.end_v -ℤ s.centre_v)
 abbrev pub chord : Sweep → ℕ
 chord s = squared s.end_u s.end_v
 
--- the radii differ by at most so many millionths
+-- the radii differ by at most this number of millionths
 abbrev pub radii_within : ℕ → Sweep → Bool
 radii_within tolerance s = roots_within tolerance (at_start s) (at_end s)
 
@@ -187,7 +187,7 @@ balance_by (Some units) (Some plane) places after centre words =
     balance_in units plane (sweep_in plane places after centre words) words
 balance_by _ _ places after centre words = balances.Other
 
--- what becomes of an arc whose radii differ
+-- the result for an arc whose radii differ
 abbrev pub balance_of : Places → Places → Centre → List Word → Balance
 balance_of places after centre words =
     if is_arc after words then balance_by after.units after.plane places after centre words

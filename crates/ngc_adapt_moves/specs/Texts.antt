@@ -1,4 +1,4 @@
--- What is written in place of words. Values have as many decimals as they need, at most six.
+-- Replacements of words. Values have the decimals that they need, at most six.
 use Rattle.std.specs.Prelude.{ℕ, ◌+◌, ◌/◌, ◌%◌, ◌==◌, ℤ, pos, negsuc, unsigned_abs, List, [], ◌∷◌, ◌++◌}
 use Rattle.std.specs.Prelude.{take, codes, decimal, if◌then◌else◌}
 use Rattle.ngc_adapt_moves.specs.declared.axis.Axis.{Axis}

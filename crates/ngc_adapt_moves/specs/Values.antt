@@ -14,7 +14,7 @@ known (Err fault) = None
 abbrev pub decimal_at : List ℕ → ℕ → ℕ
 decimal_at digits index = slice_index digits index - 48
 
--- the millionths that six decimals give; those that aren't written are 0
+-- six decimals as millionths; those that aren't written are 0
 abbrev pub millionths_in : List ℕ → ℕ
 millionths_in digits =
     100000 * decimal_at digits 0 + 10000 * decimal_at digits 1 + 1000 * decimal_at digits 2

@@ -13,25 +13,25 @@ use crate::value::known;
 use crate::word::Word;
 use ngc_fixed_length::{Distance, Plane, Value};
 
-/// What becomes of a full circle.
+/// The result for a full circle.
 #[derive(Clone, Copy)]
 pub enum Circle {
-    /// The line is none that lacks an axis word.
+    /// The line isn't a full circle without an axis word.
     Other,
     /// It is left as it is.
     Left(MoveRefusal),
-    /// The axis word of its start, on the first axis of the plane.
+    /// An axis word with the coordinate of its start, on the first axis of the plane.
     From(Axis, Value),
 }
 
-/// What becomes of the offsets of an arc.
+/// The result for the offsets of an arc.
 #[derive(Clone, Copy)]
 pub enum Centre {
-    /// They lead from the current point.
+    /// They are relative to the current point already.
     Other,
     /// They are left as they are.
     Left(MoveRefusal),
-    /// They lead from the current point as these.
+    /// They become these offsets from the current point.
     By(Place),
 }
 
@@ -41,7 +41,7 @@ fn is_round(motion: Motion) -> bool
     matches!(motion, Motion::Clockwise | Motion::Counterclockwise)
 }
 
-// Whether a line moves along an arc with offsets, in the modes that it leaves.
+// Returns whether a line moves along an arc with offsets, in the modes that it leaves.
 pub(crate) fn is_arc(after: &Places, words: &[Word]) -> bool
     ensures { result ≡ spec.is_arc after.now words.now }
 {
@@ -53,7 +53,7 @@ pub(crate) fn is_arc(after: &Places, words: &[Word]) -> bool
             || has(&code::MACHINE_COORDINATES, words))
 }
 
-// The first axis of a plane, and the second.
+// Returns the first axis of a plane, and the second.
 pub(crate) fn first_axis(plane: Plane) -> Axis
     ensures { result ≡ spec.first_axis plane }
 {
@@ -83,7 +83,7 @@ fn from(axis: Axis, value: Option<Value>) -> Circle
     }
 }
 
-// The number of an axis word that leads an axis to where it starts.
+// Returns the number of an axis word that leaves an axis where it starts.
 fn staying(distance: Option<Distance>, start: Option<Value>) -> Option<Value>
     ensures { result ≡ spec.staying distance start }
 {
@@ -94,7 +94,7 @@ fn staying(distance: Option<Distance>, start: Option<Value>) -> Option<Value>
     }
 }
 
-// What becomes of an arc in a plane without an axis word of it.
+// Returns the result for an arc in a plane without an axis word of it.
 fn circle_in(plane: Plane, places: &Places, after: &Places, words: &[Word]) -> Circle
     ensures { result ≡ spec.circle_in plane places.now after.now words.now }
 {
@@ -108,7 +108,7 @@ fn circle_in(plane: Plane, places: &Places, after: &Places, words: &[Word]) -> C
     )
 }
 
-/// Returns what becomes of a full circle without an axis word of its plane.
+/// Returns the result for a full circle without an axis word of its plane.
 pub(crate) fn circle_of(places: &Places, after: &Places, words: &[Word]) -> Circle
     ensures { result ≡ spec.circle_of places.now after.now words.now }
 {
@@ -130,7 +130,7 @@ pub(crate) fn difference(value: Option<Value>, start: Option<Value>) -> Option<V
     }
 }
 
-// An offset from the current point that is written from the origin.
+// Returns an offset from the current point that is written from the origin.
 fn offset_from_start(places: &Places, words: &[Word], axis: Axis) -> Option<Value>
     ensures { result ≡ spec.offset_from_start places.now words.now axis }
 {
@@ -151,7 +151,7 @@ fn offset_in_plane(places: &Places, words: &[Word], hole: Axis, axis: Axis) -> O
     }
 }
 
-// The offsets from the current point of an arc in a plane.
+// Returns the offsets from the current point of an arc in a plane.
 fn offsets_in(plane: Plane, places: &Places, words: &[Word]) -> Place
     ensures { result ≡ spec.offsets_in plane places.now words.now }
 {
@@ -163,7 +163,7 @@ fn offsets_in(plane: Plane, places: &Places, words: &[Word]) -> Place
     }
 }
 
-// What becomes of offsets from the origin in a plane.
+// Returns the result for offsets from the origin in a plane.
 fn centre_in(plane: Plane, places: &Places, words: &[Word]) -> Centre
     ensures { result ≡ spec.centre_in plane places.now words.now }
 {
@@ -175,7 +175,7 @@ fn centre_in(plane: Plane, places: &Places, words: &[Word]) -> Centre
     }
 }
 
-/// Returns what becomes of the offsets of an arc.
+/// Returns the result for the offsets of an arc.
 pub(crate) fn centre_of(places: &Places, after: &Places, words: &[Word]) -> Centre
     ensures { result ≡ spec.centre_of places.now after.now words.now }
 {

@@ -62,7 +62,8 @@ pub const AXIS_OFFSETS: [u16; 1] = [920];
 /// Codes that take the axis words of their line: origins, homing, offsets of the axes.
 pub const TAKING_AXES: [u16; 5] = [100, 280, 300, 520, 920];
 
-/// F gives how often a minute a motion could be made, or lengths a minute.
+/// The feed modes: G93, in which F is the inverse of a motion's time in minutes, and G94, units per
+/// minute.
 pub const INVERSE_TIME: [u16; 1] = [930];
 
 pub const PER_MINUTE: [u16; 1] = [940];
@@ -71,7 +72,7 @@ pub const FEED_MODE: [u16; 2] = [930, 940];
 
 pub const TOOL_LENGTH: [u16; 2] = [430, 490];
 
-/// Codes by which a place gets other coordinates: G10, G52, G54 to G59.3, G92.1 to G92.3.
+/// Codes that change the coordinates of a point: G10, G52, G54 to G59.3, G92.1 to G92.3.
 pub const ORIGINS: [u16; 14] = [
     100, 520, 540, 550, 560, 570, 580, 590, 591, 592, 593, 921, 922, 923,
 ];

@@ -13,10 +13,10 @@ use crate::value::{known, signed};
 use crate::word::Word;
 use ngc_fixed_length::{Distance, Units, Value};
 
-/// What becomes of the homing of some axes.
+/// The result for the homing of one or two axes.
 #[derive(Clone, Copy)]
 pub enum Homing {
-    /// The line is none.
+    /// The line doesn't have it.
     Other,
     /// It is left as it is.
     Left(MoveRefusal),
@@ -36,7 +36,7 @@ fn home_along(home: [i64; 3], axis: Axis) -> i64
     }
 }
 
-// The home to which a line goes.
+// Returns the home to which a line goes.
 fn home_of(homes: &Homes, words: &[Word]) -> [i64; 3]
     ensures { result ≡ spec.home_of homes.now words.now }
 {
@@ -47,7 +47,7 @@ fn home_of(homes: &Homes, words: &[Word]) -> [i64; 3]
     }
 }
 
-// Nanometres in millionths of an inch, if that is a whole number: 127 nm are 5 of them.
+// Returns nanometres in millionths of an inch, if that is a whole number: 127 nm are 5 of them.
 fn inches_value(nanometres: i64) -> Option<Value>
     ensures { result ≡ spec.inches_value nanometres }
 {
@@ -59,7 +59,7 @@ fn inches_value(nanometres: i64) -> Option<Value>
     }
 }
 
-// Nanometres in millionths of a unit, if that is a whole number.
+// Returns nanometres in millionths of a unit, if that is a whole number.
 fn home_value(units: Units, nanometres: i64) -> Option<Value>
     ensures { result ≡ spec.home_value units nanometres }
 {
@@ -69,7 +69,7 @@ fn home_value(units: Units, nanometres: i64) -> Option<Value>
     }
 }
 
-// The home of an axis, if a line names it.
+// Returns the home of an axis, if a line names it.
 fn target_along(units: Units, home: [i64; 3], words: &[Word], axis: Axis) -> Option<Value>
     ensures { result ≡ spec.target_along units home words.now axis }
 {
@@ -80,7 +80,7 @@ fn target_along(units: Units, home: [i64; 3], words: &[Word], axis: Axis) -> Opt
     }
 }
 
-// The homes of the axes that a line names.
+// Returns the homes of the axes that a line names.
 fn targets(units: Units, home: [i64; 3], words: &[Word]) -> Place
     ensures { result ≡ spec.targets units home words.now }
 {
@@ -97,7 +97,7 @@ fn has_target(place: &Place, words: &[Word], axis: Axis) -> bool
     !names(axis, words) || place.along(axis).is_some()
 }
 
-// Whether each axis that a line names has a home that can be written.
+// Returns whether each axis that a line names has a home that can be written.
 fn has_targets(place: &Place, words: &[Word]) -> bool
     ensures { result ≡ spec.has_targets place.now words.now }
 {
@@ -115,7 +115,7 @@ fn is_nought(value: Option<Value>) -> bool
     }
 }
 
-// Whether a line leaves an axis where it is, in G91.
+// Returns whether a line leaves an axis where it is, in G91.
 fn is_still(words: &[Word], axis: Axis) -> bool
     ensures { result ≡ spec.is_still words.now axis }
 {
@@ -128,7 +128,7 @@ fn is_incremental(distance: Option<Distance>) -> bool
     matches!(distance, Some(Distance::Incremental))
 }
 
-// Whether the place between is the place where the tool is.
+// Returns whether the place between is the place where the tool is.
 fn is_direct(distance: Option<Distance>, words: &[Word]) -> bool
     ensures { result ≡ spec.is_direct distance words.now }
 {
@@ -138,14 +138,14 @@ fn is_direct(distance: Option<Distance>, words: &[Word]) -> bool
         && is_still(words, Axis::Z)
 }
 
-// Whether a line sends one or two axes home.
+// Returns whether a line sends one or two axes home.
 pub(crate) fn is_part_home(words: &[Word]) -> bool
     ensures { result ≡ spec.is_part_home words.now }
 {
     has(&code::HOMING, words) && has_axes(words) && !has_all_axes(words)
 }
 
-// Whether nothing else on a line could take its axis words.
+// Returns whether nothing else on a line could take its axis words.
 fn is_alone(words: &[Word]) -> bool
     ensures { result ≡ spec.is_alone words.now }
 {
@@ -169,7 +169,7 @@ fn homing_to(distance: Option<Distance>, place: Place, words: &[Word]) -> Homing
     }
 }
 
-/// Returns what becomes of a line that sends one or two axes home.
+/// Returns the result for a line that sends one or two axes home.
 pub(crate) fn homing_of(places: &Places, words: &[Word]) -> Homing
     ensures { result ≡ spec.homing_of places.now words.now }
 {

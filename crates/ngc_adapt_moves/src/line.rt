@@ -1,4 +1,4 @@
-//! What is written of a line.
+//! The rewritten text of a line.
 ghost use Rattle.std.specs.Prelude.{◌≡◌, ◌++◌, [], codes, length, IfOk, if◌then◌else◌};
 ghost use Rattle.ngc_adapt_moves.specs.Lines as spec;
 ghost use Rattle.ngc_adapt_moves.specs.Places.{modes_after};
@@ -23,7 +23,7 @@ fn is_place_item(item: &[u8]) -> bool
     }
 }
 
-// Adds what is written of an item.
+// Adds an item as it is rewritten.
 fn add_item<A: Allocator>(plan: &Plan, item: &[u8], out: &mut Vec<u8, A>) -> Result<(), AllocError>
     ensures { IfOk result
         (λ _. out.new.items ≡ out.old.items ++ spec.item_written plan.now item.now) }
@@ -41,7 +41,7 @@ fn add_item<A: Allocator>(plan: &Plan, item: &[u8], out: &mut Vec<u8, A>) -> Res
     }
 }
 
-// Adds what is written in front of the first word of a place.
+// Adds the text in front of the first word of a position.
 fn add_front<A: Allocator>(plan: &Plan, out: &mut Vec<u8, A>) -> Result<(), AllocError>
     ensures { IfOk result (λ _. out.new.items ≡ out.old.items ++ spec.front plan.now) }
 {
@@ -117,7 +117,7 @@ fn add_before<A: Allocator>(
     Ok(())
 }
 
-// Adds what the source's own line is rewritten to.
+// Adds the text to which the source's own line is rewritten.
 fn add_main<A: Allocator>(plan: &Plan, line: &[u8], out: &mut Vec<u8, A>) -> Result<(), AllocError>
     ensures { IfOk result
         (λ _. out.new.items ≡ out.old.items ++ spec.main_written plan.now line.now) }
@@ -195,7 +195,7 @@ fn add_after<A: Allocator>(
     }
 }
 
-// Adds what a line is rewritten to, with a separator between lines.
+// Adds the text to which a line is rewritten, with a separator between lines.
 pub(crate) fn add_rewritten<A: Allocator>(
     separator: &[u8],
     plan: &Plan,
@@ -221,7 +221,7 @@ fn is_traverse(motion: Motion) -> bool
     matches!(motion, Motion::Traverse)
 }
 
-// Whether the next line that moves must name its motion.
+// Returns whether the next line that moves must name its motion.
 fn is_again(places: &Places, plan: &Plan, modes: &Places, words: &[Word], deletable: bool) -> bool
     requires { modes.now ≡ modes_after places.now words.now }
     ensures { result ≡ spec.is_again places.now plan.now words.now deletable }
@@ -237,7 +237,7 @@ fn is_again(places: &Places, plan: &Plan, modes: &Places, words: &[Word], deleta
     }
 }
 
-// What a line with these words leaves, whose own words leave these modes.
+// Returns the state after a line with these words, whose own words leave these modes.
 pub(crate) fn next_places(
     places: &Places,
     plan: &Plan,

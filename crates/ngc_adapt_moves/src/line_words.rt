@@ -1,4 +1,4 @@
-//! What the words of a line say.
+//! The meaning of a line's words.
 ghost use Rattle.std.specs.Prelude.{◌≡◌, count_by, find};
 ghost use Rattle.std.specs.List.{list_any};
 ghost use Rattle.ngc_adapt_moves.specs.LineWords as spec;
@@ -79,21 +79,21 @@ fn is_r(letter: Letter) -> bool
     matches!(letter, Letter::R)
 }
 
-// Whether a letter is of a place or of a path to it.
+// Returns whether a letter is of a place or of a path to it.
 pub(crate) fn is_of_place(letter: Letter) -> bool
     ensures { result ≡ spec.is_of_place letter }
 {
     matches!(letter, Letter::Axis(_) | Letter::Offset(_))
 }
 
-// Whether a word is a G word with a code of a kind.
+// Returns whether a word is a G word with a code of a kind.
 pub(crate) fn is_code(codes: &[u16], word: &Word) -> bool
     ensures { result ≡ spec.is_code codes.now word.now }
 {
     is_g(word.letter) && is_one_of(codes, word.code)
 }
 
-// Whether a word is an M word with a code of a kind.
+// Returns whether a word is an M word with a code of a kind.
 fn is_machine_code(codes: &[u16], word: &Word) -> bool
     ensures { result ≡ spec.is_machine_code codes.now word.now }
 {
@@ -178,7 +178,7 @@ fn value_in(word: Option<Word>) -> Option<Value>
     }
 }
 
-// The first word of an axis.
+// Returns the first word of an axis.
 fn first_along(axis: Axis, words: &[Word]) -> Option<Word>
     ensures { result ≡ spec.first_along axis words.now }
 {
@@ -215,7 +215,7 @@ pub(crate) fn names_offset(axis: Axis, words: &[Word]) -> bool
     words.iter().any(|word| is_offset(axis, word.letter))
 }
 
-// The first offset along an axis.
+// Returns the first offset along an axis.
 fn first_offset(axis: Axis, words: &[Word]) -> Option<Word>
     ensures { result ≡ spec.first_offset axis words.now }
 {
@@ -232,7 +232,7 @@ pub(crate) fn offset_along(axis: Axis, words: &[Word]) -> Option<Value>
     value_in(first_offset(axis, words))
 }
 
-// Whether a G code is known.
+// Returns whether a G code is known.
 fn is_known(code: Option<u16>) -> bool
     ensures { result ≡ spec.is_known code }
 {
@@ -260,7 +260,7 @@ fn is_known_m(code: Option<u16>) -> bool
     is_one_of(&code::MACHINE_CODES, code) || is_one_of(&code::TOOL_CHANGE, code)
 }
 
-// Whether nothing is known of what a word does.
+// Returns whether nothing is known of what a word does.
 fn is_unknown(word: &Word) -> bool
     ensures { result ≡ spec.is_unknown word.now }
 {

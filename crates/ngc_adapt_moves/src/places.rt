@@ -1,4 +1,4 @@
-//! What the lines before leave: modes, and the place of the tool.
+//! The state after the previous lines: modes, and the position of the tool.
 ghost use Rattle.std.specs.Prelude.{◌≡◌, if◌then◌else◌};
 ghost use Rattle.ngc_adapt_moves.specs.Places as spec;
 ghost use Rattle.ngc_adapt_moves.specs.Axes.{nowhere};
@@ -34,7 +34,7 @@ pub enum Motion {
     Cycle,
 }
 
-/// From where the offsets of an arc lead to its centre.
+/// The point to which the offsets of an arc's centre are relative.
 #[derive(Clone, Copy, PartialEq, Eq)]
 pub enum ArcDistance {
     /// From the current point, G91.1.
@@ -50,11 +50,12 @@ pub struct Homes {
     pub home30: [i64; 3],
 }
 
-/// What the lines before leave, as far as the rules ask for it. A mode that isn't known is `None`.
+/// The state after the previous lines, as far as the rules use it. A mode that isn't known is
+/// `None`.
 #[derive(Clone, Copy)]
 pub struct Places {
     pub dialect: Dialect,
-    /// The homes of the machine, if its file was given.
+    /// The homes of the machine, if its file was passed.
     pub homes: Option<Homes>,
     pub motion: Motion,
     pub plane: Option<Plane>,
@@ -62,10 +63,10 @@ pub struct Places {
     pub distance: Option<Distance>,
     pub arc_distance: Option<ArcDistance>,
     pub feed_mode: Option<FeedMode>,
-    /// The place of the tool in programmed coordinates.
+    /// The position of the tool in programmed coordinates.
     pub place: Place,
-    /// Whether what is written leaves another motion mode than the source, so that the next line that
-    /// moves must name its own.
+    /// Whether the rewritten program leaves another motion mode than the source, so that the next
+    /// line that moves must name its own.
     pub motion_again: bool,
 }
 
@@ -182,7 +183,7 @@ fn are_millimetres(units: Option<Units>) -> bool
     matches!(units, Some(Units::Millimetres))
 }
 
-// Whether a line names other units than those in force.
+// Returns whether a line names other units than those in force.
 pub(crate) fn changes_units(units: Option<Units>, words: &[Word]) -> bool
     ensures { result ≡ spec.changes_units units words.now }
 {
@@ -190,7 +191,7 @@ pub(crate) fn changes_units(units: Option<Units>, words: &[Word]) -> bool
         || (has(&code::MILLIMETRES, words) && !are_millimetres(units))
 }
 
-// Whether a place gets other coordinates on a line, or the tool may be taken elsewhere.
+// Returns whether a line changes the coordinates of a point, or may move the tool elsewhere.
 fn loses_place(units: Option<Units>, words: &[Word]) -> bool
     ensures { result ≡ spec.loses_place units words.now }
 {
@@ -206,7 +207,7 @@ fn is_z(axis: Axis) -> bool
     matches!(axis, Axis::Z)
 }
 
-// Where an axis is as the motion of a line begins that loses the place, or doesn't.
+// Returns where an axis is as the motion of a line begins, unless the line loses the position.
 fn start_unless(lost: bool, places: &Places, words: &[Word], axis: Axis) -> Option<Value>
     ensures { result ≡ spec.start_unless lost places.now words.now axis }
 {
@@ -217,7 +218,7 @@ fn start_unless(lost: bool, places: &Places, words: &[Word], axis: Axis) -> Opti
     }
 }
 
-// Where an axis is as the motion of a line begins.
+// Returns where an axis is as the motion of a line begins.
 pub(crate) fn start_along(places: &Places, words: &[Word], axis: Axis) -> Option<Value>
     ensures { result ≡ spec.start_along places.now words.now axis }
 {
@@ -233,7 +234,7 @@ pub(crate) fn sum(start: Option<Value>, value: Option<Value>) -> Option<Value>
     }
 }
 
-// Where a word leads.
+// Returns where a word leads.
 fn led_to(distance: Option<Distance>, start: Option<Value>, value: Option<Value>) -> Option<Value>
     ensures { result ≡ spec.led_to distance start value }
 {
@@ -244,7 +245,7 @@ fn led_to(distance: Option<Distance>, start: Option<Value>, value: Option<Value>
     }
 }
 
-// Where the words of a line lead an axis.
+// Returns where the words of a line lead an axis.
 fn target_along(
     distance: Option<Distance>,
     start: Option<Value>,
@@ -260,7 +261,7 @@ fn target_along(
     }
 }
 
-// Where an axis is whose word leads to a place that isn't known.
+// Returns where an axis is whose word leads to a place that isn't known.
 fn unless_named(start: Option<Value>, words: &[Word], axis: Axis) -> Option<Value>
     ensures { result ≡ spec.unless_named start words.now axis }
 {
@@ -273,7 +274,7 @@ fn unless_any(start: Option<Value>, words: &[Word]) -> Option<Value>
     if has_axes(words) { None } else { start }
 }
 
-// The axis along the holes of a plane.
+// Returns the axis along the holes of a plane.
 pub(crate) fn hole_axis(plane: Plane) -> Axis
     ensures { result ≡ spec.hole_axis plane }
 {
@@ -284,7 +285,7 @@ pub(crate) fn hole_axis(plane: Plane) -> Axis
     }
 }
 
-// Whether an axis is in the plane, if that is known.
+// Returns whether an axis is in the plane, if that is known.
 fn is_in_plane(plane: Option<Plane>, axis: Axis) -> bool
     ensures { result ≡ spec.is_in_plane plane axis }
 {
@@ -294,7 +295,7 @@ fn is_in_plane(plane: Option<Plane>, axis: Axis) -> bool
     }
 }
 
-// Where an axis is after a cycle.
+// Returns where an axis is after a cycle.
 fn after_cycle(after: &Places, start: Option<Value>, words: &[Word], axis: Axis) -> Option<Value>
     ensures { result ≡ spec.after_cycle after.now start words.now axis }
 {
@@ -307,7 +308,7 @@ fn after_cycle(after: &Places, start: Option<Value>, words: &[Word], axis: Axis)
     }
 }
 
-// Where an axis is after a motion in the modes that the line leaves.
+// Returns where an axis is after a motion in the modes that the line leaves.
 fn after_motion(after: &Places, start: Option<Value>, words: &[Word], axis: Axis) -> Option<Value>
     ensures { result ≡ spec.after_motion after.now start words.now axis }
 {
@@ -320,8 +321,8 @@ fn after_motion(after: &Places, start: Option<Value>, words: &[Word], axis: Axis
     }
 }
 
-// Where an axis is after homing, which goes to places of the machine: on the axes that are named, or
-// on all.
+// Returns where an axis is after homing, which goes to places of the machine: on the axes that are
+// named, or on all.
 fn after_homing(start: Option<Value>, words: &[Word], axis: Axis) -> Option<Value>
     ensures { result ≡ spec.after_homing start words.now axis }
 {
@@ -332,7 +333,7 @@ fn after_homing(start: Option<Value>, words: &[Word], axis: Axis) -> Option<Valu
     }
 }
 
-// Where an axis is after a line, in the modes that it leaves.
+// Returns where an axis is after a line, in the modes that it leaves.
 fn place_along(after: &Places, start: Option<Value>, words: &[Word], axis: Axis) -> Option<Value>
     ensures { result ≡ spec.place_along after.now start words.now axis }
 {
@@ -351,8 +352,8 @@ impl Places {
     ghost use Rattle.ngc_adapt_moves.specs.Places.{start, lost, modes_after, modes_either};
     ghost use Rattle.ngc_adapt_moves.specs.Places.{place_after, place_either, after_line};
 
-    /// Returns what holds where a program starts: the plane XY, millimetres, G90 and G91.1, no motion
-    /// mode but in grbl, which starts with G0, and no place.
+    /// Returns the state at the start of a program: the plane XY, millimetres, G90 and G91.1, no
+    /// motion mode but in grbl, which starts with G0, and no place.
     pub fn start(dialect: Dialect, homes: Option<Homes>) -> Places
         ensures { result ≡ start dialect homes }
     {
@@ -370,7 +371,7 @@ impl Places {
         }
     }
 
-    /// Returns what holds after a line of which nothing is known.
+    /// Returns the state after a line of which nothing is known.
     pub fn lost(&self) -> Places
         ensures { result ≡ lost self.now }
     {
@@ -388,7 +389,7 @@ impl Places {
         }
     }
 
-    // The modes that a line leaves, at the place before it.
+    // Returns the modes that a line leaves, at the place before it.
     pub(crate) fn modes_after(&self, words: &[Word]) -> Places
         ensures { result ≡ modes_after self.now words.now }
     {
@@ -406,7 +407,7 @@ impl Places {
         }
     }
 
-    // The place of the tool after a line that leaves these modes.
+    // Returns the place of the tool after a line that leaves these modes.
     fn place_after(&self, after: &Places, words: &[Word]) -> Place
         requires { after.now ≡ modes_after self.now words.now }
         ensures { result ≡ place_after self.now words.now }
@@ -422,7 +423,7 @@ impl Places {
         }
     }
 
-    // The place of the tool after a line that block delete may take out.
+    // Returns the place of the tool after a line that block delete may take out.
     fn place_either(&self, words: &[Word]) -> Place
         ensures { result ≡ place_either self.now words.now }
     {
@@ -433,7 +434,8 @@ impl Places {
         }
     }
 
-    // The modes that a line leaves that block delete may take out: what it sets isn't known.
+    // Returns the modes that a line leaves that block delete may take out: what it sets isn't
+    // known.
     fn modes_either(&self, words: &[Word]) -> Places
         ensures { result ≡ modes_either self.now words.now }
     {
@@ -471,8 +473,8 @@ impl Places {
         }
     }
 
-    // What a line with these words leaves, by its own words. Where block delete can't take it out, it
-    // leaves `modes`.
+    // Returns the state after a line, by its own words. If block delete can't take it out, the
+    // modes are `modes`.
     pub(crate) fn after_line(&self, modes: &Places, words: &[Word], may_be_deleted: bool) -> Places
         requires { modes.now ≡ modes_after self.now words.now }
         ensures { result ≡ after_line self.now words.now may_be_deleted }

@@ -1,4 +1,4 @@
-//! What the rules make of a line with these words.
+//! The result of the rules for a line with these words.
 ghost use Rattle.std.specs.Prelude.{◌≡◌, ◌+◌, ◌≤◌, ◌++◌, length};
 ghost use Rattle.ngc_adapt_moves.specs.Places.{modes_after};
 ghost use Rattle.ngc_adapt_moves.specs.Plans as spec;
@@ -19,13 +19,13 @@ use arrayvec::ArrayVec;
 use ngc_adapt::Dialect;
 use ngc_fixed_length::{FeedMode, Units};
 
-/// The most rules that change a line, and the most for which it is left.
+/// The greatest number of rules that change a line, and of those for which it is left.
 pub const MOST_RULES: usize = 7;
 
-/// What becomes of a line that may have to name its motion.
+/// The result for a line that may have to name its motion.
 #[derive(Clone, Copy)]
 pub enum Naming {
-    /// It needn't.
+    /// It doesn't have to.
     Other,
     /// Its motion isn't known.
     Left,
@@ -33,10 +33,10 @@ pub enum Naming {
     By(Motion),
 }
 
-/// What becomes of an F word beside a change of the units.
+/// The result for an F word on a line that changes the units.
 #[derive(Clone, Copy)]
 pub enum Feeding {
-    /// The line is none.
+    /// The line doesn't have it.
     Other,
     /// It is left, in units or a feed mode that isn't known.
     Left,
@@ -44,7 +44,7 @@ pub enum Feeding {
     First,
 }
 
-/// What the rules make of a line.
+/// The result of the rules for a line.
 #[derive(Clone, Copy)]
 pub struct Plan {
     pub homing: Homing,
@@ -68,7 +68,7 @@ fn has_name(motion: Motion) -> bool
     )
 }
 
-// Whether a line moves by the motion in force, and what is written leaves another.
+// Returns whether a line moves by the motion in force, and what is written leaves another.
 fn is_unnamed(places: &Places, words: &[Word]) -> bool
     ensures { result ≡ spec.is_unnamed places.now words.now }
 {
@@ -89,7 +89,7 @@ fn naming_of(places: &Places, words: &[Word]) -> Naming
     }
 }
 
-// Whether a motion code is beside a code that takes the axis words.
+// Returns whether a motion code is beside a code that takes the axis words.
 fn is_apart(words: &[Word]) -> bool
     ensures { result ≡ spec.is_apart words.now }
 {
@@ -113,7 +113,7 @@ fn feeding_in(units: Option<Units>, feed_mode: Option<FeedMode>) -> Feeding
     }
 }
 
-// What becomes of F beside a change of the units: LinuxCNC counts it in the units before.
+// Returns the result for F beside a change of the units: LinuxCNC counts it in the units before.
 fn feeding_of(places: &Places, words: &[Word]) -> Feeding
     ensures { result ≡ spec.feeding_of places.now words.now }
 {
@@ -134,7 +134,7 @@ fn is_linuxcnc(dialect: Dialect) -> bool
     matches!(dialect, Dialect::LinuxCnc)
 }
 
-/// Returns what the rules make of a line with these words, which leave these modes.
+/// Returns the result of the rules for a line with these words, which leave these modes.
 pub(crate) fn plan_of(places: &Places, after: &Places, words: &[Word]) -> Plan
     requires { after.now ≡ modes_after places.now words.now }
     ensures { result ≡ spec.plan_of places.now words.now }
@@ -436,7 +436,7 @@ impl Plan {
         refusals
     }
 
-    // Whether a word is left out of the source's own line.
+    // Returns whether a word is left out of the source's own line.
     fn leaves_out(&self, word: &Word) -> bool
         ensures { result ≡ leaves_out self.now word.now }
     {

@@ -15,7 +15,7 @@ use crate::value::known;
 use crate::word::Word;
 use ngc_fixed_length::{Distance, Plane, Units, Value};
 
-/// Where the centre and the end of an arc are from its start, along the axes of its plane, in
+/// The centre and the end of an arc relative to its start, along the axes of its plane, in
 /// millionths of the unit.
 #[derive(Clone, Copy)]
 pub struct Sweep {
@@ -30,16 +30,16 @@ pub struct Sweep {
 pub struct Moved {
     /// Its offsets from the start.
     pub offsets: Place,
-    /// By how much it is moved.
+    /// The distance by which it is moved.
     pub shift: Place,
     /// The word of an offset that the line doesn't have.
     pub added: Text,
 }
 
-/// What becomes of an arc whose radii differ.
+/// The result for an arc whose radii differ.
 #[derive(Clone, Copy)]
 pub enum Balance {
-    /// The line is none by what is known.
+    /// The line isn't known to be one.
     Other,
     /// It is left as it is.
     Left(MoveRefusal),
@@ -47,7 +47,7 @@ pub enum Balance {
     Moved(Moved),
 }
 
-// By how much the radii may differ in our language, in millionths.
+// Returns the largest difference of the radii in our language, in millionths.
 fn allowed(units: Units) -> u128
     ensures value { result ≡ spec.allowed units }
     ensures few { result ≤ 25000 }
@@ -58,7 +58,7 @@ fn allowed(units: Units) -> u128
     }
 }
 
-// By how much they may differ for the centre to move, and by how much it may move along an axis.
+// Returns the largest difference for which the centre is moved, and the largest move along an axis.
 fn correctable(units: Units) -> u64
     ensures value { result ≡ spec.correctable units }
     ensures few { result ≤ 25000 }
@@ -69,7 +69,7 @@ fn correctable(units: Units) -> u64
     }
 }
 
-// The square of the shortest chord.
+// Returns the square of the shortest chord.
 fn shortest_square(units: Units) -> u64
     ensures { result ≡ spec.shortest_square units }
 {
@@ -79,7 +79,7 @@ fn shortest_square(units: Units) -> u64
     }
 }
 
-// Where the word of an axis leads from the start.
+// Returns where the word of an axis leads, relative to the start.
 fn chord_to(distance: Option<Distance>, start: Option<Value>, value: Option<Value>) -> Option<Value>
     ensures { result ≡ spec.chord_to distance start value }
 {
@@ -105,7 +105,7 @@ fn chord_along(
     }
 }
 
-// The offset of the centre from the start.
+// Returns the offset of the centre from the start.
 fn centre_along(centre: &Centre, words: &[Word], axis: Axis) -> Option<Value>
     ensures { result ≡ spec.centre_along centre.now words.now axis }
 {
@@ -141,7 +141,7 @@ fn sweep_by(
     }
 }
 
-// An arc in a plane, where its start, its end and its centre are known.
+// Returns an arc in a plane, where its start, its end and its centre are known.
 fn sweep_in(
     plane: Plane,
     places: &Places,
@@ -185,7 +185,8 @@ fn short_square(x: u64) -> u64
     x * x
 }
 
-// Whether the roots of two squares differ by at most the tolerance. It compares squares alone.
+// Returns whether the roots of two squares differ by at most the tolerance. It compares squares
+// alone.
 fn are_within(tolerance: u128, first: u128, second: u128) -> bool
     requires tolerance { tolerance ≤ 25000 }
     requires sum { first + second ≤ 9 * 10 ^ 18 }
@@ -196,7 +197,7 @@ fn are_within(tolerance: u128, first: u128, second: u128) -> bool
     sum <= square || (sum - square) * (sum - square) <= 4 * first * second
 }
 
-// The size of a part of the chord, times the difference of the squared radii.
+// Returns the size of a part of the chord, times the difference of the squared radii.
 fn scaled(excess: u64, size: u64) -> u128
     requires excess { excess ≤ 9 * 10 ^ 18 }
     requires size { size ≤ 500000000 }
@@ -206,7 +207,7 @@ fn scaled(excess: u64, size: u64) -> u128
     u128::from(excess) * u128::from(size)
 }
 
-// A product divided by twice a chord's square, to the nearest whole number.
+// Returns a product divided by twice a chord's square, to the nearest whole number.
 fn part_of(product: u128, square: u128) -> u128
     requires product { product ≤ 45 * 10 ^ 26 }
     requires some { 0 < square }
@@ -226,7 +227,7 @@ fn signed_size(is_back: bool, size: u128) -> i128
     if is_back { -value } else { value }
 }
 
-// How far it is from one number to another.
+// Returns the distance from one number to another.
 fn between(start: Value, end: Value) -> u64
     requires start { unsigned_abs start ≤ 1000000000 }
     requires end { unsigned_abs end ≤ 500000000 }
@@ -267,7 +268,7 @@ fn offset_word(axis: Axis, value: Option<Value>) -> Text
     }
 }
 
-// The offset that no word of the line has.
+// Returns the offset that no word of the line has.
 fn added_offset(plane: Plane, offsets: &Place, words: &[Word]) -> Text
     ensures { result ≡ spec.added_offset plane offsets.now words.now }
 {
@@ -302,7 +303,7 @@ impl Sweep {
             && size(self.end_v) <= 500_000_000
     }
 
-    // The squared distance of the start from the centre.
+    // Returns the squared distance of the start from the centre.
     fn at_start(&self) -> u64
         requires { is_in_range self.now ≡ true }
         ensures value { result ≡ at_start self.now }
@@ -311,7 +312,7 @@ impl Sweep {
         square(size(self.centre_u)) + square(size(self.centre_v))
     }
 
-    // The squared distance of the end from the centre.
+    // Returns the squared distance of the end from the centre.
     fn at_end(&self) -> u64
         requires { is_in_range self.now ≡ true }
         ensures value { result ≡ at_end self.now }
@@ -320,7 +321,7 @@ impl Sweep {
         square(between(self.centre_u, self.end_u)) + square(between(self.centre_v, self.end_v))
     }
 
-    // The squared distance of the end from the start.
+    // Returns the squared distance of the end from the start.
     fn chord(&self) -> u64
         requires { is_in_range self.now ≡ true }
         ensures value { result ≡ chord self.now }
@@ -329,7 +330,7 @@ impl Sweep {
         short_square(size(self.end_u)) + short_square(size(self.end_v))
     }
 
-    // Whether the radii differ by at most so many millionths.
+    // Returns whether the radii differ by at most `tolerance` millionths.
     fn are_radii_within(&self, tolerance: u128) -> bool
         requires range { is_in_range self.now ≡ true }
         requires tolerance { tolerance ≤ 25000 }
@@ -342,7 +343,7 @@ impl Sweep {
         )
     }
 
-    // The difference of the squared radii.
+    // Returns the difference of the squared radii.
     fn excess(&self) -> u64
         requires { is_in_range self.now ≡ true }
         ensures value { result ≡ excess self.now }
@@ -353,7 +354,7 @@ impl Sweep {
         end.saturating_sub(start) + start.saturating_sub(end)
     }
 
-    // Whether the centre moves against an axis.
+    // Returns whether the centre moves against an axis.
     fn is_back(&self, end: Value) -> bool
         requires { is_in_range self.now ≡ true }
         ensures { result ≡ is_back self.now end }
@@ -366,7 +367,8 @@ impl Sweep {
         }
     }
 
-    // By how much the centre moves along an axis, along which the chord goes so far.
+    // Returns the distance that the centre moves along an axis, along which the chord's component
+    // is `end`.
     fn shift_along(&self, end: Value) -> Option<Value>
         requires range { is_in_range self.now ≡ true }
         requires end { unsigned_abs end ≤ 500000000 }
@@ -377,7 +379,7 @@ impl Sweep {
         known(Value::from_millionths(signed_size(self.is_back(end), moved)))
     }
 
-    // A centre that is moved by so much.
+    // Returns a centre that is moved by these distances.
     fn moved_by(&self, plane: Plane, words: &[Word], shift_u: Value, shift_v: Value) -> Moved
         ensures { result ≡ moved_by plane self.now words.now shift_u shift_v }
     {
@@ -394,7 +396,7 @@ impl Sweep {
         }
     }
 
-    // The centre moves where that is little.
+    // Moves the centre if the distance is small enough.
     fn moved_with(
         &self,
         units: Units,
@@ -439,7 +441,8 @@ impl Sweep {
         }
     }
 
-    // Whether the arc has a radius and a chord, and its radii differ by more than our language allows.
+    // Returns whether the arc has a radius and a chord, and its radii differ by more than our
+    // language allows.
     fn is_uneven(&self, units: Units) -> bool
         ensures { result ≡ is_uneven units self.now }
     {
@@ -456,7 +459,7 @@ impl Sweep {
     }
 }
 
-// What becomes of an arc in a plane.
+// Returns the result for an arc in a plane.
 fn balance_in(units: Units, plane: Plane, sweep: Option<Sweep>, words: &[Word]) -> Balance
     ensures { result ≡ spec.balance_in units plane sweep words.now }
 {
@@ -472,7 +475,7 @@ fn balance_in(units: Units, plane: Plane, sweep: Option<Sweep>, words: &[Word]) 
     }
 }
 
-/// Returns what becomes of an arc whose radii differ, of whose offsets the other rule makes this.
+/// Returns the result for an arc whose radii differ, after the rule for offsets from the origin.
 pub(crate) fn balance_of(
     places: &Places,
     after: &Places,

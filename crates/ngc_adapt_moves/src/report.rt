@@ -49,7 +49,7 @@ fn add_rule<A: Allocator>(rule: Rule, report: &mut Vec<u8, A>) -> Result<(), All
     Ok(())
 }
 
-// Adds what a line was and what is written.
+// Adds a line's source text and the text that replaces it.
 fn add_was<A: Allocator>(
     plan: &Plan,
     line: &[u8],
@@ -104,7 +104,7 @@ fn add_shift_along<A: Allocator>(
     }
 }
 
-// Adds by how much a centre is moved.
+// Adds the distance by which a centre is moved.
 #[tactic(auto, unfolding(crate::specs::LineReports::shift_text))]
 fn add_shift<A: Allocator>(shift: &Place, report: &mut Vec<u8, A>) -> Result<(), AllocError>
     ensures { IfOk result
@@ -265,7 +265,7 @@ fn add_refusals<A: Allocator>(
     Ok(())
 }
 
-// Adds the report of a line of which the rules make this.
+// Adds the report of a line with this result of the rules.
 #[tactic(auto, unfolding(crate::specs::LineReports::plan_report))]
 pub(crate) fn add_plan_report<A: Allocator>(
     number: usize,

@@ -13,14 +13,14 @@ use arrayvec::ArrayVec;
 use ngc_adapt::may_be_deleted;
 use std::alloc::{AllocError, Allocator};
 
-/// What became of a line.
+/// The result of a line.
 #[derive(Drop)]
 pub struct Rewritten {
     /// The rules that changed it.
     pub rules: ArrayVec<Rule, MOST_RULES>,
     /// Why it is left, where it means something else in our language.
     pub refusals: ArrayVec<MoveRefusal, MOST_RULES>,
-    /// What the line leaves.
+    /// The state after the line.
     pub after: Places,
     /// How many lines are written before the source's own.
     pub before_count: usize,
@@ -36,13 +36,13 @@ fn not_read() -> ArrayVec<MoveRefusal, MOST_RULES>
     refusals
 }
 
-/// Adds to `out` what is written of a line, whose line feed is not part of it, and to `report` a line
-/// for each change and one for each reason why the line is left. Returns the rules that changed it,
-/// why it is left where it means something else in our language, what it leaves, and how many lines
-/// are written, with line feeds between them.
+/// Adds the rewritten line to `out`, and to `report` a line for each change and one for each reason
+/// why the line is left. The line is passed without its line feed. Returns the rules that changed
+/// it, why it is left where it means something else in our language, the state after it, and the
+/// number of lines written, with line feeds between them.
 ///
 /// `number` is the number of the line in the source, and `written_number` that of the source's own
-/// line in what is written. A line that no rule changes is copied byte for byte. An error means that
+/// line in the output. A line that no rule changes is copied byte for byte. An error means that
 /// memory was refused.
 #[tactic(auto, unfolding(crate::specs::LineReports::line_report, crate::specs::Lines::written, crate::specs::Lines::before_for, crate::specs::Lines::rules_for, crate::specs::Lines::refusals_for, crate::specs::Lines::places_after, crate::specs::Lines::lines_for))]
 pub fn rewrite_line<A: Allocator>(

@@ -8,7 +8,7 @@ pub enum Rule {
     PartHome,
     /// A motion code written again, since what is written before leaves another.
     MotionAgain,
-    /// A full circle without an axis word, which our language asks for.
+    /// A full circle without an axis word, which our language requires.
     FullCircle,
     /// Offsets of arcs from the origin, G90.1, made to lead from the current point.
     ArcOrigin,
@@ -69,15 +69,15 @@ impl Rule {
 pub enum MoveRefusal {
     /// The line can't be read.
     NotRead,
-    /// G28 or G30 with one or two axes, and no homes are given.
+    /// G28 or G30 with one or two axes, where the homes aren't known.
     HomesNotGiven,
-    /// Such homing beside another code for one line, a cycle, or what isn't known.
+    /// This homing on a line with another code for one line, a cycle, or what isn't known.
     HomingNotAlone,
-    /// Such homing in units that aren't known.
+    /// This homing in units that aren't known.
     UnitsNotKnown,
     /// A home that isn't a whole number of millionths of an inch.
     HomeNotWhole,
-    /// Such homing by a place between, beside M0, M1, M2, M30 or M60.
+    /// This homing by a place between, beside M0, M1, M2, M30 or M60.
     StopBesideHoming,
     /// A line that must name its motion, which isn't known.
     MotionNotKnown,
@@ -124,7 +124,7 @@ impl MoveRefusal {
         }
     }
 
-    /// Returns what is wrong, and the way out.
+    /// Returns the text that says what is wrong and how to avoid it.
     pub fn sentence(self) -> &'static str
         ensures { result.now ≡ spec.sentence self }
     {

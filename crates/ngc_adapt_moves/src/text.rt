@@ -1,4 +1,4 @@
-//! What is written in place of words.
+//! Replacements of words.
 ghost use Rattle.std.specs.Prelude.{◌≡◌, ◌++◌, ◌<◌, ◌≤◌, IfOk, unsigned_abs};
 ghost use Rattle.ngc_adapt_moves.specs.Texts as spec;
 
@@ -8,7 +8,7 @@ use itoa::Buffer;
 use ngc_fixed_length::Value;
 use std::alloc::{AllocError, Allocator};
 
-/// What is written in place of a word, or in front of it.
+/// The text in place of a word, or in front of it.
 #[derive(Clone, Copy)]
 pub enum Text {
     Nothing,
@@ -22,7 +22,7 @@ pub enum Text {
     Offset(Axis, Value),
 }
 
-// A point and six digits.
+// Returns a point and six digits.
 fn decimals(millionths: u64) -> [u8; 7]
     requires { millionths < 1000000 }
     ensures { result ≡ spec.decimals millionths }
@@ -38,7 +38,7 @@ fn decimals(millionths: u64) -> [u8; 7]
     ]
 }
 
-// How many of these are written.
+// Returns how many of these bytes are written.
 fn kept(millionths: u64) -> usize
     ensures value { result ≡ spec.kept millionths }
     ensures few { result ≤ 7 }
@@ -72,7 +72,7 @@ fn size_of(value: Value) -> u64
     value.millionths().unsigned_abs()
 }
 
-// Adds millionths as a number without a sign, with as many decimals as it needs.
+// Adds millionths as a number without a sign, with the decimals that it needs.
 fn add_size<A: Allocator>(size: u64, out: &mut Vec<u8, A>) -> Result<(), AllocError>
     ensures { IfOk result (λ _. out.new.items ≡ out.old.items ++ spec.size_text size) }
 {
@@ -135,7 +135,7 @@ fn add_word<A: Allocator>(letter: u8, value: Value, out: &mut Vec<u8, A>) -> Res
     Ok(())
 }
 
-/// Adds what is written in place of a word.
+/// Adds the replacement of a word.
 pub(crate) fn add_text<A: Allocator>(text: Text, out: &mut Vec<u8, A>) -> Result<(), AllocError>
     ensures { IfOk result (λ _. out.new.items ≡ out.old.items ++ spec.text_of text) }
 {

@@ -18,7 +18,7 @@ pub(crate) fn known(number: Result<Value, NumberFault>) -> Option<Value>
     }
 }
 
-// The number that digits give, or 10^9 where that is less.
+// Returns the number that digits form, at most 10^9.
 #[tactic(auto, using(crate::proofs::Digits::valued))]
 fn limited_value(digits: &[u8]) -> u64
     ensures { result ≡ min (digits_value digits.now) 1000000000 }
@@ -30,7 +30,7 @@ fn limited_value(digits: &[u8]) -> u64
     value
 }
 
-// The decimal at an index after the point, 0 where none is written.
+// Returns the decimal at an index after the point, 0 where none is written.
 fn decimal_at(decimals: &[u8], index: usize) -> u64
     ensures value { result ≡ spec.decimal_at decimals.now index }
     ensures few { result < 256 }
@@ -42,7 +42,7 @@ fn decimal_at(decimals: &[u8], index: usize) -> u64
     }
 }
 
-// The millionths that six decimals give.
+// Returns six decimals as millionths.
 fn millionths_in(decimals: &[u8]) -> u64
     ensures value { result ≡ spec.millionths_in decimals.now }
     ensures few { result < 100000000 }
@@ -74,7 +74,7 @@ pub(crate) fn signed(negative: bool, size: u64) -> i128
     }
 }
 
-// The value that a number gives, if it is one of less than 10^9 with at most six decimals.
+// Returns the value of a number, if it is one of less than 10^9 with at most six decimals.
 fn number_value(text: &[u8]) -> Option<Value>
     ensures { result ≡ spec.number_value text.now }
 {
@@ -88,8 +88,8 @@ fn number_value(text: &[u8]) -> Option<Value>
     known(Value::from_millionths(signed(begins(b'-', text), size)))
 }
 
-/// Returns the value of a word in millionths, if it is a number of at most six decimals. A value that
-/// a parameter or a bracket gives isn't known.
+/// Returns the value of a word in millionths, if it is a number of at most six decimals. The value
+/// of a parameter or a bracket isn't known.
 pub fn value_of(text: &[u8]) -> Option<Value>
     ensures { result ≡ spec.value_of text.now }
 {

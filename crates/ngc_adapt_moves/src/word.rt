@@ -54,7 +54,7 @@ pub struct Word {
     pub value: Option<Value>,
 }
 
-// The letter that an upper case letter is.
+// Returns the meaning of an upper case letter.
 fn capital(byte: u8) -> Letter
     ensures { result ≡ spec.capital byte }
 {
@@ -82,7 +82,7 @@ fn is_unread(part: &Item) -> bool
     matches!(part, Item::Unread)
 }
 
-// The word that an item of a line is, of which this is known.
+// Returns the word that an item of a line is, of which this is known.
 fn word_from(item: &[u8], part: &Item) -> Option<Word>
     ensures { result ≡ spec.read item.now part.now }
 {

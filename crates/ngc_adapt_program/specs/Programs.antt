@@ -118,14 +118,14 @@ ends_text p body = if is_percent_line body then p.begun else is_end p.modes body
 
 -- ---- a line by its words, and then by the moves that it makes
 
--- the words of a line stand in the way
+-- the words of a line are refused
 abbrev pub has_refused_words : Progress → List ℕ → Bool
 has_refused_words p body = nat_lt 0 (length (refusals_of p.modes body))
 
 abbrev pub moved : Bool → Places → List ℕ → List ℕ
 moved refused places line = if refused then line else moves_written places line
 
--- a line whose words stand in the way is rewritten by its words alone
+-- a line with refused words is rewritten by its words alone
 abbrev pub executed_written : Progress → List ℕ → List ℕ
 executed_written p body = moved (has_refused_words p body) p.places (written p.modes body)
 
@@ -235,7 +235,7 @@ program_written request file =
     lines_written (start request (text_of file) (plain_text (text_of file)))
     (lines_of (text_of file))
 
--- ---- what stands in the way
+-- ---- refusals
 
 abbrev pub is_left : Progress → List ℕ → Bool
 is_left p body =
@@ -246,7 +246,7 @@ is_left p body =
 unfoldable pub read_left : Progress → List ℕ → Bool
 read_left p line = is_left p (read_line p line)
 
--- something on a line of the source stands in the way
+-- something on a line of the source is refused
 unfoldable pub source_left : Progress → List ℕ → Bool
 source_left p line = if leaves_out p (body_of line) then false else read_left p line
 
@@ -254,7 +254,7 @@ abbrev pub lines_left : Progress → List (List ℕ) → Bool
 lines_left p [] = false
 lines_left p (line ∷ rest) = source_left p line || lines_left (progress_after p line) rest
 
--- something in a file stands in the way
+-- something in a file is refused
 unfoldable pub program_left : Request → List ℕ → Bool
 program_left request file =
     lines_left (start request (text_of file) (plain_text (text_of file))) (lines_of (text_of file))
@@ -357,8 +357,8 @@ program_changes request file =
     lines_changes 1 0 (start request (text_of file) (plain_text (text_of file)))
     (lines_of (text_of file))
 
--- a line for each change and for each word that stands in the way, which tools are named, and how
--- often each rule of words applied
+-- a line for each change and for each refused word, which tools are named, and how often each rule
+-- of words applied
 unfoldable pub program_report : Request → List ℕ → List ℕ
 program_report request file =
     lines_report 1 0 (start request (text_of file) (plain_text (text_of file)))

@@ -1,4 +1,4 @@
--- What is asked of a program: the control that it is written for, by its name, and M codes that the
+-- The request for a program: the control that it is written for, by its name, and M codes that the
 -- machine can do without, as a list separated by commas. Our own.
 use Rattle.std.specs.Prelude.{ℕ, zero, suc, ◌==◌, ◌&&◌, not, Bool, true, List, drop, take, codes}
 use Rattle.std.specs.Prelude.{◌+◌, length, map, nat_lt, is_some, Option, Some, None, option_and_then, if◌then◌else◌}

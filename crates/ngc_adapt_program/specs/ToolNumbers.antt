@@ -14,7 +14,7 @@ abbrev pub with_digit : ℕ → ℕ → ℕ
 with_digit number byte =
     if is_ascii_digit byte then min (number * 10 + (byte - 48)) 10000 else number
 
--- the number that the digits of an item give, or 10,000 where that is less
+-- the number that the digits of an item form, at most 10,000
 abbrev pub number_in : List ℕ → ℕ
 number_in item = fold with_digit 0 item
 

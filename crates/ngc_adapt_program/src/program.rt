@@ -52,17 +52,17 @@ pub struct Progress {
     pub lacks_feed: bool,
 }
 
-/// A program in our language, or what stands in the way of one.
+/// A program in our language, or the refusal of one.
 #[derive(Drop)]
 pub struct Adapted<A: Allocator> {
     /// What is written.
     pub text: Vec<u8, A>,
-    /// A line for each change and for each word that stands in the way, the tools that are named, and
-    /// how often each rule applied.
+    /// A line for each change and for each refused word, the tools that are named, and how often
+    /// each rule applied.
     pub report: Vec<u8, A>,
     /// The numbers of the tools that are named.
     pub tools: Vec<u16, A>,
-    /// Whether something stands in the way, so that what is written isn't the program.
+    /// Whether something is refused, so that the output isn't the program.
     pub is_left: bool,
 }
 
@@ -96,14 +96,14 @@ fn is_feed(byte: u8) -> bool
     byte == b'\n'
 }
 
-// How many line feeds a text has.
+// Returns how many line feeds a text has.
 fn feeds(text: &[u8]) -> usize
     ensures { result ≡ spec.feeds text.now }
 {
     text.iter().filter(|b| is_feed(**b)).count()
 }
 
-// How many line feeds a text has after its first bytes.
+// Returns how many line feeds a text has after its first bytes.
 fn feeds_from(text: &[u8], start: usize) -> usize
     requires { start ≤ length text.now }
     ensures count { result ≡ spec.feeds (drop start text.now) }
@@ -118,7 +118,7 @@ fn ends_with_feed(line: &[u8]) -> bool
     !line.is_empty() && is_feed(line[line.len() - 1])
 }
 
-// Whether a text has more than 100,000 lines.
+// Returns whether a text has more than 100,000 lines.
 fn is_long(text: &[u8]) -> bool
     ensures { result ≡ spec.is_long text.now }
 {
@@ -126,7 +126,8 @@ fn is_long(text: &[u8]) -> bool
     feeds(text).saturating_add(unended) > MOST_LINES
 }
 
-// The tool to mount in a text that mounts none. The text is read only where a tool is asked for.
+// Returns the tool to mount in a text that mounts none. The text is read only where a tool is asked
+// for.
 fn tool_to_mount(text: &[u8], tool: Option<u16>) -> Option<u16>
     ensures { result ≡ (if spec.mounts_tool text.now then None else tool) }
 {
@@ -136,7 +137,7 @@ fn tool_to_mount(text: &[u8], tool: Option<u16>) -> Option<u16>
     }
 }
 
-// The tool that is left to mount after a line.
+// Returns the tool that is left to mount after a line.
 fn tool_left(body: &[u8], tool: Option<u16>) -> Option<u16>
     ensures { result ≡ spec.tool_left (spec.is_executed body.now) tool }
 {
@@ -168,14 +169,15 @@ impl Progress {
         }
     }
 
-    // Whether a line is left out, which has nothing but blanks and a comment, of a long text.
+    // Returns whether a line is left out, which has nothing but blanks and a comment, of a long
+    // text.
     fn leaves_out(&self, body: &[u8]) -> bool
         ensures { result ≡ leaves_out self.now body.now }
     {
         self.is_long && !self.ended && is_idle(body)
     }
 
-    // What a line after the end leaves.
+    // Returns what a line after the end leaves.
     fn after_ended(&self, body: &[u8], lacks_feed: bool) -> Progress
         ensures { result ≡ after_ended self.now body.now lacks_feed }
     {
@@ -187,7 +189,7 @@ impl Progress {
         }
     }
 
-    // The tool to mount in front of a line.
+    // Returns the tool to mount in front of a line.
     fn tool_before(&self, body: &[u8]) -> Option<u16>
         ensures { result ≡ tool_before self.now body.now }
     {
@@ -213,7 +215,7 @@ impl Progress {
         }
     }
 
-    // The line that ends the text.
+    // Returns the line that ends the text.
     fn ending_line(&self) -> &'static [u8]
         requires { has_ending self.now ≡ true }
         ensures { result.now ≡ spec.ending_line self.now }
@@ -309,13 +311,13 @@ fn add_changes<A: Allocator>(
     Ok(())
 }
 
-// What is written so far, with its report. A refused growth leaves any beginning of what it adds.
+// The output so far, with its report. If memory is refused, a prefix of the added text may be left.
 #[derive(Drop)]
 struct Writing<A: Allocator> {
     text: Vec<u8, A>,
     report: Vec<u8, A>,
     changes: Vec<Change, A>,
-    // Whether something stands in the way.
+    // Whether something is refused.
     is_left: bool,
     // How many lines the text has.
     before: usize,
@@ -457,7 +459,7 @@ impl<A: Allocator + Copy> Writing<A> {
 struct Executed {
     modes: Modes,
     is_end: bool,
-    // Whether one of them stands in the way.
+    // Whether one of them is refused.
     is_refused: bool,
 }
 
@@ -496,7 +498,7 @@ fn add_executed<A: Allocator + Copy>(
     Ok(after_body(progress, &executed, places, body, lacks_feed))
 }
 
-// What a line that is executed leaves.
+// Returns what a line that is executed leaves.
 fn after_body(
     progress: &Progress,
     executed: &Executed,
@@ -528,7 +530,7 @@ fn after_body(
     }
 }
 
-// Adds what is written of a line without what stands in front of it, and returns what it leaves.
+// Adds a rewritten line without the text in front of it, and returns the state after it.
 fn add_body<A: Allocator + Copy>(
     alloc: A,
     number: usize,
@@ -587,7 +589,7 @@ fn add_parts<A: Allocator + Copy>(
     Ok(after)
 }
 
-// The same of a line with these bytes.
+// Returns the same of a line with these bytes.
 fn add_read<A: Allocator + Copy>(
     alloc: A,
     number: usize,
@@ -653,7 +655,7 @@ fn add_source<A: Allocator + Copy>(
     Ok(after)
 }
 
-// The same, and counts the lines.
+// Returns the same, and counts the lines.
 #[tactic(auto, using(crate::proofs::Feeds::seam_feeds))]
 fn add_counted<A: Allocator + Copy>(
     alloc: A,
@@ -723,7 +725,7 @@ fn ending_rule(marked: bool) -> &'static [u8]
     }
 }
 
-// How many line feeds come before the line that ends a text.
+// Returns how many line feeds come before the line that ends a text.
 fn feed_count(lacks_feed: bool) -> usize
     ensures count { result ≡ spec.feeds (spec.feed_if lacks_feed) }
     ensures few { result ≤ 1 }
@@ -773,7 +775,7 @@ fn add_ending<A: Allocator>(
     Ok(())
 }
 
-// A text of plain lines.
+// Returns a text of plain lines.
 fn plain_lines<A: Allocator + Copy>(
     alloc: A,
     levels: Levels,
@@ -837,10 +839,10 @@ fn add_lines<A: Allocator + Copy>(
 }
 
 /// Rewrites the file of a program for another control as a program in our language: its text, a
-/// report of each change and of all that stands in the way, and the tools that it names.
+/// report of each change and of each refusal, and the tools that it names.
 ///
-/// Lines after the end are copied, and so is a line to which no rule applies, byte for byte. Where
-/// something stands in the way, the text isn't the program. An error means that memory was refused.
+/// Lines after the end are copied, and so is a line to which no rule applies, byte for byte. If
+/// something is refused, the text isn't the program. An error means that memory was refused.
 #[tactic(auto, unfolding(crate::specs::Programs::program_written, crate::specs::Programs::program_report, crate::specs::Programs::program_left))]
 pub fn adapt_program<A: Allocator + Copy>(
     alloc: A,

@@ -7,7 +7,7 @@ ghost use Rattle.ngc_adapt_program.specs.Requests as spec;
 use ngc_adapt::{Item, Letter, MOST_DROPPED, Options, item_of};
 use ngc_adapt_moves::Homes;
 
-/// What is asked of a program: the control that it is written for, the M codes that the machine can
+/// The request for a program: the control that it is written for, the M codes that the machine can
 /// do without, the homes of the machine where they are known, and the tool, 1 to 9,999, to mount in
 /// front of a program that mounts none.
 #[derive(Clone, Copy)]
@@ -31,7 +31,7 @@ fn part_length(text: &[u8]) -> usize
     text.iter().take_while(|b| is_no_comma(**b)).count()
 }
 
-// What follows the first comma.
+// Returns what follows the first comma.
 fn after_comma(text: &[u8]) -> Option<&[u8]>
     ensures { option_map (λ rest. rest.now) result ≡ spec.after_comma text.now }
 {
@@ -43,7 +43,7 @@ fn after_comma(text: &[u8]) -> Option<&[u8]>
     }
 }
 
-// What follows `count` commas.
+// Returns what follows `count` commas.
 fn after_commas(count: usize, text: &[u8]) -> Option<&[u8]>
     ensures { option_map (λ rest. rest.now) result ≡ spec.after_commas count text.now }
 {
@@ -57,7 +57,7 @@ fn after_commas(count: usize, text: &[u8]) -> Option<&[u8]>
     rest
 }
 
-// The M code, in tenths, that the first part of a list is.
+// Returns the M code, in tenths, that the first part of a list is.
 fn code_of(text: &[u8]) -> Option<u16>
     ensures { result ≡ spec.code_of text.now }
 {

@@ -7,7 +7,7 @@ use itoa::Buffer;
 use ngc_adapt::{Item, Letter, body_length, item_of, split_item, split_line};
 use std::alloc::{AllocError, Allocator};
 
-// The number that the digits of an item give, or 10,000 where that is less.
+// Returns the number that the digits of an item form, at most 10,000.
 #[tactic(auto, using(crate::proofs::Counted::valued))]
 fn number_in(item: &[u8]) -> u16
     ensures { result ≡ spec.number_in item.now }
@@ -21,7 +21,7 @@ fn number_in(item: &[u8]) -> u16
     number
 }
 
-// Whether an item is T or H with a number in digits.
+// Returns whether an item is T or H with a number in digits.
 fn is_tool_word(item: &[u8]) -> bool
     ensures { result ≡ spec.is_tool_word (meaning_of item.now) }
 {
@@ -31,7 +31,7 @@ fn is_tool_word(item: &[u8]) -> bool
     }
 }
 
-// Whether T or H begins an item.
+// Returns whether T or H begins an item.
 fn begins_tool(item: &[u8]) -> bool
     ensures { result ≡ spec.begins_tool item.now }
 {
@@ -41,8 +41,8 @@ fn begins_tool(item: &[u8]) -> bool
     }
 }
 
-// The number of a tool, 1 to 9,999, that an item names. Most items name none, which their first byte
-// tells.
+// Returns the number of a tool, 1 to 9,999, that an item names. Most items name none, which their
+// first byte tells.
 #[tactic(auto, using(crate::proofs::NoTools::no_tool))]
 fn tool_number(item: &[u8]) -> Option<u16>
     ensures { result ≡ spec.tool_number item.now }

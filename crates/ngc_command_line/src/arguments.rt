@@ -87,7 +87,7 @@ pub(crate) fn flag_is_set(found: &ArgMatches<'_>, name: &str) -> bool
     }
 }
 
-// The value of an option that may not be left out.
+// Returns the value of an option that may not be left out.
 pub(crate) fn required<'a>(found: &ArgMatches<'a>, name: &str) -> &'a str
     requires { HasValue name.now (rows_of (found_of found.now)) }
     ensures { Some result.now ≡ first_of name.now (rows_of (found_of found.now)) }

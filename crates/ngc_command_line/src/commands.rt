@@ -57,7 +57,8 @@ const SUBCOMMANDS: [Subcommand; 14] = [
     Subcommand::Version,
 ];
 
-// A row by its name. One table of all the rows would be a constant that takes minutes to prove.
+// Returns a row by its name. One table of all the rows would be a constant that takes minutes to
+// prove.
 fn row_named(subcommand: &Subcommand) -> &'static SubcommandRow<'static>
     ensures { app_for result.now ≡ app_named subcommand.now }
 {
@@ -79,7 +80,7 @@ fn row_named(subcommand: &Subcommand) -> &'static SubcommandRow<'static>
     }
 }
 
-// The program's own settings, with no subcommand yet.
+// Returns the program's own settings, with no subcommand yet.
 fn without_subcommands<'a>(alloc: Global) -> Result<Command<'a>, AllocError>
     ensures { IfOk result (λ c. app_of c ≡ ngc_settings) }
 {

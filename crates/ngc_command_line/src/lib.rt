@@ -72,7 +72,7 @@ pub enum UsageFault {
 }
 
 impl UsageFault {
-    /// The number of the fault.
+    /// Returns the number of the fault.
     pub fn number(&self) -> u16
         ensures { result ≡ usage_fault_number self.now }
     {
@@ -95,7 +95,7 @@ pub enum HelpFault {
 }
 
 impl HelpFault {
-    /// The number of the fault.
+    /// Returns the number of the fault.
     pub fn number(&self) -> u16
         ensures { result ≡ help_fault_number self.now }
     {
@@ -118,7 +118,7 @@ fn usage_fault(alloc: Global, error: clap::Error) -> UsageFault
     }
 }
 
-// What a subcommand's matches ask for. A new subcommand is one more arm here.
+// Returns what a subcommand's matches ask for. A new subcommand is one more arm here.
 fn options_of<'a>(name: &str, found: &ArgMatches<'a>) -> Options<'a>
     requires { IsWhole name.now (rows_of (found_of found.now)) }
     ensures { AreOptions (Some (name.now, rows_of (found_of found.now))) result }
@@ -266,7 +266,7 @@ fn text_of_help(alloc: Global, error: clap::Error) -> Result<String, HelpFault> 
     }
 }
 
-// The help that these words ask for.
+// Returns the help that these words ask for.
 fn help_of<'a>(alloc: Global, words: &'a [&'a str]) -> Result<String, HelpFault> {
     let Ok(command) = ngc_command(alloc) else {
         return Err(HelpFault::Memory);
@@ -277,8 +277,8 @@ fn help_of<'a>(alloc: Global, words: &'a [&'a str]) -> Result<String, HelpFault>
     }
 }
 
-/// The help of a command, or with none that of the program: the text that `--help` behind the
-/// command's name gives.
+/// Returns the help of a command, or with none that of the program: the text that `--help` behind
+/// the command's name gives.
 ///
 /// The texts are shown by tests.
 pub fn help_text(alloc: Global, command: Option<&str>) -> Result<String, HelpFault> {

@@ -75,7 +75,7 @@ fn with_arguments<'a>(
     Ok(command)
 }
 
-// A command with no arguments yet.
+// Returns a command with no arguments yet.
 pub(crate) fn bare_command<'a>(
     alloc: Global,
     name: &'a str,

@@ -40,7 +40,7 @@ fn accepted(alloc: Global) -> Result<Accepted<Global>, Fail> {
     Ok(check(alloc, &program, &machine, &tools, &certificate)?)
 }
 
-// What a run over all events writes.
+// Returns what a run over all events writes.
 fn run_over(alloc: Global, events: &[u8], form: LiveForm) -> Result<Vec<u8>, Fail> {
     let lines = read_events(alloc, events)?;
     let mut sink = Device::new(Vec::new(alloc));
@@ -62,7 +62,7 @@ fn run_over(alloc: Global, events: &[u8], form: LiveForm) -> Result<Vec<u8>, Fai
     Ok(sink.into_inner())
 }
 
-// What a live run writes to which the events are fed in pieces of this size.
+// Returns what a live run writes to which the events are fed in pieces of this size.
 fn fed(alloc: Global, events: &[u8], form: LiveForm, size: usize) -> Result<Vec<u8>, Fail> {
     let mut live = LiveRun::new(alloc, accepted(alloc)?, false, form, false)?;
     let mut sink = Device::new(Vec::new(alloc));

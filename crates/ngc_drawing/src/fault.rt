@@ -17,7 +17,7 @@ pub enum DrawFault {
 impl DrawFault {
     ghost use Rattle.ngc_drawing.specs.Faults.{number_of};
 
-    /// The fault's number.
+    /// Returns the fault's number.
     pub fn number(&self) -> u16
         ensures { result ≡ number_of self.now }
     {

@@ -22,7 +22,7 @@ pub(crate) struct Heading {
     pub v: i64,
 }
 
-/// The sum of two coordinates and the difference of two others.
+/// Returns the sum of two coordinates and the difference of two others.
 fn sum_and_difference(one: i64, other: i64, more: i64, less: i64) -> i64
     requires one { unsigned_abs one ≤ 200000000000 }
     requires other { unsigned_abs other ≤ 200000000000 }
@@ -34,7 +34,7 @@ fn sum_and_difference(one: i64, other: i64, more: i64, less: i64) -> i64
     (one + other) + (more - less)
 }
 
-/// The product of two coordinates.
+/// Returns the product of two coordinates.
 fn product(x: i64, y: i64) -> i128
     requires x { unsigned_abs x ≤ 10 ^ 13 }
     requires y { unsigned_abs y ≤ 10 ^ 13 }
@@ -44,7 +44,7 @@ fn product(x: i64, y: i64) -> i128
     i128::from(x) * i128::from(y)
 }
 
-/// The square of the way that goes so far along both axes.
+/// Returns the square of the way that goes so far along both axes.
 fn square_of(u: i64, v: i64) -> u128
     requires u { unsigned_abs u ≤ 800000000000 }
     requires v { unsigned_abs v ≤ 800000000000 }
@@ -53,7 +53,7 @@ fn square_of(u: i64, v: i64) -> u128
     (product(u, u) + product(v, v)).unsigned_abs()
 }
 
-/// A coordinate times a radius.
+/// Returns a coordinate times a radius.
 fn times(coordinate: i64, radius: u64) -> i128
     requires coordinate { unsigned_abs coordinate ≤ 10 ^ 13 }
     requires radius { radius ≤ 10 ^ 13 }
@@ -63,7 +63,7 @@ fn times(coordinate: i64, radius: u64) -> i128
     i128::from(coordinate) * i128::from(radius)
 }
 
-/// A coordinate of a direction of this size, at a radius.
+/// Returns a coordinate of a direction of this size, at a radius.
 fn scaled(coordinate: i64, radius: u64, size: u64) -> i64
     requires some { 0 < size }
     requires within { unsigned_abs coordinate ≤ size }
@@ -155,7 +155,7 @@ impl Heading {
         }
     }
 
-    /// The square of its length.
+    /// Returns the square of its length.
     fn square(&self) -> u128
         requires { IsReached self.now }
         ensures value { result ≡ unsigned_abs (dot (way_of self.now) (way_of self.now)) }
@@ -178,7 +178,7 @@ impl Heading {
         root_floor(self.square()).max(1)
     }
 
-    /// The point of an arc's outer circle that lies in this direction from its centre.
+    /// Returns the point of an arc's outer circle that lies in this direction from its centre.
     fn on_circle(&self, arc: &Arc) -> Point2
         requires { IsReached self.now }
         ensures { result ≡ shifted arc.now.centre (along (outer_radius arc.now) (way_of self.now)) }
@@ -193,7 +193,7 @@ impl Heading {
     }
 }
 
-/// Whether an arc turns by more than half a turn.
+/// Returns whether an arc turns by more than half a turn.
 fn is_long(arc: &Arc) -> bool
     ensures { result ≡ is_long arc.now }
 {
@@ -225,7 +225,7 @@ fn point_between(arc: &Arc, one: &Point3, other: &Point3, direction: &Heading) -
     direction.on_circle(arc).at_height(plane, height)
 }
 
-/// The point of an arc half way from one to another, which are at most half a turn apart.
+/// Returns the point of an arc half way from one to another, which are at most half a turn apart.
 pub(crate) fn halfway_along(arc: &Arc, one: &Point3, other: &Point3) -> Point3
     ensures { result ≡ halfway arc.now one.now other.now }
 {
@@ -233,14 +233,14 @@ pub(crate) fn halfway_along(arc: &Arc, one: &Point3, other: &Point3) -> Point3
     point_between(arc, one, other, &direction)
 }
 
-/// The point half way along an arc.
+/// Returns the point half way along an arc.
 pub(crate) fn middle(arc: &Arc) -> Point3
     ensures { result ≡ middle arc.now }
 {
     point_between(arc, &arc.start(), &arc.end(), &middle_direction(arc))
 }
 
-/// How many times each half of an arc of this radius is halved.
+/// Returns how many times each half of an arc of this radius is halved.
 pub(crate) fn halvings(radius: u64) -> u32
     ensures { result ≡ halvings radius }
 {

@@ -24,7 +24,7 @@ pub(crate) struct Pen {
     pub run: Option<Run>,
 }
 
-/// The ink of a motion.
+/// Returns the ink of a motion.
 pub(crate) fn ink_of(rank: usize, pace: &Pace) -> Ink
     ensures { result ≡ ink_of rank pace.now }
 {

@@ -61,7 +61,7 @@ fn first_within(most: u64, lengths: &[u64]) -> u64
     1_000
 }
 
-/// The longest scale of at most 25 units, or the shortest.
+/// Returns the longest scale of at most 25 units, or the shortest.
 fn scale_of(unit: &Unit) -> u64
     ensures { result ≡ scale_in (25 * unsigned_abs unit.now.micrometres) SCALES }
 {
@@ -379,7 +379,8 @@ fn refusal_row(refusal: &Option<RefusedMotion>) -> ArrayVec<Shape, 8>
     shapes
 }
 
-/// The rows of the legend: one for each tool, with space for a thousand, and one for a fault.
+/// Returns the rows of the legend: one for each tool, with space for a thousand, and one for a
+/// fault.
 fn rows(tools: &[Option<Tool>]) -> u32
     ensures value { result ≡ rows tools.now }
     ensures few { result < 2000 }
@@ -478,7 +479,7 @@ fn origin(view: View, area: &Rectangle, system: usize, place: &Point3) -> ArrayV
     shapes
 }
 
-// The origins of the coordinate systems that are set in the machine file.
+// Returns the origins of the coordinate systems that are set in the machine file.
 fn draw_origins<W: Sink>(
     chunk: &mut Chunk,
     unit: &Unit,
@@ -538,7 +539,7 @@ fn draw_scale<W: Sink>(chunk: &mut Chunk, area: &Rectangle, sink: &mut W) -> Res
     draw_all(chunk, &unit, &shapes, sink)
 }
 
-// What is below the picture.
+// Returns what is below the picture.
 fn draw_legend<W: Sink>(
     chunk: &mut Chunk,
     area: &Rectangle,
@@ -656,7 +657,7 @@ fn write_picture<A: Allocator, W: Sink>(
     }
 }
 
-// The boxes whose bodies are drawn. It fails where memory is refused.
+// Returns the boxes whose bodies are drawn. It fails where memory is refused.
 fn shown_sweeps<A: Allocator, B: Allocator>(
     alloc: A,
     look: &Look,

@@ -83,7 +83,7 @@ fn with_fixtures(view: View, area: Rectangle, fixtures: &[Fixture]) -> Rectangle
     all
 }
 
-/// The travel and the home positions.
+/// Returns the travel and the home positions.
 fn bench<A: Allocator>(view: View, machine: &Machine<A>) -> Rectangle
     ensures { result ≡ bench view (file_of machine.now) }
 {
@@ -92,7 +92,7 @@ fn bench<A: Allocator>(view: View, machine: &Machine<A>) -> Rectangle
         .holding(&view.spot(&machine.home30))
 }
 
-/// The least rectangle that holds travel, home positions, fixtures and path.
+/// Returns the least rectangle that holds travel, home positions, fixtures and path.
 fn whole<A: Allocator>(view: View, machine: &Machine<A>, commands: &[Command]) -> Rectangle
     ensures { result ≡ whole view (file_of machine.now) commands.now }
 {
@@ -100,7 +100,7 @@ fn whole<A: Allocator>(view: View, machine: &Machine<A>, commands: &[Command]) -
     with_commands(view, fixed, commands)
 }
 
-/// The rectangle of one spot.
+/// Returns the rectangle of one spot.
 fn at(spot: Spot) -> Rectangle
     ensures { result ≡ at spot }
 {
@@ -110,7 +110,7 @@ fn at(spot: Spot) -> Rectangle
     }
 }
 
-/// The least rectangle that holds the start, the fixtures and the path.
+/// Returns the least rectangle that holds the start, the fixtures and the path.
 fn work<A: Allocator>(view: View, machine: &Machine<A>, commands: &[Command]) -> Rectangle
     ensures { result ≡ work view (file_of machine.now) commands.now }
 {
@@ -150,7 +150,7 @@ fn is_far_larger(area: &Rectangle, part: &Rectangle) -> bool
     is_far_longer(across(area), across(part)) || is_far_longer(up(area), up(part))
 }
 
-/// The least rectangle that holds what a picture shows.
+/// Returns the least rectangle that holds what a picture shows.
 pub(crate) fn frame<A: Allocator>(
     look: &Look,
     machine: &Machine<A>,
@@ -212,7 +212,7 @@ fn hundredth(length: i128) -> i64
     (length / 100).max(100) as i64
 }
 
-/// A hundredth of what is drawn, and at least a tenth of a millimetre.
+/// Returns a hundredth of what is drawn, and at least a tenth of a millimetre.
 pub(crate) fn unit_of(area: &Rectangle) -> Unit
     ensures { result.micrometres ≡ unit_of area.now }
 {
@@ -221,7 +221,7 @@ pub(crate) fn unit_of(area: &Rectangle) -> Unit
     }
 }
 
-/// The length of `count` units.
+/// Returns the length of `count` units.
 fn units(unit: &Unit, count: u32) -> i128
     ensures value { result ≡ pos count *ℤ unit.now.micrometres }
     ensures bound { unsigned_abs result < 2 ^ 92 }
@@ -293,7 +293,7 @@ fn page_height(area: &Rectangle, unit: &Unit, rows: u32) -> i128
     enlarged(unit.micrometres, height(area, unit, rows))
 }
 
-/// The sheet for a picture with `rows` rows of tools and faults in the legend.
+/// Returns the sheet for a picture with `rows` rows of tools and faults in the legend.
 pub(crate) fn sheet(area: &Rectangle, rows: u32) -> Sheet
     requires { rows < 2000 }
     ensures { result ≡ sheet area.now rows }
@@ -309,7 +309,7 @@ pub(crate) fn sheet(area: &Rectangle, rows: u32) -> Sheet
     }
 }
 
-/// A rectangle as a part of the sheet.
+/// Returns a rectangle as a part of the sheet.
 pub(crate) fn pane(area: &Rectangle) -> Pane
     ensures { result ≡ pane area.now }
 {

@@ -48,7 +48,7 @@ fn is_seen_clockwise(view: View, turn: Turn) -> bool
     }
 }
 
-/// The shapes that lead to the start of a motion.
+/// Returns the shapes that lead to the start of a motion.
 fn lead(run: &Option<Run>, ink: Ink, from: Spot) -> ArrayVec<Shape, 2>
     ensures { result.items ≡ lead run.now ink from }
 {
@@ -70,7 +70,7 @@ fn is_flat(arc: &Arc) -> bool
     arc.start().height(plane) == arc.end().height(plane)
 }
 
-/// An arc in quarters.
+/// Returns an arc in quarters.
 fn rounds(eye: &Eye, arc: &Arc) -> ArrayVec<Shape, 5>
     ensures { result.items ≡ map (round eye.now.view arc.now) (corner_spots eye.now arc.now) }
 {
@@ -83,7 +83,7 @@ fn rounds(eye: &Eye, arc: &Arc) -> ArrayVec<Shape, 5>
     shapes
 }
 
-/// An arc to and fro.
+/// Returns an arc to and fro.
 fn corners(eye: &Eye, arc: &Arc) -> ArrayVec<Shape, 5>
     ensures { result.items ≡ map drawn.Line (corner_spots eye.now arc.now) }
 {

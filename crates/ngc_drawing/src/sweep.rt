@@ -251,14 +251,15 @@ fn box_count<A: Allocator>(motions: &Motions<A>) -> usize
     count
 }
 
-/// How many boxes are drawn as one.
+/// Returns how many boxes are drawn as one.
 fn together<A: Allocator>(motions: &Motions<A>) -> usize
     ensures { result ≡ together motions.now }
 {
     box_count(motions) / 20_000 + 1
 }
 
-/// The boxes of a certificate's motions as they are drawn. It fails where memory is refused.
+/// Returns the boxes of a certificate's motions as they are drawn. It fails where memory is
+/// refused.
 pub(crate) fn sweeps<A: Allocator, B: Allocator>(
     alloc: A,
     view: View,

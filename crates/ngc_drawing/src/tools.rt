@@ -5,7 +5,7 @@ use ngc_commands::{Action, Command};
 use ngc_machine_files::{Name, Tool};
 use std::alloc::{AllocError, Allocator};
 
-/// The number of a tool; no tool is 0.
+/// Returns the number of a tool; no tool is 0.
 pub(crate) fn number_of(tool: &Option<Tool>) -> u32
     ensures { result ≡ number_of tool.now }
 {
@@ -15,7 +15,7 @@ pub(crate) fn number_of(tool: &Option<Tool>) -> u32
     }
 }
 
-/// The name of a tool; no tool has none.
+/// Returns the name of a tool; no tool has none.
 pub(crate) fn name_of(tool: &Option<Tool>) -> Name
     ensures { result ≡ name_of tool.now }
 {
@@ -75,8 +75,8 @@ fn add_used<A: Allocator>(
     }
 }
 
-/// The tools that motions use, each once, in the order of their first motions. It fails where
-/// memory is refused.
+/// Returns the tools that motions use, each once, in the order of their first motions. It fails
+/// where memory is refused.
 pub(crate) fn used<A: Allocator>(
     alloc: A,
     commands: &[Command],

@@ -18,7 +18,7 @@ pub enum View {
     Side,
 }
 
-/// A length in nanometres, to the nearest micrometre.
+/// Returns a length in nanometres, to the nearest micrometre.
 pub(crate) fn to_micrometres(nanometres: i64) -> i64
     ensures { result ≡ micrometres nanometres }
 {
@@ -65,7 +65,7 @@ impl View {
         self.sees(&Place::at(point))
     }
 
-    /// Whether a plane is seen without shortening.
+    /// Returns whether a plane is seen without shortening.
     pub(crate) fn faces(self, plane: Plane) -> bool
         ensures { result ≡ faces self plane }
     {
@@ -75,7 +75,7 @@ impl View {
         }
     }
 
-    /// The rectangle of two corners of a box.
+    /// Returns the rectangle of two corners of a box.
     pub(crate) fn rectangle(self, low: &Point3, high: &Point3) -> Rectangle
         ensures { result ≡ rectangle self low.now high.now }
     {
@@ -87,7 +87,7 @@ impl View {
 }
 
 impl Spot {
-    /// Whether both are one place of the drawing.
+    /// Returns whether both are one place of the drawing.
     pub(crate) fn is_same(&self, other: &Spot) -> bool
         ensures { result ≡ is_same self.now other.now }
     {
@@ -96,7 +96,7 @@ impl Spot {
 }
 
 impl Rectangle {
-    /// The least rectangle that holds this one and a spot.
+    /// Returns the least rectangle that holds this one and a spot.
     pub(crate) fn holding(&self, spot: &Spot) -> Rectangle
         ensures { result ≡ holding self.now spot.now }
     {

@@ -5,7 +5,7 @@
 use ngc_fault_texts::{Part, Row, page};
 use std::io;
 
-// A text in one line.
+// Returns a text in one line.
 fn print_cell(rt: &impl Print, text: &str) -> io::Result<()> {
     for line in text.lines() {
         print!(rt; " {line}")?;
@@ -25,7 +25,7 @@ fn print_row(rt: &impl Print, row: &Row) -> io::Result<()> {
     println!(rt;)
 }
 
-// The rows of the part with this title.
+// Returns the rows of the part with this title.
 fn print_rows(rt: &impl Print, parts: &[Part], title: &str) -> io::Result<()> {
     for part in parts {
         if part.title == title {

@@ -34,7 +34,7 @@ pub struct Part {
     pub rows: &'static [Row],
 }
 
-/// The parts of the page in their order.
+/// Returns the parts of the page in their order.
 pub fn page() -> [Part; 12]
     ensures { numbers_of result ≡ fault_numbers }
 {

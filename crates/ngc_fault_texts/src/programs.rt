@@ -5,7 +5,7 @@ ghost use Rattle.ngc_fault_texts.specs.Numbers.{value_numbers, word_numbers, pla
 
 use crate::parts::Row;
 
-// The rows of "Values".
+// Returns the rows of "Values".
 pub(crate) fn values() -> &'static [Row]
     ensures { map (λ row. row.number) result.now ≡ value_numbers }
 {
@@ -59,7 +59,7 @@ pub(crate) fn values() -> &'static [Row]
     ROWS
 }
 
-// The rows of "Codes and words".
+// Returns the rows of "Codes and words".
 pub(crate) fn words() -> &'static [Row]
     ensures { map (λ row. row.number) result.now ≡ word_numbers }
 {
@@ -165,7 +165,7 @@ pub(crate) fn words() -> &'static [Row]
     ROWS
 }
 
-// The rows of "Places, tools and feeds".
+// Returns the rows of "Places, tools and feeds".
 pub(crate) fn places() -> &'static [Row]
     ensures { map (λ row. row.number) result.now ≡ place_numbers }
 {

@@ -5,7 +5,7 @@ ghost use Rattle.ngc_fault_texts.specs.Numbers.{line_numbers, file_numbers};
 
 use crate::parts::Row;
 
-// The rows of "Reading a line".
+// Returns the rows of "Reading a line".
 pub(crate) fn lines() -> &'static [Row]
     ensures { map (λ row. row.number) result.now ≡ line_numbers }
 {
@@ -115,7 +115,7 @@ pub(crate) fn lines() -> &'static [Row]
     ROWS
 }
 
-// The rows of "Reading a file".
+// Returns the rows of "Reading a file".
 pub(crate) fn files() -> &'static [Row]
     ensures { map (λ row. row.number) result.now ≡ file_numbers }
 {

@@ -5,7 +5,7 @@ ghost use Rattle.ngc_fault_texts.specs.Numbers.{event_numbers, log_numbers, shel
 
 use crate::parts::Row;
 
-// The rows of "Events".
+// Returns the rows of "Events".
 pub(crate) fn events() -> &'static [Row]
     ensures { map (λ row. row.number) result.now ≡ event_numbers }
 {
@@ -33,7 +33,7 @@ pub(crate) fn events() -> &'static [Row]
     ROWS
 }
 
-// The rows of "In the log".
+// Returns the rows of "In the log".
 pub(crate) fn log() -> &'static [Row]
     ensures { map (λ row. row.number) result.now ≡ log_numbers }
 {
@@ -69,7 +69,7 @@ pub(crate) fn log() -> &'static [Row]
     ROWS
 }
 
-// The rows of "Input, output and the command line".
+// Returns the rows of "Input, output and the command line".
 pub(crate) fn shell() -> &'static [Row]
     ensures { map (λ row. row.number) result.now ≡ shell_numbers }
 {

@@ -5,7 +5,7 @@ ghost use Rattle.ngc_fault_texts.specs.Numbers.{setup_numbers, certificate_numbe
 
 use crate::parts::Row;
 
-// The rows of "Machine file and tool table".
+// Returns the rows of "Machine file and tool table".
 pub(crate) fn setup() -> &'static [Row]
     ensures { map (λ row. row.number) result.now ≡ setup_numbers }
 {
@@ -122,7 +122,7 @@ pub(crate) fn setup() -> &'static [Row]
     ROWS
 }
 
-// The rows of "Certificates".
+// Returns the rows of "Certificates".
 pub(crate) fn certificates() -> &'static [Row]
     ensures { map (λ row. row.number) result.now ≡ certificate_numbers }
 {

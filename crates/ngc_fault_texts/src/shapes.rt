@@ -5,7 +5,7 @@ ghost use Rattle.ngc_fault_texts.specs.Numbers.{cycle_numbers, arc_numbers};
 
 use crate::parts::Row;
 
-// The rows of "Canned cycles".
+// Returns the rows of "Canned cycles".
 pub(crate) fn cycles() -> &'static [Row]
     ensures { map (λ row. row.number) result.now ≡ cycle_numbers }
 {
@@ -94,7 +94,7 @@ pub(crate) fn cycles() -> &'static [Row]
     ROWS
 }
 
-// The rows of "Arcs".
+// Returns the rows of "Arcs".
 pub(crate) fn arcs() -> &'static [Row]
     ensures { map (λ row. row.number) result.now ≡ arc_numbers }
 {

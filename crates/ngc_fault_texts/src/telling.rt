@@ -25,7 +25,7 @@ pub enum ExplainFault {
 }
 
 impl ExplainFault {
-    /// The fault's number.
+    /// Returns the fault's number.
     pub fn number(&self) -> u16
         ensures { result ≡ explain_fault_number self.now }
     {
@@ -53,7 +53,7 @@ fn write_texts<W: Sink>(texts: &[&[u8]], output: &mut W) -> Result<(), WriteFaul
     Ok(())
 }
 
-// The line of the part's column, where there is one.
+// Returns the line of the part's column, where there is one.
 fn write_column<W: Sink>(part: &Part, row: &Row, output: &mut W) -> Result<(), WriteFault>
     ensures ok { OnOk result
         (Appends (W.written output.old) (W.written output.new)

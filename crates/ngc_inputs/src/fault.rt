@@ -84,7 +84,7 @@ pub enum AnswerFault {
 }
 
 impl AnswerFault {
-    /// The fault's number.
+    /// Returns the fault's number.
     pub fn number(&self) -> u16
         ensures { result ≡ answer_number self.now }
     {
@@ -110,8 +110,9 @@ impl AnswerFault {
         }
     }
 
-    /// The exit status: 1 for input, output and memory, 3 for a file or a program that is refused
-    /// and a name or number that isn't known, 4 for a certificate that is refused or isn't made.
+    /// Returns the exit status: 1 for input, output and memory, 3 for a file or a program that is
+    /// refused and a name or number that isn't known, 4 for a certificate that is refused or isn't
+    /// made.
     pub fn status(&self) -> u8
         ensures { result ≡ answer_status self.now }
     {

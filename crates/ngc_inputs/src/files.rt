@@ -17,8 +17,8 @@ pub trait Files {
     // The bytes of a file by its name, or of standard input, where they are known.
     ghost bytes: { Self → Option (List ℕ) → Option (List ℕ) };
 
-    /// The named file, or standard input; 901 where it can't be opened. A named file is opened
-    /// without changing any, and standard input without changing the named ones.
+    /// Returns the named file, or standard input; 901 where it can't be opened. A named file is
+    /// opened without changing any, and standard input without changing the named ones.
     fn source(&mut self, name: Option<&str>) -> Result<Self::R, ReadFault>
         ensures bytes { IfOk result
             (λ source. Self.R.remaining source ≡ bytes self.old

@@ -16,7 +16,8 @@ use ngc_line_reader::{Program, ReadFault};
 use ngc_text::InputFault;
 use std::alloc::Global;
 
-/// What the bytes of the named file, or of standard input, come from: 901 where it can't be opened.
+/// Returns what the bytes of the named file, or of standard input, come from: 901 where it can't be
+/// opened.
 pub fn open_file<F: Files>(name: Option<&str>, files: &mut F) -> Result<F::R, InputFault>
     ensures bytes { IfOk result
         (λ source. F.R.remaining source ≡ F.bytes files.old (option_map (λ n. n.now) name.entry)) }
@@ -31,7 +32,7 @@ pub fn open_file<F: Files>(name: Option<&str>, files: &mut F) -> Result<F::R, In
     }
 }
 
-/// The program of the named file, or of standard input.
+/// Returns the program of the named file, or of standard input.
 pub fn read_program<F: Files>(
     alloc: Global,
     name: Option<&str>,
@@ -52,7 +53,7 @@ pub fn read_program<F: Files>(
     Program::read(alloc, &mut source)
 }
 
-/// The certificate of the named file.
+/// Returns the certificate of the named file.
 pub fn read_certificate<F: Files>(
     alloc: Global,
     name: &str,

@@ -25,7 +25,7 @@ pub struct Shop {
 /// How many bytes of a machine file, tool table or events file are read: a longer one is 901.
 pub const FILE_LIMIT: usize = 20_000_000;
 
-/// The bytes of a named file.
+/// Returns the bytes of a named file.
 pub fn bytes_of<F: Files>(alloc: Global, name: &str, files: &mut F) -> Result<Vec<u8>, InputFault>
     ensures value { IfSome (F.bytes files.old (Some name.now))
         (λ bytes. IfOk result (λ v. v.items ≡ bytes)) }
@@ -79,7 +79,7 @@ fn named_tools<F: Files>(
     }
 }
 
-/// The machine that the named file says, or the built-in one.
+/// Returns the machine that the named file says, or the built-in one.
 fn read_machine<F: Files>(
     alloc: Global,
     name: Option<&str>,
@@ -100,7 +100,7 @@ fn read_machine<F: Files>(
     }
 }
 
-/// The tools that the named file says, or none.
+/// Returns the tools that the named file says, or none.
 fn read_tools<F: Files>(
     alloc: Global,
     name: Option<&str>,
@@ -121,7 +121,7 @@ fn read_tools<F: Files>(
     }
 }
 
-/// The machine and its tools, read in that order.
+/// Returns the machine and its tools, read in that order.
 pub fn read_shop<F: Files>(
     alloc: Global,
     machine: Option<&str>,

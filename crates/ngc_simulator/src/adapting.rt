@@ -25,7 +25,7 @@ use ngc_machine_files::{Machine, Tools};
 use ngc_text::{Chunk, Device, InputFault, Sink, read_whole, write_all};
 use std::alloc::Global;
 
-// A table of the tools with these numbers.
+// Returns a table of the tools with these numbers.
 fn tools_for(alloc: Global, numbers: &[u16]) -> Result<Tools<Global>, AnswerFault>
     ensures tools { IfOk result (λ t. tool_table (table_text numbers.now) ≡ Ok (tools_of t)) }
     ensures fault { IfErr result (IsTableFault numbers.now) }
@@ -40,7 +40,8 @@ fn tools_for(alloc: Global, numbers: &[u16]) -> Result<Tools<Global>, AnswerFaul
     }
 }
 
-// Whether a text has a meaning on a machine with its tools, at both settings of block delete.
+// Returns whether a text has a meaning on a machine with its tools, at both settings of block
+// delete.
 fn understand(
     alloc: Global,
     text: &[u8],
@@ -58,8 +59,8 @@ fn understand(
     }
 }
 
-// The report of a program that would be refused: status 3 of a program that has this fault. A text in
-// memory has no other fault than that memory was refused.
+// Returns the report of a program that would be refused: status 3 of a program that has this fault.
+// A text in memory has no other fault than that memory was refused.
 fn refused(fault: AnswerFault, report: Vec<u8>) -> Result<Notes, AnswerFault>
     ensures left { IfOk result (λ notes. (notes.is_written ≡ false)
         × (notes.text.items ≡ report.items ++ refused_text fault) × (answer_status fault ≡ 3)) }
@@ -114,8 +115,8 @@ fn adapt<W: Sink>(
     })
 }
 
-// What the options ask of a program, on no machine: 724 for a control that isn't known, and 725 for
-// codes to drop that are no list of M codes.
+// Returns what the options ask of a program, on no machine: 724 for a control that isn't known, and
+// 725 for codes to drop that are no list of M codes.
 fn asked_by(options: &AdaptOptions<'_>) -> Result<Request, AnswerFault>
     ensures { MatchResult result (IsAsked options.now) (NoRequest options.now) }
 {
@@ -154,7 +155,7 @@ fn homes_of(machine: &Machine<Global>) -> Homes
     }
 }
 
-// The homes are known where a machine file is named.
+// Returns the homes are known where a machine file is named.
 fn request_on(machine: &Machine<Global>, options: &AdaptOptions<'_>, asked: &Request) -> Request
     requires { IsAsked options.now asked.now }
     ensures { IsRequest options.now (file_of machine.now) result }
@@ -169,7 +170,7 @@ fn request_on(machine: &Machine<Global>, options: &AdaptOptions<'_>, asked: &Req
     }
 }
 
-// The bytes of the named file, or of standard input.
+// Returns the bytes of the named file, or of standard input.
 fn source_bytes<F: Files>(
     alloc: Global,
     name: Option<&str>,
@@ -187,7 +188,7 @@ fn source_bytes<F: Files>(
     read_whole(alloc, &mut source, FILE_LIMIT)
 }
 
-// The machine file is read first, and then the program.
+// Returns the machine file is read first, and then the program.
 pub(crate) fn adapt_files<F: Files, W: Sink>(
     alloc: Global,
     options: &AdaptOptions<'_>,

@@ -35,8 +35,8 @@ pub(crate) fn refused(refusal: JobFault) -> AnswerFault
     }
 }
 
-/// The certificate that is made for a job. Where no line begins with `/`, what is found serves both
-/// settings of block delete.
+/// Returns the certificate that is made for a job. Where no line begins with `/`, what is found
+/// serves both settings of block delete.
 pub(crate) fn made_for<A: Allocator + Copy>(
     alloc: A,
     job: &Job<A>,
@@ -60,7 +60,7 @@ pub(crate) fn made_for<A: Allocator + Copy>(
     }
 }
 
-// The certificate that is made for a job, in a format.
+// Returns the certificate that is made for a job, in a format.
 fn certificate_for<A: Allocator + Copy>(
     alloc: A,
     job: &Job<A>,
@@ -119,7 +119,7 @@ pub fn certify<A: Allocator + Copy, R: Source, W: Sink>(
     Ok(())
 }
 
-// The certificate of a program.
+// Returns the certificate of a program.
 pub(crate) fn certify_files<F: Files, W: Sink>(
     alloc: Global,
     options: &CertifyOptions<'_>,

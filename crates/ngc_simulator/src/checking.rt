@@ -50,7 +50,8 @@ pub fn check_program<A: Allocator + Copy, S: Source, W: Sink>(
     Ok(())
 }
 
-// Whether a certificate is accepted. The program is read before the certificate's file is opened.
+// Returns whether a certificate is accepted. The program is read before the certificate's file is
+// opened.
 pub(crate) fn check_files<F: Files, W: Sink>(
     alloc: Global,
     options: &CheckOptions<'_>,

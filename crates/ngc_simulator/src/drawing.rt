@@ -27,7 +27,7 @@ use ngc_program_report::met_at;
 use ngc_text::Sink;
 use std::alloc::Allocator;
 
-/// The view with this name, and the top where none is given.
+/// Returns the view with this name, and the top where none is given.
 pub(crate) fn view_of(name: Option<&str>) -> Option<View>
     ensures { result ≡ view_named (option_map (λ n. n.now) name.entry) }
 {
@@ -39,7 +39,7 @@ pub(crate) fn view_of(name: Option<&str>) -> Option<View>
     }
 }
 
-/// What a picture shows of a refusal: those for travel and for a fixture.
+/// Returns what a picture shows of a refusal: those for travel and for a fixture.
 fn drawn_refusal(fault: &CheckFault) -> Option<RefusedMotion>
     ensures { result ≡ drawn_refusal fault.now }
 {
@@ -81,7 +81,7 @@ fn drawn_fixture(fixture: Option<u32>) -> Option<usize>
     fixture.map(|i| i as usize)
 }
 
-// What is refused of these commands where a certificate is to be made for them.
+// Returns what is refused of these commands where a certificate is to be made for them.
 fn made_refusal<A: Allocator + Copy>(
     alloc: A,
     commands: &[Command],
@@ -115,8 +115,8 @@ fn setting_of(block_delete: bool) -> Setting
     }
 }
 
-// What is refused of these commands with a certificate, and drawn. What is no refusal for travel or
-// a fixture isn't.
+// Returns what is refused of these commands with a certificate, and drawn. What is no refusal for
+// travel or a fixture isn't.
 fn checked_refusal<A: Allocator>(
     machine: &Machine<A>,
     block_delete: bool,

@@ -20,7 +20,7 @@ use ngc_report::Form;
 use ngc_text::{InputFault, Sink};
 use std::alloc::Global;
 
-// The first of the faults with block delete off, or else of those with block delete on.
+// Returns the first of the faults with block delete off, or else of those with block delete on.
 fn first_among(off: &[TextFault], on: &[TextFault]) -> Option<(Setting, TextFault)>
     ensures { result ≡ first_among off.now on.now }
 {
@@ -31,7 +31,7 @@ fn first_among(off: &[TextFault], on: &[TextFault]) -> Option<(Setting, TextFaul
     }
 }
 
-// A text in memory is read: no device fails.
+// Returns a text in memory is read: no device fails.
 fn is_of_text(fault: &TextFault) -> bool
     ensures { result ≡ is_of_text fault.now }
 {

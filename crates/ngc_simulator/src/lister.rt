@@ -45,7 +45,7 @@ pub fn list<A: Allocator + Copy, R: Source, W: Sink>(
     Ok(())
 }
 
-// The listing of a program.
+// Returns the listing of a program.
 pub(crate) fn list_files<F: Files, W: Sink>(
     alloc: Global,
     options: &ListOptions<'_>,

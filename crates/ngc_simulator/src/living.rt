@@ -15,7 +15,7 @@ use ngc_run_log::{LiveForm, LiveRun, feed_from};
 use ngc_text::{InputFault, Sink, Source};
 use std::alloc::{Allocator, Global};
 
-// The form with this name, if one has it.
+// Returns the form with this name, if one has it.
 fn live_form(output: Option<&str>, inverted: u8) -> Option<LiveForm>
     ensures { result ≡ live_named (option_map (λ name. name.now) output.entry) inverted }
 {
@@ -67,8 +67,8 @@ pub fn run_live<A: Allocator + Copy, S: Source, W: Sink>(
     Ok(())
 }
 
-// A live run in this form. Each file is read before the next one is opened, and standard input is
-// opened once all are read.
+// Returns a live run in this form. Each file is read before the next one is opened, and standard
+// input is opened once all are read.
 fn live_files<F: Files, W: Sink>(
     alloc: Global,
     options: &LiveOptions<'_>,
@@ -98,7 +98,7 @@ fn live_files<F: Files, W: Sink>(
     Ok(Done::Quietly)
 }
 
-/// A live run in the form that is asked for. The form is looked up before a file is read.
+/// Returns a live run in the form that is asked for. The form is looked up before a file is read.
 pub(crate) fn live_asked<F: Files, W: Sink>(
     alloc: Global,
     options: &LiveOptions<'_>,

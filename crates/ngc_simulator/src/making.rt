@@ -91,7 +91,7 @@ fn choices_of<'a>(options: &MachineOptions<'a>) -> Choices<'a>
     }
 }
 
-// The figures that are asked: of a dump of GRBL's settings, or of the options.
+// Returns the figures that are asked: of a dump of GRBL's settings, or of the options.
 fn figures_asked(
     options: &MachineOptions<'_>,
     dump: Option<&[u8]>,
@@ -110,7 +110,7 @@ fn figures_asked(
     }
 }
 
-// The notes of figures that are refused.
+// Returns the notes of figures that are refused.
 fn refused(alloc: Global, refusal: FigureRefusal) -> Result<Notes, AnswerFault>
     ensures notes { IfOk result (λ notes. (notes.is_written ≡ false)
         × (notes.text.items ≡ refusal_line refusal)) }
@@ -126,7 +126,7 @@ fn refused(alloc: Global, refusal: FigureRefusal) -> Result<Notes, AnswerFault>
     }
 }
 
-// The keys of a machine file, each with its remark.
+// Returns the keys of a machine file, each with its remark.
 fn keys_text(
     alloc: Global,
     numbers: &MachineNumbers,
@@ -144,7 +144,7 @@ fn keys_text(
     }
 }
 
-// The machine that a text says.
+// Returns the machine that a text says.
 fn machine_in(alloc: Global, text: &[u8]) -> Result<Machine<Global>, AnswerFault>
     ensures { MatchResult result (λ m. machine_file text.now ≡ Ok (file_of m)) (IsNotRead text.now) }
 {
@@ -154,7 +154,7 @@ fn machine_in(alloc: Global, text: &[u8]) -> Result<Machine<Global>, AnswerFault
     }
 }
 
-// A text with the warnings of a machine behind it, as comments.
+// Returns a text with the warnings of a machine behind it, as comments.
 fn with_warnings(
     text: Vec<u8, Global>,
     machine: &Machine<Global>,
@@ -170,8 +170,9 @@ fn with_warnings(
     }
 }
 
-// The whole text of a machine file: its keys, and behind them the warnings of the machine that they
-// say. The keys are read for that, and then the whole, so that what is written is a machine file.
+// Returns the whole text of a machine file: its keys, and behind them the warnings of the machine
+// that they say. The keys are read for that, and then the whole, so that what is written is a
+// machine file.
 fn made_text(
     alloc: Global,
     numbers: &MachineNumbers,
@@ -223,8 +224,8 @@ fn make<W: Sink>(
     })
 }
 
-// The file with a dump of GRBL's settings is read first, if one is named: 726 where it is named beside
-// figures, and where neither it nor all figures are given.
+// Returns the file with a dump of GRBL's settings is read first, if one is named: 726 where it is
+// named beside figures, and where neither it nor all figures are given.
 pub(crate) fn machine_files<F: Files, W: Sink>(
     alloc: Global,
     options: &MachineOptions<'_>,

@@ -148,10 +148,10 @@ fn tell_tools_mistake<F: Files, W: Sink>(
     }
 }
 
-/// The machine and its tools, as `read_shop` reads them, or the fault for which there are none.
-/// Where it refuses a file, the file's mistake is written first, in words, or as a document that
-/// has the fault's number alone: 901 where the file isn't read a second time, 902 where the write
-/// fails.
+/// Returns the machine and its tools, as `read_shop` reads them, or the fault for which there are
+/// none. Where it refuses a file, the file's mistake is written first, in words, or as a document
+/// that has the fault's number alone: 901 where the file isn't read a second time, 902 where the
+/// write fails.
 pub(crate) fn read_shop_telling<F: Files, W: Sink>(
     alloc: Global,
     form: Form,

@@ -21,7 +21,7 @@ use ngc_program_report::{ReportRequest, report_fit, report_refusal, write_reject
 use ngc_text::{Sink, Source};
 use std::alloc::Allocator;
 
-// The report of a program that is refused at a setting, and the fault that is answered.
+// Returns the report of a program that is refused at a setting, and the fault that is answered.
 fn report_rejection<A: Allocator, W: Sink>(
     program: &Program<A>,
     setting: Setting,

@@ -32,10 +32,10 @@ fn request_of(options: &ReportOptions<'_>) -> ReportRequest
     }
 }
 
-/// The report of a program. Its faults are those of a certificate that isn't made. Of a machine
-/// file or a tool table that is refused the mistake is written, and of a named program that can't
-/// be read the line at fault. Where all is asked for, all faults of a named program that can't be
-/// read or is refused are written.
+/// Returns the report of a program. Its faults are those of a certificate that isn't made. Of a
+/// machine file or a tool table that is refused the mistake is written, and of a named program that
+/// can't be read the line at fault. Where all is asked for, all faults of a named program that
+/// can't be read or is refused are written.
 pub(crate) fn report_files<F: Files, W: Sink>(
     alloc: Global,
     options: &ReportOptions<'_>,

@@ -77,8 +77,8 @@ pub fn run_program<A: Allocator + Copy, W: Sink>(
     Ok(report)
 }
 
-// A run over events. Each file is read before the next one is opened. A refusal of the certificate
-// is returned only after the events are read and understood.
+// Returns a run over events. Each file is read before the next one is opened. A refusal of the
+// certificate is returned only after the events are read and understood.
 fn run_files<F: Files, W: Sink>(
     alloc: Global,
     options: &RunOptions<'_>,
@@ -107,7 +107,7 @@ fn run_files<F: Files, W: Sink>(
     Ok(Done::Quietly)
 }
 
-/// A run in the form that is asked for. The form is looked up before a file is read.
+/// Returns a run in the form that is asked for. The form is looked up before a file is read.
 pub(crate) fn run_asked<F: Files, W: Sink>(
     alloc: Global,
     options: &RunOptions<'_>,

@@ -19,7 +19,7 @@ use ngc_setup_sheet::{write_sheet, write_warnings};
 use ngc_text::{Sink, WriteFault};
 use std::alloc::Global;
 
-// The setup sheet, or its warnings alone.
+// Returns the setup sheet, or its warnings alone.
 fn write_shown<W: Sink>(
     warnings: bool,
     machine: &Machine<Global>,
@@ -41,8 +41,8 @@ fn write_shown<W: Sink>(
     }
 }
 
-/// A setup sheet, or its warnings alone. Both files are read before anything is written, and of one
-/// that is refused the mistake is.
+/// Returns a setup sheet, or its warnings alone. Both files are read before anything is written,
+/// and of one that is refused the mistake is.
 pub(crate) fn show_files<F: Files, W: Sink>(
     alloc: Global,
     options: &ShowOptions<'_>,

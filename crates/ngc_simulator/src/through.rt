@@ -68,7 +68,7 @@ pub fn run_program_through<A: Allocator + Copy, W: Sink>(
     Ok(report)
 }
 
-// A run to the end, and how long it took. Each file is read before the next one is opened.
+// Returns a run to the end, and how long it took. Each file is read before the next one is opened.
 fn run_through_files<F: Files, W: Sink>(
     alloc: Global,
     options: &RunThroughOptions<'_>,
@@ -92,7 +92,7 @@ fn run_through_files<F: Files, W: Sink>(
     }))
 }
 
-/// A run in the form that is asked for. The form is looked up before a file is read.
+/// Returns a run in the form that is asked for. The form is looked up before a file is read.
 pub(crate) fn run_through_asked<F: Files, W: Sink>(
     alloc: Global,
     options: &RunThroughOptions<'_>,

@@ -38,7 +38,7 @@ fn unreadable_line(form: Form) -> &'static [u8]
     }
 }
 
-// The line at fault, where one is, with a mark below its column.
+// Returns the line at fault, where one is, with a mark below its column.
 fn write_marked_fault<W: Sink>(
     form: Form,
     text: &[u8],
@@ -62,7 +62,7 @@ fn write_marked_fault<W: Sink>(
     }
 }
 
-// The report of a program's text that has a fault.
+// Returns the report of a program's text that has a fault.
 fn write_unreadable<W: Sink>(
     form: Form,
     text: &[u8],

@@ -17,7 +17,7 @@ pub enum Writing {
     Samples(u8),
 }
 
-// What is written where no form is named.
+// Returns what is written where no form is named.
 fn own_writing(recording: Recording) -> Writing
     ensures { result ≡ own_writing recording }
 {
@@ -36,7 +36,7 @@ fn is_own_name(recording: Recording, name: &str) -> bool
     }
 }
 
-// The log with ticks, if this is its name.
+// Returns the log with ticks, if this is its name.
 fn timed_writing(recording: Recording, name: &str) -> Option<Writing>
     ensures { result ≡ timed_writing recording name.now }
 {
@@ -52,7 +52,7 @@ fn timed_writing(recording: Recording, name: &str) -> Option<Writing>
     }
 }
 
-/// What a command that records this writes in the form with this name, if it has one.
+/// Returns what a command that records this writes in the form with this name, if it has one.
 pub(crate) fn writing_of(
     recording: Recording,
     output: Option<&str>,
