@@ -1,5 +1,5 @@
 -- A line whose words can be read: block delete without a level, a first comment that our language
--- can read, and none that makes the line too long.
+-- can read, and none that makes the line too long. Our own.
 use Rattle.std.specs.Prelude.{ℕ, ◌+◌, ◌&&◌, not, nat_lt, Bool, true, false, List, [], ◌∷◌, ◌++◌}
 use Rattle.std.specs.Prelude.{length, take, drop, fold, slice_index, if◌then◌else◌}
 use Rattle.std.specs.Char.{is_ascii_digit}

@@ -1,5 +1,5 @@
--- What a line of comments and words with plain numbers says in the grammar of our language. A plain number is
--- written with digits, no parameter and no bracket. Our own.
+-- The reading of a line of comments and words with plain numbers in the grammar of our language. A
+-- plain number is written with digits, no parameter and no bracket. Our own.
 use Rattle.std.specs.Prelude.{◌≡◌, ℕ, ◌==◌, ◌&&◌, ◌||◌, not, nat_lt, nat_le, Bool, true, false, List, [], ◌∷◌, Option, Some}
 use Rattle.std.specs.Prelude.{None, is_some, filter, length, take, drop, if◌then◌else◌}
 use Rattle.std.specs.List.{list_all, filter_map, prefix_len}
@@ -35,7 +35,7 @@ abbrev pub word_with : Option Letter → List ℕ → Option Item
 word_with (Some letter) text = Some (grammar.word letter (grammar.number (numeral_of text)))
 word_with None text = None
 
--- the word of our language that an item is, if a letter of our language begins it
+-- an item as a word of our language, if it begins with a letter of our language
 abbrev pub word_of : List ℕ → Option Item
 word_of [] = None
 word_of (b ∷ value) = word_with (letter_of (upper b)) (without_blanks value)
@@ -52,7 +52,7 @@ comment_bytes rest = take (prefix_len is_in_comment rest) rest
 abbrev pub after_comment : List ℕ → List ℕ
 after_comment rest = drop (prefix_len is_in_comment rest) rest
 
--- what an item says: a comment, or a word of our language
+-- the meaning of an item: a comment, or a word of our language
 abbrev pub item_in : List ℕ → Option Item
 item_in [] = None
 item_in (b ∷ rest) =
@@ -71,11 +71,11 @@ is_closed rest =
     list_all (λ b. not (b == 40)) (comment_bytes rest)
     && (begins 41 (after_comment rest) && are_plain_blanks (drop 1 (after_comment rest)))
 
--- such a word, or blanks
+-- a plain word, or blanks
 abbrev pub is_word_item : List ℕ → Bool
 is_word_item item = list_all is_plain_byte item && (list_all is_blank item || is_plain_word item)
 
--- such a comment, such a word, or blanks
+-- a closed comment, a plain word, or blanks
 abbrev pub is_plain_item : List ℕ → Bool
 is_plain_item [] = true
 is_plain_item (b ∷ rest) = if b == 40 then is_closed rest else is_word_item (b ∷ rest)
@@ -124,7 +124,7 @@ abbrev pub are_plain : List (List ℕ) → Bool
 are_plain [] = true
 are_plain (item ∷ items) = if is_slash item then are_numbered items else are_numbered (item ∷ items)
 
--- such a line has one reading: its words and comments in order
+-- a plain line has one reading: its words and comments in order
 abbrev pub ItemsAreRead : Type 0
 ItemsAreRead = (line : List ℕ) →
     are_plain (items_of line) ≡ true → Reads line (reading_of (items_of line))
@@ -151,9 +151,9 @@ leaves_out _ = false
 abbrev pub stays : Modes → List Word → List ℕ → Bool
 stays modes words item = not (is_some (item_rule modes words item))
 
--- Where no rule does more than leave words out, what is written of a line is read as the items that
--- no rule leaves out, in the order of the line, if these are comments and words with plain numbers:
--- nothing else is changed, and no two items run together.
+-- A line from which rules only leave words out reads as the items that stay, in the order of the
+-- line, if these are comments and words with plain numbers. Nothing else is changed, and no two
+-- items run together.
 abbrev pub WordsAreLeftOut : Type 0
 WordsAreLeftOut = (modes : Modes) (line : List ℕ) (words : List Word) →
     words_of line ≡ Some words → list_all leaves_out (rules_of modes line) ≡ true

@@ -1,4 +1,4 @@
-//! What the rules of adapted lines leave of the readings that our language's grammar has.
+//! How adapted lines read in the grammar of our language.
 #![tactic(auto)]
 
 pub mod laws;

@@ -24,8 +24,8 @@ abbrev pub are_kept : Progress → List (List ℕ) → Bool
 are_kept p [] = not (has_ending p)
 are_kept p (line ∷ rest) = is_kept p (body_of line) && are_kept (progress_after p line) rest
 
--- a program to which no rule applies, which has an end, and for which no tool is asked is copied byte
--- for byte
+-- a program is copied byte for byte if no rule applies to it, it has an end and no tool is
+-- requested
 abbrev pub KeptIsCopied : Type 0
 KeptIsCopied =
     (request : Request) (file : List ℕ) → request.tool ≡ None

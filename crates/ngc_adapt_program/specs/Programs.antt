@@ -1,6 +1,6 @@
--- What is written of a whole program for another control: its lines in order, each by what the lines
--- before leave in force, with a line that mounts a tool in front and a line that ends it, where they
--- are wanted. Lines after the end are copied. Our own.
+-- The rewritten text of a whole program for another control: its lines in order, each by the state
+-- after the previous lines. A line that mounts a tool and a line that ends the program are added
+-- where they are needed. Lines after the end are copied. Our own.
 use Rattle.std.specs.Prelude.{ℕ, ◌+◌, ◌==◌, ◌&&◌, ◌||◌, not, nat_lt, Bool, true, false, List, [], ◌∷◌, ◌++◌}
 use Rattle.std.specs.Prelude.{length, map, codes, decimal, count_by, Option, Some, None, if◌then◌else◌}
 use Rattle.std.specs.List.{list_all, list_any, flat_map}
@@ -60,7 +60,7 @@ abbrev pub has_words : Option (List Word) → Bool
 has_words None = true
 has_words (Some words) = nat_lt 0 (length words)
 
--- a line that says something to execute: it has a word, or can't be read
+-- a line that has something to execute: it has a word, or can't be read
 abbrev pub is_executed : List ℕ → Bool
 is_executed body = has_words (words_of body)
 
@@ -80,7 +80,7 @@ plain_line levels line = plain_body levels (body_of line) ++ end_of line
 unfoldable pub plain_text : List ℕ → List ℕ
 plain_text text = flat_map (plain_line (levels_of text)) (lines_of text)
 
--- ---- what the lines before leave
+-- ---- the state after the previous lines
 
 abbrev pub is_feed : ℕ → Bool
 is_feed b = b == 10
@@ -92,7 +92,7 @@ feeds text = count_by is_feed text
 abbrev pub is_long : List ℕ → Bool
 is_long text = nat_lt 100000 (feeds text + (if ends 10 text then 0 else 1))
 
--- of a text, where this is the same with plain lines
+-- the state at the start of a text, where the second text is the same with plain lines
 abbrev pub start : Request → List ℕ → List ℕ → Progress
 start request text plain =
     record {
@@ -170,7 +170,7 @@ abbrev pub progress_after_body : Progress → List ℕ → Bool → Progress
 progress_after_body p body lacks_feed =
     if p.ended then after_ended p body lacks_feed else after_body p body lacks_feed
 
--- what is read of a line: a plain one. After the end the line stays as it is
+-- the part of a line that is read: a plain one. After the end the line is unchanged
 abbrev pub read_of : Progress → List ℕ → List ℕ
 read_of p body = if p.ended then body else plain_body p.levels body
 
@@ -184,12 +184,12 @@ leaves_out p body = p.is_long && (not p.ended && is_idle body)
 unfoldable pub progress_after_read : Progress → List ℕ → Progress
 progress_after_read p line = progress_after_body p (read_line p line) (not (ends 10 line))
 
--- a line that is left out leaves what was
+-- a line that is left out doesn't change the state
 unfoldable pub progress_after : Progress → List ℕ → Progress
 progress_after p line =
     if leaves_out p (body_of line) then p else progress_after_read p line
 
--- ---- what is written
+-- ---- the rewritten text
 
 unfoldable pub tool_line : Option ℕ → List ℕ
 tool_line None = []
@@ -229,7 +229,7 @@ abbrev pub lines_written : Progress → List (List ℕ) → List ℕ
 lines_written p [] = ending_written p
 lines_written p (line ∷ rest) = line_written p line ++ lines_written (progress_after p line) rest
 
--- what is written of a file
+-- the rewritten text of a file
 unfoldable pub program_written : Request → List ℕ → List ℕ
 program_written request file =
     lines_written (start request (text_of file) (plain_text (text_of file)))
@@ -279,7 +279,7 @@ moved_report number line p body =
     if has_refused_words p body then []
     else moves_report number line p.places (written p.modes body)
 
--- of a line with a number, where `before` lines are written before it
+-- the report of a line with a number, where `before` lines are written before it
 abbrev pub body_report : ℕ → ℕ → Progress → List ℕ → List ℕ
 body_report number before p body =
     if p.ended then []
@@ -290,7 +290,7 @@ abbrev pub plainly_report : ℕ → ℕ → Progress → List ℕ → List ℕ
 plainly_report number before p body =
     if p.ended then [] else plain_report number (before + 1) p.levels body
 
--- of a line of the source with these bytes, of which this is read
+-- the report of a line of the source with these bytes, of which this part is read
 abbrev pub parts_report : ℕ → ℕ → Progress → List ℕ → List ℕ → List ℕ
 parts_report number before p body read =
     let above = before + feeds (tool_line (tool_before p read)) in

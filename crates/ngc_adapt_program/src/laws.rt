@@ -1,8 +1,8 @@
 //! Laws about the definitions alone.
 ghost use Rattle.ngc_adapt_program.specs.Laws.{KeptIsCopied};
 
-/// A program to which no rule applies, which has an end, and for which no tool is asked is copied byte
-/// for byte.
+/// States that a program is copied byte for byte if no rule applies to it, it has an end and no
+/// tool is requested.
 pub fn kept_is_copied()
     ensures { KeptIsCopied }
 {}

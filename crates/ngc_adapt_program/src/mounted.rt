@@ -43,7 +43,7 @@ pub(crate) fn mounts_tool(text: &[u8]) -> bool
     false
 }
 
-/// Returns whether a line says something to execute: it has a word, or can't be read.
+/// Returns whether a line has something to execute: it has a word, or can't be read.
 pub(crate) fn is_executed(body: &[u8]) -> bool
     ensures { result ≡ spec.is_executed body.now }
 {

@@ -24,15 +24,15 @@ use ngc_adapt::{
 use ngc_adapt_moves::{Places, rewrite_line};
 use std::alloc::{AllocError, Allocator};
 
-// The most lines of a program in our language.
+// The greatest number of lines of a program in our language.
 const MOST_LINES: usize = 100_000;
 
-/// What the lines before leave.
+/// The state after the previous lines.
 #[derive(Clone, Copy)]
 pub struct Progress {
-    /// What they leave in force.
+    /// The modes in force.
     pub modes: Modes,
-    /// Where they leave the tool.
+    /// The position of the tool.
     pub places: Places,
     /// The levels of block delete in the whole text.
     pub levels: Levels,
@@ -55,7 +55,7 @@ pub struct Progress {
 /// A program in our language, or the refusal of one.
 #[derive(Drop)]
 pub struct Adapted<A: Allocator> {
-    /// What is written.
+    /// The text that is written.
     pub text: Vec<u8, A>,
     /// A line for each change and for each refused word, the tools that are named, and how often
     /// each rule applied.
@@ -126,8 +126,8 @@ fn is_long(text: &[u8]) -> bool
     feeds(text).saturating_add(unended) > MOST_LINES
 }
 
-// Returns the tool to mount in a text that mounts none. The text is read only where a tool is asked
-// for.
+// Returns the tool to mount in a text that mounts none. The text is read only where a tool is
+// requested.
 fn tool_to_mount(text: &[u8], tool: Option<u16>) -> Option<u16>
     ensures { result ≡ (if spec.mounts_tool text.now then None else tool) }
 {
@@ -151,7 +151,7 @@ impl Progress {
     ghost use Rattle.ngc_adapt_program.specs.Programs.{start, leaves_out, after_ended, tool_before};
     ghost use Rattle.ngc_adapt_program.specs.Programs.{has_ending};
 
-    /// Returns what is known where a text begins, which is `plain` with plain lines.
+    /// Returns the state at the start of a text, which is `plain` with plain lines.
     pub fn start(request: &Request, text: &[u8], plain: &[u8]) -> Progress
         ensures { result ≡ start request.now text.now plain.now }
     {
@@ -169,15 +169,15 @@ impl Progress {
         }
     }
 
-    // Returns whether a line is left out, which has nothing but blanks and a comment, of a long
-    // text.
+    // Returns whether a line is left out: the text is long, and the line has nothing but blanks and
+    // a comment.
     fn leaves_out(&self, body: &[u8]) -> bool
         ensures { result ≡ leaves_out self.now body.now }
     {
         self.is_long && !self.ended && is_idle(body)
     }
 
-    // Returns what a line after the end leaves.
+    // Returns the state after a line that follows the end.
     fn after_ended(&self, body: &[u8], lacks_feed: bool) -> Progress
         ensures { result ≡ after_ended self.now body.now lacks_feed }
     {
@@ -392,7 +392,7 @@ impl<A: Allocator + Copy> Writing<A> {
         Ok(())
     }
 
-    // Adds what the words of a line are rewritten to, and returns what they leave in force.
+    // Adds a line as its words are rewritten, and returns the modes after it.
     fn add_words(
         &mut self,
         number: usize,
@@ -423,8 +423,8 @@ impl<A: Allocator + Copy> Writing<A> {
         })
     }
 
-    // Adds what a line with rewritten words becomes by the moves that it makes, and returns where it
-    // leaves the tool.
+    // Adds a line with rewritten words as its moves are rewritten, and returns the position of the
+    // tool after it.
     fn add_moves(
         &mut self,
         number: usize,
@@ -454,7 +454,7 @@ impl<A: Allocator + Copy> Writing<A> {
     }
 }
 
-// What the words of a line leave.
+// The state after the words of a line.
 #[derive(Clone, Copy)]
 struct Executed {
     modes: Modes,
@@ -463,7 +463,7 @@ struct Executed {
     is_refused: bool,
 }
 
-// Adds what is written of a line that is executed, and returns what it leaves.
+// Adds an executed line as it is rewritten, and returns the state after it.
 fn add_executed<A: Allocator + Copy>(
     alloc: A,
     number: usize,
@@ -498,7 +498,7 @@ fn add_executed<A: Allocator + Copy>(
     Ok(after_body(progress, &executed, places, body, lacks_feed))
 }
 
-// Returns what a line that is executed leaves.
+// Returns the state after an executed line.
 fn after_body(
     progress: &Progress,
     executed: &Executed,
@@ -559,8 +559,8 @@ fn add_body<A: Allocator + Copy>(
     Ok(after)
 }
 
-// Adds what is written of a line with these bytes, of which this is read, with its changes and their
-// report, and returns what it leaves.
+// Adds a line with these bytes as it is rewritten, with its changes and their report, and returns
+// the state after it. `read` is the part of the line that is read.
 fn add_parts<A: Allocator + Copy>(
     alloc: A,
     number: usize,
@@ -589,7 +589,7 @@ fn add_parts<A: Allocator + Copy>(
     Ok(after)
 }
 
-// Returns the same of a line with these bytes.
+// Does the same for a line with these bytes.
 fn add_read<A: Allocator + Copy>(
     alloc: A,
     number: usize,
@@ -628,8 +628,8 @@ fn add_read<A: Allocator + Copy>(
     Ok(after)
 }
 
-// Adds what is written of a line that isn't left out, its changes and their report, and returns what
-// it leaves. How many lines the text has isn't counted.
+// Adds a line that isn't left out as it is rewritten, its changes and their report, and returns the
+// state after it. The number of lines in the text isn't counted.
 #[tactic(auto, unfolding(crate::specs::Programs::read_written, crate::specs::Programs::read_report, crate::specs::Programs::read_changes, crate::specs::Programs::read_left, crate::specs::Programs::progress_after_read))]
 fn add_source<A: Allocator + Copy>(
     alloc: A,
@@ -655,7 +655,7 @@ fn add_source<A: Allocator + Copy>(
     Ok(after)
 }
 
-// Returns the same, and counts the lines.
+// Does the same, and counts the lines.
 #[tactic(auto, using(crate::proofs::Feeds::seam_feeds))]
 fn add_counted<A: Allocator + Copy>(
     alloc: A,
@@ -684,7 +684,7 @@ fn add_counted<A: Allocator + Copy>(
     Ok(after)
 }
 
-// Adds what is written of a line, its changes and their report, and returns what it leaves.
+// Adds a line as it is rewritten, its changes and their report, and returns the state after it.
 #[tactic(auto, unfolding(crate::specs::Programs::line_written, crate::specs::Programs::source_report, crate::specs::Programs::source_changes, crate::specs::Programs::source_left, crate::specs::Programs::progress_after))]
 fn add_line<A: Allocator + Copy>(
     alloc: A,
@@ -804,8 +804,8 @@ fn plain_text<A: Allocator + Copy>(alloc: A, text: &[u8]) -> Result<Vec<u8, A>, 
     Ok(plain)
 }
 
-// Adds what is written of a text, with its changes and their report. The other text is the same with
-// plain lines.
+// Adds a text as it is rewritten, with its changes and their report. The other text is the same
+// with plain lines.
 fn add_lines<A: Allocator + Copy>(
     alloc: A,
     request: &Request,

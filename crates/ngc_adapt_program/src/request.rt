@@ -57,7 +57,7 @@ fn after_commas(count: usize, text: &[u8]) -> Option<&[u8]>
     rest
 }
 
-// Returns the M code, in tenths, that the first part of a list is.
+// Returns the first part of a list as an M code in tenths.
 fn code_of(text: &[u8]) -> Option<u16>
     ensures { result ≡ spec.code_of text.now }
 {
@@ -88,7 +88,7 @@ fn is_code_at(text: &[u8], index: usize) -> bool
     }
 }
 
-// The places of the codes that can be dropped.
+// The indices of the codes that can be dropped.
 const INDICES: [usize; MOST_DROPPED] = [0, 1, 2, 3, 4, 5, 6, 7, 8, 9, 10, 11, 12, 13, 14, 15];
 
 fn are_all_codes(text: &[u8]) -> bool

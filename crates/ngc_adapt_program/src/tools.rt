@@ -41,8 +41,8 @@ fn begins_tool(item: &[u8]) -> bool
     }
 }
 
-// Returns the number of a tool, 1 to 9,999, that an item names. Most items name none, which their
-// first byte tells.
+// Returns the number of a tool, 1 to 9,999, that an item names. Most items name none, as their
+// first byte shows.
 #[tactic(auto, using(crate::proofs::NoTools::no_tool))]
 fn tool_number(item: &[u8]) -> Option<u16>
     ensures { result ≡ spec.tool_number item.now }
@@ -175,7 +175,7 @@ fn add_tool_numbers<A: Allocator>(tools: &[u16], report: &mut Vec<u8, A>) -> Res
     Ok(())
 }
 
-// Adds which tools the tool table must have, where there is one.
+// Adds the numbers of the tools that the tool table must have, if there are any.
 pub(crate) fn add_tools_report<A: Allocator>(
     tools: &[u16],
     report: &mut Vec<u8, A>,

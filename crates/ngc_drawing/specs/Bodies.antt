@@ -1,4 +1,4 @@
--- What the bodies of tools fill over the boxes of a certificate. Our own.
+-- The rectangles that the bodies of tools fill over the boxes of a certificate. Our own.
 use Rattle.std.specs.Prelude.{ℕ, ◌+◌, ◌/◌, ◌==◌, nat_lt, ℤ, List, [], ◌∷◌, ◌++◌, length, map}
 use Rattle.std.specs.Prelude.{sum_by, slice_index_or, Option, Some, None, Bool, ◌&&◌, ◌||◌}
 use Rattle.std.specs.Prelude.{if◌then◌else◌}
@@ -59,7 +59,7 @@ abbrev pub takes : View → ℕ → Sweep → Sweep → Bool
 takes view most s next =
     s.rank == next.rank && (nat_lt s.count most || are_seen_alike view s.bounds next.bounds)
 
--- the least box that holds both
+-- the smallest box that holds both
 abbrev pub joint : GridBox → GridBox → GridBox
 joint a b = record { low = lesser_corner a.low b.low; high = greater_corner a.high b.high }
 
@@ -70,7 +70,7 @@ joined_with most s next = record {
   bounds = joint s.bounds next.bounds;
 }
 
--- what the next box leaves to be drawn, and what it is drawn with
+-- the boxes that are finished before the next box, and those with which it is drawn
 abbrev pub finished : View → ℕ → Option Sweep → Sweep → List Sweep
 finished view most None next = []
 finished view most (Some s) next = if takes view most s next then [] else s ∷ []
@@ -83,7 +83,7 @@ abbrev pub held_last : Option Sweep → List Sweep
 held_last None = []
 held_last (Some s) = s ∷ []
 
--- from the boxes that are held on
+-- the boxes that follow, starting with those that are held
 abbrev pub joined : View → ℕ → Option Sweep → List Sweep → List Sweep
 joined view most held [] = held_last held
 joined view most held (next ∷ boxes) =
@@ -101,7 +101,7 @@ abbrev pub sweeps : View → List (Option Tool) → List Command → List Entry 
 sweeps view used commands entries = joined view (together entries) None
     (boxes_from used (rank_of used 0) (actions_of commands) entries)
 
--- ---- what is drawn of them
+-- ---- how they are drawn
 
 -- the tool of a rank
 abbrev pub tool_at : List (Option Tool) → ℕ → Option Tool

@@ -1,4 +1,4 @@
--- Shapes on their way to a sink. Our own.
+-- Writing of shapes to a sink. Our own.
 use Rattle.std.specs.Prelude.{ℕ, ℤ, List, Option, Result}
 use Rattle.ngc_text.specs.declared.writing.WriteFault.{WriteFault}
 use Rattle.ngc_certificate_text.specs.Collects.{Collects}

@@ -8,7 +8,7 @@ abbrev pub number_of : DrawFault → ℕ
 number_of Memory = 900
 number_of Write = 902
 
--- the sink's count rises with a failed write, and else stays
+-- the sink's count increases with a failed write, and is unchanged otherwise
 abbrev pub CountsUnlessMemory : ℕ → ℕ → Result (Unit {0}) DrawFault → Type 0
 CountsUnlessMemory old new (Ok u) = new ≡ old
 CountsUnlessMemory old new (Err Memory) = new ≡ old

@@ -15,12 +15,12 @@ use Rattle.ngc_arc_geometry.specs.Shape.{ArcShape, start_of, end_of}
 
 -- ---- directions from the centre
 
--- half way from d to e counterclockwise, of at most half a turn: their sum, and the way from d to e
--- turned back by a right angle
+-- halfway from d to e counterclockwise, of at most half a turn: their sum, and the vector from d to
+-- e turned back by a right angle
 abbrev pub between : Point2 → Point2 → Point2
 between d e = record { u = (d.u +ℤ e.u) +ℤ (e.v -ℤ d.v); v = (d.v +ℤ e.v) +ℤ (d.u -ℤ e.u) }
 
--- and in an arc's sense: clockwise from d to e is counterclockwise from e to d
+-- and in an arc's direction: clockwise from d to e is counterclockwise from e to d
 abbrev pub half_turned : Turn → Point2 → Point2 → Point2
 half_turned Counterclockwise d e = between d e
 half_turned Clockwise d e = between e d
@@ -32,7 +32,7 @@ opposite d = record { u = neg_ℤ d.u; v = neg_ℤ d.v }
 abbrev pub is_long : ArcShape → Bool
 is_long arc = is_full arc || not (is_ahead arc (start_of arc) (end_of arc))
 
--- half way along an arc: of a long one opposite to what is half way along the rest of its circle
+-- halfway along an arc: for a long one, opposite to the point halfway along the rest of its circle
 abbrev pub middle_direction : ArcShape → Point2
 middle_direction arc =
     if is_long arc then opposite
@@ -41,11 +41,11 @@ middle_direction arc =
 
 -- ---- points
 
--- how long a direction is, as a whole number above 0
+-- the length of a direction, as a whole number above 0
 abbrev pub size : Point2 → ℕ
 size d = max (whole_root (unsigned_abs (dot d d))) 1
 
--- so far along a direction, to the nearest nanometre
+-- the point at a distance along a direction, to the nearest nanometre
 abbrev pub along : ℕ → Point2 → Point2
 along radius d =
     record {
@@ -53,14 +53,14 @@ along radius d =
       v = nearest (d.v *ℤ pos radius) (pos (size d));
     }
 
--- the point that lies in a direction from the centre, at the outer radius, half way up from one
+-- the point that lies in a direction from the centre, at the outer radius, halfway up from one
 -- point to another
 abbrev pub point_between : ArcShape → Point3 → Point3 → Point2 → Point3
 point_between arc p q d =
     at_height arc.plane (shifted arc.centre (along (outer_radius arc) d))
     (chord.halfway (height arc.plane p) (height arc.plane q))
 
--- half way round and half way up: of points that are at most half a turn apart, and of the arc
+-- halfway round and halfway up: of points that are at most half a turn apart, and of the arc
 abbrev pub halfway : ArcShape → Point3 → Point3 → Point3
 halfway arc p q =
     point_between arc p q
@@ -70,12 +70,12 @@ halfway arc p q =
 abbrev pub middle : ArcShape → Point3
 middle arc = point_between arc arc.start arc.end (middle_direction arc)
 
--- the points after p, up to q: the way is halved, and each half again, n times
+-- the points after p, up to q: the arc is halved, and each half again, n times
 abbrev pub curve : ℕ → ArcShape → Point3 → Point3 → List Point3
 curve zero arc p q = q ∷ []
 curve (suc n) arc p q = curve n arc p (halfway arc p q) ++ curve n arc (halfway arc p q) q
 
--- how many times, by the radius: under a millimetre, under ten, and from there on
+-- the number of halvings, by the radius: under 1 mm, under 10 mm, and larger
 abbrev pub halvings : ℕ → ℕ
 halvings radius = if nat_lt radius 1000000 then 3 else (if nat_lt radius 10000000 then 4 else 5)
 

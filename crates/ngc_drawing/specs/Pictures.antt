@@ -1,4 +1,4 @@
--- What is drawn of a program on its machine. Our own.
+-- The picture of a program on its machine. Our own.
 use Rattle.std.specs.Prelude.{ℕ, ◌+◌, ◌*◌, ℤ, min, nat_le, pos, ◌*ℤ◌, unsigned_abs, List, [], ◌∷◌}
 use Rattle.std.specs.Prelude.{◌++◌, length, map, drop, take, Option, Some, None, if◌then◌else◌}
 use Rattle.std.specs.Prelude.{Bool, ◌&&◌}
@@ -52,7 +52,7 @@ fixtures_from view i (f ∷ fs) = fixture view i f ++ fixtures_from view (i + 1)
 abbrev pub marked_in : Rectangle → Mark → Spot → List Shape
 marked_in area mark p = if is_in area p then shapes.Mark mark p ∷ [] else []
 
--- where the machine starts, where its homes are, and what the axes are called
+-- the machine's start, its homes, and the names of the axes
 abbrev pub places : View → MachineFile → Rectangle → List Shape
 places view machine area =
     marked_in area marks.Start (spot view machine.start)
@@ -114,7 +114,7 @@ abbrev pub refused_fixture : View → List Fixture → Option ℕ → List Shape
 refused_fixture view fixtures None = []
 refused_fixture view fixtures (Some i) = first_red view (drop i fixtures)
 
--- a way in red, with the fault's number at its end
+-- the path of a motion in red, with the fault's number at its end
 abbrev pub refused_way : Eye → ℕ → Way → List Shape
 refused_way eye fault way = stroke eye None inks.Fault way ++ shapes.PathEnd
     ∷ shapes.FaultNumber (tip_spot eye (end_of way)) fault ∷ []

@@ -1,4 +1,4 @@
--- How large a sheet is. Our own.
+-- The size of a sheet. Our own.
 use Rattle.std.specs.Prelude.{ℕ, ◌+◌, ◌*◌, ℤ, pos, ◌+ℤ◌, ◌-ℤ◌, ◌*ℤ◌, neg_ℤ, int_div, List, [], ◌∷◌}
 use Rattle.std.specs.Prelude.{Option, None, Bool, ◌&&◌, ◌||◌, int_lt, int_le, if◌then◌else◌}
 use Rattle.std.specs.Int.{int_max}
@@ -113,7 +113,7 @@ sheet_width r = int_max (width_of r) (pos 60 *ℤ unit_of r) +ℤ (pos 16 *ℤ u
 abbrev pub sheet_height : Rectangle → ℕ → ℤ
 sheet_height r rows = height_of r +ℤ (pos (23 + 3 * rows) *ℤ unit_of r)
 
--- a small picture is drawn larger than it is: two, five, ten or twenty times
+-- a small picture is enlarged: two, five, ten or twenty times
 abbrev pub enlarged : ℤ → ℤ → ℤ
 enlarged unit length =
     if int_lt unit (pos 200) then pos 20 *ℤ length

@@ -1,4 +1,4 @@
--- The text of what is drawn: SVG 1.1, in millimetres. Our own use of it.
+-- The text of shapes: SVG 1.1, in millimetres. Our own use of it.
 use Rattle.std.specs.Prelude.{ℕ, ◌+◌, ◌-◌, nat_lt, ◌/◌, ◌%◌, ◌==◌, ℤ, pos, ◌-ℤ◌, ◌*ℤ◌, unsigned_abs, List, []}
 use Rattle.std.specs.Prelude.{◌∷◌, ◌++◌, flat_map, codes, decimal, Bool, true, false, if◌then◌else◌}
 use Rattle.std.specs.Prelude.{length}
@@ -42,7 +42,7 @@ area_text r =
     ++ down_text r.high.up ++
     codes "H" ++ length_text r.low.across ++ codes "Z"
 
--- eight colours that most who see few colours can tell apart, on white and on black
+-- eight colours that most colour-blind readers can tell apart, on white and on black
 abbrev pub colour_at : ℕ → List ℕ
 colour_at rank =
     if rank == 0 then codes "#0072B2"
@@ -59,7 +59,7 @@ ink_text (inks.Feed rank) = colour_text rank
 ink_text (inks.Traverse rank) = colour_text rank ++ codes "\" stroke-dasharray=\".6%"
 ink_text inks.Fault = codes "#E60000\" stroke-width=\".4%"
 
--- signs in units, about a spot
+-- signs in units, around a spot
 abbrev pub sign_at : ℤ → Spot → List ℕ → List ℕ
 sign_at unit at sign =
     codes "<g stroke-width=\".1\" transform=\"translate(" ++ spot_text at ++ codes ") scale("
@@ -193,6 +193,6 @@ shape_text unit (shapes.FaultLine fault command) =
     ++ decimal command ++ codes "</tspan>\n"
 shape_text unit shapes.End = codes "</text></g>\n</g>\n</svg>\n"
 
--- the text of shapes, one after another
+-- the text of shapes in order
 abbrev pub shapes_text : ℤ → List Shape → List ℕ
 shapes_text unit drawn = flat_map (shape_text unit) drawn

@@ -1,4 +1,4 @@
--- What is drawn of the path, at the tip of the mounted tool. Our own.
+-- How the path of the mounted tool's tip is drawn. Our own.
 use Rattle.std.specs.Prelude.{ℕ, ◌==◌, pos, List, [], ◌∷◌, ◌++◌, map, Option, Some, None, Bool}
 use Rattle.std.specs.Prelude.{true, false, ◌&&◌, if◌then◌else◌}
 use Rattle.std.specs.Ordering.{int_eq}
@@ -42,16 +42,16 @@ is_same_ink (inks.Feed m) (inks.Feed n) = m == n
 is_same_ink (inks.Traverse m) (inks.Traverse n) = m == n
 is_same_ink _ _ = false
 
--- a stroke goes on with the path that is drawn, where that has its ink and ends where the stroke
--- begins, and else begins one
+-- a stroke continues the path that is drawn if it has the same ink and ends where the stroke
+-- begins; otherwise it begins a path
 abbrev pub lead : Option Run → Ink → Spot → List Shape
 lead None ink from = shapes.Path ink from ∷ []
 lead (Some run) ink from =
     if is_same_ink run.ink ink && is_same run.at from then []
     else shapes.PathEnd ∷ shapes.Path ink from ∷ []
 
--- an arc's sense, seen in a view that faces its plane: X and Z of the front turn the other way than
--- Z and X
+-- an arc's direction, seen in a view that faces its plane: X and Z of the front turn in the other
+-- direction than Z and X
 abbrev pub is_seen_clockwise : View → Turn → Bool
 is_seen_clockwise Front Clockwise = false
 is_seen_clockwise Front Counterclockwise = true
@@ -67,7 +67,7 @@ round view arc to =
 abbrev pub is_flat : ArcShape → Bool
 is_flat arc = int_eq (height arc.plane arc.start) (height arc.plane arc.end)
 
--- straight on to a point
+-- a line to a point
 abbrev pub line_to : Eye → Point3 → Shape
 line_to eye p = shapes.Line (tip_spot eye p)
 
@@ -77,7 +77,7 @@ arc_course eye arc =
     else (if is_flat arc then map shapes.Line (corner_spots eye arc)
     else map (line_to eye) (helix_points arc))
 
--- the way to a motion's end; what falls on one spot is left out
+-- the path to a motion's end; a line within one spot is left out
 abbrev pub course : Eye → Way → List Shape
 course eye (Line start end) =
     if is_same (tip_spot eye start) (tip_spot eye end) then []
@@ -91,7 +91,7 @@ abbrev pub strokes_of : Pen → Action → List Shape
 strokes_of pen (Move m) = stroke pen.eye pen.run (ink_of pen.rank m.pace) m.way
 strokes_of pen _ = []
 
--- how the pen goes on
+-- the pen after an action
 abbrev pub after : List (Option Tool) → Pen → Action → Pen
 after used pen (Move m) =
     record {

@@ -1,4 +1,4 @@
--- How far the boxes of a certificate are gone through. Our own.
+-- The progress through the boxes of a certificate. Our own.
 use Rattle.std.specs.Prelude.{ℕ, List, drop, Option}
 use Rattle.ngc_machine_files.specs.declared.tools.Tool.{Tool}
 use Rattle.ngc_commands.specs.declared.command.Action.{Action}
@@ -8,7 +8,7 @@ use Rattle.ngc_drawing.specs.declared.sweep.Sweep.{Sweep}
 use Rattle.ngc_drawing.specs.declared.sweep.Sweeping.{Sweeping}
 use Rattle.ngc_drawing.specs.declared.view.View.{View}
 
--- what is still to be drawn
+-- the boxes that are still to be drawn
 abbrev pub sweeps_ahead : View → ℕ → List (Option Tool) → Sweeping → List Action →
     List Entry → List Sweep
 sweeps_ahead view most used s actions entries =

@@ -18,8 +18,8 @@ abbrev pub name_of : Option Tool → List ℕ
 name_of None = []
 name_of (Some tool) = tool.name
 
--- how high the tip of a tool is above the spindle nose, in nanometres, at most 0: there its lowest
--- part begins; without a tool the tip is the nose itself
+-- the height of a tool's tip relative to the spindle nose, in nanometres, at most 0: there its
+-- lowest part begins; without a tool the tip is the nose itself
 abbrev pub tip_of : Option Tool → ℤ
 tip_of None = pos 0
 tip_of (Some tool) = tool.bottom
@@ -28,7 +28,7 @@ tip_of (Some tool) = tool.bottom
 abbrev pub eye_of : View → Option Tool → Eye
 eye_of view tool = record { view = view; tip = tip_of tool }
 
--- where in a list the tool of a number is first, or the list's length
+-- the index of the first tool with a number in a list, or the list's length
 abbrev pub rank_of : List (Option Tool) → ℕ → ℕ
 rank_of [] n = 0
 rank_of (tool ∷ tools) n = if number_of tool == n then 0 else rank_of tools n + 1

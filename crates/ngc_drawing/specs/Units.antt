@@ -1,4 +1,4 @@
--- How large the unit of a drawing may be. Our own.
+-- The range of a drawing's unit. Our own.
 use Rattle.std.specs.Prelude.{ℤ, ◌≤◌, unsigned_abs}
 
 -- in micrometres

@@ -45,7 +45,7 @@ is_same p q = int_eq p.across q.across && int_eq p.up q.up
 abbrev pub rectangle : View → Point3 → Point3 → Rectangle
 rectangle view low high = record { low = spot view low; high = spot view high }
 
--- the least rectangle that holds another and a spot
+-- the smallest rectangle that holds another and a spot
 abbrev pub holding : Rectangle → Spot → Rectangle
 holding r p = record {
   low = record { across = int_min r.low.across p.across; up = int_min r.low.up p.up };

@@ -1,4 +1,4 @@
--- Ways in a plane, and how far they reach. Our own.
+-- Vectors in a plane, and their range. Our own.
 use Rattle.std.specs.Prelude.{◌≤◌, unsigned_abs}
 use Rattle.ngc_fixed_length.specs.declared.points.Point2.{Point2}
 use Rattle.ngc_drawing.specs.declared.helix.Heading.{Heading}
@@ -6,7 +6,7 @@ use Rattle.ngc_drawing.specs.declared.helix.Heading.{Heading}
 abbrev pub way_of : Heading → Point2
 way_of h = record { u = h.u; v = h.v }
 
--- in nanometres: the way from the centre to a point, and four of them together
+-- in nanometres: the vector from the centre to a point, and four of them together
 pub record IsShort (h : Heading) : Type 0 where
   pub u : unsigned_abs h.u ≤ 200000000000
   pub v : unsigned_abs h.v ≤ 200000000000

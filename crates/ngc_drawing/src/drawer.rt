@@ -29,7 +29,7 @@ fn draw<W: Sink>(
     Ok(())
 }
 
-/// Draws shapes, one after another.
+/// Draws shapes in order.
 pub(crate) fn draw_all<W: Sink>(
     chunk: &mut Chunk,
     unit: &Unit,

@@ -10,7 +10,7 @@ use ngc_collision::Place;
 use ngc_fixed_length::{Nm, Point3};
 use ngc_machine_files::Tool;
 
-/// From where a path is seen, and how high the tip of the mounted tool is above the spindle nose.
+/// The view of a path, and the height of the mounted tool's tip relative to the spindle nose.
 #[derive(Clone, Copy)]
 pub(crate) struct Eye {
     pub view: View,
@@ -18,7 +18,8 @@ pub(crate) struct Eye {
     pub tip: Nm,
 }
 
-/// Returns how high the tip of a tool is above the spindle nose. Without a tool the tip is the nose.
+/// Returns the height of a tool's tip relative to the spindle nose. Without a tool the tip is the
+/// nose.
 fn tip_of(tool: &Option<Tool>) -> Nm
     ensures { result ≡ tip_of tool.now }
 {

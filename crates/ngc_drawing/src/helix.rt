@@ -15,7 +15,7 @@ ghost use Rattle.ngc_drawing.specs.Ways.{way_of, IsShort, IsReached};
 use ngc_arc_geometry::{Arc, halfway, moved};
 use ngc_fixed_length::{Nm, Point2, Point3, Turn, root_floor, rounded_quotient};
 
-/// A direction in an arc's plane, as a way from its centre in nanometres.
+/// A direction in an arc's plane, as a vector from its centre in nanometres.
 #[derive(Clone, Copy)]
 pub(crate) struct Heading {
     pub u: i64,
@@ -44,7 +44,7 @@ fn product(x: i64, y: i64) -> i128
     i128::from(x) * i128::from(y)
 }
 
-/// Returns the square of the way that goes so far along both axes.
+/// Returns the square of the length of a vector with these coordinates.
 fn square_of(u: i64, v: i64) -> u128
     requires u { unsigned_abs u ≤ 800000000000 }
     requires v { unsigned_abs v ≤ 800000000000 }
@@ -76,7 +76,7 @@ fn scaled(coordinate: i64, radius: u64, size: u64) -> i64
 }
 
 impl Heading {
-    /// From one point of a plane to another.
+    /// Returns the direction from one point of a plane to another.
     fn between_points(start: &Point2, end: &Point2) -> Heading
         ensures value { way_of result ≡ from start.now end.now }
         ensures short { IsShort result }
@@ -87,7 +87,7 @@ impl Heading {
         }
     }
 
-    /// From an arc's centre to a point.
+    /// Returns the direction from an arc's centre to a point.
     fn to(arc: &Arc, point: &Point3) -> Heading
         ensures value { way_of result ≡ from arc.now.centre (in_plane arc.now.plane point.now) }
         ensures short { IsShort result }
@@ -95,7 +95,7 @@ impl Heading {
         Heading::between_points(&arc.centre(), &point.in_plane(arc.plane()))
     }
 
-    /// Half way to another one counterclockwise.
+    /// Returns the direction halfway to another one counterclockwise.
     fn between(&self, other: &Heading) -> Heading
         requires one { IsShort self.now }
         requires other { IsShort other.now }
@@ -108,7 +108,7 @@ impl Heading {
         }
     }
 
-    /// Half way to another one in this sense.
+    /// Returns the direction halfway to another one, turning in the direction `turn`.
     fn half_turned(&self, turn: Turn, other: &Heading) -> Heading
         requires one { IsShort self.now }
         requires other { IsShort other.now }
@@ -132,7 +132,7 @@ impl Heading {
         }
     }
 
-    /// Twice the area that this one and another span, above 0 where the other is ahead
+    /// Returns twice the area that this one and another span, above 0 where the other is ahead
     /// counterclockwise.
     fn cross(&self, other: &Heading) -> i128
         requires one { IsShort self.now }
@@ -143,7 +143,7 @@ impl Heading {
         product(self.u, other.v) - product(self.v, other.u)
     }
 
-    /// That area, above 0 where the other is ahead in this sense.
+    /// Returns twice that area, above 0 where the other is ahead in the direction `turn`.
     fn area(&self, turn: Turn, other: &Heading) -> i128
         requires one { IsShort self.now }
         requires other { IsShort other.now }
@@ -166,7 +166,7 @@ impl Heading {
         square_of(self.u, self.v)
     }
 
-    /// How long it is, as a whole number above 0.
+    /// Returns its length, as a whole number above 0.
     fn size(&self) -> u64
         requires { IsReached self.now }
         ensures value { result ≡ size (way_of self.now) }
@@ -202,7 +202,7 @@ fn is_long(arc: &Arc) -> bool
     arc.is_full_circle() || first.area(arc.turn(), &last) < 0
 }
 
-/// Half way along an arc.
+/// Returns the direction halfway along an arc.
 fn middle_direction(arc: &Arc) -> Heading
     ensures value { way_of result ≡ middle_direction arc.now }
     ensures reached { IsReached result }
@@ -225,7 +225,8 @@ fn point_between(arc: &Arc, one: &Point3, other: &Point3, direction: &Heading) -
     direction.on_circle(arc).at_height(plane, height)
 }
 
-/// Returns the point of an arc half way from one to another, which are at most half a turn apart.
+/// Returns the point of an arc halfway from one point to another, which are at most half a turn
+/// apart.
 pub(crate) fn halfway_along(arc: &Arc, one: &Point3, other: &Point3) -> Point3
     ensures { result ≡ halfway arc.now one.now other.now }
 {
@@ -233,7 +234,7 @@ pub(crate) fn halfway_along(arc: &Arc, one: &Point3, other: &Point3) -> Point3
     point_between(arc, one, other, &direction)
 }
 
-/// Returns the point half way along an arc.
+/// Returns the point halfway along an arc.
 pub(crate) fn middle(arc: &Arc) -> Point3
     ensures { result ≡ middle arc.now }
 {

@@ -25,14 +25,15 @@ pub(crate) struct Plunge {
     pub is_out: bool,
 }
 
-/// Between two commands: where the tip of the mounted tool is seen, and the plunge, if there is one.
+/// The state between two commands: where the tip of the mounted tool is seen, and the plunge, if
+/// there is one.
 #[derive(Clone, Copy)]
 pub(crate) struct Drilling {
     pub eye: Eye,
     pub plunge: Option<Plunge>,
 }
 
-/// Returns whether a way goes straight up or down.
+/// Returns whether a motion's path goes straight up or down.
 fn is_upright(way: &Way) -> bool
     ensures { result ≡ is_upright way.now }
 {
@@ -112,7 +113,7 @@ fn hole(eye: &Eye, plunge: &Option<Plunge>) -> ArrayVec<Shape, 2>
 }
 
 impl Drilling {
-    /// Returns what holds after an action.
+    /// Returns the state after an action.
     fn after(&self, action: &Action) -> Drilling
         ensures { result ≡ drilled self.now action.now }
     {

@@ -1,9 +1,9 @@
 use crate::view::View;
 
-/// How a picture looks.
+/// The options of a picture.
 #[derive(Clone, Copy)]
 pub struct Look {
-    /// From where the machine is seen.
+    /// The side from which the machine is seen.
     pub view: View,
     /// Whether the picture has the whole travel, also where the travel is more than three times as
     /// wide or as high as the fixtures and the path.

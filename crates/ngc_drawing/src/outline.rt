@@ -25,7 +25,7 @@ pub(crate) fn tool_before<A: Allocator>(
     Reached::at_start(machine).after_all(before).tool
 }
 
-// The boxes that a tool fills at a place.
+// Adds the boxes that a tool fills at a place.
 fn add_standing<A: Allocator>(
     shapes: &mut ArrayVec<Shape, 8>,
     view: View,

@@ -388,7 +388,7 @@ fn rows(tools: &[Option<Tool>]) -> u32
     tools.len().min(1_000) as u32 + 1
 }
 
-// The travel limits, or the part of them that the picture shows.
+// Adds the travel limits, or the part of them that the picture shows.
 fn add_travel(shapes: &mut ArrayVec<Shape, 8>, area: &Rectangle, travel: &Rectangle)
     requires { length shapes.old.items ≤ 2 }
     ensures { shapes.new.items ≡ shapes.old.items ++ travel_in area.now travel.now }
@@ -436,7 +436,7 @@ fn draw_opening<A: Allocator, W: Sink>(
     draw_all(chunk, &unit, shapes.as_slice(), sink)
 }
 
-// A mark at a spot that the picture shows.
+// Adds a mark at a spot, if the picture shows the spot.
 fn mark_in(shapes: &mut ArrayVec<Shape, 8>, area: &Rectangle, mark: Mark, spot: &Spot)
     requires { length shapes.old.items ≤ 7 }
     ensures marked { shapes.new.items ≡ shapes.old.items ++ marked_in area.now mark spot.now }
@@ -539,7 +539,7 @@ fn draw_scale<W: Sink>(chunk: &mut Chunk, area: &Rectangle, sink: &mut W) -> Res
     draw_all(chunk, &unit, &shapes, sink)
 }
 
-// Returns what is below the picture.
+// Draws the legend below the picture.
 fn draw_legend<W: Sink>(
     chunk: &mut Chunk,
     area: &Rectangle,
@@ -677,10 +677,9 @@ fn shown_sweeps<A: Allocator, B: Allocator>(
 
 /// Writes the picture of a program on a machine, as SVG 1.1 in millimetres, seen from one side:
 /// travel, fixtures, if `look` says so the bodies of the tools over the boxes of a certificate's
-/// motions (of none, if there are no motions), home and start, the path that the commands take the
-/// tip of the mounted tool on, what is refused in red, a scale and a legend. The picture has the
-/// whole travel, or, where the travel is more than three times as wide or as high as the fixtures and
-/// the path, these alone.
+/// motions, home and start, the path of the mounted tool's tip, what is refused in red, a scale and
+/// a legend. The picture has the whole travel, or, where the travel is more than three times as
+/// wide or as high as the fixtures and the path, these alone.
 ///
 /// After a fault (900 for refused memory, when nothing is written; 902, and only where the sink
 /// failed) a prefix of the text is written.

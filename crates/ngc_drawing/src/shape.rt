@@ -2,8 +2,8 @@ use crate::spot::{Rectangle, Spot};
 use crate::view::View;
 use ngc_machine_files::Name;
 
-/// With what a path is drawn: the colour of the tool that is mounted then, by its rank among the
-/// tools that the program uses, dashed where the motion is a traverse; or the red of a fault.
+/// The ink of a path: the colour of the tool that is mounted then, by its rank among the tools that
+/// the program uses, dashed where the motion is a traverse; or the red of a fault.
 #[derive(Clone, Copy)]
 pub enum Ink {
     Feed(usize),
@@ -14,7 +14,7 @@ pub enum Ink {
 /// A mark beside the path.
 #[derive(Clone, Copy)]
 pub enum Mark {
-    /// Where the axes are when the machine is started.
+    /// The position of the axes when the machine is started.
     Start,
     /// The home position of G28.
     Home,
@@ -28,7 +28,7 @@ pub enum Mark {
     Axes(View),
 }
 
-/// The sheet that is drawn on, in micrometres: its corner, its size, and how large it is on a page.
+/// The sheet that is drawn on, in micrometres: its corner, its size, and its size on a page.
 #[derive(Clone, Copy)]
 pub struct Sheet {
     pub left: i128,
@@ -48,16 +48,16 @@ pub struct Pane {
     pub height: i128,
 }
 
-/// What a picture is made of, in the order of its text.
+/// A part of a picture, in the order of its text.
 #[derive(Clone, Copy)]
 pub enum Shape {
-    /// The sheet; all else is in it.
+    /// The sheet, which contains everything else.
     Begin(Sheet),
-    /// How lines are drawn.
+    /// The style of lines.
     Lines,
     /// The travel limits.
     Travel(Rectangle),
-    /// What follows is seen in this part of the sheet alone.
+    /// A part of the sheet, outside of which nothing that follows is visible.
     Window(Pane),
     /// The travel limits, as a thin line.
     ThinTravel(Rectangle),
@@ -68,35 +68,35 @@ pub enum Shape {
     FixtureNumber(Spot, usize),
     /// The name of a fixture or a tool, after its number.
     Name(Name),
-    /// The label of a fixture ends.
+    /// The end of a fixture's label.
     LabelEnd,
     /// A fixture that a fault names.
     FaultFixture(Rectangle),
     /// A box that the tool fills at the end of a refused motion.
     FaultTool(Rectangle),
-    /// The bodies of tools follow, lightly.
+    /// The beginning of the bodies of tools, drawn lightly.
     Bodies,
-    /// The boxes that the tool of this rank fills follow.
+    /// The beginning of the boxes that the tool of this rank fills.
     BodiesOf(usize),
-    /// A box that a part of it fills.
+    /// A box that a part of the tool fills.
     Body(Rectangle),
     /// A path from this spot.
     Path(Ink, Spot),
-    /// Straight on to a spot.
+    /// A line to a spot.
     Line(Spot),
-    /// On to a spot along an arc of at most half a turn: its radius in micrometres, and whether it
-    /// is seen to turn clockwise.
+    /// An arc of at most half a turn to a spot: its radius in micrometres, and whether it is seen
+    /// to turn clockwise.
     Round(i64, bool, Spot),
-    /// The path or the bodies of a tool end.
+    /// The end of the path or of the bodies of a tool.
     PathEnd,
-    /// The bodies end.
+    /// The end of the bodies.
     BodiesEnd,
     Mark(Mark, Spot),
     /// The number of a fault, beside its motion.
     FaultNumber(Spot, u16),
     /// A bar of this length in micrometres, below a spot.
     Scale(Spot, u64),
-    /// The text of it.
+    /// The text of the scale bar.
     ScaleLength(Spot, u64),
     /// The legend, below a spot.
     Legend(Spot),
@@ -107,7 +107,7 @@ pub enum Shape {
     ToolEnd,
     /// The fault, and the command that it is found at.
     FaultLine(u16, usize),
-    /// The end of all.
+    /// The end of the picture.
     End,
 }
 

@@ -20,7 +20,7 @@ use ngc_commands::{Action, Command, Way};
 use ngc_machine_files::{Fixture, Machine};
 use std::alloc::Allocator;
 
-/// In what signs and texts are measured.
+/// The unit of signs and texts.
 #[derive(Drop)]
 pub(crate) struct Unit {
     pub micrometres: i64,
@@ -58,7 +58,7 @@ fn with_action(eye: &Eye, area: Rectangle, action: &Action) -> Rectangle
     }
 }
 
-// Without a tool at first.
+// Returns a rectangle that holds another one and the path of commands, which start without a tool.
 fn with_commands(view: View, area: Rectangle, commands: &[Command]) -> Rectangle
     ensures { result ≡ with_commands view None area commands.now }
 {
@@ -92,7 +92,7 @@ fn bench<A: Allocator>(view: View, machine: &Machine<A>) -> Rectangle
         .holding(&view.spot(&machine.home30))
 }
 
-/// Returns the least rectangle that holds travel, home positions, fixtures and path.
+/// Returns the smallest rectangle that holds travel, home positions, fixtures and path.
 fn whole<A: Allocator>(view: View, machine: &Machine<A>, commands: &[Command]) -> Rectangle
     ensures { result ≡ whole view (file_of machine.now) commands.now }
 {
@@ -110,7 +110,7 @@ fn at(spot: Spot) -> Rectangle
     }
 }
 
-/// Returns the least rectangle that holds the start, the fixtures and the path.
+/// Returns the smallest rectangle that holds the start, the fixtures and the path.
 fn work<A: Allocator>(view: View, machine: &Machine<A>, commands: &[Command]) -> Rectangle
     ensures { result ≡ work view (file_of machine.now) commands.now }
 {
@@ -119,7 +119,7 @@ fn work<A: Allocator>(view: View, machine: &Machine<A>, commands: &[Command]) ->
     with_commands(view, fixed, commands)
 }
 
-/// How wide a rectangle is.
+/// Returns the width of a rectangle.
 fn across(area: &Rectangle) -> i128
     ensures value { result ≡ width_of area.now }
     ensures bound { unsigned_abs result < 2 ^ 64 }
@@ -127,7 +127,7 @@ fn across(area: &Rectangle) -> i128
     i128::from(area.high.across) - i128::from(area.low.across)
 }
 
-/// How high it is.
+/// Returns its height.
 fn up(area: &Rectangle) -> i128
     ensures value { result ≡ height_of area.now }
     ensures bound { unsigned_abs result < 2 ^ 64 }
@@ -150,7 +150,7 @@ fn is_far_larger(area: &Rectangle, part: &Rectangle) -> bool
     is_far_longer(across(area), across(part)) || is_far_longer(up(area), up(part))
 }
 
-/// Returns the least rectangle that holds what a picture shows.
+/// Returns the smallest rectangle that holds what a picture shows.
 pub(crate) fn frame<A: Allocator>(
     look: &Look,
     machine: &Machine<A>,
@@ -258,7 +258,7 @@ fn height(area: &Rectangle, unit: &Unit, rows: u32) -> i128
     up(area) + units(unit, 23 + 3 * rows)
 }
 
-/// How long a length is on the page: small pictures are drawn larger than they are.
+/// Returns the size of a length on the page: small pictures are enlarged.
 fn enlarged(unit: i64, length: i128) -> i128
     requires { unsigned_abs length < 2 ^ 94 }
     ensures { result ≡ enlarged unit length }
@@ -276,7 +276,7 @@ fn enlarged(unit: i64, length: i128) -> i128
     }
 }
 
-/// How wide the sheet is on the page.
+/// Returns the width of the sheet on the page.
 fn page_width(area: &Rectangle, unit: &Unit) -> i128
     ensures { result ≡ enlarged unit.now.micrometres (int_max (width_of area.now)
         (pos 60 *ℤ unit.now.micrometres) +ℤ (pos 16 *ℤ unit.now.micrometres)) }
@@ -284,7 +284,7 @@ fn page_width(area: &Rectangle, unit: &Unit) -> i128
     enlarged(unit.micrometres, width(area, unit))
 }
 
-/// How high it is.
+/// Returns its height.
 fn page_height(area: &Rectangle, unit: &Unit, rows: u32) -> i128
     requires { rows < 2000 }
     ensures { result ≡ enlarged unit.now.micrometres (height_of area.now

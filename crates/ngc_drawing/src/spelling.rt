@@ -139,7 +139,7 @@ fn add_ink(chunk: &mut Chunk, ink: &Ink)
     }
 }
 
-/// Where signs in units begin: they are drawn about a spot.
+/// Begins signs in units, which are drawn around a spot.
 fn begin_sign(chunk: &mut Chunk, unit: i64, at: &Spot)
     requires { length chunk.old + 190 ≤ CHUNK_SIZE }
     ensures text { chunk.new ≡ chunk.old
@@ -267,7 +267,7 @@ fn add_window(chunk: &mut Chunk, pane: &Pane)
     chunk.add_text(b"\">\n");
 }
 
-/// Adds an outline after what begins its element.
+/// Adds an outline after the beginning of its element.
 fn add_outline(chunk: &mut Chunk, beginning: &[u8], area: &Rectangle)
     requires room { HasLineRoom chunk.old }
     requires beginning { length beginning.now ≤ 100 }

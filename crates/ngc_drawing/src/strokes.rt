@@ -23,7 +23,7 @@ use ngc_commands::{Action, Way};
 use ngc_fixed_length::{Point3, Turn};
 use ngc_text::{Chunk, Sink, WriteFault};
 
-/// Where the extreme points of an arc and its end are seen.
+/// Returns where the extreme points of an arc and its end are seen.
 pub(crate) fn corner_spots(eye: &Eye, arc: &Arc) -> ArrayVec<Spot, 5>
     ensures { result.items ≡ corner_spots eye.now arc.now }
 {
@@ -70,7 +70,7 @@ fn is_flat(arc: &Arc) -> bool
     arc.start().height(plane) == arc.end().height(plane)
 }
 
-/// Returns an arc in quarters.
+/// Returns the shapes of an arc in quarters.
 fn rounds(eye: &Eye, arc: &Arc) -> ArrayVec<Shape, 5>
     ensures { result.items ≡ map (round eye.now.view arc.now) (corner_spots eye.now arc.now) }
 {
@@ -83,7 +83,7 @@ fn rounds(eye: &Eye, arc: &Arc) -> ArrayVec<Shape, 5>
     shapes
 }
 
-/// Returns an arc to and fro.
+/// Returns the shapes of an arc seen from its side, which go to and fro.
 fn corners(eye: &Eye, arc: &Arc) -> ArrayVec<Shape, 5>
     ensures { result.items ≡ map drawn.Line (corner_spots eye.now arc.now) }
 {
@@ -94,7 +94,7 @@ fn corners(eye: &Eye, arc: &Arc) -> ArrayVec<Shape, 5>
     shapes
 }
 
-/// Draws the way from one point of an arc to another, at most half a turn apart, halved `halvings`
+/// Draws an arc from one of its points to another, at most half a turn apart, halved `halvings`
 /// times.
 fn draw_curve<W: Sink>(
     chunk: &mut Chunk,
@@ -187,7 +187,7 @@ fn draw_course<W: Sink>(
     }
 }
 
-/// Where a way begins.
+/// Returns the point where the path of a motion begins.
 pub(crate) fn start_of(way: &Way) -> Point3
     ensures { result ≡ start_of way.now }
 {
@@ -197,7 +197,7 @@ pub(crate) fn start_of(way: &Way) -> Point3
     }
 }
 
-/// Draws a way.
+/// Draws the path of a motion.
 pub(crate) fn draw_stroke<W: Sink>(
     chunk: &mut Chunk,
     unit: &Unit,

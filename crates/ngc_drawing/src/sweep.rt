@@ -20,8 +20,8 @@ use ngc_fixed_length::GridBox;
 use ngc_machine_files::Tool;
 use std::alloc::{AllocError, Allocator};
 
-/// Boxes that are drawn as one: the rank of their tool, how many they are, and the least box that
-/// holds them.
+/// Boxes that are drawn as one: the rank of their tool, the number of boxes, and the smallest box
+/// that holds them.
 #[derive(Clone, Copy)]
 pub(crate) struct Sweep {
     pub rank: usize,
@@ -29,8 +29,8 @@ pub(crate) struct Sweep {
     pub bounds: GridBox,
 }
 
-/// Between two commands: the rank of the mounted tool, which motion of the certificate is next, and
-/// the boxes that are drawn as one so far.
+/// The state between two commands: the rank of the mounted tool, which motion of the certificate is
+/// next, and the boxes that are drawn as one so far.
 #[derive(Clone, Copy)]
 pub(crate) struct Sweeping {
     pub rank: usize,
@@ -152,7 +152,7 @@ fn finish_last<A: Allocator>(
     }
 }
 
-/// Goes through the pieces of a motion, and returns what is drawn as one after them.
+/// Visits the pieces of a motion, and returns the boxes that are drawn as one after them.
 fn sweep_pieces<A: Allocator>(
     list: &mut Vec<Sweep, A>,
     view: View,
@@ -161,7 +161,7 @@ fn sweep_pieces<A: Allocator>(
     pieces: &[Piece],
     before: &Option<Sweep>,
 ) -> Result<Option<Sweep>, AllocError>
-    // Whatever boxes follow.
+    // For any boxes that follow.
     ensures { IfOk result (λ held. (rest : List Sweep) →
         list.old.items ++ joined view most before.now (map (sweep_of rank) pieces.now ++ rest)
         ≡ list.new.items ++ joined view most held rest) }
@@ -179,7 +179,7 @@ fn sweep_pieces<A: Allocator>(
 }
 
 impl Sweeping {
-    /// Goes through the next motion of the certificate, if it has one.
+    /// Visits the next motion of the certificate, if it has one.
     fn motion<A: Allocator, B: Allocator>(
         &self,
         list: &mut Vec<Sweep, A>,
@@ -212,7 +212,7 @@ impl Sweeping {
         }
     }
 
-    /// Goes through an action.
+    /// Visits an action.
     fn action<A: Allocator, B: Allocator>(
         &self,
         list: &mut Vec<Sweep, A>,
@@ -222,7 +222,7 @@ impl Sweeping {
         motions: &Motions<B>,
         action: &Action,
     ) -> Result<Sweeping, AllocError>
-        // Whatever is done after it.
+        // For any actions that follow.
         ensures { IfOk result (λ new. (rest : List Action) →
             list.old.items ++ sweeps_ahead view most tools.now self.now
             (action.now ∷ rest) motions.now ≡ list.new.items

@@ -25,7 +25,7 @@ pub(crate) fn name_of(tool: &Option<Tool>) -> Name
     }
 }
 
-/// Returns where in a list the tool of a number is first, or the list's length.
+/// Returns the index of the first tool with a number in a list, or the list's length.
 pub(crate) fn rank_of(tools: &[Option<Tool>], number: u32) -> usize
     ensures { result ≡ rank_of tools.now number }
 {

@@ -7,7 +7,7 @@ use crate::spot::{Rectangle, Spot};
 use ngc_collision::Place;
 use ngc_fixed_length::{Plane, Point3, rounded_quotient};
 
-/// From where the machine is seen.
+/// The side from which the machine is seen.
 #[derive(Clone, Copy)]
 pub enum View {
     /// X to the right, Y up.
@@ -96,7 +96,7 @@ impl Spot {
 }
 
 impl Rectangle {
-    /// Returns the least rectangle that holds this one and a spot.
+    /// Returns the smallest rectangle that holds this one and a spot.
     pub(crate) fn holding(&self, spot: &Spot) -> Rectangle
         ensures { result ≡ holding self.now spot.now }
     {

@@ -1,5 +1,5 @@
--- What the program answers in place of its output: the numbers of faults, the lines that tell them,
--- and the statuses. Our own.
+-- Faults of the program in place of its output: their numbers, the lines that report them, and the
+-- statuses. Our own.
 use Rattle.std.specs.Prelude.{◌≡◌, ℕ, List, ◌++◌, codes, decimal, Option, Some, None, Result, Ok}
 use Rattle.std.specs.Prelude.{Err}
 use Rattle.ngc_canonical.specs.Faults.{program_number}
@@ -62,7 +62,7 @@ answer_number answers.UnknownControl = 724
 answer_number answers.WrongCodes = 725
 answer_number answers.NoFigures = 726
 
--- where a fault stands: a line and a column, a line, a file, or nowhere
+-- where a fault is: line and column, a line, a file, or nowhere
 abbrev pub read_place : ReadFault → List ℕ
 read_place (reads.Line line e) =
     codes " line " ++ decimal line ++ codes " column " ++ decimal e.column
@@ -120,7 +120,7 @@ events_place (events.BadLine line) = codes " events line " ++ decimal line
 events_place events.TooManyLines = codes ""
 events_place events.Memory = codes ""
 
--- want of memory has no place
+-- a fault for lack of memory has no place
 abbrev pub file_place : List ℕ → FileFault → List ℕ
 file_place name files.Memory = codes ""
 file_place name _ = name
@@ -137,7 +137,7 @@ answer_place (answers.Check e) = check_place e
 answer_place (answers.Events e) = events_place e
 answer_place _ = codes ""
 
--- the line that tells a fault
+-- the line that reports a fault
 abbrev pub fault_line : AnswerFault → List ℕ
 fault_line e = codes "ngc: fault " ++ decimal (answer_number e) ++ answer_place e ++ codes "\n"
 
@@ -214,7 +214,7 @@ of_live (live.Events e) = answers.Events e
 of_live live.Read = answers.Input inputs.Device
 of_live (live.Write e) = answers.Write e
 
--- what is answered where a report isn't written whole
+-- the fault if a report isn't written completely
 abbrev pub of_report : ReportFault → AnswerFault
 of_report reports.Memory = answers.Make makes.Memory
 of_report (reports.Write fault) = answers.Write fault
@@ -223,7 +223,7 @@ abbrev pub of_picture : DrawFault → AnswerFault
 of_picture drawings.Memory = answers.Memory
 of_picture drawings.Write = answers.Write (record {})
 
--- ---- which faults can come of what
+-- ---- the possible faults of each command
 
 abbrev pub OfListing : AnswerFault → Type 0
 OfListing (answers.Read e) = Unit {0}
@@ -231,8 +231,7 @@ OfListing (answers.Program e) = Unit {0}
 OfListing (answers.Write e) = Unit {0}
 OfListing _ = ⊥
 
--- of making a certificate, of a report on a program that is given, and of certifying one that is
--- read
+-- of making a certificate, of a report on a program in memory, and of certifying one that is read
 abbrev pub OfMaking : AnswerFault → Type 0
 OfMaking (answers.Refused setting e) = Unit {0}
 OfMaking (answers.Make e) = Unit {0}
@@ -246,7 +245,7 @@ abbrev pub OfCertifying : AnswerFault → Type 0
 OfCertifying (answers.Read e) = Unit {0}
 OfCertifying fault = OfReporting fault
 
--- of checking, running and drawing a program that is given
+-- of checking, running and drawing a program in memory
 abbrev pub OfChecking : AnswerFault → Type 0
 OfChecking (answers.Certificate e) = Unit {0}
 OfChecking (answers.Check e) = Unit {0}
@@ -278,7 +277,7 @@ OrOfReading Of (answers.Read e) = Unit {0}
 OrOfReading Of (answers.Certificate e) = Unit {0}
 OrOfReading Of fault = Of fault
 
--- of a setup sheet, and of telling that a program can't be read
+-- of a setup sheet, and of reporting a program that can't be read
 abbrev pub OfWriting : AnswerFault → Type 0
 OfWriting (answers.Write e) = Unit {0}
 OfWriting _ = ⊥
@@ -287,7 +286,7 @@ abbrev pub OfTelling : AnswerFault → Type 0
 OfTelling (answers.Read e) = Unit {0}
 OfTelling fault = OfWriting fault
 
--- the sink's count of failures rose where a write failed, and else it is what it was
+-- the sink's count of failures increased if a write failed, and is unchanged otherwise
 abbrev pub FailsWith : AnswerFault → ℕ → ℕ → Type 0
 FailsWith (answers.Write e) old new = Rises old new
 FailsWith _ old new = new ≡ old

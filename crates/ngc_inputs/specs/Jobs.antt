@@ -1,4 +1,4 @@
--- What certifying and checking a program come to. Our own.
+-- The results of certifying and checking a program. Our own.
 use Rattle.std.specs.Prelude.{◌≡◌, ℕ, List, Option, None, Result, Ok, Err, codes, true, false}
 use Rattle.std.specs.Io.KnownBytes.{Appends, Keeps}
 use Rattle.ngc_text.specs.Written.{AppendsBeginning}
@@ -82,7 +82,7 @@ abbrev pub refused_at : Setting → ProgramFault → AnswerFault
 refused_at setting (programs.At line fault) = answers.Refused setting (programs.At line fault)
 refused_at setting programs.Memory = answers.Make Memory
 
--- no certificate is made for a file; that memory ran out says nothing
+-- no certificate is made for a file; lack of memory shows nothing
 abbrev pub IsNotMade : Setup → List ℕ → ℕ → MakeFault → Type 0
 IsNotMade setup bytes cuts Memory = Unit {0}
 IsNotMade setup bytes cuts (NotCleared s k) =
@@ -108,14 +108,14 @@ pub record IsFormFor (j : JobData) (cuts : ℕ) (format : Format) (f : Form) : T
   pub made : IsMadeOf j cuts certificate
   pub written : IsWrittenAs format j.off (commands_in true j) certificate f
 
--- no certificate is made for a job; that memory ran out says nothing
+-- no certificate is made for a job; lack of memory shows nothing
 abbrev pub IsUnmade : JobData → ℕ → MakeFault → Type 0
 IsUnmade j cuts Memory = Unit {0}
 IsUnmade j cuts (NotCleared s k) =
     IsMade j.machine cuts j.off (commands_in true j) (Err (NotCleared s k))
 
--- Of a program's file and a sink: the text of its certificate was written, or a beginning of it
--- where the sink failed; where none is made, what was written is as it was.
+-- Of a program's file and a sink: the text of its certificate was written, or a prefix of it if the
+-- sink failed; where none is made, the output is unchanged.
 abbrev pub Certifies : Setup → List ℕ → ℕ → Format → Option (List ℕ) → Option (List ℕ) →
     Result (Unit {0}) AnswerFault → Type 0
 Certifies setup bytes cuts format old new (Ok u) =
@@ -145,7 +145,7 @@ pub record IsAcceptedText (setup : Setup) (bytes text : List ℕ) : Type 0 where
   pub given : AreGiven bytes text program certificate
   pub none_refused : first_refusal program setup certificate ≡ None
 
--- a text is no certificate, but for want of memory and a device's failure
+-- a text isn't a certificate, apart from lack of memory and a device's failure
 abbrev pub IsNoCertificate : List ℕ → CertificateFault → Type 0
 IsNoCertificate text texts.Memory = Unit {0}
 IsNoCertificate text texts.ReadFailed = Unit {0}
@@ -158,8 +158,8 @@ abbrev pub accepted_text : List ℕ
 accepted_text = codes "accepted\n"
 
 -- Of a program's file, a certificate's file and a sink: `accepted` was written where nothing is
--- refused, or a beginning of it where the sink failed; else the first refusal is answered, and what
--- was written is as it was.
+-- refused, or a prefix of it if the sink failed; otherwise the first refusal is returned, and the
+-- output is unchanged.
 abbrev pub Checks : Setup → List ℕ → List ℕ → Option (List ℕ) → Option (List ℕ) →
     Result (Unit {0}) AnswerFault → Type 0
 Checks setup bytes text old new (Ok u) =

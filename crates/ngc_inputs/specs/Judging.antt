@@ -1,4 +1,4 @@
--- What the checker says of the program of one file and the certificate of another. Our own.
+-- The checker's verdict on the program of one file and the certificate of another. Our own.
 use Rattle.std.specs.Prelude.{◌≡◌, ℕ, List, Result, Ok, Err}
 use Rattle.ngc_canonical.specs.Meaning.{Program as ProgramLines}
 use Rattle.ngc_canonical.specs.State.{Setup}
@@ -20,8 +20,8 @@ pub record IsVerdict (setup : Setup) (bytes text : List ℕ) (verdict : Verdict)
   pub given : AreGiven bytes text program certificate
   pub answers : Answers (λ a. a) program setup certificate verdict
 
--- Of a program and the text of a certificate: the text says a certificate and this is the checker's
--- verdict on both, or the text is no certificate.
+-- Of a program and the text of a certificate: the text is a certificate and this is the checker's
+-- verdict on both, or the text isn't a certificate.
 abbrev pub Judges : ProgramLines → Setup → List ℕ → Result Verdict CertificateFault → Type 0
 Judges program setup text (Ok verdict) = (c : CertificateData) ×
     (certificate_said text ≡ Ok c) × Answers (λ a. a) program setup c verdict

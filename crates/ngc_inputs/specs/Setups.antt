@@ -1,4 +1,4 @@
--- What the machine file and the tool table that a command line names say.
+-- The contents of the machine file and the tool table that a command line names.
 use Rattle.std.specs.Prelude.{◌≡◌, ◌≢◌, ℕ, List, [], Option, Some, None, Result, Ok, Err, IfSome}
 use Rattle.ngc_canonical.specs.State.{Setup}
 use Rattle.ngc_machine_files.specs.Machine.{MachineFile, built_in_machine}

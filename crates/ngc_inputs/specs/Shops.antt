@@ -1,4 +1,4 @@
--- What reading the machine file and the tool table comes to.
+-- The result of reading the machine file and the tool table.
 use Rattle.std.specs.Prelude.{◌≡◌, ℕ, List, Option, Result, Ok, Err, IsOk}
 use Rattle.ngc_machine_files.specs.Machine.{file_of}
 use Rattle.ngc_machine_files.specs.Tools.{tools_of}
@@ -18,7 +18,7 @@ RefusesTools bytes name (answers.Tools e) = IfTools bytes name (Refuses e)
 RefusesTools bytes name (answers.Input e) = Unit {0}
 RefusesTools bytes name _ = ⊥
 
--- a refusal of one of the two files is that file's, and a tool table is refused behind a machine
+-- a refusal of one of the two files is that file's, and a tool table is refused after a machine
 -- file that isn't
 abbrev pub RefusesShop : FileBytes → Option (List ℕ) → Option (List ℕ) → AnswerFault → Type 0
 RefusesShop bytes machine tools (answers.Tools e) =

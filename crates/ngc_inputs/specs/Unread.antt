@@ -60,7 +60,7 @@ AtFirst P bytes (input ∷ more) =
 
 -- ---- why a file isn't read
 
--- a source that gave these bytes when it was opened failed later on
+-- a source that had these bytes when it was opened failed later
 pub record SourceFails {S : Type 0} (remaining : S → Option (List ℕ)) (failures : S → ℕ)
     (known : Option (List ℕ)) : Type 0 where
   pub opened : S
@@ -72,7 +72,7 @@ pub record SourceFails {S : Type 0} (remaining : S → Option (List ℕ)) (failu
 abbrev pub IsUnread : (Option (List ℕ) → Type 0) → Option (List ℕ) → ℕ → ℕ → Type 0
 IsUnread fails known old new = Rises old new ⊎ ((new ≡ old) × fails known)
 
--- what it tells that a file can't be read whole
+-- P of the fact that a file can't be read completely
 abbrev pub TellsUnread : (Option (List ℕ) → Type 0) → Option (List ℕ) → ℕ → ℕ → InputFault → Type 0
 TellsUnread fails known old new inputs.Memory = new ≡ old
 TellsUnread fails known old new inputs.Device = IsUnread fails known old new
@@ -92,8 +92,8 @@ abbrev pub TellsFirstUnread : (Option (List ℕ) → Type 0) → FileBytes → L
 TellsFirstUnread fails bytes files old new fault =
     AtFirst (λ kind known. TellsKindUnread fails kind known old new fault) bytes files
 
--- ---- what a fault says of it: 901, and 900 where a file is read whole; other faults say that all
--- that was opened was read
+-- ---- faults and unread files: 901, and 900 where a file is read completely; any other fault means
+-- that all opened files were read
 
 abbrev pub program_unread : ReadFault → Option InputFault
 program_unread (reads.Line line fault) = None
@@ -115,8 +115,8 @@ unread_by (answers.Read fault) = program_unread fault
 unread_by (answers.Certificate fault) = certificate_unread fault
 unread_by _ = None
 
--- The count of files that couldn't be opened rose where one couldn't, and else it is what it was.
--- Where the outcome tells that a file isn't read, the first one that isn't is so.
+-- The count of files that couldn't be opened increased if one couldn't, and is unchanged otherwise.
+-- If the result says that a file isn't read, the first such file has that fault.
 abbrev pub FailsBy : {T E : Type 0} → (E → Option InputFault) → (Option (List ℕ) → Type 0) →
     FileBytes → List Input → ℕ → ℕ → Result T E → Type 0
 FailsBy unread fails bytes files old new (Ok value) = new ≡ old

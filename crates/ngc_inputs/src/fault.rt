@@ -1,4 +1,4 @@
-//! What the program answers in place of its output.
+//! Faults of the program in place of its output.
 ghost use Rattle.std.specs.Prelude.{◌≡◌};
 ghost use Rattle.ngc_inputs.specs.Faults.{answer_number, answer_status, check_status};
 ghost use Rattle.ngc_inputs.specs.Faults.{events_status, file_status, make_status, of_picture};
@@ -18,7 +18,7 @@ use ngc_run_log::{LiveFault, RunFault};
 use ngc_text::{InputFault, WriteFault};
 use thiserror::Error;
 
-/// Why a run does not do what it was asked.
+/// The reason why a command isn't done.
 #[derive(Clone, Copy, Debug, PartialEq, Eq, Error)]
 pub enum AnswerFault {
     /// The machine file is refused: 261 to 267, 269, 900.
@@ -57,7 +57,7 @@ pub enum AnswerFault {
     /// Memory ran out for a run, a picture or help: 900.
     #[error("out of memory")]
     Memory,
-    /// The output isn't written, or only a beginning of it: 902.
+    /// The output isn't written, or only a prefix of it: 902.
     #[error(transparent)]
     Write(WriteFault),
     /// No fault has the number: 721.
@@ -72,13 +72,13 @@ pub enum AnswerFault {
     /// No control has the name: 724.
     #[error("no control has this name")]
     UnknownControl,
-    /// The codes to drop are no list of M codes: 725.
+    /// The codes to drop aren't a list of M codes: 725.
     #[error("no list of M codes")]
     WrongCodes,
-    /// Neither a dump of settings nor all figures are given, or both are: 726.
+    /// Neither a dump of settings nor all figures are present, or both are: 726.
     #[error("no figures of a machine")]
     NoFigures,
-    /// No form of what a run writes has the name: 727.
+    /// No form of a run's output has the name: 727.
     #[error("no form has this name")]
     UnknownForm,
 }

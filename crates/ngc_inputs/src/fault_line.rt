@@ -1,4 +1,4 @@
-//! The line that tells a fault on standard error.
+//! The line that reports a fault on standard error.
 ghost use Rattle.std.specs.Prelude.{◌≡◌, ◌+◌, ◌≤◌, ◌++◌, length, decimal, codes};
 ghost use Rattle.ngc_text.specs.Collected.{CHUNK_SIZE};
 ghost use Rattle.ngc_inputs.specs.Faults.{answer_place, check_place, command_place};
@@ -46,7 +46,7 @@ fn add_program_place(chunk: &mut Chunk, fault: &ProgramFault)
     }
 }
 
-// The file, unless memory ran out.
+// Adds the file, unless memory ran out.
 fn add_file_place(chunk: &mut Chunk, name: &[u8], fault: &FileFault)
     requires room { length chunk.old + 150 ≤ CHUNK_SIZE }
     requires name { length name.now ≤ 100 }

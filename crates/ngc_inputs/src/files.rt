@@ -6,12 +6,12 @@ ghost use Rattle.ngc_inputs.specs.Setups.{KeepsFiles, KeepsNamed};
 use ngc_line_reader::ReadFault;
 use ngc_text::Source;
 
-/// The files that a run is given.
+/// The files of a run.
 pub trait Files {
-    /// What a file's bytes come from.
+    /// The source of a file's bytes.
     type R: Source + Drop;
 
-    // How often a file couldn't be opened so far.
+    // The number of times that a file couldn't be opened so far.
     ghost failures: { Self → ℕ };
 
     // The bytes of a file by its name, or of standard input, where they are known.

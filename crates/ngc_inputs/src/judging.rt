@@ -22,12 +22,13 @@ use ngc_machine_files::{Machine, Tools};
 use ngc_text::Source;
 use std::alloc::{Allocator, Global};
 
-/// What `check` returns for a program and a certificate: what may be run, or the first refusal.
+/// The result of `check` for a program and a certificate: the accepted program, or the first
+/// refusal.
 pub type Verdict<A> = Result<Accepted<A>, CheckFault>;
 
 /// Judges the certificate of a source for a program on a machine with its tools.
 ///
-/// It returns what `check` returns for that certificate, or the fault of a text that is no
+/// It returns the result of `check` for that certificate, or the fault of a text that isn't a
 /// certificate: 301 to 303, 900, 901. The text is read 64 KiB at a time, and no box of it is kept.
 pub fn judge<A: Allocator + Copy, S: Source>(
     alloc: A,
@@ -36,13 +37,13 @@ pub fn judge<A: Allocator + Copy, S: Source>(
     tools: &Tools<A>,
     certificate: &mut S,
 ) -> Result<Verdict<A>, CertificateFault>
-    // Where the source's bytes are known, and whatever the lines' readings are: each line has one,
-    // and only one.
+    // Where the source's bytes are known, and for any readings of the lines: each line has exactly
+    // one.
     ensures judges { (rs : List Reading) → AreReadings (text_in program.now).lines rs →
         IfSome (S.remaining certificate.old)
         (λ text. Judges (program_said (text_in program.now) rs) (setup_of machine.now tools.now)
         text result) }
-    // Only a source that failed is said to have failed.
+    // Only a source that failed is reported as failed.
     ensures device { result ≡ Err ReadFailed →
         Rises (S.failures certificate.old) (S.failures certificate.new) }
     ensures counted { FailsByReading result (S.failures certificate.old)
@@ -68,7 +69,7 @@ pub fn judge_file<F: Files>(
         (λ text. Judges (program_said (text_in program.now) rs)
         (setup_of shop.now.machine shop.now.tools) text result) }
     ensures keeps { KeepsFiles (F.bytes files.old) (F.bytes files.new) }
-    // 901 comes only where the file can't be opened or its source fails.
+    // 901 is returned only where the file can't be opened or its source fails.
     ensures unread { FailsBy certificate_unread (SourceFails F.R.remaining F.R.failures)
         (F.bytes files.old) (record { kind = OfCertificate; name = Some name.now } ∷ [])
         (F.failures files.old) (F.failures files.new) result }

@@ -16,7 +16,7 @@ use ngc_line_reader::{Program, ReadFault};
 use ngc_text::InputFault;
 use std::alloc::Global;
 
-/// Returns what the bytes of the named file, or of standard input, come from: 901 where it can't be
+/// Returns the source of the bytes of the named file, or of standard input: 901 where it can't be
 /// opened.
 pub fn open_file<F: Files>(name: Option<&str>, files: &mut F) -> Result<F::R, InputFault>
     ensures bytes { IfOk result
@@ -43,7 +43,7 @@ pub fn read_program<F: Files>(
     ensures readings { IfOk result (λ p. HaveReadings (text_in p).lines) }
     ensures keeps { IsSome name.entry → KeepsFiles (F.bytes files.old) (F.bytes files.new) }
     ensures named { KeepsNamed (F.bytes files.old) (F.bytes files.new) }
-    // 901 comes only where the file can't be opened or its source fails.
+    // 901 is returned only where the file can't be opened or its source fails.
     ensures unread { FailsBy program_unread (SourceFails F.R.remaining F.R.failures)
         (F.bytes files.old)
         (record { kind = OfProgram; name = option_map (λ n. n.now) name.entry } ∷ [])
@@ -62,7 +62,7 @@ pub fn read_certificate<F: Files>(
     ensures said { IfSome (F.bytes files.old (Some name.now))
         (λ bytes. GivesCertificate said_of result (certificate_said bytes)) }
     ensures keeps { KeepsFiles (F.bytes files.old) (F.bytes files.new) }
-    // 901 comes only where the file can't be opened or its source fails.
+    // 901 is returned only where the file can't be opened or its source fails.
     ensures unread { FailsBy certificate_unread (SourceFails F.R.remaining F.R.failures)
         (F.bytes files.old) (record { kind = OfCertificate; name = Some name.now } ∷ [])
         (F.failures files.old) (F.failures files.new) result }

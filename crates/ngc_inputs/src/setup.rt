@@ -22,7 +22,7 @@ pub struct Shop {
     pub tools: Tools<Global>,
 }
 
-/// How many bytes of a machine file, tool table or events file are read: a longer one is 901.
+/// The greatest number of bytes of a machine file, tool table or events file: a longer one is 901.
 pub const FILE_LIMIT: usize = 20_000_000;
 
 /// Returns the bytes of a named file.
@@ -31,7 +31,7 @@ pub fn bytes_of<F: Files>(alloc: Global, name: &str, files: &mut F) -> Result<Ve
         (λ bytes. IfOk result (λ v. v.items ≡ bytes)) }
     ensures keeps { KeepsFiles (F.bytes files.old) (F.bytes files.new) }
     ensures counts { OnOk result (F.failures files.new ≡ F.failures files.old) }
-    // It isn't read only where it can't be opened, its source fails, or it is too long.
+    // It fails to be read only if it can't be opened, its source fails, or it is too long.
     ensures unread { IfErr result
         (TellsUnread (SourceFails F.R.remaining F.R.failures) (F.bytes files.old (Some name.now))
         (F.failures files.old) (F.failures files.new)) }
@@ -79,7 +79,7 @@ fn named_tools<F: Files>(
     }
 }
 
-/// Returns the machine that the named file says, or the built-in one.
+/// Returns the machine that the named file describes, or the built-in one.
 fn read_machine<F: Files>(
     alloc: Global,
     name: Option<&str>,
@@ -100,7 +100,7 @@ fn read_machine<F: Files>(
     }
 }
 
-/// Returns the tools that the named file says, or none.
+/// Returns the tools of the named file, or none.
 fn read_tools<F: Files>(
     alloc: Global,
     name: Option<&str>,
@@ -131,7 +131,7 @@ pub fn read_shop<F: Files>(
     ensures said { GivesShop (F.bytes files.old) (option_map (λ n. n.now) machine.entry)
         (option_map (λ n. n.now) tools.entry) result }
     ensures keeps { KeepsFiles (F.bytes files.old) (F.bytes files.new) }
-    // The first that isn't read can't be opened, its source fails, or it is too long.
+    // The first file that isn't read can't be opened, its source fails, or it is too long.
     ensures unread { FailsByInput (SourceFails F.R.remaining F.R.failures) (F.bytes files.old)
         (shop_inputs (option_map (λ n. n.now) machine.entry) (option_map (λ n. n.now) tools.entry))
         (F.failures files.old) (F.failures files.new) result }

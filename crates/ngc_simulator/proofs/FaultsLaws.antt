@@ -1,4 +1,4 @@
--- What telling all faults of a program comes to.
+-- The result of writing all faults of a program.
 use Rattle.std.proofs.Common.{◌≡◌, ℕ, List, Option, None, Bool, true, Result, Ok, Err, inl, inr, refl, ap, subst, sym, ◌∙◌}
 use Rattle.std.specs.Prelude.{IfErr}
 use Rattle.ngc_canonical.specs.State.{Setup}

@@ -18,5 +18,5 @@ pub mod DrawLaws
 pub mod ReportLaws
 -- What telling of a program that can't be read comes to, on the files that the command line names.
 pub mod UnreadableLaws
--- What telling all faults of a program comes to.
+-- The result of writing all faults of a program.
 pub mod FaultsLaws

@@ -1,4 +1,4 @@
--- What adapting a program for another control comes to. Our own.
+-- The result of adapting a program for another control. Our own.
 use Rattle.std.specs.Prelude.{◌≡◌, ◌⊎◌, ℕ, Bool, true, false, List, ◌++◌, codes, Option, Some, None, replicate}
 use Rattle.std.specs.Prelude.{[], ◌∷◌, is_some, option_map, Result, Ok, Err, if◌then◌else◌}
 use Rattle.std.specs.Io.KnownBytes.{Appends, Keeps}
@@ -38,7 +38,7 @@ abbrev pub AreDropped : Option (List ℕ) → List (Option ℕ) → Type 0
 AreDropped None codes = codes ≡ replicate 16 None
 AreDropped (Some text) codes = dropped_codes text ≡ Some codes
 
--- what the options ask of a program
+-- the request of the options
 pub record IsAsked (options : AdaptOptions) (asked : Request) : Type 0 where
   pub control : control_named options.from.now ≡ Some asked.options.dialect
   pub dropped : AreDropped (option_map (λ text. text.now) options.drop) asked.options.drop
@@ -83,11 +83,11 @@ IsTableFault numbers (answers.Tools e) = Refuses e (tool_table (table_text numbe
 IsTableFault numbers answers.Memory = Unit {0}
 IsTableFault numbers _ = ⊥
 
--- the line that tells of a fault of what would be written
+-- the line that reports a fault of the text that would be written
 abbrev pub refused_text : AnswerFault → List ℕ
 refused_text fault = codes "what would be written is refused: " ++ fault_line fault
 
--- what would be written is refused
+-- the text that would be written is refused
 pub record IsRefusedText (machine : MachineFile) (text report told : List ℕ) : Type 0 where
   pub setup : Setup
   pub is_setup : IsSetupFor machine text setup
@@ -96,12 +96,12 @@ pub record IsRefusedText (machine : MachineFile) (text report told : List ℕ) :
   pub has_fault : HasFault setup text fault
   pub tells : told ≡ report ++ refused_text fault
 
--- Nothing is written where something stands in the way, or where what would be written is refused.
+-- Nothing is written if something is refused, or if the text that would be written is refused.
 abbrev pub IsLeft : MachineFile → List ℕ → List ℕ → Bool → List ℕ → Type 0
 IsLeft machine text report true told = told ≡ report
 IsLeft machine text report false told = IsRefusedText machine text report told
 
--- The text is written where nothing stands in the way and it has a meaning.
+-- The text is written if nothing is refused and it has a meaning.
 pub record IsWritten (machine : MachineFile) (text report told : List ℕ) (left : Bool)
     (old new : Option (List ℕ)) : Type 0 where
   pub whole : left ≡ false

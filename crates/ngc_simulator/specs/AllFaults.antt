@@ -1,4 +1,4 @@
--- What telling all faults of a program comes to. Our own.
+-- The result of writing all faults of a program. Our own.
 use Rattle.std.specs.Prelude.{◌≡◌, ◌⊎◌, List, [], ◌∷◌, ℕ, Option, Some, None, Bool, true, false}
 use Rattle.std.specs.Io.KnownBytes.{Appends, Keeps}
 use Rattle.ngc_text.specs.Written.{AppendsBeginning}
@@ -22,12 +22,12 @@ first_among (f ∷ fs) on = Some (Off, f)
 first_among [] (f ∷ fs) = Some (On, f)
 first_among [] [] = None
 
--- a text in memory is read: that a device failed is no fault of it
+-- a text in memory is read: the failure of a device isn't its fault
 abbrev pub is_of_text : TextFault → Bool
 is_of_text (Unread Device) = false
 is_of_text _ = true
 
--- what is answered of it
+-- the fault that is returned for it
 abbrev pub answer_of : Setting → TextFault → AnswerFault
 answer_of s (Unread e) = answers.Read e
 answer_of s (Refused n e) = answers.Refused s (At n e)
@@ -42,7 +42,7 @@ pub record IsFaultsReport (setup : Setup) (form : Form) (bytes : List ℕ) (s : 
   pub is_first : first_among off on ≡ Some (s, first)
   pub tells : text ≡ faults_text form bytes first off on
 
--- the report was written, and its first fault is answered
+-- the report was written, and its first fault is returned
 pub record ToldFaults (setup : Setup) (form : Form) (bytes : List ℕ) (old new : Option (List ℕ))
     (fault : AnswerFault) : Type 0 where
   pub setting : Setting
@@ -52,7 +52,7 @@ pub record ToldFaults (setup : Setup) (form : Form) (bytes : List ℕ) (old new 
   pub is_report : IsFaultsReport setup form bytes setting first text
   pub wrote : Appends old new text
 
--- or a beginning of it
+-- or a prefix of it was written
 pub record BrokenFaults (setup : Setup) (form : Form) (bytes : List ℕ)
     (old new : Option (List ℕ)) : Type 0 where
   pub setting : Setting
@@ -61,7 +61,7 @@ pub record BrokenFaults (setup : Setup) (form : Form) (bytes : List ℕ)
   pub is_report : IsFaultsReport setup form bytes setting first text
   pub wrote : AppendsBeginning old new text
 
--- Where the file can't be read once more nothing is told.
+-- If the file can't be read once more, nothing is written.
 abbrev pub TellsFaults : Setup → Form → List ℕ → Option (List ℕ) → Option (List ℕ) → AnswerFault →
     Type 0
 TellsFaults setup form bytes old new (answers.Write e) = BrokenFaults setup form bytes old new

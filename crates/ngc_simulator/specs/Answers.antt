@@ -1,4 +1,4 @@
--- What a run of the program comes to.
+-- The result of a run of the program.
 use Rattle.std.specs.Prelude.{◌≡◌, ◌⊎◌, ℕ, Bool, true, false, List, [], ◌∷◌, ◌++◌, Option, Some}
 use Rattle.std.specs.Prelude.{Result, Ok, Err, IfSome, IsSomeAnd, option_map, MatchOption, None}
 use Rattle.std.specs.Prelude.{if◌then◌else◌}
@@ -60,7 +60,7 @@ use Rattle.ngc_simulator.specs.Adapting.{Adapts, IsRequest}
 use Rattle.ngc_simulator.specs.Making.{Makes, OnDump, has_source}
 use Rattle.ngc_inputs.specs.Unread.{FailsByInput}
 
--- what `list`, `certify`, `check` and `run` come to on the files that they name
+-- the results of `list`, `certify`, `check` and `run` on the files that they name
 abbrev pub ListsOn : FileBytes → ListOptions → Option (List ℕ) → Option (List ℕ) →
     Result (Unit {0}) AnswerFault → Type 0
 ListsOn bytes options old new outcome =
@@ -121,7 +121,7 @@ ShowsOn bytes options old new outcome =
     OnSetup bytes (Some options.machine.now) (option_map (λ name. name.now) options.tools)
     (λ setup. Shows options.warnings setup old new outcome)
 
--- what a report is asked for
+-- the form that is requested of a report
 abbrev pub form_asked : Bool → Form
 form_asked false = Words
 form_asked true = Json
@@ -141,13 +141,13 @@ ReportsOn bytes options old new outcome =
     IfSome (bytes (option_map (λ name. name.now) options.program))
     (λ text. Reports setup text (request_of options) old new outcome))
 
--- A machine file or tool table that is refused leaves what was written as it was, and so does a
--- file that isn't read.
+-- A machine file or tool table that is refused leaves the output unchanged, and so does a file that
+-- isn't read.
 abbrev pub StopsEarly : FileBytes → Option (List ℕ) → Option (List ℕ) → Option (List ℕ) →
     Option (List ℕ) → AnswerFault → Type 0
 StopsEarly bytes machine tools old new fault = RefusesShop bytes machine tools fault × Keeps old new
 
--- What a command comes to: it is stopped, it does what it is for, or it fails by one of its faults.
+-- The result of a command: it is stopped, it does its work, or it fails with one of its faults.
 abbrev pub Comes : (AnswerFault → Type 0) → (AnswerFault → Type 0) →
     (Result (Unit {0}) AnswerFault → Type 0) → Result Done AnswerFault → Type 0
 Comes Stops MayFail Does (Ok Quietly) = Does (Ok tt)
@@ -174,7 +174,7 @@ CheckComes bytes options old new outcome =
     Comes (StopsEarly bytes (Some options.machine.now) (Some options.tools.now) old new)
     (OrOfReading OfChecking) (ChecksOn bytes options old new) outcome
 
--- what is written of a run, if the form has a name that is known
+-- the output of a run, if the name of the form is known
 abbrev pub run_writing : RunOptions → Option Writing
 run_writing options =
     writing_named options.recording (option_map (λ name. name.now) options.output) options.inverted
@@ -189,7 +189,7 @@ abbrev pub WithReport : (Result Report AnswerFault → Type 0) →
 WithReport Does (Ok u) = (report : Report) × Does (Ok report)
 WithReport Does (Err fault) = Does (Err fault)
 
--- a form that isn't known is answered before a file is read
+-- a form that isn't known is rejected before a file is read
 abbrev pub RunComes : FileBytes → RunOptions → Option Writing → Option (List ℕ) →
     Option (List ℕ) → Result Done AnswerFault → Type 0
 RunComes bytes options None old new outcome =
@@ -198,7 +198,7 @@ RunComes bytes options (Some writing) old new outcome =
     Comes (StopsEarly bytes (Some options.machine.now) (Some options.tools.now) old new)
     (OrOfReading OfRunning) (WithReport (RunsOn bytes options writing old new)) outcome
 
--- a view that isn't known is answered before a file is read
+-- a view that isn't known is rejected before a file is read
 abbrev pub DrawComes : FileBytes → DrawOptions → Option View → Option (List ℕ) → Option (List ℕ) →
     Result Done AnswerFault → Type 0
 DrawComes bytes options None old new outcome = (outcome ≡ Err answers.UnknownView) × Keeps old new
@@ -213,7 +213,7 @@ ShowComes bytes options old new outcome =
     (option_map (λ name. name.now) options.tools) old new) OfWriting
     (ShowsOn bytes options old new) outcome
 
--- what telling of a program that can't be read comes to on the files that they name
+-- the result of reporting a program that can't be read, on the named files
 abbrev pub UnreadableOn : FileBytes → ReportOptions → Option (List ℕ) → Option (List ℕ) →
     AnswerFault → Type 0
 UnreadableOn bytes options old new fault =
@@ -222,7 +222,7 @@ UnreadableOn bytes options old new fault =
     TellsUnreadable (form_asked options.json)
     (option_map (λ name. name.now) options.program) text old new fault))
 
--- what telling all faults of a program comes to, where all are asked for
+-- the result of writing all faults of a program, where all are requested
 abbrev pub FaultsOn : FileBytes → ReportOptions → Option (List ℕ) → Option (List ℕ) →
     AnswerFault → Type 0
 FaultsOn bytes options old new fault = (options.all ≡ true) ×
@@ -230,7 +230,7 @@ FaultsOn bytes options old new fault = (options.all ≡ true) ×
     IfSome (bytes (option_map (λ name. name.now) options.program)) (λ text.
     TellsFaults setup (form_asked options.json) text old new fault))
 
--- of a program that is read the report is told, and else its fault, or all of them
+-- the report of a program that is read; otherwise its fault, or all of them
 abbrev pub ReportFails : FileBytes → ReportOptions → Option (List ℕ) → Option (List ℕ) →
     AnswerFault → Type 0
 ReportFails bytes options old new fault =
@@ -247,7 +247,7 @@ ReportComes bytes options old new (Err fault) =
     TellsRefusal (form_asked options.json) bytes (Some options.machine.now)
     (Some options.tools.now) old new fault ⊎ ReportFails bytes options old new fault
 
--- the run's ticks, and how many of them its machine gives a second
+-- the run's ticks, and the ticks per second of its machine
 pub record IsTimeOf (setup : Setup) (report : Report) (time : RunTime) : Type 0 where
   pub ticks : time.ticks ≡ report.ticks
   pub ticks_per_second : time.ticks_per_second ≡ setup.machine.ticks_per_second
@@ -256,8 +256,8 @@ abbrev pub IsTimeOn : FileBytes → RunThroughOptions → Report → RunTime →
 IsTimeOn bytes options report time = OnSetup bytes (Some options.machine.now)
     (Some options.tools.now) (λ setup. IsTimeOf setup report time)
 
--- of a run to the end the program tells the time; a form that isn't known is answered before a file
--- is read
+-- the program reports the time of a run to the end; a form that isn't known is rejected before a
+-- file is read
 abbrev pub RunThroughComes : FileBytes → RunThroughOptions → Option Writing → Option (List ℕ) →
     Option (List ℕ) → Result Done AnswerFault → Type 0
 RunThroughComes bytes options None old new outcome =
@@ -286,7 +286,7 @@ LivesOnFiles bytes options form old new outcome =
     (λ certificate. (rest : Option (List ℕ)) ×
     Lives form options.feed_ring setup text certificate options.delete (bytes None) rest old new outcome)))
 
--- a form that isn't known is answered before a file is read
+-- a form that isn't known is rejected before a file is read
 abbrev pub LiveComes : FileBytes → LiveOptions → Option LiveForm → Option (List ℕ) →
     Option (List ℕ) → Result Done AnswerFault → Type 0
 LiveComes bytes options None old new outcome = (outcome ≡ Err answers.UnknownForm) × Keeps old new
@@ -296,7 +296,7 @@ LiveComes bytes options (Some form) old new outcome =
 
 -- ---- programs for other controls
 
--- options that ask of a program what isn't known leave what was written as it was
+-- options with an unknown control or unknown codes leave the output unchanged
 abbrev pub NoRequest : AdaptOptions → AnswerFault → Type 0
 NoRequest options answers.UnknownControl = control_named options.from.now ≡ None
 NoRequest options answers.WrongCodes =
@@ -463,7 +463,7 @@ report_inputs options =
 abbrev pub source_input : Option (List ℕ) → Input
 source_input name = record { kind = OfSource; name = name }
 
--- where it is known what is asked
+-- where the request is known
 abbrev pub adapt_inputs : AdaptOptions → List Input
 adapt_inputs options =
     shop_inputs (option_map (λ name. name.now) options.machine) None
@@ -494,31 +494,31 @@ inputs_of (commands.Explain number) = []
 inputs_of (commands.Help command) = []
 inputs_of commands.Version = []
 
--- What a sink had taken and has taken now, where it is known, and how often it had failed and has
--- failed now.
+-- The bytes that a sink had taken before and has taken now, where they are known, and the number of
+-- its failures before and now.
 pub record Taking : Type 0 where
   pub old : Option (List ℕ)
   pub new : Option (List ℕ)
   pub failures : ℕ
   pub failures_now : ℕ
 
--- what isn't written, where notes tell why, is refused
+-- output that isn't written, where notes say why, is refused
 abbrev pub done_status : Done → ℕ
 done_status (WithNotes notes) = if notes.is_written then 0 else 3
 done_status _ = 0
 
--- the exit status of what a run came to
+-- the exit status of a run's result
 abbrev pub status_of : Result Done AnswerFault → ℕ
 status_of (Ok done) = done_status done
 status_of (Err fault) = answer_status fault
 
--- the whole text was written, or the sink failed behind a beginning of it
+-- the whole text was written, or the sink failed after a prefix of it
 abbrev pub Takes : Taking → List ℕ → Type 0
 Takes sink text =
     (Appends sink.old sink.new text × (sink.failures_now ≡ sink.failures)) ⊎
     (AppendsBeginning sink.old sink.new text × Rises sink.failures sink.failures_now)
 
--- the commands of which nothing is told where they are done
+-- the commands that print nothing on standard error when they are done
 abbrev pub IsQuiet : Options → Type 0
 IsQuiet (commands.List options) = Unit {0}
 IsQuiet (commands.Certify options) = Unit {0}
@@ -535,24 +535,23 @@ IsQuiet (commands.Explain number) = Unit {0}
 IsQuiet (commands.Help command) = Unit {0}
 IsQuiet commands.Version = Unit {0}
 
--- nothing, the time or the report where what was asked is done, and else the line that tells the
--- fault
+-- nothing, the time or the report if the command is done, otherwise the line that reports the fault
 abbrev pub Tells : Result Done AnswerFault → Taking → Type 0
 Tells (Ok Quietly) sink = (sink.new ≡ sink.old) × (sink.failures_now ≡ sink.failures)
 Tells (Ok (RunThrough time)) sink = Takes sink (time_line time)
 Tells (Ok (WithNotes notes)) sink = Takes sink notes.text.items
 Tells (Err fault) sink = Takes sink (fault_line fault)
 
--- What files are given: their bytes, where they are known, which of them have a source that fails,
--- and how often one couldn't be opened before and now.
+-- The files of a run: their bytes, where they are known, which of them have a source that fails,
+-- and the number of files that couldn't be opened before and after.
 pub record Given : Type 1 where
   pub bytes : FileBytes
   pub fails : Option (List ℕ) → Type 0
   pub failures : ℕ
   pub failures_now : ℕ
 
--- What the run came to, with the files that weren't read, the output, the status and the second
--- sink that go with it.
+-- The result of the run, with the files that weren't read, the output, the status and the second
+-- sink that belong to it.
 pub record Answers (files : Given) (options : Options) (output errors : Taking) (status : ℕ) :
     Type 0 where
   pub outcome : Result Done AnswerFault

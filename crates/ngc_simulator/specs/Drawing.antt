@@ -32,7 +32,7 @@ use Rattle.ngc_inputs.specs.declared.fault.AnswerFault.TheVariants as answers
 use Rattle.ngc_inputs.specs.Jobs.{IsNoCertificate}
 use Rattle.ngc_simulator.specs.Lists.{IsMeaning, IsRefused}
 
--- the view with a name, and the top where none is given
+-- the view with a name, or the top if no name is passed
 abbrev pub view_named : Option (List ℕ) → Option View
 view_named None = Some Top
 view_named (Some name) =
@@ -49,8 +49,8 @@ setting_of block_delete = if block_delete then On else Off
 
 -- ---- what is refused and drawn
 
--- where no certificate is given: the result of making one for these commands, with as many pieces as
--- `certify` tries by itself
+-- without a certificate: the result of making one for these commands, with the number of pieces
+-- that `certify` tries by default
 abbrev pub IsMadeRefusal : MachineFile → List Command → Option RefusedMotion → Type 0
 IsMadeRefusal machine commands None =
     (c : CertificateData) × IsMade machine 8 commands commands (Ok c)
@@ -59,7 +59,7 @@ IsMadeRefusal machine commands (Some refusal) =
     (refusal.fault ≡ 304)
     × (refusal.fixture ≡ met_at machine commands refusal.command)
 
--- where one is given: its first fault at the setting, if that is for travel or for a fixture
+-- with a certificate: its first fault at the setting, if that is for travel or for a fixture
 abbrev pub piece_refusal : ℕ → PieceFault → Option RefusedMotion
 piece_refusal k pieces.Chain = None
 piece_refusal k pieces.NotCovered = None
@@ -79,7 +79,7 @@ drawn_refusal checks.Memory = None
 abbrev pub fault_at : MachineFile → Setting → List Command → CertificateData → Option CheckFault
 fault_at machine s commands c = setting_fault machine s commands (entries_at s c)
 
--- a fault that isn't drawn is answered
+-- a fault that isn't drawn is returned
 abbrev pub drawn_or : CheckFault → Option RefusedMotion → Result (Option RefusedMotion) CheckFault
 drawn_or fault None = Err fault
 drawn_or fault (Some refusal) = Ok (Some refusal)
@@ -90,8 +90,7 @@ refusal_answer (Some fault) = drawn_or fault (drawn_refusal fault)
 
 -- ---- the picture
 
--- the picture of what a file means with the motions of a certificate, and with what is refused of
--- it
+-- the picture of a file's meaning with the motions of a certificate, and with its refusal
 pub record IsPicture (setup : Setup) (bytes : List ℕ) (block_delete : Bool) (look : Look)
     (entries : List Entry) (IsShown : List Command → Option RefusedMotion → Type 0) (text : List ℕ) :
     Type 0 where
@@ -101,8 +100,8 @@ pub record IsPicture (setup : Setup) (bytes : List ℕ) (block_delete : Bool) (l
   pub shows : IsShown commands refusal
   pub draws : text ≡ picture_text look setup.machine commands entries refusal
 
--- the picture was written, or a prefix of it where the sink failed; where there is none, what
--- was written is as it was
+-- the picture was written, or a prefix of it where the sink failed; where there is none, the output
+-- is unchanged
 abbrev pub Draws : Setup → List ℕ → Bool → Look → List Entry →
     (List Command → Option RefusedMotion → Type 0) → Option (List ℕ) → Option (List ℕ) →
     Result (Unit {0}) AnswerFault → Type 0
@@ -131,7 +130,7 @@ IsGivenRefusal machine s c commands refusal =
     refusal_answer (fault_at machine s commands c) ≡ Ok refusal
 
 -- Of a program's file, a certificate's file and a sink. A fault of the certificate that isn't drawn
--- is answered.
+-- is returned.
 abbrev pub DrawsGiven : Setup → List ℕ → List ℕ → Bool → Look → Option (List ℕ) → Option (List ℕ) →
     Result (Unit {0}) AnswerFault → Type 0
 DrawsGiven setup bytes text block_delete look old new (Err (answers.Certificate fault)) =

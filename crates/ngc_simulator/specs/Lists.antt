@@ -1,4 +1,4 @@
--- What listing a program comes to.
+-- The result of listing a program.
 use Rattle.std.specs.Prelude.{◌≡◌, ℕ, List, Option, Result, Ok, Err, Bool}
 use Rattle.std.specs.Io.KnownBytes.{Appends, Keeps}
 use Rattle.ngc_text.specs.Written.{AppendsBeginning}
@@ -38,8 +38,8 @@ pub record IsRefused (setup : Setup) (bytes : List ℕ) (block_delete : Bool) (f
   pub fails : Fails fault says
 
 -- Of a file, from what its sink had taken to what it has taken now: the listing of its meaning was
--- written, or a beginning of it where the sink failed; a refused program, and a file that isn't
--- read, leave what was written as it was.
+-- written, or a prefix of it if the sink failed; a refused program, and a file that isn't read,
+-- leave the output unchanged.
 abbrev pub Lists : Setup → List ℕ → Bool → Option (List ℕ) → Option (List ℕ) →
     Result (Unit {0}) AnswerFault → Type 0
 Lists setup bytes block_delete old new (Ok u) =

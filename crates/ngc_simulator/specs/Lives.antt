@@ -1,4 +1,4 @@
--- What a run comes to whose events arrive from a source. Our own.
+-- The result of a run whose events arrive from a source. Our own.
 use Rattle.std.specs.Prelude.{◌≡◌, ℕ, List, Option, Some, None, Result, Ok, Err, Bool, codes}
 use Rattle.std.specs.Prelude.{if◌then◌else◌}
 use Rattle.std.specs.Io.KnownBytes.{IsAtEnd, Keeps}
@@ -25,9 +25,9 @@ live_named (Some name) inverted =
     if bytes_eq name (codes "log") then Some forms.Log else
     if bytes_eq name (codes "times") then Some forms.Times else None
 
--- The job of a program's file and a certificate's file was run over the events that a source gave,
--- of which `source` was left at the beginning and `rest` is left now; where the ring is fed, with
--- loads that come before ticks.
+-- The job of a program's file and a certificate's file was run over the events of a source.
+-- `source` are its bytes at the beginning, and `rest` those that remain now. If the ring is fed,
+-- loads come before ticks.
 pub record LivesAt (form : LiveForm) (feeds : Bool) (setup : Setup) (bytes text : List ℕ) (block_delete : Bool)
     (source rest old new : Option (List ℕ)) (result : Result (Unit {0}) LiveFault) : Type 0 where
   pub job : Job
@@ -37,9 +37,9 @@ pub record LivesAt (form : LiveForm) (feeds : Bool) (setup : Setup) (bytes text 
   pub is_fed : live.feeds ≡ feeds
   pub lives : LivesOn form live source rest old new result
 
--- Of a program's file, a certificate's file, a source of events and a sink: the run of the events of
--- all lines that came was written, to the end of the source or up to a fault; where there is no run,
--- what was written is as it was.
+-- Of a program's file, a certificate's file, a source of events and a sink: the run of the events
+-- of all lines that came was written, to the end of the source or up to a fault; where there is no
+-- run, the output is unchanged.
 abbrev pub Lives : LiveForm → Bool → Setup → List ℕ → List ℕ → Bool → Option (List ℕ) →
     Option (List ℕ) → Option (List ℕ) → Option (List ℕ) → Result (Unit {0}) AnswerFault → Type 0
 Lives form feeds setup bytes text block_delete source rest old new (Ok done) =

@@ -1,4 +1,4 @@
--- What making a machine file from figures comes to. Our own.
+-- The result of making a machine file from figures. Our own.
 use Rattle.std.specs.Prelude.{◌≡◌, ◌⊎◌, ℕ, ◌&&◌, ◌||◌, not, Bool, true, false, List, [], ◌++◌, Option}
 use Rattle.std.specs.Prelude.{Some, None, is_some, option_map, Result, Ok, Err, IsOk, IfSome}
 use Rattle.std.specs.Prelude.{if◌then◌else◌}
@@ -25,18 +25,18 @@ use Rattle.ngc_inputs.specs.declared.fault.AnswerFault.{AnswerFault}
 use Rattle.ngc_inputs.specs.declared.fault.AnswerFault.TheVariants as answers
 use Rattle.ngc_inputs.specs.Setups.{FileBytes, Refuses}
 
--- steps, travel, feed and acceleration are given
+-- steps, travel, feed and acceleration are present
 abbrev pub has_all_figures : MachineOptions → Bool
 has_all_figures o =
     is_some o.steps && (is_some o.travel && (is_some o.feed && is_some o.acceleration))
 
--- one of these is given, or a frame, which a dump has itself
+-- one of these is present, or a frame, which a dump contains already
 abbrev pub has_a_figure : MachineOptions → Bool
 has_a_figure o =
     is_some o.steps || (is_some o.travel
     || (is_some o.feed || (is_some o.acceleration || is_some o.frame)))
 
--- either a dump of GRBL's settings is given, or all four figures
+-- either a dump of GRBL's settings is present, or all four figures
 abbrev pub has_source : MachineOptions → Bool
 has_source o = if is_some o.grbl then not (has_a_figure o) else has_all_figures o
 
@@ -69,7 +69,7 @@ abbrev pub with_choices : Choices → Result Figures FigureRefusal → Result Fi
 with_choices c (Ok figures) = chosen figures c
 with_choices c (Err refusal) = Err refusal
 
--- the figures that are asked
+-- the requested figures
 pub record IsAskedFor (options : MachineOptions) (dump : Option (List ℕ))
     (asked : Result Figures FigureRefusal) : Type 0 where
   pub given : Result Figures FigureRefusal
@@ -78,7 +78,7 @@ pub record IsAskedFor (options : MachineOptions) (dump : Option (List ℕ))
   pub are_choices : AreChoices options choices
   pub chosen : asked ≡ with_choices choices given
 
--- figures that are refused leave what was written as it was, and the notes say why
+-- figures that are refused leave the output unchanged, and the notes say why
 abbrev pub TellsRefusal : FigureRefusal → Option (List ℕ) → Option (List ℕ) → Notes → Type 0
 TellsRefusal refusal old new notes = Keeps old new × (notes.is_written ≡ false)
     × (notes.text.items ≡ refusal_line refusal)
@@ -88,19 +88,19 @@ abbrev pub IsNotRead : List ℕ → AnswerFault → Type 0
 IsNotRead text (answers.Machine e) = Refuses e (machine_file text)
 IsNotRead text _ = ⊥
 
--- the keys of a machine file, and behind them the warnings of `ngc show` on this machine without
--- tools, as comments
+-- the keys of a machine file, followed by the warnings of `ngc show` on this machine without tools,
+-- as comments
 abbrev pub with_remarks : List ℕ → MachineFile → List ℕ
 with_remarks keys machine = keys ++ warning_remarks machine []
 
--- the machine is the one that the keys say, and the whole is read as a machine file
+-- the machine is the one that the keys describe, and the whole is read as a machine file
 pub record IsMadeText (keys text : List ℕ) : Type 0 where
   pub machine : MachineFile
   pub says : machine_file keys ≡ Ok machine
   pub is_text : text ≡ with_remarks keys machine
   pub is_file : IsOk (machine_file text)
 
--- the reader refuses the keys, or the keys with the comments behind them
+-- the reader refuses the keys, or the keys with the comments after them
 abbrev pub IsUnread : List ℕ → FileFault → Type 0
 IsUnread keys e = Refuses e (machine_file keys)
     ⊎ ((machine : MachineFile) × (machine_file keys ≡ Ok machine)
@@ -123,7 +123,7 @@ abbrev pub MakesFile : Result Figures FigureRefusal → Option (List ℕ) → Op
 MakesFile (Ok figures) old new notes = WritesNumbers figures (numbers_of figures) old new notes
 MakesFile (Err refusal) old new notes = TellsRefusal refusal old new notes
 
--- the keys of the machine file that is asked for
+-- the keys of the requested machine file
 pub record AreAskedKeys (options : MachineOptions) (dump : Option (List ℕ)) (keys : List ℕ) : Type 0 where
   pub figures : Figures
   pub are_asked : IsAskedFor options dump (Ok figures)
@@ -131,8 +131,8 @@ pub record AreAskedKeys (options : MachineOptions) (dump : Option (List ℕ)) (k
   pub are_numbers : numbers_of figures ≡ Ok numbers
   pub are_keys : keys ≡ file_text numbers figures
 
--- where what would be written isn't read as a machine file, nothing is, and where a write fails a
--- beginning of it is
+-- if the text isn't read as a machine file, nothing is written; if a write fails, a prefix of it is
+-- written
 abbrev pub MakeFails : MachineOptions → Option (List ℕ) → Option (List ℕ) → Option (List ℕ) →
     AnswerFault → Type 0
 MakeFails options dump old new answers.Memory = Keeps old new

@@ -1,4 +1,4 @@
--- What is told of a machine file or a tool table that is refused. Our own.
+-- The report of a machine file or a tool table that is refused. Our own.
 use Rattle.std.specs.Prelude.{◌≡◌, ◌≢◌, ◌⊎◌, ℕ, List, ◌++◌, Option, Some, Result, Ok, Err, IfSome}
 use Rattle.std.specs.Prelude.{IsSomeAnd}
 use Rattle.std.specs.Io.KnownBytes.{Appends, Keeps}
@@ -21,12 +21,12 @@ use Rattle.ngc_inputs.specs.Shops.{GivesShop, RefusesShop}
 abbrev pub fault_document : ℕ → List ℕ
 fault_document number = opening Json ++ ending Json number
 
--- what tells a file's mistake: a text in words, or a document
+-- the report of a file's mistake: a text in words, or a document
 abbrev pub told_text : Form → (List ℕ → FileFault → List ℕ) → List ℕ → FileFault → List ℕ
 told_text Words text bytes e = text bytes e
 told_text Json text bytes e = fault_document (file_number e)
 
--- P of that, where the file is known; that memory runs out is no mistake of it
+-- P of that, where the file is known; lack of memory isn't its mistake
 abbrev pub OfText : Form → (List ℕ → FileFault → List ℕ) → FileFault → Option (List ℕ) →
     (List ℕ → Type 0) → Type 0
 OfText form text e known P = (e ≢ Memory) × IfSome known (λ bytes. P (told_text form text bytes e))
@@ -40,8 +40,8 @@ OfMistake form bytes machine tools (answers.Tools e) P =
     IsSomeAnd tools (λ name. OfText form tools_mistake_text e (bytes (Some name)) P)
 OfMistake form bytes machine tools fault P = ⊥
 
--- A file that is refused has its mistake told, or nothing where memory ran out; and where the sink
--- failed, a beginning of it. A file that isn't read leaves what was written as it was.
+-- For a file that is refused its mistake is written, or nothing if memory ran out; if the sink
+-- failed, a prefix of it is written. A file that isn't read leaves the output unchanged.
 abbrev pub TellsRefusal : Form → FileBytes → Option (List ℕ) → Option (List ℕ) → Option (List ℕ) →
     Option (List ℕ) → AnswerFault → Type 0
 TellsRefusal form bytes machine tools old new (answers.Write fault) =
@@ -51,7 +51,7 @@ TellsRefusal form bytes machine tools old new fault =
     RefusesShop bytes machine tools fault ×
     (Keeps old new ⊎ OfMistake form bytes machine tools fault (Appends old new))
 
--- the two files' machine and tools, with nothing written, or what is told in their place
+-- the two files' machine and tools, with nothing written, or the report in their place
 abbrev pub GivesTold : Form → FileBytes → Option (List ℕ) → Option (List ℕ) → Option (List ℕ) →
     Option (List ℕ) → Result Shop AnswerFault → Type 0
 GivesTold form bytes machine tools old new (Ok shop) =
@@ -59,7 +59,7 @@ GivesTold form bytes machine tools old new (Ok shop) =
 GivesTold form bytes machine tools old new (Err fault) =
     TellsRefusal form bytes machine tools old new fault
 
--- what telling one file's mistake comes to, where the file may not be read again
+-- the result of writing one file's mistake, where the file may not be readable again
 abbrev pub TellsMistake : ((List ℕ → Type 0) → Type 0) → Option (List ℕ) → Option (List ℕ) →
     Result (Unit {0}) AnswerFault → Type 0
 TellsMistake Of old new (Ok u) = Keeps old new ⊎ Of (Appends old new)

@@ -1,4 +1,4 @@
--- What telling whether a program fits comes to. Our own.
+-- The result of reporting whether a program fits. Our own.
 use Rattle.std.specs.Prelude.{◌≡◌, ◌⊎◌, ℕ, List, Option}
 use Rattle.std.specs.Prelude.{Result, Ok, Err, Bool, true, false, slice_get}
 use Rattle.std.specs.Io.KnownBytes.{Appends, Keeps}
@@ -95,9 +95,9 @@ IsReport setup bytes request text =
     (((s : Setting) × (k : ℕ) × IsRefusalReport setup bytes request s k text)
     ⊎ ((s : Setting) × (fault : ProgramFault) × IsRejectionReport setup bytes request s fault text))
 
--- Of a program's file and a sink: the report of what fits was written, or that of what is in the
--- way or of the line that is refused, which is answered; or a beginning of one where the sink
--- failed. Where there is none, what was written is as it was.
+-- Of a program's file and a sink: the report of a program that fits was written, or the report of
+-- the obstacle or of the refused line, whose fault is returned; or a prefix of one of them if the
+-- sink failed. Where there is none, the output is unchanged.
 abbrev pub Reports : Setup → List ℕ → ReportRequest → Option (List ℕ) → Option (List ℕ) →
     Result (Unit {0}) AnswerFault → Type 0
 Reports setup bytes request old new (Ok u) =

@@ -1,4 +1,4 @@
--- What running a program over events, or to its end, comes to. Our own.
+-- The result of running a program over events, or to its end. Our own.
 use Rattle.std.specs.Prelude.{◌≡◌, ℕ, List, Option, None, Result, Ok, Err, Bool}
 use Rattle.std.specs.Io.KnownBytes.{Keeps}
 use Rattle.ngc_line_reader.specs.ProgramText.{program_of}
@@ -29,7 +29,7 @@ use Rattle.ngc_simulator.specs.declared.writing.Writing.{Writing}
 use Rattle.ngc_simulator.specs.declared.writing.Writing.TheVariants.{Log, Times, Dump, Samples}
 use Rattle.ngc_inputs.specs.Jobs.{AreGiven, IsNoCertificate}
 
--- what a run over events comes to by what is written of it, and what a run to the end comes to
+-- the result of a run over events by its output, and the result of a run to the end
 abbrev pub RecordsRun : Writing → Job → List EventLine → Option (List ℕ) → Option (List ℕ) →
     Result Report RunFault → Type 0
 RecordsRun Log = ComesTo
@@ -45,7 +45,7 @@ RecordsThrough Dump = PulsesGoThrough
 RecordsThrough (Samples inverted) = SamplesGoThrough inverted
 
 -- The job of a program's file at a setting of block delete: the commands that the program means
--- there. Nothing is refused of it and of a certificate's file.
+-- there. Neither it nor a certificate's file is refused.
 pub record IsAcceptedJob (setup : Setup) (bytes text : List ℕ) (block_delete : Bool) (job : Job) :
     Type 0 where
   pub program : ProgramLines
@@ -56,8 +56,7 @@ pub record IsAcceptedJob (setup : Setup) (bytes text : List ℕ) (block_delete :
   pub means : meaning program setup block_delete ≡ Ok commands
   pub is_job : job ≡ job_of setup.machine commands
 
--- the run of such a job over the events that a third file says, and what is written of it, and what
--- it came to
+-- the run of an accepted job over the events of a third file, its output, and its result
 pub record RunsOver (writing : Writing) (setup : Setup) (bytes text events : List ℕ)
     (block_delete : Bool) (old new : Option (List ℕ)) (result : Result Report RunFault) :
     Type 0 where
@@ -72,7 +71,7 @@ abbrev pub AreRead : List ℕ → List ℕ → Type 0
 AreRead bytes text =
     (program : ProgramLines) × (c : CertificateData) × AreGiven bytes text program c
 
--- a text says no events, but for want of memory
+-- a text isn't a list of events, apart from lack of memory
 abbrev pub AreNoEvents : List ℕ → EventsFault → Type 0
 AreNoEvents events (texts.BadLine line) = events_said events ≡ Err (texts.BadLine line)
 AreNoEvents events texts.TooManyLines = events_said events ≡ Err texts.TooManyLines
@@ -88,7 +87,7 @@ pub record IsRefusedRun (setup : Setup) (bytes text events : List ℕ) (fault : 
   pub given : AreGiven bytes text program certificate
   pub first : IsFirst fault (first_refusal program setup certificate)
 
--- the run of such a job to its end, and what is written of it, and what it came to
+-- the run of an accepted job to its end, its output, and its result
 pub record RunsWhole (writing : Writing) (setup : Setup) (bytes text : List ℕ)
     (block_delete : Bool) (old new : Option (List ℕ)) (result : Result Report RunFault) :
     Type 0 where
@@ -104,8 +103,8 @@ pub record IsRefusedWhole (setup : Setup) (bytes text : List ℕ) (fault : Check
   pub first : IsFirst fault (first_refusal program setup certificate)
 
 -- Of a program's file, a certificate's file, an events file and a sink: the log or the pulses of
--- the run were written, or a beginning where the sink failed; where there is no run, what was
--- written is as it was.
+-- the run were written, or a prefix if the sink failed; where there is no run, the output is
+-- unchanged.
 abbrev pub Runs : Writing → Setup → List ℕ → List ℕ → List ℕ → Bool → Option (List ℕ) →
     Option (List ℕ) → Result Report AnswerFault → Type 0
 Runs writing setup bytes text events block_delete old new (Ok report) =

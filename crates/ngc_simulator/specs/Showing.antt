@@ -1,4 +1,4 @@
--- What showing a machine comes to.
+-- The result of showing a machine.
 use Rattle.std.specs.Prelude.{ℕ, Bool, true, false, List, Option, Result, Ok, Err}
 use Rattle.std.specs.Io.KnownBytes.{Appends}
 use Rattle.ngc_canonical.specs.State.{Setup}
@@ -8,12 +8,12 @@ use Rattle.ngc_text.specs.Written.{AppendsBeginning}
 use Rattle.ngc_setup_sheet.specs.Sheets.{sheet_text, warnings_text}
 use Rattle.ngc_inputs.specs.declared.fault.AnswerFault.{AnswerFault}
 
--- what is shown of a machine and its tools: the setup sheet, or its warnings alone
+-- the text that shows a machine and its tools: the setup sheet, or its warnings alone
 abbrev pub shown_text : Bool → MachineFile → List Tool → List ℕ
 shown_text false machine tools = sheet_text machine tools
 shown_text true machine tools = warnings_text machine tools
 
--- it is written, or where a write fails a beginning of it
+-- it is written, or a prefix of it if a write fails
 abbrev pub Shows : Bool → Setup → Option (List ℕ) → Option (List ℕ) →
     Result (Unit {0}) AnswerFault → Type 0
 Shows warnings setup old new (Ok u) =

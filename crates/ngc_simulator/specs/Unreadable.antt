@@ -1,4 +1,4 @@
--- What is told of a program that can't be read. Our own.
+-- The report of a program that can't be read. Our own.
 use Rattle.std.specs.Prelude.{◌≡◌, ◌⊎◌, ℕ, List, [], ◌++◌, codes, Option, IsSome, Bool, true, false}
 use Rattle.std.specs.Io.KnownBytes.{Appends, Keeps}
 use Rattle.ngc_text.specs.Written.{AppendsBeginning}
@@ -20,7 +20,7 @@ abbrev pub unreadable_line : Form → List ℕ
 unreadable_line Words = codes "The program can't be read.\n"
 unreadable_line Json = codes ",\n{\"fact\":\"unreadable\"}"
 
--- the line at fault with a mark below its column, or nothing where no line is
+-- the line at fault with a mark below its column, or nothing if there is no line
 abbrev pub marked_fault : Form → ReadFault → List ℕ → List ℕ
 marked_fault form (reads.Line number e) bytes =
     marked form number e.column (bytes_with number (lines_of bytes))
@@ -31,15 +31,15 @@ abbrev pub unreadable_text : Form → ReadFault → List ℕ → List ℕ
 unreadable_text form fault bytes = opening form
     ++ (unreadable_line form ++ (marked_fault form fault bytes ++ ending form (read_number fault)))
 
--- that memory ran out or a device failed is no fault of the text
+-- lack of memory or a device's failure isn't a fault of the text
 abbrev pub is_of_text : ReadFault → Bool
 is_of_text reads.Memory = false
 is_of_text reads.Device = false
 is_of_text _ = true
 
--- The program has this fault, which is told of a named file alone, since standard input isn't read
--- again; and where the sink failed, a beginning of that is written. A file that isn't read again,
--- as where it is too long or memory runs out, has nothing told.
+-- The program has this fault, which is reported for a named file only, since standard input isn't
+-- read again. If the sink failed, a prefix of the report is written. If the file isn't read again,
+-- as when it is too long or memory runs out, nothing is written.
 abbrev pub TellsUnreadable : Form → Option (List ℕ) → List ℕ → Option (List ℕ) → Option (List ℕ) →
     AnswerFault → Type 0
 TellsUnreadable form name bytes old new (answers.Read fault) =

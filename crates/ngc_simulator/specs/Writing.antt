@@ -1,4 +1,4 @@
--- What is written of a run, by the name of a form. Our own.
+-- The output of a run, by the name of a form. Our own.
 use Rattle.std.specs.Prelude.{ℕ, List, codes, Option, Some, None, Bool, if◌then◌else◌}
 use Rattle.std.specs.Str.{bytes_eq}
 use Rattle.ngc_command_line.specs.declared.options.Recording.{Recording}
@@ -6,7 +6,7 @@ use Rattle.ngc_command_line.specs.declared.options.Recording.TheVariants as reco
 use Rattle.ngc_simulator.specs.declared.writing.Writing.{Writing}
 use Rattle.ngc_simulator.specs.declared.writing.Writing.TheVariants.{Log, Times, Dump, Samples}
 
--- where no form is named
+-- the output where no form is named
 abbrev pub own_writing : Recording → Writing
 own_writing records.Log = Log
 own_writing records.Pulses = Dump
@@ -20,7 +20,7 @@ abbrev pub timed_writing : Recording → List ℕ → Option Writing
 timed_writing records.Log name = if bytes_eq name (codes "times") then Some Times else None
 timed_writing records.Pulses name = None
 
--- what a command that records this writes in the form with this name, if it has one
+-- the output of a command that records this, in the form with this name, if it has one
 abbrev pub writing_named : Recording → Option (List ℕ) → ℕ → Option Writing
 writing_named recording None inverted = Some (own_writing recording)
 writing_named recording (Some name) inverted =

@@ -40,7 +40,7 @@ fn tools_for(alloc: Global, numbers: &[u16]) -> Result<Tools<Global>, AnswerFaul
     }
 }
 
-// Returns whether a text has a meaning on a machine with its tools, at both settings of block
+// Checks whether a text has a meaning on a machine with its tools, at both settings of block
 // delete.
 fn understand(
     alloc: Global,
@@ -60,7 +60,7 @@ fn understand(
 }
 
 // Returns the report of a program that would be refused: status 3 of a program that has this fault.
-// A text in memory has no other fault than that memory was refused.
+// The only other fault of a text in memory is that memory was refused.
 fn refused(fault: AnswerFault, report: Vec<u8>) -> Result<Notes, AnswerFault>
     ensures left { IfOk result (λ notes. (notes.is_written ≡ false)
         × (notes.text.items ≡ report.items ++ refused_text fault) × (answer_status fault ≡ 3)) }
@@ -82,8 +82,8 @@ fn refused(fault: AnswerFault, report: Vec<u8>) -> Result<Notes, AnswerFault>
     }
 }
 
-// Writes the program of a file for another control as a program in our language, if nothing stands
-// in the way and what is written has a meaning on the machine with the tools that it names.
+// Writes the program of a file for another control as a program in our language, if nothing is
+// refused and the new program has a meaning on the machine with the tools that it names.
 fn adapt<W: Sink>(
     alloc: Global,
     request: &Request,
@@ -115,8 +115,8 @@ fn adapt<W: Sink>(
     })
 }
 
-// Returns what the options ask of a program, on no machine: 724 for a control that isn't known, and
-// 725 for codes to drop that are no list of M codes.
+// Returns the request of the options, without a machine: 724 for a control that isn't known, and
+// 725 if the codes to drop aren't a list of M codes.
 fn asked_by(options: &AdaptOptions<'_>) -> Result<Request, AnswerFault>
     ensures { MatchResult result (IsAsked options.now) (NoRequest options.now) }
 {
@@ -155,7 +155,7 @@ fn homes_of(machine: &Machine<Global>) -> Homes
     }
 }
 
-// Returns the homes are known where a machine file is named.
+// Returns the request on the named machine. The homes are known where a machine file is named.
 fn request_on(machine: &Machine<Global>, options: &AdaptOptions<'_>, asked: &Request) -> Request
     requires { IsAsked options.now asked.now }
     ensures { IsRequest options.now (file_of machine.now) result }
@@ -188,7 +188,7 @@ fn source_bytes<F: Files>(
     read_whole(alloc, &mut source, FILE_LIMIT)
 }
 
-// Returns the machine file is read first, and then the program.
+// Adapts the program of a file. The machine file is read first, and then the program.
 pub(crate) fn adapt_files<F: Files, W: Sink>(
     alloc: Global,
     options: &AdaptOptions<'_>,

@@ -21,7 +21,7 @@ use ngc_machine_files::{Machine, Tools};
 use ngc_text::{Sink, Source};
 use std::alloc::{Allocator, Global};
 
-/// Why a program that has no job has no certificate.
+/// Returns why a program that has no job has no certificate.
 pub(crate) fn refused(refusal: JobFault) -> AnswerFault
     ensures value { result ≡ refused_at refusal.setting refusal.fault }
     ensures faults { OfCertifying result }
@@ -35,7 +35,7 @@ pub(crate) fn refused(refusal: JobFault) -> AnswerFault
     }
 }
 
-/// Returns the certificate that is made for a job. Where no line begins with `/`, what is found
+/// Returns the certificate that is made for a job. If no line begins with `/`, one certificate
 /// serves both settings of block delete.
 pub(crate) fn made_for<A: Allocator + Copy>(
     alloc: A,
@@ -84,10 +84,10 @@ fn certificate_for<A: Allocator + Copy>(
     }
 }
 
-/// Writes the certificate of a program on a machine with its tools, in which a straight motion
-/// stands in at most `cuts` pieces: in version 1, or in version 2, joined where the settings of
-/// block delete begin alike. Nothing is written where there is none; where a write fails, a
-/// beginning is written.
+/// Writes the certificate of a program on a machine with its tools, in which a straight motion has
+/// at most `cuts` pieces. The format is version 1, or version 2, joined where the settings of block
+/// delete begin alike. Nothing is written if there is no certificate; if a write fails, a prefix is
+/// written.
 pub fn certify<A: Allocator + Copy, R: Source, W: Sink>(
     alloc: A,
     source: &mut R,
@@ -98,12 +98,12 @@ pub fn certify<A: Allocator + Copy, R: Source, W: Sink>(
     output: &mut W,
 ) -> Result<(), AnswerFault>
     requires { 1 ≤ cuts }
-    // Where the source's bytes are known, what is written is the certificate that is made for what
-    // they mean.
+    // Where the source's bytes are known, the output is the certificate that is made for their
+    // meaning.
     ensures certifies { IfSome (R.remaining source.old)
         (λ bytes. Certifies (setup_of machine tools) bytes cuts format
         (W.written output.old) (W.written output.new) result) }
-    // A fault of reading or writing comes only from a device that failed.
+    // A fault of reading or writing results only from a device that failed.
     ensures source { result ≡ Err (AnswerFault.Read Device) →
         Rises (R.failures source.old) (R.failures source.new) }
     ensures sink { FailsByOutput result (W.failures output.old) (W.failures output.new) }
@@ -119,7 +119,7 @@ pub fn certify<A: Allocator + Copy, R: Source, W: Sink>(
     Ok(())
 }
 
-// Returns the certificate of a program.
+// Writes the certificate of a program.
 pub(crate) fn certify_files<F: Files, W: Sink>(
     alloc: Global,
     options: &CertifyOptions<'_>,

@@ -17,9 +17,8 @@ use ngc_machine_files::{Machine, Tools};
 use ngc_text::{Sink, Source, write_all};
 use std::alloc::{Allocator, Global};
 
-/// Writes `accepted` where the certificate that a source gives shows that a program is safe on a
-/// machine with its tools. Nothing is written where it isn't; where a write fails, a beginning is
-/// written.
+/// Writes `accepted` if the certificate from a source shows that a program is safe on a machine
+/// with its tools. Otherwise nothing is written; if a write fails, a prefix is written.
 pub fn check_program<A: Allocator + Copy, S: Source, W: Sink>(
     alloc: A,
     program: &Program<A>,
@@ -28,14 +27,14 @@ pub fn check_program<A: Allocator + Copy, S: Source, W: Sink>(
     certificate: &mut S,
     output: &mut W,
 ) -> Result<(), AnswerFault>
-    // Whatever file the program was read from, where the bytes of the certificate are known: the
-    // answer is that of both.
+    // For any file from which the program was read, where the bytes of the certificate are known:
+    // the result is that of both.
     ensures checks { (bytes : List ℕ) → program_of bytes ≡ Ok (text_in program.now) →
         HaveReadings (text_in program.now).lines →
         IfSome (S.remaining certificate.old)
         (λ text. Checks (setup_of machine.now tools.now) bytes text (W.written output.old)
         (W.written output.new) result) }
-    // A fault of reading or writing comes only from a device that failed.
+    // A fault of reading or writing results only from a device that failed.
     ensures source { result ≡ Err (AnswerFault.Certificate ReadFailed) →
         Rises (S.failures certificate.old) (S.failures certificate.new) }
     ensures sink { FailsByOutput result (W.failures output.old) (W.failures output.new) }
@@ -50,8 +49,7 @@ pub fn check_program<A: Allocator + Copy, S: Source, W: Sink>(
     Ok(())
 }
 
-// Returns whether a certificate is accepted. The program is read before the certificate's file is
-// opened.
+// Checks a certificate. The program is read before the certificate's file is opened.
 pub(crate) fn check_files<F: Files, W: Sink>(
     alloc: Global,
     options: &CheckOptions<'_>,

@@ -1,22 +1,22 @@
 use ngc_program_report::RunTime;
 use std::alloc::Global;
 
-/// What is told on standard error beside what is written.
+/// Notes that are printed on standard error in addition to the output.
 #[derive(Drop)]
 pub struct Notes {
     /// Lines, each with its line feed.
     pub text: Vec<u8, Global>,
-    /// Whether what was asked is written. Where it isn't, the notes say why.
+    /// Whether the requested output is written. If it isn't, the notes say why.
     pub is_written: bool,
 }
 
-/// What is done where nothing is refused.
+/// The result of a command where nothing is refused.
 #[derive(Drop)]
 pub enum Done {
-    /// What is written says it all.
+    /// There is nothing to print besides the output.
     Quietly,
-    /// A program was run through to its end, and took so long.
+    /// A program was run through to its end, in this time.
     RunThrough(RunTime),
-    /// There is something to tell beside what is written.
+    /// There are notes to print besides the output.
     WithNotes(Notes),
 }

@@ -27,7 +27,7 @@ use ngc_program_report::met_at;
 use ngc_text::Sink;
 use std::alloc::Allocator;
 
-/// Returns the view with this name, and the top where none is given.
+/// Returns the view with this name, or the top if no name is passed.
 pub(crate) fn view_of(name: Option<&str>) -> Option<View>
     ensures { result ≡ view_named (option_map (λ n. n.now) name.entry) }
 {
@@ -39,7 +39,7 @@ pub(crate) fn view_of(name: Option<&str>) -> Option<View>
     }
 }
 
-/// Returns what a picture shows of a refusal: those for travel and for a fixture.
+/// Returns the refusal that a picture shows: one for travel or for a fixture.
 fn drawn_refusal(fault: &CheckFault) -> Option<RefusedMotion>
     ensures { result ≡ drawn_refusal fault.now }
 {
@@ -81,7 +81,7 @@ fn drawn_fixture(fixture: Option<u32>) -> Option<usize>
     fixture.map(|i| i as usize)
 }
 
-// Returns what is refused of these commands where a certificate is to be made for them.
+// Returns the refusal of these commands when a certificate is made for them.
 fn made_refusal<A: Allocator + Copy>(
     alloc: A,
     commands: &[Command],
@@ -115,8 +115,8 @@ fn setting_of(block_delete: bool) -> Setting
     }
 }
 
-// Returns what is refused of these commands with a certificate, and drawn. What is no refusal for
-// travel or a fixture isn't.
+// Returns the refusal of these commands with a certificate that is drawn. Only refusals for travel
+// or a fixture are drawn.
 fn checked_refusal<A: Allocator>(
     machine: &Machine<A>,
     block_delete: bool,
@@ -149,7 +149,7 @@ pub fn draw_program<A: Allocator + Copy, W: Sink>(
     block_delete: bool,
     output: &mut W,
 ) -> Result<(), AnswerFault>
-    // Whatever file the program was read from: the picture is that of what it means.
+    // For any file from which the program was read: the picture is that of its meaning.
     ensures draws { (bytes : List ℕ) → program_of bytes ≡ Ok (text_in program.now) →
         HaveReadings (text_in program.now).lines →
         DrawsProgram (setup_of machine.now tools.now) bytes block_delete look (W.written output.old)
@@ -172,9 +172,9 @@ pub fn draw_program<A: Allocator + Copy, W: Sink>(
     Ok(())
 }
 
-/// Draws a program on a machine, at a setting of block delete, if `look` says so with the bodies of
-/// the tools over the certificate's boxes, and the motion of which it doesn't show that it keeps to
-/// the travel and clears the fixtures.
+/// Draws a program on a machine, at a setting of block delete. If `look` says so, the bodies of the
+/// tools over the certificate's boxes are drawn. The motion for which the certificate doesn't show
+/// that it keeps to the travel and clears the fixtures is drawn as well.
 pub fn draw_certified<A: Allocator + Copy, W: Sink>(
     alloc: A,
     program: &Program<A>,
@@ -185,7 +185,7 @@ pub fn draw_certified<A: Allocator + Copy, W: Sink>(
     block_delete: bool,
     output: &mut W,
 ) -> Result<(), AnswerFault>
-    // Whatever files the program and the certificate were read from.
+    // For any files from which the program and the certificate were read.
     ensures draws { (bytes text : List ℕ) → program_of bytes ≡ Ok (text_in program.now) →
         HaveReadings (text_in program.now).lines →
         certificate_said text ≡ Ok (said_of certificate.now) →

@@ -13,7 +13,7 @@ use ngc_inputs::{AnswerFault, Files, read_certificate, read_program, read_shop};
 use ngc_text::Sink;
 use std::alloc::Global;
 
-// Returns a picture without a certificate. Each file is read before the next one is opened.
+// Draws a picture without a certificate. Each file is read before the next one is opened.
 fn draw_plain<F: Files, W: Sink>(
     alloc: Global,
     options: &DrawOptions<'_>,
@@ -46,7 +46,7 @@ fn draw_plain<F: Files, W: Sink>(
     Ok(Done::Quietly)
 }
 
-// Returns a picture with a certificate.
+// Draws a picture with a certificate.
 fn draw_with<F: Files, W: Sink>(
     alloc: Global,
     options: &DrawOptions<'_>,
@@ -82,7 +82,7 @@ fn draw_with<F: Files, W: Sink>(
     Ok(Done::Quietly)
 }
 
-/// Returns a picture of a program. The view is looked up before a file is read.
+/// Draws a picture of a program. The view is looked up before a file is read.
 pub(crate) fn draw_files<F: Files, W: Sink>(
     alloc: Global,
     options: &DrawOptions<'_>,

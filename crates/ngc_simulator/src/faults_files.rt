@@ -1,4 +1,4 @@
-//! All faults of a program, told before its first is answered.
+//! All faults of a program, written before its first is returned.
 ghost use Rattle.std.specs.Prelude.{◌≡◌, [], ◌∷◌, IfErr, IfSome, None, OnOk, Some, true};
 ghost use Rattle.std.specs.Prelude.{option_map};
 ghost use Rattle.ngc_canonical.specs.Interpreter.{setup_of};
@@ -31,7 +31,7 @@ fn first_among(off: &[TextFault], on: &[TextFault]) -> Option<(Setting, TextFaul
     }
 }
 
-// Returns a text in memory is read: no device fails.
+// Returns whether a fault is of the text: for a text in memory, no device fails.
 fn is_of_text(fault: &TextFault) -> bool
     ensures { result ≡ is_of_text fault.now }
 {
@@ -53,8 +53,8 @@ fn answer_of(setting: Setting, fault: TextFault) -> AnswerFault
     }
 }
 
-// Tells the faults of a text, if it has any, and answers the first. Where memory runs out nothing is
-// told.
+// Writes the faults of a text, if it has any, and returns the first. If memory runs out, nothing is
+// written.
 #[tactic(auto, using(crate::proofs::FaultsLaws::answered_read))]
 fn tell_text<W: Sink>(
     alloc: Global,
@@ -114,9 +114,9 @@ fn tell_named<F: Files, W: Sink>(
     tell_text(alloc, form, text.as_slice(), shop, output)
 }
 
-/// Tells all faults of a named program, where all are asked for, and answers the first: its lines
-/// that can't be read and those that are refused. Nothing is told of a program without a fault, nor
-/// where its file is too long or memory runs out.
+/// Writes all faults of a named program if all are requested, and returns the first: its lines that
+/// can't be read and those that are refused. Nothing is written for a program without a fault, or
+/// if its file is too long or memory runs out.
 pub(crate) fn tell_faults<F: Files, W: Sink>(
     alloc: Global,
     options: &ReportOptions<'_>,

@@ -1,5 +1,5 @@
-//! What the program does: it lists part programs, makes their certificates, checks them, runs the
-//! machine and shows it.
+//! The commands of the program: it lists part programs, makes their certificates, checks them, runs
+//! the machine and shows it.
 #![tactic(auto)]
 
 mod adapting;

@@ -19,8 +19,8 @@ use std::alloc::{Allocator, Global};
 
 /// Writes the listing of a program's commands on a machine with its tools, at a setting of block
 /// delete. Nothing is written where the program isn't read (101, 111 to 119, 121, 122, 901) or is
-/// refused (101, 102, 120, 131 to 133, 201 to 252), nor for want of memory (900); where a write
-/// fails (902), a beginning is written.
+/// refused (101, 102, 120, 131 to 133, 201 to 252), or memory runs out (900); if a write fails
+/// (902), a prefix is written.
 pub fn list<A: Allocator + Copy, R: Source, W: Sink>(
     alloc: A,
     source: &mut R,
@@ -29,11 +29,11 @@ pub fn list<A: Allocator + Copy, R: Source, W: Sink>(
     block_delete: bool,
     output: &mut W,
 ) -> Result<(), AnswerFault>
-    // Where the source's bytes are known, what is written is the listing of what they mean.
+    // Where the source's bytes are known, the output is the listing of their meaning.
     ensures lists { IfSome (R.remaining source.old)
         (λ bytes. Lists (setup_of machine.now tools.now) bytes block_delete (W.written output.old)
         (W.written output.new) result) }
-    // A fault of reading or writing comes only from a device that failed.
+    // A fault of reading or writing results only from a device that failed.
     ensures source { result ≡ Err (AnswerFault.Read Device) →
         Rises (R.failures source.old) (R.failures source.new) }
     ensures sink { FailsByOutput result (W.failures output.old) (W.failures output.new) }
@@ -45,7 +45,7 @@ pub fn list<A: Allocator + Copy, R: Source, W: Sink>(
     Ok(())
 }
 
-// Returns the listing of a program.
+// Writes the listing of a program.
 pub(crate) fn list_files<F: Files, W: Sink>(
     alloc: Global,
     options: &ListOptions<'_>,

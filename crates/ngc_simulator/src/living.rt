@@ -35,13 +35,13 @@ fn live_form(output: Option<&str>, inverted: u8) -> Option<LiveForm>
     }
 }
 
-/// Runs a program at a setting of block delete over the events that a source gives, as it gives
-/// them, and writes all that comes of them before it reads on. Where `feeds_ring` is set, loads come
-/// before each tick while the ring has room for a command that is left.
+/// Runs a program at a setting of block delete over the events of a source as they arrive, and
+/// writes the output of each line before it reads the next one. If `feeds_ring` is set, commands
+/// that are left are loaded before each tick while the ring has space for one.
 ///
 /// `verdict` is what `check` or `judge` returned for the program. A program that is refused isn't
-/// run, and nothing is read or written. A line that says no event (711) ends the run; what came of
-/// the lines before it is written. Where a write fails, a prefix of the output is written.
+/// run, and nothing is read or written. A line that isn't an event (711) ends the run; the output
+/// of the lines before it is written. Where a write fails, a prefix of the output is written.
 pub fn run_live<A: Allocator + Copy, S: Source, W: Sink>(
     alloc: A,
     verdict: Verdict<A>,
@@ -51,11 +51,12 @@ pub fn run_live<A: Allocator + Copy, S: Source, W: Sink>(
     feeds_ring: bool,
     output: &mut W,
 ) -> Result<(), AnswerFault>
-    // Whatever files the verdict is on: the answer is that of these and of what the source gives.
+    // For any files that the verdict is about: the result is that of these files and of the bytes
+    // from the source.
     ensures lives { (setup : Setup) (bytes text : List ℕ) → IsVerdict setup bytes text verdict →
         Lives form feeds_ring setup bytes text block_delete (S.remaining source.old) (S.remaining source.new)
         (W.written output.old) (W.written output.new) result }
-    // The source failed where the answer says so.
+    // The source failed if the result says so.
     ensures source { result ≡ Err (AnswerFault.Input InputFault.Device) →
         Rises (S.failures source.old) (S.failures source.new) }
     ensures sink { FailsByOutput result (W.failures output.old) (W.failures output.new) }
@@ -67,7 +68,7 @@ pub fn run_live<A: Allocator + Copy, S: Source, W: Sink>(
     Ok(())
 }
 
-// Returns a live run in this form. Each file is read before the next one is opened, and standard
+// Makes a live run in this form. Each file is read before the next one is opened, and standard
 // input is opened once all are read.
 fn live_files<F: Files, W: Sink>(
     alloc: Global,
@@ -98,7 +99,7 @@ fn live_files<F: Files, W: Sink>(
     Ok(Done::Quietly)
 }
 
-/// Returns a live run in the form that is asked for. The form is looked up before a file is read.
+/// Makes a live run in the requested form. The form is looked up before a file is read.
 pub(crate) fn live_asked<F: Files, W: Sink>(
     alloc: Global,
     options: &LiveOptions<'_>,

@@ -91,7 +91,7 @@ fn choices_of<'a>(options: &MachineOptions<'a>) -> Choices<'a>
     }
 }
 
-// Returns the figures that are asked: of a dump of GRBL's settings, or of the options.
+// Returns the requested figures: of a dump of GRBL's settings, or of the options.
 fn figures_asked(
     options: &MachineOptions<'_>,
     dump: Option<&[u8]>,
@@ -144,7 +144,7 @@ fn keys_text(
     }
 }
 
-// Returns the machine that a text says.
+// Returns the machine that a text describes.
 fn machine_in(alloc: Global, text: &[u8]) -> Result<Machine<Global>, AnswerFault>
     ensures { MatchResult result (λ m. machine_file text.now ≡ Ok (file_of m)) (IsNotRead text.now) }
 {
@@ -154,7 +154,7 @@ fn machine_in(alloc: Global, text: &[u8]) -> Result<Machine<Global>, AnswerFault
     }
 }
 
-// Returns a text with the warnings of a machine behind it, as comments.
+// Returns a text followed by the warnings of a machine, as comments.
 fn with_warnings(
     text: Vec<u8, Global>,
     machine: &Machine<Global>,
@@ -170,9 +170,9 @@ fn with_warnings(
     }
 }
 
-// Returns the whole text of a machine file: its keys, and behind them the warnings of the machine
-// that they say. The keys are read for that, and then the whole, so that what is written is a
-// machine file.
+// Returns the whole text of a machine file: its keys, followed by the warnings of the machine that
+// they describe. The keys are read for the warnings, and then the whole text, so that the output is
+// a machine file.
 fn made_text(
     alloc: Global,
     numbers: &MachineNumbers,
@@ -191,8 +191,8 @@ fn made_text(
     Ok(text)
 }
 
-// Writes the machine file of some figures. Nothing is written where they are refused, or where what
-// would be written isn't read as a machine file.
+// Writes the machine file of some figures. Nothing is written if they are refused, or if the text
+// isn't read as a machine file.
 fn make<W: Sink>(
     alloc: Global,
     options: &MachineOptions<'_>,
@@ -224,8 +224,8 @@ fn make<W: Sink>(
     })
 }
 
-// Returns the file with a dump of GRBL's settings is read first, if one is named: 726 where it is
-// named beside figures, and where neither it nor all figures are given.
+// Makes a machine file. The file with a dump of GRBL's settings is read first, if one is named. 726
+// if it is named together with figures, or if neither it nor all figures are present.
 pub(crate) fn machine_files<F: Files, W: Sink>(
     alloc: Global,
     options: &MachineOptions<'_>,

@@ -1,4 +1,4 @@
-//! The mistake of a machine file or a tool table that is refused, told before its fault.
+//! The mistake of a machine file or a tool table that is refused, written before its fault.
 ghost use Rattle.std.specs.Prelude.{◌≡◌, ◌≢◌, IfErr, IsSomeAnd, None, OnErr, OnOk, Some};
 ghost use Rattle.std.specs.Prelude.{option_map};
 ghost use Rattle.std.specs.Io.KnownBytes.{Appends};
@@ -47,7 +47,8 @@ fn tell_number<W: Sink>(fault: FileFault, output: &mut W) -> Result<(), AnswerFa
     Ok(())
 }
 
-// Of the file's bytes, which are read once more. Nothing is written where memory runs out.
+// Writes the mistake in the file's bytes, which are read once more. Nothing is written if memory
+// runs out.
 fn tell_machine_words<F: Files, W: Sink>(
     alloc: Global,
     name: &str,
@@ -163,7 +164,7 @@ pub(crate) fn read_shop_telling<F: Files, W: Sink>(
     ensures said { GivesTold form (F.bytes files.old) (Some machine.now)
         (option_map (λ n. n.now) tools.entry) (W.written output.old) (W.written output.new) result }
     ensures keeps { KeepsFiles (F.bytes files.old) (F.bytes files.new) }
-    // The first that isn't read can't be opened, its source fails, or it is too long.
+    // The first file that isn't read can't be opened, its source fails, or it is too long.
     ensures unread { FailsByInput (SourceFails F.R.remaining F.R.failures) (F.bytes files.old)
         (shop_inputs (Some machine.now) (option_map (λ n. n.now) tools.entry))
         (F.failures files.old) (F.failures files.new) result }

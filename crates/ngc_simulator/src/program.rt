@@ -64,10 +64,10 @@ fn run_command<F: Files, W: Sink>(
     }
 }
 
-/// Does what the options ask: writes output to the first sink, and the line of a fault, or of the
-/// time of a run to the end, or the report of a program that is adapted, to the second. It answers the exit status: 0 for done, 1 for input,
-/// output or memory, 3 for a file or a program that is refused, 4 for a certificate that is refused
-/// or isn't made.
+/// Does what the options request: writes output to the first sink, and the line of a fault, or of
+/// the time of a run to the end, or the report of a program that is adapted, to the second. It
+/// returns the exit status: 0 for done, 1 for input, output or memory, 3 for a file or a program
+/// that is refused, 4 for a certificate that is refused or isn't made.
 pub fn answer<F: Files, W: Sink, E: Sink>(
     alloc: Global,
     options: &Options<'_>,
@@ -76,7 +76,7 @@ pub fn answer<F: Files, W: Sink, E: Sink>(
     errors: &mut E,
 ) -> u8
     // Of the files that the options name: the listing, the certificate, the word that it is
-    // accepted, the log of the run, or a fault, and the status and the second sink tell which.
+    // accepted, the log of the run, or a fault, and the status and the second sink show which.
     ensures answers { Answers
         (record {
           bytes = F.bytes files.old;
@@ -99,8 +99,8 @@ pub fn answer<F: Files, W: Sink, E: Sink>(
           failures_now = E.failures errors.new;
         }) result }
     ensures status { IsStatus result }
-    // What is done has written what it had to, and nothing to the second sink but the time of a run
-    // to the end and the report of a program that is adapted.
+    // A command with status 0 has written its output. To the second sink it has written only the
+    // time of a run to the end or the report of an adapted program.
     ensures done { result ≡ 0 → W.failures output.new ≡ W.failures output.old }
     ensures quiet { IsQuiet options.now → result ≡ 0 → E.written errors.new ≡ E.written errors.old }
 {

@@ -1,4 +1,4 @@
-//! Whether a program fits, with how much room and how long it takes, or what is in the way.
+//! Whether a program fits, with its clearance and its time, or the obstacle.
 ghost use Rattle.std.specs.Prelude.{◌≡◌, ℕ, List, IfErr, IfSome, Ok, Err};
 ghost use Rattle.ngc_canonical.specs.Interpreter.{setup_of};
 ghost use Rattle.ngc_canonical.specs.State.{Setup};
@@ -21,7 +21,7 @@ use ngc_program_report::{ReportRequest, report_fit, report_refusal, write_reject
 use ngc_text::{Sink, Source};
 use std::alloc::Allocator;
 
-// Returns the report of a program that is refused at a setting, and the fault that is answered.
+// Writes the report of a program that is refused at a setting, and returns its fault.
 fn report_rejection<A: Allocator, W: Sink>(
     program: &Program<A>,
     setting: Setting,
@@ -29,7 +29,7 @@ fn report_rejection<A: Allocator, W: Sink>(
     request: ReportRequest,
     output: &mut W,
 ) -> AnswerFault
-    // Where memory ran out there is none.
+    // If memory ran out there is no report.
     ensures memory { fault ≡ ProgramFault.Memory →
         (result ≡ AnswerFault.Make MakeFault.Memory) ×
         (W.written output.new ≡ W.written output.old) }
@@ -51,10 +51,10 @@ fn report_rejection<A: Allocator, W: Sink>(
     }
 }
 
-/// Writes whether a program fits on a machine with its tools: how far it goes and with how much
-/// room, how each tool is used and how long it takes; or what is in the way, and 304 is answered. A
-/// program with lines that begin with `/` has a report for each setting of block delete. Another
-/// fault writes nothing, but where a write fails (902), a beginning is written.
+/// Writes whether a program fits on a machine with its tools: its extent and its clearance, the use
+/// of each tool and the time; or the obstacle, with fault 304. A program with lines that begin with
+/// `/` has a report for each setting of block delete. For any other fault nothing is written,
+/// except that a prefix is written if a write fails (902).
 pub fn report_program<A: Allocator + Copy, R: Source, W: Sink>(
     alloc: A,
     source: &mut R,
@@ -63,11 +63,11 @@ pub fn report_program<A: Allocator + Copy, R: Source, W: Sink>(
     request: ReportRequest,
     output: &mut W,
 ) -> Result<(), AnswerFault>
-    // Where the source's bytes are known, what is written is the report of what they mean.
+    // Where the source's bytes are known, the output is the report of their meaning.
     ensures reports { IfSome (R.remaining source.old)
         (λ bytes. Reports (setup_of machine tools) bytes request (W.written output.old)
         (W.written output.new) result) }
-    // A fault of reading or writing comes only from a device that failed.
+    // A fault of reading or writing results only from a device that failed.
     ensures source { result ≡ Err (AnswerFault.Read Device) →
         Rises (R.failures source.old) (R.failures source.new) }
     ensures sink { FailsByOutput result (W.failures output.old) (W.failures output.new) }

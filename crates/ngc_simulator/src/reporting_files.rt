@@ -32,9 +32,9 @@ fn request_of(options: &ReportOptions<'_>) -> ReportRequest
     }
 }
 
-/// Returns the report of a program. Its faults are those of a certificate that isn't made. Of a
-/// machine file or a tool table that is refused the mistake is written, and of a named program that
-/// can't be read the line at fault. Where all is asked for, all faults of a named program that
+/// Writes the report of a program. Its faults are those of a certificate that isn't made. If a
+/// machine file or a tool table is refused, its mistake is written. If a named program can't be
+/// read, the line at fault is written. If all is requested, all faults of a named program that
 /// can't be read or is refused are written.
 pub(crate) fn report_files<F: Files, W: Sink>(
     alloc: Global,

@@ -19,7 +19,7 @@ use ngc_run_log::{Report, RunFault, run, write_pulses, write_samples, write_time
 use ngc_text::Sink;
 use std::alloc::{Allocator, Global};
 
-// Runs what was accepted over events, and writes what is asked for.
+// Runs the accepted program over events, and writes the requested output.
 fn record_run<A: Allocator + Copy, W: Sink>(
     alloc: A,
     accepted: Accepted<A>,
@@ -57,7 +57,7 @@ pub fn run_program<A: Allocator + Copy, W: Sink>(
     writing: Writing,
     output: &mut W,
 ) -> Result<Report, AnswerFault>
-    // Whatever files the verdict is on: the answer is that of these and of the events.
+    // For any files that the verdict is about: the result is that of these files and of the events.
     ensures runs { (setup : Setup) (bytes text : List ℕ) → IsVerdict setup bytes text verdict →
         Runs writing setup bytes text events.now block_delete (W.written output.old)
         (W.written output.new) result }
@@ -77,7 +77,7 @@ pub fn run_program<A: Allocator + Copy, W: Sink>(
     Ok(report)
 }
 
-// Returns a run over events. Each file is read before the next one is opened. A refusal of the
+// Makes a run over events. Each file is read before the next one is opened. A refusal of the
 // certificate is returned only after the events are read and understood.
 fn run_files<F: Files, W: Sink>(
     alloc: Global,
@@ -107,7 +107,7 @@ fn run_files<F: Files, W: Sink>(
     Ok(Done::Quietly)
 }
 
-/// Returns a run in the form that is asked for. The form is looked up before a file is read.
+/// Makes a run in the requested form. The form is looked up before a file is read.
 pub(crate) fn run_asked<F: Files, W: Sink>(
     alloc: Global,
     options: &RunOptions<'_>,

@@ -19,7 +19,7 @@ use ngc_setup_sheet::{write_sheet, write_warnings};
 use ngc_text::{Sink, WriteFault};
 use std::alloc::Global;
 
-// Returns the setup sheet, or its warnings alone.
+// Writes the setup sheet, or its warnings alone.
 fn write_shown<W: Sink>(
     warnings: bool,
     machine: &Machine<Global>,
@@ -41,8 +41,8 @@ fn write_shown<W: Sink>(
     }
 }
 
-/// Returns a setup sheet, or its warnings alone. Both files are read before anything is written,
-/// and of one that is refused the mistake is.
+/// Writes a setup sheet, or its warnings alone. Both files are read before anything is written. If
+/// one is refused, its mistake is written.
 pub(crate) fn show_files<F: Files, W: Sink>(
     alloc: Global,
     options: &ShowOptions<'_>,

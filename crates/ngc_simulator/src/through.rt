@@ -22,7 +22,7 @@ use ngc_run_log::{
 use ngc_text::Sink;
 use std::alloc::{Allocator, Global};
 
-// Runs what was accepted through to its end, and writes what is asked for.
+// Runs the accepted program through to its end, and writes the requested output.
 fn record_through<A: Allocator + Copy, W: Sink>(
     alloc: A,
     accepted: Accepted<A>,
@@ -56,7 +56,7 @@ pub fn run_program_through<A: Allocator + Copy, W: Sink>(
     writing: Writing,
     output: &mut W,
 ) -> Result<Report, AnswerFault>
-    // Whatever files the verdict is on: the answer is that of these.
+    // For any files that the verdict is about: the result is that of these files.
     ensures runs { (setup : Setup) (bytes text : List ℕ) → IsVerdict setup bytes text verdict →
         RunsThrough writing setup bytes text block_delete (W.written output.old)
         (W.written output.new) result }
@@ -68,7 +68,7 @@ pub fn run_program_through<A: Allocator + Copy, W: Sink>(
     Ok(report)
 }
 
-// Returns a run to the end, and how long it took. Each file is read before the next one is opened.
+// Makes a run to the end, and returns its time. Each file is read before the next one is opened.
 fn run_through_files<F: Files, W: Sink>(
     alloc: Global,
     options: &RunThroughOptions<'_>,
@@ -92,7 +92,7 @@ fn run_through_files<F: Files, W: Sink>(
     }))
 }
 
-/// Returns a run in the form that is asked for. The form is looked up before a file is read.
+/// Makes a run in the requested form. The form is looked up before a file is read.
 pub(crate) fn run_through_asked<F: Files, W: Sink>(
     alloc: Global,
     options: &RunThroughOptions<'_>,

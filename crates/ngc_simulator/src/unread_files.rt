@@ -1,4 +1,4 @@
-//! The fault of a program that can't be read, told before it is answered.
+//! The fault of a program that can't be read, written before it is returned.
 ghost use Rattle.std.specs.Prelude.{◌≡◌, [], ◌∷◌, Err, IfSome, OnErr, OnOk, Some};
 ghost use Rattle.std.specs.Io.KnownBytes.{Appends};
 ghost use Rattle.ngc_text.specs.Failures.{CountsFailure};
@@ -38,7 +38,7 @@ fn unreadable_line(form: Form) -> &'static [u8]
     }
 }
 
-// Returns the line at fault, where one is, with a mark below its column.
+// Writes the line at fault, if there is one, with a mark below its column.
 fn write_marked_fault<W: Sink>(
     form: Form,
     text: &[u8],
@@ -62,7 +62,7 @@ fn write_marked_fault<W: Sink>(
     }
 }
 
-// Returns the report of a program's text that has a fault.
+// Writes the report of a program's text that has a fault.
 fn write_unreadable<W: Sink>(
     form: Form,
     text: &[u8],
@@ -83,9 +83,9 @@ fn write_unreadable<W: Sink>(
     write_ending(form, fault.number(), output)
 }
 
-/// Writes why the program of a named file can't be read, with the line at fault, and gives the
-/// fault that is answered: 901 where the file, which is read once more, isn't read a second time,
-/// and 902 where the write fails. Nothing is written where memory runs out.
+/// Writes why the program of a named file can't be read, with the line at fault, and returns the
+/// fault: 901 if the file, which is read once more, isn't read a second time, and 902 if the write
+/// fails. Nothing is written if memory runs out.
 pub(crate) fn tell_unreadable<F: Files, W: Sink>(
     alloc: Global,
     form: Form,
@@ -99,7 +99,7 @@ pub(crate) fn tell_unreadable<F: Files, W: Sink>(
         TellsUnreadable form (Some name.now) bytes (W.written output.old)
         (W.written output.new) result) }
     ensures keeps { KeepsFiles (F.bytes files.old) (F.bytes files.new) }
-    // Whichever of the two sources of the file failed.
+    // For either of the two sources of the file that failed.
     ensures unread { (fault ≡ Device →
         SourceFails F.R.remaining F.R.failures (F.bytes files.old (Some name.now))) →
         FailsByInput {T = Unit {0}} (SourceFails F.R.remaining F.R.failures) (F.bytes files.old)

@@ -1,15 +1,15 @@
-//! What is written of a run, from the options.
+//! The output of a run, from the options.
 ghost use Rattle.std.specs.Prelude.{◌≡◌, option_map};
 ghost use Rattle.ngc_simulator.specs.Writing.{is_own_name, own_writing, timed_writing, writing_named};
 
 use ngc_command_line::Recording;
 
-/// What is written of a run.
+/// The output of a run.
 #[derive(Clone, Copy)]
 pub enum Writing {
     /// The log.
     Log,
-    /// The log, each line of which begins with how many ticks were given before its event.
+    /// The log, each line of which begins with the number of ticks before its event.
     Times,
     /// The pulses as a value change dump.
     Dump,
@@ -17,7 +17,7 @@ pub enum Writing {
     Samples(u8),
 }
 
-// Returns what is written where no form is named.
+// Returns the output where no form is named.
 fn own_writing(recording: Recording) -> Writing
     ensures { result ≡ own_writing recording }
 {
@@ -52,7 +52,7 @@ fn timed_writing(recording: Recording, name: &str) -> Option<Writing>
     }
 }
 
-/// Returns what a command that records this writes in the form with this name, if it has one.
+/// Returns the output of a command that records this, in the form with this name, if it has one.
 pub(crate) fn writing_of(
     recording: Recording,
     output: Option<&str>,
