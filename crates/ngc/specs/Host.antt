@@ -1,4 +1,4 @@
--- How often a source answered a fault.
+-- The number of times that a source returned a fault.
 use Rattle.std.specs.Prelude.{ℕ}
 use Rattle.ngc_text.specs.Device.{failures_of as device_failures}
 use Rattle.ngc.specs.declared.host.HostSource.{HostSource}

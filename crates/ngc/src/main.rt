@@ -11,7 +11,7 @@ use ngc_text::{Device, write_all};
 use std::process::ExitCode;
 use std::{env, io};
 
-// Returns the words behind the program's name.
+// Returns the words after the program's name.
 fn words_of(rt: &HostRuntime) -> Result<Vec<String>, UsageFault> {
     let words = match env::args(rt) {
         Ok(words) => words,
@@ -29,7 +29,7 @@ fn words_of(rt: &HostRuntime) -> Result<Vec<String>, UsageFault> {
         .map_err(|_| UsageFault::Memory)
 }
 
-// Does what the words ask for, and answers the status.
+// Executes the command in the words, and returns the status.
 fn answer_words(rt: &HostRuntime) -> Result<u8, UsageFault> {
     let words = words_of(rt)?;
     let mut names = Vec::new(rt.alloc());
@@ -39,8 +39,8 @@ fn answer_words(rt: &HostRuntime) -> Result<u8, UsageFault> {
     let options = read_options(rt.alloc(), names.as_slice())?;
     let mut files = HostFiles::new(rt);
     let mut output = Output::new(rt.stdout());
-    // Told only where somebody still reads the output. A fault's line has its room from the beginning,
-    // also where memory runs out.
+    // Printed only if somebody still reads the output. The space for a fault's line exists from the
+    // beginning, also if memory runs out.
     let room = Vec::with_capacity(rt.alloc(), 512).map_err(|_| UsageFault::Memory)?;
     let mut told = Device::new(room);
     let status = answer(rt.alloc(), &options, &mut files, &mut output, &mut told);

@@ -1,7 +1,7 @@
 use ngc_text::{DeviceFault, Sink};
 use std::io::{self, Stdout, Write};
 
-/// Standard output. It remembers where its reader went away, as `head` does behind its lines.
+/// Standard output. It remembers whether its reader went away, as `head` does after its lines.
 #[derive(Drop)]
 pub struct Output {
     stdout: Stdout,

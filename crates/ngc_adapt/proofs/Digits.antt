@@ -1,4 +1,4 @@
--- How many digits a text begins with, and the number that they give.
+-- The number of digits at the start of a text, and the number that they form.
 use Rattle.std.proofs.lemmas.List.Folds.{length-prefix_len}
 use Rattle.std.proofs.lemmas.List.Sums.{fold_more}
 

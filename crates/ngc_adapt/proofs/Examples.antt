@@ -1,4 +1,4 @@
--- Numbers, items, rules and lines worked by hand, by computing the definitions.
+-- Examples of numbers, items, rules and lines, by computing the definitions.
 use Rattle.std.proofs.Common.{◌≡◌, ℕ, List, ◌++◌, Bool, true, false, [], ◌∷◌, Option, Some, None, refl}
 use Rattle.std.specs.Prelude.{codes}
 use Rattle.std.specs.Fmt.{digits}

@@ -1,4 +1,4 @@
--- How many digits a text begins with, and the number that they give.
+-- The number of digits at the start of a text, and the number that they form.
 pub mod Digits
 -- A list that is filtered element by element.
 pub mod Filtered
@@ -6,9 +6,9 @@ pub mod Filtered
 pub mod ItemLaws
 -- Lines whose items stay.
 pub mod LineLaws
--- Files of which nothing is changed.
+-- Files without changes.
 pub mod TextLaws
--- Numbers, items, rules and lines worked by hand, by computing the definitions.
+-- Examples of numbers, items, rules and lines, by computing the definitions.
 pub mod Examples
 -- A bracket byte by byte.
 pub mod BracketLaws
@@ -18,15 +18,15 @@ pub mod CommentLaws
 pub mod WordLaws
 -- The ends of texts that are added.
 pub mod EndLaws
--- What a rule may change.
+-- The words that a rule may change.
 pub mod RuleLaws
 -- The lines of a text.
 pub mod SourceLaws
--- Where a value ends, whatever follows it.
+-- The end of a value, for any text that follows.
 pub mod ValueLaws
--- Words that a rule writes, whatever follows them.
+-- Words that a rule writes, for any text that follows.
 pub mod PieceLaws
--- What is written of a line, read again.
+-- A rewritten line, read again.
 pub mod ReadLaws
 -- The report of items and lines.
 pub mod ReportLaws

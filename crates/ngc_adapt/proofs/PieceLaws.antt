@@ -1,4 +1,4 @@
--- Words that a rule writes, whatever follows them.
+-- Words that a rule writes, for any text that follows.
 use Rattle.std.proofs.Common.{◌≡◌, ℕ, zero, suc, ◌+◌, ◌-◌, ◌<◌, ◌≤◌, min, Bool, true, false, cond, List, [], ◌∷◌, ◌++◌, length, take, drop, refl, ap, ◌∙◌, sym, arith, add-one, length-append, append_assoc, Option, Some, None}
 use Rattle.std.specs.Prelude.{◌==◌, ◌/◌, ◌%◌, ◌&&◌, ◌||◌, not, filter, is_some, codes, decimal, nat_le}
 use Rattle.std.specs.Char.{is_ascii_digit}
@@ -138,7 +138,7 @@ number_digits : (n : Option ℕ) → begins_with_digits (number_text n)
 number_digits None = (48, [], refl, refl, refl)
 number_digits (Some n) = decimal_digits n
 
--- a number and a blank, behind a letter
+-- a number and a blank, after a letter
 pub number_fits : (c : ℕ) (n : Option ℕ) (s : List ℕ) → ((t : List ℕ) → bare_length (c ∷ t) ≡ value_length t + 1) → prefix_len is_of_number s ≡ 0
     → item_length (c ∷ ((number_text n ++ codes " ") ++ s)) ≡ length (c ∷ (number_text n ++ codes " "))
 number_fits c n s bare good =

@@ -1,4 +1,4 @@
--- What is written of a line, read again.
+-- A rewritten line, read again.
 use Rattle.std.proofs.Common.{◌≡◌, ℕ, zero, suc, ◌+◌, ◌<◌, ◌≤◌, min, Bool, true, false, cond, List, [], ◌∷◌, ◌++◌, length, take, drop, refl, ap, ◌∙◌, sym, arith, length-drop, length-append, append-nil, append_assoc, add-one, subst, Option, Some, None}
 use Rattle.std.specs.Prelude.{◌==◌, ◌&&◌, ◌||◌, not, nat_lt, filter, is_some, map, option_and_then, codes}
 use Rattle.std.specs.List.{list_any, list_all, prefix_len, concat}

@@ -1,4 +1,4 @@
--- Files of which nothing is changed.
+-- Files without changes.
 use Rattle.std.proofs.Common.{◌≡◌, ℕ, Bool, true, false, List, [], ◌∷◌, drop, refl, ap, ◌∙◌, cond}
 use Rattle.std.specs.Prelude.{not, map, filter, ◌||◌, ◌&&◌}
 use Rattle.std.specs.List.{list_all}

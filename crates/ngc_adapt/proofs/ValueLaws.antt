@@ -1,4 +1,4 @@
--- Where a value ends, whatever follows it.
+-- The end of a value, for any text that follows.
 use Rattle.std.proofs.Common.{◌≡◌, ℕ, zero, suc, ◌+◌, ◌<◌, ◌≤◌, Bool, true, false, cond, List, [], ◌∷◌, ◌++◌, length, take, drop, refl, ap, ◌∙◌, sym, arith, length-drop, Some, None}
 use Rattle.std.specs.Prelude.{◌==◌, ◌&&◌, ◌||◌, nat_lt, nat_le, filter, is_some, option_and_then}
 use Rattle.std.specs.Char.{is_ascii_digit}

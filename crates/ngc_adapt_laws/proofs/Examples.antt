@@ -1,4 +1,4 @@
--- Lines worked by hand, by computing the definitions.
+-- Examples of lines, by computing the definitions.
 use Rattle.std.proofs.Common.{◌≡◌, true, false, [], ◌∷◌, refl, None, Some}
 use Rattle.std.specs.Prelude.{codes}
 use Rattle.ngc_line_reader.specs.Grammar.{bare, minus, word, number}

@@ -1,4 +1,4 @@
--- Lines of which words are left out.
+-- Lines from which words are left out.
 use Rattle.std.proofs.Common.{◌≡◌, ℕ, Bool, true, false, List, [], ◌∷◌, ◌++◌, refl, ap, sym, ◌∙◌, Option, Some, None}
 use Rattle.std.specs.Prelude.{not, map, filter, is_some, option_and_then, if◌then◌else◌}
 use Rattle.std.specs.List.{list_all, concat, cons_option, filter_map}

@@ -4,7 +4,7 @@ pub mod Shown
 pub mod Words
 -- Lines of words.
 pub mod Lines
--- Lines of which words are left out.
+-- Lines from which words are left out.
 pub mod LeftOut
 -- Lines worked by hand.
 pub mod Examples

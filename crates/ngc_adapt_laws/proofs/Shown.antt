@@ -1,4 +1,4 @@
--- Texts of bytes that begin no comment: blanks are left out, and letters are in upper case.
+-- Texts of bytes that don't begin a comment: blanks are left out, and letters are in upper case.
 use Rattle.std.proofs.Common.{◌≡◌, ℕ, Bool, true, false, List, [], ◌∷◌, ◌++◌, length, refl, ap, ◌∙◌}
 use Rattle.std.specs.Prelude.{◌==◌, ◌&&◌, ◌||◌, not, filter, map, None, Some, if◌then◌else◌}
 use Rattle.std.specs.List.{list_all}

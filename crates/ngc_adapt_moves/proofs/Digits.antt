@@ -1,4 +1,4 @@
--- The number that digits give, digit by digit.
+-- The number that digits form, digit by digit.
 use Rattle.std.proofs.lemmas.List.Sums.{fold_more}
 
 pub ruleset valued = fold_more

@@ -1,4 +1,4 @@
--- Values, places and lines worked by hand, by computing the definitions.
+-- Examples of values, places and lines, by computing the definitions.
 use Rattle.std.proofs.Common.{◌≡◌, Bool, true, false, [], ◌∷◌, Option, Some, None, refl}
 use Rattle.std.specs.Prelude.{codes, ℤ, pos, negsuc}
 use Rattle.std.specs.Fmt.{digits}

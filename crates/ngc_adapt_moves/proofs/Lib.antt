@@ -1,8 +1,8 @@
--- The number that digits give.
+-- The number that digits form.
 pub mod Digits
 -- The words of a line.
 pub mod WordLaws
 -- The rewritten text of a line.
 pub mod LineLaws
--- Values, places and lines worked by hand, by computing the definitions.
+-- Examples of values, places and lines, by computing the definitions.
 pub mod Examples

@@ -1,4 +1,4 @@
--- What is written of a line, item by item.
+-- A rewritten line, item by item.
 use Rattle.std.proofs.Common.{cond, ◌≡◌, ℕ, Bool, true, false, List, [], ◌∷◌, ◌++◌, length, ap, refl}
 use Rattle.std.specs.Prelude.{◌&&◌, ◌||◌, not, codes, Option, Some, None}
 use Rattle.ngc_adapt.specs.Items.{items_of}

@@ -1,4 +1,4 @@
--- How many bytes a text begins with, and the number that digits give.
+-- The number of certain bytes at the start of a text, and the number that digits form.
 use Rattle.std.proofs.lemmas.List.Folds.{length-prefix_len}
 use Rattle.std.proofs.lemmas.List.Sums.{fold_more}
 

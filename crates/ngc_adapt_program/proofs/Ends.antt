@@ -1,4 +1,4 @@
--- The lines and items that are left, where none is.
+-- No line or item is left at the end.
 use Rattle.std.proofs.Common.{◌≡◌, ℕ, suc, ◌+◌, ◌<◌, Bool, false, List, [], ◌++◌, length, drop, get_or, add-one, drop-cons, ap, sym, ◌∙◌}
 use Rattle.std.specs.Prelude.{fold}
 use Rattle.std.specs.List.{list_any, flat_map}

@@ -1,4 +1,4 @@
--- How many bytes a text begins with, and the number that digits give.
+-- The number of certain bytes at the start of a text, and the number that digits form.
 mod Counted
 -- The lines and items that are left.
 mod Ends
@@ -8,7 +8,7 @@ mod Feeds
 mod Wholes
 -- Items that T and H don't begin.
 mod NoTools
--- What is read of a line.
+-- The part of a line that is read.
 mod ReadLaws
 -- Texts in which no rule applies.
 mod KeptLaws

@@ -1,4 +1,4 @@
--- What is read of a line.
+-- The part of a line that is read.
 use Rattle.std.proofs.Common.{◌≡◌, ℕ, Bool, true, false, List, ap, ◌∙◌}
 use Rattle.std.specs.Prelude.{if◌then◌else◌}
 use Rattle.ngc_adapt.specs.Plain.{is_plain, plain_line}

@@ -1,4 +1,4 @@
--- What is left of a text at its end, and the report of a whole text.
+-- The rest of a text at its end, and the report of a whole text.
 use Rattle.std.proofs.Common.{◌≡◌, ℕ, Bool, true, false, List, [], ◌++◌, length, refl, ap, append_assoc, ◌∙◌}
 use Rattle.std.specs.Prelude.{◌||◌}
 use Rattle.ngc_adapt.specs.declared.change.Change.{Change}
@@ -26,7 +26,7 @@ pub or_none : (a : Bool) → (a || false) ≡ a
 or_none true = refl
 or_none false = refl
 
--- two texts, one after another
+-- two texts in order
 pub joined : (old mid new a b : List ℕ) → mid ≡ old ++ a → new ≡ mid ++ b → new ≡ old ++ (a ++ b)
 joined old mid new a b first second = second ∙ ap (λ (t : List ℕ). t ++ b) first ∙ append_assoc old a b
 

@@ -20,13 +20,13 @@ use Rattle.clap.specs.declared.builder.value_parser.Reading.{Reading}
 use Rattle.clap.specs.declared.error.kind.ErrorKind.TheVariants.{TooManyValues}
 use Rattle.clap.specs.declared.parser.matches.ValueSource.{ValueSource}
 
--- of two steps that give no fault neither gives one
+-- of two steps that return no fault, neither returns one
 pub neither : (a b : Kinds) → or_else a b ≡ [] → (a ≡ []) × (b ≡ [])
 neither [] b none = (refl, none)
 neither (k ∷ ks) b none = let bad : k ∷ ks ≡ [] = none in cc
 
 module _ (P : Text → Text → Type 0) where
-  -- the values begin with one that may stand under the id
+  -- the values begin with one that is allowed under the id
   abbrev pub Begins : Text → List Text → Type 0
   Begins id [] = ⊥
   Begins id (v ∷ vs) = P id v
@@ -35,7 +35,7 @@ module _ (P : Text → Text → Type 0) where
   AreFilled [] = ⊤
   AreFilled (r ∷ rs) = Begins r.id r.values × AreFilled rs
 
-  -- a use that gives no fault, and a default, keep each row filled
+  -- a use that returns no fault, and a default, keep each row filled
   pub record IsSound (a : Rule) : Type 0 where
     pub uses : (again : Bool) (values : List Text) (rows : List Row) → use_fault again a values rows ≡ [] → AreFilled rows → AreFilled (used a values rows)
     pub defaults : (rows : List Row) → AreFilled rows → AreFilled (with_default rows a)

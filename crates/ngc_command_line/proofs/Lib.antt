@@ -2,13 +2,13 @@
 pub mod Filled
 -- The subcommand that was found, by its name and its values.
 pub mod Found
--- Which rules are sound, and what rows that are filled say of a name.
+-- The rules that are sound, and the meaning of filled rows for a name.
 pub mod Rules
--- The command is one of those of which `clap` gives the matches and the faults as a function.
+-- The command is one of those whose matches and faults `clap` defines as a function.
 pub mod Simple
--- The options are read back from the words that spell them.
+-- The options are read back from the words in which they are written.
 pub mod Spelled
--- What a step of building a command adds to what `clap` reads of it.
+-- The effect of a step of building a command on what `clap` reads.
 pub mod Steps
--- A subcommand of words that are taken has the values that it requires.
+-- A subcommand in accepted words has the values that it requires.
 pub mod Whole

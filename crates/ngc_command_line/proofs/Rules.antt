@@ -1,4 +1,4 @@
--- Which rules are sound, and what rows that are filled say of a name.
+-- The rules that are sound, and the meaning of filled rows for a name.
 use Rattle.std.proofs.Common.{◌≡◌, ℕ, Bool, true, false, not, ◌&&◌, ◌||◌, List, [], ◌∷◌, Option, Some, is_some, refl, subst, sym, if◌then◌else◌, codes, IfSome}
 use Rattle.std.specs.Prelude.{find, option_and_then, slice_get}
 use Rattle.std.specs.List.{list_any}
@@ -50,7 +50,7 @@ set_is_sound P a action least none takes = record { uses = uses; defaults = no_d
         subst (λ (x : ArgAction). AreFilled P (used_as x a.id (reading_by a) (v ∷ vs) rows)) (sym action)
         (with_values_filled P a.id (reading_by a) CommandLine (v ∷ vs) (without a.id rows) (takes v first) (without_filled P a.id rows filled))
 
--- a flag, whose value stands for it where it is met and where it is not
+-- a flag, whose value shows whether it is in the words or not
 pub flag_is_sound : (P : Text → Text → Type 0) (a : Rule) (met unmet : Text) → action_of a ≡ SetTrue → a.missing ≡ met ∷ [] → a.defaults ≡ unmet ∷ []
     → ((v : Text) → P a.id v) → IsSound P a
 flag_is_sound P a met unmet action missing defaults takes = record { uses = uses; defaults = default }
@@ -142,12 +142,12 @@ pub is_true : (b : Bool) → not b ≡ false → b ≡ true
 is_true true h = refl
 is_true false h = let bad : true ≡ false = h in cc
 
--- the level above a subcommand gives no fault only where the subcommand gives none
+-- the level above a subcommand returns no fault only if the subcommand returns none
 pub below_passes : (s : Shape) (names : Names) (words : List Text) (entered : Bool) (below : Kinds)
     → level_fault s names nothing_held words entered below ≡ [] → below ≡ []
 below_passes s names words entered below none = (neither below _ (neither _ _ none).1).0
 
--- a subcommand that gives no fault has its rows filled and what is required
+-- a subcommand that returns no fault has its rows filled, with the required values
 pub level_is_filled : (P : Text → Text → Type 0) (s : Shape) → AreSound P s.rules → (words : List Text) → level_fault s [] nothing_held words false [] ≡ []
     → AreFilled P (rows_after s.rules [] words)
     × (let is_missing : Rule → Bool = λ a. a.required && not (is_given a.id (rows_after s.rules [] words)) in list_any is_missing s.rules ≡ false)
@@ -170,7 +170,7 @@ source_of found = option_map_or (λ r. explicit_source r.source) found false
 abbrev first_in : Option Row → Option Text
 first_in found = option_and_then (λ r. slice_get r.values 0) found
 
--- what was given has a value
+-- each option that is present has a value
 pub given_has_value : (P : Text → Text → Type 0) (id : Text) (rows : List Row) → AreFilled P rows → is_given id rows ≡ true → is_some (first_of id rows) ≡ true
 given_has_value P id [] filled given = let bad : false ≡ true = given in cc
 given_has_value P id (r ∷ rs) filled given = pick (bytes_eq r.id id) (given_has_value P id rs filled.1) given

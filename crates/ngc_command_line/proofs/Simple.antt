@@ -1,4 +1,4 @@
--- The command is one of those of which `clap` gives the matches and the faults as a function.
+-- The command is one of those whose matches and faults `clap` defines as a function.
 use Rattle.std.proofs.Common.{◌≡◌, ◌∙◌, List, true, ap, inl, inr, refl, subst}
 use Rattle.clap.specs.Words.{App, HasKind, Kinds, Text, fault_of, is_simple, is_simple_and_free, kind_of}
 use Rattle.clap.specs.declared.error.Error.{Error}

@@ -1,4 +1,4 @@
--- The options are read back from the words that spell them.
+-- The options are read back from the words in which they are written.
 use Rattle.std.proofs.Common.{◌≡◌, ◌==◌, ◌∙◌, [], ◌∷◌, cond, drop, if◌then◌else◌, ℕ, Bool, true, false, List, Option, Some, None, refl, inl, inr, subst, sym}
 use Rattle.std.proofs.Common.{codes, ◌≤◌, ◌<◌, ◌^◌, ap, option_map, arith}
 use Rattle.std.specs.Prelude.{unwrap_or}
@@ -596,7 +596,7 @@ decimal_in_range cuts low high =
     let is = sym (decimal_value cuts high) in
     (digits, subst (λ (n : ℕ). n < 2 ^ 64) is small, subst (λ (n : ℕ). 1 ≤ n) is low, subst (λ (n : ℕ). n ≤ 65535) is high)
 
--- two steps that give no fault give none together
+-- two steps that return no fault return none together
 both : {first second : Kinds} → first ≡ [] → second ≡ [] → or_else first second ≡ []
 both {first} {second} none none_after = subst (λ (k : Kinds). or_else k second ≡ []) (sym none) none_after
 
@@ -627,12 +627,12 @@ certify_spells machine tools program (Some cuts) format range =
     let text = Accepts-accepts false (Unsigned 1 65535) (decimal cuts) (decimal_in_range cuts range.0 range.1) in
     certify_cuts_taken machine tools program cuts format (passes (accepts false (Unsigned 1 65535) (decimal cuts)) _ text)
 
--- the number that its decimal gives back
+-- the number that is read from its decimal
 cuts_read : (cuts : Option ℕ) (read : ℕ) → AreCutsInRange cuts → AreCuts (text_of cuts) read → read ≡ unwrap_or cuts 8
 cuts_read None read range are = are
 cuts_read (Some cuts) read range are = are.1 ∙ decimal_value cuts range.1
 
--- the version that its digit gives back
+-- the version that is read from its digit
 format_read : (format : Option Format) (read : Format) → IsFormat (text_of_format format) read → read ≡ unwrap_or format One
 format_read None read is = is
 format_read (Some One) One is = refl
@@ -857,7 +857,7 @@ adapt_spells from machine (Some tool) drop program range =
     let text = Accepts-accepts false (Unsigned 1 9999) (decimal tool) (tool_in_range tool range.0 range.1) in
     adapt_tool_taken from machine tool drop program (passes (accepts false (Unsigned 1 9999) (decimal tool)) _ text)
 
--- the number that its decimal gives back
+-- the number that is read from its decimal
 tool_read : (tool read : Option ℕ) → IsToolInRange tool → IsTool (text_of tool) read → read ≡ tool
 tool_read None None range is = refl
 tool_read None (Some read) range is = absurd is
@@ -1002,7 +1002,7 @@ machine_read words source corner ticks frame options spelled are =
     let Are : List Text → Type 0 = λ ws. AreOptions (subcommand_of ngc_app ws) options in
     machine_asked source corner ticks frame _ options (machine_spells source corner ticks frame).1 (subst Are spelled are)
 
--- the command whose help was asked for is this
+-- the command whose help was requested is this
 abbrev FindsHelp : Option Text → Option (Text × List Row) → Type 0
 FindsHelp command None = ⊥
 FindsHelp command (Some found) = (found.0 ≡ codes "help") × (first_of (codes "command") found.1 ≡ command)

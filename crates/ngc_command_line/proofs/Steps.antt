@@ -1,4 +1,4 @@
--- What a step of building a command adds to what `clap` reads of it.
+-- The effect of a step of building a command on what `clap` reads.
 use Rattle.std.proofs.Common.{◌≡◌, ℕ, ◌+◌, ◌<◌, Bool, true, false, not, ◌&&◌, List, [], ◌∷◌, ◌++◌, ap, ap₂, ◌∙◌, fold, get_or, is_some, length, map, refl, sym}
 use Rattle.std.proofs.Common.{take}
 use Rattle.std.proofs.lemmas.List.{take_more}

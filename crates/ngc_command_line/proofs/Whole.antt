@@ -1,4 +1,4 @@
--- A subcommand of words that are taken has the values that it requires.
+-- A subcommand in accepted words has the values that it requires.
 use Rattle.std.proofs.Common.{◌≡◌, ◌⊎◌, Bool, true, false, List, [], ◌∷◌, Option, Some, None, is_some, refl, inl, inr, subst, ap, length, sym, ◌∙◌, get_or}
 use Rattle.std.proofs.Common.{if◌then◌else◌, codes, option_map, arith}
 use Rattle.std.specs.Prelude.{find}

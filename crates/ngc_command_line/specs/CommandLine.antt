@@ -61,7 +61,7 @@ with_run_rules app = fold with_rule app
     ∷ file_option (codes "program") ∷ flag (codes "delete") ∷ file_option (codes "output")
     ∷ inverted_option ∷ [])
 
--- what runs a program is called by what it writes
+-- the name of a run's command, by its output
 abbrev pub run_name : Recording → Text
 run_name Log = codes "run"
 run_name Pulses = codes "pulses"
@@ -195,19 +195,19 @@ abbrev pub format_words : Option Format → List Text
 format_words None = []
 format_words (Some format) = (codes "--format=" ++ format_text format) ∷ []
 
--- the words of `ngc list` with these options, in one spelling
+-- the words of `ngc list` with these options, in one form
 abbrev pub list_words : Option Text → Option Text → Option Text → Bool → List Text
 list_words program machine tools delete = codes "list"
     ∷ (file_words (codes "--program=") program ++ file_words (codes "--machine=") machine
     ++ file_words (codes "--tools=") tools ++ flag_words (codes "--delete") delete)
 
--- the words of `ngc certify` with these options, in one spelling
+-- the words of `ngc certify` with these options, in one form
 abbrev pub certify_words : Text → Text → Option Text → Option ℕ → Option Format → List Text
 certify_words machine tools program cuts format = codes "certify"
     ∷ (codes "--machine=" ++ machine) ∷ (codes "--tools=" ++ tools)
     ∷ (file_words (codes "--program=") program ++ cuts_words cuts ++ format_words format)
 
--- the words of `ngc check` with these options, in one spelling
+-- the words of `ngc check` with these options, in one form
 abbrev pub check_words : Text → Text → Text → Option Text → List Text
 check_words machine tools certificate program = codes "check"
     ∷ (codes "--machine=" ++ machine) ∷ (codes "--tools=" ++ tools)
@@ -218,7 +218,7 @@ abbrev pub help_words : Option Text → List Text
 help_words None = codes "help" ∷ []
 help_words (Some command) = codes "help" ∷ command ∷ []
 
--- the words of `ngc draw` with these options, in one spelling
+-- the words of `ngc draw` with these options, in one form
 abbrev pub draw_words : Text → Text → Option Text → Option Text → Option Text → Bool → Bool →
     Bool → List Text
 draw_words machine tools certificate program view delete bodies whole = codes "draw"
@@ -227,12 +227,12 @@ draw_words machine tools certificate program view delete bodies whole = codes "d
     ++ file_words (codes "--view=") view ++ flag_words (codes "--delete") delete
     ++ flag_words (codes "--bodies") bodies ++ flag_words (codes "--whole") whole)
 
--- the words of `ngc show` with these options, in one spelling
+-- the words of `ngc show` with these options, in one form
 abbrev pub show_words : Text → Option Text → Bool → List Text
 show_words machine tools warnings = codes "show" ∷ (codes "--machine=" ++ machine)
     ∷ (file_words (codes "--tools=") tools ++ flag_words (codes "--warnings") warnings)
 
--- the words of `ngc report` with these options, in one spelling
+-- the words of `ngc report` with these options, in one form
 abbrev pub report_words : Text → Text → Option Text → Option ℕ → Bool → Bool → List Text
 report_words machine tools program cuts all json = codes "report"
     ∷ (codes "--machine=" ++ machine) ∷ (codes "--tools=" ++ tools)
@@ -244,13 +244,13 @@ abbrev pub tool_words : Option ℕ → List Text
 tool_words None = []
 tool_words (Some tool) = (codes "--tool=" ++ decimal tool) ∷ []
 
--- the words of `ngc adapt` with these options, in one spelling
+-- the words of `ngc adapt` with these options, in one form
 abbrev pub adapt_words : Text → Option Text → Option ℕ → Option Text → Option Text → List Text
 adapt_words from machine tool drop program = codes "adapt" ∷ (codes "--from=" ++ from)
     ∷ (file_words (codes "--machine=") machine ++ tool_words tool
     ++ file_words (codes "--drop=") drop ++ file_words (codes "--program=") program)
 
--- where the figures of a machine come from: a dump of GRBL's settings, or steps, travel, feed and
+-- the source of a machine's figures: a dump of GRBL's settings, or steps, travel, feed and
 -- acceleration
 pub data MachineSource : Type 0 where
   FromGrbl : (file : Text) → MachineSource
@@ -262,13 +262,13 @@ source_words (FromFigures steps travel feed acceleration) =
     (codes "--steps-per-mm=" ++ steps) ∷ (codes "--travel=" ++ travel)
     ∷ (codes "--feed=" ++ feed) ∷ (codes "--acceleration=" ++ acceleration) ∷ []
 
--- the words of `ngc machine` with these options, in one spelling
+-- the words of `ngc machine` with these options, in one form
 abbrev pub machine_words : MachineSource → Option Text → Option Text → Option Text → List Text
 machine_words source corner ticks frame = codes "machine"
     ∷ (source_words source ++ file_words (codes "--corner=") corner
     ++ file_words (codes "--ticks=") ticks ++ file_words (codes "--frame=") frame)
 
--- the words of `ngc run` or `ngc pulses` with these options, in one spelling
+-- the words of `ngc run` or `ngc pulses` with these options, in one form
 abbrev pub run_words : Recording → Text → Text → Text → Option Text → Option Text → Bool →
     Option Text → List Text
 run_words recording machine tools certificate events program delete output = run_name recording
@@ -277,7 +277,7 @@ run_words recording machine tools certificate events program delete output = run
     ∷ (file_words (codes "--events=") events ++ file_words (codes "--program=") program
     ++ flag_words (codes "--delete") delete ++ file_words (codes "--output=") output)
 
--- the words of `ngc live` with these options, in one spelling
+-- the words of `ngc live` with these options, in one form
 abbrev pub live_words : Text → Text → Text → Text → Bool → Option Text → Bool → List Text
 live_words machine tools certificate program delete output feed_ring = codes "live"
     ∷ (codes "--machine=" ++ machine) ∷ (codes "--tools=" ++ tools)

@@ -1,4 +1,4 @@
--- What the options are, by the subcommand that `clap` finds in the words and its values.
+-- The options, by the subcommand that `clap` finds in the words and its values.
 use Rattle.std.specs.Prelude.{◌≡◌, ◌≤◌, ℕ, Bool, List, [], ◌∷◌, ◌⊎◌, Option, Some, None, IfSome}
 use Rattle.std.specs.Prelude.{option_map, codes, false, true, is_some, unwrap_or}
 use Rattle.std.specs.Str.{bytes_eq}
@@ -43,8 +43,7 @@ use Rattle.ngc_command_line.specs.declared.UsageFault.TheVariants.{Usage, Memory
 abbrev pub IsTaken : List Text → Type 0
 IsTaken words = fault_of ngc_app words ≡ []
 
--- the first value of the flag is the text `true`, which `clap` gives it where it stands in the
--- words
+-- the first value of the flag is the text `true`, which `clap` sets if the flag is in the words
 abbrev pub is_set : Text → List Row → Bool
 is_set name rows = option_map_or (λ value. bytes_eq value (codes "true")) (first_of name rows) false
 
@@ -55,8 +54,8 @@ pub record AreListOptions (rows : List Row) (options : ListOptions) : Type 0 whe
   pub tools : option_map (λ name. name.now) options.tools ≡ first_of (codes "tools") rows
   pub delete : options.delete ≡ is_set (codes "delete") rows
 
--- the number of cuts: 8 where no text is given, else the number from 1 to 65,535 whose decimal the
--- text is; a plus sign may stand before it
+-- the number of cuts: 8 without a text, otherwise the number from 1 to 65,535 whose decimal the
+-- text is; a plus sign may precede it
 abbrev pub AreCuts : Option Text → ℕ → Type 0
 AreCuts None cuts = cuts ≡ 8
 AreCuts (Some text) cuts = IsNumeral 10 (without_leading_plus text)
@@ -66,15 +65,15 @@ abbrev pub format_number : Format → ℕ
 format_number One = 1
 format_number Two = 2
 
--- the version of a certificate's text: 1 where no text is given, else the one, 1 or 2, whose
--- number's decimal the text is; a plus sign may stand before it
+-- the version of a certificate's text: 1 without a text, otherwise 1 or 2, whose decimal the text
+-- is; a plus sign may precede it
 abbrev pub IsFormat : Option Text → Format → Type 0
 IsFormat None format = format ≡ One
 IsFormat (Some text) format = IsNumeral 10 (without_leading_plus text)
     × (format_number format ≡ digits_value 10 (without_leading_plus text))
 
--- the bits that are turned over: none where no text is given, else those of the number whose decimal
--- the text is; a plus sign may stand before it
+-- the bits that are inverted: none without a text, otherwise those of the number whose decimal the
+-- text is; a plus sign may precede it
 abbrev pub IsMask : Option Text → ℕ → Type 0
 IsMask None mask = mask ≡ 0
 IsMask (Some text) mask = IsNumeral 10 (without_leading_plus text)
@@ -88,7 +87,7 @@ pub record AreCertifyOptions (rows : List Row) (options : CertifyOptions) : Type
   pub cuts : AreCuts (first_of (codes "cuts") rows) options.cuts
   pub format : IsFormat (first_of (codes "format") rows) options.format
 
--- the number whose decimal the text is; a plus sign may stand before it
+-- the number whose decimal the text is; a plus sign may precede it
 abbrev pub IsNumber : Option Text → ℕ → Type 0
 IsNumber None number = ⊥
 IsNumber (Some text) number = IsNumeral 10 (without_leading_plus text)
@@ -168,8 +167,8 @@ pub record AreReportOptions (rows : List Row) (options : ReportOptions) : Type 0
   pub all : options.all ≡ is_set (codes "all") rows
   pub json : options.json ≡ is_set (codes "json") rows
 
--- the number of a tool: none where no text is given, else the number from 1 to 9,999 whose decimal
--- the text is; a plus sign may stand before it
+-- the number of a tool: none without a text, otherwise the number from 1 to 9,999 whose decimal the
+-- text is; a plus sign may precede it
 abbrev pub IsTool : Option Text → Option ℕ → Type 0
 IsTool None None = Unit {0}
 IsTool None (Some tool) = ⊥
@@ -207,48 +206,48 @@ pub record AreMachineOptions (rows : List Row) (options : MachineOptions) : Type
 abbrev pub HasValue : Text → List Row → Type 0
 HasValue name rows = is_some (first_of name rows) ≡ true
 
--- what is found for `certify` where the words are taken
+-- the values that are found for `certify` if the words are accepted
 abbrev pub HasCertifyValues : List Row → Type 0
 HasCertifyValues rows = HasValue (codes "machine") rows × HasValue (codes "tools") rows
     × IfSome (first_of (codes "cuts") rows) (IsUnsignedIn 1 65535) ×
     IfSome (first_of (codes "format") rows) (IsUnsignedIn 1 2)
 
--- what is found for `check` where the words are taken
+-- the values that are found for `check` if the words are accepted
 abbrev pub HasCheckValues : List Row → Type 0
 HasCheckValues rows = HasValue (codes "machine") rows × HasValue (codes "tools") rows
     × HasValue (codes "certificate") rows
 
--- what is found for `run` and `pulses` where the words are taken
+-- the values that are found for `run` and `pulses` if the words are accepted
 abbrev pub HasRunValues : List Row → Type 0
 HasRunValues rows = HasValue (codes "machine") rows × HasValue (codes "tools") rows
     × HasValue (codes "certificate") rows
     × IfSome (first_of (codes "inverted") rows) (IsUnsignedIn 0 255)
 
--- what is found for `live` where the words are taken
+-- the values that are found for `live` if the words are accepted
 abbrev pub HasLiveValues : List Row → Type 0
 HasLiveValues rows = HasValue (codes "machine") rows × HasValue (codes "tools") rows
     × HasValue (codes "certificate") rows × HasValue (codes "program") rows
     × IfSome (first_of (codes "inverted") rows) (IsUnsignedIn 0 255)
 
--- what is found for `draw` where the words are taken
+-- the values that are found for `draw` if the words are accepted
 abbrev pub HasDrawValues : List Row → Type 0
 HasDrawValues rows = HasValue (codes "machine") rows × HasValue (codes "tools") rows
 
--- what is found for `show` where the words are taken
+-- the values that are found for `show` if the words are accepted
 abbrev pub HasShowValues : List Row → Type 0
 HasShowValues rows = HasValue (codes "machine") rows
 
--- what is found for `report` where the words are taken
+-- the values that are found for `report` if the words are accepted
 abbrev pub HasReportValues : List Row → Type 0
 HasReportValues rows = HasValue (codes "machine") rows × HasValue (codes "tools") rows
     × IfSome (first_of (codes "cuts") rows) (IsUnsignedIn 1 65535)
 
--- what is found for `adapt` where the words are taken
+-- the values that are found for `adapt` if the words are accepted
 abbrev pub HasAdaptValues : List Row → Type 0
 HasAdaptValues rows = HasValue (codes "from") rows
     × IfSome (first_of (codes "tool") rows) (IsUnsignedIn 1 9999)
 
--- what is found for `explain` where the words are taken
+-- the values that are found for `explain` if the words are accepted
 abbrev pub HasExplainValues : List Row → Type 0
 HasExplainValues rows = HasValue (codes "number") rows
     × IfSome (first_of (codes "number") rows) (IsUnsignedIn 1 999)
@@ -295,7 +294,7 @@ AreOptions (Some found) (ToHelp command) = (found.0 ≡ codes "help")
     × (option_map (λ name. name.now) command ≡ first_of (codes "command") found.1)
 AreOptions (Some found) ToVersion = found.0 ≡ codes "version"
 
--- `list` is asked for, with these options
+-- `list` is requested, with these options
 abbrev pub AsksForList : Option Text → Option Text → Option Text → Bool → Options → Type 0
 AsksForList program machine tools delete (ToList list) =
     (option_map (λ name. name.now) list.program ≡ program)
@@ -304,7 +303,7 @@ AsksForList program machine tools delete (ToList list) =
     × (list.delete ≡ delete)
 AsksForList program machine tools delete other = ⊥
 
--- `certify` is asked for, with these options, and 8 cuts and version 1 where none are given
+-- `certify` is requested, with these options, and by default 8 cuts and version 1
 abbrev pub AsksForCertify : Text → Text → Option Text → Option ℕ → Option Format → Options → Type 0
 AsksForCertify machine tools program cuts format (ToCertify certify) =
     (certify.machine.now ≡ machine) × (certify.tools.now ≡ tools)
@@ -312,7 +311,7 @@ AsksForCertify machine tools program cuts format (ToCertify certify) =
     × (certify.cuts ≡ unwrap_or cuts 8) × (certify.format ≡ unwrap_or format One)
 AsksForCertify machine tools program cuts format other = ⊥
 
--- `check` is asked for, with these options
+-- `check` is requested, with these options
 abbrev pub AsksForCheck : Text → Text → Text → Option Text → Options → Type 0
 AsksForCheck machine tools certificate program (ToCheck check) =
     (check.machine.now ≡ machine) × (check.tools.now ≡ tools)
@@ -320,7 +319,7 @@ AsksForCheck machine tools certificate program (ToCheck check) =
     × (option_map (λ name. name.now) check.program ≡ program)
 AsksForCheck machine tools certificate program other = ⊥
 
--- a run that writes this is asked for, with these options, and no bits are turned over
+-- a run that writes this is requested, with these options, and no bits are inverted
 abbrev pub AsksForRun : Recording → Text → Text → Text → Option Text → Option Text → Bool →
     Option Text → Options → Type 0
 AsksForRun recording machine tools certificate (Some events) program delete output (ToRun run) =
@@ -335,7 +334,7 @@ AsksForRun recording machine tools certificate None program delete output (ToRun
     × (option_map (λ name. name.now) run.output ≡ output) × (run.inverted ≡ 0)
 AsksForRun recording machine tools certificate events program delete output other = ⊥
 
--- `live` is asked for, with these options, and no bits are turned over
+-- `live` is requested, with these options, and no bits are inverted
 abbrev pub AsksForLive : Text → Text → Text → Text → Bool → Option Text → Bool → Options → Type 0
 AsksForLive machine tools certificate program delete output feed_ring (ToLive live) =
     (live.machine.now ≡ machine) × (live.tools.now ≡ tools)
@@ -344,7 +343,7 @@ AsksForLive machine tools certificate program delete output feed_ring (ToLive li
     × (live.inverted ≡ 0) × (live.feed_ring ≡ feed_ring)
 AsksForLive machine tools certificate program delete output feed_ring other = ⊥
 
--- `draw` is asked for, with these options
+-- `draw` is requested, with these options
 abbrev pub AsksForDraw : Text → Text → Option Text → Option Text → Option Text → Bool → Bool →
     Bool → Options → Type 0
 AsksForDraw machine tools certificate program view delete bodies whole (ToDraw draw) =
@@ -355,14 +354,14 @@ AsksForDraw machine tools certificate program view delete bodies whole (ToDraw d
     × (draw.bodies ≡ bodies) × (draw.whole ≡ whole)
 AsksForDraw machine tools certificate program view delete bodies whole other = ⊥
 
--- `show` is asked for, with these options
+-- `show` is requested, with these options
 abbrev pub AsksForShow : Text → Option Text → Bool → Options → Type 0
 AsksForShow machine tools warnings (ToShow show) =
     (show.machine.now ≡ machine) × (option_map (λ name. name.now) show.tools ≡ tools)
     × (show.warnings ≡ warnings)
 AsksForShow machine tools warnings other = ⊥
 
--- `report` is asked for, with these options, and 8 cuts where none are given
+-- `report` is requested, with these options, and by default 8 cuts
 abbrev pub AsksForReport : Text → Text → Option Text → Option ℕ → Bool → Bool → Options → Type 0
 AsksForReport machine tools program cuts all json (ToReport report) =
     (report.machine.now ≡ machine) × (report.tools.now ≡ tools)
@@ -370,7 +369,7 @@ AsksForReport machine tools program cuts all json (ToReport report) =
     × (report.cuts ≡ unwrap_or cuts 8) × (report.all ≡ all) × (report.json ≡ json)
 AsksForReport machine tools program cuts all json other = ⊥
 
--- `adapt` is asked for, with these options
+-- `adapt` is requested, with these options
 abbrev pub AsksForAdapt : Text → Option Text → Option ℕ → Option Text → Option Text →
     Options → Type 0
 AsksForAdapt from machine tool drop program (ToAdapt adapt) =
@@ -399,7 +398,7 @@ abbrev pub acceleration_in : MachineSource → Option Text
 acceleration_in (FromGrbl file) = None
 acceleration_in (FromFigures steps travel feed acceleration) = Some acceleration
 
--- `machine` is asked for, with these options
+-- `machine` is requested, with these options
 abbrev pub AsksForMachine : MachineSource → Option Text → Option Text → Option Text →
     Options → Type 0
 AsksForMachine source corner ticks frame (ToMachine machine) =
@@ -420,20 +419,20 @@ AsksForMachine source corner ticks frame (ToMachine machine) =
     × (machine.arc_feed ≡ false)
 AsksForMachine source corner ticks frame other = ⊥
 
--- `help` is asked for, of this command
+-- `help` is requested, for this command
 abbrev pub AsksForHelp : Option Text → Options → Type 0
 AsksForHelp command (ToHelp asked) = option_map (λ name. name.now) asked ≡ command
 AsksForHelp command other = ⊥
 
--- a command, where one is given, is one of the program's
+-- a command, if there is one, is one of the program's
 abbrev pub AreCommands : Option Text → Type 0
 AreCommands command = IfSome command (IsNameAmong ngc_app.subs)
 
--- the number of cuts, where one is given, is from 1 to 65,535
+-- the number of cuts, if there is one, is from 1 to 65,535
 abbrev pub AreCutsInRange : Option ℕ → Type 0
 AreCutsInRange cuts = IfSome cuts (λ number. (1 ≤ number) × (number ≤ 65535))
 
--- the number of a tool, where one is given, is from 1 to 9,999
+-- the number of a tool, if there is one, is from 1 to 9,999
 abbrev pub IsToolInRange : Option ℕ → Type 0
 IsToolInRange tool = IfSome tool (λ number. (1 ≤ number) × (number ≤ 9999))
 

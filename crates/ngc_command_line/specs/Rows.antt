@@ -1,4 +1,4 @@
--- The commands that rows of the table stand for, as `clap` reads a command.
+-- The commands of the table's rows, as `clap` reads a command.
 use Rattle.std.specs.Prelude.{Some, None, codes, fold, map, if◌then◌else◌}
 use Rattle.clap.specs.Words.{App, Rule, Shape, new_app, new_rule, with_rule}
 use Rattle.clap.specs.declared.builder.action.ArgAction.TheVariants.{Set, SetTrue}

@@ -7,7 +7,7 @@ ghost use Rattle.ngc_command_line.specs.Meant.{HasValue, is_set};
 use crate::table::{Argument, Takes};
 use clap::ArgMatches;
 
-// What the help of a command ends with.
+// The end of a command's help.
 macro_rules! help_end {
     ($example:literal) => {
         concat!(

@@ -29,7 +29,7 @@ pub(crate) static VERSION: SubcommandRow<'static> = SubcommandRow {
     arguments: &[],
 };
 
-// Returns the command whose help is asked for.
+// Returns the command whose help is requested.
 pub(crate) fn topic<'a>(found: &ArgMatches<'a>) -> Option<&'a str>
     ensures { option_map (λ name. name.now) result
         ≡ first_of (codes "command") (rows_of (found_of found.now)) }

@@ -1,7 +1,7 @@
 //! The command line of the program `ngc`.
 //!
-//! `clap` reads the words, and `read_options` answers what they ask for. Help and refusals are the
-//! text that `clap` gives.
+//! `clap` reads the words, and `read_options` returns the options. Help and refusals are texts of
+//! `clap`.
 #![tactic(auto)]
 
 ghost use Rattle.std.specs.Prelude.{◌≡◌, Bool, IfOk, IsOkUnless, MatchResult, OnOk, Option, Some};
@@ -59,11 +59,11 @@ use show::show_options;
 use std::alloc::Global;
 use thiserror::Error;
 
-/// Why no options were read.
+/// The reason why no options were read.
 #[derive(Debug, Drop, Error)]
 pub enum UsageFault {
-    /// The words are no command line, or they ask for help. The text is for the user, and its last
-    /// line is ended.
+    /// The words aren't a command line, or they request help. The text is for the user, and its
+    /// last line ends with a line feed.
     #[error("{0}")]
     Usage(String),
     /// Memory ran out.
@@ -83,7 +83,7 @@ impl UsageFault {
     }
 }
 
-/// Why no help is given.
+/// The reason why no help is returned.
 #[derive(Clone, Copy, Debug, PartialEq, Eq, Error)]
 pub enum HelpFault {
     /// No command has the name: 722.
@@ -118,7 +118,7 @@ fn usage_fault(alloc: Global, error: clap::Error) -> UsageFault
     }
 }
 
-// Returns what a subcommand's matches ask for. A new subcommand is one more arm here.
+// Returns the options of a subcommand from its matches. A new subcommand is one more arm here.
 fn options_of<'a>(name: &str, found: &ArgMatches<'a>) -> Options<'a>
     requires { IsWhole name.now (rows_of (found_of found.now)) }
     ensures { AreOptions (Some (name.now, rows_of (found_of found.now))) result }
@@ -144,25 +144,25 @@ fn options_of<'a>(name: &str, found: &ArgMatches<'a>) -> Options<'a>
 
 /// Reads the words after the program's name.
 ///
-/// `Usage` comes only where `clap` finds a fault in the words, a call for help among them. Where it
-/// finds one and memory runs out as well, the answer may be either fault. The texts are shown by
-/// tests.
+/// The result is `Usage` only if `clap` finds a fault in the words; a request for help counts as
+/// one. If it finds one and memory runs out as well, the result may be either fault. The texts are
+/// shown by tests.
 pub fn read_options<'a>(alloc: Global, words: &'a [&'a str]) -> Result<Options<'a>, UsageFault>
     // The options are those of the subcommand that the words name. Words that name none are never
     // `Ok`.
     ensures options { IfOk result (AreOptions (subcommand_of ngc_app (texts words.entry.now))) }
     // Words are `Ok` only where `clap` finds no fault in them, and those in which it finds none are
-    // refused only for want of memory.
+    // refused only for lack of memory.
     ensures taken { OnOk result (IsTaken (texts words.entry.now)) }
     ensures refused { IsTaken (texts words.entry.now) → IsOkUnless result UsageFault.Memory }
-    // `list --program=FILE --machine=FILE --tools=FILE --delete` is read as it is spelled, where
+    // `list --program=FILE --machine=FILE --tools=FILE --delete` is read as it is written, where
     // each option may be left out.
     ensures spelled { (program machine tools : Option Text) (delete : Bool)
         → texts words.entry.now ≡ list_words program machine tools delete
         → MatchResult result (AsksForList program machine tools delete)
         (λ fault. fault ≡ UsageFault.Memory) }
     // `certify --machine=FILE --tools=FILE --program=FILE --cuts=N --format=VERSION` is read as it
-    // is spelled, where the last three may be left out.
+    // is written, where the last three may be left out.
     ensures spelled_certify { (machine tools : Text) (program : Option Text) (cuts : Option ℕ)
         (format : Option Format)
         → AreCutsInRange cuts
@@ -170,14 +170,14 @@ pub fn read_options<'a>(alloc: Global, words: &'a [&'a str]) -> Result<Options<'
         → MatchResult result (AsksForCertify machine tools program cuts format)
         (λ fault. fault ≡ UsageFault.Memory) }
     // `check --machine=FILE --tools=FILE --certificate=FILE --program=FILE` is read as it is
-    // spelled, where the last may be left out.
+    // written, where the last may be left out.
     ensures spelled_check { (machine tools certificate : Text) (program : Option Text)
         → texts words.entry.now ≡ check_words machine tools certificate program
         → MatchResult result (AsksForCheck machine tools certificate program)
         (λ fault. fault ≡ UsageFault.Memory) }
     // `run --machine=FILE --tools=FILE --certificate=FILE --events=FILE --program=FILE --delete
-    // --output=FORM` is read as it is spelled, where the last four may be left out, and so is
-    // `pulses` with the same.
+    // --output=FORM` is read as it is written, where the last four may be left out, and so is
+    // `pulses` with the same options.
     ensures spelled_run { (recording : Recording) (machine tools certificate : Text)
         (events program : Option Text) (delete : Bool) (output : Option Text)
         → texts words.entry.now
@@ -186,7 +186,7 @@ pub fn read_options<'a>(alloc: Global, words: &'a [&'a str]) -> Result<Options<'
         (AsksForRun recording machine tools certificate events program delete output)
         (λ fault. fault ≡ UsageFault.Memory) }
     // `live --machine=FILE --tools=FILE --certificate=FILE --program=FILE --delete --output=FORM
-    // --feed-ring` is read as it is spelled, where the last three may be left out.
+    // --feed-ring` is read as it is written, where the last three may be left out.
     ensures spelled_live { (machine tools certificate program : Text) (delete : Bool)
         (output : Option Text) (feed_ring : Bool)
         → texts words.entry.now
@@ -195,7 +195,7 @@ pub fn read_options<'a>(alloc: Global, words: &'a [&'a str]) -> Result<Options<'
         (AsksForLive machine tools certificate program delete output feed_ring)
         (λ fault. fault ≡ UsageFault.Memory) }
     // `draw --machine=FILE --tools=FILE --certificate=FILE --program=FILE --view=VIEW --delete
-    // --bodies --whole` is read as it is spelled, where the last six may be left out.
+    // --bodies --whole` is read as it is written, where the last six may be left out.
     ensures spelled_draw { (machine tools : Text) (certificate program : Option Text)
         (view : Option Text) (delete bodies whole : Bool)
         → texts words.entry.now
@@ -203,14 +203,14 @@ pub fn read_options<'a>(alloc: Global, words: &'a [&'a str]) -> Result<Options<'
         → MatchResult result
         (AsksForDraw machine tools certificate program view delete bodies whole)
         (λ fault. fault ≡ UsageFault.Memory) }
-    // `show --machine=FILE --tools=FILE --warnings` is read as it is spelled, where the last two may
-    // be left out.
+    // `show --machine=FILE --tools=FILE --warnings` is read as it is written, where the last two
+    // may be left out.
     ensures spelled_show { (machine : Text) (tools : Option Text) (warnings : Bool)
         → texts words.entry.now ≡ show_words machine tools warnings
         → MatchResult result (AsksForShow machine tools warnings)
         (λ fault. fault ≡ UsageFault.Memory) }
     // `report --machine=FILE --tools=FILE --program=FILE --cuts=N --all --json` is read as it is
-    // spelled, where the last four may be left out.
+    // written, where the last four may be left out.
     ensures spelled_report { (machine tools : Text) (program : Option Text) (cuts : Option ℕ)
         (all json : Bool)
         → AreCutsInRange cuts
@@ -218,16 +218,16 @@ pub fn read_options<'a>(alloc: Global, words: &'a [&'a str]) -> Result<Options<'
         → MatchResult result (AsksForReport machine tools program cuts all json)
         (λ fault. fault ≡ UsageFault.Memory) }
     // `adapt --from=CONTROL --machine=FILE --tool=N --drop=CODES --program=FILE` is read as it is
-    // spelled, where the last four may be left out.
+    // written, where the last four may be left out.
     ensures spelled_adapt { (from : Text) (machine : Option Text) (tool : Option ℕ)
         (drop program : Option Text)
         → IsToolInRange tool
         → texts words.entry.now ≡ adapt_words from machine tool drop program
         → MatchResult result (AsksForAdapt from machine tool drop program)
         (λ fault. fault ≡ UsageFault.Memory) }
-    // `machine --grbl=FILE --corner=SPEED --ticks=N --frame=END` is read as it is spelled, where the
-    // last three may be left out, and so is `machine --steps-per-mm=N --travel=X,Y,Z --feed=X,Y,Z
-    // --acceleration=X,Y,Z` with the same three. Its other options are left to tests.
+    // `machine --grbl=FILE --corner=SPEED --ticks=N --frame=END` is read as it is written, where
+    // the last three may be left out, and so is `machine --steps-per-mm=N --travel=X,Y,Z
+    // --feed=X,Y,Z --acceleration=X,Y,Z` with the same three. Its other options are left to tests.
     ensures spelled_machine { (source : MachineSource) (corner ticks frame : Option Text)
         → texts words.entry.now ≡ machine_words source corner ticks frame
         → MatchResult result (AsksForMachine source corner ticks frame)
@@ -266,7 +266,7 @@ fn text_of_help(alloc: Global, error: clap::Error) -> Result<String, HelpFault> 
     }
 }
 
-// Returns the help that these words ask for.
+// Returns the help that these words request.
 fn help_of<'a>(alloc: Global, words: &'a [&'a str]) -> Result<String, HelpFault> {
     let Ok(command) = ngc_command(alloc) else {
         return Err(HelpFault::Memory);
@@ -277,13 +277,13 @@ fn help_of<'a>(alloc: Global, words: &'a [&'a str]) -> Result<String, HelpFault>
     }
 }
 
-/// Returns the help of a command, or with none that of the program: the text that `--help` behind
-/// the command's name gives.
+/// Returns the help of a command, or of the program if no command is named: the text of `--help`
+/// after the command's name.
 ///
 /// The texts are shown by tests.
 pub fn help_text(alloc: Global, command: Option<&str>) -> Result<String, HelpFault> {
     match command {
-        // An option is no command's name.
+        // An option isn't the name of a command.
         Some(name) if name.starts_with("-") => Err(HelpFault::Unknown),
         Some(name) => help_of(alloc, &[name, "--help"]),
         None => help_of(alloc, &["--help"]),

@@ -1,8 +1,8 @@
-//! What the program can be asked to do.
+//! The commands of the program with their options.
 
 ghost use Rattle.std.specs.Prelude.{◌≤◌};
 
-/// What the program is asked to do.
+/// A command of the program with its options.
 #[derive(Clone, Copy)]
 pub enum Options<'a> {
     /// `ngc list`: print the commands of a part program.
@@ -16,22 +16,21 @@ pub enum Options<'a> {
     Run(RunOptions<'a>),
     /// `ngc run` and `ngc pulses` without events: run a part program through to its end.
     RunThrough(RunThroughOptions<'a>),
-    /// `ngc live`: run a part program on the machine over events that arrive while it goes on.
+    /// `ngc live`: run a part program on the machine over events that arrive during the run.
     Live(LiveOptions<'a>),
     /// `ngc draw`: draw a part program on the machine.
     Draw(DrawOptions<'a>),
-    /// `ngc show`: print what a machine file and a tool table say.
+    /// `ngc show`: print the contents of a machine file and a tool table.
     Show(ShowOptions<'a>),
-    /// `ngc report`: tell whether a part program fits a machine, with how much room and how long it
-    /// takes.
+    /// `ngc report`: report whether a part program fits a machine, with its clearance and its time.
     Report(ReportOptions<'a>),
-    /// `ngc adapt`: print a part program for another control as one for this.
+    /// `ngc adapt`: print a part program for another control as one for this control.
     Adapt(AdaptOptions<'a>),
-    /// `ngc machine`: print a machine file from figures at hand.
+    /// `ngc machine`: print a machine file from figures.
     Machine(MachineOptions<'a>),
-    /// `ngc explain`: print what is told of the fault with this number, 1 to 999.
+    /// `ngc explain`: print the explanation of the fault with this number, 1 to 999.
     Explain(u16),
-    /// `ngc help`: print the help of a command. With none it is that of the program.
+    /// `ngc help`: print the help of a command, or of the program if no command is named.
     Help(Option<&'a str>),
     /// `ngc version`: print the program's name and version.
     Version,
@@ -40,11 +39,11 @@ pub enum Options<'a> {
 /// The options of `ngc list`.
 #[derive(Clone, Copy)]
 pub struct ListOptions<'a> {
-    /// The file of the part program. With none it comes from standard input.
+    /// The file of the part program. Without one it is read from standard input.
     pub program: Option<&'a str>,
-    /// The machine file. With none a built-in small mill is used.
+    /// The machine file. Without one a built-in small mill is used.
     pub machine: Option<&'a str>,
-    /// The file of the tool table. With none there are no tools.
+    /// The file of the tool table. Without one there are no tools.
     pub tools: Option<&'a str>,
     /// Whether block delete is on, so that lines that begin with `/` are left out.
     pub delete: bool,
@@ -66,11 +65,12 @@ pub struct CertifyOptions<'a> {
     pub machine: &'a str,
     /// The file of the tool table.
     pub tools: &'a str,
-    /// The file of the part program. With none it comes from standard input.
+    /// The file of the part program. Without one it is read from standard input.
     pub program: Option<&'a str>,
-    /// The most pieces that a motion is cut into, from 1 to 65,535. Where none is given it is 8.
+    /// The greatest number of pieces into which a motion is cut, from 1 to 65,535. The default is
+    /// 8.
     pub cuts: u16,
-    /// The version of the text. Where none is given it is 1.
+    /// The version of the text. The default is 1.
     pub format: Format,
     ghost some_cuts: { 1 ≤ cuts },
 }
@@ -84,11 +84,11 @@ pub struct CheckOptions<'a> {
     pub tools: &'a str,
     /// The file of the certificate.
     pub certificate: &'a str,
-    /// The file of the part program. With none it comes from standard input.
+    /// The file of the part program. Without one it is read from standard input.
     pub program: Option<&'a str>,
 }
 
-/// What a run writes.
+/// The output of a run.
 #[derive(Clone, Copy)]
 pub enum Recording {
     /// `ngc run`: the log.
@@ -100,7 +100,7 @@ pub enum Recording {
 /// The options of `ngc run` and `ngc pulses` with events.
 #[derive(Clone, Copy)]
 pub struct RunOptions<'a> {
-    /// What is written.
+    /// The output.
     pub recording: Recording,
     /// The machine file.
     pub machine: &'a str,
@@ -110,21 +110,21 @@ pub struct RunOptions<'a> {
     pub certificate: &'a str,
     /// The file of the events.
     pub events: &'a str,
-    /// The file of the part program. With none it comes from standard input.
+    /// The file of the part program. Without one it is read from standard input.
     pub program: Option<&'a str>,
     /// Whether block delete is on, so that lines that begin with `/` are left out.
     pub delete: bool,
-    /// The name of the form: `samples`, or `log` of the log and `vcd` of the pulses, and else none
-    /// has it. With none given it is not samples.
+    /// The name of the form: `samples`, or `log` for the log and `vcd` for the pulses. Any other
+    /// name is unknown. The default isn't samples.
     pub output: Option<&'a str>,
-    /// The bits that are turned over in each byte of the samples. Where none are given it is 0.
+    /// The bits that are inverted in each byte of the samples. The default is 0.
     pub inverted: u8,
 }
 
 /// The options of `ngc run` and `ngc pulses` without events.
 #[derive(Clone, Copy)]
 pub struct RunThroughOptions<'a> {
-    /// What is written.
+    /// The output.
     pub recording: Recording,
     /// The machine file.
     pub machine: &'a str,
@@ -132,14 +132,14 @@ pub struct RunThroughOptions<'a> {
     pub tools: &'a str,
     /// The file of the certificate.
     pub certificate: &'a str,
-    /// The file of the part program. With none it comes from standard input.
+    /// The file of the part program. Without one it is read from standard input.
     pub program: Option<&'a str>,
     /// Whether block delete is on, so that lines that begin with `/` are left out.
     pub delete: bool,
-    /// The name of the form: `samples`, or `log` of the log and `vcd` of the pulses, and else none
-    /// has it. With none given it is not samples.
+    /// The name of the form: `samples`, or `log` for the log and `vcd` for the pulses. Any other
+    /// name is unknown. The default isn't samples.
     pub output: Option<&'a str>,
-    /// The bits that are turned over in each byte of the samples. Where none are given it is 0.
+    /// The bits that are inverted in each byte of the samples. The default is 0.
     pub inverted: u8,
 }
 
@@ -156,11 +156,11 @@ pub struct LiveOptions<'a> {
     pub program: &'a str,
     /// Whether block delete is on, so that lines that begin with `/` are left out.
     pub delete: bool,
-    /// The name of the form: `log` or `samples`, and else none has it. With none given it is the log.
+    /// The name of the form: `log` or `samples`. Any other name is unknown. The default is the log.
     pub output: Option<&'a str>,
-    /// The bits that are turned over in each byte of the samples. Where none are given it is 0.
+    /// The bits that are inverted in each byte of the samples. The default is 0.
     pub inverted: u8,
-    /// Whether commands are loaded before each tick, while the ring has room.
+    /// Whether commands are loaded before each tick, while the ring has space.
     pub feed_ring: bool,
 }
 
@@ -171,12 +171,12 @@ pub struct DrawOptions<'a> {
     pub machine: &'a str,
     /// The file of the tool table.
     pub tools: &'a str,
-    /// The file of the certificate whose boxes may be drawn. With none no boxes are.
+    /// The file of the certificate whose boxes may be drawn. Without one no boxes are drawn.
     pub certificate: Option<&'a str>,
-    /// The file of the part program. With none it comes from standard input.
+    /// The file of the part program. Without one it is read from standard input.
     pub program: Option<&'a str>,
-    /// The name of the view: `top`, `front` or `side`, and else none has it. With none given it is
-    /// from the top.
+    /// The name of the view: `top`, `front` or `side`. Any other name is unknown. The default is
+    /// the top.
     pub view: Option<&'a str>,
     /// Whether block delete is on, so that lines that begin with `/` are left out.
     pub delete: bool,
@@ -192,7 +192,7 @@ pub struct DrawOptions<'a> {
 pub struct ShowOptions<'a> {
     /// The machine file.
     pub machine: &'a str,
-    /// The file of the tool table. With none there are no tools.
+    /// The file of the tool table. Without one there are no tools.
     pub tools: Option<&'a str>,
     /// Whether the warnings alone are printed.
     pub warnings: bool,
@@ -205,11 +205,12 @@ pub struct ReportOptions<'a> {
     pub machine: &'a str,
     /// The file of the tool table.
     pub tools: &'a str,
-    /// The file of the part program. With none it comes from standard input.
+    /// The file of the part program. Without one it is read from standard input.
     pub program: Option<&'a str>,
-    /// The most pieces that a motion is cut into, from 1 to 65,535. Where none is given it is 8.
+    /// The greatest number of pieces into which a motion is cut, from 1 to 65,535. The default is
+    /// 8.
     pub cuts: u16,
-    /// Whether every command that no cut clears is told, and not the first alone.
+    /// Whether every command that no cut clears is reported, and not only the first one.
     pub all: bool,
     /// Whether the report is a JSON document in place of sentences.
     pub json: bool,
@@ -221,47 +222,47 @@ pub struct ReportOptions<'a> {
 pub struct AdaptOptions<'a> {
     /// The name of the control that the program is written for.
     pub from: &'a str,
-    /// The machine file. With none a built-in small mill is used.
+    /// The machine file. Without one a built-in small mill is used.
     pub machine: Option<&'a str>,
     /// The number of the tool, 1 to 9,999, to mount in front of a program that mounts none.
     pub tool: Option<u16>,
     /// The M codes that the machine can do without.
     pub drop: Option<&'a str>,
-    /// The file of the part program. With none it comes from standard input.
+    /// The file of the part program. Without one it is read from standard input.
     pub program: Option<&'a str>,
 }
 
-/// The options of `ngc machine`, as they are written.
+/// The options of `ngc machine`, as texts.
 #[derive(Clone, Copy)]
 pub struct MachineOptions<'a> {
-    /// The file of what GRBL prints for `$$`. With it the four figures below are left out.
+    /// The file with GRBL's output for `$$`. With it the four figures below are left out.
     pub grbl: Option<&'a str>,
-    /// Steps for a millimetre.
+    /// Steps per millimetre.
     pub steps: Option<&'a str>,
-    /// How far each axis goes, in millimetres.
+    /// The travel of each axis, in millimetres.
     pub travel: Option<&'a str>,
-    /// The greatest speed of each axis, in millimetres a minute.
+    /// The greatest speed of each axis, in millimetres per minute.
     pub feed: Option<&'a str>,
     /// The greatest acceleration of each axis, in millimetres per second squared.
     pub acceleration: Option<&'a str>,
-    /// The speed through a corner, in millimetres a second.
+    /// The speed through a corner, in millimetres per second.
     pub corner: Option<&'a str>,
-    /// Ticks of the controller a second.
+    /// Ticks of the controller per second.
     pub ticks: Option<&'a str>,
-    /// At which end of its travel each axis has its zero.
+    /// The end of its travel at which each axis has its zero.
     pub frame: Option<&'a str>,
-    /// How much the speed of an axis may change where two motions meet, in millimetres a second.
+    /// The greatest change of an axis's speed where two motions meet, in millimetres per second.
     pub jump: Option<&'a str>,
     /// The greatest acceleration towards the centre of an arc, in millimetres per second squared.
     pub turn: Option<&'a str>,
-    /// Where the machine starts, in millimetres.
+    /// The position at which the machine starts, in millimetres.
     pub start: Option<&'a str>,
-    /// Where G28 goes, in millimetres.
+    /// The position to which G28 goes, in millimetres.
     pub home28: Option<&'a str>,
-    /// Where G30 goes, in millimetres.
+    /// The position to which G30 goes, in millimetres.
     pub home30: Option<&'a str>,
-    /// How many commands are loaded and not done at most.
+    /// The greatest number of commands that are loaded and not done.
     pub ring: Option<&'a str>,
-    /// Whether arcs run at their feed at every place.
+    /// Whether arcs run at their feed at every point.
     pub arc_feed: bool,
 }

@@ -103,7 +103,7 @@ pub(crate) fn mask_of(found: &ArgMatches<'_>) -> u8
     }
 }
 
-// With events, or through to the program's end.
+// Returns the options of a run with events, or of a run through to the program's end.
 pub(crate) fn run_options<'a>(recording: Recording, found: &ArgMatches<'a>) -> Options<'a>
     requires { HasRunValues (rows_of (found_of found.now)) }
     ensures { AreRunsOptions recording (rows_of (found_of found.now)) result }

@@ -8,7 +8,7 @@ use clap::builder::ValueParser;
 use clap::{Arg, ArgAction, Command};
 use std::alloc::{AllocError, Global};
 
-// What an argument takes. Help calls a value by the text.
+// The values of an argument. Help shows the text as the value's name.
 pub(crate) enum Takes<'a> {
     Nothing,
     Text(&'a str),
@@ -16,17 +16,17 @@ pub(crate) enum Takes<'a> {
     Number(&'a str, u64, u64),
 }
 
-// An argument of a command, and what help tells of it.
+// An argument of a command, and its text in the help.
 pub(crate) struct Argument<'a> {
     pub name: &'a str,
-    // Whether `--` and its name stand before its value.
+    // Whether its value follows `--` and its name.
     pub is_named: bool,
     pub is_required: bool,
     pub takes: Takes<'a>,
     pub help: &'a str,
 }
 
-// A subcommand of the program, and what help tells of it.
+// A subcommand of the program, and its text in the help.
 pub(crate) struct SubcommandRow<'a> {
     pub name: &'a str,
     pub about: &'a str,

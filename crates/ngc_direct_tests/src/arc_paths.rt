@@ -75,7 +75,7 @@ fn arcs_by_columns(rt: HostRuntime) -> Result<(), Fail> {
     Ok(())
 }
 
-// Roots are computed for a half circle at the start, and none on the way.
+// Roots are computed for a half circle at the start, and none afterwards.
 #[test]
 fn roots_are_taken_at_first(rt: HostRuntime) -> Result<(), Fail> {
     let half = arc(&rt, Plane::XY, (10_000_000, 0, 0), 5_000_000)?;

@@ -1,4 +1,5 @@
-//! Live runs: fed in pieces of any size, they write at once what a run over the same events writes.
+//! Live runs: fed in pieces of any size, they write the output of a run over the same events at
+//! once.
 use crate::checks::{holds, same};
 use crate::given::{MACHINE, TOOLS};
 use ngc_line_reader::Program;
@@ -40,7 +41,7 @@ fn accepted(alloc: Global) -> Result<Accepted<Global>, Fail> {
     Ok(check(alloc, &program, &machine, &tools, &certificate)?)
 }
 
-// Returns what a run over all events writes.
+// Returns the output of a run over all events.
 fn run_over(alloc: Global, events: &[u8], form: LiveForm) -> Result<Vec<u8>, Fail> {
     let lines = read_events(alloc, events)?;
     let mut sink = Device::new(Vec::new(alloc));
@@ -62,7 +63,7 @@ fn run_over(alloc: Global, events: &[u8], form: LiveForm) -> Result<Vec<u8>, Fai
     Ok(sink.into_inner())
 }
 
-// Returns what a live run writes to which the events are fed in pieces of this size.
+// Returns the output of a live run to which the events are fed in pieces of this size.
 fn fed(alloc: Global, events: &[u8], form: LiveForm, size: usize) -> Result<Vec<u8>, Fail> {
     let mut live = LiveRun::new(alloc, accepted(alloc)?, false, form, false)?;
     let mut sink = Device::new(Vec::new(alloc));
@@ -90,7 +91,7 @@ fn pieces_of_any_size_give_what_a_run_gives(rt: HostRuntime) -> Result<(), Fail>
     Ok(())
 }
 
-// After each line the sink has what a run over the lines so far writes, and no less.
+// After each line the sink has the whole output of a run over the lines so far.
 #[test]
 fn each_line_is_answered_before_the_next(rt: HostRuntime) -> Result<(), Fail> {
     let events = EVENTS.as_bytes();
@@ -108,8 +109,8 @@ fn each_line_is_answered_before_the_next(rt: HostRuntime) -> Result<(), Fail> {
     Ok(())
 }
 
-// A wrong line is told with its line feed, a line that is too long with its 13th byte, and a last
-// line without its line feed at the end. What came before is written.
+// A wrong line is reported at its line feed, a line that is too long at its 13th byte, and a last
+// line without a line feed at the end. The output of the lines before it is written.
 #[test]
 fn a_wrong_line_ends_a_live_run(rt: HostRuntime) -> Result<(), Fail> {
     for (text, number) in [

@@ -1,4 +1,4 @@
--- What a tool is called.
+-- The name of a tool.
 use Rattle.std.proofs.Common.{◌≡◌, ◌≢◌, ℕ, Bool, ◌++◌, ap, codes, decimal, eq-eqb, if◌then◌else◌}
 use Rattle.std.proofs.lemmas.Bool.{ne_eqb}
 use Rattle.ngc_drawing.specs.Spelling.{tool_text}

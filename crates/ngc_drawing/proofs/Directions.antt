@@ -1,4 +1,4 @@
--- A direction goes no farther along an axis than it is long, and what is scaled no farther than the radius.
+-- A direction's coordinates are at most its length, and scaled ones at most the radius.
 use Rattle.std.proofs.Common.{◌≡◌, ℕ, suc, ◌+◌, ◌*◌, ◌/◌, ◌<◌, ◌≤◌, ℤ, pos, negsuc, ◌*ℤ◌, neg_ℤ, unsigned_abs, arith}
 use Rattle.std.proofs.Math.Nat.{div-lt_iff_lt-mul}
 use Rattle.std.proofs.lemmas.Int.{ints, unsigned_abs-mul}

@@ -1,4 +1,4 @@
--- What is at most a hundred metres is taken as a length.
+-- A value of at most 100 m is accepted as a length.
 use Rattle.std.proofs.Common.{arith, ◌≡◌, ℤ, Result, Ok, ◌∙◌}
 use Rattle.std.proofs.lemmas.Bool.Decides.{nat_tests}
 use Rattle.ngc_fixed_length.specs.Limits.{LENGTH_LIMIT, IsLength}

@@ -1,20 +1,20 @@
--- How far shapes are drawn, where others follow them.
+-- The progress of drawing shapes that others follow.
 pub mod Ahead
 -- A curve is halved.
 pub mod Curves
--- A direction goes no farther along an axis than it is long, and what is scaled no farther than the radius.
+-- A direction's coordinates are at most its length, and scaled ones at most the radius.
 pub mod Directions
--- What is still to be drawn, one step further.
+-- The boxes that are still to be drawn, one step further.
 pub mod Steps
--- What a tool is called.
+-- The name of a tool.
 pub mod Called
--- Texts that are added one after another.
+-- Texts that are added in order.
 pub mod Texts
 -- The whole picture, from the start.
 pub mod Whole
 -- The boxes of a certificate, one step further.
 pub mod Sweeps
--- A list that is filled with what another's elements give.
+-- A list that is filled with the images of another's elements.
 pub mod Mapped
--- What is at most a hundred metres is taken as a length.
+-- A value of at most 100 m is accepted as a length.
 pub mod Lengths

@@ -1,4 +1,4 @@
--- A list that is filled with what another's elements give.
+-- A list that is filled with the images of another's elements.
 use Rattle.std.proofs.Common.{◌≡◌, ℕ, ◌+◌, ◌<◌, ◌≤◌, List, [], ◌∷◌, ◌++◌, length, get_or, take, map, ap, sym, ◌∙◌}
 use Rattle.std.proofs.lemmas.List.{length-map, length-take-le, map_more, take_all}
 

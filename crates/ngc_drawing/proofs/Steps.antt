@@ -1,4 +1,4 @@
--- What is still to be drawn, one step further.
+-- The boxes that are still to be drawn, one step further.
 use Rattle.std.proofs.Common.{◌≡◌, ℕ, ◌+◌, ◌<◌, List, ◌++◌, length, get_or, drop, Option, ap, sym, ◌∙◌}
 use Rattle.std.proofs.lemmas.List.{drop_more}
 use Rattle.ngc_fixed_length.specs.declared.points.Point3.{Point3}

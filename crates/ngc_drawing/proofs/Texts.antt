@@ -1,4 +1,4 @@
--- Texts that are added one after another.
+-- Texts that are added in order.
 use Rattle.std.proofs.Common.{◌≡◌, ℕ, List, ◌++◌, ap, ◌∙◌}
 use Rattle.std.proofs.lemmas.List.{append_assoc}
 

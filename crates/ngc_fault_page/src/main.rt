@@ -1,11 +1,11 @@
-//! Prints the page docs/FAULTS.md: what stands on standard input, with the rows of each part put
-//! into its table.
+//! Prints the page docs/FAULTS.md: the text of standard input, with the rows of each part put into
+//! its table.
 #![tactic(auto)]
 
 use ngc_fault_texts::{Part, Row, page};
 use std::io;
 
-// Returns a text in one line.
+// Prints a text in one line.
 fn print_cell(rt: &impl Print, text: &str) -> io::Result<()> {
     for line in text.lines() {
         print!(rt; " {line}")?;
@@ -25,7 +25,7 @@ fn print_row(rt: &impl Print, row: &Row) -> io::Result<()> {
     println!(rt;)
 }
 
-// Returns the rows of the part with this title.
+// Prints the rows of the part with this title.
 fn print_rows(rt: &impl Print, parts: &[Part], title: &str) -> io::Result<()> {
     for part in parts {
         if part.title == title {

@@ -24,7 +24,7 @@ any_on_page number [] = refl
 any_on_page number (part ∷ parts) =
     ap (λ b. list_any (λ (row : Row). row.number == number) part.rows.now || b) (any_on_page number parts) ∙ any_of_row number part.rows.now (numbers_of parts)
 
--- a row that has the number is told, and another isn't
+-- a row that has the number is written, and another isn't
 pub chosen : (number : ℕ) (part : Part) (rows : List Row) (i : ℕ) (d : Row) → i < length rows → (get_or rows i d).number ≡ number
     → told_in number part (drop i rows) ≡ row_text part (get_or rows i d) ++ told_in number part (drop (i + 1) rows)
 chosen number part rows i d within is =

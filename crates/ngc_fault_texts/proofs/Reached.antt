@@ -36,7 +36,7 @@ finished old now rest whole none done =
     let P : List ℕ → Type 0 = λ text. Appends old now text in
     subst P (sym (done.2 ∙ ap (λ l. done.0 ++ l) none ∙ append-nil done.0)) done.1
 
--- three texts one behind the other
+-- three texts in order
 pub three_written : (old a b new : Option (List ℕ)) (x y z : List ℕ) → Appends old a x → Appends a b y → Appends b new z → Appends old new (x ++ (y ++ z))
 three_written old a b new x y z first second third = appends_both old a new x (y ++ z) first (appends_both a b new y z second third)
 

@@ -1,4 +1,4 @@
--- What is written of a fault.
+-- The text about a fault.
 use Rattle.std.specs.Prelude.{◌≡◌, ◌==◌, ℕ, List, [], ◌∷◌, ◌++◌, Option, Some, Result, Ok, Err, map}
 use Rattle.std.specs.Prelude.{codes, decimal, if◌then◌else◌}
 use Rattle.std.specs.Borrow.{Bor}
@@ -16,7 +16,7 @@ abbrev pub numbers_of : List Part → List ℕ
 numbers_of [] = []
 numbers_of (part ∷ parts) = map (λ (row : Row). row.number) part.rows.now ++ numbers_of parts
 
--- texts one after the other
+-- texts in order
 abbrev pub joined : List (List ℕ) → List ℕ
 joined [] = []
 joined (text ∷ texts) = text ++ joined texts
@@ -31,14 +31,14 @@ column_line (Some column) (Some place) =
     joined (column.now ∷ codes ": " ∷ place.now ∷ codes "\n" ∷ [])
 column_line column place = []
 
--- what is before it in a row, in the part of the page that the row is in
+-- the part of a row before the fix, in the part of the page that contains the row
 abbrev pub beginning_of : Part → Row → List ℕ
 beginning_of part row =
     joined (codes "Fault " ∷ decimal row.number ∷ codes " (" ∷ part.title.now ∷ codes ")\n\n"
     ∷ row.rule.now ∷ codes "\n\nExample: " ∷ row.example.now ∷ codes "\nMessage: " ∷ row.answer.now
     ∷ codes "\n" ∷ [])
 
--- and after it
+-- the part of a row after the column line: how to fix it
 abbrev pub mend_of : Row → List ℕ
 mend_of row = joined (codes "\n" ∷ row.mend.now ∷ codes "\n\n" ∷ [])
 
@@ -52,12 +52,12 @@ told_in number part [] = []
 told_in number part (row ∷ rows) =
     (if row.number == number then row_text part row else []) ++ told_in number part rows
 
--- and those of all parts
+-- the rows of all parts that have the number
 abbrev pub told : ℕ → List Part → List ℕ
 told number [] = []
 told number (part ∷ parts) = told_in number part part.rows.now ++ told number parts
 
--- the text is what a page with all faults says of the number
+-- the text is that of a page with all faults about the number
 abbrev pub IsExplanation : ℕ → List ℕ → Type 0
 IsExplanation number text =
     (parts : List Part) × (numbers_of parts ≡ fault_numbers) × (text ≡ told number parts)
@@ -66,8 +66,8 @@ IsExplanation number text =
 abbrev pub Explains : (List ℕ → Type 0) → ℕ → Type 0
 Explains Holds number = (text : List ℕ) × IsExplanation number text × Holds text
 
--- What is written of a number: its rows, or a prefix of them where the sink failed. An unknown
--- number leaves what was written.
+-- The text about a number: its rows, or a prefix of them if the sink failed. An unknown number
+-- leaves the output unchanged.
 abbrev pub Tells : ℕ → Option (List ℕ) → Option (List ℕ) → Result (Unit {0}) ExplainFault → Type 0
 Tells number old new (Ok u) = Explains (Appends old new) number
 Tells number old new (Err Unknown) = new ≡ old
@@ -78,7 +78,7 @@ abbrev pub explain_fault_number : ExplainFault → ℕ
 explain_fault_number Unknown = 721
 explain_fault_number (Write fault) = 902
 
--- the sink's count of failures rose where a write failed, and else it is what it was
+-- the sink's count of failures increased if a write failed, and is unchanged otherwise
 abbrev pub FailsByWriting : Result (Unit {0}) ExplainFault → ℕ → ℕ → Type 0
 FailsByWriting (Ok u) old new = new ≡ old
 FailsByWriting (Err Unknown) old new = new ≡ old

@@ -1,6 +1,6 @@
-//! What is wrong in each fault, what to write instead, and an example with its message.
+//! Texts about each fault: what is wrong, what to write instead, and an example with its message.
 //!
-//! The tables of the page docs/FAULTS.md and the text of `ngc explain` are printed from it.
+//! The tables of the page docs/FAULTS.md and the text of `ngc explain` are printed from them.
 #![tactic(auto)]
 
 mod parts;

@@ -8,20 +8,20 @@ use crate::runs::{events, log, shell};
 use crate::setups::{certificates, setup};
 use crate::shapes::{arcs, cycles};
 
-/// A row of the page: what it says of a fault. The lines of a text are at most 96 characters long,
-/// where the first lines of example, message and place have their words before them.
+/// A row of the page: its texts about a fault. The lines of a text are at most 96 characters long.
+/// The first lines of example, message and place include the words before them.
 #[derive(Clone, Copy)]
 pub struct Row {
     pub number: u16,
-    /// What is wrong and what to write instead, and then the rule.
+    /// A text that says what is wrong and what to write instead, and then the rule.
     pub rule: &'static str,
-    /// What has the fault.
+    /// An example with the fault.
     pub example: &'static str,
     /// The message for the example.
     pub answer: &'static str,
-    /// What the part's `column` has: where the fault is, or the exit status.
+    /// The entry in the part's `column`: where the fault is, or the exit status.
     pub place: Option<&'static str>,
-    /// How to fix it: what helps beyond the first sentence.
+    /// How to fix it: help beyond the first sentence.
     pub mend: &'static str,
 }
 

@@ -13,13 +13,13 @@ use itoa::Buffer;
 use ngc_text::{Sink, WriteFault, write_all};
 use thiserror::Error;
 
-/// Why a number isn't explained.
+/// The reason why a number isn't explained.
 #[derive(Clone, Copy, Debug, PartialEq, Eq, Error)]
 pub enum ExplainFault {
     /// No fault has the number: 721.
     #[error("no fault has this number")]
     Unknown,
-    /// 902
+    /// A write failed: 902.
     #[error(transparent)]
     Write(WriteFault),
 }
@@ -36,7 +36,7 @@ impl ExplainFault {
     }
 }
 
-// Writes texts one after the other.
+// Writes texts in order.
 fn write_texts<W: Sink>(texts: &[&[u8]], output: &mut W) -> Result<(), WriteFault>
     ensures ok { OnOk result
         (Appends (W.written output.old) (W.written output.new) (all_of texts.now)) }
@@ -53,7 +53,7 @@ fn write_texts<W: Sink>(texts: &[&[u8]], output: &mut W) -> Result<(), WriteFaul
     Ok(())
 }
 
-// Returns the line of the part's column, where there is one.
+// Writes the line of the part's column, if it has one.
 fn write_column<W: Sink>(part: &Part, row: &Row, output: &mut W) -> Result<(), WriteFault>
     ensures ok { OnOk result
         (Appends (W.written output.old) (W.written output.new)
@@ -175,15 +175,15 @@ fn is_on(parts: &[Part], number: u16) -> bool
     parts.iter().any(|part| is_in(part.rows, number))
 }
 
-/// Writes what the page docs/FAULTS.md says of a fault: some ten lines for each of its rows, of at
-/// most 96 characters.
+/// Writes the text of the page docs/FAULTS.md about a fault: about ten lines for each of its rows,
+/// of at most 96 characters.
 pub fn explain<W: Sink>(number: u16, output: &mut W) -> Result<(), ExplainFault>
     // Only a number that no fault has is unknown.
     ensures unknown { (result ≡ Err ExplainFault.Unknown) ↔ (is_fault number ≡ false) }
-    // What is written are the rows with this number of a page that has all faults, or a prefix of
-    // them where a write failed.
+    // The output is the rows with this number of a page that has all faults, or a prefix of them if
+    // a write failed.
     ensures tells { Tells number (W.written output.old) (W.written output.new) result }
-    // A fault of writing comes only from a sink that failed.
+    // A fault of writing results only from a sink that failed.
     ensures sink { FailsByWriting result (W.failures output.old) (W.failures output.new) }
 {
     let parts = page();

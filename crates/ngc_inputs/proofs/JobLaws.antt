@@ -1,4 +1,4 @@
--- What certifying and checking a program come to, from what their parts come to.
+-- The results of certifying and checking a program, from the results of their parts.
 use Rattle.std.proofs.Common.{◌≡◌, ℕ, List, Option, Some, None, Bool, true, Ok, Err, IfSome, refl, subst, sym}
 use Rattle.std.specs.Io.KnownBytes.{Appends, Keeps}
 use Rattle.ngc_text.specs.Written.{AppendsBeginning}

@@ -1,4 +1,5 @@
--- What the checker says of the program of one file and the certificate of another, from what it says of the certificate's text.
+-- The checker's verdict on the program of one file and the certificate of another, from its verdict
+-- on the certificate's text.
 use Rattle.std.proofs.Common.{◌≡◌, ℕ, List, Option, Some, None, Ok, Err, IfSome, refl, subst, sym}
 use Rattle.std.specs.Prelude.{IsOk}
 use Rattle.ngc_canonical.specs.Meaning.{Program as ProgramLines, program_said}

@@ -1,8 +1,9 @@
--- What certifying and checking a program come to, from what their parts come to.
+-- The results of certifying and checking a program, from the results of their parts.
 pub mod JobLaws
--- What the checker says of the program of one file and the certificate of another, from what it says of the certificate's text.
+-- The checker's verdict on the program of one file and the certificate of another, from its verdict
+-- on the certificate's text.
 pub mod JudgingLaws
--- What is said of a file's text, and of what the files of a run say.
+-- Statements about a file's text, and about the contents of a run's files.
 pub mod SetupLaws
--- Which file of a run isn't read, from what is told of each.
+-- The file of a run that isn't read, from the reports on each file.
 pub mod UnreadLaws

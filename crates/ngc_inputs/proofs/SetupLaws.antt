@@ -1,4 +1,4 @@
--- What is said of a file's text, and of what the files of a run say.
+-- Statements about a file's text, and about the contents of a run's files.
 use Rattle.std.proofs.Common.{◌≡◌, ℕ, List, [], Option, Some, None, Result, Ok, Err, IfSome, refl, subst, sym, ◌∙◌}
 use Rattle.std.specs.Prelude.{IsOk}
 use Rattle.ngc_canonical.specs.State.{Setup}
@@ -47,11 +47,11 @@ on_setup bytes machine tools setup P machine_said tools_said p =
     (λ t said_t. (setup, record { machine_said = said_m; tools_said = said_t }, p)) tools_said)
     machine_said
 
--- of a file's bytes, from a source that gives them
+-- of a file's bytes, from a source with these bytes
 pub of_file : (known source : Option (List ℕ)) (P : List ℕ → Type 0) → source ≡ known → IfSome source P → IfSome known P
 of_file known source P is p = subst (λ (k : Option (List ℕ)). IfSome k P) is p
 
--- a machine file that is refused, and a tool table that is behind a machine file that was read
+-- a machine file that is refused, and a tool table after a machine file that was read
 pub refused_machine : (bytes : FileBytes) (machine tools : Option (List ℕ)) (fault : AnswerFault) → RefusesMachine bytes machine fault →
     RefusesShop bytes machine tools fault
 refused_machine bytes machine tools (answers.Machine e) refuses = refuses

@@ -1,4 +1,4 @@
--- Which file of a run isn't read, from what is told of each.
+-- The file of a run that isn't read, from the reports on each file.
 use Rattle.std.proofs.Common.{◌≡◌, ℕ, List, [], ◌∷◌, ◌++◌, Option, Some, None, Result, Ok, Err, IfSome, inl, inr, refl, ap, subst, sym, ◌∙◌}
 use Rattle.std.specs.Prelude.{IfErr, IsErrAnd, IsOk, MatchOption}
 use Rattle.ngc_certificate_text.specs.declared.fault.CertificateFault.{CertificateFault}
@@ -50,13 +50,13 @@ pub all_read : (bytes : FileBytes) (files more : List Input) → AllRead bytes f
 all_read bytes [] more all all_more = all_more
 all_read bytes (input ∷ files) more (read, all) all_more = (read, all_read bytes files more all all_more)
 
--- further files stand behind
+-- further files follow
 pub told_before : (fails : Option (List ℕ) → Type 0) (bytes : FileBytes) (files more : List Input) (old new : ℕ) (why : Option InputFault)
     → Told fails bytes files old new why → Told fails bytes (files ++ more) old new why
 told_before fails bytes files more old new None told = told
 told_before fails bytes files more old new (Some fault) told = first_before (λ kind known. TellsKindUnread fails kind known old new fault) bytes files more told
 
--- a file by itself, behind files that were read and before others
+-- a file by itself, after files that were read and before others
 pub told_behind : (fails : Option (List ℕ) → Type 0) (bytes after : FileBytes) (files : List Input) (kind : Kind) (name : Option (List ℕ)) (more : List Input)
     (old mid new : ℕ) (why : Option InputFault)
     → AllRead bytes files → after name ≡ bytes name → mid ≡ old
@@ -69,7 +69,7 @@ told_behind fails bytes after files kind name more old mid new (Some fault) all 
     (subst (λ (known : Option (List ℕ)). TellsKindUnread fails kind known mid new fault) same_bytes tells)))
 told_behind fails bytes after files kind name more old mid new (Some fault) all same_bytes same (inr (read, none)) = absurd none
 
--- a file that couldn't be opened, behind files that were read and before others
+-- a file that couldn't be opened, after files that were read and before others
 pub unopened : (fails : Option (List ℕ) → Type 0) (bytes : FileBytes) (files : List Input) (kind : Kind) (name : Option (List ℕ)) (more : List Input)
     (old mid new : ℕ) (e : InputFault)
     → e ≡ inputs.Device → AllRead bytes files → mid ≡ old → Rises mid new →
@@ -108,7 +108,7 @@ shop_read bytes (Some m) (Some t) shop said =
 
 -- ---- the machine file and the tool table
 
--- behind a machine file that was read
+-- after a machine file that was read
 pub tools_told : (fails : Option (List ℕ) → Type 0) (bytes after : FileBytes) (machine tools : Option (List ℕ)) (old mid new : ℕ) (why : Option InputFault)
     → AllRead bytes (setup_input OfMachine machine) → KeepsFiles bytes after → mid ≡ old
     → Told fails after (setup_input OfTools tools) mid new why → Told fails bytes (shop_inputs machine tools) old new why
@@ -156,7 +156,7 @@ pub certificate_tried : {T : Type 0} (fails : Option (List ℕ) → Type 0) (byt
 certificate_tried fails bytes name old new (Ok certificate) same failed = same
 certificate_tried fails bytes name old new (Err fault) same failed = certificate_failed fails bytes name old new fault same (λ is. failed (ap Err is))
 
--- ---- what a fault of a command tells, where its last file was opened behind files that were read
+-- ---- the meaning of a command's fault, where its last file was opened after files that were read
 
 pub program_told : (fails : Option (List ℕ) → Type 0) (bytes : FileBytes) (files : List Input) (name : Option (List ℕ)) (old new : ℕ) (e : ReadFault)
     → AllRead bytes files → new ≡ old → (answers.Read e ≡ answers.Read reads.Device → fails (bytes name))
@@ -230,7 +230,7 @@ draw_told fails bytes files old new answers.Memory of same = same
 draw_told fails bytes files old new (answers.Write e) of same = same
 draw_told fails bytes files old new _ of same = absurd of
 
--- a fault that tells of no file, where none is opened
+-- a fault that concerns no file, where none is opened
 pub nothing_read : {T : Type 0} (fails : Option (List ℕ) → Type 0) (bytes : FileBytes) (files : List Input) (count : ℕ) (outcome : Result T AnswerFault)
     → IfErr outcome (λ fault. unread_by fault ≡ None) → FailsByInput fails bytes files count count outcome
 nothing_read fails bytes files count (Ok value) is = refl

@@ -72,7 +72,7 @@ pub record SourceFails {S : Type 0} (remaining : S → Option (List ℕ)) (failu
 abbrev pub IsUnread : (Option (List ℕ) → Type 0) → Option (List ℕ) → ℕ → ℕ → Type 0
 IsUnread fails known old new = Rises old new ⊎ ((new ≡ old) × fails known)
 
--- P of the fact that a file can't be read completely
+-- the consequences of the report that a file can't be read completely
 abbrev pub TellsUnread : (Option (List ℕ) → Type 0) → Option (List ℕ) → ℕ → ℕ → InputFault → Type 0
 TellsUnread fails known old new inputs.Memory = new ≡ old
 TellsUnread fails known old new inputs.Device = IsUnread fails known old new

@@ -63,7 +63,7 @@ control_name n = if n == 1 then codes "grbl" else if n == 2 then codes "mach3"
 abbrev pub tool_asked : ℕ → Option ℕ
 tool_asked n = if n == 0 then None else Some n
 
--- the codes of a text that isn't empty; one that isn't UTF-8 counts as no list of codes
+-- the codes of a text that isn't empty; one that isn't UTF-8 doesn't count as a list of codes
 abbrev pub AreCodes : List ℕ → Option (List ℕ) → Type 0
 AreCodes text None = text ≡ []
 AreCodes text (Some drop) = (drop ≡ text) ⊎ (¬ IsUtf8 text × (drop ≡ codes "?"))

@@ -137,7 +137,7 @@ fn tool_asked(tool: u16) -> Option<u16>
     if tool == 0 { None } else { Some(tool) }
 }
 
-// Returns a text that isn't UTF-8 is refused, because it is no list of codes.
+// Returns a text of codes. A text that isn't UTF-8 is refused, because it isn't a list of codes.
 fn codes_asked(text: &[u8]) -> Option<&str>
     ensures { AreCodes text.now (option_map (λ codes. codes.now) result) }
 {

@@ -1,7 +1,7 @@
 use crate::directive::Role;
 use std::alloc::{AllocError, Global};
 
-/// The way in which the lines of a text are read.
+/// How the lines of a text are read.
 #[derive(Clone, Copy)]
 pub enum Spelling {
     /// Unchanged, each with a line feed, repeated this number of times.

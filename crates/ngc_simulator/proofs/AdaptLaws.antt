@@ -1,4 +1,4 @@
--- What adapting a program comes to, from what its parts come to.
+-- The result of adapting a program, from the results of its parts.
 use Rattle.std.proofs.Common.{◌≡◌, ℕ, List, ◌++◌, Option, Some, None, Bool, true, false, Result, Ok, Err, IfSome, refl, ap, subst, sym, ◌∙◌}
 use Rattle.std.specs.Prelude.{IfOk, IfErr, option_map}
 use Rattle.ngc_adapt_program.specs.declared.request.Request.{Request}

@@ -22,7 +22,7 @@ read_none s (Unread Memory) is = refl
 read_none s (Unread Device) is = cc is
 read_none s (Refused n e) is = refl
 
--- a fault of a text says of no file that it isn't read
+-- a fault of a text doesn't say that a file isn't read
 pub answered_read : (s : Setting) (first : TextFault) (answer : AnswerFault) → answer ≡ answer_of s first → is_of_text first ≡ true → unread_by answer ≡ None
 answered_read s first answer is read = ap unread_by is ∙ read_none s first read
 

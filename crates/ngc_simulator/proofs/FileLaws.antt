@@ -1,4 +1,4 @@
--- What a run comes to on the files that it names, from what its parts come to.
+-- The result of a run on the files that it names, from the results of its parts.
 use Rattle.std.proofs.Common.{◌≡◌, ℕ, List, Option, Some, None, Result, Ok, Err, IfSome, subst, ◌∙◌}
 use Rattle.std.specs.Prelude.{option_map}
 use Rattle.ngc_canonical.specs.Interpreter.{setup_of}
@@ -20,7 +20,7 @@ use Rattle.ngc_inputs.specs.declared.setup.Shop.{Shop}
 use Rattle.ngc_inputs.proofs.JobLaws.{keeps_same, if_known}
 use Rattle.ngc_inputs.proofs.SetupLaws.{on_setup, of_file}
 
--- what comes of a program that is given can come where it is read first
+-- a fault for a program in memory is also possible if the program is read first
 pub or_of_reading : (Of : AnswerFault → Type 0) (e : AnswerFault) → Of e → OrOfReading Of e
 or_of_reading Of (answers.Read e) of = tt
 or_of_reading Of (answers.Certificate e) of = tt

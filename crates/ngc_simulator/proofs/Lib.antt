@@ -1,22 +1,22 @@
 -- Programs for other controls, adapted.
 mod AdaptLaws
--- What listing a file comes to, from what its parts come to.
+-- The result of listing a file, from the results of its parts.
 pub mod ListLaws
--- What the second sink takes.
+-- The text that the second sink takes.
 pub mod Told
--- What a run comes to on the files that it names, from what its parts come to.
+-- The result of a run on the files that it names, from the results of its parts.
 pub mod FileLaws
--- What making a machine file comes to, from what its parts come to.
+-- The result of making a machine file, from the results of its parts.
 pub mod MakingLaws
--- What running a program over events, or to its end, comes to, from what its parts come to.
+-- The result of running a program over events, or to its end, from the results of its parts.
 pub mod RunLaws
--- What a run comes to whose events arrive from a source, from what its parts come to.
+-- The result of a run whose events arrive from a source, from the results of its parts.
 pub mod LiveLaws
--- What drawing a program comes to, from what its parts come to.
+-- The result of drawing a program, from the results of its parts.
 pub mod DrawLaws
--- What telling whether a program fits comes to, from what its parts come to.
+-- The result of reporting whether a program fits, from the results of its parts.
 pub mod ReportLaws
--- What telling of a program that can't be read comes to, on the files that the command line names.
+-- The result of reporting a program that can't be read, on the files that the command line names.
 pub mod UnreadableLaws
 -- The result of writing all faults of a program.
 pub mod FaultsLaws

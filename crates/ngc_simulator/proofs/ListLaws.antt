@@ -1,4 +1,4 @@
--- What listing a file comes to, from what its parts come to.
+-- The result of listing a file, from the results of its parts.
 use Rattle.std.proofs.Common.{◌≡◌, ℕ, List, Option, Some, None, Bool, Result, Ok, Err, IfSome, refl, subst}
 use Rattle.ngc_text.specs.Written.{AppendsBeginning}
 use Rattle.ngc_text.specs.declared.writing.WriteFault.{WriteFault}

@@ -1,4 +1,4 @@
--- What a run comes to whose events arrive from a source, from what its parts come to.
+-- The result of a run whose events arrive from a source, from the results of its parts.
 use Rattle.std.proofs.Common.{◌≡◌, ℕ, List, Option, Some, None, Bool, Result, Ok, Err, IfSome, refl, sym, subst, ◌∙◌}
 use Rattle.ngc_canonical.specs.Interpreter.{setup_of}
 use Rattle.ngc_canonical.specs.State.{Setup}
@@ -109,7 +109,7 @@ lived_files bytes after later options form shop old new outcome P Q said keeps n
     (keeps (Some options.program.now))
     (named options.certificate.now ∙ keeps (Some options.certificate.now)) on p q)
 
--- a source that gives the bytes of standard input
+-- a source with the bytes of standard input
 pub from_input : (form : LiveForm) (feeds : Bool) (setup : Setup) (bytes text : List ℕ) (block_delete : Bool) (source input rest old new : Option (List ℕ))
     (outcome : Result (Unit {0}) AnswerFault) → source ≡ input → Lives form feeds setup bytes text block_delete source rest old new outcome
     → (r : Option (List ℕ)) × Lives form feeds setup bytes text block_delete input r old new outcome

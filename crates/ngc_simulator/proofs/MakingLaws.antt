@@ -1,4 +1,4 @@
--- What making a machine file comes to, from what its parts come to.
+-- The result of making a machine file, from the results of its parts.
 use Rattle.std.proofs.Common.{◌≡◌, ℕ, List, Option, None, Result, Ok, Err, is_err, OnOk, false, inl, inr, refl, subst}
 use Rattle.std.specs.Io.KnownBytes.{Keeps}
 use Rattle.ngc_machine_files.specs.Machine.{MachineFile}
@@ -18,7 +18,7 @@ make_failed bytes options dump old new answers.NoFigures fails made = absurd fai
 make_failed bytes options dump old new (answers.Input e) fails made = absurd fails
 make_failed bytes options dump old new _ fails made = made
 
--- it is no file that isn't read
+-- it isn't an unread file
 pub not_unread : (options : MachineOptions) (dump : Option (List ℕ)) (old new : Option (List ℕ)) (fault : AnswerFault) →
     MakeFails options dump old new fault
     → unread_by fault ≡ None
@@ -34,7 +34,7 @@ pub keys_refused : (keys : List ℕ) (fault : AnswerFault) → IsNotRead keys fa
 keys_refused keys (answers.Machine e) refuses = inl refuses
 keys_refused keys _ refuses = absurd refuses
 
--- it refuses them with the comments behind them
+-- it refuses them with the comments after them
 pub whole_refused : (keys text : List ℕ) (machine : MachineFile) (fault : AnswerFault) → machine_file keys ≡ Ok machine →
     text ≡ with_remarks keys machine
     → IsNotRead text fault → IsUnmade keys fault
@@ -50,7 +50,7 @@ unmade options dump old new keys answers.Memory are keeps h = keeps
 unmade options dump old new keys (answers.Machine e) are keeps h = (keeps, (keys, are, h))
 unmade options dump old new keys _ are keeps h = absurd h
 
--- what holds of a result that is no error
+-- a property of a result that isn't an error
 pub of_no_error : {T E : Type 0} (r : Result T E) (P : Type 0) → is_err r ≡ false → OnOk r P → P
 of_no_error (Ok x) P fine h = h
 of_no_error (Err e) P fine h = cc

@@ -1,4 +1,4 @@
--- What telling whether a program fits comes to, from what its parts come to.
+-- The result of reporting whether a program fits, from the results of its parts.
 use Rattle.std.proofs.Common.{◌≡◌, ℕ, List, Option, Some, Bool, true, false, Result, Ok, Err, IfSome, ap, ap₂, inl, inr, refl, subst, sym}
 use Rattle.std.proofs.Common.{◌∙◌}
 use Rattle.std.specs.Prelude.{is_some, option_map, slice_get}
@@ -218,7 +218,7 @@ report_faults (faults.Write fault) = tt
 
 -- ---- on the files that the command line names
 
--- what is asked for is what the options say
+-- the request is that of the options
 pub asked : (options : ReportOptions) (shop : Shop) (request : ReportRequest) (source old new : Option (List ℕ)) (outcome : Result (Unit {0}) AnswerFault)
     → request ≡ request_of options → IfSome source (λ text. Reports (setup_of shop.machine shop.tools) text request old new outcome)
     → IfSome source (λ text. Reports (setup_of shop.machine shop.tools) text (request_of options) old new outcome)

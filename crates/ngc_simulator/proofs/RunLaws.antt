@@ -1,4 +1,4 @@
--- What running a program over events, or to its end, comes to, from what its parts come to.
+-- The result of running a program over events, or to its end, from the results of its parts.
 use Rattle.std.proofs.Common.{◌≡◌, ℕ, List, Option, Some, None, Bool, true, false, Result, Ok, Err, IfSome, ap, subst, ◌∙◌}
 use Rattle.std.specs.Prelude.{option_map}
 use Rattle.ngc_canonical.specs.Interpreter.{setup_of}
@@ -227,7 +227,7 @@ went_files bytes after later options writing shop old new outcome P Q said keeps
     (keeps (option_map (λ n. n.now) options.program))
     (named options.certificate.now ∙ keeps (Some options.certificate.now)) on p q)
 
--- the time that is told of it
+-- the time that is reported for it
 pub run_timed : (bytes : FileBytes) (options : RunThroughOptions) (shop : Shop) (report : Report) (time : RunTime)
     → GivesShop bytes (Some options.machine.now) (Some options.tools.now) (Ok shop)
     → time.ticks ≡ report.ticks → time.ticks_per_second ≡ shop.machine.ticks_per_second → IsTimeOn bytes options report time

@@ -1,4 +1,4 @@
--- What the second sink takes.
+-- The text that the second sink takes.
 use Rattle.std.proofs.Common.{◌≡◌, ℕ, List, Result, Ok, Err, OnOk, OnErr, inl, inr, subst}
 use Rattle.std.specs.Io.KnownBytes.{Appends}
 use Rattle.ngc_text.specs.Failures.{CountsFailure}

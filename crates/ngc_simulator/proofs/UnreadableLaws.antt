@@ -1,4 +1,4 @@
--- What telling of a program that can't be read comes to, on the files that the command line names.
+-- The result of reporting a program that can't be read, on the files that the command line names.
 use Rattle.std.proofs.Common.{◌≡◌, ℕ, List, ◌++◌, Option, Some, None, true, Result, Ok, Err, IfSome, ap, inl, inr, subst, sym, ◌∙◌}
 use Rattle.std.specs.Prelude.{IsSome, option_map}
 use Rattle.std.specs.Io.KnownBytes.{Appends, Keeps}
@@ -87,7 +87,7 @@ module _ (bytes after : FileBytes) (options : ReportOptions) (shop : Shop) (sour
       on_setup bytes (Some options.machine.now) (Some options.tools.now) (setup_of shop.machine shop.tools)
       (λ setup. Known (Tells new answer)) said.0 said.1 tells
 
-  -- where nothing is told beside the report
+  -- where nothing is written besides the report
   pub reported_comes : (new : Option (List ℕ)) (fault : AnswerFault) → OfCertifying fault → IfSome source (Reported new (Err fault)) →
       ReportComes bytes options old new (Err fault)
   reported_comes new (answers.Read e) of reports =
@@ -104,7 +104,7 @@ module _ (bytes after : FileBytes) (options : ReportOptions) (shop : Shop) (sour
   both_known None P Q R on p q = tt
   both_known (Some text) P Q R on p q = on text p q
 
-  -- where the fault of the program is told
+  -- where the fault of the program is written
   pub told_comes : (later : FileBytes) (name : List ℕ) (mid new : Option (List ℕ)) (fault : ReadFault) (answer : AnswerFault) → OfTelling answer
       → option_map (λ n. n.now) options.program ≡ Some name → KeepsFiles after later → IfSome source (Reported mid (Err (answers.Read fault)))
       → TellsKnown (form_asked options.json) (Some name) (later (Some name)) mid new fault answer → ReportComes bytes options old new (Err answer)
@@ -125,7 +125,7 @@ module _ (bytes after : FileBytes) (options : ReportOptions) (shop : Shop) (sour
   abbrev ToldAll : Option (List ℕ) → AnswerFault → List ℕ → Type 0
   ToldAll new fault text = TellsFaults (setup_of shop.machine shop.tools) (form_asked options.json) text old new fault
 
-  -- where all faults are told
+  -- where all faults are written
   pub faults_comes : (new : Option (List ℕ)) (fault : AnswerFault) → options.all ≡ true → IfSome source (ToldAll new fault) → ReportComes bytes options old new (Err fault)
   faults_comes new fault all tells = inr (inr (inr (
     all,
