@@ -114,8 +114,8 @@ pub struct RunOptions<'a> {
     pub program: Option<&'a str>,
     /// Whether block delete is on, so that lines that begin with `/` are left out.
     pub delete: bool,
-    /// The name of the form: `samples`, or `log` for the log and `vcd` for the pulses. Any other
-    /// name is unknown. The default isn't samples.
+    /// The name of the form: `log` or `times` for `run`, `vcd` for `pulses`, and `samples` for both.
+    /// Any other name is unknown. The default is `log` or `vcd`.
     pub output: Option<&'a str>,
     /// The bits that are inverted in each byte of the samples. The default is 0.
     pub inverted: u8,
@@ -136,8 +136,8 @@ pub struct RunThroughOptions<'a> {
     pub program: Option<&'a str>,
     /// Whether block delete is on, so that lines that begin with `/` are left out.
     pub delete: bool,
-    /// The name of the form: `samples`, or `log` for the log and `vcd` for the pulses. Any other
-    /// name is unknown. The default isn't samples.
+    /// The name of the form: `log` or `times` for `run`, `vcd` for `pulses`, and `samples` for both.
+    /// Any other name is unknown. The default is `log` or `vcd`.
     pub output: Option<&'a str>,
     /// The bits that are inverted in each byte of the samples. The default is 0.
     pub inverted: u8,
@@ -156,7 +156,8 @@ pub struct LiveOptions<'a> {
     pub program: &'a str,
     /// Whether block delete is on, so that lines that begin with `/` are left out.
     pub delete: bool,
-    /// The name of the form: `log` or `samples`. Any other name is unknown. The default is the log.
+    /// The name of the form: `log`, `times` or `samples`. Any other name is unknown. The default is
+    /// `log`.
     pub output: Option<&'a str>,
     /// The bits that are inverted in each byte of the samples. The default is 0.
     pub inverted: u8,
