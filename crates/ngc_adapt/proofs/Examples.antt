@@ -816,7 +816,7 @@ left_tool_offset_not_known : refusals_of first (codes "G43") ≡ refusals.ToolOf
 unfolding refusals_of items_of item_of rule_for refusal_for
 left_tool_offset_not_known = refl
 
--- fanuc counts milliseconds where there is no point
+-- Fanuc counts milliseconds where there is no point
 written_milliseconds : written fanuc (codes "G4 P2000") ≡ codes "G4 P2.000 "
 unfolding written items_of item_of rule_for digits
 written_milliseconds = refl
@@ -885,7 +885,7 @@ left_times : refusals_of fanuc (codes "G4 X2") ≡ []
 unfolding refusals_of items_of item_of rule_for refusal_for
 left_times = refl
 
--- a cycle that holds for no time
+-- a cycle that dwells for no time
 written_cycle_dwell : written mach3 (codes "G98 G82 X1 Z-8 R2") ≡ codes "G98 P0 G82 X1 Z-8 R2"
 unfolding written items_of item_of rule_for digits
 written_cycle_dwell = refl
@@ -910,7 +910,7 @@ rules_cycle_dwell_of_linuxcnc : rules_of first (codes "G82 X1 Z-8 R2") ≡ []
 unfolding rules_of items_of item_of rule_for
 rules_cycle_dwell_of_linuxcnc = refl
 
--- fanuc counts holes by K
+-- Fanuc counts holes by K
 written_hole_count : written fanuc (codes "G91 G81 X5 Z-8 R2 K3") ≡ codes "G91 G81 X5 Z-8 R2 L3"
 unfolding written items_of item_of rule_for digits
 written_hole_count = refl
@@ -1217,7 +1217,7 @@ left_nothing : refusals_of first (codes "G43 H1 G54 G0 X1 Y2 M3 S100 T1 M6 G10 L
 unfolding refusals_of items_of item_of rule_for refusal_for
 left_nothing = refl
 
--- what holds of a program
+-- the facts about a program
 facts_of_a_program : facts_of (feed (codes "/G0 A0 B0") (feed (codes "/ B1 C0.0") (codes "M2")))
     ≡ record { turns_a = false; turns_b = true; turns_c = false; jumps = false; levels = levels.One 1 }
 unfolding lines_of items_of item_of
@@ -1235,7 +1235,7 @@ facts_of_an_end : facts_of (codes "M99") ≡ no_facts
 unfolding lines_of items_of item_of
 facts_of_an_end = refl
 
--- what is left, in a report
+-- the refusals in a report
 report_of_a_tool : line_report 12 15 (with_tools dialects.LinuxCnc None (Some 3)) (codes "G43 E5 ") ≡ codes "line 12 (15): tool_offset exact: G43 -> H3 G43\nline 12: more_axes left: there are no E, U, V and W axes: post for X, Y and Z\n"
 unfolding digits line_report items_of item_of rule_for refusal_for
 report_of_a_tool = refl
@@ -1244,7 +1244,7 @@ report_of_a_line_that_is_not_read : line_report 1 1 first (codes "G0 X1,5") ≡ 
 unfolding digits line_report items_of item_of rule_for refusal_for
 report_of_a_line_that_is_not_read = refl
 
--- fanuc's P0 of G10 L2 is an offset of all systems
+-- Fanuc's P0 of G10 L2 is an offset of all systems
 written_offset_of_all_systems : written fanuc (codes "G10 L2 P0 X0") ≡ codes "G10 L2 P0 X0"
 unfolding written items_of item_of rule_for
 written_offset_of_all_systems = refl

@@ -26,7 +26,7 @@ one_piece blank (b ∷ v) h =
       | false ↦ λ e. rw one-add (ap (λ (t : List ℕ). b ∷ t) (one_piece blank v (rw one-add at e)))
     ] h
 
--- the characters of such a value are those that it begins with
+-- the characters of a value in one piece are its first bytes
 pub short_piece : (v : List ℕ) → list_all is_blank (drop (prefix_len is_ink v) v) ≡ true → length (take (prefix_len is_ink v) v) ≤ 32
     → short_text v ≡ Some (take (prefix_len is_ink v) v)
 short_piece v all few =

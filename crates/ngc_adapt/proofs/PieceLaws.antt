@@ -74,7 +74,7 @@ whole_prefix p (x ∷ a) h =
 abbrev value_at : ℕ → List ℕ → ℕ
 value_at n w = cond (begins 91 w) (n + bracket_length 0 w) (n + prefix_len is_of_number w)
 
--- a value that a digit begins, whatever follows
+-- a value that a digit begins, for any text that follows
 digits_value : (d : ℕ) (u s : List ℕ) → is_ascii_digit d ≡ true → list_all is_of_number u ≡ true → prefix_len is_of_number s ≡ 0
     → value_length (d ∷ (u ++ s)) ≡ suc (length u)
 digits_value d u s h all good =

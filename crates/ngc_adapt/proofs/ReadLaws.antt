@@ -22,7 +22,7 @@ use Rattle.ngc_adapt.proofs.ItemLaws.{some_bytes, items_step, nothing}
 use Rattle.ngc_adapt.proofs.PieceLaws.{number_fits, seconds_fit, program_number_fits, signed_fits}
 use Rattle.ngc_adapt.proofs.ValueLaws.{prefix_good, prefix_within, inside, value_same, number_value, whole_value, and_parts, or_parts, begins_head, value_within, one, not_empty}
 
--- ---- what an item that can be read is
+-- ---- the kind of an item that can be read
 
 comment_by : (m c o k : Bool) (w : Item) → m ≡ false → c ≡ false → o ≡ true
     → is_unread (cond m items.Mark (cond c items.Comment (cond o (cond k items.Comment items.Unread) w))) ≡ false → k ≡ true
@@ -87,7 +87,7 @@ unfolding item_of
 word_read b v l c o s h =
     word_by (is_mark b) (b == 59) (b == 40) (is_comment v) (b == 35) (is_setting v) (letter_of b) (number_of v) (letter_no_mark b l) c o s h
 
--- ---- how many bytes it has, whatever follows
+-- ---- the number of bytes it has, for any text that follows
 
 comment_has_no_end : (x : ℕ) → is_in_comment x ≡ true → (x == 41) ≡ false
 comment_has_no_end x h = grind (arith, nat_tests)
@@ -194,7 +194,7 @@ good_blank [] h = refl
 good_blank (b ∷ s) h =
     ap (λ (c : Bool). cond c (1 + prefix_len is_blank s) 0) (no_blank b (zero_if (is_of_number b) (prefix_len is_of_number s) h))
 
--- an item that can be read has its bytes, whatever follows
+-- an item that can be read has its bytes, for any text that follows
 pub item_same : (b : ℕ) (v s : List ℕ) → is_unread (item_of (b ∷ v)) ≡ false → ((b == 59) ≡ true → s ≡ []) → prefix_len is_of_number s ≡ 0
     → item_length (b ∷ (v ++ s)) ≡ item_length (b ∷ v)
 item_same b v s read end good =
@@ -238,7 +238,7 @@ item_within b v =
     let n = bare_length (b ∷ v) in
     omega (arith, bare_within b v, prefix_within is_blank (drop n (b ∷ v)), length-drop n (b ∷ v))
 
--- ---- what the items after the first begin with
+-- ---- the first bytes of the items after the first
 
 after_by : (p : ℕ → Bool) (x : ℕ) (m : List ℕ) (t : Bool) → p x ≡ t → prefix_len p (drop (prefix_len p m) m) ≡ 0
     → prefix_len p (drop (cond t (1 + prefix_len p m) 0) (x ∷ m)) ≡ 0

@@ -33,7 +33,7 @@ inside_if : (px qx some : Bool) (n m k : ℕ) → (px ≡ true → qx ≡ false)
 inside_if false qx some n m k f h g = (refl, omega arith)
 inside_if true qx some n m k f h g = inside_true qx some n m k (f refl) h g
 
--- a prefix ends before a byte that is none of it
+-- a prefix ends before a byte that isn't part of it
 pub inside : (p q : ℕ → Bool) → ((x : ℕ) → p x ≡ true → q x ≡ false) → (v s : List ℕ) → list_any q v ≡ true
     → (prefix_len p (v ++ s) ≡ prefix_len p v) × (prefix_len p v < length v)
 inside p q f [] s h = absurd cc
@@ -146,7 +146,7 @@ by_within : (t : Bool) (n x u l m : ℕ) → x ≤ l → u ≤ l → n + l ≡ m
 by_within true n x u l m f g e = omega (arith, f, e)
 by_within false n x u l m f g e = omega (arith, g, e)
 
--- a value has its bytes whatever follows, unless that goes on with a number
+-- a value has its bytes for any text that follows, unless that continues the number
 pub value_same : (v s : List ℕ) → list_any is_ascii_digit v ≡ true → (begins 91 (after_lead v) ≡ true → byte_count 91 v ≡ byte_count 93 v)
     → prefix_len is_of_number s ≡ 0 → (value_length (v ++ s) ≡ value_length v) × (value_length v ≤ length v)
 value_same v s some f good =
@@ -248,7 +248,7 @@ by_computed v false e h = (
   λ b. clash (begins 91 (after_lead v)) (byte_count 91 v) (byte_count 93 v) (or_parts (has_byte 35 v) (begins 91 (after_lead v)) e).1 b,
 )
 
--- what a value is that can be read
+-- the form of a value that can be read
 pub number_value : (v : List ℕ) → is_some (number_of v) ≡ true
     → (list_any is_ascii_digit v ≡ true) × (begins 91 (after_lead v) ≡ true → byte_count 91 v ≡ byte_count 93 v)
 number_value v h = by_computed v (is_computed v) refl h

@@ -38,7 +38,7 @@ turns_b w = turning_b w.letter && not w.number.is_zero
 abbrev pub turns_c : Word → Bool
 turns_c w = turning_c w.letter && not w.number.is_zero
 
--- M98 calls a subprogram, and M99 P goes on at another line
+-- M98 calls a subprogram, and M99 P continues at another line
 abbrev pub has_jump : List Word → Bool
 has_jump words = has_m codes.CALLS words || (has_m codes.SUBPROGRAM_END words && has_p words)
 
@@ -61,7 +61,7 @@ levels_after levels.None (Some k) = levels.One k
 levels_after (levels.One j) (Some k) = if j == k then levels.One j else levels.Several
 levels_after levels.Several (Some k) = levels.Several
 
--- of a line that can't be read, anything may hold
+-- a line that can't be read may have anything
 abbrev pub facts_by : Facts → Levels → Option (List Word) → Facts
 facts_by before after None =
     record { turns_a = true; turns_b = true; turns_c = true; jumps = true; levels = after }

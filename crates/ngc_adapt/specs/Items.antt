@@ -110,7 +110,7 @@ word_item (Some letter) (Some number) = items.Word (record { letter = letter; nu
 word_item (Some letter) None = items.Unread
 word_item None number = items.Unread
 
--- what an item is
+-- the kind of an item
 unfoldable pub item_of : List ℕ → Item
 item_of [] = items.Unread
 item_of (b ∷ rest) =

@@ -64,8 +64,8 @@ abbrev pub items_left : Modes → List ℕ → Option (List Word) → List (List
 items_left modes line None = items_of line
 items_left modes line (Some words) = filter (λ piece. nat_lt 0 (length piece)) (pieces modes words line)
 
--- The rewritten line reads back as its unchanged items and the replacements: no two of them run
--- together.
+-- States that the rewritten line reads back as its unchanged items and the replacements: no two of
+-- them run together.
 abbrev pub WrittenReadsBack : Type 0
 WrittenReadsBack = (modes : Modes) (line : List ℕ) →
     items_of (written modes line) ≡ items_left modes line (words_of line)

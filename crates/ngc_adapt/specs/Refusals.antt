@@ -66,7 +66,7 @@ may_be_cycle motions.Cycle = true
 may_be_cycle motions.Unknown = true
 may_be_cycle _ = false
 
--- P of fanuc whose unit isn't known: it is computed, or the cycle that takes it isn't known
+-- P of Fanuc whose unit isn't known: it is computed, or the cycle that takes it isn't known
 abbrev pub time_refusal : Modes → List Word → Number → Option WordRefusal
 time_refusal modes words number =
     refuse

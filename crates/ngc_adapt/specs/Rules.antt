@@ -106,7 +106,7 @@ takes_mounted_tool dialects.LinuxCnc = true
 takes_mounted_tool dialects.Mach3 = true
 takes_mounted_tool _ = false
 
--- the dialects in which P0 of G10 L2 is the coordinate system in force; fanuc's is an offset of all
+-- the dialects in which P0 of G10 L2 is the coordinate system in force; Fanuc's is an offset of all
 abbrev pub has_system_zero : Dialect → Bool
 has_system_zero dialects.LinuxCnc = true
 has_system_zero dialects.Grbl = true
@@ -241,7 +241,7 @@ abbrev pub selected_after : Option ℕ → List Word → Option ℕ
 selected_after before words =
     if has_tool words then number_in (find (λ (w : Word). is_t w.letter) words) else before
 
--- the tool in the spindle: M6 mounts the one that is selected, also by a T beside it
+-- the tool in the spindle: M6 mounts the one that is selected, also by a T on its line
 abbrev pub mounted_after : Modes → List Word → Option ℕ
 mounted_after modes words =
     if has_m codes.TOOL_CHANGE words then selected_after modes.selected words else (
@@ -256,7 +256,7 @@ abbrev pub system_after : Option ℕ → List Word → Option ℕ
 system_after before words =
     if has codes.SYSTEMS words then code_in (find (λ w. is_code codes.SYSTEMS w) words) else before
 
--- grbl starts with G0 in force, which no line has named
+-- Grbl starts with G0 in force, which no line has named
 abbrev pub start_motion : Dialect → Motion
 start_motion dialects.Grbl = motions.Unnamed
 start_motion _ = motions.Off
@@ -394,14 +394,14 @@ is_no_cycle motions.Arc = true
 is_no_cycle motions.Off = true
 is_no_cycle _ = false
 
--- a motion code beside G80 that ends the cycle in force as well. A cycle's code goes on with a
--- cycle that is in force, and G80 would have ended it.
+-- a motion code on the line of G80 that ends the cycle in force as well. A cycle's code continues a
+-- cycle that is in force, but G80 would have ended it.
 abbrev pub has_other_motion : Modes → List Word → Bool
 has_other_motion modes words =
     has codes.STRAIGHT words || has codes.ARCS words
     || (has codes.CYCLES words && is_no_cycle modes.motion)
 
--- neither a line before nor this one has a code that ends what our language always has
+-- neither an earlier line nor this one has a code that ends what our language always has
 abbrev pub is_unaltered : Modes → List Word → Bool
 is_unaltered modes words = not (is_altered modes words)
 
@@ -448,7 +448,7 @@ abbrev pub is_dwelling : Cycle → Bool
 is_dwelling cycles.Dwelling = true
 is_dwelling _ = false
 
--- the cycle in force holds at the bottom of each hole for P
+-- the cycle in force dwells at the bottom of each hole for P
 abbrev pub has_dwelling_cycle : Modes → List Word → Bool
 has_dwelling_cycle modes words =
     is_plain_line modes words && is_cycle (motion_after modes.motion words)
@@ -505,7 +505,7 @@ has_dropped_value modes words =
     has_left_out modes words && not (has_user_of_p modes words)
     && (not (has_place words) || is_straight_or_off (motion_after modes.motion words))
 
--- the time of a G4 of fanuc, in seconds where it has a point, and else in milliseconds
+-- the time of a G4 of Fanuc, in seconds if it has a point, otherwise in milliseconds
 abbrev pub time_rule : Bool → Number → Option Rule
 time_rule takes_time number =
     if takes_time && number.is_count then Some rules.Milliseconds
@@ -515,7 +515,7 @@ abbrev pub has_dwell : Modes → List Word → Bool
 has_dwell modes words =
     is_fanuc modes.dialect && has codes.DWELL words && not (has_unknown modes words)
 
--- P of fanuc counts milliseconds, beside G4 and in a cycle
+-- P of Fanuc counts milliseconds, with G4 and in a cycle
 abbrev pub milliseconds_rule : Modes → List Word → Number → Option Rule
 milliseconds_rule modes words number =
     when
@@ -555,8 +555,8 @@ takes_no motions.Cycle cycles.Pecking letters.P = true
 takes_no motions.Cycle cycles.Pecking letters.K = true
 takes_no motion cycle letter = false
 
--- Nothing on a line uses a word. Fanuc's R beside a line rounds its corner, and its K in a cycle
--- counts holes.
+-- Nothing on a line uses a word. Fanuc's R with a straight motion rounds its corner, and its K in a
+-- cycle counts holes.
 abbrev pub is_unused : Modes → List Word → Letter → Bool
 is_unused modes words letter =
     is_plain_line modes words && not (has codes.BLENDED_PATH words)
@@ -566,14 +566,14 @@ abbrev pub unused_rule : Bool → Bool → Option Rule
 unused_rule is_unused is_zero =
     if is_unused && is_zero then Some rules.UnusedZero else when is_unused rules.UnusedWord
 
--- a number of a tool's offset beside no code that takes it. Fanuc's H alone changes the offset in
--- force.
+-- a number of a tool's offset on a line without a code that takes it. Fanuc's H alone changes the
+-- offset in force.
 abbrev pub is_unused_offset : Modes → List Word → Bool
 is_unused_offset modes words =
     is_plain_line modes words && not (has codes.TOOL_LENGTH words || has codes.TOOL_CENTER words)
     && (not (is_fanuc modes.dialect) || has codes.TOOL_LENGTH_END words)
 
--- K of a cycle of fanuc's counts its holes, as L does
+-- K of a cycle of Fanuc counts its holes, as L does
 abbrev pub counts_holes : Modes → List Word → Bool
 counts_holes modes words =
     is_fanuc modes.dialect && is_plain_line modes words
@@ -596,7 +596,7 @@ rotation_rule modes words number =
     (is_unused modes words letters.R && (number.is_zero || not (is_fanuc modes.dialect)))
     number.is_zero
 
--- A word of a rotary axis that has nothing but 0 in the whole program. Beside G28, without another
+-- A word of a rotary axis that has nothing but 0 in the whole program. With G28 and without another
 -- axis, it names the only axis that goes home, and in a cycle it makes a hole.
 abbrev pub axis_rule : Bool → Modes → List Word → Option Rule
 axis_rule turns modes words =

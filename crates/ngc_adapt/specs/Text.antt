@@ -1,4 +1,4 @@
--- The bytes of a file that are no part of a program's text, and line ends of old computers.
+-- The bytes of a file that aren't part of a program's text, and line ends of old computers.
 use Rattle.std.specs.Prelude.{ℕ, ◌==◌, ◌&&◌, ◌||◌, not, Bool, List, [], ◌∷◌, drop, map, filter}
 use Rattle.std.specs.Prelude.{if◌then◌else◌, nat_eq}
 use Rattle.std.specs.List.{starts_with, list_all}

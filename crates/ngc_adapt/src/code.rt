@@ -63,7 +63,7 @@ pub const DWELL: [u16; 1] = [40];
 /// G10, which sets an origin or a tool.
 pub const SETTING: [u16; 1] = [100];
 
-/// Cycles that hold at the bottom of each hole.
+/// Cycles that dwell at the bottom of each hole.
 pub const DWELLING_CYCLES: [u16; 3] = [820, 860, 890];
 
 /// Cycles that clear the chips by pecks.

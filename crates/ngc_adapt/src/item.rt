@@ -12,7 +12,7 @@ use arrayvec::ArrayVec;
 /// The greatest number of words of a line that is read.
 pub const MOST_WORDS: usize = 64;
 
-/// What a word's letter is for.
+/// The meaning of a word's letter.
 #[derive(Clone, Copy, PartialEq, Eq)]
 pub enum Letter {
     /// A position or an angle of the rotary axis A.

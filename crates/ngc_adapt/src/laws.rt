@@ -13,8 +13,8 @@ pub fn only_these_words_change()
     ensures { OnlyTheseWordsChange }
 {}
 
-/// The rewritten line reads back as its unchanged items and the replacements: no two of them run
-/// together.
+/// States that the rewritten line reads back as its unchanged items and the replacements: no two of
+/// them run together.
 pub fn written_reads_back()
     ensures { WrittenReadsBack }
 {}

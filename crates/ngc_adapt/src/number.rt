@@ -27,7 +27,7 @@ pub struct Number {
     pub has_point: bool,
     /// Whether it is the value of a parameter or a bracket.
     pub is_computed: bool,
-    /// Whether a name is in what computes it, such as `cos` or `MOD`.
+    /// Whether a name is in its expression, such as `cos` or `MOD`.
     pub has_name: bool,
     /// Whether it is a parameter or a bracket with a sign in front, as `-#1` or `-[#1+2]`.
     pub is_signed: bool,
@@ -380,7 +380,7 @@ fn is_signed(value: &[u8]) -> bool
     has_sign(value.split_at(blank_length(value)).1) && stays_open(value)
 }
 
-// Returns what is known of a value that is computed.
+// Returns the facts about a computed value.
 fn computed_number(value: &[u8]) -> Number
     ensures { result ≡ numbers.computed_number value.now }
 {

@@ -144,7 +144,7 @@ pub fn is_plain(levels: Levels, line: &[u8]) -> bool
     !has_idle_level(levels, line) && !has_odd_comment(line) && !has_long_comment(line)
 }
 
-// Adds a rule that holds.
+// Adds a rule if it applies.
 fn add_rule(holds: bool, rule: Rule, rules: &mut ArrayVec<Rule, MOST_PLAIN_RULES>)
     requires { length rules.old.items ≤ 2 }
     ensures items { rules.new.items ≡ rules.old.items ++ spec.rule_if holds rule }

@@ -48,7 +48,7 @@ pub enum WordRefusal {
     UnknownCode,
     /// An M code that our language doesn't have.
     UnknownMachineCode,
-    /// P of fanuc whose unit isn't known.
+    /// P of Fanuc whose unit isn't known.
     UnknownTime,
     /// P0 of G10 L2 where it isn't known which coordinate system it names.
     UnknownSystem,
@@ -235,7 +235,7 @@ impl Modes {
         is_one_of(&code::IDLE, code) || is_own(self.dialect, code) || !is_known(self.dialect, code)
     }
 
-    // Returns the refusal of a code that is in no such family.
+    // Returns the refusal of a code that isn't in such a family.
     fn own_refusal(&self, words: &[Word], code: Option<u16>) -> Option<WordRefusal>
         ensures { result ≡ own_refusal self.now words.now code }
     {

@@ -324,8 +324,8 @@ pub fn add_plain_report<A: Allocator + Copy>(
 }
 
 /// Adds a line for a line that is left out, with nothing but blanks and a comment: `number` is its
-/// line in the source and `written` the line that follows what is written before it, both from 1. An
-/// error means that memory was refused.
+/// line in the source and `written` the line after the output before it, both from 1. An error
+/// means that memory was refused.
 pub fn add_idle_report<A: Allocator>(
     number: usize,
     written: usize,

@@ -21,7 +21,7 @@ pub enum Rule {
     BlendTolerance,
     /// An I, J or K that is 0 and that the motion of the line doesn't use.
     ZeroOffset,
-    /// G80 beside another motion code, which ends a cycle as well.
+    /// G80 with another motion code, which ends a cycle as well.
     CycleEnd,
     /// A line number of more than five digits, or with a point.
     LineNumber,
@@ -37,23 +37,23 @@ pub enum Rule {
     ToolCenter,
     /// G5.1 or G187 with P, Q and E: how the control looks ahead.
     LookAhead,
-    /// The first line that moves without a code, where grbl starts with G0 in force.
+    /// The first line that moves without a code, where Grbl starts with G0 in force.
     FirstTraverse,
     /// G43 without H, which takes the offset of the mounted tool.
     ToolOffset,
-    /// A time in milliseconds, which fanuc writes without a point.
+    /// A time in milliseconds, which Fanuc writes without a point.
     Milliseconds,
     /// X or U of a dwell, which is P in our language.
     Seconds,
     /// G82, G86 or G89 without P.
     CycleDwell,
-    /// K of a cycle of Fanuc's, which is L in our language.
+    /// K of a cycle of Fanuc, which is L in our language.
     HoleCount,
     /// A word that is 0 and that nothing on its line uses.
     UnusedZero,
     /// A word that nothing on its line uses.
     UnusedWord,
-    /// P0 of G10 L2, which names the coordinate system in force in LinuxCNC and grbl.
+    /// P0 of G10 L2, which names the coordinate system in force in LinuxCNC and Grbl.
     SystemInForce,
     /// R0 of G10 L2, which rotates nothing.
     ZeroRotation,
@@ -157,7 +157,7 @@ pub enum Cycle {
     Unknown,
     /// It takes neither P nor Q: G81, G85.
     Plain,
-    /// It holds at the bottom of each hole for P: G82, G86, G89.
+    /// It dwells at the bottom of each hole for P: G82, G86, G89.
     Dwelling,
     /// It clears the chips by pecks of Q: G83.
     Pecking,
@@ -180,7 +180,7 @@ pub struct Modes {
     pub mounted: Option<u16>,
     /// The code in tenths of the coordinate system in force, if it is known.
     pub system: Option<u16>,
-    /// Whether a line before has a code that ends what our language always has, such as G68.
+    /// Whether an earlier line has a code that ends what our language always has, such as G68.
     pub altered: bool,
 }
 
@@ -716,8 +716,8 @@ impl Modes {
     ghost use Rattle.ngc_adapt.specs.Rules.{motion_before, has_look_ahead, own_rule};
     ghost use Rattle.ngc_adapt.specs.Rules.{tolerance_rule};
 
-    /// Returns the modes at the start of a program: the plane XY, G54, and no motion mode but in
-    /// grbl, which starts with G0. No tool is known to be mounted.
+    /// Returns the modes at the start of a program: the plane XY, G54, and no motion mode except in
+    /// Grbl, which starts with G0. No tool is known to be mounted.
     pub fn start(options: &Options, facts: &Facts) -> Modes
         ensures { result ≡ start_modes options.now facts.now }
     {
@@ -881,7 +881,7 @@ impl Modes {
         }
     }
 
-    // Returns whether a code of this line or of one before ends what our language always has.
+    // Returns whether a code of this line or an earlier one ends what our language always has.
     fn is_altered(&self, words: &[Word]) -> bool
         ensures { result ≡ is_altered self.now words.now }
     {
@@ -954,7 +954,7 @@ impl Modes {
                 .has_no_offset(self.plane.after(words), letter)
     }
 
-    // Returns whether a motion code beside G80 ends the cycle in force as well.
+    // Returns whether another motion code on the line of G80 ends the cycle in force as well.
     fn has_other_motion(&self, words: &[Word]) -> bool
         ensures { result ≡ has_other_motion self.now words.now }
     {
@@ -998,7 +998,7 @@ impl Modes {
         }
     }
 
-    // Returns whether the cycle in force holds at the bottom of each hole for P.
+    // Returns whether the cycle in force dwells at the bottom of each hole for P.
     fn has_dwelling_cycle(&self, words: &[Word]) -> bool
         ensures { result ≡ has_dwelling_cycle self.now words.now }
     {
@@ -1091,7 +1091,7 @@ impl Modes {
         when(self.has_dropped_value(words), Rule::Dropped)
     }
 
-    // Returns whether a line of fanuc's dwells.
+    // Returns whether a line of Fanuc dwells.
     fn has_dwell(&self, words: &[Word]) -> bool
         ensures { result ≡ has_dwell self.now words.now }
     {

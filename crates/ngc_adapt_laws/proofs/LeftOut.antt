@@ -19,7 +19,7 @@ abbrev fine : Option Rule → Bool
 fine None = true
 fine (Some rule) = leaves_out rule
 
--- ---- what is written in place of a word, and in front of it
+-- ---- the replacement of a word, and the text in front of it
 
 front_none : (modes : Modes) (words : List Word) (rule : Rule) → leaves_out rule ≡ true → front modes words rule ≡ []
 front_none modes words rules.ToolOffset h = absurd cc

@@ -6,5 +6,5 @@ pub mod Words
 pub mod Lines
 -- Lines from which words are left out.
 pub mod LeftOut
--- Lines worked by hand.
+-- Examples of lines.
 pub mod Examples

@@ -36,7 +36,7 @@ plain_step false false false true t last b rest kept tail h e = e
 plain_step false false false false true last b rest kept tail h e = e
 plain_step false false false false false last b rest kept tail h e = ap (λ (z : List ℕ). upper b ∷ z) e
 
--- bytes that begin no comment, and what follows them
+-- bytes that don't begin a comment, and what follows them
 pub text_front : (front rest : List ℕ) → list_all is_plain_byte front ≡ true → text_from Outside (front ++ rest) ≡ shown front ++ text_from Outside rest
 text_front [] rest h = refl
 text_front (b ∷ front) rest h =

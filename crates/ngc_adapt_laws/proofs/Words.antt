@@ -154,7 +154,7 @@ none_of true q r a b c = absurd cc
 none_of false true r a b c = absurd cc
 none_of false false r a b c = c
 
--- a letter of our language is no blank
+-- a letter of our language isn't a blank
 no_blank : (b : ℕ) (letter : Letter) → letter_of (upper b) ≡ Some letter → is_blank b ≡ false
 no_blank b letter h =
     let low : 65 ≤ upper b = rw (letter_is (upper b) letter h) (letter_bounds letter) in

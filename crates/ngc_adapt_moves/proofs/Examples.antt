@@ -173,12 +173,12 @@ written_second_home_in_inches : written feeding (codes "G20 G91 G30 Z0") ≡ cod
 unfolding written items_of item_of digits
 written_second_home_in_inches = refl
 
--- -10 mm are no whole number of millionths of an inch
+-- -10 mm aren't a whole number of millionths of an inch
 refused_home_in_inches : refusals_for feeding (codes "G20 G91 G30 X0") ≡ refusals.HomeNotWhole ∷ []
 unfolding refusals_for items_of item_of
 refused_home_in_inches = refl
 
--- a motion code beside it takes no axis words
+-- a motion code on its line takes no axis words
 written_home_beside_a_motion : written feeding (codes "G0 G80 G91 G28 Z0") ≡ codes "G91 G53 G0 Z50 "
 unfolding written items_of item_of digits
 written_home_beside_a_motion = refl
@@ -329,7 +329,7 @@ report_of_a_refusal : line_report 7 8 (without_homes feeding) (codes "G28 Z7.5")
 unfolding line_report plan_report changes_text refusals_text refusal_text items_of item_of digits
 report_of_a_refusal = refl
 
--- ---- motion codes beside codes that take the axis words, and F beside a change of the units
+-- ---- motion codes with codes that take the axis words, and F with a change of the units
 
 abbrev in_linuxcnc : Option Units → Places → Places
 in_linuxcnc u p =

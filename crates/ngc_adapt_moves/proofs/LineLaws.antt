@@ -12,7 +12,7 @@ use Rattle.ngc_adapt_moves.specs.declared.word.Word.{Word}
 use Rattle.ngc_adapt_moves.specs.Words.{words_of}
 use Rattle.ngc_adapt_moves.specs.Laws.{UnchangedIsCopied}
 
--- what is written of an item, and of those after it
+-- an item as it is rewritten, and those after it
 pub written_next : (first : Bool) (plan : Plan) (rest item others : List ℕ) → items_of rest ≡ item ∷ items_of others
     → items_written first plan (items_of rest)
     ≡ front_if (first && is_place_item item) plan ++ (item_written plan item ++ items_written (first && not (is_place_item item)) plan (items_of others))

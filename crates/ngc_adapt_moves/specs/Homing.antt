@@ -78,7 +78,7 @@ abbrev pub is_incremental : Option Distance → Bool
 is_incremental (Some distances.Incremental) = true
 is_incremental _ = false
 
--- the place between is the place where the tool is: in G91, each word is 0
+-- the intermediate point is where the tool is: in G91, each word is 0
 abbrev pub is_direct : Option Distance → List Word → Bool
 is_direct distance words =
     is_incremental distance

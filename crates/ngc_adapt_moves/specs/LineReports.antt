@@ -1,4 +1,4 @@
--- The report of a line: each change with what was there and what is written, and each reason why the
+-- The report of a line: each change with the old text and the new text, and each reason why the
 -- line is left.
 use Rattle.std.specs.Prelude.{ℕ, ℤ, Bool, List, [], ◌∷◌, ◌++◌, codes, decimal, Option, Some, None}
 use Rattle.std.specs.Prelude.{if◌then◌else◌}
@@ -22,7 +22,7 @@ use Rattle.ngc_adapt_moves.specs.Reports.{rule_name, class_of, refusal_name, sen
 use Rattle.ngc_adapt_moves.specs.Texts.{offset_letter, value_text}
 use Rattle.ngc_adapt_moves.specs.Words.{words_of}
 
--- where a change is, in the source and in what is written
+-- where a change is, in the source and in the output
 abbrev pub place_text : ℕ → ℕ → List ℕ
 place_text number written_number =
     codes "line " ++ (decimal number ++ (codes " (" ++ (decimal written_number ++ codes "): ")))
@@ -30,7 +30,7 @@ place_text number written_number =
 abbrev pub rule_text : Rule → List ℕ
 rule_text rule = rule_name rule ++ (codes " " ++ (class_of rule ++ codes ": "))
 
--- what a line was and what is written: a slash separates the lines
+-- a line's source text and the text that replaces it: a slash separates the lines
 abbrev pub was_text : Plan → List ℕ → List ℕ
 was_text plan line = line ++ (codes " -> " ++ (rewritten (codes " / ") plan line ++ codes "\n"))
 
@@ -48,7 +48,7 @@ shift_text shift =
     codes " (centre moved by" ++ (shift_along axes.X shift.x ++ (shift_along axes.Y shift.y
     ++ (shift_along axes.Z shift.z ++ codes ")")))
 
--- a centre that is moved: what the line was, what is written, and by how much it is moved
+-- a centre that is moved: the source text, the new text, and the distance by which it is moved
 abbrev pub moved_if : Balance → ℕ → ℕ → Plan → List ℕ → List ℕ
 moved_if (balances.Moved moved) number written_number plan line =
     place_text number written_number ++ (rule_text rules.MovedCentre ++ (line ++ (codes " -> "

@@ -1,4 +1,4 @@
--- What is written of a line: its items, with the replacements of those that a rule changes, and
+-- A line as it is rewritten: its items, with the replacements of those that a rule changes, and
 -- further lines.
 use Rattle.std.specs.Prelude.{ℕ, ℤ, ◌&&◌, ◌||◌, not, Bool, true, false, List, [], ◌∷◌, ◌++◌, codes}
 use Rattle.std.specs.Prelude.{Option, Some, None, if◌then◌else◌}
@@ -39,11 +39,11 @@ abbrev pub changed : List ℕ → Option Text → List ℕ
 changed item (Some text) = text_of text
 changed item None = item
 
--- what is written of an item
+-- an item as it is rewritten
 abbrev pub item_written : Plan → List ℕ → List ℕ
 item_written plan item = changed item (item_change plan (word_of item))
 
--- what is written in front of the first word of a place: a motion code, the axis word of a circle, an
+-- the text in front of the first word of a position: a motion code, the axis word of a circle, an
 -- offset
 abbrev pub front : Plan → List ℕ
 front plan =
@@ -77,7 +77,7 @@ items_written first plan (item ∷ rest) =
     front_if (first && is_place_item item) plan ++ (item_written plan item
     ++ items_written (first && not (is_place_item item)) plan rest)
 
--- what the source's own line is rewritten to
+-- the text to which the source's own line is rewritten
 abbrev pub main_written : Plan → List ℕ → List ℕ
 main_written plan line = items_written true plan (items_of line)
 
@@ -105,7 +105,7 @@ abbrev pub after_written : List ℕ → Homing → Bool → List ℕ
 after_written separator (homings.Between place) deletable = separator ++ home_line place deletable
 after_written separator _ deletable = []
 
--- what a line is rewritten to; one that no rule changes stays
+-- the text to which a line is rewritten; one that no rule changes is unchanged
 abbrev pub rewritten : List ℕ → Plan → List ℕ → List ℕ
 rewritten separator plan line =
     if is_changed plan
@@ -184,7 +184,7 @@ rules_for places line = rules_by places (words_of line)
 unfoldable pub refusals_for : Places → List ℕ → List MoveRefusal
 refusals_for places line = refusals_by places (words_of line)
 
--- what a line leaves
+-- the state after a line
 unfoldable pub places_after : Places → List ℕ → Places
 places_after places line = places_by places (may_be_deleted line) (words_of line)
 

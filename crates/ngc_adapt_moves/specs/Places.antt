@@ -1,5 +1,5 @@
--- What a line leaves in force, and where the tool is after it. A place that isn't known is never
--- taken as 0.
+-- The modes after a line, and the position of the tool. A position that isn't known is never taken
+-- as 0.
 use Rattle.std.specs.Prelude.{ℤ, ◌&&◌, ◌||◌, not, Bool, true, false, List, Option, Some, None}
 use Rattle.std.specs.Prelude.{if◌then◌else◌}
 use Rattle.ngc_adapt.specs.declared.dialect.Dialect.{Dialect}
@@ -29,7 +29,7 @@ use Rattle.ngc_adapt_moves.specs.Values.{known}
 use Rattle.ngc_adapt_moves.specs.LineWords.{has, has_m, has_axes, has_motion, has_plane, has_repeats}
 use Rattle.ngc_adapt_moves.specs.LineWords.{has_unknown, is_same_axis, may_move, names, value_along}
 
--- grbl starts with G0 in force
+-- Grbl starts with G0 in force
 abbrev pub start_motion : Dialect → Motion
 start_motion dialects.Grbl = motions.Traverse
 start_motion _ = motions.Off
@@ -105,7 +105,7 @@ abbrev pub sum : Option ℤ → Option ℤ → Option ℤ
 sum (Some start) (Some value) = known (sum_of start value)
 sum _ _ = None
 
--- where a word leads: to its number, or from the start by it
+-- the position that a word names: its number, or the start plus its number
 abbrev pub led_to : Option Distance → Option ℤ → Option ℤ → Option ℤ
 led_to (Some distances.Absolute) start value = value
 led_to (Some distances.Incremental) start value = sum start value
@@ -259,7 +259,7 @@ with_place place places =
       motion_again = places.motion_again;
     }
 
--- what a line with these words leaves, by its own words
+-- the state after a line with these words, by its own words
 abbrev pub after_line : Places → List Word → Bool → Places
 after_line places words deletable =
     if has_unknown words then lost places else (

@@ -50,7 +50,7 @@ has_name motions.Clockwise = true
 has_name motions.Counterclockwise = true
 has_name _ = false
 
--- a line moves by the motion in force, and what is written leaves another
+-- a line moves by the motion in force, and the rewritten program leaves another
 abbrev pub is_unnamed : Places → List Word → Bool
 is_unnamed places words =
     places.motion_again
@@ -62,7 +62,7 @@ naming_of places words =
     if not (is_unnamed places words) then namings.Other else (
     if has_name places.motion then namings.By places.motion else namings.Left)
 
--- a motion code is beside a code that takes the axis words, which are none of its own
+-- a motion code is on a line with a code that takes the axis words, so that they aren't its own
 abbrev pub is_apart : List Word → Bool
 is_apart words =
     has codes.TAKING_AXES words
@@ -79,14 +79,14 @@ feeding_in (Some units) (Some feeds.PerMinute) = feedings.First
 feeding_in None (Some feeds.PerMinute) = feedings.Left
 feeding_in units None = feedings.Left
 
--- F beside a change of the units: LinuxCNC counts it in the units before
+-- F with a change of the units: LinuxCNC takes it in the units before
 abbrev pub feeding_of : Places → List Word → Feeding
 feeding_of places words =
     if is_linuxcnc places.dialect
     && (has_feed words && (changes_units places.units words && not (has_unknown words)))
     then feeding_in places.units (feed_mode_after places.feed_mode words) else feedings.Other
 
--- what the rules make of a line with these words
+-- the result of the rules for a line with these words
 abbrev pub plan_of : Places → List Word → Plan
 plan_of places words =
     record {
@@ -250,7 +250,7 @@ leaves_out plan w =
     is_code codes.ARC_DISTANCE w
     || ((plan.apart && is_code codes.NAMED_MOTION w) || (is_first plan.feeding && is_f w.letter))
 
--- what is written in place of a word, if it is changed
+-- the replacement of a word, if it is changed
 abbrev pub change_of : Plan → Word → Option Text
 change_of plan w =
     if leaves_out plan w then Some texts.Nothing

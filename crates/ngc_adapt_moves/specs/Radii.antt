@@ -109,7 +109,7 @@ radii_within tolerance s = roots_within tolerance (at_start s) (at_end s)
 abbrev pub excess : Sweep → ℕ
 excess s = (at_end s - at_start s) + (at_start s - at_end s)
 
--- the centre moves against the axis, along which the chord goes so far
+-- the centre moves against the axis, along which the chord has this component
 abbrev pub is_back : Sweep → ℤ → Bool
 is_back s x =
     if nat_lt (at_end s) (at_start s) then not (int_lt x (pos 0)) else int_lt x (pos 0)
@@ -124,7 +124,7 @@ shift_along s x =
 abbrev pub is_small : Units → ℤ → Bool
 is_small units shift = nat_le (unsigned_abs shift) (correctable units)
 
--- ---- what becomes of it
+-- ---- the result
 
 abbrev pub in_plane : Plane → Option ℤ → Option ℤ → Place
 in_plane planes.XY u v = record { x = u; y = v; z = None }

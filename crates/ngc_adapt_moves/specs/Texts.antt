@@ -14,7 +14,7 @@ decimals n =
     46 ∷ (48 + n / 100000) ∷ (48 + n / 10000 % 10) ∷ (48 + n / 1000 % 10) ∷ (48 + n / 100 % 10)
     ∷ (48 + n / 10 % 10) ∷ (48 + n % 10) ∷ []
 
--- how many of these are written: no noughts at the end, and no point alone
+-- the number of these bytes that are written: no zeros at the end, and no point alone
 abbrev pub kept : ℕ → ℕ
 kept n =
     if n == 0 then 0

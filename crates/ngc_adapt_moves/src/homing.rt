@@ -128,7 +128,7 @@ fn is_incremental(distance: Option<Distance>) -> bool
     matches!(distance, Some(Distance::Incremental))
 }
 
-// Returns whether the place between is the place where the tool is.
+// Returns whether the intermediate point is where the tool is.
 fn is_direct(distance: Option<Distance>, words: &[Word]) -> bool
     ensures { result ≡ spec.is_direct distance words.now }
 {

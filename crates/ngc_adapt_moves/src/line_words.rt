@@ -260,7 +260,7 @@ fn is_known_m(code: Option<u16>) -> bool
     is_one_of(&code::MACHINE_CODES, code) || is_one_of(&code::TOOL_CHANGE, code)
 }
 
-// Returns whether nothing is known of what a word does.
+// Returns whether the effect of a word isn't known.
 fn is_unknown(word: &Word) -> bool
     ensures { result ≡ spec.is_unknown word.now }
 {
@@ -269,7 +269,7 @@ fn is_unknown(word: &Word) -> bool
         || is_other_axis(word.letter)
 }
 
-/// Returns whether nothing is known of what a word of a line does.
+/// Returns whether the effect of a word of a line isn't known.
 pub(crate) fn has_unknown(words: &[Word]) -> bool
     ensures { result ≡ spec.has_unknown words.now }
 {

@@ -353,7 +353,7 @@ impl Places {
     ghost use Rattle.ngc_adapt_moves.specs.Places.{place_after, place_either, after_line};
 
     /// Returns the state at the start of a program: the plane XY, millimetres, G90 and G91.1, no
-    /// motion mode but in grbl, which starts with G0, and no place.
+    /// motion mode except in Grbl, which starts with G0, and no known position.
     pub fn start(dialect: Dialect, homes: Option<Homes>) -> Places
         ensures { result ≡ start dialect homes }
     {

@@ -53,7 +53,7 @@ pub struct Plan {
     pub centre: Centre,
     /// Whether G90.1 and G91.1 are left out.
     pub has_arc_code: bool,
-    /// Whether a motion code is left out beside a code that takes the axis words.
+    /// Whether a motion code is left out on a line with a code that takes the axis words.
     pub apart: bool,
     pub feeding: Feeding,
     pub balance: Balance,
@@ -68,7 +68,7 @@ fn has_name(motion: Motion) -> bool
     )
 }
 
-// Returns whether a line moves by the motion in force, and what is written leaves another.
+// Returns whether a line moves by the motion in force, and the rewritten program leaves another.
 fn is_unnamed(places: &Places, words: &[Word]) -> bool
     ensures { result ≡ spec.is_unnamed places.now words.now }
 {
@@ -89,7 +89,7 @@ fn naming_of(places: &Places, words: &[Word]) -> Naming
     }
 }
 
-// Returns whether a motion code is beside a code that takes the axis words.
+// Returns whether a motion code is on a line with a code that takes the axis words.
 fn is_apart(words: &[Word]) -> bool
     ensures { result ≡ spec.is_apart words.now }
 {
@@ -113,7 +113,7 @@ fn feeding_in(units: Option<Units>, feed_mode: Option<FeedMode>) -> Feeding
     }
 }
 
-// Returns the result for F beside a change of the units: LinuxCNC counts it in the units before.
+// Returns the result for F with a change of the units: LinuxCNC takes it in the units before.
 fn feeding_of(places: &Places, words: &[Word]) -> Feeding
     ensures { result ≡ spec.feeding_of places.now words.now }
 {
@@ -152,7 +152,7 @@ pub(crate) fn plan_of(places: &Places, after: &Places, words: &[Word]) -> Plan
     }
 }
 
-// Adds a rule that holds.
+// Adds a rule if it applies.
 fn add_rule(holds: bool, rule: Rule, rules: &mut ArrayVec<Rule, MOST_RULES>)
     requires { length rules.old.items ≤ 6 }
     ensures items { rules.new.items ≡ rules.old.items ++ spec.rule_if holds rule }
@@ -445,7 +445,7 @@ impl Plan {
             || (self.feeding.is_first() && is_f(word.letter))
     }
 
-    /// Returns what is written in place of a word, if it is changed.
+    /// Returns the replacement of a word, if it is changed.
     pub(crate) fn change_of(&self, word: &Word) -> Option<Text>
         ensures { result ≡ change_of self.now word.now }
     {

@@ -18,13 +18,13 @@ use std::alloc::{AllocError, Allocator};
 pub struct Rewritten {
     /// The rules that changed it.
     pub rules: ArrayVec<Rule, MOST_RULES>,
-    /// Why it is left, where it means something else in our language.
+    /// The reasons why it is left, if it means something else in our language.
     pub refusals: ArrayVec<MoveRefusal, MOST_RULES>,
     /// The state after the line.
     pub after: Places,
-    /// How many lines are written before the source's own.
+    /// The number of lines written before the source's own.
     pub before_count: usize,
-    /// How many lines are written in all.
+    /// The number of lines written in all.
     pub line_count: usize,
 }
 

@@ -6,16 +6,17 @@ ghost use Rattle.ngc_adapt_moves.specs.Reports as spec;
 pub enum Rule {
     /// G28 or G30 with one or two axes: only these go home.
     PartHome,
-    /// A motion code written again, since what is written before leaves another.
+    /// A motion code written again, since the lines written before leave another.
     MotionAgain,
     /// A full circle without an axis word, which our language requires.
     FullCircle,
     /// Offsets of arcs from the origin, G90.1, made to lead from the current point.
     ArcOrigin,
-    /// A motion code beside a code that takes the axis words of the line, left out and written again
+    /// A motion code on a line with a code that takes the axis words, left out and written again
     /// where the next line moves.
     MotionApart,
-    /// F beside a change of the units, which LinuxCNC counts in the units before: on a line before.
+    /// F with a change of the units, which LinuxCNC takes in the units before: written on a line
+    /// before.
     FeedFirst,
     /// The centre of an arc whose radii at start and end differ by more than our language allows.
     MovedCentre,
@@ -64,7 +65,7 @@ impl Rule {
     }
 }
 
-/// Why a line is left that means something else in our language.
+/// The reason why a line is left that means something else in our language.
 #[derive(Clone, Copy, PartialEq, Eq)]
 pub enum MoveRefusal {
     /// The line can't be read.
@@ -77,7 +78,7 @@ pub enum MoveRefusal {
     UnitsNotKnown,
     /// A home that isn't a whole number of millionths of an inch.
     HomeNotWhole,
-    /// This homing by a place between, beside M0, M1, M2, M30 or M60.
+    /// This homing through an intermediate point, with M0, M1, M2, M30 or M60.
     StopBesideHoming,
     /// A line that must name its motion, which isn't known.
     MotionNotKnown,
@@ -87,7 +88,7 @@ pub enum MoveRefusal {
     ArcDistanceNotKnown,
     /// Offsets of an arc from the origin, at a place that isn't known or without both offsets.
     ArcPlaceNotKnown,
-    /// F beside a change of the units, from units or in a feed mode that isn't known.
+    /// F with a change of the units, from units or in a feed mode that isn't known.
     FeedNotKnown,
     /// An arc whose radii at start and end differ by more than the centre could be moved for.
     RadiiDiffer,

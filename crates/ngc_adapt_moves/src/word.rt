@@ -9,7 +9,7 @@ use arrayvec::ArrayVec;
 use ngc_adapt::{Item, MOST_WORDS, item_of, split_item, upper};
 use ngc_fixed_length::Value;
 
-/// What a word's letter is for.
+/// The meaning of a word's letter.
 #[derive(Clone, Copy, PartialEq, Eq)]
 pub enum Letter {
     /// A code.
@@ -18,9 +18,9 @@ pub enum Letter {
     M,
     /// A feed.
     F,
-    /// How often a cycle is made.
+    /// The number of times that a cycle is made.
     L,
-    /// A dwell, or how many turns an arc makes.
+    /// A dwell, or the number of turns of an arc.
     P,
     /// A radius, or the height to which a cycle goes back.
     R,

@@ -4,7 +4,7 @@ mod Counted
 mod Ends
 -- Line feeds after a seam.
 mod Feeds
--- What is left at the end, and whole reports.
+-- The rest at the end, and whole reports.
 mod Wholes
 -- Items that T and H don't begin.
 mod NoTools

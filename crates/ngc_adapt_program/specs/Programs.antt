@@ -76,7 +76,7 @@ is_percent_line body = (byte_count 37 body == 1) && list_all is_blank_or_percent
 abbrev pub plain_line : Levels → List ℕ → List ℕ
 plain_line levels line = plain_body levels (body_of line) ++ end_of line
 
--- a text of such lines
+-- a text of plain lines
 unfoldable pub plain_text : List ℕ → List ℕ
 plain_text text = flat_map (plain_line (levels_of text)) (lines_of text)
 

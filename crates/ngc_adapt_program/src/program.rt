@@ -38,17 +38,17 @@ pub struct Progress {
     pub levels: Levels,
     /// Whether the whole text has more than 100,000 lines.
     pub is_long: bool,
-    /// Whether one of them isn't blank.
+    /// Whether one of the previous lines isn't blank.
     pub begun: bool,
-    /// Whether the first of these is a percent sign.
+    /// Whether the first line that isn't blank is a percent sign.
     pub marked: bool,
     /// Whether another percent sign followed.
     pub closed: bool,
-    /// Whether nothing that follows is executed.
+    /// Whether the program has ended, so that no later line is executed.
     pub ended: bool,
     /// The tool to mount in front of the next line that is executed.
     pub tool: Option<u16>,
-    /// Whether the last of them has no line feed.
+    /// Whether the last of the previous lines has no line feed.
     pub lacks_feed: bool,
 }
 
@@ -319,7 +319,7 @@ struct Writing<A: Allocator> {
     changes: Vec<Change, A>,
     // Whether something is refused.
     is_left: bool,
-    // How many lines the text has.
+    // The number of lines in the text.
     before: usize,
 }
 

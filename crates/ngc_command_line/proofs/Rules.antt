@@ -186,7 +186,7 @@ first_fits : (name : Text) (P : Text → Type 0) (id : Text) (vs : List Text) �
 first_fits name P id [] bad same = absurd bad
 first_fits name P id (v ∷ vs) fits same = fits same
 
--- a value that was found under the name is such a one
+-- a value that was found under the name has the property
 pub found_fits : (name : Text) (P : Text → Type 0) (rows : List Row) → AreFilled (Fits name P) rows → IfSome (first_of name rows) P
 found_fits name P [] filled = tt
 found_fits name P (r ∷ rs) filled = pick (bytes_eq r.id name) refl (found_fits name P rs filled.1)

@@ -121,7 +121,7 @@ fn number_of_checking(heap: &LocalHeap) -> Option<u16> {
     }
 }
 
-// Feeding the reader allocates no memory.
+// Checks in pieces: feeding the reader allocates no memory.
 fn number_of_checking_in_pieces(rt: &impl Abort, heap: &LocalHeap) -> Option<u16> {
     let program = Program::read(heap, &mut Device::new(PROGRAM)).ok()?;
     let machine = machine_in(heap)?;
@@ -172,7 +172,7 @@ fn number_of_listing(heap: &LocalHeap, commands: &[Command; 2]) -> u16 {
 // Ten millimetres without a tool, and ten with one.
 const DRAWN: &[u8] = b"G0 X10\nT1 M6\nG0 X20\nM2\n";
 
-// Nothing is written if memory is refused.
+// Draws in a heap: nothing is written if memory is refused.
 fn number_of_drawing(rt: &impl Abort, alloc: Global, heap: &LocalHeap) -> Result<u16, Fail> {
     let machine = built_in_machine(alloc);
     let program = Program::read(alloc, &mut Device::new(DRAWN))?;

@@ -43,7 +43,8 @@ fn is_load<A: Allocator + Copy>(controller: &Controller<ArcPath, A>, index: usiz
     matches!(controller.recent(index), Some(Reply::Loaded(1)))
 }
 
-// The third load is refused, and its reply isn't stored. The last 256 replies are.
+// Tests the replies: the third load is refused, and its reply isn't stored. The last 256 replies
+// are.
 fn tells(rt: &impl Abort, controller: &mut Controller<ArcPath, Global>) {
     holds(rt, &"no reply", controller.recent(0).is_none());
     give(controller, &[Event::Load]);

@@ -11,7 +11,7 @@ use Rattle.ngc_drawing.specs.Draws.{Draws}
 use Rattle.ngc_drawing.specs.Spelling.{shape_text, shapes_text}
 use Rattle.ngc_drawing.specs.declared.shape.Shape.{Shape}
 
--- of a whole some shapes are drawn, and the rest is still to come
+-- some shapes of the whole are drawn, and the rest follows
 pub record Ahead (unit : ℤ) (old now : Option (List ℕ)) (before chunk : List ℕ) (rest whole : List Shape) : Type 0 where
   pub done : List Shape
   pub splits : whole ≡ done ++ rest

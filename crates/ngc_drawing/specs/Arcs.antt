@@ -9,8 +9,8 @@ use Rattle.ngc_drawing.specs.declared.spot.Spot.{Spot}
 use Rattle.ngc_drawing.specs.declared.eye.Eye.{Eye}
 use Rattle.ngc_drawing.specs.Views.{tip_spot}
 
--- the points of a circle where it crosses the axes through its centre, as far as the arc comes
--- there, at the height of its start
+-- the points of a circle where it crosses the axes through its centre, if the arc reaches them, at
+-- the height of its start
 abbrev pub extreme_point : ArcShape → Point2 → Point3
 extreme_point arc p = at_height arc.plane p (height arc.plane arc.start)
 

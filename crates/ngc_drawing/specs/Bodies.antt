@@ -53,8 +53,8 @@ are_seen_alike Top a b = is_same_x a b && is_same_y a b
 are_seen_alike Front a b = is_same_x a b && is_same_z a b
 are_seen_alike Side a b = is_same_y a b && is_same_z a b
 
--- a box is drawn with those before it that have its tool, where they are fewer than `most`, or
--- seen at its place
+-- a box is drawn with the boxes before it that have its tool, if they are fewer than `most`, or if
+-- they are seen at its place
 abbrev pub takes : View → ℕ → Sweep → Sweep → Bool
 takes view most s next =
     s.rank == next.rank && (nat_lt s.count most || are_seen_alike view s.bounds next.bounds)

@@ -57,7 +57,7 @@ drilled d (Move m) =
 drilled d (Mount tool) = record { eye = eye_of d.eye.view tool; plunge = None }
 drilled d _ = d
 
--- a plunge is a hole where the axes have come up again: a mark where the tip was at its lowest
+-- a plunge is a hole if the axes have moved up again: a mark where the tip was at its lowest
 abbrev pub hole : Eye → Option Plunge → List Shape
 hole eye None = []
 hole eye (Some p) = if p.is_out then shapes.Mark marks.Hole (tip_spot eye p.bottom) ∷ [] else []

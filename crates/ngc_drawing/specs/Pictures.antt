@@ -196,7 +196,7 @@ ground view machine area tools swept =
 abbrev pub path : View → List (Option Tool) → List Command → List Shape
 path view tools commands = strokes view tools commands ++ holes view commands
 
--- these, the path, the marks, what is refused, the scale and the legend
+-- these, the path, the marks, the refusal, the scale and the legend
 abbrev pub picture_of : View → MachineFile → List Command → Option RefusedMotion → Rectangle →
     List (Option Tool) → List Sweep → List Shape
 picture_of view machine commands refusal area tools swept =

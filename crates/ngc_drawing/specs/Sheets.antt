@@ -80,7 +80,7 @@ abbrev pub is_far_larger : Rectangle → Rectangle → Bool
 is_far_larger r s =
     is_far_longer (width_of r) (width_of s) || is_far_longer (height_of r) (height_of s)
 
--- what a picture shows: the whole, or the work where the travel is far larger
+-- the area that a picture shows: the whole, or the work if the travel is far larger
 abbrev pub frame : Look → MachineFile → List Command → Rectangle
 frame look machine commands =
     if look.whole then whole look.view machine commands
@@ -100,7 +100,7 @@ is_in r p =
 abbrev pub is_within : Rectangle → Rectangle → Bool
 is_within r s = is_in r s.low && is_in r s.high
 
--- a hundredth of what is drawn, and at least a tenth of a millimetre
+-- a hundredth of the drawn area's size, and at least a tenth of a millimetre
 abbrev pub unit_of : Rectangle → ℤ
 unit_of r = int_max (pos 100)
     (int_div (int_max (width_of r) (height_of r)) (pos 100))

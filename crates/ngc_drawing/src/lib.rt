@@ -1,4 +1,4 @@
-//! Pictures of programs: what is drawn, and its text as SVG.
+//! Pictures of programs: their shapes, and their text as SVG.
 #![tactic(auto)]
 
 mod bodies;

@@ -677,9 +677,9 @@ fn shown_sweeps<A: Allocator, B: Allocator>(
 
 /// Writes the picture of a program on a machine, as SVG 1.1 in millimetres, seen from one side:
 /// travel, fixtures, if `look` says so the bodies of the tools over the boxes of a certificate's
-/// motions, home and start, the path of the mounted tool's tip, what is refused in red, a scale and
-/// a legend. The picture has the whole travel, or, where the travel is more than three times as
-/// wide or as high as the fixtures and the path, these alone.
+/// motions, home and start, the path of the mounted tool's tip, the refusal in red, a scale and a
+/// legend. The picture has the whole travel, or, where the travel is more than three times as wide
+/// or as high as the fixtures and the path, these alone.
 ///
 /// After a fault (900 for refused memory, when nothing is written; 902, and only where the sink
 /// failed) a prefix of the text is written.

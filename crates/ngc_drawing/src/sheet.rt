@@ -212,7 +212,7 @@ fn hundredth(length: i128) -> i64
     (length / 100).max(100) as i64
 }
 
-/// Returns a hundredth of what is drawn, and at least a tenth of a millimetre.
+/// Returns a hundredth of the drawn area's size, and at least a tenth of a millimetre.
 pub(crate) fn unit_of(area: &Rectangle) -> Unit
     ensures { result.micrometres ≡ unit_of area.now }
 {

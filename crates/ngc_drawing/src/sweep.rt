@@ -29,8 +29,8 @@ pub(crate) struct Sweep {
     pub bounds: GridBox,
 }
 
-/// The state between two commands: the rank of the mounted tool, which motion of the certificate is
-/// next, and the boxes that are drawn as one so far.
+/// The state between two commands: the rank of the mounted tool, the next motion of the
+/// certificate, and the boxes that are drawn as one so far.
 #[derive(Clone, Copy)]
 pub(crate) struct Sweeping {
     pub rank: usize,

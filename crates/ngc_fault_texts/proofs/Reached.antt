@@ -6,7 +6,7 @@ use Rattle.ngc_text.specs.Written.{AppendsBeginning}
 use Rattle.ngc_fault_texts.specs.Told.{joined}
 use Rattle.ngc_text.proofs.Appended.{appends_both, begins_after}
 
--- some bytes are written, and then comes the rest
+-- some bytes are written, and then the rest
 abbrev pub Reached : Option (List ℕ) → Option (List ℕ) → List ℕ → List ℕ → Type 0
 Reached old now rest whole = (bs : List ℕ) × Appends old now bs × (whole ≡ bs ++ rest)
 

@@ -54,7 +54,7 @@ verdict_on setup bytes text program verdict is_text have (c, said, answers) = re
   answers = answers;
 }
 
--- a text that is judged says a certificate
+-- a text that is judged is a certificate
 pub judged_is_read : (program : ProgramLines) (setup : Setup) (verdict : Verdict) (known source : Option (List ℕ)) → source ≡ known
     → IfSome source (λ text. Judges program setup text (Ok verdict)) → IfSome known (λ text. IsOk (certificate_said text))
 judged_is_read program setup verdict known source same judges =

@@ -28,14 +28,14 @@ said_weaker read builtin bytes (Some name) P Q on p = some_weaker (bytes (Some n
   some_weaker None p = tt
   some_weaker (Some text) p = on (read text) p
 
--- files that were kept say what they said
+-- files that were kept have the same contents
 pub said_before : {T : Type 0} (read : List ℕ → Result T FileFault) (builtin : T) (old new : FileBytes) (name : Option (List ℕ))
     (P : Result T FileFault → Type 0)
     → KeepsFiles old new → IfSaid read builtin new name P → IfSaid read builtin old name P
 said_before read builtin old new None P keeps p = p
 said_before read builtin old new (Some name) P keeps p = subst (λ (known : Option (List ℕ)). IfSome known (λ text. P (read text))) (keeps (Some name)) p
 
--- what holds of the machine and the tools that were read holds on what the two files say
+-- a property of the machine and the tools that were read holds for the contents of the two files
 pub on_setup : (bytes : FileBytes) (machine tools : Option (List ℕ)) (setup : Setup) (P : Setup → Type 0)
     → IfMachine bytes machine (λ says. says ≡ Ok setup.machine) → IfTools bytes tools (λ says. says ≡ Ok setup.tools) → P setup
     → OnSetup bytes machine tools P

@@ -27,7 +27,7 @@ abbrev pub AllRead : FileBytes → List Input → Type 0
 AllRead bytes [] = Unit {0}
 AllRead bytes (input ∷ more) = IfSome (bytes input.name) (IsReadAs input.kind) × AllRead bytes more
 
--- what one file by itself, or the only one of some, tells
+-- the report on one file alone, or on the only one of some
 abbrev pub Told : (Option (List ℕ) → Type 0) → FileBytes → List Input → ℕ → ℕ → Option InputFault → Type 0
 Told fails bytes files old new why = MatchOption why (new ≡ old) (TellsFirstUnread fails bytes files old new)
 

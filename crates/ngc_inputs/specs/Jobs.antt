@@ -77,7 +77,7 @@ IsRefusedAt setup program Off fault = meaning program setup false ≡ Err fault
 IsRefusedAt setup program On fault = (off : List Command) × (meaning program setup false ≡ Ok off) ×
     (meaning program setup true ≡ Err fault)
 
--- why such a program has no certificate
+-- why a refused program has no certificate
 abbrev pub refused_at : Setting → ProgramFault → AnswerFault
 refused_at setting (programs.At line fault) = answers.Refused setting (programs.At line fault)
 refused_at setting programs.Memory = answers.Make Memory

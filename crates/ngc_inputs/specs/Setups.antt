@@ -12,7 +12,7 @@ use Rattle.ngc_machine_files.specs.declared.tools.Tool.{Tool}
 abbrev pub FileBytes : Type 0
 FileBytes = Option (List ℕ) → Option (List ℕ)
 
--- of what a named file says, where its bytes are known, and of what holds where none is named
+-- P of a named file's contents, where its bytes are known, or of the default if none is named
 abbrev pub IfSaid : {T : Type 0} → (List ℕ → Result T FileFault) → T → FileBytes → Option (List ℕ) →
     (Result T FileFault → Type 0) → Type 0
 IfSaid read builtin bytes None P = P (Ok builtin)
@@ -25,13 +25,13 @@ KeepsFiles old new = (name : Option (List ℕ)) → new name ≡ old name
 abbrev pub KeepsNamed : FileBytes → FileBytes → Type 0
 KeepsNamed old new = (name : List ℕ) → new (Some name) ≡ old (Some name)
 
--- the machine and its tools that the two files say
+-- the machine and its tools in the two files
 pub record AreSetup (machine : Result MachineFile FileFault) (tools : Result (List Tool) FileFault)
     (setup : Setup) : Type 0 where
   pub machine_said : machine ≡ Ok setup.machine
   pub tools_said : tools ≡ Ok setup.tools
 
--- of what the machine file and the tool table say, and of what is taken where none is named
+-- P of the contents of the machine file and the tool table, or of the defaults if none is named
 abbrev pub IfMachine : FileBytes → Option (List ℕ) →
     (Result MachineFile FileFault → Type 0) → Type 0
 IfMachine bytes name P = IfSaid machine_file built_in_machine bytes name P
@@ -39,7 +39,7 @@ IfMachine bytes name P = IfSaid machine_file built_in_machine bytes name P
 abbrev pub IfTools : FileBytes → Option (List ℕ) → (Result (List Tool) FileFault → Type 0) → Type 0
 IfTools bytes name P = IfSaid tool_table [] bytes name P
 
--- what holds on the machine with its tools that two files say
+-- P of the machine with its tools in two files
 abbrev pub OnSetup : FileBytes → Option (List ℕ) → Option (List ℕ) → (Setup → Type 0) → Type 0
 OnSetup bytes machine tools P =
     IfMachine bytes machine

@@ -79,7 +79,7 @@ TellsUnread fails known old new inputs.Device = IsUnread fails known old new
 TellsUnread fails known old new inputs.TooLong =
     (new ≡ old) × IfSome known (λ bytes. FILE_LIMIT < length bytes)
 
--- the same of a file that is read as such; a program and a certificate are never too long
+-- the same for a file that is read as this kind; a program and a certificate are never too long
 abbrev pub TellsKindUnread : (Option (List ℕ) → Type 0) → Kind → Option (List ℕ) → ℕ → ℕ →
     InputFault → Type 0
 TellsKindUnread fails OfProgram known old new inputs.TooLong = ⊥

@@ -23,7 +23,7 @@ slow_from test m s zero xs p = (s, p)
 slow_from test m s (suc i) [] p = (s, tt)
 slow_from test m s (suc i) (x ∷ xs) p = slow_from test m p.0 i xs p.3
 
--- in n ticks there are no more than m allows
+-- n ticks have no more than m allows
 pub slow_window : {X : Type 0} (test : X → Bool) (m s : ℕ) (xs : List X) → AreSlow test m s xs → (i n : ℕ) →
     count_by test (take n (drop i xs)) ≤ up_to_whole (n * m)
 slow_window test m s xs p i n =

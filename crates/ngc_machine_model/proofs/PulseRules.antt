@@ -344,7 +344,7 @@ rate_bounds job (l ∷ ls) old v k = (k.within.greatest, k.faster, k.slower)
 abbrev pub Goes : Job → ℕ → State → List StepPos → Type 0
 Goes job q s ticks = (vs : List ℕ) × ArePaced is_path_step job.machine.change (q * MILLION + s.travelled) s.rate vs ticks
 
--- an event that is no tick
+-- an event that isn't a tick
 abbrev pub Waits : Job → State → State → Type 0
 Waits job old new = WalksIn job new × (new.travelled ≡ old.travelled) × (new.rate ≡ old.rate)
 

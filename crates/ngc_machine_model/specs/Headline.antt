@@ -38,7 +38,7 @@ abbrev pub AcceptedRunsSafely : Type 0
 AcceptedRunsSafely = (a : AcceptedData) → IsAccepted a → (block_delete : Bool) →
     RunsSafely (job_of a.machine (commands_at block_delete a))
 
--- On every machine within its ranges every tick of every run keeps the rules of rates, whatever the
+-- On every machine within its ranges every tick of every run keeps the rules of rates, for any
 -- commands.
 abbrev pub KeepRatesAlways : Type 0
 KeepRatesAlways = (job : Job) → IsMachine job.machine →
@@ -69,6 +69,6 @@ RunsInTime job = (events : List Event) (outcomes : List Outcome) (states : List 
     KeepGoing job (opening job.machine) events states →
     IsDoneInTime job events states
 
--- On every machine within its ranges each motion has a least rate, whatever the commands.
+-- On every machine within its ranges each motion has a least rate, for any commands.
 abbrev pub MachinesRunInTime : Type 0
 MachinesRunInTime = (job : Job) → IsMachine job.machine → RunsInTime job

@@ -13,7 +13,8 @@ pub record Job : Type 0 where
   pub machine : MachineFile
   pub commands : List Command
 
--- a loaded command, and the path that was chosen for it; a command that is no motion has no points
+-- a loaded command, and the path that was chosen for it; a command that isn't a motion has no
+-- points
 pub record Queued : Type 0 where
   pub command : Command
   pub path : List StepPos

@@ -50,7 +50,7 @@ pub enum Directive<'a> {
 }
 
 impl<'a> Directive<'a> {
-    /// Reads the text after the `@` of a line, or returns `None` if it is no directive.
+    /// Reads the text after the `@` of a line, or returns `None` if it isn't a directive.
     pub fn read(line: &'a str) -> Option<Directive<'a>> {
         let (word, rest) = line.split_once(' ').unwrap_or((line, ""));
         match word {

@@ -94,7 +94,7 @@ not_understood setup known bytes text s fault is_known is_text have refused =
     refused_by setup bytes text s fault (subst (λ (k : Option (List ℕ)). IfSome k (λ b. program_of b ≡ Ok text)) is_known is_text) have
     (refused have.readings have.are)
 
--- the text that would be written is refused, and the notes tell why
+-- the text that would be written is refused, and the notes say why
 pub refused_notes : (machine : MachineFile) (request : Request) (file : List ℕ) (setup : Setup) (fault : AnswerFault) (report : List ℕ)
     (old : Option (List ℕ)) (result : Result Notes AnswerFault)
     → program_left request file ≡ false → report ≡ program_report request file → IsSetupFor machine (program_written request file) setup

@@ -9,8 +9,8 @@ use Rattle.ngc_inputs.specs.declared.fault.AnswerFault.TheVariants as answers
 abbrev pub version_text : List ℕ
 version_text = codes "ngc 0.1.0\n"
 
--- A text is written, or a prefix of it if the sink failed. Where there is no help, what was written
--- stays as it was.
+-- A text is written, or a prefix of it if the sink failed. If there is no help, the output is
+-- unchanged.
 abbrev pub Guides : Option (List ℕ) → Option (List ℕ) → Result (Unit {0}) AnswerFault → Type 0
 Guides old new (Ok u) = (text : List ℕ) × Appends old new text
 Guides old new (Err answers.UnknownCommand) = Keeps old new

@@ -37,9 +37,9 @@ pub record LivesAt (form : LiveForm) (feeds : Bool) (setup : Setup) (bytes text 
   pub is_fed : live.feeds ≡ feeds
   pub lives : LivesOn form live source rest old new result
 
--- Of a program's file, a certificate's file, a source of events and a sink: the run of the events
--- of all lines that came was written, to the end of the source or up to a fault; where there is no
--- run, the output is unchanged.
+-- Of a program's file, a certificate's file, a source of events and a sink: the run over the events
+-- of all lines that arrived was written, to the end of the source or up to a fault; where there is
+-- no run, the output is unchanged.
 abbrev pub Lives : LiveForm → Bool → Setup → List ℕ → List ℕ → Bool → Option (List ℕ) →
     Option (List ℕ) → Option (List ℕ) → Option (List ℕ) → Result (Unit {0}) AnswerFault → Type 0
 Lives form feeds setup bytes text block_delete source rest old new (Ok done) =

@@ -31,7 +31,7 @@ abbrev pub OfText : Form → (List ℕ → FileFault → List ℕ) → FileFault
     (List ℕ → Type 0) → Type 0
 OfText form text e known P = (e ≢ Memory) × IfSome known (λ bytes. P (told_text form text bytes e))
 
--- the same of the one of two files that is refused
+-- the same for the refused one of two files
 abbrev pub OfMistake : Form → FileBytes → Option (List ℕ) → Option (List ℕ) → AnswerFault →
     (List ℕ → Type 0) → Type 0
 OfMistake form bytes machine tools (answers.Machine e) P =

@@ -33,7 +33,7 @@ fn write_fault_document<W: Sink>(number: u16, output: &mut W) -> Result<(), Writ
     write_ending(Form::Json, number, output)
 }
 
-// Nothing is written where memory ran out.
+// Writes a document with the fault's number, or nothing if memory ran out.
 fn tell_number<W: Sink>(fault: FileFault, output: &mut W) -> Result<(), AnswerFault>
     ensures tells { TellsMistake (λ P. (fault ≢ Memory) × P (fault_document (file_number fault)))
         (W.written output.old) (W.written output.new) result }

@@ -1,4 +1,4 @@
--- What is written so far and what is left to write, and the report in the same way.
+-- The text so far and the text that is left, and the report in the same way.
 use Rattle.std.proofs.Common.{◌≡◌, ◌++◌, length}
 use Rattle.std.specs.List.{concat}
 use Rattle.ngc_adapt.specs.Items.{items_of}

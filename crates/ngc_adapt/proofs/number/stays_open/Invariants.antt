@@ -1,4 +1,4 @@
--- What the bytes so far leave open, and those that are left.
+-- The brackets that are open after the bytes so far, and the bytes that are left.
 use Rattle.std.proofs.Common.{◌≡◌, ◌+◌, ◌≤◌, drop}
 use Rattle.ngc_adapt.specs.Numbers.{stays_open}
 use Rattle.ngc_adapt.proofs.number.stays_open.Given as goal

@@ -1,4 +1,4 @@
--- What is written so far, and what is left to write.
+-- The text so far, and the text that is left.
 use Rattle.std.proofs.Common.{◌≡◌, ◌++◌, length}
 use Rattle.ngc_adapt.specs.Items.{items_of}
 use Rattle.ngc_adapt_moves.specs.Lines.{items_written, main_written}

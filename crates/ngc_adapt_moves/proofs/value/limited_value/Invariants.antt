@@ -1,4 +1,4 @@
--- value is what the digits so far give, or the bound.
+-- value is the number that the digits so far form, or the bound.
 use Rattle.std.proofs.Common.{◌≡◌, take, min}
 use Rattle.ngc_adapt.specs.Numbers.{digits_value}
 use Rattle.ngc_adapt_moves.proofs.value.limited_value.Given as goal

@@ -1,5 +1,5 @@
--- What is written so far and what is left to write, and the report, the changes and what stands in
--- the way in the same manner.
+-- The text so far and the text that is left, and the report, the changes and the refusals in the
+-- same manner.
 use Rattle.std.proofs.Common.{◌≡◌, ◌+◌, ◌≤◌, ◌++◌, length}
 use Rattle.std.specs.Prelude.{◌||◌}
 use Rattle.ngc_adapt.specs.Sources.{lines_of}

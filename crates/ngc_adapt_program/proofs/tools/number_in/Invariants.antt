@@ -1,4 +1,4 @@
--- number is what the digits so far give, or the bound.
+-- number is the number that the digits so far form, or the bound.
 use Rattle.std.proofs.Common.{◌≡◌, ◌≤◌, take}
 use Rattle.std.specs.Prelude.{fold}
 use Rattle.ngc_adapt_program.specs.ToolNumbers.{with_digit}
