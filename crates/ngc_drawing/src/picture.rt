@@ -479,7 +479,7 @@ fn origin(view: View, area: &Rectangle, system: usize, place: &Point3) -> ArrayV
     shapes
 }
 
-// Returns the origins of the coordinate systems that are set in the machine file.
+// Draws the origins of the coordinate systems that are set in the machine file.
 fn draw_origins<W: Sink>(
     chunk: &mut Chunk,
     unit: &Unit,
