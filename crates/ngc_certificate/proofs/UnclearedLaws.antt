@@ -14,9 +14,9 @@ use Rattle.ngc_certificate_text.specs.declared.piece.Piece.{Piece}
 use Rattle.ngc_certificate_text.specs.Certificate.{Entry}
 use Rattle.ngc_certificate.specs.PieceFault.{place_fault}
 use Rattle.ngc_certificate.specs.Made.{with_pieces, unless_met, MayFind, IsMadeFrom}
-use Rattle.ngc_certificate.specs.Uncleared.{unless_cleared, AreUnclearedFrom, BeginsAs, MadeSaysUncleared, NoneUnclearedIsMade}
+use Rattle.ngc_certificate.specs.Uncleared.{unless_cleared, AreUnclearedFrom, BeginsAs, FirstUnclearedIsRefused, MadeSaysUncleared, NoneUnclearedIsMade}
 use Rattle.ngc_certificate.proofs.Cleared.{none_of}
-use Rattle.ngc_certificate.proofs.SomeMade.{some_found}
+use Rattle.ngc_certificate.proofs.SomeMade.{some_found, some_made}
 
 -- there is a result for all commands
 some_uncleared : (machine : MachineFile) (most k : ℕ) (tool : Option Tool) (place : Point3) (actions : List Action) →
@@ -101,3 +101,44 @@ none_is_made machine most k tool place (_ ∷ actions) h = none_is_made machine 
 
 pub none_made : NoneUnclearedIsMade
 none_made machine most commands h = none_is_made machine most 0 None machine.start (actions_of commands) h
+
+-- ---- the first of them
+
+abbrev first_or : ℕ → List ℕ → ℕ
+first_or n [] = n
+first_or n (m ∷ ms) = m
+
+refused_at_mount : (machine : MachineFile) (most k j : ℕ) (new : Option Tool) (place : Point3) (actions : List Action) (ks rest : List ℕ) (met : Option ℕ) →
+    j ∷ ks ≡ unless_cleared (is_none met) k rest → (rest ≡ j ∷ ks → IsMadeFrom machine most (k + 1) new place actions (Err j)) →
+    (later : Result (List Entry) ℕ) × IsMadeFrom machine most (k + 1) new place actions later × (Err j ≡ unless_met met k later)
+refused_at_mount machine most k j new place actions ks rest None h on = (Err j, on (sym h), refl)
+refused_at_mount machine most k j new place actions ks rest (Some fixture) h on =
+    let later = some_made machine most (k + 1) new place actions in
+    (later.0, later.1, ap (λ ms. Err (first_or j ms)) h)
+
+refused_at_motion : (machine : MachineFile) (most k j : ℕ) (tool : Option Tool) (place : Point3) (actions : List Action) (ks rest : List ℕ)
+    (found : Option (List Piece)) →
+    j ∷ ks ≡ unless_cleared (is_some found) k rest → (rest ≡ j ∷ ks → IsMadeFrom machine most (k + 1) tool place actions (Err j)) →
+    (later : Result (List Entry) ℕ) × IsMadeFrom machine most (k + 1) tool place actions later × (Err j ≡ with_pieces k found later)
+refused_at_motion machine most k j tool place actions ks rest (Some pieces) h on = (Err j, on (sym h), refl)
+refused_at_motion machine most k j tool place actions ks rest None h on =
+    let later = some_made machine most (k + 1) tool place actions in
+    (later.0, later.1, ap (λ ms. Err (first_or j ms)) h)
+
+refused_from : (machine : MachineFile) (most k j : ℕ) (tool : Option Tool) (place : Point3) (actions : List Action) (ks : List ℕ) →
+    AreUnclearedFrom machine most k tool place actions (j ∷ ks) → IsMadeFrom machine most k tool place actions (Err j)
+refused_from machine most k j tool place [] ks h = absurd (one-none h)
+  where
+    one-none : j ∷ ks ≡ [] → ⊥
+    one-none e = cc
+refused_from machine most k j tool place (Mount new ∷ actions) ks h =
+    refused_at_mount machine most k j new place actions ks h.0 (place_fault machine new (grid machine.step place)) h.2
+    (λ e. refused_from machine most (k + 1) j new place actions ks (subst (AreUnclearedFrom machine most (k + 1) new place actions) e h.1))
+refused_from machine most k j tool place (Move m ∷ actions) ks h =
+    let later = refused_at_motion machine most k j tool (end_of m.way) actions ks h.1 h.0 h.4
+    (λ e. refused_from machine most (k + 1) j tool (end_of m.way) actions ks (subst (AreUnclearedFrom machine most (k + 1) tool (end_of m.way) actions) e h.3)) in
+    (h.0, later.0, h.2, later.1, later.2)
+refused_from machine most k j tool place (_ ∷ actions) ks h = refused_from machine most (k + 1) j tool place actions ks h
+
+pub first_refused : FirstUnclearedIsRefused
+first_refused machine most commands k ks h = refused_from machine most 0 k None machine.start (actions_of commands) ks h

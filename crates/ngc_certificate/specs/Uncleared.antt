@@ -62,6 +62,12 @@ NoneUnclearedIsMade = (machine : MachineFile) (most : ℕ) (commands : List Comm
     AreUncleared machine most commands [] →
     (entries : List Entry) × IsSettingMade machine most commands (Ok entries)
 
+-- the first command that isn't cleared is the one at which the setting is refused
+abbrev pub FirstUnclearedIsRefused : Type 0
+FirstUnclearedIsRefused =
+    (machine : MachineFile) (most : ℕ) (commands : List Command) (k : ℕ) (ks : List ℕ) →
+    AreUncleared machine most commands (k ∷ ks) → IsSettingMade machine most commands (Err k)
+
 -- a list that begins with a command
 abbrev pub BeginsWith : ℕ → List ℕ → Type 0
 BeginsWith k ks = (rest : List ℕ) × (ks ≡ k ∷ rest)

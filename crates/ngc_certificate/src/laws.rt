@@ -1,7 +1,8 @@
 //! Laws about the definitions only.
 ghost use Rattle.ngc_certificate.specs.Covered.{Covered, SafeOnPath};
 ghost use Rattle.ngc_certificate.specs.NoFault.{NoPiecesFaultIsValid, NoPlaceFaultIsClear};
-ghost use Rattle.ngc_certificate.specs.Uncleared.{MadeSaysUncleared, NoneUnclearedIsMade};
+ghost use Rattle.ngc_certificate.specs.Uncleared.{FirstUnclearedIsRefused, MadeSaysUncleared};
+ghost use Rattle.ngc_certificate.specs.Uncleared.{NoneUnclearedIsMade};
 
 /// States that each point of a motion's path is in the derived box of one of its pieces.
 pub fn covered()
@@ -23,8 +24,10 @@ pub fn no_fault_is_valid()
 
 /// States how the two results for a setting agree. If motions are made for it, it may have no
 /// command that isn't cleared; if it is refused at a command, that may be the first one that isn't
-/// cleared. Conversely, if all commands may be cleared, motions may be made for it.
+/// cleared. Conversely, if all commands may be cleared, motions may be made for it, and otherwise it
+/// may be refused at the first one that isn't.
 pub fn uncleared_as_made()
     ensures says { MadeSaysUncleared }
     ensures made { NoneUnclearedIsMade }
+    ensures refused { FirstUnclearedIsRefused }
 {}
