@@ -24,7 +24,7 @@ const FEED_RING: Argument<'static> = Argument {
     is_named: true,
     is_required: false,
     takes: Takes::Nothing,
-    help: "Load commands before each tick, while the ring\nhas room [default: events load them]",
+    help: "Load commands before each tick, while the ring\nhas space [default: events load them]",
 };
 
 pub(crate) static LIVE: SubcommandRow<'static> = SubcommandRow {

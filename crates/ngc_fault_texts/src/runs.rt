@@ -51,7 +51,7 @@ pub(crate) fn log() -> &'static [Row]
             rule: "This load is too early: give ticks before it, until a command is done.\n\
              At most `ring` commands may be loaded and not done, 16 where the machine file has no such key\n\
              (our own).",
-            example: "no `ring`, events of seventeen lines `load`, and a program of as many commands",
+            example: "no `ring`, events of seventeen lines `load`, and a program of 17 commands",
             answer: "`refused 702`",
             place: None,
             mend: "Or write a greater `ring` into the machine file, up to 1,024 (version 2).",
@@ -63,7 +63,7 @@ pub(crate) fn log() -> &'static [Row]
             example: "events `load`, `load`, `load`",
             answer: "`refused 703`",
             place: None,
-            mend: "A program has as many commands as `ngc list` has lines: that of the example has two.",
+            mend: "The number of commands is the number of lines of `ngc list`: two in the example.",
         },
     ];
     ROWS

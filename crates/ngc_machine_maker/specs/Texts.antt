@@ -26,7 +26,7 @@ axes_text x y z = codes "X " ++ x ++ codes ", Y " ++ y ++ codes ", Z " ++ z
 
 unfoldable pub remark_text : Remark → List ℕ
 remark_text (remarks.Step n) = size_text n ++ codes " mm"
-remark_text remarks.Ticks = codes "how often the controller may give steps"
+remark_text remarks.Ticks = codes "how often the controller may make steps"
 remark_text (remarks.Speed n) = thousandths_text n ++ codes " mm/min"
 remark_text (remarks.Speeds p) =
     axes_text (thousandths_text p.x) (thousandths_text p.y) (thousandths_text p.z)

@@ -155,7 +155,7 @@ fn add_remark(chunk: &mut Chunk, remark: &Remark)
 {
     match remark {
         Remark::Step(nanometres) => add_step(chunk, *nanometres),
-        Remark::Ticks => chunk.add_text(b"how often the controller may give steps"),
+        Remark::Ticks => chunk.add_text(b"how often the controller may make steps"),
         Remark::Speed(number) => add_rounded(chunk, *number, b" mm/min"),
         Remark::Speeds(speeds) => add_speeds(chunk, speeds),
         Remark::Acceleration(number) => add_rounded(chunk, *number, b" mm/s^2"),

@@ -1,10 +1,12 @@
 -- The result of drawing a program, from the results of its parts.
 use Rattle.std.proofs.Common.{◌≡◌, ℕ, ◌-◌, List, [], ◌∷◌, ◌++◌, Option, Some, None, Bool, Result, Ok, Err, IfSome, ap, refl, subst}
 use Rattle.std.proofs.Common.{sym, ◌∙◌}
-use Rattle.std.specs.Prelude.{MatchOption, option_map}
+use Rattle.std.specs.Prelude.{MatchOption, option_map, slice_get}
 use Rattle.std.specs.Io.KnownBytes.{Appends, Keeps}
 use Rattle.ngc_text.specs.Written.{AppendsBeginning}
 use Rattle.ngc_line_reader.specs.ProgramText.{ProgramText, program_of, HaveReadings}
+use Rattle.ngc_fixed_length.specs.Grid.{grid}
+use Rattle.ngc_commands.specs.Movement.{actions_of}
 use Rattle.ngc_commands.specs.declared.command.Command.{Command}
 use Rattle.ngc_canonical.specs.declared.fault.ProgramFault.{ProgramFault}
 use Rattle.ngc_canonical.specs.Interpreter.{setup_of}
@@ -13,10 +15,12 @@ use Rattle.ngc_canonical.specs.Meaning.{meaning, program_said}
 use Rattle.ngc_certificate_text.specs.Certificate.{CertificateData, Entry, entries_at}
 use Rattle.ngc_certificate_text.specs.Said.{certificate_said}
 use Rattle.ngc_certificate_text.specs.declared.piece.Setting.{Setting}
-use Rattle.ngc_certificate.specs.declared.fault.MakeFault.{MakeFault}
-use Rattle.ngc_certificate.specs.declared.fault.MakeFault.TheVariants.{NotCleared}
-use Rattle.ngc_certificate.specs.Made.{GivesMade, IsMade}
-use Rattle.ngc_certificate.specs.PieceFault.{◌or◌}
+use Rattle.ngc_certificate_text.specs.declared.piece.Setting.TheVariants.{Off}
+use Rattle.ngc_certificate.specs.Made.{from_start, join_settings}
+use Rattle.ngc_certificate.specs.PieceFault.{◌or◌, place_fault}
+use Rattle.ngc_certificate.specs.Uncleared.{AreUncleared}
+use Rattle.ngc_certificate.proofs.SomeMade.{some_made}
+use Rattle.ngc_certificate.proofs.UnclearedLaws.{first_refused as law_refused, none_made}
 use Rattle.ngc_checker.specs.declared.fault.CheckFault.{CheckFault}
 use Rattle.ngc_machine_files.specs.Machine.{MachineFile}
 use Rattle.ngc_command_line.specs.declared.options.DrawOptions.{DrawOptions}
@@ -27,7 +31,7 @@ use Rattle.ngc_drawing.specs.declared.look.Look.{Look}
 use Rattle.ngc_drawing.specs.declared.refusal.RefusedMotion.{RefusedMotion}
 use Rattle.ngc_drawing.specs.declared.view.View.{View}
 use Rattle.ngc_simulator.specs.Answers.{DrawsFrom, certificate_input, certificate_inputs, draw_inputs, program_input}
-use Rattle.ngc_simulator.specs.Drawing.{Draws, DrawsGiven, DrawsProgram, IsGivenRefusal, IsMadeRefusal, fault_at, refusal_answer}
+use Rattle.ngc_simulator.specs.Drawing.{Draws, DrawsGiven, DrawsProgram, IsFirstRefused, IsGivenRefusal, fault_at, refusal_answer}
 use Rattle.ngc_program_report.specs.Met.{met_at}
 use Rattle.ngc_simulator.specs.Drawing.{look_of, setting_of}
 use Rattle.ngc_inputs.specs.Faults.{of_picture}
@@ -116,13 +120,22 @@ pub no_memory : (setup : Setup) (bytes : List ℕ) (block_delete : Bool) (look :
 no_memory setup bytes block_delete look entries IsShown known Memory is = keeps_same known
 no_memory setup bytes block_delete look entries IsShown known Write is = cc
 
--- a command that isn't cleared, with the fixture that is met there
-pub made_refusal_of : {X : Type 0} (view : X → CertificateData) (machine : MachineFile) (commands : List Command) (fault : MakeFault) (s : Setting) (k : ℕ)
-    (fixture : Option ℕ)
-    → fault ≡ NotCleared s k → GivesMade view (Err fault) (IsMade machine 8 commands commands) → fixture ≡ met_at machine commands k
-    → IsMadeRefusal machine commands (Some (record { command = k; fault = 304; fixture = fixture }))
-made_refusal_of view machine commands fault s k fixture is made met =
-    (s, subst (λ (e : MakeFault). GivesMade view (Err e) (IsMade machine 8 commands commands)) is made, refl, met)
+-- a start that isn't clear is refused as command 0
+pub start_refused : (machine : MachineFile) (commands : List Command) (fixture : ℕ) → place_fault machine None (grid machine.step machine.start) ≡ Some fixture →
+    IsFirstRefused machine commands (Some 0)
+start_refused machine commands fixture met =
+    let some = some_made machine 8 0 None machine.start (actions_of commands) in
+    (Off, (some.0, some.0, some.1, some.1, ap (λ f. from_start f (join_settings some.0 some.0)) (sym met)))
+
+-- otherwise the first command that isn't cleared, if there is one
+pub first_of : (machine : MachineFile) (commands : List Command) (ks : List ℕ) → place_fault machine None (grid machine.step machine.start) ≡ None →
+    AreUncleared machine 8 commands ks → IsFirstRefused machine commands (slice_get ks 0)
+first_of machine commands [] clear are =
+    let made = none_made machine 8 commands are in
+    (record { off = made.0; on = made.0 }, (Ok made.0, Ok made.0, made.1, made.1, ap (λ f. from_start f (join_settings (Ok made.0) (Ok made.0))) (sym clear)))
+first_of machine commands (k ∷ ks) clear are =
+    let made = law_refused machine 8 commands k ks are in
+    (Off, (Err k, Err k, made, made, ap (λ f. from_start f (join_settings (Err k) (Err k))) (sym clear)))
 
 -- ---- with a certificate
 

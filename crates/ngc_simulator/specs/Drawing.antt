@@ -49,14 +49,19 @@ setting_of block_delete = if block_delete then On else Off
 
 -- ---- what is refused and drawn
 
--- without a certificate: the result of making one for these commands, with the number of pieces
+-- the first command at which no certificate is made for these commands, with the number of pieces
 -- that `certify` tries by default
-abbrev pub IsMadeRefusal : MachineFile → List Command → Option RefusedMotion → Type 0
-IsMadeRefusal machine commands None =
+abbrev pub IsFirstRefused : MachineFile → List Command → Option ℕ → Type 0
+IsFirstRefused machine commands None =
     (c : CertificateData) × IsMade machine 8 commands commands (Ok c)
+IsFirstRefused machine commands (Some k) =
+    (s : Setting) × IsMade machine 8 commands commands (Err (NotCleared s k))
+
+-- without a certificate: that command, and the fixture that it meets in one piece
+abbrev pub IsMadeRefusal : MachineFile → List Command → Option RefusedMotion → Type 0
+IsMadeRefusal machine commands None = IsFirstRefused machine commands None
 IsMadeRefusal machine commands (Some refusal) =
-    (s : Setting) × IsMade machine 8 commands commands (Err (NotCleared s refusal.command)) ×
-    (refusal.fault ≡ 304)
+    IsFirstRefused machine commands (Some refusal.command) × (refusal.fault ≡ 304)
     × (refusal.fixture ≡ met_at machine commands refusal.command)
 
 -- with a certificate: its first fault at the setting, if that is for travel or for a fixture

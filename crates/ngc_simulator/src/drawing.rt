@@ -9,13 +9,13 @@ ghost use Rattle.ngc_line_reader.specs.ProgramText.{program_of, HaveReadings};
 ghost use Rattle.ngc_line_reader.specs.ProgramView.{text_in};
 ghost use Rattle.ngc_machine_files.specs.Machine.{file_of};
 ghost use Rattle.ngc_inputs.specs.Faults.{FailsByOutput, OfDrawing};
-ghost use Rattle.ngc_simulator.specs.Drawing.{DrawsGiven, DrawsProgram, IsMadeRefusal};
+ghost use Rattle.ngc_simulator.specs.Drawing.{DrawsGiven, DrawsProgram, IsFirstRefused, IsMadeRefusal};
 ghost use Rattle.ngc_simulator.specs.Drawing.{drawn_refusal, fault_at};
 ghost use Rattle.ngc_program_report.specs.Met.{met_at};
 ghost use Rattle.ngc_simulator.specs.Drawing.{refusal_answer, setting_of, view_named};
 
 use ngc_canonical::interpret;
-use ngc_certificate::{MakeFault, PieceFault, Setting, make_alike};
+use ngc_certificate::{PieceFault, Setting, place_fault, uncleared};
 use ngc_certificate_text::{Certificate, Motions};
 use ngc_checker::{CheckFault, setting_fault};
 use ngc_commands::Command;
@@ -81,6 +81,26 @@ fn drawn_fixture(fixture: Option<u32>) -> Option<usize>
     fixture.map(|i| i as usize)
 }
 
+// Returns the first of these commands that isn't cleared, or `None`. A start point that isn't clear
+// counts as command 0. No pieces are stored, so that a picture of a long program needs little memory.
+fn first_refused<A: Allocator + Copy>(
+    alloc: A,
+    commands: &[Command],
+    machine: &Machine<A>,
+) -> Result<Option<u32>, DrawFault>
+    requires { length commands.now ≤ COMMAND_LIMIT }
+    ensures { MatchResult result (IsFirstRefused (file_of machine.now) commands.now)
+        (λ fault. fault ≡ DrawFault.Memory) }
+{
+    if place_fault(machine, None, &machine.start.to_grid(machine.step)).is_some() {
+        return Ok(Some(0));
+    }
+    match uncleared(alloc, commands, machine, 8) {
+        Ok(indices) => Ok(indices.first().copied()),
+        Err(_) => Err(DrawFault::Memory),
+    }
+}
+
 // Returns the refusal of these commands when a certificate is made for them.
 fn made_refusal<A: Allocator + Copy>(
     alloc: A,
@@ -91,18 +111,14 @@ fn made_refusal<A: Allocator + Copy>(
     ensures { MatchResult result (IsMadeRefusal (file_of machine.now) commands.now)
         (λ fault. fault ≡ DrawFault.Memory) }
 {
-    let fault = match make_alike(alloc, commands, machine, 8) {
-        Ok(_) => return Ok(None),
-        Err(fault) => fault,
+    let Some(command) = first_refused(alloc, commands, machine)? else {
+        return Ok(None);
     };
-    match fault {
-        MakeFault::NotCleared { command, .. } => Ok(Some(RefusedMotion {
-            command: command as usize,
-            fault: 304,
-            fixture: drawn_fixture(met_at(machine, commands, command as usize)),
-        })),
-        MakeFault::Memory => Err(DrawFault::Memory),
-    }
+    Ok(Some(RefusedMotion {
+        command: command as usize,
+        fault: 304,
+        fixture: drawn_fixture(met_at(machine, commands, command as usize)),
+    }))
 }
 
 fn setting_of(block_delete: bool) -> Setting
