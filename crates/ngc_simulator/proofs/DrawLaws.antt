@@ -1,11 +1,13 @@
 -- The result of drawing a program, from the results of its parts.
 use Rattle.std.proofs.Common.{◌≡◌, ℕ, ◌-◌, List, [], ◌∷◌, ◌++◌, Option, Some, None, Bool, Result, Ok, Err, IfSome, ap, refl, subst}
-use Rattle.std.proofs.Common.{sym, ◌∙◌}
+use Rattle.std.proofs.Common.{sym, ◌∙◌, true, false}
+use Rattle.std.specs.Option.{is_some}
 use Rattle.std.specs.Prelude.{MatchOption, option_map, slice_get}
 use Rattle.std.specs.Io.KnownBytes.{Appends, Keeps}
 use Rattle.ngc_text.specs.Written.{AppendsBeginning}
 use Rattle.ngc_line_reader.specs.ProgramText.{ProgramText, program_of, HaveReadings}
 use Rattle.ngc_fixed_length.specs.Grid.{grid}
+use Rattle.ngc_fixed_length.specs.declared.points.StepPos.{StepPos}
 use Rattle.ngc_commands.specs.Movement.{actions_of}
 use Rattle.ngc_commands.specs.declared.command.Command.{Command}
 use Rattle.ngc_canonical.specs.declared.fault.ProgramFault.{ProgramFault}
@@ -121,21 +123,35 @@ no_memory setup bytes block_delete look entries IsShown known Memory is = keeps_
 no_memory setup bytes block_delete look entries IsShown known Write is = cc
 
 -- a start that isn't clear is refused as command 0
-pub start_refused : (machine : MachineFile) (commands : List Command) (fixture : ℕ) → place_fault machine None (grid machine.step machine.start) ≡ Some fixture →
-    IsFirstRefused machine commands (Some 0)
-start_refused machine commands fixture met =
+pub start_refused : (machine : MachineFile) (commands : List Command) (place : StepPos) (met : Option ℕ)
+    → place ≡ grid machine.step machine.start → met ≡ place_fault machine None place → is_some met ≡ true → IsFirstRefused machine commands (Some 0)
+start_refused machine commands place None at is h = absurd (false-true h)
+  where
+    false-true : false ≡ true → ⊥
+    false-true e = cc
+start_refused machine commands place (Some fixture) at is h =
     let some = some_made machine 8 0 None machine.start (actions_of commands) in
-    (Off, (some.0, some.0, some.1, some.1, ap (λ f. from_start f (join_settings some.0 some.0)) (sym met)))
+    (Off, (some.0, some.0, some.1, some.1, ap (λ f. from_start f (join_settings some.0 some.0)) (is ∙ ap (place_fault machine None) at)))
+
+first_among : (machine : MachineFile) (commands : List Command) (ks : List ℕ) → None ≡ place_fault machine None (grid machine.step machine.start) →
+    AreUncleared machine 8 commands ks → IsFirstRefused machine commands (slice_get ks 0)
+first_among machine commands [] clear are =
+    let made = none_made machine 8 commands are in
+    (record { off = made.0; on = made.0 }, (Ok made.0, Ok made.0, made.1, made.1, ap (λ f. from_start f (join_settings (Ok made.0) (Ok made.0))) clear))
+first_among machine commands (k ∷ ks) clear are =
+    let made = law_refused machine 8 commands k ks are in
+    (Off, (Err k, Err k, made, made, ap (λ f. from_start f (join_settings (Err k) (Err k))) clear))
 
 -- otherwise the first command that isn't cleared, if there is one
-pub first_of : (machine : MachineFile) (commands : List Command) (ks : List ℕ) → place_fault machine None (grid machine.step machine.start) ≡ None →
-    AreUncleared machine 8 commands ks → IsFirstRefused machine commands (slice_get ks 0)
-first_of machine commands [] clear are =
-    let made = none_made machine 8 commands are in
-    (record { off = made.0; on = made.0 }, (Ok made.0, Ok made.0, made.1, made.1, ap (λ f. from_start f (join_settings (Ok made.0) (Ok made.0))) (sym clear)))
-first_of machine commands (k ∷ ks) clear are =
-    let made = law_refused machine 8 commands k ks are in
-    (Off, (Err k, Err k, made, made, ap (λ f. from_start f (join_settings (Err k) (Err k))) (sym clear)))
+pub first_of : (machine : MachineFile) (commands : List Command) (place : StepPos) (met : Option ℕ) (ks : List ℕ) (first : Option ℕ)
+    → place ≡ grid machine.step machine.start → met ≡ place_fault machine None place → is_some met ≡ false → AreUncleared machine 8 commands ks →
+    first ≡ slice_get ks 0 → IsFirstRefused machine commands first
+first_of machine commands place None ks first at is h are said =
+    subst (IsFirstRefused machine commands) (sym said) (first_among machine commands ks (is ∙ ap (place_fault machine None) at) are)
+first_of machine commands place (Some fixture) ks first at is h are said = absurd (true-false h)
+  where
+    true-false : true ≡ false → ⊥
+    true-false e = cc
 
 -- ---- with a certificate
 
