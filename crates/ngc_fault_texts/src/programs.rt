@@ -115,12 +115,13 @@ pub(crate) fn words() -> &'static [Row]
         Row {
             number: 206,
             rule: "A word on this line has two uses: write two lines (our own).\n\
-             Axis words have two beside a motion code and `G10`, `G28`, `G30` or `G92`, and `P` beside `G4`\n\
-             and a cycle. An arc can't have both `R` and `I`, `J` or `K`.",
+             Axis words can't serve both a motion code and `G10`, `G28`, `G30` or `G92`, nor `P` both `G4`\n\
+             and a cycle.",
             example: "`G0 G92 X5`",
             answer: "`ngc: fault 206 line 1`",
             place: None,
-            mend: "`G28` and `G92` need no `G0`: write `G92 X5`. In an arc take out `R`, or else `I`, `J` and `K`.",
+            mend: "`G28` and `G92` need no `G0`: write `G92 X5`. An arc can't have both `R` and `I`, `J` or `K`:\n\
+             take out `R`, or all of the others.",
         },
         Row {
             number: 207,
@@ -134,13 +135,14 @@ pub(crate) fn words() -> &'static [Row]
         },
         Row {
             number: 208,
-            rule: "A word is missing that a code on this line needs: add it (our own).",
+            rule: "A word is missing that a code on this line needs: add it (our own).\n\
+             `G4` needs `P`, `G10` `L` and `P`, `G43` `H`; `G53`, `G92` and a cycle's code an axis word; `G1`\n\
+             and arcs in `G93` need `F`.",
             example: "`G43`",
             answer: "`ngc: fault 208 line 1`",
             place: None,
-            mend: "`G4`: `P`. `G10`: `L` and `P`. `G43`: `H`. `G53`, `G92`, a cycle's code: an axis word. `G1` and\n\
-             arcs in `G93`: `F`. The first line of a cycle, also after another one: `R` and the depth; for\n\
-             `G82`, `G86`, `G89` also `P`, for `G83` also `Q`.",
+            mend: "For example `G43 H1`. The first line of a cycle, also after another one, needs `R` and the\n\
+             depth; for `G82`, `G86` and `G89` also `P`, for `G83` also `Q`.",
         },
         Row {
             number: 209,
@@ -182,13 +184,13 @@ pub(crate) fn places() -> &'static [Row]
         Row {
             number: 221,
             rule: "This coordinate is too far out: write a smaller number.\n\
-             The limit is 1,000 mm either way, in `G91` for the sum, also for `R`, bottom and holes of a\n\
-             cycle; 4,000 mm for origins and axis offsets (our own).",
+             The limit is 1,000 mm either way, also for `R`, bottom and holes of a cycle, and 4,000 mm for\n\
+             origins and axis offsets (our own).",
             example: "`G0 X1000.000001`",
             answer: "`ngc: fault 221 line 1`",
             place: None,
-            mend: "Look for a missing decimal point, or for `G91` where `G90` is meant. The travel of the machine\n\
-             isn't tested here: `ngc report` does that.",
+            mend: "Look for a missing decimal point, or for `G91` where `G90` is meant: in `G91` the sum counts.\n\
+             The travel of the machine isn't tested here: `ngc report` does that.",
         },
         Row {
             number: 222,

@@ -45,15 +45,15 @@ pub(crate) fn lines() -> &'static [Row]
             number: 113,
             rule: "This word or setting is written wrong: correct its number or its value.\n\
              A number has digits, at most one decimal point, and a sign only before digits. A value directly\n\
-             follows its letter, and a setting has its `=`. A sign before `#` or `[` is refused (our own).",
+             follows its letter.",
             example: "`G0 X1.2.3`",
             answer: "`ngc: fault 113 line 1 column 4`",
             place: Some(
                 "the item's first byte: the letter of a word, the `#` of a setting, or a number without a\n\
              letter",
             ),
-            mend: "Write `X[0-#1]` for `X-#1`, and put comments after the number. There are no functions such as\n\
-             `SIN` and no `IF`.",
+            mend: "A setting has its `=`. A sign before `#` or `[` is refused (our own): write `X[0-#1]` for\n\
+             `X-#1`. Put comments after the number. There are no functions such as `SIN` and no `IF`.",
         },
         Row {
             number: 114,

@@ -48,10 +48,10 @@ pub(crate) fn log() -> &'static [Row]
         },
         Row {
             number: 702,
-            rule: "This load is too early: give ticks before it, until a command is done.\n\
+            rule: "This load is too early: write ticks before it, until a command is done.\n\
              At most `ring` commands may be loaded and not done, 16 where the machine file has no such key\n\
              (our own).",
-            example: "no `ring`, events of seventeen lines `load`, and a program of 17 commands",
+            example: "no `ring`, events of seventeen lines `load`, and a program of seventeen commands",
             answer: "`refused 702`",
             place: None,
             mend: "Or write a greater `ring` into the machine file, up to 1,024 (version 2).",
@@ -63,7 +63,7 @@ pub(crate) fn log() -> &'static [Row]
             example: "events `load`, `load`, `load`",
             answer: "`refused 703`",
             place: None,
-            mend: "The number of commands is the number of lines of `ngc list`: two in the example.",
+            mend: "A program has one command for each line of `ngc list`: two in the example.",
         },
     ];
     ROWS
@@ -77,7 +77,7 @@ pub(crate) fn shell() -> &'static [Row]
         Row {
             number: 720,
             rule: "The command line is wrong: write it as `ngc --help` and the help of each command say (our own).\n\
-             A call for help counts as 720 too.",
+             An option `--help` counts as 720 too.",
             example: "command `ngc list plate.ngc`",
             answer: "a text on standard error that begins with `error: unexpected argument`; the number\n\
              isn't written",
@@ -157,8 +157,8 @@ pub(crate) fn shell() -> &'static [Row]
         Row {
             number: 901,
             rule: "A file can't be opened or read: correct its name or its permissions (our own).\n\
-             A machine file, a tool table, an events file and a program for `ngc adapt` have at most\n\
-             20,000,000 bytes.",
+             A machine file, tool table, events file, program for `ngc adapt` or dump of GRBL's settings has\n\
+             at most 20,000,000 bytes.",
             example: "command `ngc list --program none.ngc`",
             answer: "`ngc: fault 901`",
             place: Some("1"),

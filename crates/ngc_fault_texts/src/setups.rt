@@ -46,13 +46,12 @@ pub(crate) fn setup() -> &'static [Row]
             number: 264,
             rule: "A number of the machine file is out of its range: `ngc show` says which key it is, and what to\n\
              write.\n\
-             `max_rate`, `axis_rate`, `change`, `corner`: 1 to 1,000,000. `jump`: 0 to 1,000,000. `turn`: 1\n\
-             to 1,000,000,000,000. `ring`: 16 to 1,024. `arc_feed`: 0 or 1.",
+             Rates are in millionths of a step a tick: `ngc machine` computes them for your machine.",
             example: "machine file `corner = 0`",
             answer: "`ngc: fault 264 machine`",
             place: None,
-            mend: "Rates are millionths of a step a tick: `ngc machine` computes them from the figures of your\n\
-             machine.",
+            mend: "`max_rate`, `axis_rate`, `change`, `corner`: 1 to 1,000,000. `jump`: 0 to 1,000,000. `turn`: 1\n\
+             to 1,000,000,000,000. `ring`: 16 to 1,024. `arc_feed`: 0 or 1.",
         },
         Row {
             number: 265,
@@ -76,47 +75,46 @@ pub(crate) fn setup() -> &'static [Row]
             number: 267,
             rule: "A fixture has no size on some axis, or is too far out: put its lower corner into `low`, and the\n\
              other into `high`.\n\
-             Corners are at most 4,000,000,000 nm either way; a `name` has 1 to 40 printable ASCII\n\
-             characters; there are at most 256 fixtures.",
+             Corners are at most 4,000,000,000 nm either way.",
             example: "machine file `fixture = [{low = [0, 0, 0], high = [1, 1, 0]}]`",
             answer: "`ngc: fault 267 machine`",
             place: None,
-            mend: "In the example Z has no size: with `high = [1, 1, 1]` it would have.",
+            mend: "In the example Z has no size: with `high = [1, 1, 1]` it would have. A `name` has 1 to 40\n\
+             printable ASCII characters. There are at most 256 fixtures.",
         },
         Row {
             number: 268,
             rule: "A number of the tool table is out of its range, or a tool is there twice: `ngc show` says which\n\
              key it is.\n\
-             `number`: 1 to 9,999. `length`, `radius`: 0 to 1,000,000,000 nm. `offset`: at most that either\n\
-             way. `bottom`: -1,000,000,000 to 0 nm. `name`: 1 to 40 printable ASCII characters. A tool has\n\
-             one to four parts; there are at most 1,000 tools.",
+             `name`: 1 to 40 printable ASCII characters. One to four parts; at most 1,000 tools.",
             example: "tool table `version = 1`, `[[tool]]`, `number = 0`, `length = 0`, `radius = 0`,\n\
              `offset = 0`",
             answer: "`ngc: fault 268 tools`",
             place: None,
-            mend: "Give each tool a number of its own, from 1 up.",
+            mend: "`number`: 1 to 9,999, another one for each tool. `length`, `radius`: 0 to 1,000,000,000 nm.\n\
+             `offset`: at most that either way. `bottom`: -1,000,000,000 to 0 nm.",
         },
         Row {
             number: 269,
             rule: "The machine file isn't TOML, or a key is missing, unknown or has a value of the wrong kind:\n\
              `ngc show` says which key it is.\n\
-             Numbers are whole, three of them for a position and for `axis_rate`, which is in version 2\n\
-             alone.",
+             Numbers are whole, three of them for a position.",
             example: "machine file `step = 0.01`",
             answer: "`ngc: fault 269 machine`",
             place: None,
-            mend: "Write lengths in whole nanometres: `step = 10000` for 0.01 mm.",
+            mend: "Write lengths in whole nanometres: `step = 10000` for 0.01 mm. `axis_rate` has three numbers,\n\
+             and is only in version 2.",
         },
         Row {
             number: 269,
             rule: "The tool table isn't TOML, or a key is missing, unknown or has a value of the wrong kind:\n\
              `ngc show` says which key it is.\n\
-             Each tool has the four keys of the table's version, and in version 2 it may have a `name`.",
+             Each tool has the four keys of the table's version.",
             example: "tool table `version = 1`, `[[tool]]`, `number = 1`",
             answer: "`ngc: fault 269 tools`",
             place: None,
-            mend: "They are `number`, `length`, `radius`, `offset` in version 1, and `number`, `offset`, `bottom`,\n\
-             `parts` in version 2.",
+            mend: "Version 1: `number`, `length`, `radius`, `offset`. Version 2: `number`, `offset`, `bottom`,\n\
+             `parts`, and where you like a `name`.",
         },
     ];
     ROWS
@@ -164,7 +162,7 @@ pub(crate) fn certificates() -> &'static [Row]
             example: "command `ngc certify`, program `G0 X301`, `M2`",
             answer: "`ngc: fault 304 setting off command 0`",
             place: None,
-            mend: "Change the path, or give more `--cuts` to a long slanted line or an arc. In `ngc list` the\n\
+            mend: "Change the path, or set more `--cuts` for a long slanted line or an arc. In `ngc list` the\n\
              second number of the command is the line of the program.",
         },
         Row {

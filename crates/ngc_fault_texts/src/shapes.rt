@@ -172,7 +172,7 @@ pub(crate) fn arcs() -> &'static [Row]
             example: "`G2 X10 R0 F60`",
             answer: "`ngc: fault 246 line 1`",
             place: None,
-            mend: "For example `G2 X10 R5`. With a negative `R` the arc goes the long way round.",
+            mend: "For example `G2 X10 R5`. With a negative `R` it is the arc of more than half a turn.",
         },
         Row {
             number: 252,
