@@ -18,7 +18,7 @@ macro_rules! help_end {
 Exit status:
   0  done
   1  input could not be read, output not written, or memory ran out
-  2  the command line was wrong, or asked for help
+  2  the command line was wrong, or had `--help`
   3  the part program, machine file, tool table or events were refused
   4  the certificate was refused, or none clears the program
 
