@@ -21,7 +21,13 @@ use Rattle.ngc_arc_geometry.specs.Sector.{turning, turn_from, is_ahead, is_full,
 use Rattle.ngc_arc_geometry.specs.Swept.{margin, other_points, least, greatest, low_at, high_at, grid_at, swept_box}
 use Rattle.ngc_arc_geometry.proofs.Points.{same_point}
 use Rattle.ngc_collision.specs.Body.{nanometres_of}
-use Rattle.ngc_place.specs.Shifts.{arc_shifted}
+use Rattle.ngc_fixed_length.specs.Rounding.{nearest}
+use Rattle.ngc_fixed_length.specs.Grid.{grid}
+use Rattle.ngc_fixed_length.specs.Boxes.{grid_above, grid_below}
+use Rattle.ngc_place.specs.Shifts.{arc_shifted, shifted as point_shifted}
+use Rattle.ngc_place.specs.Inside.{along, steps_along, step_height, least_of, greatest_of, margin_of, first_at, last_at, low_corner, high_corner}
+use Rattle.ngc_place.specs.declared.round.PlaneAxis.{PlaneAxis}
+use Rattle.ngc_place.specs.declared.round.PlaneAxis.TheVariants.{U, V}
 use Rattle.ngc_place.proofs.Rounded.{nearest_up, below_up, above_up, scale_by, sum_up}
 use Rattle.ngc_place.proofs.Rising.{IsUnder, Rises, least_up, greatest_up}
 
@@ -255,3 +261,60 @@ arc_rises (pos k) n m a range h =
           (greatest_up _ _ _ _ start end);
     }
 arc_rises (negsuc k) n m a range h = absurd (omega (arith, ints, range.least))
+
+-- ---- the coordinates of the box's corners
+
+along_moved : (axis : PlaneAxis) (p d : Point2) → along axis (moved p d) ≡ along axis p +ℤ along axis d
+along_moved U p d = refl
+along_moved V p d = refl
+
+steps_are : (plane : Plane) (axis : PlaneAxis) (step : ℤ) (n : StepPos) →
+    along axis (in_plane plane (nanometres_of step n)) ≡ steps_along plane axis n *ℤ step
+steps_are XY U step n = refl
+steps_are ZX U step n = refl
+steps_are YZ U step n = refl
+steps_are XY V step n = refl
+steps_are ZX V step n = refl
+steps_are YZ V step n = refl
+
+pub first_is : (step : ℤ) (n : StepPos) (axis : PlaneAxis) (a : ArcShape) →
+    first_at step n axis a ≡ grid_above step ((least_of axis a +ℤ (steps_along a.plane axis n *ℤ step)) -ℤ margin_of step a)
+unfolding first_at least_of margin_of
+first_is step n axis a =
+    ap₂ (λ x m. grid_above step (x -ℤ m)) (least_moved step n a (along axis) (along axis (seen step n a)) (λ p. along_moved axis p (seen step n a)))
+    (margin_stays step n a)
+    ∙ ap (λ d. grid_above step ((least (along axis) (start_of a) (other_points a) +ℤ d) -ℤ margin step a)) (steps_are a.plane axis step n)
+
+pub last_is : (step : ℤ) (n : StepPos) (axis : PlaneAxis) (a : ArcShape) →
+    last_at step n axis a ≡ grid_below step ((greatest_of axis a +ℤ (steps_along a.plane axis n *ℤ step)) +ℤ margin_of step a)
+unfolding last_at greatest_of margin_of
+last_is step n axis a =
+    ap₂ (λ x m. grid_below step (x +ℤ m)) (greatest_moved step n a (along axis) (along axis (seen step n a)) (λ p. along_moved axis p (seen step n a)))
+    (margin_stays step n a)
+    ∙ ap (λ d. grid_below step ((greatest (along axis) (start_of a) (other_points a) +ℤ d) +ℤ margin step a)) (steps_are a.plane axis step n)
+
+pub height_is : (plane : Plane) (step : ℤ) (p : Point3) → step_height plane (grid step p) ≡ nearest (height plane p) step
+height_is XY step p = refl
+height_is ZX step p = refl
+height_is YZ step p = refl
+
+pub grid_same : (p q : Plane) (u v w x y z : ℤ) → p ≡ q → u ≡ x → v ≡ y → w ≡ z → grid_at p u v w ≡ grid_at q x y z
+grid_same p q u v w x y z e f g h = ap (λ k. grid_at k u v w) e ∙ ap₂ (λ k l. grid_at q k l w) f g ∙ ap (grid_at q x y) h
+
+pub low_is : (step : ℤ) (n : StepPos) (a : ArcShape) →
+    low_corner step n true a
+    ≡ grid_at a.plane (first_at step n U a) (first_at step n V a)
+    (int_min (step_height a.plane (grid step (point_shifted step n true a.start))) (step_height a.plane (grid step (point_shifted step n true a.end))))
+unfolding low_corner first_at
+low_is step n a =
+    ap₂ (λ s e. grid_at a.plane (low_at step (arc_shifted step n true a) (along U)) (low_at step (arc_shifted step n true a) (along V)) (int_min s e))
+    (sym (height_is a.plane step (plus a.start (nanometres_of step n)))) (sym (height_is a.plane step (plus a.end (nanometres_of step n))))
+
+pub high_is : (step : ℤ) (n : StepPos) (a : ArcShape) →
+    high_corner step n true a
+    ≡ grid_at a.plane (last_at step n U a) (last_at step n V a)
+    (int_max (step_height a.plane (grid step (point_shifted step n true a.start))) (step_height a.plane (grid step (point_shifted step n true a.end))))
+unfolding high_corner last_at
+high_is step n a =
+    ap₂ (λ s e. grid_at a.plane (high_at step (arc_shifted step n true a) (along U)) (high_at step (arc_shifted step n true a) (along V)) (int_max s e))
+    (sym (height_is a.plane step (plus a.start (nanometres_of step n)))) (sym (height_is a.plane step (plus a.end (nanometres_of step n))))

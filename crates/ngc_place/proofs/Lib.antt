@@ -13,5 +13,9 @@ pub mod ClearPieces
 pub mod HoldsLaws
 -- Quotients by a step, and their conversion to 32 bits.
 pub mod Quotients
+-- The tests of the pieces of a line and of the commands of a program, in order.
+pub mod Tests
+-- Intervals that grow on one side and then on the other are the longest.
+pub mod Growth
 -- Worked programs on a mill with steps of 0.01 mm, by computing the definitions.
 mod Examples

@@ -1,3 +1,4 @@
 pub mod Shifts
 pub mod Holds
 pub mod Inside
+pub mod Longest

@@ -2,9 +2,18 @@
 #![tactic(auto)]
 
 mod axis;
+mod fits;
 mod grid;
+mod interval;
 pub mod laws;
+mod programs;
+mod round;
+mod search;
 mod spots;
 mod straight;
 
 pub use axis::Axis;
+pub use fits::holds;
+pub use interval::Interval;
+pub use programs::{Program, all_hold};
+pub use search::{longest, nearest};

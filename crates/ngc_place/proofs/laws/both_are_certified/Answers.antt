@@ -1,0 +1,5 @@
+use Rattle.ngc_place.proofs.Growth.{both_law}
+use Rattle.ngc_place.proofs.laws.both_are_certified.Goals as goal
+
+pub returns : goal.returns
+returns c = both_law
