@@ -1,5 +1,7 @@
 -- Tests of whole numbers.
 pub mod Tests
+-- How far a command must move to be clear of an obstacle.
+pub mod ShiftLaws
 -- Every point that a program may reach lies in its extent.
 pub mod Holding
 -- A program that fits stays inside the travel.

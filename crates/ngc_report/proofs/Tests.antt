@@ -8,13 +8,13 @@ use Rattle.ngc_report.specs.Margins.{narrower, TightestTells}
 use Rattle.ngc_report.specs.Rooms.{RoomTells}
 use Rattle.ngc_report.specs.declared.margins.Margin.{Margin}
 
-le_of : (a b : ℤ) → int_le a b ≡ true → a ≤ℤ b
+pub le_of : (a b : ℤ) → int_le a b ≡ true → a ≤ℤ b
 le_of a b h = grind (arith, ints)
 
-le_test : (a b : ℤ) → a ≤ℤ b → int_le a b ≡ true
+pub le_test : (a b : ℤ) → a ≤ℤ b → int_le a b ≡ true
 le_test a b h = grind (arith, ints)
 
-same : (p q : Bool) → (p ≡ true → q ≡ true) → (q ≡ true → p ≡ true) → p ≡ q
+pub same : (p q : Bool) → (p ≡ true → q ≡ true) → (q ≡ true → p ≡ true) → p ≡ q
 same true q f g = sym (f refl)
 same false true f g = g refl
 same false false f g = refl

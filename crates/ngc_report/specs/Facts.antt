@@ -7,7 +7,11 @@ use Rattle.ngc_fixed_length.specs.declared.points.Point3.{Point3}
 use Rattle.ngc_machine_files.specs.declared.tools.Tool.{Tool}
 use Rattle.ngc_collision.specs.Inside.{place_of}
 use Rattle.ngc_report.specs.Quotes.{escaped}
-use Rattle.ngc_report.specs.Words.{axis_text, concern_text}
+use Rattle.ngc_report.specs.Words.{axis_text, away_text, concern_text}
+use Rattle.ngc_report.specs.declared.clearing.Clearing.{Clearing}
+use Rattle.ngc_report.specs.declared.clearing.Clearing.TheVariants as clearings
+use Rattle.ngc_report.specs.declared.clearing.Inward.{Inward}
+use Rattle.ngc_report.specs.declared.clearing.Passed.{Passed}
 use Rattle.ngc_report.specs.declared.line.Along.{Along}
 use Rattle.ngc_report.specs.declared.line.Line.{Line}
 use Rattle.ngc_report.specs.declared.line.Line.TheVariants as lines
@@ -100,6 +104,32 @@ obstacle_fact None = codes ",\n{\"fact\":\"obstacle\",\"kind\":null}"
 obstacle_fact (Some (Travel m)) = travel_fact m
 obstacle_fact (Some (Fixture m)) = fixture_fact m
 
+-- three distances, along X, Y and Z
+unfoldable pub distances : ℕ → ℕ → ℕ → List ℕ
+distances x y z =
+    codes "[" ++ decimal x ++ codes "," ++ decimal y ++ codes "," ++ decimal z ++ codes "]"
+
+abbrev pub passed_fact : Passed → List ℕ
+passed_fact p =
+    codes ",\n{\"fact\":\"clear\",\"kind\":\"fixture\",\"fixture\":" ++ decimal p.number
+    ++ name_fact (codes "fixture_name") p.name ++ codes ",\"plus\":"
+    ++ distances p.shifts.x.up p.shifts.y.up p.shifts.z.up ++ codes ",\"minus\":"
+    ++ distances p.shifts.x.down p.shifts.y.down p.shifts.z.down ++ codes "}"
+
+unfoldable pub distance_fact : Option ℕ → List ℕ
+distance_fact None = codes "null}"
+distance_fact (Some n) = decimal n ++ codes "}"
+
+abbrev pub inward_fact : Inward → List ℕ
+inward_fact i =
+    codes ",\n{\"fact\":\"clear\",\"kind\":\"travel\",\"direction\":\"" ++ axis_text i.axis
+    ++ away_text i.side ++ codes "\",\"distance\":" ++ distance_fact i.shift
+
+unfoldable pub clearing_fact : Option Clearing → List ℕ
+clearing_fact None = []
+clearing_fact (Some (clearings.Fixture p)) = passed_fact p
+clearing_fact (Some (clearings.Travel i)) = inward_fact i
+
 abbrev pub warning_fact : Warning → List ℕ
 warning_fact w =
     codes ",\n{\"fact\":\"warning\",\"text\":\"" ++ concern_text w.concern ++ codes "\",\"count\":"
@@ -125,4 +155,5 @@ line_fact (lines.Near n name) = nearest_fact n name
 line_fact (lines.Start s) = start_fact s
 line_fact (lines.Command k s) = command_fact k s
 line_fact (lines.InTheWay o) = obstacle_fact o
+line_fact (lines.Clear c) = clearing_fact c
 line_fact (lines.Warned w) = warning_fact w

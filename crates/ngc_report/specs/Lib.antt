@@ -6,6 +6,9 @@ pub mod Ways
 pub mod Uses
 pub mod Margins
 pub mod Scenes
+pub mod Shifts
+pub mod Printed
+pub mod Clearings
 pub mod ToolStates
 pub mod Words
 pub mod Facts

@@ -12,6 +12,7 @@ use Rattle.ngc_certificate_text.specs.Certificate.{Entry}
 use Rattle.ngc_certificate_text.specs.Collects.{Collects}
 use Rattle.ngc_certificate_text.specs.declared.piece.Piece.{Piece}
 use Rattle.ngc_collision.specs.Body.{is_in_travel}
+use Rattle.ngc_report.specs.Clearings.{clearing}
 use Rattle.ngc_report.specs.Extents.{extent, fit_extent, extent_in_travel}
 use Rattle.ngc_report.specs.Nearing.{nearest, nearest_name}
 use Rattle.ngc_report.specs.Rooms.{room, is_inside_on}
@@ -100,7 +101,8 @@ start_lines machine fixture =
 abbrev pub scene_lines : MachineFile → ℕ → Option ℕ → Option Scene → List Line
 scene_lines machine k fixture None = []
 scene_lines machine k fixture (Some s) =
-    lines.Command k s ∷ lines.InTheWay (obstacle machine s fixture) ∷ []
+    lines.Command k s ∷ lines.InTheWay (obstacle machine s fixture)
+    ∷ lines.Clear (clearing machine s (obstacle machine s fixture)) ∷ []
 
 abbrev pub cause_lines : MachineFile → List Command → Option ℕ → Option ℕ → List Line
 cause_lines machine commands None fixture = start_lines machine fixture

@@ -1,10 +1,14 @@
 -- The lines of a report, in words and millimetres. Our own.
-use Rattle.std.specs.Prelude.{ℕ, ℤ, pos, negsuc, unsigned_abs, List, [], ◌++◌, codes, decimal}
+use Rattle.std.specs.Prelude.{ℕ, ◌*◌, ◌/◌, ◌%◌, ℤ, pos, negsuc, unsigned_abs, List, [], ◌++◌, codes, decimal}
 use Rattle.std.specs.Prelude.{Option, Some, None, length, ◌==◌, if◌then◌else◌}
+use Rattle.std.specs.Int.{div_ceil}
 use Rattle.ngc_fixed_length.specs.declared.points.Point3.{Point3}
-use Rattle.ngc_text.specs.Millimetres.{size_text, mm_text}
+use Rattle.ngc_text.specs.Millimetres.{number_text, size_text, mm_text}
 use Rattle.ngc_machine_files.specs.declared.tools.Tool.{Tool}
 use Rattle.ngc_collision.specs.Inside.{place_of}
+use Rattle.ngc_report.specs.declared.clearing.Clearing.{Clearing}
+use Rattle.ngc_report.specs.declared.clearing.Clearing.TheVariants as clearings
+use Rattle.ngc_report.specs.declared.clearing.Passed.{Passed}
 use Rattle.ngc_report.specs.declared.line.Along.{Along}
 use Rattle.ngc_report.specs.declared.line.Line.{Line}
 use Rattle.ngc_report.specs.declared.line.Line.TheVariants as lines
@@ -108,6 +112,39 @@ obstacle_text (Some (Travel m)) =
     ++ room_text m.left ++ codes ".\n"
 obstacle_text (Some (Fixture m)) = met_text m
 
+-- a distance in millimetres, with at most three decimals, rounded up so that it is enough
+abbrev pub thousandths_text : ℕ → List ℕ
+thousandths_text thousandths = number_text (thousandths / 1000) (thousandths % 1000 * 1000)
+
+unfoldable pub shift_text : ℕ → List ℕ
+shift_text n = thousandths_text (div_ceil n 1000)
+
+abbrev pub passed_text : Passed → List ℕ
+passed_text p =
+    codes "It is clear of fixture " ++ decimal p.number ++ bracketed p.name
+    ++ codes " if it moves by " ++ shift_text p.shifts.x.up ++ codes " mm in X+, "
+    ++ shift_text p.shifts.x.down ++ codes " mm in X-, " ++ shift_text p.shifts.y.up
+    ++ codes " mm in Y+, " ++ shift_text p.shifts.y.down ++ codes " mm in Y-, "
+    ++ shift_text p.shifts.z.up ++ codes " mm in Z+ or " ++ shift_text p.shifts.z.down
+    ++ codes " mm in Z-.\n"
+
+-- the direction away from a side
+abbrev pub away_text : Side → List ℕ
+away_text Below = codes "+"
+away_text Above = codes "-"
+
+unfoldable pub inward_text : Axis → Side → Option ℕ → List ℕ
+inward_text axis side None =
+    codes "It is too long for the travel along " ++ axis_text axis ++ codes ".\n"
+inward_text axis side (Some n) =
+    codes "It is inside the travel along " ++ axis_text axis ++ codes " if it moves by "
+    ++ shift_text n ++ codes " mm in " ++ axis_text axis ++ away_text side ++ codes ".\n"
+
+unfoldable pub clearing_text : Option Clearing → List ℕ
+clearing_text None = []
+clearing_text (Some (clearings.Fixture p)) = passed_text p
+clearing_text (Some (clearings.Travel i)) = inward_text i.axis i.side i.shift
+
 unfoldable pub concern_text : Concern → List ℕ
 concern_text NoTool = codes "motions without a tool, away from the height of the start"
 concern_text IdleSpindle = codes "feeds with a tool and the spindle off"
@@ -143,4 +180,5 @@ line_text (lines.Start s) =
     codes "The start is refused, at " ++ place_text (place_of s.from) ++ codes ".\n"
 line_text (lines.Command k s) = command_text k s
 line_text (lines.InTheWay o) = obstacle_text o
+line_text (lines.Clear c) = clearing_text c
 line_text (lines.Warned w) = warning_text w

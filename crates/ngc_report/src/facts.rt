@@ -7,9 +7,12 @@ ghost use Rattle.ngc_report.specs.Facts.{name_fact, tool_fact, triple, nearest_f
 ghost use Rattle.ngc_report.specs.Facts.{use_fact};
 ghost use Rattle.ngc_report.specs.Facts.{side_fact, start_fact, command_fact, over_fact};
 ghost use Rattle.ngc_report.specs.Facts.{travel_fact, fixture_fact, obstacle_fact, warning_fact};
+ghost use Rattle.ngc_report.specs.Facts.{distances, passed_fact, distance_fact, inward_fact};
+ghost use Rattle.ngc_report.specs.Facts.{clearing_fact};
 ghost use Rattle.ngc_report.specs.Facts.{nose_fact, fits_fact, line_fact};
 ghost use Rattle.ngc_report.specs.Words.{concern_text};
 
+use crate::clearing::{Clearing, Inward, Passed};
 use crate::line::{Along, Line};
 use crate::margins::{Margin, Side};
 use crate::nearest::Nearest;
@@ -17,7 +20,7 @@ use crate::quotes::add_string;
 use crate::scene::{Met, Obstacle, Scene};
 use crate::uses::ToolUse;
 use crate::warnings::Warning;
-use crate::words::{add_count, axis_name, concern_words};
+use crate::words::{add_count, away, axis_name, concern_words};
 use ngc_collision::Place;
 use ngc_machine_files::{Name, Tool};
 use ngc_text::Chunk;
@@ -233,6 +236,73 @@ fn add_obstacle(chunk: &mut Chunk, obstacle: &Option<Obstacle>)
     }
 }
 
+#[tactic(auto, unfolding(crate::specs::Facts::distances))]
+fn add_distances(chunk: &mut Chunk, x: u128, y: u128, z: u128)
+    requires { length chunk.old + 124 ≤ CHUNK_SIZE }
+    ensures text { chunk.new ≡ chunk.old ++ distances x y z }
+    ensures short { length chunk.new ≤ length chunk.old + 124 }
+{
+    chunk.add_text(b"[");
+    chunk.add_number(x);
+    chunk.add_text(b",");
+    chunk.add_number(y);
+    chunk.add_text(b",");
+    chunk.add_number(z);
+    chunk.add_text(b"]");
+}
+
+fn add_passed(chunk: &mut Chunk, passed: &Passed)
+    requires { HasLineRoom chunk.old }
+    ensures { chunk.new ≡ chunk.old ++ passed_fact passed.now }
+{
+    let shifts = &passed.shifts;
+    chunk.add_text(b",\n{\"fact\":\"clear\",\"kind\":\"fixture\",\"fixture\":");
+    add_count(chunk, passed.number as usize);
+    add_name(chunk, b"fixture_name", &passed.name);
+    chunk.add_text(b",\"plus\":");
+    add_distances(chunk, shifts.x.up, shifts.y.up, shifts.z.up);
+    chunk.add_text(b",\"minus\":");
+    add_distances(chunk, shifts.x.down, shifts.y.down, shifts.z.down);
+    chunk.add_text(b"}");
+}
+
+#[tactic(auto, unfolding(crate::specs::Facts::distance_fact))]
+fn add_shift(chunk: &mut Chunk, shift: Option<u128>)
+    requires { length chunk.old + 41 ≤ CHUNK_SIZE }
+    ensures { chunk.new ≡ chunk.old ++ distance_fact shift }
+{
+    match shift {
+        None => chunk.add_text(b"null}"),
+        Some(shift) => {
+            chunk.add_number(shift);
+            chunk.add_text(b"}");
+        }
+    }
+}
+
+fn add_inward(chunk: &mut Chunk, inward: &Inward)
+    requires { HasLineRoom chunk.old }
+    ensures { chunk.new ≡ chunk.old ++ inward_fact inward.now }
+{
+    chunk.add_text(b",\n{\"fact\":\"clear\",\"kind\":\"travel\",\"direction\":\"");
+    chunk.add_text(axis_name(inward.axis));
+    chunk.add_text(away(inward.side));
+    chunk.add_text(b"\",\"distance\":");
+    add_shift(chunk, inward.shift);
+}
+
+#[tactic(auto, unfolding(crate::specs::Facts::clearing_fact))]
+fn add_clearing(chunk: &mut Chunk, clearing: &Option<Clearing>)
+    requires { HasLineRoom chunk.old }
+    ensures { chunk.new ≡ chunk.old ++ clearing_fact clearing.now }
+{
+    match clearing {
+        None => {}
+        Some(Clearing::Fixture(passed)) => add_passed(chunk, passed),
+        Some(Clearing::Travel(inward)) => add_inward(chunk, inward),
+    }
+}
+
 fn add_warning(chunk: &mut Chunk, warning: &Warning)
     requires { HasLineRoom chunk.old }
     ensures { chunk.new ≡ chunk.old ++ warning_fact warning.now }
@@ -286,6 +356,7 @@ pub(crate) fn add_fact(chunk: &mut Chunk, line: &Line)
         Line::Start(scene) => add_start(chunk, scene),
         Line::Command(command, scene) => add_command(chunk, *command, scene),
         Line::InTheWay(obstacle) => add_obstacle(chunk, obstacle),
+        Line::Clear(clearing) => add_clearing(chunk, clearing),
         Line::Warned(warning) => add_warning(chunk, warning),
     }
 }

@@ -17,7 +17,7 @@ fn greater(a: i128, b: i128) -> i128
 }
 
 /// Returns the height of one coordinate above another.
-fn rise(from: i64, to: i64) -> i128
+pub(crate) fn rise(from: i64, to: i64) -> i128
     ensures value { result ≡ to -ℤ from }
     ensures bound { unsigned_abs result < 2 ^ 70 }
 {

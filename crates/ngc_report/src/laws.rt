@@ -4,8 +4,10 @@ ghost use Rattle.ngc_report.specs.Extents.{FitExtentHoldsPieces, FitExtentHoldsS
 ghost use Rattle.ngc_report.specs.Extents.{ExtentInTravelHolds};
 ghost use Rattle.ngc_report.specs.Gaps.{GapTells};
 ghost use Rattle.ngc_report.specs.Margins.{TightestTells};
+ghost use Rattle.ngc_report.specs.Printed.{PrintedIsEnough};
 ghost use Rattle.ngc_report.specs.Reports.{FitStaysInside, SettingStaysInside};
 ghost use Rattle.ngc_report.specs.Rooms.{RoomTells};
+ghost use Rattle.ngc_report.specs.Shifts.{ShiftClears, ShiftStaysInside, ShiftTells};
 
 /// States that the extent of a program holds the start point and each point of each path that a
 /// motion may take.
@@ -50,4 +52,19 @@ pub fn tightest_tells()
 /// States that a box is apart from a fixture exactly if the gap between them isn't below zero.
 pub fn gap_tells()
     ensures { GapTells }
+{}
+
+/// States that a number of steps is at least the reported distance in a direction exactly if, after
+/// a move by that number, each part of the tool is past the fixture or beside it. Therefore the
+/// tool's body doesn't meet the fixture after a move by the reported distance or by more. The
+/// distance that is printed in words isn't less than that.
+pub fn shift_clears()
+    ensures tells { ShiftTells }
+    ensures clears { ShiftClears }
+    ensures printed { PrintedIsEnough }
+{}
+
+/// States that a box lies within the travel along an axis after the reported move.
+pub fn shift_stays_inside()
+    ensures { ShiftStaysInside }
 {}

@@ -3,7 +3,6 @@
 //!
 //! A report is lines of text, with lengths in millimetres, exactly. An example for a program that
 //! fits, where tool 3 is mounted after a motion without a tool:
-//! tool 3 is mounted after a motion without a tool:
 //!
 //! ```text
 //! The program fits: every position is inside the travel and clear of every fixture.
@@ -28,10 +27,13 @@
 //! Z from 0 mm to 0 mm, 100 mm left below and 0 mm left above.
 //! Command 0 of line 1, with no tool, from X 0 mm, Y 0 mm, Z 0 mm to X 302.5 mm, Y 0 mm, Z 0 mm.
 //! It leaves the travel above X: 2.5 mm too far.
+//! It is too long for the travel along X.
 //! ```
 //!
-//! The last line may be `It meets fixture 2, from X 10 mm, Y 20 mm, Z -30 mm to X 40 mm, Y 60 mm, Z
-//! 0 mm.`
+//! The obstacle may be `It meets fixture 2, from X 10 mm, Y 20 mm, Z -30 mm to X 40 mm, Y 60 mm, Z 0
+//! mm.`, and the last line `It is inside the travel along X if it moves by 2.5 mm in X-.` or `It is
+//! clear of fixture 2 if it moves by 35 mm in X+, 15 mm in X-, 50 mm in Y+, 10 mm in Y-, 5 mm in Z+
+//! or 25 mm in Z-.`
 //!
 //! Warnings, each with the number of commands and the line of the first:
 //!
@@ -46,6 +48,7 @@
 #![tactic(auto)]
 
 mod bounds;
+mod clearing;
 mod facts;
 mod form;
 mod gaps;
@@ -58,6 +61,7 @@ mod quotes;
 mod refusals;
 mod report;
 mod scene;
+mod shifts;
 mod source_lines;
 mod tool_state;
 mod travel;
@@ -68,6 +72,7 @@ mod ways;
 mod words;
 
 pub use bounds::{extent, fit_extent, reach};
+pub use clearing::{Clearing, Inward, Passed};
 pub use form::Form;
 pub use gaps::gap;
 pub use line::{Along, Line};
@@ -78,6 +83,7 @@ pub use quotes::write_line;
 pub use refusals::write_refusals;
 pub use report::{write_fit, write_refusal};
 pub use scene::{Met, Obstacle, Scene};
+pub use shifts::{AxisShift, Shifts};
 pub use source_lines::write_source_line;
 pub use travel::{AxisRoom, Room};
 pub use uses::{ToolUse, ToolUses};

@@ -1,3 +1,4 @@
+use crate::clearing::Clearing;
 use crate::margins::Axis;
 use crate::nearest::Nearest;
 use crate::scene::{Obstacle, Scene};
@@ -35,6 +36,8 @@ pub enum Line {
     Command(usize, Scene),
     /// The obstacle.
     InTheWay(Option<Obstacle>),
+    /// How far the command must move to be clear of the obstacle, if there is one.
+    Clear(Option<Clearing>),
     /// A warning about a program that passes.
     Warned(Warning),
 }

@@ -199,8 +199,9 @@ fn tell_everything<A: Allocator, W: Sink>(
 }
 
 /// Writes the report of a program whose commands at these indices, from 0, are refused, and the
-/// start, if it is: its extent along each axis, and for each command what it does and its obstacle.
-/// Without indices the program fits. The function is fastest if the indices rise.
+/// start, if it is: its extent along each axis, and for each command what it does, its obstacle, and
+/// how far it must move to be clear of that. Without indices the program fits. The function is
+/// fastest if the indices rise.
 ///
 /// After a fault (902, only if the sink failed) a prefix of the text is written.
 pub fn write_refusals<A: Allocator, W: Sink>(

@@ -14,6 +14,7 @@ ghost use Rattle.ngc_report.specs.Uses.{tool_uses};
 ghost use Rattle.ngc_report.specs.Forms.{spelled, report_text};
 
 use crate::bounds::{extent, fit_extent};
+use crate::clearing::Clearing;
 use crate::facts::add_fact;
 use crate::form::Form;
 use crate::line::{Along, Line};
@@ -214,7 +215,12 @@ pub(crate) fn tell_scene<A: Allocator, W: Sink>(
         None => tell_all(chunk, form, &[], sink),
         Some(scene) => {
             let cause = scene.obstacle(machine, fixture);
-            let lines = [Line::Command(command, *scene), Line::InTheWay(cause)];
+            let clearing = Clearing::of(machine, scene, &cause);
+            let lines = [
+                Line::Command(command, *scene),
+                Line::InTheWay(cause),
+                Line::Clear(clearing),
+            ];
             tell_all(chunk, form, &lines, sink)
         }
     }
@@ -298,8 +304,8 @@ pub fn write_fit<A: Allocator, B: Allocator, W: Sink>(
 }
 
 /// Writes the report of a program that is refused at a command, by its index from 0, or at the
-/// start: its extent along each axis, what the command does, and its obstacle. A fixture that the
-/// fault names is reported with its number from 0.
+/// start: its extent along each axis, what the command does, its obstacle, and how far the command
+/// must move to be clear of that. A fixture that the fault names is reported with its number from 0.
 ///
 /// After a fault (902, only if the sink failed) a prefix of the text is written.
 pub fn write_refusal<A: Allocator, W: Sink>(

@@ -7,8 +7,10 @@ ghost use Rattle.ngc_report.specs.Words.{room_words, room_text, place_text, axis
 ghost use Rattle.ngc_report.specs.Words.{bracketed, called_text, nearest_text, along_text, use_text};
 ghost use Rattle.ngc_report.specs.Words.{command_text, over_text, met_text, obstacle_text};
 ghost use Rattle.ngc_report.specs.Words.{concern_text, warning_text, nose_text, fits_text};
-ghost use Rattle.ngc_report.specs.Words.{line_text};
+ghost use Rattle.ngc_report.specs.Words.{shift_text, passed_text, away_text, inward_text};
+ghost use Rattle.ngc_report.specs.Words.{clearing_text, line_text};
 
+use crate::clearing::{Clearing, Inward, Passed};
 use crate::line::{Along, Line};
 use crate::margins::{Axis, Margin, Side};
 use crate::nearest::Nearest;
@@ -287,6 +289,98 @@ fn add_obstacle(chunk: &mut Chunk, obstacle: &Option<Obstacle>)
     }
 }
 
+// Adds a distance with at most three decimals, rounded up so that it is enough.
+#[tactic(auto, unfolding(crate::specs::Words::shift_text))]
+fn add_shift(chunk: &mut Chunk, shift: u128)
+    requires { length chunk.old + 47 ≤ CHUNK_SIZE }
+    ensures text { chunk.new ≡ chunk.old ++ shift_text shift }
+    ensures short { length chunk.new ≤ length chunk.old + 47 }
+{
+    let thousandths = shift.div_ceil(1000);
+    chunk.add_millionths(thousandths / 1000, (thousandths % 1000) as u32 * 1000);
+}
+
+fn add_passed(chunk: &mut Chunk, passed: &Passed)
+    requires { HasLineRoom chunk.old }
+    ensures { chunk.new ≡ chunk.old ++ passed_text passed.now }
+{
+    chunk.add_text(b"It is clear of fixture ");
+    add_numbered(chunk, passed.number as usize, &passed.name);
+    chunk.add_text(b" if it moves by ");
+    add_shift(chunk, passed.shifts.x.up);
+    chunk.add_text(b" mm in X+, ");
+    add_shift(chunk, passed.shifts.x.down);
+    chunk.add_text(b" mm in X-, ");
+    add_shift(chunk, passed.shifts.y.up);
+    chunk.add_text(b" mm in Y+, ");
+    add_shift(chunk, passed.shifts.y.down);
+    chunk.add_text(b" mm in Y-, ");
+    add_shift(chunk, passed.shifts.z.up);
+    chunk.add_text(b" mm in Z+ or ");
+    add_shift(chunk, passed.shifts.z.down);
+    chunk.add_text(b" mm in Z-.\n");
+}
+
+/// Returns the direction away from a side.
+pub(crate) fn away(side: Side) -> &'static [u8]
+    ensures text { result.now ≡ away_text side }
+    ensures short { length result.now ≤ 1 }
+{
+    match side {
+        Side::Below => b"+",
+        Side::Above => b"-",
+    }
+}
+
+fn add_too_long(chunk: &mut Chunk, axis: Axis)
+    requires { HasLineRoom chunk.old }
+    ensures { chunk.new ≡ chunk.old
+        ++ (codes "It is too long for the travel along " ++ axis_text axis ++ codes ".\n") }
+{
+    chunk.add_text(b"It is too long for the travel along ");
+    chunk.add_text(axis_name(axis));
+    chunk.add_text(b".\n");
+}
+
+fn add_moved(chunk: &mut Chunk, axis: Axis, side: Side, shift: u128)
+    requires { HasLineRoom chunk.old }
+    ensures { chunk.new ≡ chunk.old
+        ++ (codes "It is inside the travel along " ++ axis_text axis ++ codes " if it moves by "
+        ++ shift_text shift ++ codes " mm in " ++ axis_text axis ++ away_text side ++ codes ".\n") }
+{
+    chunk.add_text(b"It is inside the travel along ");
+    chunk.add_text(axis_name(axis));
+    chunk.add_text(b" if it moves by ");
+    add_shift(chunk, shift);
+    chunk.add_text(b" mm in ");
+    chunk.add_text(axis_name(axis));
+    chunk.add_text(away(side));
+    chunk.add_text(b".\n");
+}
+
+#[tactic(auto, unfolding(crate::specs::Words::inward_text))]
+fn add_inward(chunk: &mut Chunk, inward: &Inward)
+    requires { HasLineRoom chunk.old }
+    ensures { chunk.new ≡ chunk.old ++ inward_text inward.now.axis inward.now.side inward.now.shift }
+{
+    match inward.shift {
+        None => add_too_long(chunk, inward.axis),
+        Some(shift) => add_moved(chunk, inward.axis, inward.side, shift),
+    }
+}
+
+#[tactic(auto, unfolding(crate::specs::Words::clearing_text))]
+fn add_clearing(chunk: &mut Chunk, clearing: &Option<Clearing>)
+    requires { HasLineRoom chunk.old }
+    ensures { chunk.new ≡ chunk.old ++ clearing_text clearing.now }
+{
+    match clearing {
+        None => {}
+        Some(Clearing::Fixture(passed)) => add_passed(chunk, passed),
+        Some(Clearing::Travel(inward)) => add_inward(chunk, inward),
+    }
+}
+
 #[tactic(auto, unfolding(crate::specs::Words::concern_text))]
 pub(crate) fn concern_words(concern: Concern) -> &'static [u8]
     ensures text { result.now ≡ concern_text concern }
@@ -359,6 +453,7 @@ pub(crate) fn add_line(chunk: &mut Chunk, line: &Line)
         Line::Start(scene) => add_start(chunk, scene),
         Line::Command(command, scene) => add_command(chunk, *command, scene),
         Line::InTheWay(obstacle) => add_obstacle(chunk, obstacle),
+        Line::Clear(clearing) => add_clearing(chunk, clearing),
         Line::Warned(warning) => add_warning(chunk, warning),
     }
 }

@@ -1,4 +1,3 @@
-use Rattle.std.proofs.Common.{◌++◌}
 use Rattle.ngc_machine_files.specs.Machine.{file_of}
 use Rattle.ngc_report.specs.Warnings.{warned}
 use Rattle.ngc_report.specs.declared.warnings.Concern.TheVariants.{LowHome, LowAcross}
