@@ -2,6 +2,8 @@
 pub mod Ahead
 -- A curve is halved.
 pub mod Curves
+-- The rectangle that holds a curve, which is halved.
+pub mod Held
 -- A direction's coordinates are at most its length, and scaled ones at most the radius.
 pub mod Directions
 -- The boxes that are still to be drawn, one step further.

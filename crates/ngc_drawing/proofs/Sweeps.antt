@@ -12,8 +12,8 @@ use Rattle.ngc_certificate_text.specs.declared.piece.Piece.{Piece}
 use Rattle.ngc_collision.specs.Body.{Solid, bodies, span}
 use Rattle.ngc_collision.specs.Inside.{solid_of}
 use Rattle.ngc_collision.specs.declared.solid.Solid as solid
-use Rattle.ngc_drawing.specs.Views.{rectangle}
-use Rattle.ngc_drawing.specs.declared.shape.Shape.TheVariants as shapes
+use Rattle.ngc_drawing.specs.Bodies as drawn
+use Rattle.ngc_drawing.specs.Pictures.{tool_box}
 use Rattle.ngc_drawing.specs.Bodies.{filled, tool_at, sweep_of, finished, held_with, joined, swept, swept_from}
 use Rattle.ngc_drawing.specs.Sweeping.{sweeps_ahead}
 use Rattle.ngc_drawing.specs.declared.shape.Shape.{Shape}
@@ -56,7 +56,7 @@ map_twice f h (x ∷ xs) = ap (λ l. f (h x) ∷ l) (map_twice f h xs)
 
 -- where a part of a tool is seen
 abbrev pub body : View → Solid → Shape
-body view b = shapes.Body (rectangle view b.low b.high)
+body view b = drawn.body view b.low b.high
 
 -- all parts of the tool are drawn
 pub all_filled : (view : View) (step : ℤ) (used : List (Option Tool)) (s : Sweep) (tool : Option Tool) (solids given : List solid.Solid)
@@ -72,7 +72,7 @@ all_filled view step used s tool solids given before now i is all same at fillin
 
 -- and those that it fills at a place
 abbrev pub outlined : View → Solid → Shape
-outlined view b = shapes.FaultTool (rectangle view b.low b.high)
+outlined view b = tool_box view b.low b.high
 
 pub all_outlined : (view : View) (filling : List Solid) (solids given : List solid.Solid) (before now : List Shape) (i : ℕ)
     → now ≡ before ++ map (λ (b : solid.Solid). outlined view (solid_of b)) (take i given) → length given ≤ i → given ≡ solids

@@ -5,6 +5,7 @@ use Rattle.std.specs.Prelude.{if◌then◌else◌}
 use Rattle.std.specs.Ordering.{int_eq}
 use Rattle.ngc_fixed_length.specs.Boxes.{lesser_corner, greater_corner}
 use Rattle.ngc_fixed_length.specs.declared.points.GridBox.{GridBox}
+use Rattle.ngc_fixed_length.specs.declared.points.Point3.{Point3}
 use Rattle.ngc_machine_files.specs.declared.tools.Tool.{Tool}
 use Rattle.ngc_commands.specs.Movement.{actions_of}
 use Rattle.ngc_commands.specs.declared.command.Action.{Action}
@@ -14,12 +15,12 @@ use Rattle.ngc_certificate_text.specs.Certificate.{Entry}
 use Rattle.ngc_certificate_text.specs.declared.piece.Piece.{Piece}
 use Rattle.ngc_collision.specs.Body.{bodies, span}
 use Rattle.ngc_drawing.specs.Tools.{rank_of, number_of}
-use Rattle.ngc_drawing.specs.Views.{rectangle}
+use Rattle.ngc_drawing.specs.Views.{rectangle, block}
 use Rattle.ngc_drawing.specs.declared.shape.Shape.{Shape}
 use Rattle.ngc_drawing.specs.declared.shape.Shape.TheVariants as shapes
 use Rattle.ngc_drawing.specs.declared.sweep.Sweep.{Sweep}
 use Rattle.ngc_drawing.specs.declared.view.View.{View}
-use Rattle.ngc_drawing.specs.declared.view.View.TheVariants.{Top, Front, Side}
+use Rattle.ngc_drawing.specs.declared.view.View.TheVariants.{Top, Front, Side, Iso}
 
 -- ---- boxes, and which of them are drawn as one
 
@@ -52,6 +53,7 @@ abbrev pub are_seen_alike : View → GridBox → GridBox → Bool
 are_seen_alike Top a b = is_same_x a b && is_same_y a b
 are_seen_alike Front a b = is_same_x a b && is_same_z a b
 are_seen_alike Side a b = is_same_y a b && is_same_z a b
+are_seen_alike Iso a b = is_same_x a b && (is_same_y a b && is_same_z a b)
 
 -- a box is drawn with the boxes before it that have its tool, if they are fewer than `most`, or if
 -- they are seen at its place
@@ -107,9 +109,14 @@ sweeps view used commands entries = joined view (together entries) None
 abbrev pub tool_at : List (Option Tool) → ℕ → Option Tool
 tool_at used rank = slice_index_or used rank None
 
--- the rectangles that the parts of the tool fill, and without a tool the box itself
+-- a box that a part of a tool fills
+abbrev pub body : View → Point3 → Point3 → Shape
+body Iso low high = shapes.Silhouette (block low high)
+body view low high = shapes.Body (rectangle view low high)
+
+-- those that the parts of the tool fill, and without a tool the box itself
 abbrev pub filled : View → ℤ → List (Option Tool) → Sweep → List Shape
-filled view step used s = map (λ b. shapes.Body (rectangle view b.low b.high))
+filled view step used s = map (λ b. body view b.low b.high)
     (bodies (tool_at used s.rank) (span step s.bounds))
 
 -- a path for as long as a tool is mounted

@@ -24,10 +24,12 @@ use Rattle.ngc_drawing.specs.Sheets.{frame, is_in, is_within, unit_of, sheet, pa
 use Rattle.ngc_drawing.specs.Spelling.{shapes_text}
 use Rattle.ngc_drawing.specs.Strokes.{stroke, strokes}
 use Rattle.ngc_drawing.specs.Tools.{used, number_of, name_of, eye_of}
-use Rattle.ngc_drawing.specs.Views.{spot, tip_spot, rectangle, micrometres}
+use Rattle.ngc_drawing.specs.Views.{spot, tip_spot, rectangle, block, micrometres}
 use Rattle.ngc_drawing.specs.declared.eye.Eye.{Eye}
 use Rattle.ngc_drawing.specs.declared.look.Look.{Look}
 use Rattle.ngc_drawing.specs.declared.refusal.RefusedMotion.{RefusedMotion}
+use Rattle.ngc_drawing.specs.declared.shape.BoxKind.{BoxKind}
+use Rattle.ngc_drawing.specs.declared.shape.BoxKind.TheVariants as kinds
 use Rattle.ngc_drawing.specs.declared.shape.Ink.TheVariants as inks
 use Rattle.ngc_drawing.specs.declared.shape.Mark.{Mark}
 use Rattle.ngc_drawing.specs.declared.shape.Mark.TheVariants as marks
@@ -37,12 +39,20 @@ use Rattle.ngc_drawing.specs.declared.spot.Rectangle.{Rectangle}
 use Rattle.ngc_drawing.specs.declared.spot.Spot.{Spot}
 use Rattle.ngc_drawing.specs.declared.sweep.Sweep.{Sweep}
 use Rattle.ngc_drawing.specs.declared.view.View.{View}
+use Rattle.ngc_drawing.specs.declared.view.View.TheVariants.{Iso}
+
+-- a box: its rectangle, and in the isometric view its outline and its edges at the nearest corner
+abbrev pub boxed : View → BoxKind → Point3 → Point3 → List Shape
+boxed Iso kind low high =
+    shapes.BoxBegin kind ∷ shapes.Silhouette (block low high) ∷ shapes.NearEdges (block low high)
+    ∷ shapes.PathEnd ∷ []
+boxed view kind low high = shapes.Outline kind (rectangle view low high) ∷ []
 
 -- a fixture, and its label: its number and its name
 abbrev pub fixture : View → ℕ → Fixture → List Shape
 fixture view i f =
-    shapes.Fixture (rectangle view f.low f.high) ∷ shapes.FixtureNumber (spot view f.low) i
-    ∷ shapes.Name f.name ∷ shapes.LabelEnd ∷ []
+    boxed view kinds.Fixture f.low f.high
+    ++ (shapes.FixtureNumber (spot view f.low) i ∷ shapes.Name f.name ∷ shapes.LabelEnd ∷ [])
 
 abbrev pub fixtures_from : View → ℕ → List Fixture → List Shape
 fixtures_from view i [] = []
@@ -108,7 +118,7 @@ tool_rows rank (tool ∷ tools) = tool_row rank tool ++ tool_rows (rank + 1) too
 -- the first of these fixtures in red
 abbrev pub first_red : View → List Fixture → List Shape
 first_red view [] = []
-first_red view (f ∷ fs) = shapes.FaultFixture (rectangle view f.low f.high) ∷ []
+first_red view (f ∷ fs) = boxed view kinds.FaultFixture f.low f.high
 
 abbrev pub refused_fixture : View → List Fixture → Option ℕ → List Shape
 refused_fixture view fixtures None = []
@@ -132,10 +142,15 @@ first_refused eye fault (c ∷ cs) = refused_action eye fault c.action
 abbrev pub tool_before : MachineFile → List Command → ℕ → Option Tool
 tool_before machine commands k = (after_all (at_start machine) (take k commands)).tool
 
+-- a box that the tool fills there
+abbrev pub tool_box : View → Point3 → Point3 → Shape
+tool_box Iso low high = shapes.FaultBlock (block low high)
+tool_box view low high = shapes.Outline kinds.FaultTool (rectangle view low high)
+
 -- the boxes that a tool fills at a place, which is rounded to the grid; without a tool the place
 -- itself
 abbrev pub standing : View → ℤ → Option Tool → Point3 → List Shape
-standing view step tool p = map (λ b. shapes.FaultTool (rectangle view b.low b.high))
+standing view step tool p = map (λ b. tool_box view b.low b.high)
     (bodies tool (span step (only (grid step p))))
 
 -- those at the end of the first of these motions
@@ -170,21 +185,22 @@ abbrev pub rows : List (Option Tool) → ℕ
 rows tools = min (length tools) 1000 + 1
 
 -- the travel limits; where the picture shows a part of them alone, as a thin line, and that part
-abbrev pub travel_in : Rectangle → Rectangle → List Shape
-travel_in area travel =
-    if is_within area travel then shapes.Travel travel ∷ []
-    else shapes.Window (pane area) ∷ shapes.ThinTravel travel ∷ shapes.WindowEnd ∷ []
+abbrev pub travel_in : View → Rectangle → Point3 → Point3 → List Shape
+travel_in view area low high =
+    if is_within area (rectangle view low high) then boxed view kinds.Travel low high
+    else shapes.Window (pane area)
+    ∷ (boxed view kinds.ThinTravel low high ++ shapes.WindowEnd ∷ [])
 
 abbrev pub opening : View → MachineFile → Rectangle → List (Option Tool) → List Shape
 opening view machine area tools =
     (shapes.Begin (sheet area (rows tools)) ∷ shapes.Lines ∷ [])
-    ++ travel_in area (rectangle view machine.low machine.high)
+    ++ travel_in view area machine.low machine.high
 
-abbrev pub scaled : Rectangle → List Shape
-scaled area =
+abbrev pub scaled : View → Rectangle → List Shape
+scaled view area =
     shapes.Scale area.low (scale_in (25 * unsigned_abs (unit_of area)) SCALES) ∷
     shapes.ScaleLength area.low (scale_in (25 * unsigned_abs (unit_of area)) SCALES)
-    ∷ shapes.Legend area.low ∷ []
+    ∷ shapes.ScaleNote view area.low ∷ shapes.Legend area.low ∷ []
 
 -- travel, fixtures, and the bodies of tools over these boxes
 abbrev pub ground : View → MachineFile → Rectangle → List (Option Tool) → List Sweep → List Shape
@@ -202,7 +218,7 @@ abbrev pub picture_of : View → MachineFile → List Command → Option Refused
 picture_of view machine commands refusal area tools swept =
     ground view machine area tools swept ++ (path view tools commands ++
     (marked view machine area
-    ++ (refused view machine commands refusal ++ (scaled area ++ (tool_rows 0 tools ++
+    ++ (refused view machine commands refusal ++ (scaled view area ++ (tool_rows 0 tools ++
     (refusal_row refusal ++ shapes.End ∷ []))))))
 
 -- on the sheet that commands need

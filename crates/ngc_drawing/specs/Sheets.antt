@@ -10,7 +10,7 @@ use Rattle.ngc_commands.specs.declared.command.Action.TheVariants.{Move}
 use Rattle.ngc_commands.specs.declared.command.Command.{Command}
 use Rattle.ngc_commands.specs.declared.movement.Way.{Way}
 use Rattle.ngc_commands.specs.declared.movement.Way.TheVariants.{Line, Arc}
-use Rattle.ngc_drawing.specs.Arcs.{corner_spots}
+use Rattle.ngc_drawing.specs.Arcs.{spots_seen}
 use Rattle.ngc_drawing.specs.Tools.{mounted, eye_of}
 use Rattle.ngc_drawing.specs.Views.{spot, tip_spot, rectangle, holding}
 use Rattle.ngc_drawing.specs.declared.eye.Eye.{Eye}
@@ -31,7 +31,7 @@ holding_all r (p ∷ ps) = holding_all (holding r p) ps
 
 abbrev pub with_way : Eye → Rectangle → Way → Rectangle
 with_way eye r (Line start end) = holding (holding r (tip_spot eye start)) (tip_spot eye end)
-with_way eye r (Arc arc) = holding_all (holding r (tip_spot eye arc.start)) (corner_spots eye arc)
+with_way eye r (Arc arc) = holding_all (holding r (tip_spot eye arc.start)) (spots_seen eye.view eye arc)
 
 abbrev pub with_action : Eye → Rectangle → Action → Rectangle
 with_action eye r (Move m) = with_way eye r m.way
@@ -43,10 +43,14 @@ with_commands view tool r [] = r
 with_commands view tool r (c ∷ cs) =
     with_commands view (mounted tool c.action) (with_action (eye_of view tool) r c.action) cs
 
+-- the smallest rectangle that holds two others
+abbrev pub with_both : Rectangle → Rectangle → Rectangle
+with_both r s = holding (holding r s.low) s.high
+
 abbrev pub with_fixtures : View → Rectangle → List Fixture → Rectangle
 with_fixtures view r [] = r
 with_fixtures view r (f ∷ fs) =
-    with_fixtures view (holding (holding r (spot view f.low)) (spot view f.high)) fs
+    with_fixtures view (with_both r (rectangle view f.low f.high)) fs
 
 -- the travel and the home positions
 abbrev pub bench : View → MachineFile → Rectangle

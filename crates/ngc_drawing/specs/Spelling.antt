@@ -4,9 +4,12 @@ use Rattle.std.specs.Prelude.{◌∷◌, ◌++◌, flat_map, codes, decimal, Boo
 use Rattle.std.specs.Prelude.{length}
 use Rattle.ngc_text.specs.Millimetres.{sign_text}
 use Rattle.ngc_drawing.specs.declared.view.View.{View}
-use Rattle.ngc_drawing.specs.declared.view.View.TheVariants.{Top, Front, Side}
+use Rattle.ngc_drawing.specs.declared.view.View.TheVariants.{Top, Front, Side, Iso}
+use Rattle.ngc_drawing.specs.declared.spot.Block.{Block}
 use Rattle.ngc_drawing.specs.declared.spot.Rectangle.{Rectangle}
 use Rattle.ngc_drawing.specs.declared.spot.Spot.{Spot}
+use Rattle.ngc_drawing.specs.declared.shape.BoxKind.{BoxKind}
+use Rattle.ngc_drawing.specs.declared.shape.BoxKind.TheVariants as kinds
 use Rattle.ngc_drawing.specs.declared.shape.Ink.{Ink}
 use Rattle.ngc_drawing.specs.declared.shape.Ink.TheVariants as inks
 use Rattle.ngc_drawing.specs.declared.shape.Mark.{Mark}
@@ -42,6 +45,29 @@ area_text r =
     ++ down_text r.high.up ++
     codes "H" ++ length_text r.low.across ++ codes "Z"
 
+-- the beginning of a box, by what the box is
+unfoldable pub kind_text : BoxKind → List ℕ
+kind_text kinds.Travel = codes "<path d=\""
+kind_text kinds.ThinTravel = codes "<path stroke-width=\".1%\" d=\""
+kind_text kinds.Fixture = codes "<path fill=\"#808080\" fill-opacity=\".3\" d=\""
+kind_text kinds.FaultFixture =
+    codes "<path stroke=\"#E60000\" fill=\"#E60000\" fill-opacity=\".3\" d=\""
+kind_text kinds.FaultTool = codes "<path stroke=\"#E60000\" d=\""
+
+-- the outline of a box in the isometric view, counterclockwise from the bottom of its near edge
+abbrev pub silhouette_text : Block → List ℕ
+silhouette_text b =
+    codes "\nM" ++ spot_text b.near ++ codes "L" ++ spot_text b.right ++ codes "V"
+    ++ down_text b.right_top.up ++ codes "L" ++ spot_text b.far_top ++ codes "L"
+    ++ spot_text b.left_top ++ codes "V" ++ down_text b.left.up ++ codes "Z"
+
+-- and its edges at the nearest corner: the two of the top, and the near edge
+abbrev pub near_edges_text : Block → List ℕ
+near_edges_text b =
+    codes "\nM" ++ spot_text b.left_top ++ codes "L" ++ spot_text b.near_top ++ codes "L"
+    ++ spot_text b.right_top ++ codes "M" ++ spot_text b.near_top ++ codes "V"
+    ++ down_text b.near.up
+
 -- eight colours that most colour-blind readers can tell apart, on white and on black
 abbrev pub colour_at : ℕ → List ℕ
 colour_at rank =
@@ -74,6 +100,15 @@ unfoldable pub axes_text : View → List ℕ
 axes_text Top = codes "X</text><text x=\"-7.2\" y=\"-3.7\" fill=\"#808080\" stroke=\"none\">Y"
 axes_text Front = codes "X</text><text x=\"-7.2\" y=\"-3.7\" fill=\"#808080\" stroke=\"none\">Z"
 axes_text Side = codes "Y</text><text x=\"-7.2\" y=\"-3.7\" fill=\"#808080\" stroke=\"none\">Z"
+axes_text Iso =
+    codes "<tspan x=\"-2\" y=\".9\">X</tspan><tspan x=\"-7.4\" y=\".9\">Y</tspan><tspan x=\"-4.7\" y=\"-1.7\">Z</tspan>"
+
+-- their arrows, and the beginning of their names
+unfoldable pub arrows_text : View → List ℕ
+arrows_text Iso =
+    codes "<path d=\"M-7 1.5L-4 3L-1 1.5M-4 3V-1M-4.6 .4L-4 -1L-3.4 .4M-2.5 1.6L-1 1.5L-2 2.7M-5.5 1.6L-7 1.5L-6 2.7\"/><text fill=\"#808080\" stroke=\"none\">"
+arrows_text _ =
+    codes "<path d=\"M-6.5 -3V3H-1M-7.1 -1.6L-6.5 -3L-5.9 -1.6M-2.4 2.4L-1 3L-2.4 3.6\"/><text x=\"-.5\" y=\"3.7\" fill=\"#808080\" stroke=\"none\">"
 
 -- the codes of the nine coordinate systems, G54 to G59 and G59.1 to G59.3, by their numbers from 0
 abbrev pub system_text : ℕ → List ℕ
@@ -91,9 +126,7 @@ mark_text (marks.Origin i) =
     codes "<path d=\"M0 -3V0H3M-.5 -2L0 -3L.5 -2M2 -.5L3 0L2 .5\"/><text x=\"-.6\" y=\"2\" text-anchor=\"end\" fill=\"#808080\" stroke=\"none\">" ++
     system_text i ++ codes "</text>"
 mark_text marks.Hole = codes "<circle r=\".6\"/><path d=\"M-1 0H1M0 -1V1\"/>"
-mark_text (marks.Axes view) =
-    codes "<path d=\"M-6.5 -3V3H-1M-7.1 -1.6L-6.5 -3L-5.9 -1.6M-2.4 2.4L-1 3L-2.4 3.6\"/><text x=\"-.5\" y=\"3.7\" fill=\"#808080\" stroke=\"none\">" ++
-    axes_text view ++ codes "</text>"
+mark_text (marks.Axes view) = arrows_text view ++ axes_text view ++ codes "</text>"
 
 unfoldable pub turn_text : Bool → List ℕ
 turn_text true = codes " 0 0 1 "
@@ -122,6 +155,13 @@ scale_text unit at bar =
     codes "v" ++ length_text unit ++ codes "h" ++ size_text bar ++ codes "v-" ++ length_text unit
     ++ codes "\"/>\n"
 
+-- what the scale measures in the isometric view
+unfoldable pub scale_note_text : ℤ → View → Spot → List ℕ
+scale_note_text unit Iso at =
+    sign_at unit at
+    (codes "<text x=\"27\" y=\"6\" fill=\"#808080\" stroke=\"none\">X, Y: measured across; Z: upwards</text>")
+scale_note_text unit _ at = []
+
 -- a number of a tool; no tool is 0
 unfoldable pub tool_text : ℕ → List ℕ
 tool_text number = if number == 0 then codes "no tool" else codes "T" ++ decimal number
@@ -140,23 +180,19 @@ abbrev pub shape_text : ℤ → Shape → List ℕ
 shape_text unit (shapes.Begin sheet) = begin_text sheet
 shape_text unit shapes.Lines =
     codes "<g fill=\"none\" stroke=\"#808080\" stroke-width=\".15%\" stroke-linecap=\"round\" stroke-linejoin=\"round\" font-family=\"sans-serif\" font-size=\"2\">\n"
-shape_text unit (shapes.Travel r) = codes "<path d=\"" ++ area_text r ++ codes "\"/>\n"
+shape_text unit (shapes.Outline kind r) = kind_text kind ++ area_text r ++ codes "\"/>\n"
+shape_text unit (shapes.BoxBegin kind) = kind_text kind
+shape_text unit (shapes.Silhouette b) = silhouette_text b
+shape_text unit (shapes.NearEdges b) = near_edges_text b
+shape_text unit (shapes.FaultBlock b) =
+    kind_text kinds.FaultTool ++ silhouette_text b ++ codes "\"/>\n"
 shape_text unit (shapes.Window pane) = window_text pane
-shape_text unit (shapes.ThinTravel r) =
-    codes "<path stroke-width=\".1%\" d=\"" ++ area_text r ++ codes "\"/>\n"
 shape_text unit shapes.WindowEnd = codes "</svg>\n"
-shape_text unit (shapes.Fixture r) =
-    codes "<path fill=\"#808080\" fill-opacity=\".3\" d=\"" ++ area_text r ++ codes "\"/>\n"
 shape_text unit (shapes.FixtureNumber at number) =
     sign_begin unit at
     ++ (codes "<text x=\".5\" y=\"-.5\" fill=\"#808080\" stroke=\"none\">" ++ decimal number)
 shape_text unit (shapes.Name name) = name_text name
 shape_text unit shapes.LabelEnd = codes "</text></g>\n"
-shape_text unit (shapes.FaultFixture r) =
-    codes "<path stroke=\"#E60000\" fill=\"#E60000\" fill-opacity=\".3\" d=\"" ++ area_text r
-    ++ codes "\"/>\n"
-shape_text unit (shapes.FaultTool r) =
-    codes "<path stroke=\"#E60000\" d=\"" ++ area_text r ++ codes "\"/>\n"
 shape_text unit shapes.Bodies = codes "<g stroke=\"none\" opacity=\".2\">\n"
 shape_text unit (shapes.BodiesOf rank) =
     codes "<path fill=\"" ++ colour_text rank ++ codes "\" d=\""
@@ -179,6 +215,7 @@ shape_text unit (shapes.ScaleLength at bar) =
     sign_at unit at
     (codes "<text x=\"0\" y=\"8.4\" fill=\"#808080\" stroke=\"none\">"
     ++ decimal (bar / 1000) ++ codes " mm</text>")
+shape_text unit (shapes.ScaleNote view at) = scale_note_text unit view at
 shape_text unit (shapes.Legend at) =
     codes "<g transform=\"translate(" ++ spot_text at ++ codes ") scale(" ++ length_text unit ++
     codes ")\"><text y=\"8.4\" fill=\"#808080\" stroke=\"none\">\n<tspan x=\"0\" dy=\"3\">solid: feeds, dashed: traverses, both at the tip of the mounted tool</tspan>\n<tspan x=\"0\" dy=\"3\">start, G28, G30: the spindle nose; tools: each part's diameter x length</tspan>\n"

@@ -30,7 +30,7 @@ use Rattle.ngc_drawing.specs.declared.shape.Shape.{Shape}
 use Rattle.ngc_drawing.specs.declared.shape.Shape.TheVariants as shapes
 use Rattle.ngc_drawing.specs.declared.spot.Spot.{Spot}
 use Rattle.ngc_drawing.specs.declared.view.View.{View}
-use Rattle.ngc_drawing.specs.declared.view.View.TheVariants.{Front}
+use Rattle.ngc_drawing.specs.declared.view.View.TheVariants.{Front, Iso}
 
 -- a motion has the colour of the tool that is mounted then, and a traverse is dashed
 abbrev pub ink_of : ℕ → Pace → Ink
@@ -58,14 +58,19 @@ is_seen_clockwise Front Counterclockwise = true
 is_seen_clockwise _ Clockwise = true
 is_seen_clockwise _ Counterclockwise = false
 
--- an arc in quarters, from one extreme point to the next; seen from its side, a line to and fro,
--- and a helix point by point
+-- an arc in quarters, from one extreme point to the next; seen from its side, a line to and fro;
+-- and a helix, like every arc of the isometric view, point by point
 abbrev pub round : View → ArcShape → Spot → Shape
 round view arc to =
     shapes.Round (micrometres (pos (outer_radius arc))) (is_seen_clockwise view arc.turn) to
 
 abbrev pub is_flat : ArcShape → Bool
 is_flat arc = int_eq (height arc.plane arc.start) (height arc.plane arc.end)
+
+-- an arc that is seen as a line, in a view that doesn't face its plane
+abbrev pub is_seen_as_line : View → ArcShape → Bool
+is_seen_as_line Iso arc = false
+is_seen_as_line _ arc = is_flat arc
 
 -- a line to a point
 abbrev pub line_to : Eye → Point3 → Shape
@@ -74,7 +79,7 @@ line_to eye p = shapes.Line (tip_spot eye p)
 abbrev pub arc_course : Eye → ArcShape → List Shape
 arc_course eye arc =
     if faces eye.view arc.plane then map (round eye.view arc) (corner_spots eye arc)
-    else (if is_flat arc then map shapes.Line (corner_spots eye arc)
+    else (if is_seen_as_line eye.view arc then map shapes.Line (corner_spots eye arc)
     else map (line_to eye) (helix_points arc))
 
 -- the path to a motion's end; a line within one spot is left out

@@ -2,18 +2,18 @@
 ghost use Rattle.std.specs.Prelude.{◌≡◌, ◌≤◌, ◌++◌, length};
 ghost use Rattle.ngc_text.specs.Failures.{CountsFailure};
 ghost use Rattle.ngc_machine_files.specs.Machine.{file_of};
-ghost use Rattle.ngc_drawing.specs.Bodies.{tool_at, filled, bodies_lead, bodies_end, swept};
+ghost use Rattle.ngc_collision.specs.Inside.{place_of};
+ghost use Rattle.ngc_drawing.specs.Bodies.{tool_at, body, filled, bodies_lead, bodies_end, swept};
 ghost use Rattle.ngc_drawing.specs.Bodies.{swept_from};
 ghost use Rattle.ngc_drawing.specs.Draws.{Draws};
 
 use crate::drawer::draw_all;
 use crate::shape::Shape;
 use crate::sheet::Unit;
-use crate::spot::Rectangle;
 use crate::sweep::Sweep;
-use crate::view::View;
+use crate::view::{View, block};
 use arrayvec::ArrayVec;
-use ngc_collision::Solid;
+use ngc_collision::{Place, Solid};
 use ngc_machine_files::{Machine, Tool};
 use ngc_text::{Chunk, Sink, WriteFault};
 use std::alloc::Allocator;
@@ -42,6 +42,15 @@ fn bodies_lead(run: &Option<usize>, rank: usize) -> ArrayVec<Shape, 8>
     shapes
 }
 
+fn body(view: View, low: &Place, high: &Place) -> Shape
+    ensures { result ≡ body view (place_of low.now) (place_of high.now) }
+{
+    match view {
+        View::Iso => Shape::Silhouette(block(low, high)),
+        _ => Shape::Body(view.around(low, high)),
+    }
+}
+
 fn add_filled<A: Allocator>(
     shapes: &mut ArrayVec<Shape, 8>,
     view: View,
@@ -55,10 +64,7 @@ fn add_filled<A: Allocator>(
 {
     let tool = tool_at(tools, sweep.rank);
     for solid in Solid::swept(machine.step, tool, &sweep.bounds).as_slice() {
-        shapes.push(Shape::Body(Rectangle {
-            low: view.sees(&solid.low),
-            high: view.sees(&solid.high),
-        }));
+        shapes.push(body(view, &solid.low, &solid.high));
     }
 }
 

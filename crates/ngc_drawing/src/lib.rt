@@ -25,6 +25,6 @@ pub use fault::DrawFault;
 pub use look::Look;
 pub use picture::write_svg;
 pub use refusal::RefusedMotion;
-pub use shape::{Ink, Mark, Shape, Sheet};
-pub use spot::{Rectangle, Spot};
+pub use shape::{BoxKind, Ink, Mark, Shape, Sheet};
+pub use spot::{Block, Rectangle, Spot};
 pub use view::View;

@@ -1,13 +1,14 @@
 //! The tool at the end of a motion that is refused.
 ghost use Rattle.std.specs.Prelude.{◌≡◌, ◌≤◌, ◌++◌, length, drop};
 ghost use Rattle.ngc_machine_files.specs.Machine.{file_of};
-ghost use Rattle.ngc_drawing.specs.Pictures.{tool_before, standing, outline, first_outline};
+ghost use Rattle.ngc_drawing.specs.Pictures.{tool_before, tool_box, standing};
+ghost use Rattle.ngc_drawing.specs.Pictures.{outline, first_outline};
+ghost use Rattle.ngc_collision.specs.Inside.{place_of};
 
-use crate::shape::Shape;
-use crate::spot::Rectangle;
-use crate::view::View;
+use crate::shape::{BoxKind, Shape};
+use crate::view::{View, block};
 use arrayvec::ArrayVec;
-use ngc_collision::Solid;
+use ngc_collision::{Place, Solid};
 use ngc_commands::{Action, Command, Reached};
 use ngc_fixed_length::{GridBox, Point3};
 use ngc_machine_files::{Machine, Tool};
@@ -25,6 +26,15 @@ pub(crate) fn tool_before<A: Allocator>(
     Reached::at_start(machine).after_all(before).tool
 }
 
+fn tool_box(view: View, low: &Place, high: &Place) -> Shape
+    ensures { result ≡ tool_box view (place_of low.now) (place_of high.now) }
+{
+    match view {
+        View::Iso => Shape::FaultBlock(block(low, high)),
+        _ => Shape::Outline(BoxKind::FaultTool, view.around(low, high)),
+    }
+}
+
 // Adds the boxes that a tool fills at a place.
 fn add_standing<A: Allocator>(
     shapes: &mut ArrayVec<Shape, 8>,
@@ -33,17 +43,14 @@ fn add_standing<A: Allocator>(
     tool: &Option<Tool>,
     place: &Point3,
 )
-    requires { length shapes.old.items ≤ 1 }
+    requires { length shapes.old.items ≤ 4 }
     ensures { shapes.new.items ≡ shapes.old.items
         ++ standing view (file_of machine.now).step tool.now place.now }
 {
     let point = place.to_grid(machine.step);
     let bounds = GridBox::only(point);
     for solid in Solid::swept(machine.step, *tool, &bounds).as_slice() {
-        shapes.push(Shape::FaultTool(Rectangle {
-            low: view.sees(&solid.low),
-            high: view.sees(&solid.high),
-        }));
+        shapes.push(tool_box(view, &solid.low, &solid.high));
     }
 }
 
@@ -54,7 +61,7 @@ fn add_outline<A: Allocator>(
     tool: &Option<Tool>,
     action: &Action,
 )
-    requires { length shapes.old.items ≤ 1 }
+    requires { length shapes.old.items ≤ 4 }
     ensures { shapes.new.items ≡ shapes.old.items
         ++ outline view (file_of machine.now).step tool.now action.now }
 {
@@ -70,7 +77,7 @@ fn add_first<A: Allocator>(
     tool: &Option<Tool>,
     commands: &[Command],
 )
-    requires { length shapes.old.items ≤ 1 }
+    requires { length shapes.old.items ≤ 4 }
     ensures { shapes.new.items ≡ shapes.old.items
         ++ first_outline view (file_of machine.now).step tool.now commands.now }
 {
@@ -88,7 +95,7 @@ pub(crate) fn add_outline_at<A: Allocator>(
     commands: &[Command],
     command: usize,
 )
-    requires { length shapes.old.items ≤ 1 }
+    requires { length shapes.old.items ≤ 4 }
     ensures { shapes.new.items ≡ shapes.old.items
         ++ first_outline view (file_of machine.now).step tool.now (drop command commands.now) }
 {

@@ -12,7 +12,8 @@ ghost use Rattle.ngc_drawing.specs.Sheets.{unit_of};
 ghost use Rattle.ngc_drawing.specs.Holes.{holes};
 ghost use Rattle.ngc_drawing.specs.Tools.{used, eye_of};
 ghost use Rattle.ngc_drawing.specs.Pictures.{fixture, fixtures_from, marked_in, marked, SCALES};
-ghost use Rattle.ngc_drawing.specs.Pictures.{scale_in, travel_in, shown_sweeps, places, is_zero};
+ghost use Rattle.ngc_drawing.specs.Pictures.{scale_in, boxed, travel_in, shown_sweeps, places};
+ghost use Rattle.ngc_drawing.specs.Pictures.{is_zero};
 ghost use Rattle.ngc_drawing.specs.Pictures.{origin, origins_from, picture_text};
 ghost use Rattle.ngc_drawing.specs.Pictures.{part, parts, tool_row, tool_rows, first_red};
 ghost use Rattle.ngc_drawing.specs.Pictures.{refused_fixture, refused_way, refused_action};
@@ -29,15 +30,16 @@ use crate::look::Look;
 use crate::outline::{add_outline_at, tool_before};
 use crate::pen::{Pen, Run};
 use crate::refusal::RefusedMotion;
-use crate::shape::{Ink, Mark, Shape};
+use crate::shape::{BoxKind, Ink, Mark, Shape};
 use crate::sheet::{Unit, frame, pane, sheet, unit_of};
 use crate::spot::{Rectangle, Spot};
 use crate::strokes::{draw_action, draw_stroke};
 use crate::sweep::{Sweep, sweeps};
 use crate::tools::{name_of, number_of, rank_of, used};
-use crate::view::{View, to_micrometres};
+use crate::view::{View, block, to_micrometres};
 use arrayvec::ArrayVec;
 use ngc_certificate_text::Motions;
+use ngc_collision::Place;
 use ngc_commands::{Action, Command, Way};
 use ngc_fixed_length::Point3;
 use ngc_machine_files::{Fixture, Machine, Part, Tool};
@@ -68,6 +70,36 @@ fn scale_of(unit: &Unit) -> u64
     first_within(25 * unit.micrometres.unsigned_abs(), &SCALES)
 }
 
+/// Adds the shapes of a box.
+fn add_box(shapes: &mut ArrayVec<Shape, 8>, view: View, kind: BoxKind, low: &Point3, high: &Point3)
+    requires { length shapes.old.items ≤ 4 }
+    ensures value { shapes.new.items ≡ shapes.old.items ++ boxed view kind low.now high.now }
+    ensures few { length shapes.new.items ≤ length shapes.old.items + 4 }
+{
+    match view {
+        View::Iso => {
+            let block = block(&Place::at(low), &Place::at(high));
+            shapes.push(Shape::BoxBegin(kind));
+            shapes.push(Shape::Silhouette(block));
+            shapes.push(Shape::NearEdges(block));
+            shapes.push(Shape::PathEnd);
+        }
+        _ => shapes.push(Shape::Outline(kind, view.rectangle(low, high))),
+    }
+}
+
+/// Returns the shapes of a fixture and its label.
+fn fixture(view: View, number: usize, one: &Fixture) -> ArrayVec<Shape, 8>
+    ensures { result.items ≡ fixture view number one.now }
+{
+    let mut shapes = ArrayVec::new();
+    add_box(&mut shapes, view, BoxKind::Fixture, &one.low, &one.high);
+    shapes.push(Shape::FixtureNumber(view.spot(&one.low), number));
+    shapes.push(Shape::Name(one.name));
+    shapes.push(Shape::LabelEnd);
+    shapes
+}
+
 fn draw_fixtures<W: Sink>(
     chunk: &mut Chunk,
     unit: &Unit,
@@ -79,14 +111,9 @@ fn draw_fixtures<W: Sink>(
         (W.written sink.new) chunk.old chunk.new result (fixtures_from view 0 fixtures.now) }
     ensures counts { CountsFailure (W.failures sink.old) (W.failures sink.new) result }
 {
-    for (i, fixture) in fixtures.iter().enumerate() {
-        let shapes = [
-            Shape::Fixture(view.rectangle(&fixture.low, &fixture.high)),
-            Shape::FixtureNumber(view.spot(&fixture.low), i),
-            Shape::Name(fixture.name),
-            Shape::LabelEnd,
-        ];
-        match draw_all(chunk, unit, &shapes, sink) {
+    for (i, one) in fixtures.iter().enumerate() {
+        let shapes = fixture(view, i, one);
+        match draw_all(chunk, unit, shapes.as_slice(), sink) {
             Ok(()) => {}
             Err(fault) => return Err(fault),
         }
@@ -302,18 +329,24 @@ fn draw_refused_motion<W: Sink>(
 
 fn first_red(view: View, fixtures: &[Fixture]) -> ArrayVec<Shape, 8>
     ensures value { result.items ≡ first_red view fixtures.now }
-    ensures one { length result.items ≤ 1 }
+    ensures few { length result.items ≤ 4 }
 {
     let mut shapes = ArrayVec::new();
     if let [fixture, ..] = fixtures {
-        shapes.push(Shape::FaultFixture(view.rectangle(&fixture.low, &fixture.high)));
+        add_box(
+            &mut shapes,
+            view,
+            BoxKind::FaultFixture,
+            &fixture.low,
+            &fixture.high,
+        );
     }
     shapes
 }
 
 fn refused_fixture(view: View, fixtures: &[Fixture], fixture: Option<usize>) -> ArrayVec<Shape, 8>
     ensures value { result.items ≡ refused_fixture view fixtures.now fixture }
-    ensures one { length result.items ≤ 1 }
+    ensures few { length result.items ≤ 4 }
 {
     match fixture {
         None => ArrayVec::new(),
@@ -389,16 +422,22 @@ fn rows(tools: &[Option<Tool>]) -> u32
 }
 
 // Adds the travel limits, or the part of them that the picture shows.
-fn add_travel(shapes: &mut ArrayVec<Shape, 8>, area: &Rectangle, travel: &Rectangle)
+fn add_travel(
+    shapes: &mut ArrayVec<Shape, 8>,
+    view: View,
+    area: &Rectangle,
+    low: &Point3,
+    high: &Point3,
+)
     requires { length shapes.old.items ≤ 2 }
-    ensures { shapes.new.items ≡ shapes.old.items ++ travel_in area.now travel.now }
+    ensures { shapes.new.items ≡ shapes.old.items ++ travel_in view area.now low.now high.now }
 {
-    if area.has_all_of(travel) {
-        shapes.push(Shape::Travel(*travel));
+    if area.has_all_of(&view.rectangle(low, high)) {
+        add_box(shapes, view, BoxKind::Travel, low, high);
         return;
     }
     shapes.push(Shape::Window(pane(area)));
-    shapes.push(Shape::ThinTravel(*travel));
+    add_box(shapes, view, BoxKind::ThinTravel, low, high);
     shapes.push(Shape::WindowEnd);
 }
 
@@ -413,8 +452,7 @@ fn opening<A: Allocator>(
     let mut shapes = ArrayVec::new();
     shapes.push(Shape::Begin(sheet(area, rows(tools))));
     shapes.push(Shape::Lines);
-    let travel = view.rectangle(&machine.low, &machine.high);
-    add_travel(&mut shapes, area, &travel);
+    add_travel(&mut shapes, view, area, &machine.low, &machine.high);
     shapes
 }
 
@@ -524,9 +562,14 @@ fn draw_marks<A: Allocator, W: Sink>(
     draw_origins(chunk, unit, view, area, &machine.origins, sink)
 }
 
-fn draw_scale<W: Sink>(chunk: &mut Chunk, area: &Rectangle, sink: &mut W) -> Result<(), WriteFault>
+fn draw_scale<W: Sink>(
+    chunk: &mut Chunk,
+    view: View,
+    area: &Rectangle,
+    sink: &mut W,
+) -> Result<(), WriteFault>
     ensures drawn { Draws (unit_of area.now) (W.written sink.old)
-        (W.written sink.new) chunk.old chunk.new result (scaled area.now) }
+        (W.written sink.new) chunk.old chunk.new result (scaled view area.now) }
     ensures counts { CountsFailure (W.failures sink.old) (W.failures sink.new) result }
 {
     let unit = unit_of(area);
@@ -534,6 +577,7 @@ fn draw_scale<W: Sink>(chunk: &mut Chunk, area: &Rectangle, sink: &mut W) -> Res
     let shapes = [
         Shape::Scale(area.low, scale),
         Shape::ScaleLength(area.low, scale),
+        Shape::ScaleNote(view, area.low),
         Shape::Legend(area.low),
     ];
     draw_all(chunk, &unit, &shapes, sink)
@@ -542,6 +586,7 @@ fn draw_scale<W: Sink>(chunk: &mut Chunk, area: &Rectangle, sink: &mut W) -> Res
 // Draws the legend below the picture.
 fn draw_legend<W: Sink>(
     chunk: &mut Chunk,
+    view: View,
     area: &Rectangle,
     tools: &[Option<Tool>],
     refusal: &Option<RefusedMotion>,
@@ -549,11 +594,11 @@ fn draw_legend<W: Sink>(
 ) -> Result<(), WriteFault>
     ensures drawn { Draws (unit_of area.now) (W.written sink.old)
         (W.written sink.new) chunk.old chunk.new result
-        (scaled area.now
+        (scaled view area.now
         ++ (tool_rows 0 tools.now ++ (refusal_row refusal.now ++ drawn.End ∷ []))) }
     ensures counts { CountsFailure (W.failures sink.old) (W.failures sink.new) result }
 {
-    match draw_scale(chunk, area, sink) {
+    match draw_scale(chunk, view, area, sink) {
         Ok(()) => {}
         Err(fault) => return Err(fault),
     }
@@ -627,7 +672,7 @@ fn draw_picture<A: Allocator, W: Sink>(
         Ok(()) => {}
         Err(fault) => return Err(fault),
     }
-    draw_legend(chunk, area, tools, refusal, sink)
+    draw_legend(chunk, view, area, tools, refusal, sink)
 }
 
 fn write_picture<A: Allocator, W: Sink>(

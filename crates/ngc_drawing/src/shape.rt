@@ -1,4 +1,4 @@
-use crate::spot::{Rectangle, Spot};
+use crate::spot::{Block, Rectangle, Spot};
 use crate::view::View;
 use ngc_machine_files::Name;
 
@@ -48,6 +48,21 @@ pub struct Pane {
     pub height: i128,
 }
 
+/// What a box is, which decides its lines and its filling.
+#[derive(Clone, Copy)]
+pub enum BoxKind {
+    /// The travel limits.
+    Travel,
+    /// The travel limits, as a thin line.
+    ThinTravel,
+    /// A fixture.
+    Fixture,
+    /// A fixture that a fault names.
+    FaultFixture,
+    /// A box that the tool fills at the end of a refused motion.
+    FaultTool,
+}
+
 /// A part of a picture, in the order of its text.
 #[derive(Clone, Copy)]
 pub enum Shape {
@@ -55,25 +70,25 @@ pub enum Shape {
     Begin(Sheet),
     /// The style of lines.
     Lines,
-    /// The travel limits.
-    Travel(Rectangle),
+    /// A box as a rectangle.
+    Outline(BoxKind, Rectangle),
+    /// The beginning of a box of which three faces are seen.
+    BoxBegin(BoxKind),
+    /// The outline of such a box.
+    Silhouette(Block),
+    /// The three edges of such a box at its nearest corner.
+    NearEdges(Block),
+    /// The outline of a box that the tool fills at the end of a refused motion.
+    FaultBlock(Block),
     /// A part of the sheet, outside of which nothing that follows is visible.
     Window(Pane),
-    /// The travel limits, as a thin line.
-    ThinTravel(Rectangle),
     WindowEnd,
-    /// A fixture.
-    Fixture(Rectangle),
     /// The number of a fixture, which begins its label.
     FixtureNumber(Spot, usize),
     /// The name of a fixture or a tool, after its number.
     Name(Name),
     /// The end of a fixture's label.
     LabelEnd,
-    /// A fixture that a fault names.
-    FaultFixture(Rectangle),
-    /// A box that the tool fills at the end of a refused motion.
-    FaultTool(Rectangle),
     /// The beginning of the bodies of tools, drawn lightly.
     Bodies,
     /// The beginning of the boxes that the tool of this rank fills.
@@ -87,7 +102,7 @@ pub enum Shape {
     /// An arc of at most half a turn to a spot: its radius in micrometres, and whether it is seen
     /// to turn clockwise.
     Round(i64, bool, Spot),
-    /// The end of the path or of the bodies of a tool.
+    /// The end of the path, of a box or of the bodies of a tool.
     PathEnd,
     /// The end of the bodies.
     BodiesEnd,
@@ -98,6 +113,8 @@ pub enum Shape {
     Scale(Spot, u64),
     /// The text of the scale bar.
     ScaleLength(Spot, u64),
+    /// What the scale bar measures in a view.
+    ScaleNote(View, Spot),
     /// The legend, below a spot.
     Legend(Spot),
     /// The tool of a rank and a number.

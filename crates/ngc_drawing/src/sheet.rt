@@ -1,22 +1,29 @@
 //! The sheet that a picture needs.
-ghost use Rattle.std.specs.Prelude.{◌≡◌, ◌<◌, ◌+◌, ◌*◌, ◌⊎◌, ◌^◌, ◌+ℤ◌, ◌-ℤ◌, ◌*ℤ◌, pos, neg_ℤ};
+ghost use Rattle.std.specs.Prelude.{◌≡◌, ◌<◌, ◌+◌, ◌*◌, ◌⊎◌, ◌^◌, ◌+ℤ◌, ◌-ℤ◌, ◌*ℤ◌, pos, neg_ℤ, map};
 ghost use Rattle.std.specs.Prelude.{int_div, unsigned_abs};
 ghost use Rattle.std.specs.Int.{int_max};
 ghost use Rattle.ngc_machine_files.specs.Machine.{file_of};
-ghost use Rattle.ngc_drawing.specs.Sheets.{holding_all, with_way, with_action, with_commands};
+ghost use Rattle.ngc_drawing.specs.Sheets.{holding_all, with_way, with_both, with_action};
+ghost use Rattle.ngc_drawing.specs.Sheets.{with_commands};
 ghost use Rattle.ngc_drawing.specs.Sheets.{with_fixtures, bench, whole, at, work, is_far_longer, is_far_larger, is_between};
 ghost use Rattle.ngc_drawing.specs.Sheets.{width_of, height_of, frame, is_in, is_within, unit_of};
 ghost use Rattle.ngc_drawing.specs.Sheets.{sheet_width, sheet_height, enlarged, sheet, pane};
 ghost use Rattle.ngc_drawing.specs.Units.{IsUnit};
+ghost use Rattle.ngc_drawing.specs.Arcs.{spots_seen};
+ghost use Rattle.ngc_drawing.specs.Helices.{curve, helix_points};
+ghost use Rattle.ngc_drawing.specs.Views.{tip_spot};
 
 use crate::eye::Eye;
+use crate::helix::{halfway_along, halvings, middle};
 use crate::look::Look;
 use crate::shape::{Pane, Sheet};
 use crate::spot::{Rectangle, Spot};
 use crate::strokes::corner_spots;
 use crate::tools::mounted;
 use crate::view::View;
+use ngc_arc_geometry::Arc;
 use ngc_commands::{Action, Command, Way};
+use ngc_fixed_length::Point3;
 use ngc_machine_files::{Fixture, Machine};
 use std::alloc::Allocator;
 
@@ -37,15 +44,51 @@ fn holding_all(area: Rectangle, spots: &[Spot]) -> Rectangle
     all
 }
 
+/// Returns a rectangle that holds another one and the points of an arc after `from`, up to `to`,
+/// which are at most half a turn apart; the arc between them is halved `halvings` times.
+fn with_curve(
+    eye: &Eye,
+    area: Rectangle,
+    arc: &Arc,
+    halvings: u32,
+    from: &Point3,
+    to: &Point3,
+) -> Rectangle
+    ensures { result ≡ holding_all area
+        (map (tip_spot eye.now) (curve halvings arc.now from.now to.now)) }
+{
+    if halvings == 0 {
+        return area.holding(&eye.spot(to));
+    }
+    let between = halfway_along(arc, from, to);
+    let half = with_curve(eye, area, arc, halvings - 1, from, &between);
+    with_curve(eye, half, arc, halvings - 1, &between, to)
+}
+
+fn with_helix(eye: &Eye, area: Rectangle, arc: &Arc) -> Rectangle
+    ensures { result ≡ holding_all area (map (tip_spot eye.now) (helix_points arc.now)) }
+{
+    let halvings = halvings(arc.outer_radius());
+    let middle = middle(arc);
+    let half = with_curve(eye, area, arc, halvings, &arc.start(), &middle);
+    with_curve(eye, half, arc, halvings, &middle, &arc.end())
+}
+
+fn with_arc(eye: &Eye, area: Rectangle, arc: &Arc) -> Rectangle
+    ensures { result ≡ holding_all area (spots_seen eye.now.view eye.now arc.now) }
+{
+    match eye.view {
+        View::Iso => with_helix(eye, area, arc),
+        _ => holding_all(area, corner_spots(eye, arc).as_slice()),
+    }
+}
+
 fn with_way(eye: &Eye, area: Rectangle, way: &Way) -> Rectangle
     ensures { result ≡ with_way eye.now area way.now }
 {
     match way {
         Way::Line { start, end } => area.holding(&eye.spot(start)).holding(&eye.spot(end)),
-        Way::Arc(arc) => holding_all(
-            area.holding(&eye.spot(&arc.start())),
-            corner_spots(eye, arc).as_slice(),
-        ),
+        Way::Arc(arc) => with_arc(eye, area.holding(&eye.spot(&arc.start())), arc),
     }
 }
 
@@ -71,14 +114,19 @@ fn with_commands(view: View, area: Rectangle, commands: &[Command]) -> Rectangle
     all
 }
 
+/// Returns the smallest rectangle that holds two others.
+fn with_both(area: &Rectangle, other: &Rectangle) -> Rectangle
+    ensures { result ≡ with_both area.now other.now }
+{
+    area.holding(&other.low).holding(&other.high)
+}
+
 fn with_fixtures(view: View, area: Rectangle, fixtures: &[Fixture]) -> Rectangle
     ensures { result ≡ with_fixtures view area fixtures.now }
 {
     let mut all = area;
     for fixture in fixtures {
-        all = all
-            .holding(&view.spot(&fixture.low))
-            .holding(&view.spot(&fixture.high));
+        all = with_both(&all, &view.rectangle(&fixture.low, &fixture.high));
     }
     all
 }

@@ -2,15 +2,18 @@ ghost use Rattle.std.specs.Prelude.{◌≡◌, ◌+◌, ◌*◌, ◌<◌, ◌≤
 ghost use Rattle.std.specs.Prelude.{flat_map};
 ghost use Rattle.ngc_text.specs.Collected.{CHUNK_SIZE, HasLineRoom};
 ghost use Rattle.ngc_drawing.specs.Units.{IsUnit};
+ghost use Rattle.ngc_drawing.specs.declared.shape.BoxKind.TheVariants as kinds;
 ghost use Rattle.ngc_drawing.specs.declared.shape.Shape.TheVariants as shapes;
 ghost use Rattle.ngc_drawing.specs.Spelling.{decimals, size_text, length_text, down_text};
 ghost use Rattle.ngc_drawing.specs.Spelling.{spot_text, area_text, colour_text, ink_text, sign_at};
 ghost use Rattle.ngc_drawing.specs.Spelling.{axes_text, mark_text, turn_text, begin_text};
 ghost use Rattle.ngc_drawing.specs.Spelling.{system_text, window_text, scale_text, tool_text, shape_text};
-ghost use Rattle.ngc_drawing.specs.Spelling.{escaped, name_text};
+ghost use Rattle.ngc_drawing.specs.Spelling.{escaped, name_text, kind_text};
+ghost use Rattle.ngc_drawing.specs.Spelling.{silhouette_text, near_edges_text};
+ghost use Rattle.ngc_drawing.specs.Spelling.{arrows_text, scale_note_text};
 
-use crate::shape::{Ink, Mark, Pane, Shape, Sheet};
-use crate::spot::{Rectangle, Spot};
+use crate::shape::{BoxKind, Ink, Mark, Pane, Shape, Sheet};
+use crate::spot::{Block, Rectangle, Spot};
 use crate::view::View;
 use ngc_machine_files::Name;
 use ngc_text::Chunk;
@@ -106,6 +109,71 @@ fn add_area(chunk: &mut Chunk, area: &Rectangle)
     chunk.add_text(b"Z");
 }
 
+#[tactic(auto, unfolding(crate::specs::Spelling::kind_text))]
+fn beginning(kind: BoxKind) -> &'static [u8]
+    ensures text { result.now ≡ kind_text kind }
+    ensures short { length result.now ≤ 60 }
+{
+    match kind {
+        BoxKind::Travel => b"<path d=\"",
+        BoxKind::ThinTravel => b"<path stroke-width=\".1%\" d=\"",
+        BoxKind::Fixture => b"<path fill=\"#808080\" fill-opacity=\".3\" d=\"",
+        BoxKind::FaultFixture => {
+            b"<path stroke=\"#E60000\" fill=\"#E60000\" fill-opacity=\".3\" d=\""
+        }
+        BoxKind::FaultTool => b"<path stroke=\"#E60000\" d=\"",
+    }
+}
+
+/// Adds the outline of a box in the isometric view.
+fn add_silhouette(chunk: &mut Chunk, block: &Block)
+    requires { length chunk.old + 462 ≤ CHUNK_SIZE }
+    ensures text { chunk.new ≡ chunk.old ++ silhouette_text block.now }
+    ensures short { length chunk.new ≤ length chunk.old + 462 }
+{
+    chunk.add_text(b"\nM");
+    add_spot(chunk, &block.near);
+    chunk.add_text(b"L");
+    add_spot(chunk, &block.right);
+    chunk.add_text(b"V");
+    add_down(chunk, block.right_top.up);
+    chunk.add_text(b"L");
+    add_spot(chunk, &block.far_top);
+    chunk.add_text(b"L");
+    add_spot(chunk, &block.left_top);
+    chunk.add_text(b"V");
+    add_down(chunk, block.left.up);
+    chunk.add_text(b"Z");
+}
+
+/// Adds its edges at the nearest corner.
+fn add_near_edges(chunk: &mut Chunk, block: &Block)
+    requires { HasLineRoom chunk.old }
+    ensures { chunk.new ≡ chunk.old ++ near_edges_text block.now }
+{
+    chunk.add_text(b"\nM");
+    add_spot(chunk, &block.left_top);
+    chunk.add_text(b"L");
+    add_spot(chunk, &block.near_top);
+    chunk.add_text(b"L");
+    add_spot(chunk, &block.right_top);
+    chunk.add_text(b"M");
+    add_spot(chunk, &block.near_top);
+    chunk.add_text(b"V");
+    add_down(chunk, block.near.up);
+}
+
+/// Adds the outline of a box that the tool fills at the end of a refused motion.
+fn add_fault_block(chunk: &mut Chunk, block: &Block)
+    requires { HasLineRoom chunk.old }
+    ensures { chunk.new ≡ chunk.old
+        ++ (kind_text kinds.FaultTool ++ silhouette_text block.now ++ codes "\"/>\n") }
+{
+    chunk.add_text(b"<path stroke=\"#E60000\" d=\"");
+    add_silhouette(chunk, block);
+    chunk.add_text(b"\"/>\n");
+}
+
 #[tactic(auto, unfolding(crate::specs::Spelling::colour_text))]
 fn colour(rank: usize) -> &'static [u8]
     ensures text { result.now ≡ colour_text rank }
@@ -157,12 +225,27 @@ fn begin_sign(chunk: &mut Chunk, unit: i64, at: &Spot)
 #[tactic(auto, unfolding(crate::specs::Spelling::axes_text))]
 fn axes(view: View) -> &'static [u8]
     ensures text { result.now ≡ axes_text view }
-    ensures short { length result.now ≤ 70 }
+    ensures short { length result.now ≤ 110 }
 {
     match view {
         View::Top => b"X</text><text x=\"-7.2\" y=\"-3.7\" fill=\"#808080\" stroke=\"none\">Y",
         View::Front => b"X</text><text x=\"-7.2\" y=\"-3.7\" fill=\"#808080\" stroke=\"none\">Z",
         View::Side => b"Y</text><text x=\"-7.2\" y=\"-3.7\" fill=\"#808080\" stroke=\"none\">Z",
+        View::Iso =>
+            b"<tspan x=\"-2\" y=\".9\">X</tspan><tspan x=\"-7.4\" y=\".9\">Y</tspan><tspan x=\"-4.7\" y=\"-1.7\">Z</tspan>",
+    }
+}
+
+#[tactic(auto, unfolding(crate::specs::Spelling::arrows_text))]
+fn arrows(view: View) -> &'static [u8]
+    ensures text { result.now ≡ arrows_text view }
+    ensures short { length result.now ≤ 160 }
+{
+    match view {
+        View::Iso =>
+            b"<path d=\"M-7 1.5L-4 3L-1 1.5M-4 3V-1M-4.6 .4L-4 -1L-3.4 .4M-2.5 1.6L-1 1.5L-2 2.7M-5.5 1.6L-7 1.5L-6 2.7\"/><text fill=\"#808080\" stroke=\"none\">",
+        _ =>
+            b"<path d=\"M-6.5 -3V3H-1M-7.1 -1.6L-6.5 -3L-5.9 -1.6M-2.4 2.4L-1 3L-2.4 3.6\"/><text x=\"-.5\" y=\"3.7\" fill=\"#808080\" stroke=\"none\">",
     }
 }
 
@@ -183,9 +266,9 @@ fn add_system(chunk: &mut Chunk, system: usize)
 
 #[tactic(auto, unfolding(crate::specs::Spelling::mark_text))]
 fn add_mark(chunk: &mut Chunk, mark: &Mark)
-    requires { length chunk.old + 220 ≤ CHUNK_SIZE }
+    requires { length chunk.old + 300 ≤ CHUNK_SIZE }
     ensures text { chunk.new ≡ chunk.old ++ mark_text mark.now }
-    ensures short { length chunk.new ≤ length chunk.old + 220 }
+    ensures short { length chunk.new ≤ length chunk.old + 300 }
 {
     match mark {
         Mark::Start => chunk.add_text(
@@ -206,9 +289,7 @@ fn add_mark(chunk: &mut Chunk, mark: &Mark)
         }
         Mark::Hole => chunk.add_text(b"<circle r=\".6\"/><path d=\"M-1 0H1M0 -1V1\"/>"),
         Mark::Axes(view) => {
-            chunk.add_text(
-                b"<path d=\"M-6.5 -3V3H-1M-7.1 -1.6L-6.5 -3L-5.9 -1.6M-2.4 2.4L-1 3L-2.4 3.6\"/><text x=\"-.5\" y=\"3.7\" fill=\"#808080\" stroke=\"none\">",
-            );
+            chunk.add_text(arrows(*view));
             chunk.add_text(axes(*view));
             chunk.add_text(b"</text>");
         }
@@ -267,13 +348,12 @@ fn add_window(chunk: &mut Chunk, pane: &Pane)
     chunk.add_text(b"\">\n");
 }
 
-/// Adds an outline after the beginning of its element.
-fn add_outline(chunk: &mut Chunk, beginning: &[u8], area: &Rectangle)
-    requires room { HasLineRoom chunk.old }
-    requires beginning { length beginning.now ≤ 100 }
-    ensures { chunk.new ≡ chunk.old ++ (beginning.now ++ area_text area.now ++ codes "\"/>\n") }
+/// Adds a box as a rectangle.
+fn add_outline(chunk: &mut Chunk, kind: BoxKind, area: &Rectangle)
+    requires { HasLineRoom chunk.old }
+    ensures { chunk.new ≡ chunk.old ++ (kind_text kind ++ area_text area.now ++ codes "\"/>\n") }
 {
-    chunk.add_text(beginning);
+    chunk.add_text(beginning(kind));
     add_area(chunk, area);
     chunk.add_text(b"\"/>\n");
 }
@@ -378,6 +458,30 @@ fn add_scale_length(chunk: &mut Chunk, unit: i64, at: &Spot, bar: u64)
     chunk.add_number(bar / 1_000);
     chunk.add_text(b" mm</text>");
     chunk.add_text(b"</g>\n");
+}
+
+fn add_isometric_note(chunk: &mut Chunk, unit: i64, at: &Spot)
+    requires { HasLineRoom chunk.old }
+    ensures { chunk.new ≡ chunk.old ++ sign_at unit at.now
+        (codes "<text x=\"27\" y=\"6\" fill=\"#808080\" stroke=\"none\">X, Y: measured across; Z: upwards</text>") }
+{
+    begin_sign(chunk, unit, at);
+    chunk.add_text(
+        b"<text x=\"27\" y=\"6\" fill=\"#808080\" stroke=\"none\">X, Y: measured across; Z: upwards</text>",
+    );
+    chunk.add_text(b"</g>\n");
+}
+
+/// Adds what the scale bar measures in the isometric view.
+#[tactic(auto, unfolding(crate::specs::Spelling::scale_note_text))]
+fn add_scale_note(chunk: &mut Chunk, unit: i64, view: View, at: &Spot)
+    requires { HasLineRoom chunk.old }
+    ensures { chunk.new ≡ chunk.old ++ scale_note_text unit view at.now }
+{
+    match view {
+        View::Iso => add_isometric_note(chunk, unit, at),
+        _ => {}
+    }
 }
 
 fn add_legend(chunk: &mut Chunk, unit: i64, at: &Spot)
@@ -496,31 +600,20 @@ pub(crate) fn add_shape(chunk: &mut Chunk, unit: i64, shape: &Shape)
         Shape::Lines => chunk.add_text(
             b"<g fill=\"none\" stroke=\"#808080\" stroke-width=\".15%\" stroke-linecap=\"round\" stroke-linejoin=\"round\" font-family=\"sans-serif\" font-size=\"2\">\n",
         ),
-        Shape::Travel(area) => add_outline(chunk, b"<path d=\"", area),
+        Shape::Outline(kind, area) => add_outline(chunk, *kind, area),
+        Shape::BoxBegin(kind) => chunk.add_text(beginning(*kind)),
+        Shape::Silhouette(block) => add_silhouette(chunk, block),
+        Shape::NearEdges(block) => add_near_edges(chunk, block),
+        Shape::FaultBlock(block) => add_fault_block(chunk, block),
         Shape::Window(pane) => add_window(chunk, pane),
-        Shape::ThinTravel(area) => add_outline(chunk, b"<path stroke-width=\".1%\" d=\"", area),
         Shape::WindowEnd => chunk.add_text(b"</svg>\n"),
-        Shape::Fixture(area) => {
-            add_outline(
-                chunk,
-                b"<path fill=\"#808080\" fill-opacity=\".3\" d=\"",
-                area,
-            );
-        }
-        Shape::FaultFixture(area) => {
-            add_outline(
-                chunk,
-                b"<path stroke=\"#E60000\" fill=\"#E60000\" fill-opacity=\".3\" d=\"",
-                area,
-            );
-        }
-        Shape::FaultTool(area) => add_outline(chunk, b"<path stroke=\"#E60000\" d=\"", area),
         Shape::FixtureNumber(at, number) => add_fixture_number(chunk, unit, at, *number),
         Shape::Name(name) => add_name(chunk, name),
         Shape::LabelEnd => chunk.add_text(b"</text></g>\n"),
         Shape::FaultNumber(at, fault) => add_fault_number(chunk, unit, at, *fault),
         Shape::Mark(mark, at) => add_marked(chunk, unit, mark, at),
         Shape::ScaleLength(at, bar) => add_scale_length(chunk, unit, at, *bar),
+        Shape::ScaleNote(view, at) => add_scale_note(chunk, unit, *view, at),
         Shape::Bodies => chunk.add_text(b"<g stroke=\"none\" opacity=\".2\">\n"),
         Shape::BodiesOf(rank) => add_bodies_of(chunk, *rank),
         Shape::Body(area) => add_body(chunk, area),

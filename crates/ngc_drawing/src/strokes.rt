@@ -2,11 +2,13 @@
 ghost use Rattle.std.specs.Prelude.{◌≡◌, ◌≤◌, ◌++◌, length, map};
 ghost use Rattle.ngc_text.specs.Failures.{CountsFailure};
 ghost use Rattle.ngc_commands.specs.Movement.{start_of};
+ghost use Rattle.ngc_commands.specs.declared.movement.Way.TheVariants.{Line};
 ghost use Rattle.ngc_drawing.specs.declared.shape.Shape.TheVariants as drawn;
 ghost use Rattle.ngc_drawing.specs.Arcs.{corner_spots};
 ghost use Rattle.ngc_drawing.specs.Draws.{Draws};
 ghost use Rattle.ngc_drawing.specs.Helices.{curve, helix_points};
 ghost use Rattle.ngc_drawing.specs.Strokes.{lead, is_seen_clockwise, round, is_flat, line_to};
+ghost use Rattle.ngc_drawing.specs.Strokes.{is_seen_as_line};
 ghost use Rattle.ngc_drawing.specs.Strokes.{arc_course, course, stroke, strokes_of};
 
 use crate::drawer::draw_all;
@@ -68,6 +70,16 @@ fn is_flat(arc: &Arc) -> bool
 {
     let plane = arc.plane();
     arc.start().height(plane) == arc.end().height(plane)
+}
+
+/// Returns whether an arc is seen as a line, in a view that doesn't face its plane.
+fn is_seen_as_line(view: View, arc: &Arc) -> bool
+    ensures { result ≡ is_seen_as_line view arc.now }
+{
+    match view {
+        View::Iso => false,
+        _ => is_flat(arc),
+    }
 }
 
 /// Returns the shapes of an arc in quarters.
@@ -156,11 +168,23 @@ fn draw_arc<W: Sink>(
 {
     if eye.view.faces(arc.plane()) {
         draw_all(chunk, unit, rounds(eye, arc).as_slice(), sink)
-    } else if is_flat(arc) {
+    } else if is_seen_as_line(eye.view, arc) {
         draw_all(chunk, unit, corners(eye, arc).as_slice(), sink)
     } else {
         draw_helix(chunk, unit, eye, arc, sink)
     }
+}
+
+/// Returns the line of a straight motion. A line within one spot is left out.
+fn straight(eye: &Eye, start: &Point3, end: &Point3) -> ArrayVec<Shape, 2>
+    ensures { result.items ≡ course eye.now (Line start.now end.now) }
+{
+    let to = eye.spot(end);
+    let mut shapes = ArrayVec::new();
+    if !eye.spot(start).is_same(&to) {
+        shapes.push(Shape::Line(to));
+    }
+    shapes
 }
 
 fn draw_course<W: Sink>(
@@ -176,12 +200,7 @@ fn draw_course<W: Sink>(
 {
     match way {
         Way::Line { start, end } => {
-            let to = eye.spot(end);
-            if eye.spot(start).is_same(&to) {
-                Ok(())
-            } else {
-                draw_all(chunk, unit, &[Shape::Line(to)], sink)
-            }
+            draw_all(chunk, unit, straight(eye, start, end).as_slice(), sink)
         }
         Way::Arc(arc) => draw_arc(chunk, unit, eye, arc, sink),
     }

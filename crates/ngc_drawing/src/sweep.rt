@@ -63,6 +63,7 @@ fn are_seen_alike(view: View, a: &GridBox, b: &GridBox) -> bool
         View::Top => is_same_x(a, b) && is_same_y(a, b),
         View::Front => is_same_x(a, b) && is_same_z(a, b),
         View::Side => is_same_y(a, b) && is_same_z(a, b),
+        View::Iso => is_same_x(a, b) && is_same_y(a, b) && is_same_z(a, b),
     }
 }
 

@@ -1,9 +1,8 @@
 use Rattle.std.proofs.Common.{◌≡◌, ◌++◌, take, map}
 use Rattle.ngc_collision.specs.Inside.{solid_of}
-use Rattle.ngc_drawing.specs.Views.{rectangle}
-use Rattle.ngc_drawing.specs.declared.shape.Shape.TheVariants as drawn
+use Rattle.ngc_drawing.specs.Bodies.{body}
 use Rattle.ngc_drawing.proofs.bodies.add_filled.Given as goal
 
 abbrev pub invariant-loop-solid : goal.invariant-loop-solid
 invariant-loop-solid g l =
-    l.shapes.items ≡ l.initial.shapes.items ++ map (λ s. drawn.Body (rectangle l.fn.view (solid_of s).low (solid_of s).high)) (take l.solid-index l.solid-items)
+    l.shapes.items ≡ l.initial.shapes.items ++ map (λ s. body l.fn.view (solid_of s).low (solid_of s).high) (take l.solid-index l.solid-items)

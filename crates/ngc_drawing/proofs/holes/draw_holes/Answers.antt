@@ -1,7 +1,7 @@
 use Rattle.std.proofs.Common.{◌+◌, List, drop, rules, subst, sym}
 use Rattle.std.proofs.lemmas.List.{at_drop_all}
 use Rattle.ngc_drawing.specs.Draws.{Draws}
-use Rattle.ngc_drawing.specs.Holes.{drilled, ended, hole, holes, holes_from}
+use Rattle.ngc_drawing.specs.Holes.{drilled, ended, holes, holes_from}
 use Rattle.ngc_drawing.specs.declared.shape.Shape.{Shape}
 use Rattle.ngc_drawing.proofs.Ahead.{went, stopped, last}
 use Rattle.ngc_drawing.proofs.Steps.{next_drilled}

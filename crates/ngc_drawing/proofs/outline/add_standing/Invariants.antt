@@ -1,9 +1,8 @@
 use Rattle.std.proofs.Common.{◌≡◌, ◌++◌, take, map}
 use Rattle.ngc_collision.specs.Inside.{solid_of}
-use Rattle.ngc_drawing.specs.Views.{rectangle}
-use Rattle.ngc_drawing.specs.declared.shape.Shape.TheVariants as drawn
+use Rattle.ngc_drawing.specs.Pictures.{tool_box}
 use Rattle.ngc_drawing.proofs.outline.add_standing.Given as goal
 
 abbrev pub invariant-loop-solid : goal.invariant-loop-solid
 invariant-loop-solid g l =
-    l.shapes.items ≡ l.initial.shapes.items ++ map (λ s. drawn.FaultTool (rectangle l.fn.view (solid_of s).low (solid_of s).high)) (take l.solid-index l.solid-items)
+    l.shapes.items ≡ l.initial.shapes.items ++ map (λ s. tool_box l.fn.view (solid_of s).low (solid_of s).high) (take l.solid-index l.solid-items)

@@ -12,7 +12,7 @@ returns-in-Err-clause-drawn g c =
     (g.W.Sink.written c.draw_all.new.sink) c.args.chunk.now c.loop-i.chunk
     (fixture c.args.view c.loop-i.i c.index-fixtures-i.result) (fixtures_from c.args.view (c.loop-i.i + 1) (drop (c.loop-i.i + 1) fs))
     (fixtures_from c.args.view c.loop-i.i (drop c.loop-i.i fs)) (fixtures_from c.args.view 0 fs)
-    step c.loop-i.invariant.ahead (rw (c.rectangle.ensures, c.spot.ensures) at c.in-Err.ensures.drawn)
+    step c.loop-i.invariant.ahead (rw (c.as_slice.ensures.value, c.fixture-shapes.ensures) at c.in-Err.ensures.drawn)
 
 pub loop-i-preserved : goal.loop-i-preserved
 loop-i-preserved g c =
@@ -24,6 +24,6 @@ loop-i-preserved g c =
           (g.W.Sink.written c.draw_all.new.sink) c.args.chunk.now c.loop-i.chunk c.draw_all.new.chunk
           (fixture c.args.view c.loop-i.i c.index-fixtures-i.result) (fixtures_from c.args.view (c.loop-i.i + 1) (drop (c.loop-i.i + 1) fs))
           (fixtures_from c.args.view c.loop-i.i (drop c.loop-i.i fs)) (fixtures_from c.args.view 0 fs)
-          step c.loop-i.invariant.ahead (rw (c.rectangle.ensures, c.spot.ensures) at c.in-Ok.ensures.drawn);
+          step c.loop-i.invariant.ahead (rw (c.as_slice.ensures.value, c.fixture-shapes.ensures) at c.in-Ok.ensures.drawn);
       failures = search rules;
     }

@@ -5,7 +5,7 @@ use Rattle.ngc_drawing.proofs.spelling.add_mark.Goals as goal
 pub returns-in-Axes-clause-text : goal.returns-in-Axes-clause-text
 unfolding mark_text
 returns-in-Axes-clause-text c =
-    rw (c.in-Axes.is, c.add_text-in-Axes-3.ensures, c.add_text-in-Axes-2.ensures, c.axes.ensures.text, c.add_text-in-Axes.ensures) (simp append_assoc)
+    rw (c.in-Axes.is, c.add_text-in-Axes-3.ensures, c.add_text-in-Axes-2.ensures, c.axes.ensures.text, c.add_text-in-Axes.ensures, c.arrows.ensures.text) (simp append_assoc)
 
 pub returns-in-Origin-clause-text : goal.returns-in-Origin-clause-text
 unfolding mark_text

@@ -1,4 +1,4 @@
-use Rattle.std.proofs.Common.{◌≡◌, ◌<◌, ◌≤◌, ◌∷◌, [], ◌++◌, length, arith, refl, ap, ◌∙◌, lit<}
+use Rattle.std.proofs.Common.{◌≡◌, ◌<◌, ◌≤◌, length, arith, refl, ap, ◌∙◌, lit<}
 use Rattle.ngc_fixed_length.specs.Places.{at_height, height}
 use Rattle.ngc_arc_geometry.specs.Sector.{extremes}
 use Rattle.ngc_drawing.specs.Arcs.{extreme_point}

@@ -2,7 +2,6 @@ use Rattle.std.proofs.Common.{◌≡◌, ◌<◌, ◌≤◌, length, get_or, pos
 use Rattle.std.specs.Int.{w64}
 use Rattle.std.proofs.lemmas.Int.{ints}
 use Rattle.ngc_arc_geometry.specs.Radii.{outer_radius}
-use Rattle.ngc_drawing.specs.Arcs.{corner_spots}
 use Rattle.ngc_drawing.specs.Strokes.{round, is_seen_clockwise}
 use Rattle.ngc_drawing.specs.Views.{micrometres}
 use Rattle.ngc_drawing.specs.declared.shape.Shape.TheVariants as shapes
