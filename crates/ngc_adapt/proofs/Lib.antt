@@ -20,6 +20,8 @@ pub mod WordLaws
 pub mod EndLaws
 -- The words that a rule may change.
 pub mod RuleLaws
+-- The first byte of a kind in a text, and the bytes in front of it.
+mod FirstByte
 -- The lines of a text.
 pub mod SourceLaws
 -- The end of a value, for any text that follows.
@@ -32,5 +34,9 @@ pub mod ReadLaws
 pub mod ReportLaws
 -- Values that have no blank in front of a character.
 pub mod OnePiece
+-- Values that are numbers in one piece.
+pub mod PlainNumbers
+-- The words of a line that is split.
+pub mod ReadItems
 -- Lines that are plain.
 pub mod PlainLaws

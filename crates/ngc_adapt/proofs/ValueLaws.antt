@@ -181,7 +181,7 @@ none_filtered q p (x ∷ v) h =
     let parts = or_parts (q x) (list_any q v) h in
     filter_if (p x) q x (filter p v) parts.0 (none_filtered q p v parts.1)
 
-none_dropped : (q : ℕ → Bool) (n : ℕ) (v : List ℕ) → list_any q v ≡ false → list_any q (drop n v) ≡ false
+pub none_dropped : (q : ℕ → Bool) (n : ℕ) (v : List ℕ) → list_any q v ≡ false → list_any q (drop n v) ≡ false
 none_dropped q zero v h = h
 none_dropped q (suc n) [] h = refl
 none_dropped q (suc n) (x ∷ v) h = none_dropped q n v (or_parts (q x) (list_any q v) h).1

@@ -149,3 +149,17 @@ words_unless unread words = if unread || nat_lt 64 (length words) then None else
 -- the words of a line that can be read as a whole, if there are at most 64
 abbrev pub words_of : List ℕ → Option (List Word)
 words_of line = words_unless (has_unread line) (words_in line)
+
+-- a letter begins an item; if its line can be read, the item is a word
+abbrev pub begins_word : List ℕ → Bool
+begins_word [] = false
+begins_word (b ∷ rest) = is_letter b
+
+-- the first of these words, if the item in front is one, and those after it
+abbrev pub first_word : Bool → List Word → Option Word
+first_word there [] = None
+first_word there (w ∷ words) = if there then Some w else None
+
+abbrev pub after_word : Bool → List Word → List Word
+after_word there [] = []
+after_word there (w ∷ words) = if there then words else w ∷ words

@@ -109,6 +109,10 @@ in_one_piece value =
 abbrev pub facts_if_number : List ℕ → Option Number
 facts_if_number text = if is_number text then Some (facts_of text) else None
 
+-- the facts about a value that is a number in one piece
+abbrev pub plain_number : List ℕ → Option Number
+plain_number value = option_and_then facts_if_number (in_one_piece value)
+
 abbrev pub has_byte : ℕ → List ℕ → Bool
 has_byte byte bytes = list_any (λ b. b == byte) bytes
 

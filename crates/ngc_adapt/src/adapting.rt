@@ -6,7 +6,7 @@ ghost use Rattle.ngc_adapt.specs.Lines.{rewritten, rules_among};
 ghost use Rattle.ngc_adapt.specs.Reports.{items_report, line_report};
 ghost use Rattle.ngc_adapt.specs.Rules.{is_first_traverse};
 
-use crate::item::{Word, read_words, split_item};
+use crate::item::{Word, read_words_into, split_read};
 use crate::line::{
     MOST_REFUSALS, MOST_RULES, add_item, add_traverse, ends_program, modes_after, refusals_among,
     rule_and_axis, rules_among,
@@ -40,6 +40,7 @@ fn one_refusal(refusal: WordRefusal) -> ArrayVec<WordRefusal, MOST_REFUSALS>
 }
 
 // Rewrites a line with these words item by item, and adds a line of the report for each change.
+#[tactic(auto, using(crate::proofs::ReadItems::can_be_read, crate::proofs::ReadItems::words_found))]
 fn add_items<A: Allocator>(
     number: usize,
     written: usize,
@@ -49,6 +50,7 @@ fn add_items<A: Allocator>(
     out: &mut Vec<u8, A>,
     report: &mut Vec<u8, A>,
 ) -> Result<(), AllocError>
+    requires { words_of line.now ≡ Some words.now }
     ensures out { IfOk result
         (λ _. out.new.items ≡ out.old.items ++ rewritten modes.now words.now line.now) }
     ensures report { IfOk result (λ _. report.new.items ≡ report.old.items
@@ -57,15 +59,18 @@ fn add_items<A: Allocator>(
 {
     let mut unnamed = modes.is_first_traverse(words);
     let mut rest = line;
+    let mut left = words;
     while !rest.is_empty() {
-        let (item, others) = split_item(rest);
-        let (rule, moves) = rule_and_axis(modes, words, item);
+        let next = split_read(rest, left);
+        let item = next.item;
+        let (rule, moves) = rule_and_axis(modes, words, &next.word);
         add_traverse(unnamed && moves, out)?;
         add_traverse_change(number, written, unnamed && moves, report)?;
         add_item(modes, words, item, rule, out)?;
         add_item_change(number, written, modes, words, item, rule, report)?;
         unnamed = unnamed && !moves;
-        rest = others;
+        rest = next.rest;
+        left = next.words;
     }
     Ok(())
 }
@@ -125,7 +130,8 @@ pub fn adapt_line<A: Allocator>(
     ensures copied { IfOk result
         (λ r. r.rules.items ≡ [] → out.new.items ≡ out.old.items ++ line.now) }
 {
-    let Some(words) = read_words(line) else {
+    let mut words = ArrayVec::new();
+    if !read_words_into(line, &mut words) {
         let refusal = unread_refusal(line);
         out.extend_from_slice(line)?;
         add_refusal(number, refusal, report)?;
@@ -135,7 +141,7 @@ pub fn adapt_line<A: Allocator>(
             modes: modes.lost(modes.altered),
             is_end: false,
         });
-    };
+    }
     let words = words.as_slice();
     let rules = rules_among(modes, words);
     let refusals = refusals_among(modes, words);

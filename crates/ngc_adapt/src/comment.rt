@@ -6,20 +6,17 @@ ghost use Rattle.ngc_adapt.specs.Comments as spec;
 
 use crate::item::{comment_length, is_in_comment};
 use crate::number::{begins, has_byte};
+use memchr::memchr2;
 use std::alloc::{AllocError, Allocator};
 
-fn is_before_comment(byte: u8) -> bool
-    ensures { result ≡ spec.is_before_comment byte }
-{
-    byte != b'(' && byte != b';'
-}
-
-#[tactic(auto, using(crate::proofs::Digits::counted))]
 pub(crate) fn code_length(line: &[u8]) -> usize
     ensures count { result ≡ spec.code_length line.now }
     ensures within { result ≤ length line.now }
 {
-    line.iter().take_while(|b| is_before_comment(**b)).count()
+    match memchr2(b'(', b';', line) {
+        Some(count) => count,
+        None => line.len(),
+    }
 }
 
 // Returns what is in front of the first comment.

@@ -4,10 +4,11 @@ ghost use Rattle.ngc_adapt.specs.Facts as spec;
 ghost use Rattle.ngc_adapt.specs.Items.{words_of};
 
 use crate::code;
-use crate::item::{Letter, Word, read_words};
+use crate::item::{Letter, MOST_WORDS, Word, read_words_into};
 use crate::number::{begins, blank_length};
 use crate::rule::{has_m, has_p};
 use crate::source::{body_length, split_line};
+use arrayvec::ArrayVec;
 
 /// The levels of block delete in a program.
 #[derive(Clone, Copy, PartialEq, Eq)]
@@ -159,13 +160,14 @@ impl Facts {
         }
     }
 
-    // Returns the facts after a line, which is passed without its end.
-    fn after(&self, body: &[u8]) -> Facts
+    // Returns the facts after a line, which is passed without its end. `words` holds the words of a
+    // line that can be read, in place of those that it held before.
+    fn after(&self, body: &[u8], words: &mut ArrayVec<Word, MOST_WORDS>) -> Facts
         ensures { result ≡ spec.facts_by self.now
             (spec.levels_after self.now.levels (spec.level_of body.now)) (words_of body.now) }
     {
         let levels = self.levels.after(level_of(body));
-        let Some(words) = read_words(body) else {
+        if !read_words_into(body, words) {
             return Facts {
                 turns_a: true,
                 turns_b: true,
@@ -173,7 +175,7 @@ impl Facts {
                 jumps: true,
                 levels,
             };
-        };
+        }
         let words = words.as_slice();
         Facts {
             turns_a: self.turns_a || has_turn_a(words),
@@ -189,10 +191,12 @@ impl Facts {
         ensures { result ≡ facts_of text.now }
     {
         let mut facts = Facts::none();
+        // One list serves all lines, since making a list takes longer than reading a line.
+        let mut words = ArrayVec::new();
         let mut rest = text;
         while !rest.is_empty() {
             let (line, others) = split_line(rest);
-            facts = facts.after(line.split_at(body_length(line)).0);
+            facts = facts.after(line.split_at(body_length(line)).0, &mut words);
             rest = others;
         }
         facts

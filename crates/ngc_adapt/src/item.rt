@@ -1,4 +1,4 @@
-ghost use Rattle.std.specs.Prelude.{◌≡◌, ◌+◌, ◌≤◌, ◌<◌, ◌∷◌, length};
+ghost use Rattle.std.specs.Prelude.{◌≡◌, ◌+◌, ◌≤◌, ◌<◌, ◌∷◌, length, Some, None, false, if◌then◌else◌};
 ghost use Rattle.std.specs.List.{prefix_len};
 ghost use Rattle.std.specs.Option.{option_map};
 ghost use Rattle.ngc_adapt.specs.Items as spec;
@@ -309,27 +309,102 @@ pub fn split_item(line: &[u8]) -> (&[u8], &[u8])
     line.split_at(item_length(line))
 }
 
-/// Reads the words of a line, if it can be read as a whole and has at most 64.
-pub fn read_words(line: &[u8]) -> Option<ArrayVec<Word, MOST_WORDS>>
-    ensures { option_map (λ words. words.items) result ≡ spec.words_of line.now }
+// Returns whether a letter begins an item. If its line can be read, the item is a word.
+fn begins_word(item: &[u8]) -> bool
+    ensures { result ≡ spec.begins_word item.now }
 {
-    let mut words = ArrayVec::new();
+    match item {
+        [first, ..] => is_letter(*first),
+        [] => false,
+    }
+}
+
+/// The first item of a line whose words are known, and what follows it.
+#[derive(Clone, Copy)]
+pub struct ReadItem<'a> {
+    /// The bytes of the item, with the blanks after it.
+    pub item: &'a [u8],
+    /// The item as a word, if it is one.
+    pub word: Option<Word>,
+    /// What follows the item.
+    pub rest: &'a [u8],
+    /// The words of what follows the item.
+    pub words: &'a [Word],
+}
+
+/// Splits a line that can be read and has these words into its first item and what follows it,
+/// without reading a word again.
+pub fn split_read<'a>(line: &'a [u8], words: &'a [Word]) -> ReadItem<'a>
+    requires some { 0 < length line.now }
+    requires read { spec.has_unread line.now ≡ false }
+    requires words { spec.words_in line.now ≡ words.now }
+    ensures items { spec.items_of line.now ≡ result.item.now ∷ spec.items_of result.rest.now }
+    ensures shorter { length result.rest.now < length line.now }
+    ensures word { result.word ≡ spec.word_in (spec.item_of result.item.now) }
+    ensures read { spec.has_unread result.rest.now ≡ false }
+    ensures words { spec.words_in result.rest.now ≡ result.words.now }
+{
+    let (item, rest) = split_item(line);
+    let (word, words) = first_word(begins_word(item), words);
+    ReadItem {
+        item,
+        word,
+        rest,
+        words,
+    }
+}
+
+// Returns the first of these words and those after it, or none and all of them.
+fn first_word(is_there: bool, words: &[Word]) -> (Option<Word>, &[Word])
+    ensures word { result.0 ≡ spec.first_word is_there words.now }
+    ensures rest { result.1.now ≡ spec.after_word is_there words.now }
+{
+    match words {
+        [first, rest @ ..] => {
+            if is_there {
+                (Some(*first), rest)
+            } else {
+                (None, words)
+            }
+        }
+        [] => (None, words),
+    }
+}
+
+/// Reads the words of a line into `words`, in place of those that it holds, and returns whether the
+/// line can be read as a whole and has at most 64. Of any other line `words` holds the first ones.
+pub fn read_words_into(line: &[u8], words: &mut ArrayVec<Word, MOST_WORDS>) -> bool
+    ensures { (if result then Some words.new.items else None) ≡ spec.words_of line.now }
+{
+    words.clear();
     let mut rest = line;
     while !rest.is_empty() {
         let (item, others) = split_item(rest);
         match item_of(item) {
             Item::Word(word) => {
                 if words.is_full() {
-                    return None;
+                    return false;
                 }
                 words.push(word);
             }
-            Item::Unread => return None,
+            Item::Unread => return false,
             Item::Mark => {}
             Item::Comment => {}
             Item::Setting => {}
         }
         rest = others;
     }
-    Some(words)
+    true
+}
+
+/// Reads the words of a line, if it can be read as a whole and has at most 64.
+pub fn read_words(line: &[u8]) -> Option<ArrayVec<Word, MOST_WORDS>>
+    ensures { option_map (λ words. words.items) result ≡ spec.words_of line.now }
+{
+    let mut words = ArrayVec::new();
+    if read_words_into(line, &mut words) {
+        Some(words)
+    } else {
+        None
+    }
 }

@@ -25,7 +25,8 @@ pub use change::Change;
 pub use dialect::Dialect;
 pub use facts::{Facts, Levels};
 pub use item::{
-    Item, Letter, MOST_WORDS, Word, item_of, may_be_deleted, read_words, split_item, upper,
+    Item, Letter, MOST_WORDS, ReadItem, Word, item_of, may_be_deleted, read_words, read_words_into,
+    split_item, split_read, upper,
 };
 pub use line::{MOST_REFUSALS, MOST_RULES};
 pub use number::{

@@ -1,13 +1,13 @@
-ghost use Rattle.std.specs.Prelude.{◌≡◌, ◌≤◌, ◌++◌, ◌&&◌, not, length, IfOk, if◌then◌else◌};
+ghost use Rattle.std.specs.Prelude.{◌≡◌, ◌≤◌, ◌++◌, ◌&&◌, not, length, IfOk, option_and_then, if◌then◌else◌};
 ghost use Rattle.std.specs.List.{list_any, filter_map};
 ghost use Rattle.ngc_adapt.specs.Items.{may_be_deleted};
 ghost use Rattle.ngc_adapt.specs.Lines.{rules_among, item_rule, item_front, item_written};
-ghost use Rattle.ngc_adapt.specs.Lines.{is_axis_item, traverse, traverse_rule, is_end_word};
+ghost use Rattle.ngc_adapt.specs.Lines.{is_axis_word, traverse, traverse_rule, is_end_word};
 ghost use Rattle.ngc_adapt.specs.Refusals.{refusal_for};
-ghost use Rattle.ngc_adapt.specs.Rules.{modes_after, modes_either};
+ghost use Rattle.ngc_adapt.specs.Rules.{rule_for, modes_after, modes_either};
 
 use crate::code;
-use crate::item::{Item, MOST_WORDS, Word, item_of, may_be_deleted};
+use crate::item::{MOST_WORDS, Word, may_be_deleted};
 use crate::refusal::WordRefusal;
 use crate::replacement::{add_front, add_replacement};
 use crate::rule::{Modes, Rule, is_axis, is_m_code};
@@ -20,14 +20,18 @@ pub const MOST_RULES: usize = MOST_WORDS + 1;
 /// The most refusals of a line.
 pub const MOST_REFUSALS: usize = MOST_WORDS;
 
-// Returns the rule that changes an item, if one does, and whether the item is a word of an axis.
-pub(crate) fn rule_and_axis(modes: &Modes, words: &[Word], item: &[u8]) -> (Option<Rule>, bool)
-    ensures rule { result.0 ≡ item_rule modes.now words.now item.now }
-    ensures axis { result.1 ≡ is_axis_item item.now }
+// Returns the rule that changes a word, if one does, and whether it is a word of an axis.
+pub(crate) fn rule_and_axis(
+    modes: &Modes,
+    words: &[Word],
+    word: &Option<Word>,
+) -> (Option<Rule>, bool)
+    ensures rule { result.0 ≡ option_and_then (rule_for modes.now words.now) word.now }
+    ensures axis { result.1 ≡ is_axis_word word.now }
 {
-    match item_of(item) {
-        Item::Word(word) => (modes.rule_for(words, &word), is_axis(word.letter)),
-        Item::Mark | Item::Comment | Item::Setting | Item::Unread => (None, false),
+    match word {
+        Some(word) => (modes.rule_for(words, word), is_axis(word.letter)),
+        None => (None, false),
     }
 }
 

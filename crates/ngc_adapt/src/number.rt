@@ -396,10 +396,24 @@ fn computed_number(value: &[u8]) -> Number
     }
 }
 
+// Returns the number that a value is, if no blank is in front of one of its characters.
+fn plain_number(value: &[u8]) -> Option<Number>
+    ensures { result ≡ numbers.plain_number value.now }
+{
+    match in_one_piece(value) {
+        Some(text) => number_in(text),
+        None => None,
+    }
+}
+
 /// Reads a word's value: one that is computed, or a number of at most 32 characters.
 pub(crate) fn number_of(value: &[u8]) -> Option<Number>
     ensures { result ≡ numbers.number_of value.now }
 {
+    // Nearly every value is such a number.
+    if let Some(number) = plain_number(value) {
+        return Some(number);
+    }
     if is_computed(value) {
         return if is_whole(value) {
             Some(computed_number(value))

@@ -1248,8 +1248,10 @@ impl Modes {
     fn k_rule(&self, words: &[Word], number: &Number) -> Option<Rule>
         ensures { result ≡ k_rule self.now words.now number.now }
     {
-        self.offset_rule(words, Letter::K, number.is_zero)
-            .or(self.count_rule(words, number))
+        match self.offset_rule(words, Letter::K, number.is_zero) {
+            Some(rule) => Some(rule),
+            None => self.count_rule(words, number),
+        }
     }
 
     /// Returns the rule that changes a word of a line, if one does.

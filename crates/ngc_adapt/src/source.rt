@@ -2,18 +2,16 @@ ghost use Rattle.std.specs.Prelude.{◌≡◌, ◌+◌, ◌-◌, ◌<◌, ◌≤
 ghost use Rattle.std.specs.List.{prefix_len};
 ghost use Rattle.ngc_adapt.specs.Sources as spec;
 
-fn is_no_feed(byte: u8) -> bool
-    ensures { result ≡ spec.is_no_feed byte }
-{
-    byte != b'\n'
-}
+use memchr::memchr;
 
-#[tactic(auto, using(crate::proofs::Digits::counted))]
 fn count_to_feed(text: &[u8]) -> usize
     ensures count { result ≡ prefix_len spec.is_no_feed text.now }
     ensures within { result ≤ length text.now }
 {
-    text.iter().take_while(|b| is_no_feed(**b)).count()
+    match memchr(b'\n', text) {
+        Some(count) => count,
+        None => text.len(),
+    }
 }
 
 // Returns how many bytes the first line of a text has, with its line feed.

@@ -2,7 +2,7 @@ use Rattle.std.proofs.Common.{ap, sym, ◌∙◌, arith, length, false, true, �
 use Rattle.ngc_adapt.specs.declared.item.Word.{Word}
 use Rattle.ngc_adapt.specs.Items.{words_in, has_unread, is_unread}
 use Rattle.ngc_adapt.proofs.ItemLaws.{word_next, read_next, too_many, not_read, one_more, whole_line, full, not_full, no_bytes}
-use Rattle.ngc_adapt.proofs.item.read_words.Goals as goal
+use Rattle.ngc_adapt.proofs.item.read_words_into.Goals as goal
 
 pub returns-then-is_full : goal.returns-then-is_full
 returns-then-is_full c =

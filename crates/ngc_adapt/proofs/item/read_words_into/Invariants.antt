@@ -1,7 +1,7 @@
 -- The words so far, and those of what is left; nothing before it is unread.
 use Rattle.std.proofs.Common.{◌≡◌, ◌≤◌, ◌++◌, length}
 use Rattle.ngc_adapt.specs.Items.{has_unread, words_in}
-use Rattle.ngc_adapt.proofs.item.read_words.Given as goal
+use Rattle.ngc_adapt.proofs.item.read_words_into.Given as goal
 
 abbrev pub invariant-loop-rest : goal.invariant-loop-rest
 invariant-loop-rest l = record {
