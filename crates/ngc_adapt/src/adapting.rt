@@ -1,12 +1,12 @@
 //! A line adapted, with the report of it.
-ghost use Rattle.std.specs.Prelude.{◌≡◌, ◌++◌, ◌∷◌, [], IfOk, Some};
+ghost use Rattle.std.specs.Prelude.{◌≡◌, ◌++◌, ◌∷◌, [], IfOk, Some, None, if◌then◌else◌};
 ghost use Rattle.ngc_adapt.specs.Items.{items_of, words_of};
 ghost use Rattle.ngc_adapt.specs.Lines.{rules_of, written as written_of, next_modes, is_end, refusals_of};
 ghost use Rattle.ngc_adapt.specs.Lines.{rewritten, rules_among};
 ghost use Rattle.ngc_adapt.specs.Reports.{items_report, line_report};
 ghost use Rattle.ngc_adapt.specs.Rules.{is_first_traverse};
 
-use crate::item::{Word, read_words_into, split_read};
+use crate::item::{MOST_WORDS, Word, read_words_into, split_read};
 use crate::line::{
     MOST_REFUSALS, MOST_RULES, add_item, add_traverse, ends_program, modes_after, refusals_among,
     rule_and_axis, rules_among,
@@ -28,6 +28,8 @@ pub struct AdaptedLine {
     pub modes: Modes,
     /// Whether the line ends the program, and block delete can't take it out.
     pub is_end: bool,
+    /// Whether the line can be read.
+    pub is_read: bool,
 }
 
 // Returns the only refusal of a line that can't be read.
@@ -107,14 +109,16 @@ fn add_line<A: Allocator>(
 /// refusals, the modes that it leaves in force and whether it ends the program.
 ///
 /// `number` is its line in the source and `written` its line in the output, both from 1. A line
-/// that no rule changes is copied byte for byte. After an error, which means that memory was
-/// refused, `out` and `report` have any prefix of the added text.
+/// that no rule changes is copied byte for byte. `words` holds the words of a line that can be read,
+/// in place of those that it held before, so that one list serves all lines. After an error, which
+/// means that memory was refused, `out` and `report` have any prefix of the added text.
 #[tactic(auto, unfolding(crate::specs::Lines::rules_of, crate::specs::Lines::written, crate::specs::Lines::next_modes, crate::specs::Lines::is_end, crate::specs::Lines::refusals_of, crate::specs::Reports::line_report))]
 pub fn adapt_line<A: Allocator>(
     number: usize,
     written: usize,
     modes: &Modes,
     line: &[u8],
+    words: &mut ArrayVec<Word, MOST_WORDS>,
     out: &mut Vec<u8, A>,
     report: &mut Vec<u8, A>,
 ) -> Result<AdaptedLine, AllocError>
@@ -126,12 +130,13 @@ pub fn adapt_line<A: Allocator>(
     ensures refusals { IfOk result (λ r. r.refusals.items ≡ refusals_of modes.now line.now) }
     ensures modes { IfOk result (λ r. r.modes ≡ next_modes modes.now line.now) }
     ensures end { IfOk result (λ r. r.is_end ≡ is_end modes.now line.now) }
+    ensures words { IfOk result
+        (λ r. (if r.is_read then Some words.new.items else None) ≡ words_of line.now) }
     // A line that no rule changes is copied byte for byte.
     ensures copied { IfOk result
         (λ r. r.rules.items ≡ [] → out.new.items ≡ out.old.items ++ line.now) }
 {
-    let mut words = ArrayVec::new();
-    if !read_words_into(line, &mut words) {
+    if !read_words_into(line, words) {
         let refusal = unread_refusal(line);
         out.extend_from_slice(line)?;
         add_refusal(number, refusal, report)?;
@@ -140,6 +145,7 @@ pub fn adapt_line<A: Allocator>(
             refusals: one_refusal(refusal),
             modes: modes.lost(modes.altered),
             is_end: false,
+            is_read: false,
         });
     }
     let words = words.as_slice();
@@ -161,5 +167,6 @@ pub fn adapt_line<A: Allocator>(
         refusals,
         modes: modes_after(modes, words, line),
         is_end: ends_program(modes, words, line),
+        is_read: true,
     })
 }

@@ -6,7 +6,7 @@ mod Ends
 mod Feeds
 -- The rest at the end, and whole reports.
 mod Wholes
--- Items that T and H don't begin.
+-- Items that T and H don't begin, and lines without these letters.
 mod NoTools
 -- The part of a line that is read.
 mod ReadLaws

@@ -1,6 +1,7 @@
--- Items that T and H don't begin.
-use Rattle.std.proofs.Common.{◌≡◌, ℕ, Bool, true, false, cond, List, [], ◌∷◌, refl, ap, arith, Option, Some, None}
-use Rattle.std.specs.Prelude.{◌==◌, ◌&&◌, ◌||◌, nat_le}
+-- Items that T and H don't begin, and lines without these letters.
+use Rattle.std.proofs.Common.{◌≡◌, ◌∙◌, ℕ, zero, suc, Bool, true, false, cond, List, [], ◌∷◌, length, take, drop, refl, ap, arith, Option, Some, None}
+use Rattle.std.specs.Prelude.{◌==◌, ◌&&◌, ◌||◌, nat_le, fold}
+use Rattle.std.specs.List.{list_any}
 use Rattle.std.proofs.lemmas.Bool.Decides.{nat_tests}
 use Rattle.ngc_adapt.specs.declared.item.Item.{Item}
 use Rattle.ngc_adapt.specs.declared.item.Item.TheVariants as items
@@ -8,8 +9,9 @@ use Rattle.ngc_adapt.specs.declared.item.Letter.{Letter}
 use Rattle.ngc_adapt.specs.declared.item.Letter.TheVariants as letters
 use Rattle.ngc_adapt.specs.declared.number.Number.{Number}
 use Rattle.ngc_adapt.specs.Numbers.{number_of}
-use Rattle.ngc_adapt.specs.Items.{upper, capital, letter_of, is_mark, is_comment, is_setting, word_item, item_of}
-use Rattle.ngc_adapt_program.specs.ToolNumbers.{number_in, names_tool, begins_tool, is_tool_word, tool_number}
+use Rattle.ngc_adapt.specs.Items.{upper, capital, letter_of, is_mark, is_comment, is_setting, word_item, item_of, item_length, items_within, items_of}
+use Rattle.ngc_adapt.proofs.ValueLaws.{or_parts, none_dropped}
+use Rattle.ngc_adapt_program.specs.ToolNumbers.{number_in, names_tool, is_tool_letter, begins_tool, is_tool_word, tool_number, with_number, with_tool, with_items}
 
 abbrev names_letter : Option Letter → Bool
 names_letter None = false
@@ -85,3 +87,25 @@ no_tool_word (b ∷ rest) h =
 pub no_tool : (item : List ℕ) → begins_tool item ≡ false → tool_number item ≡ None
 no_tool item h =
     ap (λ (t : Bool). cond (t && (nat_le 1 (number_in item) && nat_le (number_in item) 9999)) (Some (number_in item)) None) (no_tool_word item h)
+
+not_added : (tools item : List ℕ) → begins_tool item ≡ false → with_tool tools item ≡ tools
+not_added tools item h = ap (with_number tools) (no_tool item h)
+
+first_bytes : (n : ℕ) (line : List ℕ) → list_any is_tool_letter line ≡ false → begins_tool (take n line) ≡ false
+first_bytes zero line h = refl
+first_bytes (suc n) [] h = refl
+first_bytes (suc n) (b ∷ rest) h = (or_parts (is_tool_letter b) (list_any is_tool_letter rest) h).0
+
+none_within : (n : ℕ) (tools line : List ℕ) → list_any is_tool_letter line ≡ false → fold with_tool tools (items_within n line) ≡ tools
+none_within zero tools line h = refl
+none_within (suc n) tools [] h = refl
+none_within (suc n) tools (b ∷ rest) h =
+    let line = b ∷ rest in
+    let count = item_length line in
+    ap (λ (ts : List ℕ). fold with_tool ts (items_within n (drop count line))) (not_added tools (take count line) (first_bytes count line h))
+    ∙ none_within n tools (drop count line) (none_dropped is_tool_letter count line h)
+
+-- a line without these letters names no tool
+pub no_tools : (tools body : List ℕ) → list_any is_tool_letter body ≡ false → with_items tools body ≡ tools
+unfolding items_of
+no_tools tools body h = none_within (length body) tools body h

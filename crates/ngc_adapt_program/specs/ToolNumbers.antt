@@ -23,10 +23,14 @@ names_tool letters.T = true
 names_tool letters.H = true
 names_tool _ = false
 
+-- T or H
+abbrev pub is_tool_letter : ℕ → Bool
+is_tool_letter b = (b == 84) || ((b == 116) || ((b == 72) || (b == 104)))
+
 -- T or H is the first byte of an item
 abbrev pub begins_tool : List ℕ → Bool
 begins_tool [] = false
-begins_tool (b ∷ rest) = (b == 84) || ((b == 116) || ((b == 72) || (b == 104)))
+begins_tool (b ∷ rest) = is_tool_letter b
 
 -- T or H with a number in digits
 abbrev pub is_tool_word : Item → Bool

@@ -15,11 +15,12 @@ ghost use Rattle.ngc_adapt_program.specs.ToolNumbers.{tools_named};
 use crate::mounted::{is_executed, mounts_tool};
 use crate::request::Request;
 use crate::tools::{add_tools_report, tools_named};
+use arrayvec::ArrayVec;
 use itoa::Buffer;
 use ngc_adapt::{
-    Change, Facts, Levels, Modes, Rule, adapt_line, add_counts, add_idle_report, add_plain_line,
-    add_plain_report, body_length, byte_count, is_blank, is_idle, is_plain, plain_rules,
-    split_line, text_of,
+    Change, Facts, Levels, MOST_WORDS, Modes, Rule, Word, adapt_line, add_counts, add_idle_report,
+    add_plain_line, add_plain_report, body_length, byte_count, is_blank, is_idle, is_plain,
+    plain_rules, split_line, text_of,
 };
 use ngc_adapt_moves::{Places, rewrite_line};
 use std::alloc::{AllocError, Allocator};
@@ -321,6 +322,9 @@ struct Writing<A: Allocator> {
     is_left: bool,
     // The number of lines in the text.
     before: usize,
+    // The words of the line that was read last. One list serves all lines, since making a list takes
+    // longer than reading a line.
+    words: ArrayVec<Word, MOST_WORDS>,
 }
 
 impl<A: Allocator + Copy> Writing<A> {
@@ -414,7 +418,15 @@ impl<A: Allocator + Copy> Writing<A> {
         ensures refused { IfOk result (λ e. e.is_refused ≡ has_refused_words progress.now body.now) }
     {
         let line = self.before + 1;
-        let adapted = adapt_line(number, line, &progress.modes, body, out, &mut self.report)?;
+        let adapted = adapt_line(
+            number,
+            line,
+            &progress.modes,
+            body,
+            &mut self.words,
+            out,
+            &mut self.report,
+        )?;
         add_changes(number, line, adapted.rules.as_slice(), &mut self.changes)?;
         Ok(Executed {
             modes: adapted.modes,
@@ -863,6 +875,7 @@ pub fn adapt_program<A: Allocator + Copy>(
         changes: Vec::new(alloc),
         is_left: false,
         before: 0,
+        words: ArrayVec::new(),
     };
     add_lines(
         alloc,

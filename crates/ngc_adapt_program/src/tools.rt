@@ -1,5 +1,5 @@
 ghost use Rattle.std.specs.Prelude.{◌≡◌, ◌≤◌, ◌++◌, IfOk, codes, decimal, fold, min};
-ghost use Rattle.std.specs.List.{flat_map};
+ghost use Rattle.std.specs.List.{flat_map, list_any};
 ghost use Rattle.ngc_adapt.specs.Items.{item_of as meaning_of};
 ghost use Rattle.ngc_adapt_program.specs.ToolNumbers as spec;
 
@@ -31,12 +31,24 @@ fn is_tool_word(item: &[u8]) -> bool
     }
 }
 
+fn is_tool_letter(byte: u8) -> bool
+    ensures { result ≡ spec.is_tool_letter byte }
+{
+    matches!(byte, b'T' | b't' | b'H' | b'h')
+}
+
+fn has_tool_letter(body: &[u8]) -> bool
+    ensures { result ≡ list_any spec.is_tool_letter body.now }
+{
+    body.iter().any(|b| is_tool_letter(*b))
+}
+
 // Returns whether T or H begins an item.
 fn begins_tool(item: &[u8]) -> bool
     ensures { result ≡ spec.begins_tool item.now }
 {
     match item {
-        [first, ..] => matches!(*first, b'T' | b't' | b'H' | b'h'),
+        [first, ..] => is_tool_letter(*first),
         [] => false,
     }
 }
@@ -76,9 +88,14 @@ fn add_tool<A: Allocator>(item: &[u8], tools: &mut Vec<u16, A>) -> Result<(), Al
     Ok(())
 }
 
+// Adds the tools that a line names, unless they are there. Most lines have neither letter.
+#[tactic(auto, using(crate::proofs::NoTools::no_tools))]
 fn add_line_tools<A: Allocator>(body: &[u8], tools: &mut Vec<u16, A>) -> Result<(), AllocError>
     ensures { IfOk result (λ _. tools.new.items ≡ spec.with_items tools.old.items body.now) }
 {
+    if !has_tool_letter(body) {
+        return Ok(());
+    }
     let mut rest = body;
     while !rest.is_empty() {
         let (item, others) = split_item(rest);
