@@ -19,10 +19,11 @@ use Rattle.ngc_adapt_moves.specs.declared.places.Places.{Places}
 use Rattle.ngc_adapt_moves.specs.declared.rule.Rule.TheVariants as rules
 use Rattle.ngc_adapt_moves.specs.declared.rule.MoveRefusal.TheVariants as refusals
 use Rattle.ngc_adapt_moves.specs.Axes.{nowhere}
+use Rattle.ngc_adapt_moves.specs.Places.{no_offset}
 use Rattle.ngc_adapt_moves.specs.Values.{value_of}
 use Rattle.ngc_adapt_moves.specs.Texts.{value_text}
 use Rattle.ngc_adapt_moves.specs.Lines.{written, rules_for, refusals_for, places_after, lines_for, before_for}
-use Rattle.ngc_adapt_moves.specs.LineReports.{line_report, plan_report, changes_text, refusals_text, refusal_text}
+use Rattle.ngc_adapt_moves.specs.LineReports.{line_report, plan_report, changes_text, further_changes, refusals_text, further_refusals, refusal_text}
 
 -- ---- values
 
@@ -78,6 +79,7 @@ at motion distance place =
       arc_distance = Some arcs.Point;
       feed_mode = Some feeds.PerMinute;
       place = place;
+      local = no_offset;
       motion_again = false;
     }
 
@@ -103,7 +105,24 @@ again b p =
       arc_distance = p.arc_distance;
       feed_mode = p.feed_mode;
       place = p.place;
+      local = p.local;
       motion_again = b;
+    }
+
+abbrev with_local : Place → Places → Places
+with_local local p =
+    record {
+      dialect = p.dialect;
+      homes = p.homes;
+      motion = p.motion;
+      plane = p.plane;
+      units = p.units;
+      distance = p.distance;
+      arc_distance = p.arc_distance;
+      feed_mode = p.feed_mode;
+      place = p.place;
+      local = local;
+      motion_again = p.motion_again;
     }
 
 abbrev without_homes : Places → Places
@@ -118,6 +137,7 @@ without_homes p =
       arc_distance = p.arc_distance;
       feed_mode = p.feed_mode;
       place = p.place;
+      local = p.local;
       motion_again = p.motion_again;
     }
 
@@ -133,6 +153,7 @@ from_origin p =
       arc_distance = Some arcs.Origin;
       feed_mode = p.feed_mode;
       place = p.place;
+      local = p.local;
       motion_again = p.motion_again;
     }
 
@@ -186,6 +207,23 @@ written_home_beside_a_motion = refl
 refused_without_homes : refusals_for (without_homes feeding) (codes "G91 G28 Z0") ≡ refusals.HomesNotGiven ∷ []
 unfolding refusals_for items_of item_of
 refused_without_homes = refl
+
+-- the pause and then the end, each on a line of its own if there are too many M words
+written_stop_beside_the_end : written feeding (codes "X3 M30 M0 (end)") ≡ codes "X3 M0 (end)\nM30 "
+unfolding written items_of item_of
+written_stop_beside_the_end = refl
+
+written_stop_of_many : written feeding (codes "/M6 M3 M7 M8 M1 M2") ≡ codes "/M6 M3 M7 M8 \n/M1 \n/M2"
+unfolding written items_of item_of
+written_stop_of_many = refl
+
+written_two_pauses : written feeding (codes "M0 M1 M30") ≡ codes "M0 M1 M30"
+unfolding written items_of item_of
+written_two_pauses = refl
+
+rules_of_a_stop : rules_for feeding (codes "M0 M30") ≡ rules.StopLater ∷ []
+unfolding rules_for items_of item_of
+rules_of_a_stop = refl
 
 written_without_homes : written (without_homes feeding) (codes "G91 G28 Z0") ≡ codes "G91 G28 Z0"
 unfolding written items_of item_of
@@ -293,7 +331,7 @@ after_machine_coordinates : places_after feeding (codes "G53 G0 Z0") ≡ at moti
 unfolding places_after items_of item_of
 after_machine_coordinates = refl
 
-after_an_axis_offset : places_after feeding (codes "G92 X0") ≡ at motions.Feed distances.Absolute (place (pos 0) (pos 2000000) (pos 3000000))
+after_an_axis_offset : places_after feeding (codes "G92 X0") ≡ with_local nowhere (at motions.Feed distances.Absolute (place (pos 0) (pos 2000000) (pos 3000000)))
 unfolding places_after items_of item_of
 after_an_axis_offset = refl
 
@@ -322,11 +360,11 @@ refused_line = refl
 -- ---- the report
 
 report_of_homing : line_report 7 8 feeding (codes "G28 Z7.5") ≡ codes "line 7 (8): part_home exact: G28 Z7.5 -> G0 Z7.5 / G53 G0 Z50\n"
-unfolding line_report plan_report changes_text refusals_text refusal_text items_of item_of digits
+unfolding line_report plan_report changes_text further_changes refusals_text further_refusals refusal_text items_of item_of digits
 report_of_homing = refl
 
 report_of_a_refusal : line_report 7 8 (without_homes feeding) (codes "G28 Z7.5") ≡ codes "line 7: part_home left: only the axes named go home in the source, all three here: name the machine file by --machine\n"
-unfolding line_report plan_report changes_text refusals_text refusal_text items_of item_of digits
+unfolding line_report plan_report changes_text further_changes refusals_text further_refusals refusal_text items_of item_of digits
 report_of_a_refusal = refl
 
 -- ---- motion codes with codes that take the axis words, and F with a change of the units
@@ -343,6 +381,7 @@ in_linuxcnc u p =
       arc_distance = p.arc_distance;
       feed_mode = p.feed_mode;
       place = p.place;
+      local = p.local;
       motion_again = p.motion_again;
     }
 
@@ -351,7 +390,7 @@ unfolding written items_of item_of
 written_motion_apart = refl
 
 after_motion_apart : places_after feeding (codes "G0 G92 X0")
-    ≡ again true (at motions.Traverse distances.Absolute (place (pos 0) (pos 2000000) (pos 3000000)))
+    ≡ with_local nowhere (again true (at motions.Traverse distances.Absolute (place (pos 0) (pos 2000000) (pos 3000000))))
 unfolding places_after items_of item_of
 after_motion_apart = refl
 
@@ -386,3 +425,37 @@ rules_feed_elsewhere = refl
 refused_feed : refusals_for (in_linuxcnc None feeding) (codes "G20 F10") ≡ refusals.FeedNotKnown ∷ []
 unfolding refusals_for items_of item_of
 refused_feed = refl
+
+-- ---- several turns of an arc
+
+written_three_turns : written (in_linuxcnc (Some units.Millimetres) feeding) (codes "G2 I5 Z0 P3") ≡ codes "G2 X1 I5 Z2 \nG2 X1 Y2 Z1 I5 J0 \nG2 X1 Y2 Z0 I5 J0 "
+unfolding written items_of item_of digits
+written_three_turns = refl
+
+lines_of_three_turns : lines_for (in_linuxcnc (Some units.Millimetres) feeding) (codes "G2 I5 Z0 P3") ≡ 3
+unfolding lines_for items_of item_of
+lines_of_three_turns = refl
+
+refused_part_of_a_circle : refusals_for (in_linuxcnc (Some units.Millimetres) feeding) (codes "G2 X11 I5 Z0 P3") ≡ refusals.TurnsNotKnown ∷ []
+unfolding refusals_for items_of item_of
+refused_part_of_a_circle = refl
+
+-- ---- local offsets
+
+-- at X 1 and Z 3
+written_local_offset : written feeding (codes "G52 X10 Z-2 (x)") ≡ codes "G92 X-9 Z5 (x)"
+unfolding written items_of item_of digits
+written_local_offset = refl
+
+after_local_offset : places_after feeding (codes "G52 X10") ≡ with_local (place (pos 10000000) (pos 0) (pos 0)) (at motions.Feed distances.Absolute nowhere)
+unfolding places_after items_of item_of
+after_local_offset = refl
+
+-- X 1 under an offset of 10 is 11 without it
+written_end_of_offset : written (with_local (place (pos 10000000) (pos 0) (pos 0)) feeding) (codes "G52 X0") ≡ codes "G92 X11 "
+unfolding written items_of item_of digits
+written_end_of_offset = refl
+
+refused_under_axis_offset : refusals_for (with_local nowhere feeding) (codes "G52 X0") ≡ refusals.LocalNotKnown ∷ []
+unfolding refusals_for items_of item_of
+refused_under_axis_offset = refl

@@ -6,3 +6,5 @@ pub mod WordLaws
 pub mod LineLaws
 -- Examples of values, places and lines, by computing the definitions.
 pub mod Examples
+-- The lines of several turns.
+pub mod TurnLaws

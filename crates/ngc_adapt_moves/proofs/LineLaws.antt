@@ -6,7 +6,7 @@ use Rattle.ngc_adapt.proofs.ItemLaws.{nothing}
 use Rattle.ngc_adapt_moves.specs.declared.plan.Plan.{Plan}
 use Rattle.ngc_adapt_moves.specs.declared.rule.Rule.{Rule}
 use Rattle.ngc_adapt_moves.specs.Plans.{rule_if, rules_of, is_changed, plan_of}
-use Rattle.ngc_adapt_moves.specs.Lines.{items_written, item_written, is_place_item, front_if, feed_items, rewritten, rules_by, written_by, written, rules_for}
+use Rattle.ngc_adapt_moves.specs.Lines.{items_written, item_written, is_place_item, front_if, feed_items, stop_items, rewritten, rules_by, written_by, written, rules_for}
 use Rattle.ngc_adapt_moves.specs.declared.places.Places.{Places}
 use Rattle.ngc_adapt_moves.specs.declared.word.Word.{Word}
 use Rattle.ngc_adapt_moves.specs.Words.{words_of}
@@ -24,6 +24,9 @@ line_end first plan rest h = ap (λ (xs : List (List ℕ)). items_written first 
 pub feed_end : (rest : List ℕ) → length rest ≡ 0 → feed_items (items_of rest) ≡ []
 feed_end rest h = ap (λ (xs : List (List ℕ)). feed_items xs) (nothing rest h)
 
+pub stop_end : (kind rest : List ℕ) → length rest ≡ 0 → stop_items kind (items_of rest) ≡ []
+stop_end kind rest h = ap (λ (xs : List (List ℕ)). stop_items kind xs) (nothing rest h)
+
 last_none : (xs : List Rule) (b : Bool) (r : Rule) → xs ++ rule_if b r ≡ [] → (xs ≡ []) × (b ≡ false)
 last_none [] true r e = absurd cc
 last_none [] false r e = (refl, refl)
@@ -40,14 +43,18 @@ neither false b h k = k
 -- where no rule holds, nothing is changed
 none_changed : (plan : Plan) → rules_of plan ≡ [] → is_changed plan ≡ false
 none_changed plan h =
-    let g = last_none _ _ _ h in
+    let m = last_none _ _ _ h in
+    let k = last_none _ _ _ m.0 in
+    let j = last_none _ _ _ k.0 in
+    let i = last_none _ _ _ j.0 in
+    let g = last_none _ _ _ i.0 in
     let f = last_none _ _ _ g.0 in
     let e = last_none _ _ _ f.0 in
     let d = last_none _ _ _ e.0 in
     let c = last_none _ _ _ d.0 in
     let b = last_none _ _ _ c.0 in
     let a = only_none _ _ b.0 in
-    neither _ _ a (neither _ _ b.1 (neither _ _ c.1 (neither _ _ d.1 (neither _ _ e.1 (neither _ _ f.1 g.1)))))
+    neither _ _ a (neither _ _ b.1 (neither _ _ c.1 (neither _ _ d.1 (neither _ _ e.1 (neither _ _ f.1 (neither _ _ g.1 (neither _ _ i.1 (neither _ _ j.1 (neither _ _ k.1 m.1)))))))))
 
 stays : (t : Bool) (x line : List ℕ) → t ≡ false → cond t x line ≡ line
 stays true x line e = absurd cc

@@ -12,3 +12,5 @@ pub mod Reports
 pub mod Texts
 pub mod Values
 pub mod Words
+pub mod Turns
+pub mod Locals

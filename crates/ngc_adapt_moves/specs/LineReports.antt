@@ -16,6 +16,8 @@ use Rattle.ngc_adapt_moves.specs.declared.rule.MoveRefusal.TheVariants as refusa
 use Rattle.ngc_adapt_moves.specs.declared.word.Word.{Word}
 use Rattle.ngc_adapt_moves.specs.Lines.{rewritten}
 use Rattle.ngc_adapt_moves.specs.Plans.{plan_of, is_homed, is_named, is_circled, is_first, is_origin}
+use Rattle.ngc_adapt_moves.specs.Plans.{is_local, is_one_turn, is_several, is_stopped_later, local_refusal}
+use Rattle.ngc_adapt_moves.specs.Plans.{turns_refusal}
 use Rattle.ngc_adapt_moves.specs.Plans.{homing_refusal, naming_refusal, circle_refusal, centre_refusal}
 use Rattle.ngc_adapt_moves.specs.Plans.{feeding_refusal, balance_refusal}
 use Rattle.ngc_adapt_moves.specs.Reports.{rule_name, class_of, refusal_name, sentence}
@@ -55,6 +57,23 @@ moved_if (balances.Moved moved) number written_number plan line =
     ++ (rewritten (codes " / ") plan line ++ (shift_text moved.shift ++ codes "\n")))))
 moved_if _ number written_number plan line = []
 
+-- an arc of several turns: what the line was, what is written, and the bound of the heights
+abbrev pub several_if : Bool → ℕ → ℕ → Plan → List ℕ → List ℕ
+several_if holds number written_number plan line =
+    if holds
+    then place_text number written_number ++ (rule_text rules.SeveralTurns ++ (line ++ (codes " -> "
+    ++ (rewritten (codes " / ") plan line ++ codes " (heights within 0.0000005)\n"))))
+    else []
+
+-- the changes of an arc, a stop and a local offset
+unfoldable pub further_changes : ℕ → ℕ → Plan → List ℕ → List ℕ
+further_changes number written_number plan line =
+    moved_if plan.balance number written_number plan line
+    ++ (change_if (is_stopped_later plan) number written_number rules.StopLater plan line
+    ++ (change_if (is_one_turn plan.turns) number written_number rules.OneTurn plan line
+    ++ (several_if (is_several plan.turns) number written_number plan line
+    ++ change_if (is_local plan.local) number written_number rules.LocalOffset plan line)))
+
 unfoldable pub changes_text : ℕ → ℕ → Plan → List ℕ → List ℕ
 changes_text number written_number plan line =
     change_if (is_homed plan.homing) number written_number rules.PartHome plan line
@@ -63,7 +82,7 @@ changes_text number written_number plan line =
     ++ (change_if (is_origin plan) number written_number rules.ArcOrigin plan line
     ++ (change_if plan.apart number written_number rules.MotionApart plan line
     ++ (change_if (is_first plan.feeding) number written_number rules.FeedFirst plan line
-    ++ moved_if plan.balance number written_number plan line)))))
+    ++ further_changes number written_number plan line)))))
 
 unfoldable pub refusal_text : ℕ → MoveRefusal → List ℕ
 refusal_text number refusal =
@@ -74,6 +93,13 @@ abbrev pub refusal_if : ℕ → Option MoveRefusal → List ℕ
 refusal_if number (Some refusal) = refusal_text number refusal
 refusal_if number None = []
 
+-- why an arc or a local offset is left
+unfoldable pub further_refusals : ℕ → Plan → List ℕ
+further_refusals number plan =
+    refusal_if number (balance_refusal plan.balance)
+    ++ (refusal_if number (turns_refusal plan.turns)
+    ++ refusal_if number (local_refusal plan.local))
+
 unfoldable pub refusals_text : ℕ → Plan → List ℕ
 refusals_text number plan =
     refusal_if number (homing_refusal plan.homing)
@@ -81,7 +107,7 @@ refusals_text number plan =
     ++ (refusal_if number (circle_refusal plan.circle)
     ++ (refusal_if number (centre_refusal plan.centre)
     ++ (refusal_if number (feeding_refusal plan.feeding)
-    ++ refusal_if number (balance_refusal plan.balance)))))
+    ++ further_refusals number plan))))
 
 -- the report of a line with this result of the rules
 unfoldable pub plan_report : ℕ → ℕ → Plan → List ℕ → List ℕ

@@ -26,6 +26,10 @@ abbrev pub is_f : Letter → Bool
 is_f letters.F = true
 is_f _ = false
 
+abbrev pub is_p : Letter → Bool
+is_p letters.P = true
+is_p _ = false
+
 abbrev pub is_other_axis : Letter → Bool
 is_other_axis letters.OtherAxis = true
 is_other_axis _ = false
@@ -68,6 +72,14 @@ is_machine_code kind w = is_m w.letter && is_one_of kind w.code
 
 abbrev pub has : List ℕ → List Word → Bool
 has kind words = list_any (λ w. is_code kind w) words
+
+-- how many M words a line has
+abbrev pub machine_count : List Word → ℕ
+machine_count words = count_by (λ w. is_m w.letter) words
+
+-- how many of its M words have a code of a kind
+abbrev pub machine_codes : List ℕ → List Word → ℕ
+machine_codes kind words = count_by (λ w. is_machine_code kind w) words
 
 abbrev pub has_m : List ℕ → List Word → Bool
 has_m kind words = list_any (λ w. is_machine_code kind w) words
@@ -124,6 +136,16 @@ first_offset axis words = find (λ (w : Word). is_offset axis w.letter) words
 -- the number of the first offset along an axis, if it is known
 abbrev pub offset_along : Axis → List Word → Option ℤ
 offset_along axis words = value_in (first_offset axis words)
+
+abbrev pub has_p : List Word → Bool
+has_p words = list_any (λ (w : Word). is_p w.letter) words
+
+abbrev pub first_p : List Word → Option Word
+first_p words = find (λ (w : Word). is_p w.letter) words
+
+-- the number of the first P, if it is known
+abbrev pub p_value : List Word → Option ℤ
+p_value words = value_in (first_p words)
 
 abbrev pub is_known : Option ℕ → Bool
 is_known code =

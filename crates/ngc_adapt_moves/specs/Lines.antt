@@ -17,10 +17,12 @@ use Rattle.ngc_adapt_moves.specs.declared.rule.MoveRefusal.{MoveRefusal}
 use Rattle.ngc_adapt_moves.specs.declared.rule.MoveRefusal.TheVariants as refusals
 use Rattle.ngc_adapt_moves.specs.declared.text.Text.{Text}
 use Rattle.ngc_adapt_moves.specs.declared.word.Word.{Word}
-use Rattle.ngc_adapt_moves.specs.LineWords.{has_motion, has_unknown, is_f, is_of_place}
+use Rattle.ngc_adapt_moves.specs.declared.code.TheConstants as codes_of
+use Rattle.ngc_adapt_moves.specs.LineWords.{has_motion, has_unknown, is_f, is_machine_code, is_of_place}
 use Rattle.ngc_adapt_moves.specs.Places.{after_line, lost, modes_after}
 use Rattle.ngc_adapt_moves.specs.Plans.{added_text, before_count, change_of, circle_text, is_changed, is_first, is_homed, is_named}
 use Rattle.ngc_adapt_moves.specs.Plans.{line_count, naming_text, plan_of, refusals_of, rules_of}
+use Rattle.ngc_adapt_moves.specs.Turns.{turns_written}
 use Rattle.ngc_adapt_moves.specs.Texts.{axis_letter, text_of, value_text}
 use Rattle.ngc_adapt_moves.specs.Words.{word_of, words_of}
 
@@ -105,12 +107,41 @@ abbrev pub after_written : List ℕ → Homing → Bool → List ℕ
 after_written separator (homings.Between place) deletable = separator ++ home_line place deletable
 after_written separator _ deletable = []
 
+abbrev pub is_stop_word : List ℕ → Option Word → Bool
+is_stop_word kind (Some w) = is_machine_code kind w
+is_stop_word kind None = false
+
+abbrev pub is_stop_item : List ℕ → List ℕ → Bool
+is_stop_item kind item = is_stop_word kind (word_of item)
+
+abbrev pub stop_items : List ℕ → List (List ℕ) → List ℕ
+stop_items kind [] = []
+stop_items kind (item ∷ rest) = item_if (is_stop_item kind item) item ++ stop_items kind rest
+
+-- the M words of a line with a code of a kind
+abbrev pub stop_words : List ℕ → List ℕ → List ℕ
+stop_words kind line = stop_items kind (items_of line)
+
+-- a stop on a line of its own, after a separator
+abbrev pub stop_line : Bool → List ℕ → List ℕ → List ℕ → List ℕ
+stop_line later separator kind line =
+    if later then separator ++ (slash (may_be_deleted line) ++ stop_words kind line) else []
+
+-- the stops after all other lines: the pause, and then the end
+abbrev pub stops_written : List ℕ → Plan → List ℕ → List ℕ
+stops_written separator plan line =
+    stop_line plan.pause_later separator codes_of.PAUSES line
+    ++ stop_line plan.end_later separator codes_of.ENDS line
+
 -- the text to which a line is rewritten; one that no rule changes is unchanged
 abbrev pub rewritten : List ℕ → Plan → List ℕ → List ℕ
 rewritten separator plan line =
     if is_changed plan
     then before_written separator plan line
-    ++ (main_written plan line ++ after_written separator plan.homing (may_be_deleted line))
+    ++ (main_written plan line
+    ++ (after_written separator plan.homing (may_be_deleted line)
+    ++ (turns_written (separator ++ slash (may_be_deleted line)) plan.turns
+    ++ stops_written separator plan line)))
     else line
 
 abbrev pub is_traverse : Motion → Bool
@@ -139,6 +170,7 @@ with_again again places =
       arc_distance = places.arc_distance;
       feed_mode = places.feed_mode;
       place = places.place;
+      local = places.local;
       motion_again = again;
     }
 

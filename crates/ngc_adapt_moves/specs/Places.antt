@@ -1,6 +1,6 @@
 -- The modes after a line, and the position of the tool. A position that isn't known is never taken
 -- as 0.
-use Rattle.std.specs.Prelude.{ℤ, ◌&&◌, ◌||◌, not, Bool, true, false, List, Option, Some, None}
+use Rattle.std.specs.Prelude.{ℤ, pos, unsigned_abs, ◌==◌, ◌&&◌, ◌||◌, not, Bool, true, false, List, Option, Some, None}
 use Rattle.std.specs.Prelude.{if◌then◌else◌}
 use Rattle.ngc_adapt.specs.declared.dialect.Dialect.{Dialect}
 use Rattle.ngc_adapt.specs.declared.dialect.Dialect.TheVariants as dialects
@@ -165,6 +165,38 @@ place_along after start words axis =
     if has codes.FOR_ONE_LINE words || has codes.MACHINE_COORDINATES words
     then unless_named start words axis else after_motion after start words axis))
 
+-- ---- the local offset of G52
+
+abbrev pub no_offset : Place
+no_offset = record { x = Some (pos 0); y = Some (pos 0); z = Some (pos 0) }
+
+-- an offset of 0 is 0 in any units
+abbrev pub kept_nought : Option ℤ → Option ℤ
+kept_nought (Some value) = if unsigned_abs value == 0 then Some value else None
+kept_nought None = None
+
+-- the local offset of an axis after a line; those of G92 take its place
+abbrev pub local_along : Places → List Word → Axis → Option ℤ
+local_along places words axis =
+    if has codes.SHARED_OFFSETS words then None else (
+    if has codes.LOCAL_OFFSET words && names axis words then value_along axis words else (
+    if changes_units places.units words then kept_nought (along axis places.local)
+    else along axis places.local))
+
+abbrev pub local_after : Places → List Word → Place
+local_after places words =
+    record {
+      x = local_along places words axes.X;
+      y = local_along places words axes.Y;
+      z = local_along places words axes.Z;
+    }
+
+-- after a line that block delete may take out
+abbrev pub local_either : Places → List Word → Place
+local_either places words =
+    if has codes.SHARED_OFFSETS words || (has codes.LOCAL_OFFSET words || has codes.UNITS words)
+    then nowhere else places.local
+
 -- where a program starts
 abbrev pub start : Dialect → Option Homes → Places
 start dialect homes =
@@ -178,6 +210,7 @@ start dialect homes =
       arc_distance = Some arcs.Point;
       feed_mode = Some feeds.PerMinute;
       place = nowhere;
+      local = no_offset;
       motion_again = false;
     }
 
@@ -194,6 +227,7 @@ lost places =
       arc_distance = None;
       feed_mode = None;
       place = nowhere;
+      local = nowhere;
       motion_again = places.motion_again;
     }
 
@@ -210,6 +244,7 @@ modes_after places words =
       arc_distance = arc_distance_after places.arc_distance words;
       feed_mode = feed_mode_after places.feed_mode words;
       place = places.place;
+      local = local_after places words;
       motion_again = places.motion_again;
     }
 
@@ -241,6 +276,7 @@ modes_either places words =
       arc_distance = if has codes.ARC_DISTANCE words then None else places.arc_distance;
       feed_mode = if has codes.FEED_MODE words then None else places.feed_mode;
       place = place_either places words;
+      local = local_either places words;
       motion_again = places.motion_again;
     }
 
@@ -256,6 +292,7 @@ with_place place places =
       arc_distance = places.arc_distance;
       feed_mode = places.feed_mode;
       place = place;
+      local = places.local;
       motion_again = places.motion_again;
     }
 

@@ -1,6 +1,7 @@
 -- The result of the rules for a line with these words.
-use Rattle.std.specs.Prelude.{ℕ, ◌+◌, ℤ, ◌&&◌, ◌||◌, not, Bool, true, false, List, [], ◌∷◌, ◌++◌, Option}
+use Rattle.std.specs.Prelude.{ℕ, ◌+◌, ◌-◌, nat_le, nat_lt, ℤ, ◌&&◌, ◌||◌, not, Bool, true, false, List, [], ◌∷◌, ◌++◌, Option}
 use Rattle.std.specs.Prelude.{Some, None, if◌then◌else◌}
+use Rattle.std.specs.Option.{option_or}
 use Rattle.ngc_adapt.specs.declared.dialect.Dialect.{Dialect}
 use Rattle.ngc_adapt.specs.declared.dialect.Dialect.TheVariants as dialects
 use Rattle.ngc_fixed_length.specs.declared.units.Units.{Units}
@@ -28,6 +29,11 @@ use Rattle.ngc_adapt_moves.specs.declared.rule.Rule.{Rule}
 use Rattle.ngc_adapt_moves.specs.declared.rule.Rule.TheVariants as rules
 use Rattle.ngc_adapt_moves.specs.declared.rule.MoveRefusal.{MoveRefusal}
 use Rattle.ngc_adapt_moves.specs.declared.rule.MoveRefusal.TheVariants as refusals
+use Rattle.ngc_adapt_moves.specs.declared.local.Local.{Local}
+use Rattle.ngc_adapt_moves.specs.declared.local.Local.TheVariants as locals
+use Rattle.ngc_adapt_moves.specs.declared.turns.Turning.{Turning}
+use Rattle.ngc_adapt_moves.specs.declared.turns.Turns.{Turns}
+use Rattle.ngc_adapt_moves.specs.declared.turns.Turns.TheVariants as turns
 use Rattle.ngc_adapt_moves.specs.declared.text.Text.{Text}
 use Rattle.ngc_adapt_moves.specs.declared.text.Text.TheVariants as texts
 use Rattle.ngc_adapt_moves.specs.declared.word.Letter.{Letter}
@@ -36,11 +42,14 @@ use Rattle.ngc_adapt_moves.specs.declared.word.Word.{Word}
 use Rattle.ngc_adapt_moves.specs.declared.code.TheConstants as codes
 use Rattle.ngc_adapt_moves.specs.Axes.{along}
 use Rattle.ngc_adapt_moves.specs.LineWords.{has, has_axes, has_feed, has_motion, has_place}
-use Rattle.ngc_adapt_moves.specs.LineWords.{has_unknown, is_code, is_f}
+use Rattle.ngc_adapt_moves.specs.LineWords.{has_m, has_unknown, is_axis, is_code, is_f, is_machine_code, is_p}
+use Rattle.ngc_adapt_moves.specs.LineWords.{machine_codes, machine_count}
 use Rattle.ngc_adapt_moves.specs.Places.{changes_units, feed_mode_after, modes_after}
 use Rattle.ngc_adapt_moves.specs.Homing.{homing_of, is_part_home}
 use Rattle.ngc_adapt_moves.specs.Arcs.{circle_of, centre_of}
 use Rattle.ngc_adapt_moves.specs.Radii.{balance_of}
+use Rattle.ngc_adapt_moves.specs.Locals.{local_of}
+use Rattle.ngc_adapt_moves.specs.Turns.{further_turns, height_after, turns_of}
 
 -- the motions of G0 to G3
 abbrev pub has_name : Motion → Bool
@@ -86,6 +95,24 @@ feeding_of places words =
     && (has_feed words && (changes_units places.units words && not (has_unknown words)))
     then feeding_in places.units (feed_mode_after places.feed_mode words) else feedings.Other
 
+-- at most one pause and one end, beside nothing that isn't known
+abbrev pub has_clear_stops : List Word → Bool
+has_clear_stops words =
+    nat_le (machine_codes codes.PAUSES words) 1
+    && (nat_le (machine_codes codes.ENDS words) 1 && not (has_unknown words))
+
+-- the pause of a line that has more than four M words, apart from its end
+abbrev pub pause_later : List Word → Bool
+pause_later words =
+    has_m codes.PAUSES words && has_clear_stops words
+    && nat_lt 4 (machine_count words - machine_codes codes.ENDS words)
+
+-- the end of the program beside a pause, or on a line of more than four M words
+abbrev pub end_later : List Word → Bool
+end_later words =
+    has_m codes.ENDS words && has_clear_stops words
+    && (has_m codes.PAUSES words || nat_lt 4 (machine_count words))
+
 -- the result of the rules for a line with these words
 abbrev pub plan_of : Places → List Word → Plan
 plan_of places words =
@@ -100,6 +127,14 @@ plan_of places words =
       balance =
           balance_of places (modes_after places words)
           (centre_of places (modes_after places words) words) words;
+      turns =
+          turns_of places (modes_after places words)
+          (centre_of places (modes_after places words) words)
+          (balance_of places (modes_after places words)
+          (centre_of places (modes_after places words) words) words) words;
+      local = local_of places words;
+      pause_later = pause_later words;
+      end_later = end_later words;
     }
 
 abbrev pub is_homed : Homing → Bool
@@ -131,11 +166,28 @@ is_moved _ = false
 abbrev pub is_origin : Plan → Bool
 is_origin plan = plan.has_arc_code || is_centred plan.centre
 
+abbrev pub is_one_turn : Turns → Bool
+is_one_turn turns.One = true
+is_one_turn _ = false
+
+abbrev pub is_several : Turns → Bool
+is_several (turns.Several turning) = true
+is_several _ = false
+
+abbrev pub is_local : Local → Bool
+is_local (locals.By place) = true
+is_local _ = false
+
+-- a stop is written on a line after
+abbrev pub is_stopped_later : Plan → Bool
+is_stopped_later plan = plan.pause_later || plan.end_later
+
 -- a rule changes the line
 abbrev pub is_changed : Plan → Bool
 is_changed plan =
     is_homed plan.homing || (is_named plan.naming || (is_circled plan.circle || (is_origin plan
-    || (plan.apart || (is_first plan.feeding || is_moved plan.balance)))))
+    || (plan.apart || (is_first plan.feeding || (is_moved plan.balance
+    || (is_stopped_later plan || (is_one_turn plan.turns || (is_several plan.turns || is_local plan.local)))))))))
 
 abbrev pub rule_if : Bool → Rule → List Rule
 rule_if holds rule = if holds then rule ∷ [] else []
@@ -143,12 +195,16 @@ rule_if holds rule = if holds then rule ∷ [] else []
 -- the rules that change the line
 abbrev pub rules_of : Plan → List Rule
 rules_of plan =
-    (((((rule_if (is_homed plan.homing) rules.PartHome
+    (((((((((rule_if (is_homed plan.homing) rules.PartHome
     ++ rule_if (is_named plan.naming) rules.MotionAgain)
     ++ rule_if (is_circled plan.circle) rules.FullCircle)
     ++ rule_if (is_origin plan) rules.ArcOrigin) ++ rule_if plan.apart rules.MotionApart)
     ++ rule_if (is_first plan.feeding) rules.FeedFirst)
-    ++ rule_if (is_moved plan.balance) rules.MovedCentre
+    ++ rule_if (is_moved plan.balance) rules.MovedCentre)
+    ++ rule_if (is_stopped_later plan) rules.StopLater)
+    ++ rule_if (is_one_turn plan.turns) rules.OneTurn)
+    ++ rule_if (is_several plan.turns) rules.SeveralTurns)
+    ++ rule_if (is_local plan.local) rules.LocalOffset
 
 abbrev pub homing_refusal : Homing → Option MoveRefusal
 homing_refusal (homings.Left refusal) = Some refusal
@@ -174,6 +230,14 @@ abbrev pub balance_refusal : Balance → Option MoveRefusal
 balance_refusal (balances.Left refusal) = Some refusal
 balance_refusal _ = None
 
+abbrev pub turns_refusal : Turns → Option MoveRefusal
+turns_refusal (turns.Left refusal) = Some refusal
+turns_refusal _ = None
+
+abbrev pub local_refusal : Local → Option MoveRefusal
+local_refusal (locals.Left refusal) = Some refusal
+local_refusal _ = None
+
 abbrev pub refusal_if : Option MoveRefusal → List MoveRefusal
 refusal_if (Some refusal) = refusal ∷ []
 refusal_if None = []
@@ -181,9 +245,10 @@ refusal_if None = []
 -- why the line is left, if it is
 abbrev pub refusals_of : Plan → List MoveRefusal
 refusals_of plan =
-    ((((refusal_if (homing_refusal plan.homing) ++ refusal_if (naming_refusal plan.naming))
+    ((((((refusal_if (homing_refusal plan.homing) ++ refusal_if (naming_refusal plan.naming))
     ++ refusal_if (circle_refusal plan.circle)) ++ refusal_if (centre_refusal plan.centre))
-    ++ refusal_if (feeding_refusal plan.feeding)) ++ refusal_if (balance_refusal plan.balance)
+    ++ refusal_if (feeding_refusal plan.feeding)) ++ refusal_if (balance_refusal plan.balance))
+    ++ refusal_if (turns_refusal plan.turns)) ++ refusal_if (local_refusal plan.local)
 
 -- the code that names the motion again
 abbrev pub naming_text : Naming → Text
@@ -243,18 +308,43 @@ homing_change (homings.Between place) balance centre w = between_change w
 homing_change homings.Other balance centre w = arc_change balance centre w
 homing_change (homings.Left refusal) balance centre w = arc_change balance centre w
 
+-- the source's own line makes the first turn
+abbrev pub first_change : Turning → Letter → Option Text
+first_change turning letter =
+    if is_axis turning.hole letter then coordinate_at turning.hole (height_after turning 1)
+    else coordinate_text turning.start letter
+
+-- what is written in place of a word of an arc that counts its turns, if it is changed
+abbrev pub turned_change : Turns → Word → Option Text
+turned_change turns.Other w = None
+turned_change (turns.Left refusal) w = None
+turned_change turns.One w = if is_p w.letter then Some texts.Nothing else None
+turned_change (turns.Several turning) w =
+    if is_p w.letter then Some texts.Nothing else first_change turning w.letter
+
+-- G92 for G52, and the coordinate of the current point on each axis
+abbrev pub local_change : Local → Word → Option Text
+local_change locals.Other w = None
+local_change (locals.Left refusal) w = None
+local_change (locals.By place) w =
+    if is_code codes.LOCAL_OFFSET w then Some texts.AxisOffset else coordinate_text place w.letter
+
 -- a word that is left out of the source's own line: G90.1 and G91.1, a motion code that takes no axis
--- words, F that is written on a line before
+-- words, F that is written on a line before, a stop that is written on a line after
 abbrev pub leaves_out : Plan → Word → Bool
 leaves_out plan w =
     is_code codes.ARC_DISTANCE w
-    || ((plan.apart && is_code codes.NAMED_MOTION w) || (is_first plan.feeding && is_f w.letter))
+    || ((plan.apart && is_code codes.NAMED_MOTION w)
+    || ((is_first plan.feeding && is_f w.letter)
+    || ((plan.pause_later && is_machine_code codes.PAUSES w)
+    || (plan.end_later && is_machine_code codes.ENDS w))))
 
 -- the replacement of a word, if it is changed
 abbrev pub change_of : Plan → Word → Option Text
 change_of plan w =
     if leaves_out plan w then Some texts.Nothing
-    else homing_change plan.homing plan.balance plan.centre w
+    else option_or (option_or (turned_change plan.turns w) (local_change plan.local w))
+    (homing_change plan.homing plan.balance plan.centre w)
 
 -- how many lines are written before the source's own
 abbrev pub before_count : Plan → ℕ
@@ -265,6 +355,11 @@ abbrev pub homing_lines : Homing → ℕ
 homing_lines (homings.Between place) = 2
 homing_lines _ = 1
 
+abbrev pub one_if : Bool → ℕ
+one_if holds = if holds then 1 else 0
+
 -- how many lines are written
 abbrev pub line_count : Plan → ℕ
-line_count plan = before_count plan + homing_lines plan.homing
+line_count plan =
+    before_count plan + homing_lines plan.homing + further_turns plan.turns
+    + one_if plan.pause_later + one_if plan.end_later

@@ -13,6 +13,10 @@ rule_name rules.ArcOrigin = codes "arc_origin"
 rule_name rules.MotionApart = codes "motion_apart"
 rule_name rules.FeedFirst = codes "feed_first"
 rule_name rules.MovedCentre = codes "moved_centre"
+rule_name rules.StopLater = codes "stop_later"
+rule_name rules.OneTurn = codes "one_turn"
+rule_name rules.SeveralTurns = codes "several_turns"
+rule_name rules.LocalOffset = codes "local_offset"
 
 -- what a rule keeps: the same commands, or the same within a length
 abbrev pub class_of : Rule → List ℕ
@@ -23,6 +27,10 @@ class_of rules.ArcOrigin = codes "exact"
 class_of rules.MotionApart = codes "exact"
 class_of rules.FeedFirst = codes "exact"
 class_of rules.MovedCentre = codes "bound"
+class_of rules.StopLater = codes "exact"
+class_of rules.OneTurn = codes "exact"
+class_of rules.SeveralTurns = codes "bound"
+class_of rules.LocalOffset = codes "exact"
 
 abbrev pub refusal_name : MoveRefusal → List ℕ
 refusal_name refusals.NotRead = codes "not_read"
@@ -37,6 +45,8 @@ refusal_name refusals.ArcDistanceNotKnown = codes "arc_origin"
 refusal_name refusals.ArcPlaceNotKnown = codes "arc_origin"
 refusal_name refusals.FeedNotKnown = codes "feed_first"
 refusal_name refusals.RadiiDiffer = codes "moved_centre"
+refusal_name refusals.TurnsNotKnown = codes "several_turns"
+refusal_name refusals.LocalNotKnown = codes "local_offset"
 
 -- what is wrong, and the way out
 abbrev pub sentence : MoveRefusal → List ℕ
@@ -63,3 +73,7 @@ sentence refusals.FeedNotKnown =
     codes "F counts in the units before, which aren't known: write F on a line after this one"
 sentence refusals.RadiiDiffer =
     codes "the radii at start and end of the arc differ by too much: post with more decimals"
+sentence refusals.TurnsNotKnown =
+    codes "turns of an arc need G90, G94, a known position, no stop, and a full circle if the height changes: write a line for each turn"
+sentence refusals.LocalNotKnown =
+    codes "G52 needs G90, a known position, no G92 before it and no other code that takes its words: set an origin by G10 L2"

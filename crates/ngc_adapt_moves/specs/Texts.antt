@@ -57,6 +57,7 @@ word_text letter value = letter ∷ (value_text value ++ codes " ")
 abbrev pub text_of : Text → List ℕ
 text_of texts.Nothing = []
 text_of texts.MachineTraverse = codes "G53 G0 "
+text_of texts.AxisOffset = codes "G92 "
 text_of (texts.Motion motion) = motion_text motion
 text_of (texts.Coordinate axis value) = word_text (axis_letter axis) value
 text_of (texts.Offset axis value) = word_text (offset_letter axis) value

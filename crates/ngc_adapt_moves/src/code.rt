@@ -59,6 +59,12 @@ pub const HOMING: [u16; 2] = [280, 300];
 /// Offsets of the axes by the place that the line names.
 pub const AXIS_OFFSETS: [u16; 1] = [920];
 
+/// G52, a local offset of the axes.
+pub const LOCAL_OFFSET: [u16; 1] = [520];
+
+/// Codes that share their offset with G52: G92 to G92.3.
+pub const SHARED_OFFSETS: [u16; 4] = [920, 921, 922, 923];
+
 /// Codes that take the axis words of their line: origins, homing, offsets of the axes.
 pub const TAKING_AXES: [u16; 5] = [100, 280, 300, 520, 920];
 
@@ -84,8 +90,17 @@ pub const FOR_ONE_LINE: [u16; 6] = [40, 100, 280, 300, 520, 920];
 /// Modes that neither move nor change where a place is.
 pub const PLAIN: [u16; 9] = [400, 610, 611, 640, 930, 940, 970, 980, 990];
 
+/// Motion along the path that is programmed, within a tolerance that P names.
+pub const BLENDED_PATH: [u16; 1] = [640];
+
 /// The M codes that stop or end a program, after the motion of their line.
 pub const STOPS: [u16; 5] = [0, 10, 20, 300, 600];
+
+/// The M codes that stop a program until it goes on: M0, M1 and M60.
+pub const PAUSES: [u16; 3] = [0, 10, 600];
+
+/// The M codes that end a program: M2 and M30.
+pub const ENDS: [u16; 2] = [20, 300];
 
 /// The change of the tool.
 pub const TOOL_CHANGE: [u16; 1] = [60];

@@ -98,7 +98,7 @@ fn has_target(place: &Place, words: &[Word], axis: Axis) -> bool
 }
 
 // Returns whether each axis that a line names has a home that can be written.
-fn has_targets(place: &Place, words: &[Word]) -> bool
+pub(crate) fn has_targets(place: &Place, words: &[Word]) -> bool
     ensures { result ≡ spec.has_targets place.now words.now }
 {
     has_target(place, words, Axis::X)

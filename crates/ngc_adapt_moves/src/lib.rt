@@ -8,6 +8,7 @@ mod homing;
 pub mod laws;
 mod line;
 mod line_words;
+mod local;
 mod places;
 mod plan;
 mod radii;
@@ -15,6 +16,7 @@ mod report;
 mod rewriting;
 mod rule;
 mod text;
+mod turns;
 mod value;
 mod word;
 

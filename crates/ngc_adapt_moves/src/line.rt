@@ -4,11 +4,13 @@ ghost use Rattle.ngc_adapt_moves.specs.Lines as spec;
 ghost use Rattle.ngc_adapt_moves.specs.Places.{modes_after};
 
 use crate::axis::{Axis, Place};
+use crate::code;
 use crate::homing::Homing;
-use crate::line_words::{has_motion, has_unknown, is_f, is_of_place};
+use crate::line_words::{has_motion, has_unknown, is_f, is_machine_code, is_of_place};
 use crate::places::{Motion, Places};
 use crate::plan::Plan;
 use crate::text::{add_text, add_value, axis_letter};
+use crate::turns::add_turns;
 use crate::word::{Word, word_of};
 use ngc_adapt::{may_be_deleted, split_item};
 use ngc_fixed_length::Value;
@@ -195,6 +197,67 @@ fn add_after<A: Allocator>(
     }
 }
 
+fn is_stop_item(codes: &[u16], item: &[u8]) -> bool
+    ensures { result ≡ spec.is_stop_item codes.now item.now }
+{
+    match word_of(item) {
+        Some(word) => is_machine_code(codes, &word),
+        None => false,
+    }
+}
+
+// Adds the M words of a line with a code of a kind.
+fn add_stop_words<A: Allocator>(
+    codes: &[u16],
+    line: &[u8],
+    out: &mut Vec<u8, A>,
+) -> Result<(), AllocError>
+    ensures { IfOk result
+        (λ _. out.new.items ≡ out.old.items ++ spec.stop_words codes.now line.now) }
+{
+    let mut rest = line;
+    while !rest.is_empty() {
+        let (item, others) = split_item(rest);
+        add_item_if(is_stop_item(codes, item), item, out)?;
+        rest = others;
+    }
+    Ok(())
+}
+
+// Adds a stop on a line of its own, after a separator.
+fn add_stop_line<A: Allocator>(
+    later: bool,
+    separator: &[u8],
+    codes: &[u16],
+    line: &[u8],
+    out: &mut Vec<u8, A>,
+) -> Result<(), AllocError>
+    ensures { IfOk result (λ _. out.new.items ≡ out.old.items
+        ++ spec.stop_line later separator.now codes.now line.now) }
+{
+    if later {
+        out.extend_from_slice(separator)?;
+        out.extend_from_slice(slash(may_be_deleted(line)))?;
+        add_stop_words(codes, line, out)?;
+    }
+    Ok(())
+}
+
+// Adds the stops after all other lines.
+fn add_stops<A: Allocator>(
+    separator: &[u8],
+    plan: &Plan,
+    line: &[u8],
+    out: &mut Vec<u8, A>,
+) -> Result<(), AllocError>
+    ensures { IfOk result (λ _. out.new.items ≡ out.old.items
+        ++ spec.stops_written separator.now plan.now line.now) }
+{
+    add_stop_line(plan.pause_later, separator, &code::PAUSES, line, out)?;
+    add_stop_line(plan.end_later, separator, &code::ENDS, line, out)?;
+    Ok(())
+}
+
 // Adds the text to which a line is rewritten, with a separator between lines.
 pub(crate) fn add_rewritten<A: Allocator>(
     separator: &[u8],
@@ -209,6 +272,8 @@ pub(crate) fn add_rewritten<A: Allocator>(
         add_before(separator, plan, line, out)?;
         add_main(plan, line, out)?;
         add_after(separator, &plan.homing, may_be_deleted(line), out)?;
+        add_turns(separator, slash(may_be_deleted(line)), &plan.turns, out)?;
+        add_stops(separator, plan, line, out)?;
     } else {
         out.extend_from_slice(line)?;
     }

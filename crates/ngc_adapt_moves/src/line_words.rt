@@ -33,6 +33,12 @@ pub(crate) fn is_f(letter: Letter) -> bool
     matches!(letter, Letter::F)
 }
 
+pub(crate) fn is_p(letter: Letter) -> bool
+    ensures { result ≡ spec.is_p letter }
+{
+    matches!(letter, Letter::P)
+}
+
 fn is_other_axis(letter: Letter) -> bool
     ensures { result ≡ spec.is_other_axis letter }
 {
@@ -49,7 +55,7 @@ pub(crate) fn is_same_axis(axis: Axis, other: Axis) -> bool
     }
 }
 
-fn is_axis(axis: Axis, letter: Letter) -> bool
+pub(crate) fn is_axis(axis: Axis, letter: Letter) -> bool
     ensures { result ≡ spec.is_axis axis letter }
 {
     match letter {
@@ -93,8 +99,8 @@ pub(crate) fn is_code(codes: &[u16], word: &Word) -> bool
     is_g(word.letter) && is_one_of(codes, word.code)
 }
 
-// Returns whether a word is an M word with a code of a kind.
-fn is_machine_code(codes: &[u16], word: &Word) -> bool
+/// Returns whether a word is an M word with a code of a kind.
+pub(crate) fn is_machine_code(codes: &[u16], word: &Word) -> bool
     ensures { result ≡ spec.is_machine_code codes.now word.now }
 {
     is_m(word.letter) && is_one_of(codes, word.code)
@@ -112,6 +118,23 @@ pub(crate) fn has_m(codes: &[u16], words: &[Word]) -> bool
     ensures { result ≡ spec.has_m codes.now words.now }
 {
     words.iter().any(|word| is_machine_code(codes, word))
+}
+
+/// Returns how many M words a line has.
+pub(crate) fn machine_count(words: &[Word]) -> usize
+    ensures { result ≡ spec.machine_count words.now }
+{
+    words.iter().filter(|word| is_m(word.letter)).count()
+}
+
+/// Returns how many M words of a line have a code of a kind.
+pub(crate) fn machine_codes(codes: &[u16], words: &[Word]) -> usize
+    ensures { result ≡ spec.machine_codes codes.now words.now }
+{
+    words
+        .iter()
+        .filter(|word| is_machine_code(codes, word))
+        .count()
 }
 
 fn has_g(words: &[Word]) -> bool
@@ -176,6 +199,26 @@ fn value_in(word: Option<Word>) -> Option<Value>
         Some(word) => word.value,
         None => None,
     }
+}
+
+/// Returns whether a line has a P word.
+pub(crate) fn has_p(words: &[Word]) -> bool
+    ensures { result ≡ spec.has_p words.now }
+{
+    words.iter().any(|word| is_p(word.letter))
+}
+
+fn first_p(words: &[Word]) -> Option<Word>
+    ensures { result ≡ spec.first_p words.now }
+{
+    words.iter().find(|word| is_p(word.letter)).copied()
+}
+
+/// Returns the number of the first P, if it is known.
+pub(crate) fn p_value(words: &[Word]) -> Option<Value>
+    ensures { result ≡ spec.p_value words.now }
+{
+    value_in(first_p(words))
 }
 
 // Returns the first word of an axis.

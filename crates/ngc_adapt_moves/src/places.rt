@@ -65,6 +65,8 @@ pub struct Places {
     pub feed_mode: Option<FeedMode>,
     /// The position of the tool in programmed coordinates.
     pub place: Place,
+    /// The local offset of G52, on each axis.
+    pub local: Place,
     /// Whether the rewritten program leaves another motion mode than the source, so that the next
     /// line that moves must name its own.
     pub motion_again: bool,
@@ -348,6 +350,71 @@ fn place_along(after: &Places, start: Option<Value>, words: &[Word], axis: Axis)
     }
 }
 
+fn no_offset() -> Place
+    ensures { result ≡ spec.no_offset }
+{
+    Place {
+        x: Some(Value::zero()),
+        y: Some(Value::zero()),
+        z: Some(Value::zero()),
+    }
+}
+
+// Returns an offset that is the same in any units.
+fn kept_nought(offset: Option<Value>) -> Option<Value>
+    ensures { result ≡ spec.kept_nought offset }
+{
+    match offset {
+        Some(value) => {
+            if value.millionths().unsigned_abs() == 0 {
+                Some(value)
+            } else {
+                None
+            }
+        }
+        None => None,
+    }
+}
+
+impl Places {
+    ghost use Rattle.ngc_adapt_moves.specs.Places.{local_along, local_after, local_either};
+
+    // Returns the local offset of an axis after a line.
+    fn local_along(&self, words: &[Word], axis: Axis) -> Option<Value>
+        ensures { result ≡ local_along self.now words.now axis }
+    {
+        if has(&code::SHARED_OFFSETS, words) {
+            None
+        } else if has(&code::LOCAL_OFFSET, words) && names(axis, words) {
+            value_along(axis, words)
+        } else if changes_units(self.units, words) {
+            kept_nought(self.local.along(axis))
+        } else {
+            self.local.along(axis)
+        }
+    }
+
+    fn local_after(&self, words: &[Word]) -> Place
+        ensures { result ≡ local_after self.now words.now }
+    {
+        Place {
+            x: self.local_along(words, Axis::X),
+            y: self.local_along(words, Axis::Y),
+            z: self.local_along(words, Axis::Z),
+        }
+    }
+
+    // Returns the local offset after a line that block delete may take out.
+    fn local_either(&self, words: &[Word]) -> Place
+        ensures { result ≡ local_either self.now words.now }
+    {
+        let sets = has(&code::SHARED_OFFSETS, words)
+            || has(&code::LOCAL_OFFSET, words)
+            || has(&code::UNITS, words);
+        if sets { nowhere() } else { self.local }
+    }
+}
+
 impl Places {
     ghost use Rattle.ngc_adapt_moves.specs.Places.{start, lost, modes_after, modes_either};
     ghost use Rattle.ngc_adapt_moves.specs.Places.{place_after, place_either, after_line};
@@ -367,6 +434,7 @@ impl Places {
             arc_distance: Some(ArcDistance::Point),
             feed_mode: Some(FeedMode::PerMinute),
             place: nowhere(),
+            local: no_offset(),
             motion_again: false,
         }
     }
@@ -385,6 +453,7 @@ impl Places {
             arc_distance: None,
             feed_mode: None,
             place: nowhere(),
+            local: nowhere(),
             motion_again: self.motion_again,
         }
     }
@@ -403,6 +472,7 @@ impl Places {
             arc_distance: arc_distance_after(self.arc_distance, words),
             feed_mode: feed_mode_after(self.feed_mode, words),
             place: self.place,
+            local: self.local_after(words),
             motion_again: self.motion_again,
         }
     }
@@ -469,6 +539,7 @@ impl Places {
                 self.feed_mode
             },
             place: self.place_either(words),
+            local: self.local_either(words),
             motion_again: self.motion_again,
         }
     }

@@ -4,23 +4,26 @@ ghost use Rattle.ngc_adapt_moves.specs.Places.{modes_after};
 ghost use Rattle.ngc_adapt_moves.specs.Plans as spec;
 
 use crate::arc::{Centre, Circle, centre_of, circle_of};
-use crate::axis::Place;
+use crate::axis::{Axis, Place};
 use crate::code;
 use crate::homing::{Homing, homing_of, is_part_home};
 use crate::line_words::{
-    has, has_axes, has_feed, has_motion, has_place, has_unknown, is_code, is_f,
+    has, has_axes, has_feed, has_m, has_motion, has_place, has_unknown, is_axis, is_code, is_f,
+    is_machine_code, is_p, machine_codes, machine_count,
 };
+use crate::local::{Local, local_of};
 use crate::places::{Motion, Places, changes_units, feed_mode_after};
 use crate::radii::{Balance, balance_of};
 use crate::rule::{MoveRefusal, Rule};
 use crate::text::Text;
+use crate::turns::{Turning, Turns, turns_of};
 use crate::word::{Letter, Word};
 use arrayvec::ArrayVec;
 use ngc_adapt::Dialect;
-use ngc_fixed_length::{FeedMode, Units};
+use ngc_fixed_length::{FeedMode, Units, Value};
 
 /// The greatest number of rules that change a line, and of those for which it is left.
-pub const MOST_RULES: usize = 7;
+pub const MOST_RULES: usize = 11;
 
 /// The result for a line that may have to name its motion.
 #[derive(Clone, Copy)]
@@ -57,6 +60,12 @@ pub struct Plan {
     pub apart: bool,
     pub feeding: Feeding,
     pub balance: Balance,
+    pub turns: Turns,
+    pub local: Local,
+    /// Whether M0, M1 or M60 is written on a line after.
+    pub pause_later: bool,
+    /// Whether M2 or M30 is written on a line after.
+    pub end_later: bool,
 }
 
 fn has_name(motion: Motion) -> bool
@@ -134,12 +143,42 @@ fn is_linuxcnc(dialect: Dialect) -> bool
     matches!(dialect, Dialect::LinuxCnc)
 }
 
+// The most M words of a line of our language.
+const MOST_MACHINE_WORDS: usize = 4;
+
+// Whether a line has at most one pause and one end, beside nothing that isn't known.
+fn has_clear_stops(words: &[Word]) -> bool
+    ensures { result ≡ spec.has_clear_stops words.now }
+{
+    machine_codes(&code::PAUSES, words) <= 1
+        && machine_codes(&code::ENDS, words) <= 1
+        && !has_unknown(words)
+}
+
+fn pause_later(words: &[Word]) -> bool
+    ensures { result ≡ spec.pause_later words.now }
+{
+    has_m(&code::PAUSES, words)
+        && has_clear_stops(words)
+        && machine_count(words).saturating_sub(machine_codes(&code::ENDS, words))
+            > MOST_MACHINE_WORDS
+}
+
+fn end_later(words: &[Word]) -> bool
+    ensures { result ≡ spec.end_later words.now }
+{
+    has_m(&code::ENDS, words)
+        && has_clear_stops(words)
+        && (has_m(&code::PAUSES, words) || machine_count(words) > MOST_MACHINE_WORDS)
+}
+
 /// Returns the result of the rules for a line with these words, which leave these modes.
 pub(crate) fn plan_of(places: &Places, after: &Places, words: &[Word]) -> Plan
     requires { after.now ≡ modes_after places.now words.now }
     ensures { result ≡ spec.plan_of places.now words.now }
 {
     let centre = centre_of(places, after, words);
+    let balance = balance_of(places, after, &centre, words);
     Plan {
         homing: homing_of(places, words),
         naming: naming_of(places, words),
@@ -148,13 +187,17 @@ pub(crate) fn plan_of(places: &Places, after: &Places, words: &[Word]) -> Plan
         has_arc_code: has(&code::ARC_DISTANCE, words),
         apart: is_apart(words),
         feeding: feeding_of(places, words),
-        balance: balance_of(places, after, &centre, words),
+        balance,
+        turns: turns_of(places, after, &centre, &balance, words),
+        local: local_of(places, words),
+        pause_later: pause_later(words),
+        end_later: end_later(words),
     }
 }
 
 // Adds a rule if it applies.
 fn add_rule(holds: bool, rule: Rule, rules: &mut ArrayVec<Rule, MOST_RULES>)
-    requires { length rules.old.items ≤ 6 }
+    requires { length rules.old.items ≤ 10 }
     ensures items { rules.new.items ≡ rules.old.items ++ spec.rule_if holds rule }
     ensures few { length rules.new.items ≤ length rules.old.items + 1 }
 {
@@ -164,7 +207,7 @@ fn add_rule(holds: bool, rule: Rule, rules: &mut ArrayVec<Rule, MOST_RULES>)
 }
 
 fn add_refusal(refusal: Option<MoveRefusal>, refusals: &mut ArrayVec<MoveRefusal, MOST_RULES>)
-    requires { length refusals.old.items ≤ 6 }
+    requires { length refusals.old.items ≤ 9 }
     ensures items { refusals.new.items ≡ refusals.old.items ++ spec.refusal_if refusal }
     ensures few { length refusals.new.items ≤ length refusals.old.items + 1 }
 {
@@ -173,8 +216,26 @@ fn add_refusal(refusal: Option<MoveRefusal>, refusals: &mut ArrayVec<MoveRefusal
     }
 }
 
+fn one_if(holds: bool) -> usize
+    ensures value { result ≡ spec.one_if holds }
+    ensures few { result ≤ 1 }
+{
+    if holds { 1 } else { 0 }
+}
+
 impl Homing {
-    ghost use Rattle.ngc_adapt_moves.specs.Plans.{is_homed, homing_refusal};
+    ghost use Rattle.ngc_adapt_moves.specs.Plans.{is_homed, homing_refusal, homing_lines};
+
+    // Returns how many lines the source's own is, with those that go home after it.
+    fn line_count(&self) -> usize
+        ensures value { result ≡ homing_lines self.now }
+        ensures few { result ≤ 2 }
+    {
+        match self {
+            Homing::Between(_) => 2,
+            Homing::Other | Homing::Left(_) | Homing::Direct(_) => 1,
+        }
+    }
 
     pub(crate) fn is_homed(&self) -> bool
         ensures { result ≡ is_homed self.now }
@@ -317,6 +378,122 @@ impl Balance {
     }
 }
 
+impl Local {
+    ghost use Rattle.ngc_adapt_moves.specs.Plans.{is_local, local_refusal, local_change};
+
+    pub(crate) fn is_local(&self) -> bool
+        ensures { result ≡ is_local self.now }
+    {
+        matches!(self, Local::By(_))
+    }
+
+    pub(crate) fn refusal(&self) -> Option<MoveRefusal>
+        ensures { result ≡ local_refusal self.now }
+    {
+        match self {
+            Local::Left(refusal) => Some(*refusal),
+            Local::Other | Local::By(_) => None,
+        }
+    }
+
+    // Returns what is written in place of a word of a local offset.
+    fn change_of(&self, word: &Word) -> Option<Text>
+        ensures { result ≡ local_change self.now word.now }
+    {
+        match self {
+            Local::Other | Local::Left(_) => None,
+            Local::By(place) => {
+                if is_code(&code::LOCAL_OFFSET, word) {
+                    Some(Text::AxisOffset)
+                } else {
+                    coordinate_text(place, word.letter)
+                }
+            }
+        }
+    }
+}
+
+impl Turns {
+    ghost use Rattle.ngc_adapt_moves.specs.Plans.{is_one_turn, is_several, turns_refusal};
+    ghost use Rattle.ngc_adapt_moves.specs.Plans.{turned_change};
+    ghost use Rattle.ngc_adapt_moves.specs.Turns.{further_turns};
+
+    pub(crate) fn is_one(&self) -> bool
+        ensures { result ≡ is_one_turn self.now }
+    {
+        matches!(self, Turns::One)
+    }
+
+    pub(crate) fn is_several(&self) -> bool
+        ensures { result ≡ is_several self.now }
+    {
+        matches!(self, Turns::Several(_))
+    }
+
+    pub(crate) fn refusal(&self) -> Option<MoveRefusal>
+        ensures { result ≡ turns_refusal self.now }
+    {
+        match self {
+            Turns::Left(refusal) => Some(*refusal),
+            Turns::Other | Turns::One | Turns::Several(_) => None,
+        }
+    }
+
+    // Returns how many lines follow the source's own.
+    fn further_count(&self) -> usize
+        ensures value { result ≡ further_turns self.now }
+        ensures few { result ≤ 65535 }
+    {
+        match self {
+            Turns::Several(turning) => usize::from(turning.further),
+            Turns::Other | Turns::One | Turns::Left(_) => 0,
+        }
+    }
+
+    // Returns what is written in place of a word of an arc that counts its turns.
+    fn change_of(&self, word: &Word) -> Option<Text>
+        ensures { result ≡ turned_change self.now word.now }
+    {
+        match self {
+            Turns::Other | Turns::Left(_) => None,
+            Turns::One => {
+                if is_p(word.letter) {
+                    Some(Text::Nothing)
+                } else {
+                    None
+                }
+            }
+            Turns::Several(turning) => {
+                if is_p(word.letter) {
+                    Some(Text::Nothing)
+                } else {
+                    first_change(turning, word.letter)
+                }
+            }
+        }
+    }
+}
+
+fn coordinate_at(axis: Axis, value: Option<Value>) -> Option<Text>
+    ensures { result ≡ spec.coordinate_at axis value }
+{
+    match value {
+        Some(value) => Some(Text::Coordinate(axis, value)),
+        None => None,
+    }
+}
+
+// Returns the change of a word of the first turn.
+fn first_change(turning: &Turning, letter: Letter) -> Option<Text>
+    ensures { result ≡ spec.first_change turning.now letter }
+{
+    if is_axis(turning.hole, letter) {
+        coordinate_at(turning.hole, turning.height_after(1))
+    } else {
+        coordinate_text(&turning.start, letter)
+    }
+}
+
 fn coordinate_text(place: &Place, letter: Letter) -> Option<Text>
     ensures { result ≡ spec.coordinate_text place.now letter }
 {
@@ -385,6 +562,7 @@ fn centre_change(centre: &Centre, word: &Word) -> Option<Text>
 
 impl Plan {
     ghost use Rattle.ngc_adapt_moves.specs.Plans.{is_origin, is_changed, rules_of, refusals_of};
+    ghost use Rattle.ngc_adapt_moves.specs.Plans.{is_stopped_later, homing_change};
     ghost use Rattle.ngc_adapt_moves.specs.Plans.{change_of, leaves_out, before_count, line_count};
 
     /// Returns whether offsets from the origin, or the codes that say so, are changed.
@@ -392,6 +570,13 @@ impl Plan {
         ensures { result ≡ is_origin self.now }
     {
         self.has_arc_code || self.centre.is_centred()
+    }
+
+    /// Returns whether a stop is written on a line after.
+    pub(crate) fn is_stopped_later(&self) -> bool
+        ensures { result ≡ is_stopped_later self.now }
+    {
+        self.pause_later || self.end_later
     }
 
     /// Returns whether a rule changes the line.
@@ -405,6 +590,10 @@ impl Plan {
             || self.apart
             || self.feeding.is_first()
             || self.balance.is_moved()
+            || self.is_stopped_later()
+            || self.turns.is_one()
+            || self.turns.is_several()
+            || self.local.is_local()
     }
 
     /// Returns the rules that change the line.
@@ -419,6 +608,10 @@ impl Plan {
         add_rule(self.apart, Rule::MotionApart, &mut rules);
         add_rule(self.feeding.is_first(), Rule::FeedFirst, &mut rules);
         add_rule(self.balance.is_moved(), Rule::MovedCentre, &mut rules);
+        add_rule(self.is_stopped_later(), Rule::StopLater, &mut rules);
+        add_rule(self.turns.is_one(), Rule::OneTurn, &mut rules);
+        add_rule(self.turns.is_several(), Rule::SeveralTurns, &mut rules);
+        add_rule(self.local.is_local(), Rule::LocalOffset, &mut rules);
         rules
     }
 
@@ -433,6 +626,8 @@ impl Plan {
         add_refusal(self.centre.refusal(), &mut refusals);
         add_refusal(self.feeding.refusal(), &mut refusals);
         add_refusal(self.balance.refusal(), &mut refusals);
+        add_refusal(self.turns.refusal(), &mut refusals);
+        add_refusal(self.local.refusal(), &mut refusals);
         refusals
     }
 
@@ -443,6 +638,20 @@ impl Plan {
         is_code(&code::ARC_DISTANCE, word)
             || (self.apart && is_code(&code::NAMED_MOTION, word))
             || (self.feeding.is_first() && is_f(word.letter))
+            || (self.pause_later && is_machine_code(&code::PAUSES, word))
+            || (self.end_later && is_machine_code(&code::ENDS, word))
+    }
+
+    // Returns the change of a word by homing, and by the centre of an arc.
+    fn homing_change(&self, word: &Word) -> Option<Text>
+        ensures { result
+            ≡ homing_change self.now.homing self.now.balance self.now.centre word.now }
+    {
+        match &self.homing {
+            Homing::Direct(place) => direct_change(place, word),
+            Homing::Between(_) => between_change(word),
+            Homing::Other | Homing::Left(_) => arc_change(&self.balance, &self.centre, word),
+        }
     }
 
     /// Returns the replacement of a word, if it is changed.
@@ -452,11 +661,10 @@ impl Plan {
         if self.leaves_out(word) {
             return Some(Text::Nothing);
         }
-        match &self.homing {
-            Homing::Direct(place) => direct_change(place, word),
-            Homing::Between(_) => between_change(word),
-            Homing::Other | Homing::Left(_) => arc_change(&self.balance, &self.centre, word),
-        }
+        self.turns
+            .change_of(word)
+            .or(self.local.change_of(word))
+            .or(self.homing_change(word))
     }
 
     /// Returns how many lines are written before the source's own.
@@ -471,9 +679,10 @@ impl Plan {
     pub(crate) fn line_count(&self) -> usize
         ensures { result ≡ line_count self.now }
     {
-        match &self.homing {
-            Homing::Between(_) => self.before_count() + 2,
-            Homing::Other | Homing::Left(_) | Homing::Direct(_) => self.before_count() + 1,
-        }
+        self.before_count()
+            + self.homing.line_count()
+            + self.turns.further_count()
+            + one_if(self.pause_later)
+            + one_if(self.end_later)
     }
 }

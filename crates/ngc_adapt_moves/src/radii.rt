@@ -90,7 +90,7 @@ fn chord_to(distance: Option<Distance>, start: Option<Value>, value: Option<Valu
     }
 }
 
-fn chord_along(
+pub(crate) fn chord_along(
     distance: Option<Distance>,
     start: Option<Value>,
     words: &[Word],
@@ -142,7 +142,7 @@ fn sweep_by(
 }
 
 // Returns an arc in a plane, where its start, its end and its centre are known.
-fn sweep_in(
+pub(crate) fn sweep_in(
     plane: Plane,
     places: &Places,
     after: &Places,
@@ -219,7 +219,7 @@ fn part_of(product: u128, square: u128) -> u128
     (2 * product + divisor) / (2 * divisor)
 }
 
-fn signed_size(is_back: bool, size: u128) -> i128
+pub(crate) fn signed_size(is_back: bool, size: u128) -> i128
     requires { size < 2 ^ 126 }
     ensures { result ≡ signed is_back size }
 {
@@ -237,7 +237,7 @@ fn between(start: Value, end: Value) -> u64
     (end.millionths() - start.millionths()).unsigned_abs()
 }
 
-fn place_in(plane: Plane, u: Option<Value>, v: Option<Value>) -> Place
+pub(crate) fn place_in(plane: Plane, u: Option<Value>, v: Option<Value>) -> Place
     ensures { result ≡ spec.in_plane plane u v }
 {
     match plane {
@@ -259,7 +259,7 @@ fn place_in(plane: Plane, u: Option<Value>, v: Option<Value>) -> Place
     }
 }
 
-fn offset_word(axis: Axis, value: Option<Value>) -> Text
+pub(crate) fn offset_word(axis: Axis, value: Option<Value>) -> Text
     ensures { result ≡ spec.offset_word axis value }
 {
     match value {

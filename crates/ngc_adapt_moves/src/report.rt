@@ -2,6 +2,7 @@
 ghost use Rattle.std.specs.Prelude.{◌≡◌, ◌++◌, codes, decimal, IfOk};
 ghost use Rattle.ngc_adapt_moves.specs.Reports as spec;
 ghost use Rattle.ngc_adapt_moves.specs.LineReports as report_of;
+ghost use Rattle.ngc_adapt_moves.specs.Plans.{is_several};
 
 use crate::axis::{Axis, Place};
 use crate::line::add_rewritten;
@@ -142,6 +143,72 @@ fn add_moved<A: Allocator>(
     Ok(())
 }
 
+// Adds the change of a line that is an arc of several turns.
+fn add_several<A: Allocator>(
+    number: usize,
+    written_number: usize,
+    plan: &Plan,
+    line: &[u8],
+    report: &mut Vec<u8, A>,
+) -> Result<(), AllocError>
+    ensures { IfOk result (λ _. report.new.items ≡ report.old.items
+        ++ report_of.several_if (is_several plan.now.turns) number written_number plan.now line.now) }
+{
+    if plan.turns.is_several() {
+        add_place(number, written_number, report)?;
+        add_rule(Rule::SeveralTurns, report)?;
+        report.extend_from_slice(line)?;
+        report.extend_from_slice(b" -> ")?;
+        add_rewritten(b" / ", plan, line, report)?;
+        report.extend_from_slice(b" (heights within 0.0000005)\n")?;
+    }
+    Ok(())
+}
+
+// Adds the changes of an arc, a stop and a local offset.
+#[tactic(auto, unfolding(crate::specs::LineReports::further_changes))]
+fn add_further_changes<A: Allocator>(
+    number: usize,
+    written_number: usize,
+    plan: &Plan,
+    line: &[u8],
+    report: &mut Vec<u8, A>,
+) -> Result<(), AllocError>
+    ensures { IfOk result (λ _. report.new.items ≡ report.old.items
+        ++ report_of.further_changes number written_number plan.now line.now) }
+{
+    add_moved(number, written_number, plan, line, report)?;
+    add_change_if(
+        plan.is_stopped_later(),
+        number,
+        written_number,
+        Rule::StopLater,
+        plan,
+        line,
+        report,
+    )?;
+    add_change_if(
+        plan.turns.is_one(),
+        number,
+        written_number,
+        Rule::OneTurn,
+        plan,
+        line,
+        report,
+    )?;
+    add_several(number, written_number, plan, line, report)?;
+    add_change_if(
+        plan.local.is_local(),
+        number,
+        written_number,
+        Rule::LocalOffset,
+        plan,
+        line,
+        report,
+    )?;
+    Ok(())
+}
+
 // Adds the changes of a line.
 #[tactic(auto, unfolding(crate::specs::LineReports::changes_text))]
 fn add_changes<A: Allocator>(
@@ -208,7 +275,7 @@ fn add_changes<A: Allocator>(
         line,
         report,
     )?;
-    add_moved(number, written_number, plan, line, report)?;
+    add_further_changes(number, written_number, plan, line, report)?;
     Ok(())
 }
 
@@ -246,6 +313,22 @@ fn add_refusal_if<A: Allocator>(
     }
 }
 
+// Adds why an arc or a local offset is left.
+#[tactic(auto, unfolding(crate::specs::LineReports::further_refusals))]
+fn add_further_refusals<A: Allocator>(
+    number: usize,
+    plan: &Plan,
+    report: &mut Vec<u8, A>,
+) -> Result<(), AllocError>
+    ensures { IfOk result (λ _. report.new.items ≡ report.old.items
+        ++ report_of.further_refusals number plan.now) }
+{
+    add_refusal_if(number, plan.balance.refusal(), report)?;
+    add_refusal_if(number, plan.turns.refusal(), report)?;
+    add_refusal_if(number, plan.local.refusal(), report)?;
+    Ok(())
+}
+
 // Adds why a line is left, if it is.
 #[tactic(auto, unfolding(crate::specs::LineReports::refusals_text))]
 fn add_refusals<A: Allocator>(
@@ -261,7 +344,7 @@ fn add_refusals<A: Allocator>(
     add_refusal_if(number, plan.circle.refusal(), report)?;
     add_refusal_if(number, plan.centre.refusal(), report)?;
     add_refusal_if(number, plan.feeding.refusal(), report)?;
-    add_refusal_if(number, plan.balance.refusal(), report)?;
+    add_further_refusals(number, plan, report)?;
     Ok(())
 }
 

@@ -20,6 +20,14 @@ pub enum Rule {
     FeedFirst,
     /// The centre of an arc whose radii at start and end differ by more than our language allows.
     MovedCentre,
+    /// A stop beside another, or on a line of more than four M words: on a line after.
+    StopLater,
+    /// P1 of an arc, which is the arc itself.
+    OneTurn,
+    /// P of an arc: a line for each turn.
+    SeveralTurns,
+    /// G52, a local offset of the coordinates, written as G92 with the same offset.
+    LocalOffset,
 }
 
 impl Default for Rule {
@@ -45,6 +53,10 @@ impl Rule {
             Rule::MotionApart => "motion_apart",
             Rule::FeedFirst => "feed_first",
             Rule::MovedCentre => "moved_centre",
+            Rule::StopLater => "stop_later",
+            Rule::OneTurn => "one_turn",
+            Rule::SeveralTurns => "several_turns",
+            Rule::LocalOffset => "local_offset",
         }
     }
 
@@ -59,8 +71,11 @@ impl Rule {
             | Rule::FullCircle
             | Rule::ArcOrigin
             | Rule::MotionApart
-            | Rule::FeedFirst => "exact",
-            Rule::MovedCentre => "bound",
+            | Rule::FeedFirst
+            | Rule::StopLater
+            | Rule::OneTurn
+            | Rule::LocalOffset => "exact",
+            Rule::MovedCentre | Rule::SeveralTurns => "bound",
         }
     }
 }
@@ -92,6 +107,10 @@ pub enum MoveRefusal {
     FeedNotKnown,
     /// An arc whose radii at start and end differ by more than the centre could be moved for.
     RadiiDiffer,
+    /// Several turns of an arc whose lines aren't known.
+    TurnsNotKnown,
+    /// G52 where the coordinates under its offset aren't known.
+    LocalNotKnown,
 }
 
 impl Default for MoveRefusal {
@@ -122,6 +141,8 @@ impl MoveRefusal {
             MoveRefusal::ArcPlaceNotKnown => "arc_origin",
             MoveRefusal::FeedNotKnown => "feed_first",
             MoveRefusal::RadiiDiffer => "moved_centre",
+            MoveRefusal::TurnsNotKnown => "several_turns",
+            MoveRefusal::LocalNotKnown => "local_offset",
         }
     }
 
@@ -162,6 +183,12 @@ impl MoveRefusal {
             }
             MoveRefusal::RadiiDiffer => {
                 "the radii at start and end of the arc differ by too much: post with more decimals"
+            }
+            MoveRefusal::TurnsNotKnown => {
+                "turns of an arc need G90, G94, a known position, no stop, and a full circle if the height changes: write a line for each turn"
+            }
+            MoveRefusal::LocalNotKnown => {
+                "G52 needs G90, a known position, no G92 before it and no other code that takes its words: set an origin by G10 L2"
             }
         }
     }

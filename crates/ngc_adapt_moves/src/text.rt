@@ -14,6 +14,8 @@ pub enum Text {
     Nothing,
     /// G53 G0.
     MachineTraverse,
+    /// G92.
+    AxisOffset,
     /// The code of a motion.
     Motion(Motion),
     /// An axis word.
@@ -143,6 +145,10 @@ pub(crate) fn add_text<A: Allocator>(text: Text, out: &mut Vec<u8, A>) -> Result
         Text::Nothing => Ok(()),
         Text::MachineTraverse => {
             out.extend_from_slice(b"G53 G0 ")?;
+            Ok(())
+        }
+        Text::AxisOffset => {
+            out.extend_from_slice(b"G92 ")?;
             Ok(())
         }
         Text::Motion(motion) => {
