@@ -15,7 +15,7 @@ const VIEW: Argument<'static> = Argument {
     is_named: true,
     is_required: false,
     takes: Takes::Text("VIEW"),
-    help: "From where to look: top, front or side\n[default: top]",
+    help: "From where to look: top, front, side or iso\n[default: top]",
 };
 
 const CERTIFICATE: Argument<'static> = Argument {

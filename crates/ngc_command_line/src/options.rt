@@ -176,8 +176,8 @@ pub struct DrawOptions<'a> {
     pub certificate: Option<&'a str>,
     /// The file of the part program. Without one it is read from standard input.
     pub program: Option<&'a str>,
-    /// The name of the view: `top`, `front` or `side`. Any other name is unknown. The default is
-    /// the top.
+    /// The name of the view: `top`, `front`, `side` or `iso`. Any other name is unknown. The default
+    /// is the top.
     pub view: Option<&'a str>,
     /// Whether block delete is on, so that lines that begin with `/` are left out.
     pub delete: bool,

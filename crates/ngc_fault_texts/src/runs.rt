@@ -102,7 +102,7 @@ pub(crate) fn shell() -> &'static [Row]
         },
         Row {
             number: 723,
-            rule: "`ngc draw` has no view of this name: write `top`, `front` or `side` (our own).",
+            rule: "`ngc draw` has no view of this name: write `top`, `front`, `side` or `iso` (our own).",
             example: "command `ngc draw --view above --machine mill.toml --tools tools.toml`",
             answer: "`ngc: fault 723`",
             place: Some("3"),

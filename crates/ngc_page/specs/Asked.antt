@@ -17,7 +17,9 @@ AsksReport all json =
 
 -- the views by their numbers
 abbrev pub view_name : ℕ → List ℕ
-view_name n = if n == 1 then codes "front" else if n == 2 then codes "side" else codes "top"
+view_name n =
+    if n == 1 then codes "front" else if n == 2 then codes "side"
+    else if n == 3 then codes "iso" else codes "top"
 
 abbrev pub AsksDraw : ℕ → Bool → Options → Type 0
 AsksDraw view delete =

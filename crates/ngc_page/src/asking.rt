@@ -30,6 +30,7 @@ fn view_name(view: u32) -> &'static str
     match view {
         1 => "front",
         2 => "side",
+        3 => "iso",
         _ => "top",
     }
 }

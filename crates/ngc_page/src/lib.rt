@@ -57,7 +57,7 @@ pub extern "C" fn ngc_report(
 }
 
 /// Writes the picture of a part program at a setting of block delete: from the front if `view` is
-/// 1, from the side if it is 2, and otherwise from the top.
+/// 1, from the side if it is 2, isometric if it is 3, and otherwise from the top.
 #[unsafe(no_mangle)]
 pub extern "C" fn ngc_draw(
     alloc: Global,

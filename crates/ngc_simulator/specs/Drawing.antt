@@ -25,7 +25,7 @@ use Rattle.ngc_drawing.specs.Pictures.{picture_text}
 use Rattle.ngc_drawing.specs.declared.look.Look.{Look}
 use Rattle.ngc_drawing.specs.declared.refusal.RefusedMotion.{RefusedMotion}
 use Rattle.ngc_drawing.specs.declared.view.View.{View}
-use Rattle.ngc_drawing.specs.declared.view.View.TheVariants.{Top, Front, Side}
+use Rattle.ngc_drawing.specs.declared.view.View.TheVariants.{Top, Front, Side, Iso}
 use Rattle.ngc_program_report.specs.Met.{met_at}
 use Rattle.ngc_inputs.specs.declared.fault.AnswerFault.{AnswerFault}
 use Rattle.ngc_inputs.specs.declared.fault.AnswerFault.TheVariants as answers
@@ -38,7 +38,8 @@ view_named None = Some Top
 view_named (Some name) =
     if bytes_eq name (codes "top") then Some Top else if bytes_eq name (codes "front")
     then Some Front
-    else if bytes_eq name (codes "side") then Some Side else None
+    else if bytes_eq name (codes "side") then Some Side
+    else if bytes_eq name (codes "iso") then Some Iso else None
 
 -- how the picture looks from this side, with these options
 abbrev pub look_of : DrawOptions → View → Look

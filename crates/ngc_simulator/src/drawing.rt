@@ -35,6 +35,7 @@ pub(crate) fn view_of(name: Option<&str>) -> Option<View>
         None | Some("top") => Some(View::Top),
         Some("front") => Some(View::Front),
         Some("side") => Some(View::Side),
+        Some("iso") => Some(View::Iso),
         Some(_) => None,
     }
 }
