@@ -22,7 +22,7 @@ pub enum Local {
     Other,
     /// It is left as it is.
     Left(MoveRefusal),
-    /// G92 gives the current point these coordinates.
+    /// G92 sets these coordinates for the current point.
     By(Place),
 }
 
