@@ -12,6 +12,7 @@ use std::alloc::Global;
 
 /// The lengths of the two texts in bytes, which may exceed the space for them.
 #[repr(C)]
+#[derive(Drop)]
 pub struct Lengths {
     pub output: usize,
     pub errors: usize,

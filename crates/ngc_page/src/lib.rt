@@ -17,6 +17,8 @@ mod answering;
 mod asking;
 mod files;
 mod lines;
+#[cfg(test)]
+mod tests;
 
 pub use crate::answering::Lengths;
 use crate::answering::answer_into;

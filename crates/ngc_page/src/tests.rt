@@ -1,0 +1,310 @@
+//! Tests of the calls: each one once on files that it accepts, one with little space for its output,
+//! and one on a file that is refused.
+use crate::{
+    Lengths, ngc_adapt, ngc_certify, ngc_check, ngc_draw, ngc_explain, ngc_list, ngc_machine,
+    ngc_pulses, ngc_report, ngc_show,
+};
+use std::alloc::{AllocError, Global};
+use std::process::Abort;
+use std::test::Fail;
+
+const MACHINE: &[u8] = b"version = 1
+step = 10000
+ticks_per_second = 10000
+max_rate = 400000
+change = 1000
+corner = 50000
+turn = 1000000000
+low = [0, 0, -100000000]
+high = [300000000, 300000000, 0]
+start = [0, 0, 0]
+home28 = [0, 0, 0]
+home30 = [0, 0, 0]
+";
+
+const TOOLS: &[u8] = b"version = 1
+[[tool]]
+number = 1
+length = 20000000
+radius = 3000000
+offset = 20000000
+";
+
+const STILL: &[u8] = b"M2\n";
+
+const NO_MOTIONS: &[u8] = b"ngc-certificate 1\nsetting off 0\nsetting on 0\nend\n";
+
+// 100 steps a millimetre make a step of 0.01 mm, which is 10,000 nm.
+const SETTINGS: &[u8] = b"$13=0
+$22=1
+$23=3
+$27=1.000
+$100=100.000
+$101=100.000
+$102=100.000
+$110=500.000
+$111=500.000
+$112=300.000
+$120=10.000
+$121=10.000
+$122=10.000
+$130=200.000
+$131=180.000
+$132=45.000
+";
+
+/// The page's memory for one call.
+#[derive(Drop)]
+struct Space {
+    output: Vec<u8>,
+    errors: Vec<u8>,
+    lengths: Lengths,
+}
+
+impl Space {
+    fn new(alloc: Global, output: usize) -> Result<Space, AllocError> {
+        Ok(Space {
+            output: vec![in alloc; 0u8; output]?,
+            errors: vec![in alloc; 0u8; 1000]?,
+            lengths: Lengths {
+                output: 0,
+                errors: 0,
+            },
+        })
+    }
+}
+
+const PROGRAM: &[u8] = b"G0 X0.1\nM2\n";
+
+impl Space {
+    fn report(&mut self, alloc: Global) -> u32 {
+        let output = self.output.as_mut_slice();
+        let errors = self.errors.as_mut_slice();
+        let lengths = &mut self.lengths;
+        ngc_report(
+            alloc, PROGRAM, MACHINE, TOOLS, false, false, output, errors, lengths,
+        )
+    }
+
+    fn draw(&mut self, alloc: Global) -> u32 {
+        let output = self.output.as_mut_slice();
+        let errors = self.errors.as_mut_slice();
+        let lengths = &mut self.lengths;
+        ngc_draw(
+            alloc, PROGRAM, MACHINE, TOOLS, 1, false, output, errors, lengths,
+        )
+    }
+
+    fn list(&mut self, alloc: Global) -> u32 {
+        let output = self.output.as_mut_slice();
+        let errors = self.errors.as_mut_slice();
+        let lengths = &mut self.lengths;
+        ngc_list(
+            alloc, PROGRAM, MACHINE, TOOLS, false, output, errors, lengths,
+        )
+    }
+
+    fn certify(&mut self, alloc: Global) -> u32 {
+        let output = self.output.as_mut_slice();
+        let errors = self.errors.as_mut_slice();
+        let lengths = &mut self.lengths;
+        ngc_certify(alloc, STILL, MACHINE, TOOLS, false, output, errors, lengths)
+    }
+
+    fn check(&mut self, alloc: Global) -> u32 {
+        let output = self.output.as_mut_slice();
+        let errors = self.errors.as_mut_slice();
+        let lengths = &mut self.lengths;
+        ngc_check(
+            alloc, STILL, MACHINE, TOOLS, NO_MOTIONS, output, errors, lengths,
+        )
+    }
+
+    fn pulses(&mut self, alloc: Global) -> u32 {
+        let output = self.output.as_mut_slice();
+        let errors = self.errors.as_mut_slice();
+        let lengths = &mut self.lengths;
+        ngc_pulses(
+            alloc, STILL, MACHINE, TOOLS, NO_MOTIONS, false, output, errors, lengths,
+        )
+    }
+
+    fn show(&mut self, alloc: Global) -> u32 {
+        let output = self.output.as_mut_slice();
+        let errors = self.errors.as_mut_slice();
+        let lengths = &mut self.lengths;
+        ngc_show(alloc, MACHINE, TOOLS, output, errors, lengths)
+    }
+
+    fn adapt(&mut self, alloc: Global) -> u32 {
+        let output = self.output.as_mut_slice();
+        let errors = self.errors.as_mut_slice();
+        let lengths = &mut self.lengths;
+        let program: &[u8] = b"G28 G91 Z0\nM2\n";
+        ngc_adapt(alloc, program, MACHINE, b"", 1, 1, output, errors, lengths)
+    }
+
+    fn machine(&mut self, alloc: Global) -> u32 {
+        let output = self.output.as_mut_slice();
+        let errors = self.errors.as_mut_slice();
+        let lengths = &mut self.lengths;
+        ngc_machine(alloc, SETTINGS, output, errors, lengths)
+    }
+
+    fn explain(&mut self, alloc: Global) -> u32 {
+        let output = self.output.as_mut_slice();
+        let errors = self.errors.as_mut_slice();
+        let lengths = &mut self.lengths;
+        ngc_explain(alloc, 113, output, errors, lengths)
+    }
+}
+
+/// A call on small files.
+#[derive(Clone, Copy, Debug)]
+enum Call {
+    Report,
+    Draw,
+    List,
+    Certify,
+    Check,
+    Pulses,
+    Show,
+    Adapt,
+    Machine,
+    Explain,
+}
+
+impl Call {
+    fn make(self, alloc: Global, space: &mut Space) -> u32 {
+        match self {
+            Call::Report => space.report(alloc),
+            Call::Draw => space.draw(alloc),
+            Call::List => space.list(alloc),
+            Call::Certify => space.certify(alloc),
+            Call::Check => space.check(alloc),
+            Call::Pulses => space.pulses(alloc),
+            Call::Show => space.show(alloc),
+            Call::Adapt => space.adapt(alloc),
+            Call::Machine => space.machine(alloc),
+            Call::Explain => space.explain(alloc),
+        }
+    }
+}
+
+fn has(text: &[u8], part: &[u8]) -> bool {
+    for at in 0..text.len() {
+        if text[at..].starts_with(part) {
+            return true;
+        }
+    }
+    false
+}
+
+/// A call, and a part of its output, which is the whole output where `is_whole` is set.
+#[derive(Clone, Copy, Debug)]
+struct Row {
+    call: Call,
+    part: &'static [u8],
+    is_whole: bool,
+}
+
+const ROWS: &[Row] = &[
+    Row {
+        call: Call::Report,
+        part: b"The program fits",
+        is_whole: false,
+    },
+    Row {
+        call: Call::Draw,
+        part: b"<svg",
+        is_whole: false,
+    },
+    Row {
+        call: Call::List,
+        part: b"0 1 traverse 100000 0 0 grid 10 0 0\n1 2 end\n",
+        is_whole: true,
+    },
+    Row {
+        call: Call::Certify,
+        part: NO_MOTIONS,
+        is_whole: true,
+    },
+    Row {
+        call: Call::Check,
+        part: b"accepted\n",
+        is_whole: true,
+    },
+    Row {
+        call: Call::Pulses,
+        part: b"$enddefinitions $end",
+        is_whole: false,
+    },
+    Row {
+        call: Call::Show,
+        part: b"0.01 mm",
+        is_whole: false,
+    },
+    Row {
+        call: Call::Adapt,
+        part: b"T1 M6\nG53 G0 G91 Z0",
+        is_whole: false,
+    },
+    Row {
+        call: Call::Machine,
+        part: b"step = 10000",
+        is_whole: false,
+    },
+    Row {
+        call: Call::Explain,
+        part: b"113",
+        is_whole: false,
+    },
+];
+
+fn is_answered(row: &Row, status: u32, space: &Space) -> bool {
+    let length = space.lengths.output;
+    if status != 0 || length > space.output.len() {
+        return false;
+    }
+    let output = &space.output.as_slice()[..length];
+    if row.is_whole {
+        output == row.part
+    } else {
+        has(output, row.part)
+    }
+}
+
+#[test]
+fn each_call_hands_over_its_output(rt: HostRuntime) -> Result<(), Fail> {
+    for row in ROWS {
+        let mut space = Space::new(rt.alloc(), 20_000)?;
+        let status = row.call.make(rt.alloc(), &mut space);
+        let answered = is_answered(row, status, &space);
+        assert!(&rt; answered, "at {row:?}");
+    }
+    Ok(())
+}
+
+// Ten bytes of the 44 that a listing has.
+#[test]
+fn a_text_is_cut_where_the_space_ends(rt: HostRuntime) -> Result<(), Fail> {
+    let mut space = Space::new(rt.alloc(), 10)?;
+    let status = Call::List.make(rt.alloc(), &mut space);
+    let cut = status == 0
+        && space.lengths.output == 44
+        && space.output.as_slice() == b"0 1 traver".as_slice();
+    assert!(&rt; cut);
+    Ok(())
+}
+
+#[test]
+fn a_refused_file_has_its_fault_among_the_errors(rt: HostRuntime) -> Result<(), Fail> {
+    let mut space = Space::new(rt.alloc(), 10)?;
+    let output = space.output.as_mut_slice();
+    let errors = space.errors.as_mut_slice();
+    let lengths = &mut space.lengths;
+    let status = ngc_show(rt.alloc(), b"step = 1", b"", output, errors, lengths);
+    let refused = status == 3 && has(space.errors.as_slice(), b"fault 269");
+    assert!(&rt; refused);
+    Ok(())
+}
