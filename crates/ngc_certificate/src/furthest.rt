@@ -180,7 +180,7 @@ impl<A: Allocator> Begin<'_, A> {
         [before, beyond]
     }
 
-    /// Returns the limit of pieces from here for a block in which the controlled point may not be,
+    /// Returns the limit of pieces from here for a block in which the spindle nose may not be,
     /// or `None` if the block limits none.
     fn limit_at(&self, block: &Block) -> Option<Limit> {
         let kept_from = self.quadrant.sight_of(self.plane, block);

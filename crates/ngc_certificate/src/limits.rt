@@ -85,7 +85,7 @@ impl Block {
         }
     }
 
-    /// Returns the block in which the controlled point may not be, because a part of its tool would
+    /// Returns the block in which the spindle nose may not be, because a part of its tool would
     /// meet a fixture. The part's foot is at the height `foot` above that point.
     pub(crate) fn kept_from(fixture: &Fixture, part: &Part, foot: i64) -> Block
         requires { unsigned_abs foot ≤ 500000000000 }

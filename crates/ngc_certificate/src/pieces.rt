@@ -181,7 +181,7 @@ pub fn pieces_fault<A: Allocator>(
     first_refusal(machine, tool, way, pieces)
 }
 
-/// Returns the lowest fixture, counted from 0, that the tool's body meets with its controlled point
+/// Returns the lowest fixture, counted from 0, that the tool's body meets with its spindle nose
 /// at a grid point.
 pub fn place_fault<A: Allocator>(
     machine: &Machine<A>,

@@ -23,7 +23,7 @@ nanometres_of step p = record { x = p.x *ℤ step; y = p.y *ℤ step; z = p.z *�
 abbrev pub span : ℤ → GridBox → Solid
 span step b = record { low = nanometres_of step b.low; high = nanometres_of step b.high }
 
--- the box that a part fills while the controlled point moves over a box: the part's foot is at the
+-- the box that a part fills while the spindle nose moves over a box: the part's foot is at the
 -- height foot above that point, and the box extends by the radius to each side and by the length
 -- above the foot
 abbrev pub filled : Part → ℤ → Solid → Solid
@@ -41,7 +41,7 @@ abbrev pub stacked : ℤ → List Part → Solid → List Solid
 stacked foot [] b = []
 stacked foot (part ∷ parts) b = filled part foot b ∷ stacked (foot +ℤ part.length) parts b
 
--- the boxes of a body, one for each part of the tool; without a tool the controlled point itself
+-- the boxes of a body, one for each part of the tool; without a tool the spindle nose itself
 abbrev pub bodies : Option Tool → Solid → List Solid
 bodies None b = b ∷ []
 bodies (Some tool) b = stacked tool.bottom tool.parts b

@@ -15,7 +15,7 @@ solid_of s = record { low = place_of s.low; high = place_of s.high }
 abbrev pub REACH : ℕ
 REACH = 107374182400000
 
--- the greatest distance from the controlled point to a part's foot
+-- the greatest distance from the spindle nose to a part's foot
 abbrev pub FOOT_REACH : ℕ
 FOOT_REACH = 1000000000000
 

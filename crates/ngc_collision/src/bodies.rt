@@ -8,8 +8,8 @@ use ngc_machine_files::{Machine, Tool};
 use std::alloc::Allocator;
 
 /// Returns the lowest number of a fixture, counted from 0, that any part of the tool meets while
-/// its controlled point moves over a box of grid points. Returns `None` if each part clears all
-/// fixtures. Without a tool it tests the controlled point itself. A part may touch a fixture.
+/// its spindle nose moves over a box of grid points. Returns `None` if each part clears all
+/// fixtures. Without a tool it tests the spindle nose itself. A part may touch a fixture.
 pub fn first_met<A: Allocator>(
     machine: &Machine<A>,
     tool: Option<Tool>,

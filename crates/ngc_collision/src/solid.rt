@@ -41,7 +41,7 @@ fn raised(coordinate: i64, by: Nm) -> i64
     coordinate + by.nanometres()
 }
 
-/// Returns the coordinate of a part's foot, from its height above the controlled point.
+/// Returns the coordinate of a part's foot, from its height above the spindle nose.
 fn foot_at(coordinate: i64, foot: i64) -> i64
     requires coordinate { unsigned_abs coordinate ≤ REACH }
     requires foot { unsigned_abs foot ≤ FOOT_REACH }
@@ -85,7 +85,7 @@ impl Place {
         }
     }
 
-    /// Returns the lowest corner of a part, with the controlled point here and the part's foot at
+    /// Returns the lowest corner of a part, with the spindle nose here and the part's foot at
     /// the height `foot` above it.
     fn lowest_filled(&self, part: &Part, foot: i64) -> Place
         requires here { IsReached self.now }
@@ -101,7 +101,7 @@ impl Place {
         }
     }
 
-    /// Returns the highest corner of a part, with the controlled point here and the part's foot at
+    /// Returns the highest corner of a part, with the spindle nose here and the part's foot at
     /// the height `foot` above it.
     fn highest_filled(&self, part: &Part, foot: i64) -> Place
         requires here { IsReached self.now }
@@ -139,7 +139,7 @@ impl Solid {
         }
     }
 
-    /// Returns the box that a part fills while the controlled point moves over this box. The part's
+    /// Returns the box that a part fills while the spindle nose moves over this box. The part's
     /// foot is at the height `foot` above that point. The box extends by the radius to each side,
     /// and by the length above the foot.
     fn filled(&self, part: &Part, foot: i64) -> Solid
@@ -154,7 +154,7 @@ impl Solid {
         }
     }
 
-    /// Returns the boxes that the parts of a tool fill while its controlled point moves over this
+    /// Returns the boxes that the parts of a tool fill while its spindle nose moves over this
     /// one. Each part is on top of the one before.
     fn stacked(&self, tool: &Tool) -> ArrayVec<Solid, 4>
         requires low { IsReached self.now.low }
@@ -171,8 +171,8 @@ impl Solid {
         solids
     }
 
-    /// Returns the boxes that the parts of a tool fill while its controlled point moves over a box
-    /// of grid points. Without a tool it is the box of the controlled point.
+    /// Returns the boxes that the parts of a tool fill while its spindle nose moves over a box
+    /// of grid points. Without a tool it is the box of the spindle nose.
     pub fn swept(step: Nm, tool: Option<Tool>, bounds: &GridBox) -> ArrayVec<Solid, 4>
         requires { IsStep step }
         ensures { bodies tool (span step bounds.now) ≡ map solid_of result.items }

@@ -5,14 +5,14 @@ use ngc_fixed_length::Turn;
 use ngc_machine_files::Tool;
 
 /// The state of the spindle, with its speed in millionths of a turn per minute.
-#[derive(Clone, Copy)]
+#[derive(Clone, Copy, PartialEq, Eq)]
 pub enum SpindleState {
     Off,
     Turning(Turn, u64),
 }
 
 /// The coolants that are on.
-#[derive(Clone, Copy)]
+#[derive(Clone, Copy, PartialEq, Eq)]
 pub enum CoolantState {
     Off,
     Mist,
@@ -21,7 +21,7 @@ pub enum CoolantState {
 }
 
 /// The effect of a command.
-#[derive(Clone, Copy)]
+#[derive(Clone, Copy, PartialEq, Eq)]
 pub enum Action {
     /// G0 to G3, G28, G30: the axes move.
     Move(Motion),

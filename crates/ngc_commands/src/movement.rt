@@ -5,14 +5,14 @@ use ngc_fixed_length::Point3;
 
 /// The feed of a motion: in nanometres per minute, or in inverse time as the number of times per
 /// minute that the motion could be made, in millionths.
-#[derive(Clone, Copy)]
+#[derive(Clone, Copy, PartialEq, Eq)]
 pub enum Feed {
     PerMinute(u64),
     Inverse(u64),
 }
 
 /// The speed of a motion: the greatest rate (G0, G28, G30), or a feed (G1, G2, G3).
-#[derive(Clone, Copy)]
+#[derive(Clone, Copy, PartialEq, Eq)]
 pub enum Pace {
     Rapid,
     Feed(Feed),
@@ -27,7 +27,7 @@ pub enum Way {
 }
 
 /// A motion: the path of the axes, its pace, and whether the axes stop at its end.
-#[derive(Clone, Copy)]
+#[derive(Clone, Copy, PartialEq, Eq)]
 pub struct Motion {
     pub way: Way,
     pub pace: Pace,

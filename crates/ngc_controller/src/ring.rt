@@ -12,8 +12,8 @@ use ngc_step_kernel::ArcKernel;
 use std::alloc::{AllocError, Allocator};
 use std::marker::Model;
 
-/// A ring of commands, as many as it has memory for. The head is stored separately, so that a tick
-/// finds it at once.
+/// A ring of commands; its memory limits their number. The head is stored separately, so that a
+/// tick finds it at once.
 #[derive(Drop)]
 pub struct Ring<K: ArcKernel + Drop, A: Allocator> {
     head: Option<Loaded<K>>,

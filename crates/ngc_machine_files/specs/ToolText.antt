@@ -45,7 +45,7 @@ numbers_of t =
 abbrev pub values_of : ToolContents → TableValues
 values_of c = record { version = c.version; tools = map numbers_of c.tools.items }
 
--- version 1: one part, which ends at the controlled point
+-- version 1: one part, which ends at the spindle nose
 abbrev pub tool_of_length : Data → Option ToolNumbers
 tool_of_length value = do
   tree ← known (codes "number" ∷ codes "length" ∷ codes "radius" ∷ codes "offset" ∷ []) value

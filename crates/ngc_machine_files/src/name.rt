@@ -6,7 +6,7 @@ use std::marker::Model;
 
 /// The name of a fixture or a tool: 1 to 40 printable ASCII characters, or none if the file has no
 /// name for it.
-#[derive(Clone, Copy)]
+#[derive(Clone, Copy, PartialEq, Eq)]
 pub struct Name {
     /// The bytes that aren't used are zero, so that equal names have equal bytes.
     characters: [u8; 40],

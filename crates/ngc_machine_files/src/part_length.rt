@@ -4,7 +4,7 @@ use std::marker::Model;
 
 /// A length of 0 to 10^9 nm. It is stored in 32 bits, since each command that mounts a tool holds
 /// the tool's parts.
-#[derive(Clone, Copy)]
+#[derive(Clone, Copy, PartialEq, Eq)]
 pub struct PartLength {
     nanometres: u32,
 }

@@ -5,14 +5,14 @@ use std::marker::Model;
 
 /// A part of a tool: a box of this length along Z, whose sides along X and Y are twice the radius.
 /// Lengths are in nanometres.
-#[derive(Clone, Copy)]
+#[derive(Clone, Copy, PartialEq, Eq)]
 pub struct Part {
     pub length: PartLength,
     pub radius: PartLength,
 }
 
 /// One to four parts, the lowest first. Each part begins where the one below it ends.
-#[derive(Clone, Copy)]
+#[derive(Clone, Copy, PartialEq, Eq)]
 pub struct Parts {
     /// The places that aren't used hold zeros, so that equal parts have equal places.
     places: [Part; 4],

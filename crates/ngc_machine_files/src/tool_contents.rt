@@ -59,7 +59,7 @@ fn below_zero(length: i64) -> i128
 }
 
 impl ToolEntry {
-    /// Returns a tool of one part that ends at the controlled point.
+    /// Returns a tool of one part that ends at the spindle nose.
     fn of_one(
         alloc: Global,
         number: i64,

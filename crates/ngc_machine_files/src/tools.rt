@@ -6,13 +6,13 @@ use ngc_fixed_length::Nm;
 use std::alloc::{AllocError, Allocator};
 
 /// A tool of the table. Lengths are in nanometres.
-#[derive(Clone, Copy)]
+#[derive(Clone, Copy, PartialEq, Eq)]
 pub struct Tool {
     /// The tool's number, 1 to 9,999.
     pub number: u32,
     /// The tool length offset that G43 uses, -10^9 to 10^9.
     pub offset: Nm,
-    /// The height of the lowest part's bottom relative to the controlled point, -10^9 to 0.
+    /// The height of the lowest part's bottom relative to the spindle nose, -10^9 to 0.
     pub bottom: Nm,
     /// The parts of the body, from the bottom up.
     pub parts: Parts,

@@ -46,8 +46,8 @@ rise a = distance (height a.plane a.start) (height a.plane a.end)
 abbrev pub sloped_length : ℕ → ℕ → ℕ
 sloped_length flat rise = whole_root_above (square flat + square rise)
 
--- The length of a line that goes as many steps along an axis as a helix has path steps, n, and
--- rises as much; 0 for any other motion
+-- The length of a line that goes one step along an axis for each of the n path steps of a helix,
+-- and has its height; 0 for any other motion
 abbrev pub length_along : ℤ → Way → ℕ → ℕ
 length_along step (Line b e) n = 0
 length_along step (Arc a) n =
@@ -59,7 +59,7 @@ helix_length step _ n = 0
 
 -- The cap on a helix. Its height is distributed evenly over its path steps, and no path step is
 -- shorter in the plane than a step. So the remaining share of the feed for the plane is at least
--- that of a line that goes all path steps along an axis and rises as much.
+-- that of a line that goes all path steps along an axis and has the same height.
 abbrev pub sloped_cap : ℕ → ℕ → ℕ → ℕ
 sloped_cap flat length cap = cap * flat / length
 
@@ -125,7 +125,7 @@ PlacesKeepFeed =
 
 -- The same for each arc with its height. At m nanometres from the centre a path step is at most
 -- step * radius / m long in the plane, and it rises by an nth of the height; a line of n path steps
--- along an axis rises as much. The square of the distance that a rate covers per minute follows
+-- along an axis has the same rise. The square of the distance that a rate covers per minute follows
 -- from the squares of these lengths.
 pub record KeepsSlopedFeed (hz step radius n rise m f v : ℕ) : Type 0 where
   pub along_arc :

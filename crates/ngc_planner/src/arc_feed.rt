@@ -100,9 +100,9 @@ fn length_along(way: &Way, n: u64, step: Nm) -> u64
     }
 }
 
-/// Returns the length of a line that goes as many steps along an axis as a helix has path steps,
-/// and rises as much as the helix: in nanometres, rounded up. `n` is the number of path steps, at
-/// most 10^9. For an action that is no helix it returns 0. It computes a whole root.
+/// Returns the length of a line that goes one step along an axis for each path step of a helix, and
+/// has the height of the helix: in nanometres, rounded up. `n` is the number of path steps, at most
+/// 10^9. For an action that is no helix it returns 0. It computes a whole root.
 pub fn helix_length(action: &Action, n: u64, step: Nm) -> u64
     requires steps { n ≤ STEPS_LIMIT }
     requires step { IsStep step }

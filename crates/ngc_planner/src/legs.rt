@@ -14,7 +14,7 @@ use arrayvec::ArrayVec;
 use std::alloc::{AllocError, Allocator};
 use std::marker::Model;
 
-/// Up to 16 motions in place, or as many as there is memory for.
+/// Up to 16 motions in place, or a list in memory that may be longer.
 #[derive(Drop)]
 enum Store<A: Allocator> {
     /// With the change of the ramp.

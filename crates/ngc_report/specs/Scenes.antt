@@ -78,7 +78,7 @@ abbrev pub scene_at : MachineFile → List Command → ℕ → Option Scene
 scene_at machine commands k =
     option_and_then (scene_of machine (standing machine (take k commands))) (slice_get commands k)
 
--- the height of the lowest end of a tool above the controlled point
+-- the height of the lowest end of a tool above the spindle nose
 abbrev pub foot : Option Tool → ℤ
 foot None = pos 0
 foot (Some tool) = tool.bottom

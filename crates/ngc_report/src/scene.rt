@@ -42,7 +42,7 @@ pub struct Met {
     /// Its number, from 0.
     pub number: u32,
     pub fixture: Fixture,
-    /// The lowest height of the controlled point, in nanometres, at which the whole tool is over
+    /// The lowest height of the spindle nose, in nanometres, at which the whole tool is over
     /// the fixture; `None` if it is outside the travel.
     pub over: Option<i64>,
 }
@@ -136,7 +136,7 @@ pub(crate) fn scene_of<A: Allocator>(
     }
 }
 
-// Returns the height of the lowest end of a tool above the controlled point.
+// Returns the height of the lowest end of a tool above the spindle nose.
 fn foot(tool: &Option<Tool>) -> i64
     ensures value { result ≡ foot tool.now }
     ensures range { unsigned_abs result ≤ 100000000000 }

@@ -125,7 +125,7 @@ impl Shifts {
         }
     }
 
-    /// Returns how far a tool whose controlled point moves over a box of grid points must move, in
+    /// Returns how far a tool whose spindle nose moves over a box of grid points must move, in
     /// each of the six directions, until each of its parts is past a fixture or beside it. After
     /// any longer move in that direction it doesn't meet the fixture either.
     ///

@@ -39,7 +39,7 @@ pub enum Concern {
     /// in the plane: usually an arc of less than a degree whose ends were rounded.
     NearlyFull,
     /// Traverses along a line to a home position, not only up or down, on which a part of the
-    /// tool's body, or without a tool the controlled point, comes below the top of a fixture.
+    /// tool's body, or without a tool the spindle nose, comes below the top of a fixture.
     LowHome,
     /// Traverses along a line, not only up or down, with an end lower than the height at which the
     /// last feeds began, that reach inside the area of the program's feeds, as seen from above:

@@ -18,7 +18,7 @@ abbrev pub widest : ℤ → List Part → ℤ
 widest radius [] = radius
 widest radius (part ∷ parts) = widest (int_max radius part.radius) parts
 
--- the controlled point itself
+-- the spindle nose itself
 abbrev pub nothing : Reach
 nothing = record { radius = pos 0; bottom = pos 0; top = pos 0 }
 

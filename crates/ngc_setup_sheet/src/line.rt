@@ -68,7 +68,7 @@ pub enum Figure {
     Acceleration(u128),
     Span(Span),
     Place(Point3),
-    /// The heights from the controlled point between which a part of a tool lies, and its diameter.
+    /// The heights from the spindle nose between which a part of a tool lies, and its diameter.
     Part(Span, i64),
 }
 

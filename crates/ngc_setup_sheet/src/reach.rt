@@ -10,7 +10,7 @@ use ngc_fixed_length::{Nm, Point3};
 use ngc_machine_files::{Fixture, Machine, Part, Parts, Tool};
 use std::alloc::Allocator;
 
-/// The extent of the bodies of tools from the controlled point, in nanometres: to each side, down,
+/// The extent of the bodies of tools from the spindle nose, in nanometres: to each side, down,
 /// and up.
 #[derive(Clone, Copy)]
 pub(crate) struct Reach {
@@ -83,7 +83,7 @@ impl Reach {
         }
     }
 
-    /// Returns the reach of all of these tools and of the controlled point itself.
+    /// Returns the reach of all of these tools and of the spindle nose itself.
     pub(crate) fn of(tools: &[Tool]) -> Reach
         ensures value { result ≡ reach_of tools.now }
         ensures bound { IsReach result }

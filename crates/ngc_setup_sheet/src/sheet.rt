@@ -78,7 +78,7 @@ fn write_all<A: Allocator, W: Sink>(
 /// Writes the setup sheet of a machine and of its tools, in millimetres, with a warning below each
 /// line that looks wrong.
 ///
-/// Fixtures and origins count as out of reach by these tools, or by the controlled point if there
+/// Fixtures and origins count as out of reach by these tools, or by the spindle nose if there
 /// are none. The function allocates no memory. After a fault (902) a prefix of the text is written,
 /// and the sink has counted the failure.
 pub fn write_sheet<A: Allocator, W: Sink>(

@@ -41,7 +41,7 @@ impl<W: Wheel + Drop> Model for RoundPath<W> {
         (W.pace r.course.wheel) (W.rim r.course.wheel) };
 }
 
-/// A path that follows an arc. It updates squares with additions, without a root on the way.
+/// A path that follows an arc. It updates squares with additions, and takes no roots.
 pub type ArcPath = RoundPath<SquareWheel>;
 
 /// A path that follows an arc, with one root for each column.

@@ -42,7 +42,7 @@ fn kept(millionths: u32) -> usize
 }
 
 impl Chunk {
-    /// Adds a whole number and its millionths, with as many decimals as they need. There are less
+    /// Adds a whole number and its millionths, with the decimals that they need. There are less
     /// than a million millionths. Space for 47 bytes must be free.
     #[tactic(auto, unfolding(crate::specs::Millimetres::number_text))]
     pub fn add_millionths(&mut self, whole: u128, millionths: u32)
