@@ -3,20 +3,31 @@ use Rattle.std.proofs.Common.{◌≡◌, ◌<◌, ℕ, List, [], ◌++◌, lengt
 use Rattle.std.proofs.lemmas.List.{append_assoc, get_or_default}
 use Rattle.ngc_text.specs.Written.{AppendsBeginning}
 use Rattle.ngc_text.specs.Collected.{WritesFront}
-use Rattle.ngc_certificate_text.specs.Certificate.{Entry, entry_at}
+use Rattle.ngc_certificate_text.specs.Certificate.{Entry, entry_at, no_piece, piece_at}
+use Rattle.ngc_certificate_text.specs.declared.expected.Indices.{Indices}
+use Rattle.ngc_certificate_text.specs.Spelling.{motion_line, item_line}
 use Rattle.ngc_certificate_text.specs.declared.piece.Piece.{Piece}
 use Rattle.ngc_certificate_text.proofs.Fronts.{front_more, front_moved, front_stopped, longer, beginning_written}
 
--- the motion at an index: its index in the commands and its pieces
-pub entry_found : (entries : List Entry) (i index : ℕ) (pieces : List Piece) → i < length entries → index ≡ (entry_at entries i).index →
-    pieces ≡ (entry_at entries i).pieces
-    → record { index = index; pieces = pieces } ≡ get_or entries i (record { index = index; pieces = pieces })
-entry_found entries i index pieces inside is_index are_pieces =
-    ap (λ (n : ℕ). the_entry n pieces) is_index ∙ ap (λ (ps : List Piece). the_entry (entry_at entries i).index ps) are_pieces
-    ∙ get_or_default entries i (the_entry 0 []) (the_entry index pieces) inside
-  where
-    the_entry : ℕ → List Piece → Entry
-    the_entry n ps = record { index = n; pieces = ps }
+-- the motion at an index, and a piece of it
+pub entry_there : (entries : List Entry) (i : ℕ) → i < length entries → entry_at entries i ≡ get_or entries i (entry_at entries i)
+entry_there entries i inside = get_or_default entries i (record { index = 0; pieces = [] }) (entry_at entries i) inside
+
+pub piece_found : (entries : List Entry) (i k : ℕ) (p : Piece) → k < length (entry_at entries i).pieces → p ≡ piece_at entries i k →
+    p ≡ get_or (entry_at entries i).pieces k p
+piece_found entries i k p inside is = is ∙ get_or_default (entry_at entries i).pieces k no_piece p inside
+
+-- the first line of a motion's text, by its numbers
+pub motion_numbered : (entries : List Entry) (i index pieces : ℕ) (made lined : List ℕ) → index ≡ (entry_at entries i).index →
+    pieces ≡ length (entry_at entries i).pieces → lined ≡ made ++ motion_line index pieces →
+    lined ≡ made ++ motion_line (entry_at entries i).index (length (entry_at entries i).pieces)
+motion_numbered entries i index pieces made lined is_index count h =
+    h ∙ ap (λ (n : ℕ). made ++ motion_line n pieces) is_index ∙ ap (λ (n : ℕ). made ++ motion_line (entry_at entries i).index n) count
+
+pub item_numbered : (entries : List Entry) (i : ℕ) (indices : Indices) (pieces : ℕ) (made lined : List ℕ) →
+    pieces ≡ length (entry_at entries i).pieces → lined ≡ made ++ item_line indices pieces →
+    lined ≡ made ++ item_line indices (length (entry_at entries i).pieces)
+item_numbered entries i indices pieces made lined count h = h ∙ ap (λ (n : ℕ). made ++ item_line indices n) count
 
 abbrev setting_line : List ℕ → ℕ → List ℕ
 setting_line name motions = codes "setting " ++ name ++ codes " " ++ decimal motions ++ codes "\n"

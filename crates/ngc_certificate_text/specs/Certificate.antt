@@ -1,8 +1,9 @@
 -- The contents of a certificate: for both settings of block delete the motions in order, each with
 -- its pieces. Our own.
-use Rattle.std.specs.Prelude.{ℕ, nat_le, ◌≤◌, List, [], length, slice_index_or, IsTrue, Bool, ◌&&◌}
+use Rattle.std.specs.Prelude.{ℕ, nat_le, ◌≤◌, List, [], length, slice_index_or, IsTrue, Bool, ◌&&◌, pos}
 use Rattle.std.specs.List.{All, list_all}
 use Rattle.ngc_fixed_length.specs.Boxes.{is_below}
+use Rattle.ngc_fixed_length.specs.declared.points.StepPos.{StepPos}
 use Rattle.ngc_fixed_length.specs.Signed.{is_within}
 use Rattle.ngc_certificate_text.specs.declared.piece.Cut.{Cut}
 use Rattle.ngc_certificate_text.specs.declared.piece.Cut.TheVariants.{Part, Place}
@@ -25,6 +26,15 @@ entries_at On c = c.on
 
 abbrev pub entry_at : List Entry → ℕ → Entry
 entry_at entries i = slice_index_or entries i (record { index = 0; pieces = [] })
+
+abbrev pub no_piece : Piece
+no_piece =
+    let origin : StepPos = record { x = pos 0; y = pos 0; z = pos 0 } in
+    record { end = Part 0; bounds = record { low = origin; high = origin } }
+
+-- piece k of motion i
+abbrev pub piece_at : List Entry → ℕ → ℕ → Piece
+piece_at entries i k = slice_index_or (entry_at entries i).pieces k no_piece
 
 -- ---- ranges
 

@@ -3,8 +3,11 @@ ghost use Rattle.std.specs.Option.{option_map};
 ghost use Rattle.std.proofs.Props.{props};
 ghost use Rattle.ngc_certificate_text.specs.declared.certificate.EntryKind.{EntryKind};
 ghost use Rattle.ngc_certificate_text.specs.Certificate.{MOTION_LIMIT};
-ghost use Rattle.ngc_certificate_text.specs.Order.{IsWhole};
+ghost use Rattle.ngc_certificate_text.specs.Joined.{IsJoined};
+ghost use Rattle.ngc_certificate_text.specs.JoinedFirst.{joined_first, HaveSamePieces};
+ghost use Rattle.ngc_certificate_text.specs.Order.{IsWhole, items_in};
 
+use crate::motion_list::MotionList;
 use crate::motions::Motions;
 use crate::piece::Setting;
 use std::alloc::{AllocError, Allocator};
@@ -53,11 +56,32 @@ fn kinds_of<A: Allocator>(
     Ok(kinds)
 }
 
+/// Returns the kinds of the entries of version 2 if the first `both` motions of each setting, which
+/// must have the same pieces, are joined. The others are entries of one setting, those of `off`
+/// first. The memory is from `alloc`.
+pub fn first_joined<A: Allocator, M: MotionList>(
+    alloc: A,
+    both: usize,
+    off: &M,
+    on: &M,
+) -> Result<Vec<EntryKind, A>, AllocError>
+    requires { HaveSamePieces both (M.entries off.now) (M.entries on.now) }
+    ensures whole { IfOk result
+        (λ kinds. IsWhole kinds.items (M.entries off.now) (M.entries on.now)) }
+    ensures items { IfOk result
+        (λ kinds. items_in kinds.items (M.entries off.now) (M.entries on.now)
+        ≡ joined_first both (M.entries off.now) (M.entries on.now)) }
+    // They are in range, and none of `off` alone directly follows one of `on` alone.
+    ensures entries { IsJoined (joined_first both (M.entries off.now) (M.entries on.now)) }
+{
+    let kinds = kinds_of(alloc, both, off.count(), on.count())?;
+    Ok(kinds)
+}
+
 impl<A: Allocator> Certificate<A> {
     ghost use Rattle.ngc_certificate_text.specs.Certificate.{entries_at};
     ghost use Rattle.ngc_certificate_text.specs.Contents.{said_of, form_of};
-    ghost use Rattle.ngc_certificate_text.specs.Joined.{Parted, Joined, IsJoined, contents};
-    ghost use Rattle.ngc_certificate_text.specs.JoinedFirst.{joined_first, HaveSamePieces};
+    ghost use Rattle.ngc_certificate_text.specs.Joined.{Parted, Joined, contents};
 
     /// Returns a certificate of version 1.
     pub fn parted(off: Motions<A>, on: Motions<A>) -> Certificate<A>
@@ -83,7 +107,7 @@ impl<A: Allocator> Certificate<A> {
         ensures entries { IsJoined (joined_first both (said_of self).off (said_of self).on) }
     {
         let Certificate { off, on, order: _ } = self;
-        let order = Some(kinds_of(alloc, both, off.len(), on.len())?);
+        let order = Some(first_joined(alloc, both, &off, &on)?);
         Ok(Certificate { off, on, order })
     }
 

@@ -4,6 +4,7 @@ ghost use Rattle.std.specs.List.{list_all};
 ghost use Rattle.ngc_certificate_text.specs.Certificate.{IsEntry, entry_at, good_piece};
 ghost use Rattle.ngc_certificate_text.specs.Certificate.{MOTION_LIMIT, PIECE_LIMIT};
 
+use crate::motion_list::MotionList;
 use crate::piece::Piece;
 use std::alloc::{AllocError, Allocator};
 use std::marker::Model;
@@ -115,5 +116,25 @@ impl<A: Allocator> Motions<A> {
                 Err(AllocError)
             }
         }
+    }
+}
+
+impl<A: Allocator> MotionList for Motions<A> {
+    ghost entries = { λ m. m };
+
+    fn count(&self) -> usize {
+        self.held.len()
+    }
+
+    fn command_index(&self, i: usize) -> u32 {
+        self.index(i)
+    }
+
+    fn piece_count(&self, i: usize) -> usize {
+        self.pieces(i).len()
+    }
+
+    fn piece(&self, i: usize, k: usize) -> Piece {
+        self.pieces(i)[k]
     }
 }

@@ -4,6 +4,7 @@ ghost use Rattle.std.specs.Io.KnownBytes.{Appends};
 ghost use Rattle.ngc_text.specs.Failures.{CountsFailure};
 ghost use Rattle.ngc_text.specs.Written.{AppendsBeginning};
 ghost use Rattle.ngc_text.specs.Collected.{CHUNK_SIZE, HasLineRoom};
+ghost use Rattle.ngc_certificate_text.specs.Certificate.{entry_at};
 ghost use Rattle.ngc_certificate_text.specs.Collects.{Collects};
 ghost use Rattle.ngc_certificate_text.specs.Contents.{form_of};
 ghost use Rattle.ngc_certificate_text.specs.Spelling.{steps_text, cut_text, piece_line};
@@ -16,7 +17,7 @@ ghost use Rattle.ngc_certificate_text.specs.Places.{MayPass, entry_there, behind
 
 use crate::certificate::{Certificate, EntryKind};
 use crate::expected::Indices;
-use crate::motions::Motions;
+use crate::motion_list::MotionList;
 use crate::piece::{Cut, Piece};
 use ngc_fixed_length::StepPos;
 use ngc_text::{Chunk, Sink, WriteFault};
@@ -97,17 +98,20 @@ fn write_piece<W: Sink>(chunk: &mut Chunk, piece: &Piece, sink: &mut W) -> Resul
     Ok(())
 }
 
-fn write_pieces<W: Sink>(
+// Writes the lines of the pieces of motion `i`.
+fn write_pieces<M: MotionList, W: Sink>(
     chunk: &mut Chunk,
-    pieces: &[Piece],
+    motions: &M,
+    i: usize,
     sink: &mut W,
 ) -> Result<(), WriteFault>
+    requires { i < length (M.entries motions.now) }
     ensures text { Collects (W.written sink.old) (W.written sink.new) chunk.old chunk.new result
-        (flat_map piece_line pieces.now) }
+        (flat_map piece_line (entry_at (M.entries motions.now) i).pieces) }
     ensures counts { CountsFailure (W.failures sink.old) (W.failures sink.new) result }
 {
-    for piece in pieces {
-        match write_piece(chunk, piece, sink) {
+    for k in 0..motions.piece_count(i) {
+        match write_piece(chunk, &motions.piece(i, k), sink) {
             Ok(()) => {}
             Err(fault) => return Err(fault),
         }
@@ -115,35 +119,37 @@ fn write_pieces<W: Sink>(
     Ok(())
 }
 
-fn write_motion<W: Sink>(
+// Writes the lines of motion `i`.
+fn write_motion<M: MotionList, W: Sink>(
     chunk: &mut Chunk,
-    index: u32,
-    pieces: &[Piece],
+    motions: &M,
+    i: usize,
     sink: &mut W,
 ) -> Result<(), WriteFault>
+    requires { i < length (M.entries motions.now) }
     ensures text { Collects (W.written sink.old) (W.written sink.new) chunk.old chunk.new result
-        (entry_lines (record { index = index; pieces = pieces.now })) }
+        (entry_lines (entry_at (M.entries motions.now) i)) }
     ensures counts { CountsFailure (W.failures sink.old) (W.failures sink.new) result }
 {
     match chunk.make_room(sink) {
         Ok(()) => {}
         Err(fault) => return Err(fault),
     }
-    add_motion(chunk, index, pieces.len());
-    write_pieces(chunk, pieces, sink)
+    add_motion(chunk, motions.command_index(i), motions.piece_count(i));
+    write_pieces(chunk, motions, i, sink)
 }
 
-fn write_motions<A: Allocator, W: Sink>(
+fn write_motions<M: MotionList, W: Sink>(
     chunk: &mut Chunk,
-    motions: &Motions<A>,
+    motions: &M,
     sink: &mut W,
 ) -> Result<(), WriteFault>
     ensures text { Collects (W.written sink.old) (W.written sink.new) chunk.old chunk.new result
-        (flat_map entry_lines motions.now) }
+        (flat_map entry_lines (M.entries motions.now)) }
     ensures counts { CountsFailure (W.failures sink.old) (W.failures sink.new) result }
 {
-    for i in 0..motions.len() {
-        match write_motion(chunk, motions.index(i), motions.pieces(i), sink) {
+    for i in 0..motions.count() {
+        match write_motion(chunk, motions, i, sink) {
             Ok(()) => {}
             Err(fault) => return Err(fault),
         }
@@ -151,34 +157,34 @@ fn write_motions<A: Allocator, W: Sink>(
     Ok(())
 }
 
-fn write_setting<A: Allocator, W: Sink>(
+fn write_setting<M: MotionList, W: Sink>(
     chunk: &mut Chunk,
     name: &[u8],
-    motions: &Motions<A>,
+    motions: &M,
     sink: &mut W,
 ) -> Result<(), WriteFault>
     requires { length name.now ≤ 3 }
     ensures text { Collects (W.written sink.old) (W.written sink.new) chunk.old chunk.new result
-        (setting_lines name.now motions.now) }
+        (setting_lines name.now (M.entries motions.now)) }
     ensures counts { CountsFailure (W.failures sink.old) (W.failures sink.new) result }
 {
     match chunk.make_room(sink) {
         Ok(()) => {}
         Err(fault) => return Err(fault),
     }
-    add_setting(chunk, name, motions.len());
+    add_setting(chunk, name, motions.count());
     write_motions(chunk, motions, sink)
 }
 
-fn write_settings<A: Allocator, W: Sink>(
+fn write_settings<M: MotionList, W: Sink>(
     chunk: &mut Chunk,
-    off: &Motions<A>,
-    on: &Motions<A>,
+    off: &M,
+    on: &M,
     sink: &mut W,
 ) -> Result<(), WriteFault>
     requires { HasLineRoom chunk.old }
     ensures text { Collects (W.written sink.old) (W.written sink.new) chunk.old chunk.new result
-        (parted_spelling (record { off = off.now; on = on.now })) }
+        (parted_spelling (record { off = M.entries off.now; on = M.entries on.now })) }
     ensures counts { CountsFailure (W.failures sink.old) (W.failures sink.new) result }
 {
     chunk.add_text(b"ngc-certificate 1\n");
@@ -243,22 +249,28 @@ fn add_counts(chunk: &mut Chunk, off: usize, on: usize)
     chunk.add_text(b"\n");
 }
 
-fn write_entry<W: Sink>(
+// Writes the lines of an entry with the pieces of motion `i`.
+fn write_entry<M: MotionList, W: Sink>(
     chunk: &mut Chunk,
     indices: Indices,
-    pieces: &[Piece],
+    motions: &M,
+    i: usize,
     sink: &mut W,
 ) -> Result<(), WriteFault>
+    requires { i < length (M.entries motions.now) }
     ensures text { Collects (W.written sink.old) (W.written sink.new) chunk.old chunk.new result
-        (item_lines (record { indices = indices; pieces = pieces.now })) }
+        (item_lines (record {
+          indices = indices;
+          pieces = (entry_at (M.entries motions.now) i).pieces;
+        })) }
     ensures counts { CountsFailure (W.failures sink.old) (W.failures sink.new) result }
 {
     match chunk.make_room(sink) {
         Ok(()) => {}
         Err(fault) => return Err(fault),
     }
-    add_entry(chunk, &indices, pieces.len());
-    write_pieces(chunk, pieces, sink)
+    add_entry(chunk, &indices, motions.piece_count(i));
+    write_pieces(chunk, motions, i, sink)
 }
 
 /// A position among the motions of both settings: the number of motions of each that are passed.
@@ -268,24 +280,28 @@ pub struct Passed {
     pub on: usize,
 }
 
-// Returns the entry of a kind at a position.
-fn entry_there<'a, A: Allocator>(
+// Returns the indices of the entry of a kind at a position, and the motion that has its pieces.
+fn entry_there<'a, M: MotionList>(
     kind: EntryKind,
-    off: &'a Motions<A>,
-    on: &'a Motions<A>,
+    off: &'a M,
+    on: &'a M,
     passed: &Passed,
-) -> (Indices, &'a [Piece])
-    requires { MayPass kind passed.now (length off.now) (length on.now) }
-    ensures { record { indices = result.0; pieces = result.1.now }
-        ≡ entry_there kind off.now on.now passed.now }
+) -> (Indices, &'a M, usize)
+    requires { MayPass kind passed.now (length (M.entries off.now)) (length (M.entries on.now)) }
+    ensures inside { result.2 < length (M.entries result.1.now) }
+    ensures is { record {
+      indices = result.0;
+      pieces = (entry_at (M.entries result.1.now) result.2).pieces;
+    } ≡ entry_there kind (M.entries off.now) (M.entries on.now) passed.now }
 {
     match kind {
-        EntryKind::Both => (
-            Indices::Both(off.index(passed.off), on.index(passed.on)),
-            off.pieces(passed.off),
-        ),
-        EntryKind::Off => (Indices::Off(off.index(passed.off)), off.pieces(passed.off)),
-        EntryKind::On => (Indices::On(on.index(passed.on)), on.pieces(passed.on)),
+        EntryKind::Both => {
+            let off_index = off.command_index(passed.off);
+            let on_index = on.command_index(passed.on);
+            (Indices::Both(off_index, on_index), off, passed.off)
+        }
+        EntryKind::Off => (Indices::Off(off.command_index(passed.off)), off, passed.off),
+        EntryKind::On => (Indices::On(on.command_index(passed.on)), on, passed.on),
     }
 }
 
@@ -306,22 +322,22 @@ fn behind_entry(kind: EntryKind, passed: Passed) -> Passed
     }
 }
 
-fn write_entries<A: Allocator, W: Sink>(
+fn write_entries<M: MotionList, W: Sink>(
     chunk: &mut Chunk,
     order: &[EntryKind],
-    off: &Motions<A>,
-    on: &Motions<A>,
+    off: &M,
+    on: &M,
     sink: &mut W,
 ) -> Result<(), WriteFault>
-    requires { IsWhole order.now off.now on.now }
+    requires { IsWhole order.now (M.entries off.now) (M.entries on.now) }
     ensures text { Collects (W.written sink.old) (W.written sink.new) chunk.old chunk.new result
-        (flat_map item_lines (items_in order.now off.now on.now)) }
+        (flat_map item_lines (items_in order.now (M.entries off.now) (M.entries on.now))) }
     ensures counts { CountsFailure (W.failures sink.old) (W.failures sink.new) result }
 {
     let mut passed = Passed { off: 0, on: 0 };
     for kind in order {
-        let (indices, pieces) = entry_there(*kind, off, on, &passed);
-        match write_entry(chunk, indices, pieces, sink) {
+        let (indices, motions, i) = entry_there(*kind, off, on, &passed);
+        match write_entry(chunk, indices, motions, i, sink) {
             Ok(()) => {}
             Err(fault) => return Err(fault),
         }
@@ -348,22 +364,22 @@ fn write_counts<W: Sink>(
     Ok(())
 }
 
-fn write_joined<A: Allocator, W: Sink>(
+fn write_whole<M: MotionList, W: Sink>(
     chunk: &mut Chunk,
     order: &[EntryKind],
-    off: &Motions<A>,
-    on: &Motions<A>,
+    off: &M,
+    on: &M,
     sink: &mut W,
 ) -> Result<(), WriteFault>
     requires room { HasLineRoom chunk.old }
-    requires whole { IsWhole order.now off.now on.now }
+    requires whole { IsWhole order.now (M.entries off.now) (M.entries on.now) }
     ensures text { Collects (W.written sink.old) (W.written sink.new) chunk.old chunk.new result
-        (joined_spelling (items_in order.now off.now on.now)) }
+        (joined_spelling (items_in order.now (M.entries off.now) (M.entries on.now))) }
     ensures counts { CountsFailure (W.failures sink.old) (W.failures sink.new) result }
 {
     chunk.add_text(b"ngc-certificate 2\n");
-    let off_count = off.len();
-    let on_count = on.len();
+    let off_count = off.count();
+    let on_count = on.count();
     match write_counts(chunk, off_count, on_count, sink) {
         Ok(()) => {}
         Err(fault) => return Err(fault),
@@ -380,25 +396,46 @@ fn write_joined<A: Allocator, W: Sink>(
     Ok(())
 }
 
-fn write_form<A: Allocator, W: Sink>(
-    chunk: &mut Chunk,
-    certificate: &Certificate<A>,
-    sink: &mut W,
-) -> Result<(), WriteFault>
-    requires { HasLineRoom chunk.old }
-    ensures text { Collects (W.written sink.old) (W.written sink.new) chunk.old chunk.new result
-        (spelling (form_of certificate.now)) }
+/// Writes the motions of both settings as a certificate of version 1: `setting off` and
+/// `setting on`, each with its motions in order.
+///
+/// After a fault (902, only if the sink failed) a prefix of the text is written.
+pub fn write_parted<M: MotionList, W: Sink>(off: &M, on: &M, sink: &mut W) -> Result<(), WriteFault>
+    ensures ok { OnOk result (Appends (W.written sink.old) (W.written sink.new)
+        (parted_spelling (record { off = M.entries off.now; on = M.entries on.now }))) }
+    ensures fault { OnErr result (AppendsBeginning (W.written sink.old) (W.written sink.new)
+        (parted_spelling (record { off = M.entries off.now; on = M.entries on.now }))) }
     ensures counts { CountsFailure (W.failures sink.old) (W.failures sink.new) result }
 {
-    match &certificate.order {
-        None => write_settings(chunk, &certificate.off, &certificate.on, sink),
-        Some(order) => write_joined(
-            chunk,
-            order.as_slice(),
-            &certificate.off,
-            &certificate.on,
-            sink,
-        ),
+    let mut chunk = Chunk::new();
+    match write_settings(&mut chunk, off, on, sink) {
+        Ok(()) => chunk.write_out(sink),
+        Err(fault) => Err(fault),
+    }
+}
+
+/// Writes the motions of both settings as a certificate of version 2: the entries in the order of
+/// their kinds.
+///
+/// Each motion is one of an entry, and the two motions of an entry of both settings have the same
+/// pieces. After a fault (902, only if the sink failed) a prefix of the text is written.
+pub fn write_joined<M: MotionList, W: Sink>(
+    order: &[EntryKind],
+    off: &M,
+    on: &M,
+    sink: &mut W,
+) -> Result<(), WriteFault>
+    requires { IsWhole order.now (M.entries off.now) (M.entries on.now) }
+    ensures ok { OnOk result (Appends (W.written sink.old) (W.written sink.new)
+        (joined_spelling (items_in order.now (M.entries off.now) (M.entries on.now)))) }
+    ensures fault { OnErr result (AppendsBeginning (W.written sink.old) (W.written sink.new)
+        (joined_spelling (items_in order.now (M.entries off.now) (M.entries on.now)))) }
+    ensures counts { CountsFailure (W.failures sink.old) (W.failures sink.new) result }
+{
+    let mut chunk = Chunk::new();
+    match write_whole(&mut chunk, order, off, on, sink) {
+        Ok(()) => chunk.write_out(sink),
+        Err(fault) => Err(fault),
     }
 }
 
@@ -415,10 +452,9 @@ impl<A: Allocator> Certificate<A> {
             (spelling (form_of self.now))) }
         ensures counts { CountsFailure (W.failures sink.old) (W.failures sink.new) result }
     {
-        let mut chunk = Chunk::new();
-        match write_form(&mut chunk, self, sink) {
-            Ok(()) => chunk.write_out(sink),
-            Err(fault) => Err(fault),
+        match &self.order {
+            None => write_parted(&self.off, &self.on, sink),
+            Some(order) => write_joined(order.as_slice(), &self.off, &self.on, sink),
         }
     }
 }

@@ -1,8 +1,12 @@
 use Rattle.ngc_certificate_text.proofs.Fronts.{longer, rest_collected}
+use Rattle.ngc_certificate_text.proofs.Spelled.{item_numbered}
 use Rattle.ngc_certificate_text.proofs.write.write_entry.Goals as goal
 
 pub returns-in-Err-clause-text : goal.returns-in-Err-clause-text
 returns-in-Err-clause-text g c = longer _ _ _ _ c.in-Err.ensures.fault
 
 pub returns-clause-text : goal.returns-clause-text
-returns-clause-text g c = rest_collected c.write_pieces.result _ _ _ _ _ _ _ _ _ c.in-Ok.ensures.ok c.add_entry.ensures c.write_pieces.ensures.text
+returns-clause-text g c =
+    rest_collected c.write_pieces.result _ _ _ _ _ _ _ _ _ c.in-Ok.ensures.ok
+    (item_numbered (g.M.MotionList.entries c.args.motions.now) c.args.i c.args.indices _ _ _ c.piece_count.ensures.value c.add_entry.ensures)
+    c.write_pieces.ensures.text

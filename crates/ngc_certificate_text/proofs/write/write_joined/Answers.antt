@@ -1,31 +1,18 @@
-use Rattle.std.proofs.Common.{◌++◌}
-use Rattle.ngc_text.specs.Written.{AppendsBeginning}
-use Rattle.ngc_text.specs.Collected.{WritesFront}
-use Rattle.ngc_certificate_text.proofs.Passing.{as_spelled}
-use Rattle.ngc_certificate_text.proofs.Spelled.{stopped_in_first, stopped_in_second, stopped_behind, made_whole}
+use Rattle.std.proofs.Common.{◌≡◌, ℕ, List, ◌++◌, ap}
+use Rattle.std.proofs.lemmas.Result.{on_ok_weaker, on_err_weaker}
+use Rattle.ngc_certificate_text.specs.Order.{items_in}
+use Rattle.ngc_certificate_text.specs.Spelling.{joined_spelling}
+use Rattle.ngc_certificate_text.proofs.Fronts.{all_written, beginning_written}
 use Rattle.ngc_certificate_text.proofs.write.write_joined.Goals as goal
 
-pub returns-in-Err-clause-text : goal.returns-in-Err-clause-text
-returns-in-Err-clause-text g c =
-    as_spelled (λ l. AppendsBeginning (g.W.Sink.written c.args.sink.now) (g.W.Sink.written c.write_counts.new.sink) (c.args.chunk.now ++ l)) _ _ _ _ _
-    c.requires.whole c.len-off_count.ensures.value c.len-on_count.ensures.value
-    (stopped_in_first _ _ _ _ _ _ _ _ c.add_text.ensures c.in-Err.ensures.text)
+pub returns-in-Ok-clause-ok : goal.returns-in-Ok-clause-ok
+returns-in-Ok-clause-ok g c =
+    let text = joined_spelling (items_in c.args.order.now (g.M.MotionList.entries c.args.off.now) (g.M.MotionList.entries c.args.on.now)) in
+    let from_start : c.new-chunk.result ++ text ≡ text = ap (λ (l : List ℕ). l ++ text) c.new-chunk.ensures in
+    on_ok_weaker c.write_out.result (all_written _ _ _ _ _ (rw from_start at c.in-Ok.ensures.text)) c.write_out.ensures.ok
 
-pub returns-in-Err-write_entries-clause-text : goal.returns-in-Err-write_entries-clause-text
-returns-in-Err-write_entries-clause-text g c =
-    as_spelled (λ l. AppendsBeginning (g.W.Sink.written c.args.sink.now) (g.W.Sink.written c.write_entries.new.sink) (c.args.chunk.now ++ l)) _ _ _ _ _
-    c.requires.whole c.len-off_count.ensures.value c.len-on_count.ensures.value
-    (stopped_in_second _ _ _ _ _ _ _ _ _ _ c.add_text.ensures c.in-Ok.ensures.text c.in-Err-write_entries.ensures.text)
-
-pub returns-in-Err-make_room-clause-text : goal.returns-in-Err-make_room-clause-text
-returns-in-Err-make_room-clause-text g c =
-    as_spelled (λ l. AppendsBeginning (g.W.Sink.written c.args.sink.now) (g.W.Sink.written c.make_room.new.sink) (c.args.chunk.now ++ l)) _ _ _ _ _
-    c.requires.whole c.len-off_count.ensures.value c.len-on_count.ensures.value
-    (stopped_behind _ _ _ _ _ _ _ _ _ _ _ _ c.add_text.ensures c.in-Ok.ensures.text c.in-Ok-write_entries.ensures.text c.in-Err-make_room.ensures.fault)
-
-pub returns-clause-text : goal.returns-clause-text
-returns-clause-text g c =
-    as_spelled (λ l. WritesFront (g.W.Sink.written c.args.sink.now) (g.W.Sink.written c.make_room.new.sink) (c.args.chunk.now ++ l) c.add_text-2.new.self) _ _ _
-    _ _ c.requires.whole c.len-off_count.ensures.value c.len-on_count.ensures.value
-    (made_whole _ _ _ _ _ _ _ _ _ _ _ _ _ _ c.add_text.ensures c.in-Ok.ensures.text c.in-Ok-write_entries.ensures.text c.in-Ok-make_room.ensures.ok
-    c.add_text-2.ensures)
+pub returns-in-Ok-clause-fault : goal.returns-in-Ok-clause-fault
+returns-in-Ok-clause-fault g c =
+    let text = joined_spelling (items_in c.args.order.now (g.M.MotionList.entries c.args.off.now) (g.M.MotionList.entries c.args.on.now)) in
+    let from_start : c.new-chunk.result ++ text ≡ text = ap (λ (l : List ℕ). l ++ text) c.new-chunk.ensures in
+    on_err_weaker c.write_out.result (beginning_written _ _ _ _ _ (rw from_start at c.in-Ok.ensures.text)) c.write_out.ensures.fault
