@@ -123,7 +123,7 @@ impl<A: Allocator> MotionList for Motions<A> {
     ghost entries = { λ m. m };
 
     fn count(&self) -> usize {
-        self.held.len()
+        self.held.as_slice().len()
     }
 
     fn command_index(&self, i: usize) -> u32 {

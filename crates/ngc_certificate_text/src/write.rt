@@ -435,7 +435,7 @@ pub fn write_joined<M: MotionList, W: Sink>(
     let mut chunk = Chunk::new();
     match write_whole(&mut chunk, order, off, on, sink) {
         Ok(()) => chunk.write_out(sink),
-        Err(fault) => Err(fault),
+        Err(stopped) => Err(stopped),
     }
 }
 
