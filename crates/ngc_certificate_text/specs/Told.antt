@@ -37,7 +37,7 @@ onto (tell.Setting s n) r = r
 onto (tell.Counts off on) r = r
 onto tell.End r = r
 
--- as many pieces remain as the line declared
+-- the number of remaining pieces is the one that the line declared
 abbrev pub Fits : Told → Rest → Type 0
 Fits (tell.Header v) r = Unit {0}
 Fits (tell.Setting s n) r = Unit {0}
