@@ -17,7 +17,8 @@ use Rattle.ngc_certificate_text.specs.Certificate.{IsEntry, good_piece}
 use Rattle.ngc_certificate.specs.PieceFault.{pieces_fault, ArePiecesValid}
 use Rattle.ngc_certificate.specs.Made.{pieces_of, powers_of_two, tries, cleared, IsCutClear, MayCut, MayStand, MayFind}
 use Rattle.ngc_certificate.specs.Making.{is_clear_in, pieces_where}
-use Rattle.ngc_certificate.proofs.Division.{few}
+use Rattle.ngc_certificate.proofs.Division.{few, count_of}
+use Rattle.ngc_certificate.specs.Planned.{IsDividedIfLine}
 use Rattle.ngc_certificate.proofs.NoFault.{pieces_valid, some_none}
 use Rattle.ngc_certificate.proofs.Truths.{both, and, no_truth}
 use Rattle.ngc_certificate.proofs.GoodPieces.{pieces_good}
@@ -194,3 +195,12 @@ found_entry machine most k tool w pieces index least greatest may good = record 
   count = found_few machine most tool w pieces least greatest may;
   pieces = good;
 }
+
+-- a line has the pieces of their number
+pub found_divided : (machine : MachineFile) (most : ℕ) (tool : Option Tool) (w : Way) (pieces : List Piece) → 1 ≤ most → most ≤ 65535 →
+    MayFind machine most tool w (Some pieces) → IsDividedIfLine machine.step w pieces
+found_divided machine most tool (Line b e) pieces least greatest may =
+    let c = cleared_is machine most tool (Line b e) pieces least greatest (sym may) in
+    let number : length pieces ≡ c.count = ap (λ (ps : List Piece). length ps) c.made ∙ count_of machine.step b e c.count 0 c.count in
+    c.made ∙ ap (pieces_of machine.step (Line b e)) (sym number)
+found_divided machine most tool (Arc a) pieces least greatest may = tt

@@ -31,6 +31,8 @@ pub mod NoFault
 pub mod Division
 -- The numbers of pieces that are tried, in order.
 pub mod Tries
+-- The motions of a plan, and one more.
+pub mod PlanLaws
 -- From one command to the next.
 pub mod MakingLaws
 -- The low corner of a line's piece is not above its high corner.

@@ -17,8 +17,7 @@ use Rattle.ngc_certificate_text.specs.declared.piece.Piece.{Piece}
 use Rattle.ngc_certificate_text.specs.Certificate.{Entry}
 use Rattle.ngc_certificate.specs.PieceFault.{place_fault}
 use Rattle.ngc_certificate.specs.Made.{with_entry, unless_met, MayFind, IsMadeFrom, IsSettingMade}
-use Rattle.ngc_certificate.specs.Making.{behind, IsGivenFrom, Leads, GivesSetting}
-use Rattle.ngc_certificate.specs.declared.maker.Progress.{Progress}
+use Rattle.ngc_certificate.specs.Making.{behind, MadeSoFar, IsGivenFrom, Leads, GivesSetting}
 use Rattle.ngc_certificate.specs.declared.maker.MotionRefusal.{MotionRefusal}
 use Rattle.ngc_certificate.specs.declared.maker.MotionRefusal.TheVariants.{NotCleared, Memory}
 use Rattle.ngc_certificate.proofs.SomeMade.{some_made}
@@ -93,10 +92,16 @@ pub none_left : (i : ℕ) (commands : List Command) → length commands ≤ i �
 none_left i commands h = ap actions_of (drop_of_length-le commands {i = i} h)
 
 -- a command that isn't cleared
-pub stopped : {A : Type 0} (machine : MachineFile) (most k : ℕ) (commands : List Command) (action : Action) (left later : List Action) (old new : Progress A)
+pub stopped : (machine : MachineFile) (most k : ℕ) (commands : List Command) (action : Action) (left later : List Action) (old new : MadeSoFar)
     (refusal : MotionRefusal) →
     ((says : Result (List Entry) ℕ) → IsGivenFrom machine most k old left says → IsSettingMade machine most commands says) → left ≡ action ∷ later →
     Leads machine most k action old (Err refusal) new → GivesSetting {X = List Entry} (λ m. m) (Err refusal) (IsSettingMade machine most commands)
 stopped machine most k commands action left later old new (NotCleared n) leads split h =
     leads (Err n) (subst (λ actions. IsGivenFrom machine most k old actions (Err n)) (sym split) (h later))
 stopped machine most k commands action left later old new Memory leads split h = tt
+
+-- a refusal is the same for each kind of store
+pub refusal_seen : {X Y : Type 0} (view : X → List Entry) (seen : Y → List Entry) (refusal : MotionRefusal) (May : Result (List Entry) ℕ → Type 0) →
+    GivesSetting view (Err refusal) May → GivesSetting seen (Err refusal) May
+refusal_seen view seen (NotCleared n) May h = h
+refusal_seen view seen Memory May h = tt

@@ -9,6 +9,10 @@ pub mod Covered
 pub mod Made
 pub mod Common
 pub mod Making
+pub mod PieceIn
+pub mod Planned
+pub mod PlannedBy
+pub mod Plans
 pub mod Uncleared
 pub mod Shared
 pub mod PieceJudging

@@ -45,16 +45,26 @@ abbrev pub behind : List Entry → Result (List Entry) ℕ → Result (List Entr
 behind entries (Ok rest) = Ok (entries ++ rest)
 behind entries (Err k) = Err k
 
+-- the motions so far, the mounted tool and the position of the axes
+pub record MadeSoFar : Type 0 where
+  pub motions : List Entry
+  pub tool : Option Tool
+  pub place : Point3
+
+-- the same, of a maker whose motions are seen as entries
+abbrev pub made_by : {M : Type 0} → (M → List Entry) → Progress M → MadeSoFar
+made_by entries p = record { motions = entries p.motions; tool = p.tool; place = p.place }
+
 -- the allowed results for a setting, from command k on, if these commands remain
-abbrev pub IsGivenFrom : {A : Type 0} → MachineFile → ℕ → ℕ → Progress A → List Action →
-    Result (List Entry) ℕ → Type 0
+abbrev pub IsGivenFrom : MachineFile → ℕ → ℕ → MadeSoFar → List Action → Result (List Entry) ℕ → Type 0
 IsGivenFrom machine most k p actions says =
     (rest : Result (List Entry) ℕ) × IsMadeFrom machine most k p.tool p.place actions rest ×
     (says ≡ behind p.motions rest)
 
 -- command k is executed, or it isn't cleared, unless memory ran out
-abbrev pub Leads : {A : Type 0} → MachineFile → ℕ → ℕ → Action → Progress A →
-    Result (Unit {0}) MotionRefusal → Progress A → Type 0
+abbrev pub Leads : MachineFile → ℕ → ℕ → Action → MadeSoFar →
+    Result (Unit {0}) MotionRefusal → MadeSoFar →
+    Type 0
 Leads machine most k action old (Ok done) new =
     ((actions : List Action) (says : Result (List Entry) ℕ) →
     IsGivenFrom machine most (k + 1) new actions says →

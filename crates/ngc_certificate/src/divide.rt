@@ -1,5 +1,5 @@
 //! Divides motions into pieces.
-ghost use Rattle.std.specs.Prelude.{◌≡◌, ◌+◌, ◌*◌, ◌/◌, ◌≤◌, [], ◌∷◌, OnOk};
+ghost use Rattle.std.specs.Prelude.{◌≡◌, ◌+◌, ◌*◌, ◌/◌, ◌<◌, ◌≤◌, [], ◌∷◌, OnOk};
 ghost use Rattle.ngc_fixed_length.specs.Grid.{grid};
 ghost use Rattle.ngc_fixed_length.specs.Length.{IsStep};
 ghost use Rattle.ngc_fixed_length.specs.Boxes.{box_of};
@@ -54,6 +54,18 @@ fn line_piece(step: Nm, start: &Point3, end: &Point3, cuts: &Cuts, whole: &GridB
         end: Cut::Part(cuts.to),
         bounds: line_box(step, start, end, cuts, whole),
     }
+}
+
+/// Returns piece `k`, from 0, of a line in `count` pieces of about the same length.
+pub(crate) fn line_piece_at(step: Nm, start: &Point3, end: &Point3, count: u32, k: u32) -> Piece
+    requires step { IsStep step }
+    requires count { count ≤ 65535 }
+    requires k { k < count }
+    ensures { result ≡ line_piece step start.now end.now (WHOLE_LINE * k / count)
+        (WHOLE_LINE * (k + 1) / count) }
+{
+    let whole = GridBox::between(&start.to_grid(step), &end.to_grid(step));
+    line_piece(step, start, end, &cuts_of(k, count), &whole)
 }
 
 /// Returns an arc in one piece, in the smallest box that contains it.

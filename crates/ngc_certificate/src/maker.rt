@@ -1,17 +1,21 @@
 //! Makes certificates for commands.
-ghost use Rattle.std.specs.Prelude.{◌≡◌, ℕ, ◌<◌, ◌≤◌, [], length, true, IfOk, MatchResult};
+ghost use Rattle.std.specs.Prelude.{◌≡◌, ℕ, ◌<◌, ◌≤◌, List, [], length, true, IfOk, MatchResult};
+ghost use Rattle.std.specs.Prelude.{OnOk, Some};
 ghost use Rattle.ngc_machine_files.specs.Machine.{file_of};
 ghost use Rattle.ngc_commands.specs.Sequence.{COMMAND_LIMIT};
-ghost use Rattle.ngc_certificate_text.specs.Certificate.{INDEX_LIMIT, MOTION_LIMIT};
+ghost use Rattle.ngc_certificate_text.specs.Certificate.{Entry, AreEntries, INDEX_LIMIT};
+ghost use Rattle.ngc_certificate_text.specs.Certificate.{MOTION_LIMIT};
 ghost use Rattle.ngc_certificate_text.specs.Contents.{said_of, form_of};
 ghost use Rattle.ngc_certificate_text.specs.Joined.{Parted};
 ghost use Rattle.ngc_certificate.specs.Valid.{IsValid};
 ghost use Rattle.ngc_certificate.specs.Made.{IsSettingMade, IsMade, GivesMade, clears_undivided};
-ghost use Rattle.ngc_certificate.specs.Making.{is_clear_at, Leads, GivesSetting, fault_at};
+ghost use Rattle.ngc_certificate.specs.Common.{way_at, way_of};
+ghost use Rattle.ngc_certificate.specs.Making.{is_clear_at, made_by, Leads, GivesSetting, fault_at};
 
 use crate::fault::MakeFault;
 use crate::finding::find_clear;
 use crate::pieces::place_fault;
+use crate::store::MotionStore;
 use ngc_certificate_text::{Certificate, Motions, Piece, Setting};
 use ngc_commands::{Action, Command, Motion};
 use ngc_fixed_length::Point3;
@@ -21,15 +25,15 @@ use std::alloc::Allocator;
 /// The reasons why a setting has no motions with pieces: this command, counted from 0, isn't
 /// cleared, or memory ran out.
 #[derive(Clone, Copy)]
-enum MotionRefusal {
+pub(crate) enum MotionRefusal {
     NotCleared(u32),
     Memory,
 }
 
 /// The motions so far with their pieces, the mounted tool and the position of the axes.
 #[derive(Drop)]
-struct Progress<A: Allocator> {
-    motions: Motions<A>,
+struct Progress<M> {
+    motions: M,
     tool: Option<Tool>,
     place: Point3,
 }
@@ -45,31 +49,31 @@ pub(crate) fn is_clear_at<A: Allocator>(
     place_fault(machine, *tool, &place.to_grid(machine.step)).is_none()
 }
 
-impl<A: Allocator + Copy> Progress<A> {
+impl<M: MotionStore + Drop> Progress<M> {
     // Returns the progress at the start, with no tool mounted.
-    fn at_start(alloc: A, machine: &Machine<A>) -> Progress<A>
-        ensures motions { result.motions ≡ [] }
+    fn at_start<A: Allocator>(motions: M, machine: &Machine<A>) -> Progress<M>
+        ensures motions { result.motions ≡ motions }
         ensures tool { result.tool ≡ None }
         ensures place { result.place ≡ machine.now.start }
     {
         Progress {
-            motions: Motions::new(alloc),
+            motions,
             tool: None,
             place: machine.start,
         }
     }
-}
 
-impl<A: Allocator> Progress<A> {
     // Mounts a tool, or none, at the position of the axes.
-    fn mount(
+    fn mount<A: Allocator>(
         &mut self,
         machine: &Machine<A>,
         index: u32,
         tool: Option<Tool>,
     ) -> Result<(), MotionRefusal>
-        ensures { (most : ℕ) →
-            Leads (file_of machine.now) most index (Action.Mount tool) self.old result self.new }
+        ensures leads { (most : ℕ) (entries : M → List Entry) →
+            Leads (file_of machine.now) most index (Action.Mount tool)
+            (made_by entries self.old) result (made_by entries self.new) }
+        ensures same { self.new.motions ≡ self.old.motions }
     {
         if !is_clear_at(machine, &tool, &self.place) {
             return Err(MotionRefusal::NotCleared(index));
@@ -79,9 +83,10 @@ impl<A: Allocator> Progress<A> {
     }
 
     // Adds a motion, in pieces that clear it. `pieces` is a buffer for them.
-    fn move_along(
+    fn move_along<A: Allocator>(
         &mut self,
         machine: &Machine<A>,
+        commands: &[Command],
         index: u32,
         motion: &Motion,
         most: u16,
@@ -89,16 +94,26 @@ impl<A: Allocator> Progress<A> {
     ) -> Result<(), MotionRefusal>
         requires index { index ≤ INDEX_LIMIT }
         requires most { 1 ≤ most }
-        requires room { length self.old.motions < MOTION_LIMIT }
-        ensures { Leads (file_of machine.now) most index
-            (Action.Move motion.now) self.old result self.new }
+        requires is { way_at commands.now index ≡ Some motion.now.way }
+        requires are { AreEntries (M.entries self.old.motions machine.now.step commands.now) }
+        requires room { length (M.entries self.old.motions machine.now.step commands.now)
+            < MOTION_LIMIT }
+        ensures leads { Leads (file_of machine.now) most index (Action.Move motion.now)
+            (made_by (λ m. M.entries m machine.now.step commands.now) self.old) result
+            (made_by (λ m. M.entries m machine.now.step commands.now) self.new) }
+        ensures are { OnOk result
+            (AreEntries (M.entries self.new.motions machine.now.step commands.now)) }
     {
         match find_clear(machine, &self.tool, &motion.way, most, pieces) {
             Ok(true) => {}
             Ok(false) => return Err(MotionRefusal::NotCleared(index)),
             Err(_) => return Err(MotionRefusal::Memory),
         }
-        match self.motions.push(index, pieces.as_slice()) {
+        let way = &motion.way;
+        match self
+            .motions
+            .add(machine.step, commands, index, way, pieces.as_slice())
+        {
             Ok(()) => {}
             Err(_) => return Err(MotionRefusal::Memory),
         }
@@ -107,9 +122,10 @@ impl<A: Allocator> Progress<A> {
     }
 
     // Executes a command.
-    fn take(
+    fn take<A: Allocator>(
         &mut self,
         machine: &Machine<A>,
+        commands: &[Command],
         index: u32,
         action: &Action,
         most: u16,
@@ -117,32 +133,52 @@ impl<A: Allocator> Progress<A> {
     ) -> Result<(), MotionRefusal>
         requires index { index ≤ INDEX_LIMIT }
         requires most { 1 ≤ most }
-        requires room { length self.old.motions < MOTION_LIMIT }
-        ensures { Leads (file_of machine.now) most index action.now self.old result self.new }
+        requires is { way_at commands.now index ≡ way_of action.now }
+        requires are { AreEntries (M.entries self.old.motions machine.now.step commands.now) }
+        requires room { length (M.entries self.old.motions machine.now.step commands.now)
+            < MOTION_LIMIT }
+        ensures leads { Leads (file_of machine.now) most index action.now
+            (made_by (λ m. M.entries m machine.now.step commands.now) self.old) result
+            (made_by (λ m. M.entries m machine.now.step commands.now) self.new) }
+        ensures are { OnOk result
+            (AreEntries (M.entries self.new.motions machine.now.step commands.now)) }
     {
         match action {
-            Action::Move(motion) => self.move_along(machine, index, motion, most, pieces),
+            Action::Move(motion) => {
+                self.move_along(machine, commands, index, motion, most, pieces)
+            }
             Action::Mount(tool) => self.mount(machine, index, *tool),
             _ => Ok(()),
         }
     }
 }
 
-// Returns the motions of a setting, each with its pieces.
-fn setting_motions<A: Allocator + Copy>(
-    alloc: A,
+/// Adds the motions of a setting to an empty store, each with its pieces. `pieces` is a buffer.
+pub(crate) fn fill<A: Allocator, M: MotionStore + Drop>(
+    empty: M,
     commands: &[Command],
     machine: &Machine<A>,
     most: u16,
     pieces: &mut Vec<Piece, A>,
-) -> Result<Motions<A>, MotionRefusal>
+) -> Result<M, MotionRefusal>
+    requires empty { M.entries empty machine.now.step commands.now ≡ [] }
     requires most { 1 ≤ most }
     requires count { length commands.now ≤ COMMAND_LIMIT }
-    ensures { GivesSetting (λ v. v) result (IsSettingMade (file_of machine.now) most commands.now) }
+    ensures made { GivesSetting (λ m. M.entries m machine.now.step commands.now) result
+        (IsSettingMade (file_of machine.now) most commands.now) }
+    ensures are { IfOk result
+        (λ m. AreEntries (M.entries m machine.now.step commands.now)) }
 {
-    let mut progress = Progress::at_start(alloc, machine);
+    let mut progress = Progress::at_start(empty, machine);
     for (index, command) in commands.iter().enumerate() {
-        match progress.take(machine, index as u32, &command.action, most, pieces) {
+        match progress.take(
+            machine,
+            commands,
+            index as u32,
+            &command.action,
+            most,
+            pieces,
+        ) {
             Ok(()) => {}
             Err(refusal) => return Err(refusal),
         }
@@ -150,8 +186,8 @@ fn setting_motions<A: Allocator + Copy>(
     Ok(progress.motions)
 }
 
-// Returns the fault for a refusal at a setting.
-fn fault_at(setting: Setting, refusal: MotionRefusal) -> MakeFault
+/// Returns the fault for a refusal at a setting.
+pub(crate) fn fault_at(setting: Setting, refusal: MotionRefusal) -> MakeFault
     ensures { result ≡ fault_at setting refusal }
 {
     match refusal {
@@ -193,11 +229,11 @@ pub fn make<A: Allocator + Copy>(
         });
     }
     let mut pieces = Vec::new(alloc);
-    let off = match setting_motions(alloc, off, machine, cuts, &mut pieces) {
+    let off = match fill(Motions::new(alloc), off, machine, cuts, &mut pieces) {
         Ok(motions) => motions,
         Err(refusal) => return Err(fault_at(Setting::Off, refusal)),
     };
-    let on = match setting_motions(alloc, on, machine, cuts, &mut pieces) {
+    let on = match fill(Motions::new(alloc), on, machine, cuts, &mut pieces) {
         Ok(motions) => motions,
         Err(refusal) => return Err(fault_at(Setting::On, refusal)),
     };
@@ -229,7 +265,8 @@ pub fn make_alike<A: Allocator + Copy>(
             command: 0,
         });
     }
-    let off = match setting_motions(alloc, commands, machine, cuts, &mut Vec::new(alloc)) {
+    let mut pieces = Vec::new(alloc);
+    let off = match fill(Motions::new(alloc), commands, machine, cuts, &mut pieces) {
         Ok(motions) => motions,
         Err(refusal) => return Err(fault_at(Setting::Off, refusal)),
     };

@@ -14,34 +14,34 @@ pub returns-in-Err-clause-made : goal.returns-in-Err-clause-made
 returns-in-Err-clause-made g c =
     off_refused {X = CertificateData} (λ x. x) (file_of c.args.machine.now) c.args.cuts c.args.off.now c.args.on.now c.is_clear_at.result c.in-Err.refusal
     c.fault_at.result
-    c.is_clear_at.ensures c.if-not-is_clear_at.false c.in-Err.ensures c.fault_at.ensures
+    c.is_clear_at.ensures c.if-not-is_clear_at.false c.in-Err.ensures.made c.fault_at.ensures
 
-pub returns-in-Err-setting_motions-clause-made : goal.returns-in-Err-setting_motions-clause-made
-returns-in-Err-setting_motions-clause-made g c =
+pub returns-in-Err-fill-clause-made : goal.returns-in-Err-fill-clause-made
+returns-in-Err-fill-clause-made g c =
     on_refused {X = CertificateData} (λ x. x) (file_of c.args.machine.now) c.args.cuts c.args.off.now c.args.on.now c.is_clear_at.result c.in-Ok.motions
-    c.in-Err-setting_motions.refusal c.fault_at-in-Err-setting_motions.result
-    c.is_clear_at.ensures c.if-not-is_clear_at.false c.in-Ok.ensures c.in-Err-setting_motions.ensures c.fault_at-in-Err-setting_motions.ensures
+    c.in-Err-fill.refusal c.fault_at-in-Err-fill.result
+    c.is_clear_at.ensures c.if-not-is_clear_at.false c.in-Ok.ensures.made c.in-Err-fill.ensures.made c.fault_at-in-Err-fill.ensures
 
 pub returns-clause-made : goal.returns-clause-made
 returns-clause-made g c =
     subst (λ (d : CertificateData). IsMade (file_of c.args.machine.now) c.args.cuts c.args.off.now c.args.on.now (Ok d)) (sym c.parted.ensures.said)
-    (both_made (file_of c.args.machine.now) c.args.cuts c.args.off.now c.args.on.now c.is_clear_at.result c.in-Ok.motions c.in-Ok-setting_motions.motions
-    c.is_clear_at.ensures c.if-not-is_clear_at.false c.in-Ok.ensures c.in-Ok-setting_motions.ensures)
+    (both_made (file_of c.args.machine.now) c.args.cuts c.args.off.now c.args.on.now c.is_clear_at.result c.in-Ok.motions c.in-Ok-fill.motions
+    c.is_clear_at.ensures c.if-not-is_clear_at.false c.in-Ok.ensures.made c.in-Ok-fill.ensures.made)
 
 pub returns-in-Err-clause-undivided : goal.returns-in-Err-clause-undivided
 returns-in-Err-clause-undivided g c =
     off_undivided (file_of c.args.machine.now) c.args.cuts c.args.off.now c.args.on.now c.is_clear_at.result c.in-Err.refusal c.fault_at.result
-    c.requires.cuts c.is_clear_at.ensures c.if-not-is_clear_at.false c.in-Err.ensures c.fault_at.ensures
+    c.requires.cuts c.is_clear_at.ensures c.if-not-is_clear_at.false c.in-Err.ensures.made c.fault_at.ensures
 
-pub returns-in-Err-setting_motions-clause-undivided : goal.returns-in-Err-setting_motions-clause-undivided
-returns-in-Err-setting_motions-clause-undivided g c =
-    on_undivided (file_of c.args.machine.now) c.args.cuts c.args.off.now c.args.on.now c.is_clear_at.result c.in-Ok.motions c.in-Err-setting_motions.refusal
-    c.fault_at-in-Err-setting_motions.result
-    c.requires.cuts c.is_clear_at.ensures c.if-not-is_clear_at.false c.in-Ok.ensures c.in-Err-setting_motions.ensures c.fault_at-in-Err-setting_motions.ensures
+pub returns-in-Err-fill-clause-undivided : goal.returns-in-Err-fill-clause-undivided
+returns-in-Err-fill-clause-undivided g c =
+    on_undivided (file_of c.args.machine.now) c.args.cuts c.args.off.now c.args.on.now c.is_clear_at.result c.in-Ok.motions c.in-Err-fill.refusal
+    c.fault_at-in-Err-fill.result
+    c.requires.cuts c.is_clear_at.ensures c.if-not-is_clear_at.false c.in-Ok.ensures.made c.in-Err-fill.ensures.made c.fault_at-in-Err-fill.ensures
 
 pub returns-clause-valid : goal.returns-clause-valid
 returns-clause-valid g c =
     subst (λ (d : CertificateData). IsValid (file_of c.args.machine.now) c.args.off.now d.off × IsValid (file_of c.args.machine.now) c.args.on.now d.on)
     (sym c.parted.ensures.said)
-    (both_valid (file_of c.args.machine.now) c.args.cuts c.args.off.now c.args.on.now c.is_clear_at.result c.in-Ok.motions c.in-Ok-setting_motions.motions
-    c.requires.cuts (omega (arith, c.ranges.cuts.fits)) c.is_clear_at.ensures c.if-not-is_clear_at.false c.in-Ok.ensures c.in-Ok-setting_motions.ensures)
+    (both_valid (file_of c.args.machine.now) c.args.cuts c.args.off.now c.args.on.now c.is_clear_at.result c.in-Ok.motions c.in-Ok-fill.motions
+    c.requires.cuts (omega (arith, c.ranges.cuts.fits)) c.is_clear_at.ensures c.if-not-is_clear_at.false c.in-Ok.ensures.made c.in-Ok-fill.ensures.made)

@@ -1,4 +1,4 @@
-use Rattle.std.proofs.Common.{◌≡◌, ℕ, true, false, ◌+◌, nat_lt, Bool, arith, drop, [], inl, inr, refl, sym, subst, append-nil, ◌∙◌}
+use Rattle.std.proofs.Common.{◌+◌, arith, drop, [], inl, inr, refl, sym, subst, append-nil, ◌∙◌}
 use Rattle.std.proofs.lemmas.Bool.{cases_lt, ltb-true, ltb-false}
 use Rattle.ngc_machine_files.specs.Machine.{file_of}
 use Rattle.ngc_commands.specs.Movement.{actions_of}
