@@ -15,7 +15,7 @@ use Rattle.ngc_commands.specs.Movement.{actions_of, motion_indices, end_of}
 use Rattle.ngc_certificate_text.specs.declared.piece.Piece.{Piece}
 use Rattle.ngc_certificate_text.specs.declared.piece.Setting.{Setting}
 use Rattle.ngc_certificate_text.specs.Certificate.{Entry, entry_at}
-use Rattle.ngc_certificate_text.proofs.Spelled.{entry_found}
+use Rattle.ngc_certificate_text.proofs.Spelled.{entry_there}
 use Rattle.ngc_certificate.specs.declared.fault.PieceRefusal.{PieceRefusal}
 use Rattle.ngc_certificate.specs.declared.pieces.PieceJudge.{PieceJudge}
 use Rattle.ngc_certificate.specs.PieceFault.{pieces_fault, ◌or◌}
@@ -36,13 +36,11 @@ use Rattle.ngc_checker.specs.Walking.{walk_from, with_motion, pieces_left, comma
 left_at : (i : ℕ) (cs : List Command) (c : Command) → i < length cs → c ≡ get_or cs i c → drop i cs ≡ c ∷ drop (i + 1) cs
 left_at i cs c h e = let split = drop-cons cs i c h in rw (split, ← e, add-one) refl
 
--- the motions of a certificate from one on, by its index and its pieces
-pub entry_ahead : (i : ℕ) (es : List Entry) (index : ℕ) (pieces : List Piece) → i < length es → index ≡ (entry_at es i).index →
-    pieces ≡ (entry_at es i).pieces → drop i es ≡ record { index = index; pieces = pieces } ∷ drop (i + 1) es
-entry_ahead i es index pieces inside is are =
-    let entry : Entry = record { index = index; pieces = pieces } in
-    let found = entry_found es i index pieces inside is are in
-    let split = drop-cons es i entry inside in
+-- the motions of a certificate from one on
+pub entry_ahead : (i : ℕ) (es : List Entry) → i < length es → drop i es ≡ entry_at es i ∷ drop (i + 1) es
+entry_ahead i es inside =
+    let split = drop-cons es i (entry_at es i) inside in
+    let found = entry_there es i inside in
     rw (split, ← found, add-one) refl
 
 drop_none : (n : ℕ) → drop {A = Command} n [] ≡ []
@@ -187,3 +185,10 @@ idle machine s commands old p ps entries e =
 pub same_or : (a : Option CheckFault) → (a or None) ≡ a
 same_or (Some x) = refl
 same_or None = refl
+
+-- a motion by its index and its pieces
+pub same_entry : (machine : MachineFile) (s : Setting) (commands : List Command) (j : SettingJudge) (entry : Entry) (index : ℕ) (entries : List Entry) →
+    index ≡ entry.index →
+    fault_left machine s commands j [] (entry ∷ entries) ≡ fault_left machine s commands j [] (record { index = index; pieces = entry.pieces } ∷ entries)
+same_entry machine s commands j entry index entries is =
+    ap (λ (n : ℕ). fault_left machine s commands j [] (record { index = n; pieces = entry.pieces } ∷ entries)) (sym is)

@@ -7,7 +7,7 @@ ghost use Rattle.ngc_checker.specs.FirstRefusal.{setting_fault, start_fault};
 use crate::fault::CheckFault;
 use crate::setting_judge::SettingJudge;
 use ngc_certificate::{Setting, place_fault};
-use ngc_certificate_text::Motions;
+use ngc_certificate_text::MotionList;
 use ngc_commands::Command;
 use ngc_machine_files::Machine;
 use std::alloc::Allocator;
@@ -23,24 +23,19 @@ pub(crate) fn start_fault<A: Allocator>(machine: &Machine<A>) -> Option<CheckFau
 }
 
 /// Returns the first fault of a setting: 312, 318, and then those of the commands.
-pub fn setting_fault<A: Allocator>(
+pub fn setting_fault<A: Allocator, M: MotionList>(
     machine: &Machine<A>,
     setting: Setting,
     commands: &[Command],
-    motions: &Motions<A>,
+    motions: &M,
 ) -> Option<CheckFault>
     requires { length commands.now ≤ COMMAND_LIMIT }
-    ensures { result ≡ setting_fault (file_of machine.now) setting commands.now motions.now }
+    ensures { result ≡ setting_fault (file_of machine.now) setting commands.now
+        (M.entries motions.now) }
 {
     let mut judge = SettingJudge::new(machine);
-    for index in 0..motions.len() {
-        judge.entry(
-            machine,
-            setting,
-            commands,
-            motions.index(index),
-            motions.pieces(index),
-        );
+    for index in 0..motions.count() {
+        judge.entry(machine, setting, commands, motions, index);
     }
     judge.finish(machine, setting, commands)
 }

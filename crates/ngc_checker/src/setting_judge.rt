@@ -3,7 +3,7 @@ ghost use Rattle.std.specs.Prelude.{◌≡◌, ◌+◌, ◌-◌, ◌<◌, ◌≤
 ghost use Rattle.std.specs.Prelude.{MatchOption, Option, Some, None, IfSome};
 ghost use Rattle.ngc_machine_files.specs.Machine.{MachineFile, file_of};
 ghost use Rattle.ngc_commands.specs.Sequence.{COMMAND_LIMIT};
-ghost use Rattle.ngc_certificate_text.specs.Certificate.{PIECE_LIMIT};
+ghost use Rattle.ngc_certificate_text.specs.Certificate.{PIECE_LIMIT, entry_at};
 ghost use Rattle.ngc_checker.specs.FirstRefusal.{setting_fault, start_fault};
 ghost use Rattle.ngc_checker.specs.Walking.{fault_left};
 ghost use Rattle.ngc_checker.specs.Following.{IsFollowing};
@@ -12,6 +12,7 @@ use crate::command_walk::CommandWalk;
 use crate::fault::CheckFault;
 use crate::setting::start_fault;
 use ngc_certificate::{Piece, PieceJudge, Setting};
+use ngc_certificate_text::MotionList;
 use ngc_commands::Command;
 use ngc_machine_files::Machine;
 use std::alloc::Allocator;
@@ -146,31 +147,31 @@ impl SettingJudge {
         }
     }
 
-    /// Checks the motion of the certificate with this index, with all its pieces.
-    pub(crate) fn entry<A: Allocator>(
+    /// Checks motion `i` of the certificate, with all its pieces.
+    pub(crate) fn entry<A: Allocator, M: MotionList>(
         &mut self,
         machine: &Machine<A>,
         setting: Setting,
         commands: &[Command],
-        index: u32,
-        pieces: &[Piece],
+        motions: &M,
+        i: usize,
     )
         requires count { length commands.now ≤ COMMAND_LIMIT }
         requires index { self.old.walk.index ≤ length commands.now }
         requires none { self.old.following ≡ None }
-        requires some { 1 ≤ length pieces.now }
-        requires few { length pieces.now ≤ PIECE_LIMIT }
+        requires inside { i < length (M.entries motions.now) }
         ensures index { self.new.walk.index ≤ length commands.now }
         ensures none { self.new.following ≡ None }
         ensures left { (entries : List Entry) →
             fault_left (file_of machine.now) setting commands.now self.old []
-            (record { index = index; pieces = pieces.now } ∷ entries)
+            (entry_at (M.entries motions.now) i ∷ entries)
             ≡ fault_left (file_of machine.now) setting commands.now self.new [] entries }
     {
-        let count = pieces.len() as u32;
-        self.motion(machine, setting, commands, index, count);
-        for (done, piece) in pieces.iter().enumerate() {
-            self.piece(machine, setting, count - done as u32, piece);
+        let count = motions.piece_count(i) as u32;
+        self.motion(machine, setting, commands, motions.command_index(i), count);
+        for done in 0..count {
+            let piece = motions.piece(i, done as usize);
+            self.piece(machine, setting, count - done, &piece);
         }
     }
 

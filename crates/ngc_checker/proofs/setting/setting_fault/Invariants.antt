@@ -9,6 +9,6 @@ abbrev pub invariant-loop-index : goal.invariant-loop-index
 invariant-loop-index g l = record {
   within : l.judge.walk.index ≤ length l.commands;
   none : l.judge.following ≡ None;
-  left : setting_fault (file_of l.machine) l.setting l.commands l.motions
-      ≡ fault_left (file_of l.machine) l.setting l.commands l.judge [] (drop l.index l.motions);
+  left : setting_fault (file_of l.machine) l.setting l.commands (g.M.MotionList.entries l.motions)
+      ≡ fault_left (file_of l.machine) l.setting l.commands l.judge [] (drop l.index (g.M.MotionList.entries l.motions));
 }
