@@ -40,3 +40,5 @@ pub mod PlainNumbers
 pub mod ReadItems
 -- Lines that are plain.
 pub mod PlainLaws
+-- Lines that add no fact to those about a program.
+mod Factless

@@ -1,12 +1,12 @@
 -- Values that are numbers in one piece: no parameter and no bracket is in them.
-use Rattle.std.proofs.Common.{◌≡◌, ℕ, zero, suc, ◌+◌, ◌≤◌, Bool, true, false, cond, List, [], ◌∷◌, length, take, drop, one-add, refl, ap, ◌∙◌, sym, arith, Some, None}
-use Rattle.std.specs.Prelude.{◌==◌, ◌&&◌, ◌||◌, nat_lt, nat_le, option_and_then}
+use Rattle.std.proofs.Common.{◌≡◌, ℕ, zero, suc, ◌+◌, ◌≤◌, Bool, true, false, cond, List, [], ◌∷◌, length, take, drop, one-add, refl, ap, ◌∙◌, sym, arith, Option, Some, None}
+use Rattle.std.specs.Prelude.{◌==◌, ◌&&◌, ◌||◌, not, nat_lt, nat_le, option_and_then, is_some}
 use Rattle.std.specs.Char.{is_ascii_digit}
 use Rattle.std.specs.List.{list_all, list_any, prefix_len}
 use Rattle.std.proofs.lemmas.Bool.Decides.{nat_tests}
 use Rattle.std.proofs.lemmas.List.{length-take}
 use Rattle.ngc_adapt.specs.declared.number.Number.{Number}
-use Rattle.ngc_adapt.specs.Numbers.{is_blank, is_ink, begins, has_sign, unsigned, whole_digits, after_whole, is_number, facts_of, facts_if_number, is_lead, after_lead, is_whole, is_computed, computed_number, plain_number, written_number, number_of}
+use Rattle.ngc_adapt.specs.Numbers.{is_blank, is_ink, begins, has_sign, unsigned, whole_digits, after_whole, is_number, is_count, facts_of, facts_if_number, is_lead, after_lead, is_whole, is_computed, computed_number, plain_number, written_number, number_of}
 use Rattle.ngc_adapt.proofs.OnePiece.{short_piece}
 use Rattle.ngc_adapt.proofs.ValueLaws.{and_parts, or_parts, begins_head, none_dropped}
 
@@ -129,3 +129,39 @@ value_by v n true e h =
 -- such a value is read as that number
 pub plain_value : (v : List ℕ) (n : Number) → plain_number v ≡ Some n → number_of v ≡ Some n
 plain_value v n h = value_by v n (nat_le (prefix_len is_ink v) 32 && list_all is_blank (drop (prefix_len is_ink v) v)) refl h
+
+value_there : (v : List ℕ) (o : Option Number) → plain_number v ≡ o → is_some o ≡ true → is_some (number_of v) ≡ true
+value_there v (Some n) e h = ap is_some (plain_value v n e)
+value_there v None e h = absurd cc
+
+-- such a value can be read
+pub plain_is_value : (v : List ℕ) → is_some (plain_number v) ≡ true → is_some (number_of v) ≡ true
+plain_is_value v h = value_there v (plain_number v) refl h
+
+-- a text that is a number can be read
+pub some_facts : (b : Bool) (n : Number) → is_some (cond b (Some n) None) ≡ b
+some_facts true n = refl
+some_facts false n = refl
+
+no_zero : (n : ℕ) → (suc n == 0) ≡ false
+no_zero n = grind (arith, nat_tests)
+
+-- nothing is left after a prefix of digits if all are digits
+none_left : (p : ℕ → Bool) (u : List ℕ) → (length (drop (prefix_len p u) u) == 0) ≡ list_all p u
+none_left p [] = refl
+none_left p (x ∷ u) =
+    elim (p x) as (λ t. (length (drop (cond t (1 + prefix_len p u) 0) (x ∷ u)) == 0) ≡ (t && list_all p u))
+    [ true ↦ rw one-add (none_left p u) | false ↦ no_zero (length u) ]
+
+alone_by : (text : List ℕ) (b : Bool) → has_sign text ≡ b
+    → (not b && (length (drop (prefix_len is_ascii_digit (cond b (drop 1 text) text)) (cond b (drop 1 text) text)) == 0)) ≡ list_all is_ascii_digit text
+alone_by text false e = none_left is_ascii_digit text
+alone_by [] true e = absurd cc
+alone_by (x ∷ t) true e =
+    let sign : ((x == 43) || (x == 45)) ≡ true =
+    ap (λ (b : Bool). b || (x == 45)) (sym (begins_head 43 x t)) ∙ ap (λ (b : Bool). begins 43 (x ∷ t) || b) (sym (begins_head 45 x t)) ∙ e in
+    sym (ap (λ (b : Bool). b && list_all is_ascii_digit t) (sign_none is_ascii_digit refl refl x (x == 43) refl sign))
+
+-- digits alone: no sign, and nothing after the digits
+pub digits_alone : (text : List ℕ) → (not (has_sign text) && (length (after_whole text) == 0)) ≡ is_count text
+digits_alone text = alone_by text (has_sign text) refl

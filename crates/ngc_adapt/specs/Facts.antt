@@ -1,20 +1,23 @@
 -- Facts about a whole program: each line adds its own.
 use Rattle.std.specs.Prelude.{ℕ, ◌-◌, ◌==◌, ◌&&◌, ◌||◌, not, nat_lt, Bool, true, false, List, []}
 use Rattle.std.specs.Prelude.{◌∷◌, length}
-use Rattle.std.specs.Prelude.{drop, map, fold, slice_index, Option, Some, None, if◌then◌else◌}
+use Rattle.std.specs.Prelude.{drop, map, fold, slice_index, nat_le, Option, Some, None}
+use Rattle.std.specs.Prelude.{if◌then◌else◌}
 use Rattle.std.specs.Char.{is_ascii_digit}
-use Rattle.std.specs.List.{list_any, prefix_len}
+use Rattle.std.specs.List.{list_all, list_any, prefix_len}
 use Rattle.ngc_adapt.specs.declared.code.TheConstants as codes
 use Rattle.ngc_adapt.specs.declared.item.Letter.{Letter}
 use Rattle.ngc_adapt.specs.declared.item.Letter.TheVariants as letters
 use Rattle.ngc_adapt.specs.declared.item.Word.{Word}
+use Rattle.ngc_adapt.specs.declared.item.Item.{Item}
+use Rattle.ngc_adapt.specs.declared.item.Item.TheVariants as items
 use Rattle.ngc_adapt.specs.declared.facts.Facts.{Facts}
 use Rattle.ngc_adapt.specs.declared.facts.Levels.{Levels}
 use Rattle.ngc_adapt.specs.declared.facts.Levels.TheVariants as levels
 use Rattle.ngc_adapt.specs.Numbers.{is_blank, begins}
-use Rattle.ngc_adapt.specs.Items.{words_of}
+use Rattle.ngc_adapt.specs.Items.{words_of, parts_of}
 use Rattle.ngc_adapt.specs.Sources.{lines_of, body_of}
-use Rattle.ngc_adapt.specs.Rules.{has_m, has_p}
+use Rattle.ngc_adapt.specs.Rules.{has_m, has_p, is_m}
 
 abbrev pub turning_a : Letter → Bool
 turning_a letters.A = true
@@ -73,6 +76,22 @@ facts_by before after (Some words) =
       jumps = before.jumps || has_jump words;
       levels = after;
     }
+
+-- the facts are about the words of these letters alone
+abbrev pub has_facts : Letter → Bool
+has_facts letter = turning_a letter || (turning_b letter || (turning_c letter || is_m letter))
+
+-- an item that can be read and adds no fact
+abbrev pub adds_nothing : Item → Bool
+adds_nothing items.Mark = true
+adds_nothing items.Comment = true
+adds_nothing items.Setting = true
+adds_nothing (items.Word w) = not (has_facts w.letter)
+adds_nothing items.Unread = false
+
+-- a line of at most 64 bytes that adds no fact but its level
+abbrev pub is_factless : List ℕ → Bool
+is_factless line = nat_le (length line) 64 && list_all adds_nothing (parts_of line)
 
 abbrev pub facts_after : Facts → List ℕ → Facts
 facts_after before line =

@@ -1,11 +1,14 @@
-ghost use Rattle.std.specs.Prelude.{◌≡◌, ◌≤◌, fold, length};
+ghost use Rattle.std.specs.Prelude.{◌≡◌, ◌≤◌, ◌∷◌, fold, length};
 ghost use Rattle.std.specs.List.{list_any};
 ghost use Rattle.ngc_adapt.specs.Facts as spec;
-ghost use Rattle.ngc_adapt.specs.Items.{words_of};
+ghost use Rattle.ngc_adapt.specs.Items.{item_of, words_of};
 
 use crate::code;
-use crate::item::{Letter, MOST_WORDS, Word, read_words_into};
-use crate::number::{begins, blank_length};
+use crate::item::{
+    Letter, MOST_WORDS, Word, is_comment, is_mark, is_setting, letter_of, read_words_into,
+    split_item,
+};
+use crate::number::{begins, blank_length, is_value};
 use crate::rule::{has_m, has_p};
 use crate::source::{body_length, split_line};
 use arrayvec::ArrayVec;
@@ -76,6 +79,64 @@ fn has_jump(words: &[Word]) -> bool
     ensures { result ≡ spec.has_jump words.now }
 {
     has_m(&code::CALLS, words) || (has_m(&code::SUBPROGRAM_END, words) && has_p(words))
+}
+
+fn has_facts(letter: Letter) -> bool
+    ensures { result ≡ spec.has_facts letter }
+{
+    matches!(letter, Letter::A | Letter::B | Letter::C | Letter::M)
+}
+
+// Returns whether an item that begins with a byte can be read and adds no fact.
+#[tactic(auto, unfolding(crate::specs::Items::item_of), using(crate::proofs::Factless::word_adds))]
+fn adds_nothing_from(first: u8, rest: &[u8]) -> bool
+    ensures { result ≡ spec.adds_nothing (item_of (first ∷ rest.now)) }
+{
+    if is_mark(first) {
+        return true;
+    }
+    if first == b';' {
+        return true;
+    }
+    if first == b'(' {
+        return is_comment(rest);
+    }
+    if first == b'#' {
+        return is_setting(rest);
+    }
+    match letter_of(first) {
+        Some(letter) => !has_facts(letter) && is_value(rest),
+        None => false,
+    }
+}
+
+// Returns whether an item can be read and adds no fact.
+#[tactic(auto, unfolding(crate::specs::Items::item_of))]
+fn adds_nothing(item: &[u8]) -> bool
+    ensures { result ≡ spec.adds_nothing (item_of item.now) }
+{
+    match item {
+        [first, rest @ ..] => adds_nothing_from(*first, rest),
+        [] => false,
+    }
+}
+
+// Returns whether a line of at most 64 bytes can be read and adds no fact but its level.
+fn is_factless(line: &[u8]) -> bool
+    ensures { result ≡ spec.is_factless line.now }
+{
+    if line.len() > MOST_WORDS {
+        return false;
+    }
+    let mut rest = line;
+    while !rest.is_empty() {
+        let (item, others) = split_item(rest);
+        if !adds_nothing(item) {
+            return false;
+        }
+        rest = others;
+    }
+    true
 }
 
 // Returns the digit of a slash of block delete: a slash alone is the level 1.
@@ -160,13 +221,18 @@ impl Facts {
         }
     }
 
-    // Returns the facts after a line, which is passed without its end. `words` holds the words of a
-    // line that can be read, in place of those that it held before.
+    // Returns the facts after a line, which is passed without its end. `words` may hold its words, in
+    // place of those that it held before.
+    #[tactic(auto, using(crate::proofs::Factless::nothing_added))]
     fn after(&self, body: &[u8], words: &mut ArrayVec<Word, MOST_WORDS>) -> Facts
         ensures { result ≡ spec.facts_by self.now
             (spec.levels_after self.now.levels (spec.level_of body.now)) (words_of body.now) }
     {
         let levels = self.levels.after(level_of(body));
+        // Nearly every line is such a line, and a look at its letters takes less than its words.
+        if is_factless(body) {
+            return Facts { levels, ..*self };
+        }
         if !read_words_into(body, words) {
             return Facts {
                 turns_a: true,

@@ -80,7 +80,9 @@ impl Default for Letter {
 /// A letter and the number after it.
 #[derive(Clone, Copy, Default)]
 pub struct Word {
+    /// The meaning of its letter.
     pub letter: Letter,
+    /// The facts about its number.
     pub number: Number,
 }
 
@@ -91,6 +93,7 @@ pub enum Item {
     Mark,
     /// A comment in parentheses, or one that a semicolon begins.
     Comment,
+    /// A letter and a number.
     Word(Word),
     /// A value for a parameter.
     Setting,
@@ -98,6 +101,7 @@ pub enum Item {
     Unread,
 }
 
+/// Returns the upper case of a letter, and any other byte as it is.
 #[inline]
 pub fn upper(byte: u8) -> u8
     ensures { result ≡ spec.upper byte }
@@ -141,6 +145,13 @@ fn capital(byte: u8) -> Option<Letter>
         b'A'..=b'Z' => Some(Letter::Other),
         _ => None,
     }
+}
+
+// Returns the meaning of a letter, in upper or lower case.
+pub(crate) fn letter_of(byte: u8) -> Option<Letter>
+    ensures { result ≡ spec.letter_of byte }
+{
+    capital(upper(byte))
 }
 
 #[inline]
@@ -221,21 +232,21 @@ pub fn may_be_deleted(line: &[u8]) -> bool
     begins(b'/', line.split_at(blank_length(line)).1)
 }
 
-fn is_mark(byte: u8) -> bool
+pub(crate) fn is_mark(byte: u8) -> bool
     ensures { result ≡ spec.is_mark byte }
 {
     is_blank(byte) || byte == b'/' || byte == b'%'
 }
 
 // Returns whether what follows an opening parenthesis is a comment.
-fn is_comment(rest: &[u8]) -> bool
+pub(crate) fn is_comment(rest: &[u8]) -> bool
     ensures { result ≡ spec.is_comment rest.now }
 {
     has_byte(b')', rest) && !has_byte(b'(', rest)
 }
 
 // Returns whether what follows a # is a setting.
-fn is_setting(rest: &[u8]) -> bool
+pub(crate) fn is_setting(rest: &[u8]) -> bool
     ensures { result ≡ spec.is_setting rest.now }
 {
     let index = value_length(rest);
@@ -257,7 +268,7 @@ fn word_item(letter: Option<Letter>, number: Option<Number>) -> Item
 fn word_at(first: u8, rest: &[u8]) -> Item
     ensures { result ≡ spec.word_item (spec.letter_of first) (number rest.now) }
 {
-    word_item(capital(upper(first)), number_of(rest))
+    word_item(letter_of(first), number_of(rest))
 }
 
 // Returns the kind of an item that begins with a byte.

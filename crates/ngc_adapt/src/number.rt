@@ -1,6 +1,6 @@
 ghost use Rattle.std.specs.Prelude.{◌≡◌, ◌+◌, ◌-◌, ◌*◌, ◌<◌, ◌≤◌, List, length, drop, take, min};
 ghost use Rattle.std.specs.Prelude.{Option, Some, None, IsTrue, IfNone, IfSome, nat_le, not, if◌then◌else◌};
-ghost use Rattle.std.specs.Prelude.{take_while};
+ghost use Rattle.std.specs.Prelude.{take_while, is_some};
 ghost use Rattle.std.specs.Option.{option_map};
 ghost use Rattle.std.specs.List.{prefix_len, list_all, list_any};
 ghost use Rattle.std.specs.Char.{is_ascii_digit};
@@ -8,7 +8,7 @@ ghost use Rattle.ngc_adapt.specs.Numbers as numbers;
 
 use arrayvec::ArrayVec;
 
-// The greatest number of characters of a number that is read. CAM programs write up to twenty.
+/// The greatest number of characters of a number that is read. CAM programs write up to twenty.
 pub const LONGEST_NUMBER: usize = 32;
 
 /// The facts about a number that the rules use. Of a computed value they know only whether a name
@@ -33,6 +33,7 @@ pub struct Number {
     pub is_signed: bool,
 }
 
+/// Returns whether a byte is a space, a tab or a carriage return.
 #[inline]
 pub fn is_blank(byte: u8) -> bool
     ensures { result ≡ numbers.is_blank byte }
@@ -40,6 +41,7 @@ pub fn is_blank(byte: u8) -> bool
     byte == b' ' || byte == b'\t' || byte == b'\r'
 }
 
+/// Returns whether a text begins with a byte.
 #[inline]
 pub fn begins(byte: u8, text: &[u8]) -> bool
     ensures first { result ≡ numbers.begins byte text.now }
@@ -85,7 +87,7 @@ fn digit_count(text: &[u8]) -> usize
     text.iter().take_while(|b| b.is_ascii_digit()).count()
 }
 
-// Returns the digits in front of the point, and what follows them.
+/// Returns the digits in front of the point of a number, without its sign, and what follows them.
 pub fn split_whole(text: &[u8]) -> (&[u8], &[u8])
     ensures front { result.0.now ≡ numbers.whole_digits text.now }
     ensures rest { result.1.now ≡ numbers.after_whole text.now }
@@ -151,7 +153,7 @@ pub fn make_number(whole: &[u8], rest: &[u8]) -> bool
         && (!whole.is_empty() || !decimals.is_empty())
 }
 
-// Returns the characters of a value, if there are at most 32.
+/// Returns the characters of a value without its blanks, if there are at most 32.
 #[tactic(auto, using(crate::proofs::Filtered::filter_step, crate::proofs::Filtered::longer, crate::proofs::Filtered::filter_end))]
 pub fn without_blanks(value: &[u8]) -> Option<ArrayVec<u8, LONGEST_NUMBER>>
     ensures { option_map (λ text. text.items) result ≡ numbers.short_text value.now }
@@ -281,6 +283,7 @@ fn is_computed(value: &[u8]) -> bool
     has_byte(b'#', value) || begins(b'[', value.split_at(lead_length(value)).1)
 }
 
+/// Returns how often a byte is in a text.
 pub fn byte_count(byte: u8, bytes: &[u8]) -> usize
     ensures { result ≡ numbers.byte_count byte bytes.now }
 {
@@ -301,6 +304,7 @@ pub(crate) fn is_whole(value: &[u8]) -> bool
 }
 
 // Returns the number that the characters form.
+#[tactic(auto, using(crate::proofs::PlainNumbers::digits_alone))]
 fn number_in(text: &[u8]) -> Option<Number>
     ensures { result ≡ numbers.facts_if_number text.now }
 {
@@ -314,7 +318,7 @@ fn number_in(text: &[u8]) -> Option<Number>
         code: code_in(begins(b'-', text), whole, decimals),
         is_zero: are_noughts(whole) && are_noughts(decimals),
         is_long: !has_sign(text) && (has_point || whole.len() > 5),
-        is_count: are_digits(text),
+        is_count: !has_sign(text) && rest.is_empty(),
         has_point,
         is_computed: false,
         has_name: false,
@@ -422,4 +426,29 @@ pub(crate) fn number_of(value: &[u8]) -> Option<Number>
         };
     }
     written_number(value)
+}
+
+// Returns whether a value is a number with no blank in front of one of its characters.
+#[tactic(auto, using(crate::proofs::PlainNumbers::some_facts))]
+fn is_plain_value(value: &[u8]) -> bool
+    ensures { result ≡ is_some (numbers.plain_number value.now) }
+{
+    match in_one_piece(value) {
+        Some(text) => {
+            let (whole, rest) = split_whole(text);
+            make_number(whole, rest)
+        }
+        None => false,
+    }
+}
+
+/// Returns whether a word's value can be read, without its facts.
+#[tactic(auto, using(crate::proofs::PlainNumbers::plain_is_value))]
+pub(crate) fn is_value(value: &[u8]) -> bool
+    ensures { result ≡ is_some (numbers.number_of value.now) }
+{
+    if is_plain_value(value) {
+        return true;
+    }
+    number_of(value).is_some()
 }

@@ -3,6 +3,7 @@ ghost use Rattle.std.specs.List.{list_all};
 ghost use Rattle.ngc_adapt.specs.Text as spec;
 
 use crate::number::has_byte;
+use memchr::memchr2;
 use std::alloc::{AllocError, Allocator};
 
 // U+FEFF in UTF-8.
@@ -50,7 +51,7 @@ fn is_text_byte(byte: u8) -> bool
 fn has_text_bytes_alone(file: &[u8]) -> bool
     ensures { result ≡ list_all spec.is_text_byte file.now }
 {
-    file.iter().all(|b| is_text_byte(*b))
+    memchr2(0, 26, file).is_none()
 }
 
 // Returns whether carriage returns end the lines of a file.
@@ -102,6 +103,11 @@ pub fn text_of<A: Allocator>(alloc: A, file: &[u8]) -> Result<Vec<u8, A>, AllocE
     ensures copied { IfOk result
         (λ text. spec.is_changed (spec.changes_of file.now) ≡ false → text.items ≡ file.now) }
 {
-    let text = lines_of(alloc, file)?;
+    if TextChanges::of(file).is_any() {
+        let text = lines_of(alloc, file)?;
+        return Ok(text);
+    }
+    let mut text = Vec::with_capacity(alloc, file.len())?;
+    text.extend_from_slice(file)?;
     Ok(text)
 }
