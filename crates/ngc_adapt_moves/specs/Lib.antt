@@ -14,3 +14,4 @@ pub mod Values
 pub mod Words
 pub mod Turns
 pub mod Locals
+pub mod OwnLines

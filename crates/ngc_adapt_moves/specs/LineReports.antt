@@ -72,7 +72,8 @@ further_changes number written_number plan line =
     ++ (change_if (is_stopped_later plan) number written_number rules.StopLater plan line
     ++ (change_if (is_one_turn plan.turns) number written_number rules.OneTurn plan line
     ++ (several_if (is_several plan.turns) number written_number plan line
-    ++ change_if (is_local plan.local) number written_number rules.LocalOffset plan line)))
+    ++ (change_if (is_local plan.local) number written_number rules.LocalOffset plan line
+    ++ change_if plan.tool_first number written_number rules.ToolChangeFirst plan line))))
 
 unfoldable pub changes_text : ℕ → ℕ → Plan → List ℕ → List ℕ
 changes_text number written_number plan line =

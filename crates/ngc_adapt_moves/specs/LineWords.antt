@@ -56,6 +56,12 @@ abbrev pub is_r : Letter → Bool
 is_r letters.R = true
 is_r _ = false
 
+-- S or T
+abbrev pub is_speed_or_tool : Letter → Bool
+is_speed_or_tool letters.S = true
+is_speed_or_tool letters.T = true
+is_speed_or_tool _ = false
+
 -- a letter of a place, or of a path to it
 abbrev pub is_of_place : Letter → Bool
 is_of_place (letters.Axis axis) = true

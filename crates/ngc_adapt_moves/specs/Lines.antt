@@ -17,11 +17,13 @@ use Rattle.ngc_adapt_moves.specs.declared.rule.MoveRefusal.{MoveRefusal}
 use Rattle.ngc_adapt_moves.specs.declared.rule.MoveRefusal.TheVariants as refusals
 use Rattle.ngc_adapt_moves.specs.declared.text.Text.{Text}
 use Rattle.ngc_adapt_moves.specs.declared.word.Word.{Word}
-use Rattle.ngc_adapt_moves.specs.declared.code.TheConstants as codes_of
-use Rattle.ngc_adapt_moves.specs.LineWords.{has_motion, has_unknown, is_f, is_machine_code, is_of_place}
+use Rattle.ngc_adapt_moves.specs.declared.own_line.OwnLine.{OwnLine}
+use Rattle.ngc_adapt_moves.specs.declared.own_line.OwnLine.TheVariants as own_lines
+use Rattle.ngc_adapt_moves.specs.LineWords.{has_motion, has_unknown, is_of_place}
 use Rattle.ngc_adapt_moves.specs.Places.{after_line, lost, modes_after}
 use Rattle.ngc_adapt_moves.specs.Plans.{added_text, before_count, change_of, circle_text, is_changed, is_first, is_homed, is_named}
 use Rattle.ngc_adapt_moves.specs.Plans.{line_count, naming_text, plan_of, refusals_of, rules_of}
+use Rattle.ngc_adapt_moves.specs.OwnLines.{own_words}
 use Rattle.ngc_adapt_moves.specs.Turns.{turns_written}
 use Rattle.ngc_adapt_moves.specs.Texts.{axis_letter, text_of, value_text}
 use Rattle.ngc_adapt_moves.specs.Words.{word_of, words_of}
@@ -55,24 +57,6 @@ front plan =
 abbrev pub front_if : Bool → Plan → List ℕ
 front_if holds plan = if holds then front plan else []
 
-abbrev pub is_feed_word : Option Word → Bool
-is_feed_word (Some w) = is_f w.letter
-is_feed_word None = false
-
-abbrev pub is_feed_item : List ℕ → Bool
-is_feed_item item = is_feed_word (word_of item)
-
-abbrev pub item_if : Bool → List ℕ → List ℕ
-item_if holds item = if holds then item else []
-
-abbrev pub feed_items : List (List ℕ) → List ℕ
-feed_items [] = []
-feed_items (item ∷ rest) = item_if (is_feed_item item) item ++ feed_items rest
-
--- the F words of a line
-abbrev pub feed_words : List ℕ → List ℕ
-feed_words line = feed_items (items_of line)
-
 abbrev pub items_written : Bool → Plan → List (List ℕ) → List ℕ
 items_written first plan [] = []
 items_written first plan (item ∷ rest) =
@@ -96,42 +80,32 @@ home_line place deletable =
     slash deletable ++ (codes "G53 G0" ++ (target_text axes.X place.x
     ++ (target_text axes.Y place.y ++ target_text axes.Z place.z)))
 
--- the lines before the source's own, each followed by a separator
+-- a line of its own, followed by a separator
+abbrev pub line_before : Bool → List ℕ → OwnLine → List ℕ → List ℕ
+line_before first separator own line =
+    if first then slash (may_be_deleted line) ++ (own_words own line ++ separator) else []
+
+-- the lines before the source's own: F, and then the change of the tool
 abbrev pub before_written : List ℕ → Plan → List ℕ → List ℕ
 before_written separator plan line =
-    if is_first plan.feeding
-    then slash (may_be_deleted line) ++ (feed_words line ++ separator) else []
+    line_before (is_first plan.feeding) separator own_lines.Feed line
+    ++ line_before plan.tool_first separator own_lines.Tool line
 
 -- the lines after the source's own, each after a separator
 abbrev pub after_written : List ℕ → Homing → Bool → List ℕ
 after_written separator (homings.Between place) deletable = separator ++ home_line place deletable
 after_written separator _ deletable = []
 
-abbrev pub is_stop_word : List ℕ → Option Word → Bool
-is_stop_word kind (Some w) = is_machine_code kind w
-is_stop_word kind None = false
-
-abbrev pub is_stop_item : List ℕ → List ℕ → Bool
-is_stop_item kind item = is_stop_word kind (word_of item)
-
-abbrev pub stop_items : List ℕ → List (List ℕ) → List ℕ
-stop_items kind [] = []
-stop_items kind (item ∷ rest) = item_if (is_stop_item kind item) item ++ stop_items kind rest
-
--- the M words of a line with a code of a kind
-abbrev pub stop_words : List ℕ → List ℕ → List ℕ
-stop_words kind line = stop_items kind (items_of line)
-
--- a stop on a line of its own, after a separator
-abbrev pub stop_line : Bool → List ℕ → List ℕ → List ℕ → List ℕ
-stop_line later separator kind line =
-    if later then separator ++ (slash (may_be_deleted line) ++ stop_words kind line) else []
+-- a line of its own, after a separator
+abbrev pub line_after : Bool → List ℕ → OwnLine → List ℕ → List ℕ
+line_after later separator own line =
+    if later then separator ++ (slash (may_be_deleted line) ++ own_words own line) else []
 
 -- the stops after all other lines: the pause, and then the end
 abbrev pub stops_written : List ℕ → Plan → List ℕ → List ℕ
 stops_written separator plan line =
-    stop_line plan.pause_later separator codes_of.PAUSES line
-    ++ stop_line plan.end_later separator codes_of.ENDS line
+    line_after plan.pause_later separator own_lines.Pause line
+    ++ line_after plan.end_later separator own_lines.End line
 
 -- the text to which a line is rewritten; one that no rule changes is unchanged
 abbrev pub rewritten : List ℕ → Plan → List ℕ → List ℕ

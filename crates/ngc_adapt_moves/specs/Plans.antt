@@ -42,8 +42,9 @@ use Rattle.ngc_adapt_moves.specs.declared.word.Word.{Word}
 use Rattle.ngc_adapt_moves.specs.declared.code.TheConstants as codes
 use Rattle.ngc_adapt_moves.specs.Axes.{along}
 use Rattle.ngc_adapt_moves.specs.LineWords.{has, has_axes, has_feed, has_motion, has_place}
-use Rattle.ngc_adapt_moves.specs.LineWords.{has_m, has_unknown, is_axis, is_code, is_f, is_machine_code, is_p}
-use Rattle.ngc_adapt_moves.specs.LineWords.{machine_codes, machine_count}
+use Rattle.ngc_adapt_moves.specs.LineWords.{has_unknown, is_axis, is_code, is_p}
+use Rattle.ngc_adapt_moves.specs.declared.own_line.OwnLine.TheVariants as own_lines
+use Rattle.ngc_adapt_moves.specs.OwnLines.{end_later, is_of, pause_later, tool_first}
 use Rattle.ngc_adapt_moves.specs.Places.{changes_units, feed_mode_after, modes_after}
 use Rattle.ngc_adapt_moves.specs.Homing.{homing_of, is_part_home}
 use Rattle.ngc_adapt_moves.specs.Arcs.{circle_of, centre_of}
@@ -95,24 +96,6 @@ feeding_of places words =
     && (has_feed words && (changes_units places.units words && not (has_unknown words)))
     then feeding_in places.units (feed_mode_after places.feed_mode words) else feedings.Other
 
--- at most one pause and one end, beside nothing that isn't known
-abbrev pub has_clear_stops : List Word → Bool
-has_clear_stops words =
-    nat_le (machine_codes codes.PAUSES words) 1
-    && (nat_le (machine_codes codes.ENDS words) 1 && not (has_unknown words))
-
--- the pause of a line that has more than four M words, apart from its end
-abbrev pub pause_later : List Word → Bool
-pause_later words =
-    has_m codes.PAUSES words && has_clear_stops words
-    && nat_lt 4 (machine_count words - machine_codes codes.ENDS words)
-
--- the end of the program beside a pause, or on a line of more than four M words
-abbrev pub end_later : List Word → Bool
-end_later words =
-    has_m codes.ENDS words && has_clear_stops words
-    && (has_m codes.PAUSES words || nat_lt 4 (machine_count words))
-
 -- the result of the rules for a line with these words
 abbrev pub plan_of : Places → List Word → Plan
 plan_of places words =
@@ -133,6 +116,7 @@ plan_of places words =
           (balance_of places (modes_after places words)
           (centre_of places (modes_after places words) words) words) words;
       local = local_of places words;
+      tool_first = tool_first words;
       pause_later = pause_later words;
       end_later = end_later words;
     }
@@ -187,7 +171,8 @@ abbrev pub is_changed : Plan → Bool
 is_changed plan =
     is_homed plan.homing || (is_named plan.naming || (is_circled plan.circle || (is_origin plan
     || (plan.apart || (is_first plan.feeding || (is_moved plan.balance
-    || (is_stopped_later plan || (is_one_turn plan.turns || (is_several plan.turns || is_local plan.local)))))))))
+    || (is_stopped_later plan || (is_one_turn plan.turns || (is_several plan.turns || (is_local plan.local
+    || plan.tool_first))))))))))
 
 abbrev pub rule_if : Bool → Rule → List Rule
 rule_if holds rule = if holds then rule ∷ [] else []
@@ -195,7 +180,7 @@ rule_if holds rule = if holds then rule ∷ [] else []
 -- the rules that change the line
 abbrev pub rules_of : Plan → List Rule
 rules_of plan =
-    (((((((((rule_if (is_homed plan.homing) rules.PartHome
+    ((((((((((rule_if (is_homed plan.homing) rules.PartHome
     ++ rule_if (is_named plan.naming) rules.MotionAgain)
     ++ rule_if (is_circled plan.circle) rules.FullCircle)
     ++ rule_if (is_origin plan) rules.ArcOrigin) ++ rule_if plan.apart rules.MotionApart)
@@ -204,7 +189,8 @@ rules_of plan =
     ++ rule_if (is_stopped_later plan) rules.StopLater)
     ++ rule_if (is_one_turn plan.turns) rules.OneTurn)
     ++ rule_if (is_several plan.turns) rules.SeveralTurns)
-    ++ rule_if (is_local plan.local) rules.LocalOffset
+    ++ rule_if (is_local plan.local) rules.LocalOffset)
+    ++ rule_if plan.tool_first rules.ToolChangeFirst
 
 abbrev pub homing_refusal : Homing → Option MoveRefusal
 homing_refusal (homings.Left refusal) = Some refusal
@@ -330,14 +316,15 @@ local_change (locals.By place) w =
     if is_code codes.LOCAL_OFFSET w then Some texts.AxisOffset else coordinate_text place w.letter
 
 -- a word that is left out of the source's own line: G90.1 and G91.1, a motion code that takes no axis
--- words, F that is written on a line before, a stop that is written on a line after
+-- words, and a word that is written on a line before or after
 abbrev pub leaves_out : Plan → Word → Bool
 leaves_out plan w =
     is_code codes.ARC_DISTANCE w
     || ((plan.apart && is_code codes.NAMED_MOTION w)
-    || ((is_first plan.feeding && is_f w.letter)
-    || ((plan.pause_later && is_machine_code codes.PAUSES w)
-    || (plan.end_later && is_machine_code codes.ENDS w))))
+    || ((is_first plan.feeding && is_of own_lines.Feed w)
+    || ((plan.tool_first && is_of own_lines.Tool w)
+    || ((plan.pause_later && is_of own_lines.Pause w)
+    || (plan.end_later && is_of own_lines.End w)))))
 
 -- the replacement of a word, if it is changed
 abbrev pub change_of : Plan → Word → Option Text
@@ -346,17 +333,17 @@ change_of plan w =
     else option_or (option_or (turned_change plan.turns w) (local_change plan.local w))
     (homing_change plan.homing plan.balance plan.centre w)
 
+abbrev pub one_if : Bool → ℕ
+one_if holds = if holds then 1 else 0
+
 -- how many lines are written before the source's own
 abbrev pub before_count : Plan → ℕ
-before_count plan = if is_first plan.feeding then 1 else 0
+before_count plan = one_if (is_first plan.feeding) + one_if plan.tool_first
 
 -- the source's own, and those after it
 abbrev pub homing_lines : Homing → ℕ
 homing_lines (homings.Between place) = 2
 homing_lines _ = 1
-
-abbrev pub one_if : Bool → ℕ
-one_if holds = if holds then 1 else 0
 
 -- how many lines are written
 abbrev pub line_count : Plan → ℕ

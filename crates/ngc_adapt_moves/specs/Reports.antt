@@ -17,6 +17,7 @@ rule_name rules.StopLater = codes "stop_later"
 rule_name rules.OneTurn = codes "one_turn"
 rule_name rules.SeveralTurns = codes "several_turns"
 rule_name rules.LocalOffset = codes "local_offset"
+rule_name rules.ToolChangeFirst = codes "tool_change_first"
 
 -- what a rule keeps: the same commands, or the same within a length
 abbrev pub class_of : Rule → List ℕ
@@ -31,6 +32,7 @@ class_of rules.StopLater = codes "exact"
 class_of rules.OneTurn = codes "exact"
 class_of rules.SeveralTurns = codes "bound"
 class_of rules.LocalOffset = codes "exact"
+class_of rules.ToolChangeFirst = codes "exact"
 
 abbrev pub refusal_name : MoveRefusal → List ℕ
 refusal_name refusals.NotRead = codes "not_read"

@@ -4,9 +4,9 @@ ghost use Rattle.ngc_adapt_moves.specs.Lines as spec;
 ghost use Rattle.ngc_adapt_moves.specs.Places.{modes_after};
 
 use crate::axis::{Axis, Place};
-use crate::code;
 use crate::homing::Homing;
-use crate::line_words::{has_motion, has_unknown, is_f, is_machine_code, is_of_place};
+use crate::line_words::{has_motion, has_unknown, is_of_place};
+use crate::own_line::{OwnLine, add_own_words};
 use crate::places::{Motion, Places};
 use crate::plan::Plan;
 use crate::text::{add_text, add_value, axis_letter};
@@ -64,39 +64,21 @@ fn add_front_if<A: Allocator>(
     if holds { add_front(plan, out) } else { Ok(()) }
 }
 
-fn is_feed_item(item: &[u8]) -> bool
-    ensures { result ≡ spec.is_feed_item item.now }
-{
-    match word_of(item) {
-        Some(word) => is_f(word.letter),
-        None => false,
-    }
-}
-
-fn add_item_if<A: Allocator>(
-    holds: bool,
-    item: &[u8],
+// Adds a line of its own, followed by a separator.
+fn add_line_before<A: Allocator>(
+    first: bool,
+    separator: &[u8],
+    own: OwnLine,
+    line: &[u8],
     out: &mut Vec<u8, A>,
 ) -> Result<(), AllocError>
-    ensures { IfOk result
-        (λ _. out.new.items ≡ out.old.items ++ spec.item_if holds item.now) }
+    ensures { IfOk result (λ _. out.new.items ≡ out.old.items
+        ++ spec.line_before first separator.now own line.now) }
 {
-    if holds {
-        out.extend_from_slice(item)
-    } else {
-        Ok(())
-    }
-}
-
-// Adds the F words of a line.
-fn add_feed_words<A: Allocator>(line: &[u8], out: &mut Vec<u8, A>) -> Result<(), AllocError>
-    ensures { IfOk result (λ _. out.new.items ≡ out.old.items ++ spec.feed_words line.now) }
-{
-    let mut rest = line;
-    while !rest.is_empty() {
-        let (item, others) = split_item(rest);
-        add_item_if(is_feed_item(item), item, out)?;
-        rest = others;
+    if first {
+        out.extend_from_slice(slash(may_be_deleted(line)))?;
+        add_own_words(own, line, out)?;
+        out.extend_from_slice(separator)?;
     }
     Ok(())
 }
@@ -111,11 +93,8 @@ fn add_before<A: Allocator>(
     ensures { IfOk result (λ _. out.new.items ≡ out.old.items
         ++ spec.before_written separator.now plan.now line.now) }
 {
-    if plan.feeding.is_first() {
-        out.extend_from_slice(slash(may_be_deleted(line)))?;
-        add_feed_words(line, out)?;
-        out.extend_from_slice(separator)?;
-    }
+    add_line_before(plan.feeding.is_first(), separator, OwnLine::Feed, line, out)?;
+    add_line_before(plan.tool_first, separator, OwnLine::Tool, line, out)?;
     Ok(())
 }
 
@@ -197,48 +176,21 @@ fn add_after<A: Allocator>(
     }
 }
 
-fn is_stop_item(codes: &[u16], item: &[u8]) -> bool
-    ensures { result ≡ spec.is_stop_item codes.now item.now }
-{
-    match word_of(item) {
-        Some(word) => is_machine_code(codes, &word),
-        None => false,
-    }
-}
-
-// Adds the M words of a line with a code of a kind.
-fn add_stop_words<A: Allocator>(
-    codes: &[u16],
-    line: &[u8],
-    out: &mut Vec<u8, A>,
-) -> Result<(), AllocError>
-    ensures { IfOk result
-        (λ _. out.new.items ≡ out.old.items ++ spec.stop_words codes.now line.now) }
-{
-    let mut rest = line;
-    while !rest.is_empty() {
-        let (item, others) = split_item(rest);
-        add_item_if(is_stop_item(codes, item), item, out)?;
-        rest = others;
-    }
-    Ok(())
-}
-
-// Adds a stop on a line of its own, after a separator.
-fn add_stop_line<A: Allocator>(
+// Adds a line of its own, after a separator.
+fn add_line_after<A: Allocator>(
     later: bool,
     separator: &[u8],
-    codes: &[u16],
+    own: OwnLine,
     line: &[u8],
     out: &mut Vec<u8, A>,
 ) -> Result<(), AllocError>
     ensures { IfOk result (λ _. out.new.items ≡ out.old.items
-        ++ spec.stop_line later separator.now codes.now line.now) }
+        ++ spec.line_after later separator.now own line.now) }
 {
     if later {
         out.extend_from_slice(separator)?;
         out.extend_from_slice(slash(may_be_deleted(line)))?;
-        add_stop_words(codes, line, out)?;
+        add_own_words(own, line, out)?;
     }
     Ok(())
 }
@@ -253,8 +205,8 @@ fn add_stops<A: Allocator>(
     ensures { IfOk result (λ _. out.new.items ≡ out.old.items
         ++ spec.stops_written separator.now plan.now line.now) }
 {
-    add_stop_line(plan.pause_later, separator, &code::PAUSES, line, out)?;
-    add_stop_line(plan.end_later, separator, &code::ENDS, line, out)?;
+    add_line_after(plan.pause_later, separator, OwnLine::Pause, line, out)?;
+    add_line_after(plan.end_later, separator, OwnLine::End, line, out)?;
     Ok(())
 }
 

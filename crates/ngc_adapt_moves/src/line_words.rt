@@ -85,6 +85,12 @@ fn is_r(letter: Letter) -> bool
     matches!(letter, Letter::R)
 }
 
+pub(crate) fn is_speed_or_tool(letter: Letter) -> bool
+    ensures { result ≡ spec.is_speed_or_tool letter }
+{
+    matches!(letter, Letter::S | Letter::T)
+}
+
 // Returns whether a letter is of a place or of a path to it.
 pub(crate) fn is_of_place(letter: Letter) -> bool
     ensures { result ≡ spec.is_of_place letter }

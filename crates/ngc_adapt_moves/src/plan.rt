@@ -8,10 +8,10 @@ use crate::axis::{Axis, Place};
 use crate::code;
 use crate::homing::{Homing, homing_of, is_part_home};
 use crate::line_words::{
-    has, has_axes, has_feed, has_m, has_motion, has_place, has_unknown, is_axis, is_code, is_f,
-    is_machine_code, is_p, machine_codes, machine_count,
+    has, has_axes, has_feed, has_motion, has_place, has_unknown, is_axis, is_code, is_p,
 };
 use crate::local::{Local, local_of};
+use crate::own_line::{OwnLine, end_later, pause_later, tool_first};
 use crate::places::{Motion, Places, changes_units, feed_mode_after};
 use crate::radii::{Balance, balance_of};
 use crate::rule::{MoveRefusal, Rule};
@@ -23,7 +23,7 @@ use ngc_adapt::Dialect;
 use ngc_fixed_length::{FeedMode, Units, Value};
 
 /// The greatest number of rules that change a line, and of those for which it is left.
-pub const MOST_RULES: usize = 11;
+pub const MOST_RULES: usize = 12;
 
 /// The result for a line that may have to name its motion.
 #[derive(Clone, Copy)]
@@ -62,6 +62,8 @@ pub struct Plan {
     pub balance: Balance,
     pub turns: Turns,
     pub local: Local,
+    /// Whether S, T and M6 are written on a line before.
+    pub tool_first: bool,
     /// Whether M0, M1 or M60 is written on a line after.
     pub pause_later: bool,
     /// Whether M2 or M30 is written on a line after.
@@ -143,35 +145,6 @@ fn is_linuxcnc(dialect: Dialect) -> bool
     matches!(dialect, Dialect::LinuxCnc)
 }
 
-// The most M words of a line of our language.
-const MOST_MACHINE_WORDS: usize = 4;
-
-// Whether a line has at most one pause and one end, beside nothing that isn't known.
-fn has_clear_stops(words: &[Word]) -> bool
-    ensures { result ≡ spec.has_clear_stops words.now }
-{
-    machine_codes(&code::PAUSES, words) <= 1
-        && machine_codes(&code::ENDS, words) <= 1
-        && !has_unknown(words)
-}
-
-fn pause_later(words: &[Word]) -> bool
-    ensures { result ≡ spec.pause_later words.now }
-{
-    has_m(&code::PAUSES, words)
-        && has_clear_stops(words)
-        && machine_count(words).saturating_sub(machine_codes(&code::ENDS, words))
-            > MOST_MACHINE_WORDS
-}
-
-fn end_later(words: &[Word]) -> bool
-    ensures { result ≡ spec.end_later words.now }
-{
-    has_m(&code::ENDS, words)
-        && has_clear_stops(words)
-        && (has_m(&code::PAUSES, words) || machine_count(words) > MOST_MACHINE_WORDS)
-}
-
 /// Returns the result of the rules for a line with these words, which leave these modes.
 pub(crate) fn plan_of(places: &Places, after: &Places, words: &[Word]) -> Plan
     requires { after.now ≡ modes_after places.now words.now }
@@ -190,6 +163,7 @@ pub(crate) fn plan_of(places: &Places, after: &Places, words: &[Word]) -> Plan
         balance,
         turns: turns_of(places, after, &centre, &balance, words),
         local: local_of(places, words),
+        tool_first: tool_first(words),
         pause_later: pause_later(words),
         end_later: end_later(words),
     }
@@ -197,7 +171,7 @@ pub(crate) fn plan_of(places: &Places, after: &Places, words: &[Word]) -> Plan
 
 // Adds a rule if it applies.
 fn add_rule(holds: bool, rule: Rule, rules: &mut ArrayVec<Rule, MOST_RULES>)
-    requires { length rules.old.items ≤ 10 }
+    requires { length rules.old.items ≤ 11 }
     ensures items { rules.new.items ≡ rules.old.items ++ spec.rule_if holds rule }
     ensures few { length rules.new.items ≤ length rules.old.items + 1 }
 {
@@ -594,6 +568,7 @@ impl Plan {
             || self.turns.is_one()
             || self.turns.is_several()
             || self.local.is_local()
+            || self.tool_first
     }
 
     /// Returns the rules that change the line.
@@ -612,6 +587,7 @@ impl Plan {
         add_rule(self.turns.is_one(), Rule::OneTurn, &mut rules);
         add_rule(self.turns.is_several(), Rule::SeveralTurns, &mut rules);
         add_rule(self.local.is_local(), Rule::LocalOffset, &mut rules);
+        add_rule(self.tool_first, Rule::ToolChangeFirst, &mut rules);
         rules
     }
 
@@ -637,9 +613,10 @@ impl Plan {
     {
         is_code(&code::ARC_DISTANCE, word)
             || (self.apart && is_code(&code::NAMED_MOTION, word))
-            || (self.feeding.is_first() && is_f(word.letter))
-            || (self.pause_later && is_machine_code(&code::PAUSES, word))
-            || (self.end_later && is_machine_code(&code::ENDS, word))
+            || (self.feeding.is_first() && OwnLine::Feed.has(word))
+            || (self.tool_first && OwnLine::Tool.has(word))
+            || (self.pause_later && OwnLine::Pause.has(word))
+            || (self.end_later && OwnLine::End.has(word))
     }
 
     // Returns the change of a word by homing, and by the centre of an arc.
@@ -670,9 +647,9 @@ impl Plan {
     /// Returns how many lines are written before the source's own.
     pub(crate) fn before_count(&self) -> usize
         ensures value { result ≡ before_count self.now }
-        ensures few { result ≤ 1 }
+        ensures few { result ≤ 2 }
     {
-        if self.feeding.is_first() { 1 } else { 0 }
+        one_if(self.feeding.is_first()) + one_if(self.tool_first)
     }
 
     /// Returns how many lines are written.

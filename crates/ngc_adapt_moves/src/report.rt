@@ -206,6 +206,15 @@ fn add_further_changes<A: Allocator>(
         line,
         report,
     )?;
+    add_change_if(
+        plan.tool_first,
+        number,
+        written_number,
+        Rule::ToolChangeFirst,
+        plan,
+        line,
+        report,
+    )?;
     Ok(())
 }
 

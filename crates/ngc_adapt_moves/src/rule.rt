@@ -28,6 +28,8 @@ pub enum Rule {
     SeveralTurns,
     /// G52, a local offset of the coordinates, written as G92 with the same offset.
     LocalOffset,
+    /// S, T and M6 of a line with five M words, on a line before.
+    ToolChangeFirst,
 }
 
 impl Default for Rule {
@@ -57,6 +59,7 @@ impl Rule {
             Rule::OneTurn => "one_turn",
             Rule::SeveralTurns => "several_turns",
             Rule::LocalOffset => "local_offset",
+            Rule::ToolChangeFirst => "tool_change_first",
         }
     }
 
@@ -74,7 +77,8 @@ impl Rule {
             | Rule::FeedFirst
             | Rule::StopLater
             | Rule::OneTurn
-            | Rule::LocalOffset => "exact",
+            | Rule::LocalOffset
+            | Rule::ToolChangeFirst => "exact",
             Rule::MovedCentre | Rule::SeveralTurns => "bound",
         }
     }

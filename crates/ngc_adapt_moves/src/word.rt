@@ -24,6 +24,10 @@ pub enum Letter {
     P,
     /// A radius, or the height to which a cycle goes back.
     R,
+    /// A speed of the spindle.
+    S,
+    /// A tool.
+    T,
     /// X, Y or Z.
     Axis(Axis),
     /// I, J or K, which lead along X, Y or Z.
@@ -65,6 +69,8 @@ fn capital(byte: u8) -> Letter
         b'L' => Letter::L,
         b'P' => Letter::P,
         b'R' => Letter::R,
+        b'S' => Letter::S,
+        b'T' => Letter::T,
         b'X' => Letter::Axis(Axis::X),
         b'Y' => Letter::Axis(Axis::Y),
         b'Z' => Letter::Axis(Axis::Z),
