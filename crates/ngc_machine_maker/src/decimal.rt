@@ -111,7 +111,7 @@ fn value_in(text: &[u8], places: usize) -> u64
 /// Returns the number that a text writes, in units of which 10 ^ `places` make one, if it is less
 /// than 2^32 of them.
 #[tactic(auto, unfolding(crate::specs::Decimals::number_in))]
-pub(crate) fn number_in(text: &[u8], places: usize) -> Option<u32>
+pub fn number_in(text: &[u8], places: usize) -> Option<u32>
     requires { places ≤ 6 }
     ensures { result ≡ spec.number_in places text.now }
 {
@@ -150,7 +150,7 @@ fn split_comma(text: &[u8]) -> (&[u8], &[u8])
 
 /// Returns the texts of X, Y and Z, which are separated by commas. Without a comma the texts after
 /// it are empty.
-pub(crate) fn split_three(text: &[u8]) -> (&[u8], &[u8], &[u8])
+pub fn split_three(text: &[u8]) -> (&[u8], &[u8], &[u8])
     ensures x { result.0.now ≡ (spec.three_texts text.now).x }
     ensures y { result.1.now ≡ (spec.three_texts text.now).y }
     ensures z { result.2.now ≡ (spec.three_texts text.now).z }

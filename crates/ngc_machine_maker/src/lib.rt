@@ -17,6 +17,7 @@ mod sentences;
 mod shop_units;
 
 pub use choices::Choices;
+pub use decimal::{number_in, split_three};
 pub use figures::{Acceleration, Axis, End, Figures, Length, PerAxis, Speed, StepsPerMillimetre};
 pub use file::{write_machine_file, write_notes};
 pub use grbl::read_grbl;

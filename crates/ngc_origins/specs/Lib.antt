@@ -1,0 +1,3 @@
+pub mod Texts
+pub mod Placed
+pub mod Lines

@@ -1,0 +1,12 @@
+//! Origins of coordinate systems that replace those of a machine file for one call: their texts, a
+//! machine with them, and the lines of a report that name them.
+#![tactic(auto)]
+
+mod coordinate;
+mod origins;
+mod reading;
+mod report_lines;
+
+pub use origins::Origins;
+pub use reading::{OriginMistake, Refused, read_origins};
+pub use report_lines::{add_origin_facts, add_origin_words};
