@@ -19,3 +19,5 @@ pub mod Tests
 pub mod Growth
 -- Worked programs on a mill with steps of 0.01 mm, by computing the definitions.
 mod Examples
+-- The marks of a program's commands, in order.
+pub mod Marked

@@ -2,3 +2,4 @@ pub mod Shifts
 pub mod Holds
 pub mod Inside
 pub mod Longest
+pub mod Marks

@@ -121,9 +121,9 @@ fn arc_is_clear<A: Allocator>(
 
 /// Whether the start and the end of a path move with the origin.
 #[derive(Clone, Copy)]
-struct Moving {
-    start: bool,
-    end: bool,
+pub(crate) struct Moving {
+    pub(crate) start: bool,
+    pub(crate) end: bool,
 }
 
 /// Returns whether a path keeps its shape and is clear, over a box of shifts.
@@ -199,7 +199,7 @@ fn action_is_clear<A: Allocator>(
 }
 
 /// Returns whether the point that is reached moves with the origin, after an action.
-fn reached_moves(moving: Moving, action: &Action) -> bool
+pub(crate) fn reached_moves(moving: Moving, action: &Action) -> bool
     ensures { result ≡ moves_after moving.start moving.end action.now }
 {
     match action {
