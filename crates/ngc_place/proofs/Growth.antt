@@ -150,11 +150,6 @@ found_law machine most axis programs first around i step least greatest g =
           (grown_longest machine most axis programs first around g.one g.two step least greatest g.grows_first g.grows_then);
     }
 
--- an interval that may have been found
-pub if_found : (r : Option Interval) (A : Type 0) (P Q : Interval → Type 0) → ((i : Interval) → P i → Q i) → MatchOption r A P → IfSome r Q
-if_found None A P Q f h = tt
-if_found (Some i) A P Q f h = f i h
-
 -- the programs of both settings
 pub both_law : BothAreCertified
 both_law machine most shifts n off on others_off others_on says step least greatest inside held off_shifted on_shifted made =

@@ -21,3 +21,5 @@ pub mod Growth
 mod Examples
 -- The marks of a program's commands, in order.
 pub mod Marked
+-- The shifts that are tried, in order.
+pub mod Tried

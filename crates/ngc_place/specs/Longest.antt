@@ -1,7 +1,8 @@
 -- Intervals of shifts along an axis at which programs fit, as long as possible. Our own.
-use Rattle.std.specs.Prelude.{◌≡◌, ℕ, ◌+◌, ◌≤◌, ℤ, pos, ◌+ℤ◌, ◌-ℤ◌, unsigned_abs, List}
+use Rattle.std.specs.Prelude.{◌≡◌, ℕ, zero, suc, ◌+◌, ◌≤◌, ℤ, pos, negsuc, ◌+ℤ◌, ◌-ℤ◌, unsigned_abs, List}
+use Rattle.std.specs.Prelude.{Option, None, MatchOption, IsSomeAnd}
 use Rattle.std.specs.Prelude.{[], ◌∷◌, Result, Ok, Bool, false, IsTrue}
-use Rattle.std.specs.List.{list_all}
+use Rattle.std.specs.List.{find, list_all}
 use Rattle.ngc_fixed_length.specs.Boxes.{IsIn}
 use Rattle.ngc_fixed_length.specs.Length.{IsStep}
 use Rattle.ngc_fixed_length.specs.declared.points.GridBox.{GridBox}
@@ -82,6 +83,34 @@ pub record IsFound (machine : MachineFile) (most : ℕ) (axis : Axis) (programs 
   pub within : IsInLimit i
   pub hold : IsTrue (hold_over machine most axis programs i)
   pub longest : IsLongest machine most axis programs i
+
+-- the shifts that are tried, in order: 0, and then the distances 1, 2, 4 and so on from it, each
+-- above and below
+unfoldable pub tried : List ℤ
+tried =
+    pos 0 ∷ pos 1 ∷ negsuc 0 ∷ pos 2 ∷ negsuc 1 ∷ pos 4 ∷ negsuc 3 ∷ pos 8 ∷ negsuc 7 ∷ pos 16
+    ∷ negsuc 15 ∷ pos 32 ∷ negsuc 31 ∷ pos 64 ∷ negsuc 63 ∷ pos 128 ∷ negsuc 127 ∷ pos 256
+    ∷ negsuc 255 ∷ pos 512 ∷ negsuc 511 ∷ pos 1024 ∷ negsuc 1023 ∷ pos 2048 ∷ negsuc 2047
+    ∷ pos 4096 ∷ negsuc 4095 ∷ pos 8192 ∷ negsuc 8191 ∷ pos 16384 ∷ negsuc 16383 ∷ pos 32768
+    ∷ negsuc 32767 ∷ pos 65536 ∷ negsuc 65535 ∷ pos 131072 ∷ negsuc 131071 ∷ pos 262144
+    ∷ negsuc 262143 ∷ pos 524288 ∷ negsuc 524287 ∷ pos 1048576 ∷ negsuc 1048575 ∷ pos 2097152
+    ∷ negsuc 2097151 ∷ []
+
+-- the programs fit at one shift
+abbrev pub fit_at : MachineFile → ℕ → Axis → List Program → ℤ → Bool
+fit_at machine most axis programs n = hold_over machine most axis programs (at n)
+
+-- the interval around a shift grows towards 0 first, and that around 0 above it
+abbrev pub first_side : ℤ → Side
+first_side (pos zero) = Above
+first_side (pos (suc n)) = Below
+first_side (negsuc n) = Above
+
+-- the interval around the first shift that is tried and at which the programs fit, or none
+abbrev pub IsNearest : MachineFile → ℕ → Axis → List Program → Option Interval → Type 0
+IsNearest machine most axis programs found =
+    MatchOption (find (fit_at machine most axis programs) tried) (found ≡ None)
+    (λ n. IsSomeAnd found (λ i. IsGrown machine most axis programs (first_side n) n i))
 
 -- ---- the laws
 

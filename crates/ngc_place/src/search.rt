@@ -1,10 +1,10 @@
 //! Intervals of shifts along an axis at which programs fit the machine.
-ghost use Rattle.std.specs.Prelude.{◌≡◌, ◌≤◌, pos, unsigned_abs, false, IsTrue, MatchOption};
-ghost use Rattle.std.specs.Prelude.{IfSome, IsSomeAnd};
+ghost use Rattle.std.specs.Prelude.{◌≡◌, ◌<◌, ◌≤◌, pos, unsigned_abs, slice_index_or, false, IsTrue, MatchOption};
+ghost use Rattle.std.specs.Prelude.{IfSome};
 ghost use Rattle.ngc_machine_files.specs.Machine.{file_of};
 ghost use Rattle.ngc_place.specs.Shifts.{SHIFT_LIMIT};
 ghost use Rattle.ngc_place.specs.Longest.{IsInLimit, at as interval_at, hold_over, IsGrowth};
-ghost use Rattle.ngc_place.specs.Longest.{IsGrown, IsFound};
+ghost use Rattle.ngc_place.specs.Longest.{IsGrown, IsFound, IsNearest, first_side, tried};
 ghost use Rattle.ngc_place.specs.declared.interval.Side.TheVariants as sides;
 
 use crate::axis::Axis;
@@ -13,8 +13,14 @@ use crate::programs::{Program, all_hold};
 use ngc_machine_files::Machine;
 use std::alloc::Allocator;
 
-/// The greatest shift along an axis, in steps.
-const LIMIT: u32 = 4_000_000;
+/// The shifts that are tried, in steps: 0, and then the distances 1, 2, 4 and so on from it, above
+/// and below.
+const TRIED: [i32; 45] = [
+    0, 1, -1, 2, -2, 4, -4, 8, -8, 16, -16, 32, -32, 64, -64, 128, -128, 256, -256, 512, -512,
+    1024, -1024, 2048, -2048, 4096, -4096, 8192, -8192, 16_384, -16_384, 32_768, -32_768, 65_536,
+    -65_536, 131_072, -131_072, 262_144, -262_144, 524_288, -524_288, 1_048_576, -1_048_576,
+    2_097_152, -2_097_152,
+];
 
 /// Returns whether each of some programs fits the machine at each shift of an interval.
 fn hold_over<A: Allocator>(
@@ -111,33 +117,28 @@ pub fn longest<A: Allocator>(
     grown(machine, programs, axis, around, Side::Above, cuts)
 }
 
-/// Returns the interval around one of the two shifts at a distance from 0: the one above 0 if the
-/// programs fit there, else the one below, or `None`. The interval grows towards 0 first.
-fn probe<A: Allocator>(
-    machine: &Machine<A>,
-    programs: &[Program],
-    axis: Axis,
-    distance: u32,
-    cuts: u16,
-) -> Option<Interval>
-    requires cuts { 1 ≤ cuts }
-    requires distance { distance ≤ SHIFT_LIMIT }
-    ensures { IfSome result (λ i. IsFound (file_of machine.now) cuts axis programs.now i) }
+/// Returns the shift with this index among those that are tried.
+fn shift_at(index: usize) -> i32
+    requires { index < 45 }
+    ensures value { result ≡ slice_index_or tried index (pos 0) }
+    ensures limit { unsigned_abs result ≤ SHIFT_LIMIT }
 {
-    let above = distance as i32;
-    if let Some(found) = grown(machine, programs, axis, above, Side::Below, cuts) {
-        return Some(found);
-    }
-    grown(machine, programs, axis, -above, Side::Above, cuts)
+    TRIED[index]
+}
+
+/// Returns the side on which the interval around a shift grows first: towards 0, and above 0 itself.
+fn first_side(shift: i32) -> Side
+    ensures { result ≡ first_side shift }
+{
+    if shift > 0 { Side::Below } else { Side::Above }
 }
 
 /// Returns an interval of shifts along an axis at each of which the programs fit the machine, and
 /// which can't be longer on either side.
 ///
-/// If the programs fit at the shift 0, it is the interval of `longest` around 0. If not, the shifts
-/// at the distances 1, 2, 4 and so on from 0 are tried on both sides, and it is the interval around
-/// the first at which the programs fit. Returns `None` if they fit at none of these shifts; they
-/// may fit at others. `cuts` is at least 1.
+/// It is the interval around the first shift of *tried* at which the programs fit: 0, and then the
+/// distances 1, 2, 4 and so on from it, above and below. It grows towards 0 first. Returns `None` if
+/// they fit at none of these shifts; they may fit at others. `cuts` is at least 1.
 pub fn nearest<A: Allocator>(
     machine: &Machine<A>,
     programs: &[Program],
@@ -145,20 +146,15 @@ pub fn nearest<A: Allocator>(
     cuts: u16,
 ) -> Option<Interval>
     requires { 1 ≤ cuts }
+    ensures nearest { IsNearest (file_of machine.now) cuts axis programs.now result }
     ensures found { IfSome result (λ i. IsFound (file_of machine.now) cuts axis programs.now i) }
-    ensures at_zero { IsTrue (hold_over (file_of machine.now) cuts axis programs.now
-        (interval_at (pos 0))) → IsSomeAnd result
-        (λ i. IsGrown (file_of machine.now) cuts axis programs.now sides.Above (pos 0) i) }
 {
-    if let Some(found) = longest(machine, programs, axis, 0, cuts) {
-        return Some(found);
-    }
-    let mut distance = 1;
-    while distance <= LIMIT {
-        if let Some(found) = probe(machine, programs, axis, distance, cuts) {
-            return Some(found);
+    for index in 0..45 {
+        let shift = shift_at(index);
+        match grown(machine, programs, axis, shift, first_side(shift), cuts) {
+            Some(found) => return Some(found),
+            None => {}
         }
-        distance *= 2;
     }
     None
 }

@@ -1,8 +1,11 @@
-use Rattle.std.proofs.Common.{◌-◌, ◌≤◌}
+use Rattle.std.proofs.Common.{◌≡◌}
+use Rattle.std.specs.Prelude.{drop}
+use Rattle.std.specs.List.{find}
+use Rattle.ngc_machine_files.specs.Machine.{file_of}
+use Rattle.ngc_place.specs.Longest.{fit_at, tried}
 use Rattle.ngc_place.proofs.search.nearest.Given as goal
 
-abbrev pub invariant-loop-distance : goal.invariant-loop-distance
-invariant-loop-distance g l = record { some : 1 ≤ l.distance; bound : l.distance ≤ 8000000 }
-
-abbrev pub decreases-loop-distance : goal.decreases-loop-distance
-decreases-loop-distance g l = 8000001 - l.distance
+abbrev pub invariant-loop-index : goal.invariant-loop-index
+invariant-loop-index g l =
+    find (fit_at (file_of l.machine) l.cuts l.axis l.programs) tried
+    ≡ find (fit_at (file_of l.machine) l.cuts l.axis l.programs) (drop l.index tried)
