@@ -1,6 +1,6 @@
 -- Intervals that grow on one side and then on the other are the longest.
 use Rattle.std.proofs.Common.{◌≡◌, ℕ, ◌+◌, ◌<◌, ◌≤◌, ℤ, ◌≤ℤ◌, refl, ap, sym, subst, ◌∙◌, arith, List, [], ◌∷◌, true, false, length, drop, get_or}
-use Rattle.std.specs.Prelude.{Option, Some, None, MatchOption, IfSome, Bool, IsTrue, ◌&&◌}
+use Rattle.std.specs.Prelude.{Bool, IsTrue, ◌&&◌}
 use Rattle.std.proofs.lemmas.Int.{ints}
 use Rattle.std.proofs.lemmas.List.{drop_all, drop_more}
 use Rattle.ngc_fixed_length.specs.Boxes.{IsIn}

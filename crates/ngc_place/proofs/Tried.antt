@@ -1,6 +1,6 @@
 -- The shifts that are tried, in order.
-use Rattle.std.proofs.Common.{◌≡◌, ℕ, zero, suc, ◌+◌, ◌<◌, ◌≤◌, ℤ, pos, refl, ap, sym, subst, ◌∙◌, arith, List, [], ◌∷◌, true, false, length, drop, get_or}
-use Rattle.std.specs.Prelude.{Option, Some, None, MatchOption, IsSomeAnd, Bool, IsTrue, ◌&&◌, nat_le, unsigned_abs, slice_index_or}
+use Rattle.std.proofs.Common.{◌≡◌, ℕ, zero, suc, ◌+◌, ◌<◌, ◌≤◌, ℤ, pos, refl, ap, sym, subst, ◌∙◌, arith, List, [], ◌∷◌, true, false, length, drop}
+use Rattle.std.specs.Prelude.{Option, Some, None, MatchOption, IsSomeAnd, Bool, IsTrue, nat_le, unsigned_abs, slice_index_or}
 use Rattle.std.specs.List.{find, list_all}
 use Rattle.std.proofs.lemmas.List.{drop_all, drop_more}
 use Rattle.std.proofs.lemmas.Bool.Decides.{nat_tests}

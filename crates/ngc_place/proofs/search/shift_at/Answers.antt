@@ -1,5 +1,4 @@
-use Rattle.std.proofs.Common.{arith, to_z, of_z, ◌≡◌}
-use Rattle.std.specs.Int.{w32}
+use Rattle.std.proofs.Common.{arith}
 use Rattle.std.proofs.lemmas.Int.{ints}
 use Rattle.ngc_place.specs.Longest.{tried}
 use Rattle.ngc_place.proofs.Tried.{small_shift}
