@@ -14,7 +14,11 @@ ghost use Rattle.ngc_report.specs.Marks.{number_of, written_number, is_wanted, f
 ghost use Rattle.ngc_report.specs.Marks.{named_word, mark_of, mark_if, letter_text, unknown_text};
 ghost use Rattle.ngc_report.specs.Marks.{idle_text, missing_text, phrase, has_phrase};
 ghost use Rattle.ngc_report.specs.Marks.{words_sentence, fact_sentence, sentence, named_line};
-ghost use Rattle.ngc_report.specs.Marks.{named_quote};
+ghost use Rattle.ngc_report.specs.Marks.{named_quote, is_whole_from, breaks_range, breaks_length};
+ghost use Rattle.ngc_report.specs.Marks.{breaks, word_breaks, breaking_word, sets_origin, tool_word};
+ghost use Rattle.ngc_report.specs.Marks.{as_written, written_word, written_of, range_text};
+ghost use Rattle.ngc_report.specs.Marks.{large_text, tool_text, number_phrase};
+ghost use Rattle.ngc_text.specs.Millimetres.{length_text};
 
 use crate::form::Form;
 use crate::quotes::{line_bytes, quote_of};
@@ -122,10 +126,108 @@ fn code_word(line: &Line, letter: Letter, millionths: i64) -> Option<RawWord>
     }
 }
 
+// What a word's number breaks.
+#[derive(Clone, Copy)]
+enum Limit {
+    /// The range of F, S, T, H and P, and on a line with G10 of L and P.
+    Range { sets_origin: bool },
+    /// The greatest length, 100,000 of either unit.
+    Length,
+}
+
+fn is_whole_from(low: i64, high: i64, millionths: i64) -> bool
+    ensures { result ≡ is_whole_from low high millionths }
+{
+    millionths.unsigned_abs() % 1_000_000 == 0 && low <= millionths && millionths <= high
+}
+
+fn breaks_range(sets_origin: bool, letter: Letter, millionths: i64) -> bool
+    ensures { result ≡ breaks_range sets_origin letter millionths }
+{
+    match letter {
+        Letter::F | Letter::S => millionths < 0,
+        Letter::T | Letter::H => !is_whole_from(0, 1_000_000_000_000_000, millionths),
+        Letter::P => {
+            millionths < 0 || (sets_origin && !is_whole_from(1_000_000, 9_000_000, millionths))
+        }
+        Letter::L => sets_origin && millionths != 2_000_000,
+        _ => false,
+    }
+}
+
+fn breaks_length(letter: Letter, millionths: i64) -> bool
+    ensures { result ≡ breaks_length letter millionths }
+{
+    match letter {
+        Letter::X
+        | Letter::Y
+        | Letter::Z
+        | Letter::I
+        | Letter::J
+        | Letter::K
+        | Letter::R
+        | Letter::Q => millionths.unsigned_abs() > 100_000_000_000,
+        _ => false,
+    }
+}
+
+fn breaks(limit: Limit, letter: Letter, written: Option<i64>) -> bool
+    ensures { result ≡ breaks limit letter written }
+{
+    match (limit, written) {
+        (_, None) => false,
+        (Limit::Range { sets_origin }, Some(number)) => breaks_range(sets_origin, letter, number),
+        (Limit::Length, Some(number)) => breaks_length(letter, number),
+    }
+}
+
+fn word_breaks(limit: Limit, tokens: &[Token], word: &RawWord) -> bool
+    ensures { result ≡ word_breaks limit tokens.now word.now }
+{
+    breaks(limit, word.letter, written_number(tokens, word))
+}
+
+fn breaking_word(line: &Line, limit: Limit) -> Option<RawWord>
+    ensures { result ≡ breaking_word limit (parts_of line.now) }
+{
+    let tokens = line.tokens.as_slice();
+    line.words
+        .as_slice()
+        .iter()
+        .find(|word| word_breaks(limit, tokens, word))
+        .copied()
+}
+
+fn sets_origin(line: &Line) -> bool
+    ensures { result ≡ sets_origin (parts_of line.now) }
+{
+    first_word(line, Letter::G, Wanted::Number(10_000_000)).is_some()
+}
+
+// Returns the word of a tool that isn't in the table, where it must be of this line: H without M6,
+// or T with M6 and without H.
+fn tool_word(line: &Line) -> Option<RawWord>
+    ensures { result ≡ tool_word (parts_of line.now) }
+{
+    let change = first_word(line, Letter::M, Wanted::Number(6_000_000));
+    let length = first_word(line, Letter::H, Wanted::Any);
+    match (change, length) {
+        (None, length) => length,
+        (Some(_), None) => first_word(line, Letter::T, Wanted::Any),
+        (Some(_), Some(_)) => None,
+    }
+}
+
 fn named_word(line: &Line, fault: &Fault) -> Option<RawWord>
     ensures { result ≡ named_word fault.now (parts_of line.now) }
 {
     match fault {
+        Fault::Modal(ModalFault::OutOfRange) => {
+            let sets_origin = sets_origin(line);
+            breaking_word(line, Limit::Range { sets_origin })
+        }
+        Fault::Length(_) => breaking_word(line, Limit::Length),
+        Fault::Frame(_) if fault.number() == 222 => tool_word(line),
         Fault::Modal(ModalFault::UnknownCode { letter, millionths }) => {
             code_word(line, *letter, *millionths)
         }
@@ -134,12 +236,14 @@ fn named_word(line: &Line, fault: &Fault) -> Option<RawWord>
     }
 }
 
-/// Returns the column, from 1, of the word of a line that a fault names: of an unknown code (204),
-/// and of a word that nothing uses (207). It is `None` for any other fault, if there is no such
-/// word, and if the line's bytes, without its line feed, can't be read.
+/// Returns the column, from 1, of the word of a line that a fault names: of a length that is too
+/// large (101), an unknown code (204), a word that nothing uses (207), a word that is out of its
+/// range (209), and a tool that isn't in the table (222). It is `None` for any other fault, if there
+/// is no such word, and if the line's bytes, without its line feed, can't be read.
 ///
 /// An unknown code is the first word of its letter that is written as that number, or else the
-/// first whose value has brackets or a parameter (our own).
+/// first whose value has brackets or a parameter (our own). A tool that isn't in the table is
+/// named only where it must be that of this line.
 pub fn mark_of(bytes: &[u8], fault: &Fault) -> Option<u16>
     ensures { result ≡ mark_of bytes.now fault.now }
 {
@@ -195,61 +299,159 @@ fn add_missing(chunk: &mut Chunk, word: MissingWord)
     }
 }
 
-fn add_phrase(chunk: &mut Chunk, fault: &Fault)
+// A word by its letter and the number as which it is written.
+#[derive(Clone, Copy)]
+struct WrittenWord {
+    letter: Letter,
+    millionths: i64,
+}
+
+fn as_written(tokens: &[Token], word: &RawWord) -> Option<WrittenWord>
+    ensures { result ≡ as_written tokens.now word.now }
+{
+    match written_number(tokens, word) {
+        None => None,
+        Some(millionths) => Some(WrittenWord {
+            letter: word.letter,
+            millionths,
+        }),
+    }
+}
+
+fn written_word(line: &Line, fault: &Fault) -> Option<WrittenWord>
+    ensures { result ≡ written_word fault.now (parts_of line.now) }
+{
+    match named_word(line, fault) {
+        None => None,
+        Some(word) => as_written(line.tokens.as_slice(), &word),
+    }
+}
+
+// Returns the word that a fault names, if it is written as a number.
+fn written_of(bytes: &[u8], fault: &Fault) -> Option<WrittenWord>
+    ensures { result ≡ written_of bytes.now fault.now }
+{
+    match read_line(bytes) {
+        Ok(line) => written_word(&line, fault),
+        Err(_) => None,
+    }
+}
+
+fn add_word(chunk: &mut Chunk, word: &WrittenWord)
+    requires { length chunk.old + 50 ≤ CHUNK_SIZE }
+    ensures text { chunk.new ≡ chunk.old
+        ++ (letter_text word.now.letter ++ length_text word.now.millionths) }
+    ensures short { length chunk.new ≤ length chunk.old + 50 }
+{
+    add_letter(chunk, word.letter);
+    chunk.add_length(i128::from(word.millionths));
+}
+
+fn add_out_of_range(chunk: &mut Chunk, word: &WrittenWord)
     requires { length chunk.old + 80 ≤ CHUNK_SIZE }
-    ensures text { chunk.new ≡ chunk.old ++ phrase fault.now }
+    ensures text { chunk.new ≡ chunk.old ++ range_text word.now }
+    ensures short { length chunk.new ≤ length chunk.old + 80 }
+{
+    add_word(chunk, word);
+    chunk.add_text(b" is out of its range.");
+}
+
+fn add_too_large(chunk: &mut Chunk, word: &WrittenWord)
+    requires { length chunk.old + 80 ≤ CHUNK_SIZE }
+    ensures text { chunk.new ≡ chunk.old ++ large_text word.now }
+    ensures short { length chunk.new ≤ length chunk.old + 80 }
+{
+    add_word(chunk, word);
+    chunk.add_text(b" is too large.");
+}
+
+fn add_no_tool(chunk: &mut Chunk, word: &WrittenWord)
+    requires { length chunk.old + 80 ≤ CHUNK_SIZE }
+    ensures text { chunk.new ≡ chunk.old ++ tool_text word.now }
+    ensures short { length chunk.new ≤ length chunk.old + 80 }
+{
+    chunk.add_text(b"Tool ");
+    chunk.add_length(i128::from(word.millionths));
+    chunk.add_text(b" isn't in the tool table.");
+}
+
+// Adds the sentence about a word by its number.
+fn add_number_phrase(chunk: &mut Chunk, fault: &Fault, word: &WrittenWord)
+    requires { length chunk.old + 80 ≤ CHUNK_SIZE }
+    ensures text { chunk.new ≡ chunk.old ++ number_phrase fault.now word.now }
     ensures short { length chunk.new ≤ length chunk.old + 80 }
 {
     match fault {
+        Fault::Modal(ModalFault::OutOfRange) => add_out_of_range(chunk, word),
+        Fault::Length(_) => add_too_large(chunk, word),
+        Fault::Frame(_) => add_no_tool(chunk, word),
+        _ => {}
+    }
+}
+
+fn add_phrase(chunk: &mut Chunk, fault: &Fault, word: &Option<WrittenWord>)
+    requires { length chunk.old + 80 ≤ CHUNK_SIZE }
+    ensures text { chunk.new ≡ chunk.old ++ phrase fault.now word.now }
+    ensures short { length chunk.new ≤ length chunk.old + 80 }
+{
+    match fault {
+        Fault::FeedZero => chunk.add_text(b"No feed above 0 is set for this motion."),
         Fault::Modal(ModalFault::UnknownCode { letter, millionths }) => {
             add_unknown(chunk, *letter, *millionths)
         }
         Fault::Modal(ModalFault::WithoutUse(letter)) => add_idle(chunk, *letter),
         Fault::Modal(ModalFault::WordMissing(word)) => add_missing(chunk, *word),
-        _ => {}
+        _ => match word {
+            None => {}
+            Some(word) => add_number_phrase(chunk, fault, word),
+        },
     }
 }
 
-// Returns whether a fault names a word.
-fn has_phrase(fault: &Fault) -> bool
-    ensures { result ≡ has_phrase fault.now }
+// Returns whether there is a sentence about a fault, by the word that it names.
+fn has_phrase(fault: &Fault, word: &Option<WrittenWord>) -> bool
+    ensures { result ≡ has_phrase fault.now word.now }
 {
     match fault {
-        Fault::Modal(ModalFault::UnknownCode { .. })
+        Fault::FeedZero
+        | Fault::Modal(ModalFault::UnknownCode { .. })
         | Fault::Modal(ModalFault::WithoutUse(_))
         | Fault::Modal(ModalFault::WordMissing(_)) => true,
+        Fault::Modal(ModalFault::OutOfRange) | Fault::Length(_) | Fault::Frame(_) => {
+            word.is_some()
+        }
         _ => false,
     }
 }
 
-fn add_words(chunk: &mut Chunk, fault: &Fault)
+fn add_words(chunk: &mut Chunk, fault: &Fault, word: &Option<WrittenWord>)
     requires { HasLineRoom chunk.old }
-    ensures { chunk.new ≡ chunk.old ++ words_sentence fault.now }
+    ensures { chunk.new ≡ chunk.old ++ words_sentence fault.now word.now }
 {
-    add_phrase(chunk, fault);
+    add_phrase(chunk, fault, word);
     chunk.add_text(b"\n");
 }
 
-fn add_fact(chunk: &mut Chunk, fault: &Fault)
+fn add_fact(chunk: &mut Chunk, fault: &Fault, word: &Option<WrittenWord>)
     requires { HasLineRoom chunk.old }
-    ensures { chunk.new ≡ chunk.old ++ fact_sentence fault.now }
+    ensures { chunk.new ≡ chunk.old ++ fact_sentence fault.now word.now }
 {
     chunk.add_text(b",\n{\"fact\":\"reason\",\"text\":\"");
-    add_phrase(chunk, fault);
+    add_phrase(chunk, fault, word);
     chunk.add_text(b"\"}");
 }
 
 #[tactic(auto, unfolding(crate::specs::Marks::sentence))]
-fn add_sentence(chunk: &mut Chunk, form: Form, fault: &Fault)
+fn add_sentence(chunk: &mut Chunk, form: Form, fault: &Fault, word: &Option<WrittenWord>)
     requires { HasLineRoom chunk.old }
-    ensures { chunk.new ≡ chunk.old ++ sentence form fault.now }
+    ensures { chunk.new ≡ chunk.old ++ sentence form fault.now word.now }
 {
-    if !has_phrase(fault) {
+    if !has_phrase(fault, word) {
         return;
     }
     match form {
-        Form::Words => add_words(chunk, fault),
-        Form::Json => add_fact(chunk, fault),
+        Form::Words => add_words(chunk, fault, word),
+        Form::Json => add_fact(chunk, fault, word),
     }
 }
 
@@ -268,10 +470,11 @@ fn add_mark_if(chunk: &mut Chunk, form: Form, number: u32, column: Option<u16>)
 fn add_named(chunk: &mut Chunk, form: Form, number: u32, bytes: &[u8], fault: &Fault)
     requires { length chunk.old ≤ 1000 }
     ensures { chunk.new ≡ chunk.old
-        ++ (mark_if form number (mark_of bytes.now fault.now) ++ sentence form fault.now) }
+        ++ (mark_if form number (mark_of bytes.now fault.now)
+        ++ sentence form fault.now (written_of bytes.now fault.now)) }
 {
     add_mark_if(chunk, form, number, mark_of(bytes, fault));
-    add_sentence(chunk, form, fault);
+    add_sentence(chunk, form, fault, &written_of(bytes, fault));
 }
 
 fn named<A: Allocator>(program: &Program<A>, form: Form, number: u32, fault: &Fault) -> Chunk
@@ -293,9 +496,12 @@ fn named<A: Allocator>(program: &Program<A>, form: Form, number: u32, fault: &Fa
 /// The code G5 is unknown.
 /// ```
 ///
-/// The sentence may be `Nothing uses the word K.`, `The word P is missing.` or `An axis word is
-/// missing.`; a missing word has no mark. Nothing is written for faults other than 204, 207 and
-/// 208, or if the program has no such line.
+/// The sentence may be `Nothing uses the word K.`, `The word P is missing.`, `An axis word is
+/// missing.`, `X200000 is too large.`, `T1.5 is out of its range.`, `Tool 9 isn't in the tool
+/// table.` or `No feed above 0 is set for this motion.`; a missing word and a missing feed have no
+/// mark. Nothing is written for faults other than 101, 204, 207, 208, 209, 222 and 252, for 101, 209
+/// and 222 where no word that is written as a number must be the reason, or if the program has no
+/// such line.
 ///
 /// After a fault (902, only if the sink failed) a prefix of the text is written.
 pub fn write_named<A: Allocator, W: Sink>(
