@@ -4,3 +4,5 @@ pub mod Same
 pub mod Steps
 -- Converting between the program's coordinates and the machine's.
 pub mod Points
+-- Texts that are collected in order, from each of them.
+pub mod Collected

@@ -41,14 +41,17 @@ abbrev pub unit_fact : FrameInForce → List ℕ
 unit_fact f = codes ",\"unit\":{\"name\":\"" ++
     (unit_text f.frame.unit ++ (codes "\"" ++ line_fact f.unit_line))
 
-abbrev pub ends_fact : Point3 → Point3 → List ℕ
+unfoldable pub ends_fact : Point3 → Point3 → List ℕ
 ends_fact from to =
     codes ",\"from\":" ++ (triple from ++ (codes ",\"to\":" ++ (triple to ++ codes "}")))
 
-unfoldable pub frame_fact : FrameInForce → List ℕ
-frame_fact f = system_fact f
-    ++ (origin_fact f ++ (axis_offset_fact f ++ (tool_length_fact f ++ unit_fact f)))
+-- the system and its origin
+unfoldable pub zero_fact : FrameInForce → List ℕ
+zero_fact f = system_fact f ++ origin_fact f
+
+unfoldable pub offsets_fact : FrameInForce → List ℕ
+offsets_fact f = axis_offset_fact f ++ (tool_length_fact f ++ unit_fact f)
 
 -- the start and the end of a motion in the program's coordinates, and which coordinates these are
-unfoldable pub motion_fact : FrameInForce → Point3 → Point3 → List ℕ
-motion_fact f from to = frame_fact f ++ ends_fact from to
+abbrev pub motion_fact : FrameInForce → Point3 → Point3 → List ℕ
+motion_fact f from to = zero_fact f ++ (offsets_fact f ++ ends_fact from to)

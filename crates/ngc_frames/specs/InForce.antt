@@ -8,10 +8,11 @@ use Rattle.ngc_frames.specs.declared.frame.FramePart.{FramePart}
 use Rattle.ngc_frames.specs.declared.frame.FramePart.TheVariants as parts
 use Rattle.ngc_frames.specs.declared.in_force.FrameInForce.{FrameInForce}
 
--- the frame by which a line's motions are executed: a line sets its frame before it moves
+-- the frame by which a line's motions are executed: a line sets its frame before it moves. The
+-- changes are in the order of the lines, so that none counts after the first on a later line
 abbrev pub frame_at : Frame → List FrameChange → ℕ → Frame
 frame_at frame [] line = frame
-frame_at frame (c ∷ cs) line = frame_at (if nat_le c.line line then c.frame else frame) cs line
+frame_at frame (c ∷ cs) line = if nat_le c.line line then frame_at c.frame cs line else frame
 
 abbrev pub set_by : FramePart → ℕ → Frame → FrameChange → ℕ
 set_by part had frame c = if is_same_part part frame c.frame then had else c.line
@@ -20,8 +21,7 @@ set_by part had frame c = if is_same_part part frame c.frame then had else c.lin
 abbrev pub line_that_set : FramePart → ℕ → ℕ → Frame → List FrameChange → ℕ
 line_that_set part line set frame [] = set
 line_that_set part line set frame (c ∷ cs) =
-    if nat_le c.line line then line_that_set part line (set_by part set frame c) c.frame cs
-    else line_that_set part line set frame cs
+    if nat_le c.line line then line_that_set part line (set_by part set frame c) c.frame cs else set
 
 abbrev pub frame_in_force : Frame → List FrameChange → ℕ → FrameInForce
 frame_in_force start changes line =

@@ -65,11 +65,17 @@ abbrev pub unit_words : ℕ → Units → List ℕ
 unit_words line Millimetres = []
 unit_words line Inches = codes ", and lengths are in inches since line " ++ decimal line
 
-unfoldable pub offsets_words : FrameInForce → List ℕ
-offsets_words f = origin_words f
-    ++ (axis_offset_words f ++ (tool_length_words f ++ unit_words f.unit_line f.frame.unit))
+-- where a motion begins and ends, and in which system
+unfoldable pub goes_words : FrameInForce → Point3 → Point3 → List ℕ
+goes_words f from to = system_words f ++ ends_words from to
+
+-- the zero of these coordinates
+unfoldable pub zero_words : FrameInForce → List ℕ
+zero_words f = origin_words f ++ axis_offset_words f
+
+unfoldable pub lengths_words : FrameInForce → List ℕ
+lengths_words f = tool_length_words f ++ (unit_words f.unit_line f.frame.unit ++ codes ".\n")
 
 -- the start and the end of a motion in the program's coordinates, and which coordinates these are
-unfoldable pub motion_words : FrameInForce → Point3 → Point3 → List ℕ
-motion_words f from to =
-    system_words f ++ (ends_words from to ++ (offsets_words f ++ codes ".\n"))
+abbrev pub motion_words : FrameInForce → Point3 → Point3 → List ℕ
+motion_words f from to = goes_words f from to ++ (zero_words f ++ lengths_words f)

@@ -1,18 +1,20 @@
 //! A motion in the program's coordinates, as a fact of a JSON document.
 ghost use Rattle.std.specs.Prelude.{◌≡◌, ◌+◌, ◌≤◌, ◌++◌, length};
 ghost use Rattle.std.specs.Fmt.{signed_decimal};
+ghost use Rattle.ngc_certificate_text.specs.Collects.{Collects};
 ghost use Rattle.ngc_collision.specs.Inside.{place_of};
-ghost use Rattle.ngc_text.specs.Collected.{CHUNK_SIZE};
-ghost use Rattle.ngc_frames.specs.Facts.{axis_offset_fact, ends_fact, frame_fact, line_fact};
-ghost use Rattle.ngc_frames.specs.Facts.{motion_fact, origin_fact, system_fact, tool_length_fact};
-ghost use Rattle.ngc_frames.specs.Facts.{triple, unit_fact, unit_text};
+ghost use Rattle.ngc_text.specs.Collected.{CHUNK_SIZE, HasLineRoom};
+ghost use Rattle.ngc_text.specs.Failures.{CountsFailure};
+ghost use Rattle.ngc_frames.specs.Facts.{axis_offset_fact, ends_fact, line_fact, motion_fact};
+ghost use Rattle.ngc_frames.specs.Facts.{offsets_fact, origin_fact, system_fact, tool_length_fact};
+ghost use Rattle.ngc_frames.specs.Facts.{triple, unit_fact, unit_text, zero_fact};
 
 use crate::in_force::FrameInForce;
 use crate::place::as_place;
 use crate::words::system_name;
 use ngc_collision::Place;
 use ngc_fixed_length::Units;
-use ngc_text::Chunk;
+use ngc_text::{Chunk, Sink, WriteFault};
 
 fn add_nanometres(chunk: &mut Chunk, nanometres: i64)
     requires { length chunk.old + 40 ≤ CHUNK_SIZE }
@@ -113,10 +115,10 @@ fn add_unit(chunk: &mut Chunk, frame: &FrameInForce)
     add_line(chunk, frame.unit_line);
 }
 
+#[tactic(auto, unfolding(crate::specs::Facts::ends_fact))]
 fn add_ends(chunk: &mut Chunk, from: &Place, to: &Place)
-    requires { length chunk.old + 270 ≤ CHUNK_SIZE }
-    ensures text { chunk.new ≡ chunk.old ++ ends_fact (place_of from.now) (place_of to.now) }
-    ensures short { length chunk.new ≤ length chunk.old + 270 }
+    requires { HasLineRoom chunk.old }
+    ensures { chunk.new ≡ chunk.old ++ ends_fact (place_of from.now) (place_of to.now) }
 {
     chunk.add_text(b",\"from\":");
     add_triple(chunk, from);
@@ -125,29 +127,51 @@ fn add_ends(chunk: &mut Chunk, from: &Place, to: &Place)
     chunk.add_text(b"}");
 }
 
-#[tactic(auto, unfolding(crate::specs::Facts::frame_fact))]
-fn add_frame(chunk: &mut Chunk, frame: &FrameInForce)
-    requires { length chunk.old + 840 ≤ CHUNK_SIZE }
-    ensures text { chunk.new ≡ chunk.old ++ frame_fact frame.now }
-    ensures short { length chunk.new ≤ length chunk.old + 840 }
+#[tactic(auto, unfolding(crate::specs::Facts::zero_fact))]
+fn add_zero(chunk: &mut Chunk, frame: &FrameInForce)
+    requires { HasLineRoom chunk.old }
+    ensures { chunk.new ≡ chunk.old ++ zero_fact frame.now }
 {
     add_system(chunk, frame);
     add_origin(chunk, frame);
+}
+
+#[tactic(auto, unfolding(crate::specs::Facts::offsets_fact))]
+fn add_offsets(chunk: &mut Chunk, frame: &FrameInForce)
+    requires { HasLineRoom chunk.old }
+    ensures { chunk.new ≡ chunk.old ++ offsets_fact frame.now }
+{
     add_axis_offset(chunk, frame);
     add_tool_length(chunk, frame);
     add_unit(chunk, frame);
 }
 
 /// Adds as a fact the start and the end of a motion in the program's coordinates. It adds which
-/// coordinates these are, with the lines that set them: 0 for what is as at the start. The buffer
-/// must have space for 1200 bytes.
-#[tactic(auto, unfolding(crate::specs::Facts::motion_fact))]
-pub fn add_motion_fact(chunk: &mut Chunk, frame: &FrameInForce, from: &Place, to: &Place)
-    requires { length chunk.old + 1200 ≤ CHUNK_SIZE }
-    ensures text { chunk.new ≡ chunk.old
-        ++ motion_fact frame.now (place_of from.now) (place_of to.now) }
-    ensures short { length chunk.new ≤ length chunk.old + 1200 }
+/// coordinates these are, with the lines that set them: 0 for what is as at the start.
+///
+/// After a fault (902, only if the sink failed) a prefix of the text is written.
+pub fn collect_motion_fact<W: Sink>(
+    chunk: &mut Chunk,
+    frame: &FrameInForce,
+    from: &Place,
+    to: &Place,
+    sink: &mut W,
+) -> Result<(), WriteFault>
+    ensures text { Collects (W.written sink.old) (W.written sink.new) chunk.old chunk.new result
+        (motion_fact frame.now (place_of from.now) (place_of to.now)) }
+    ensures counts { CountsFailure (W.failures sink.old) (W.failures sink.new) result }
 {
-    add_frame(chunk, frame);
-    add_ends(chunk, from, to);
+    match chunk.make_room(sink) {
+        Ok(()) => add_zero(chunk, frame),
+        Err(fault) => return Err(fault),
+    }
+    match chunk.make_room(sink) {
+        Ok(()) => add_offsets(chunk, frame),
+        Err(fault) => return Err(fault),
+    }
+    match chunk.make_room(sink) {
+        Ok(()) => add_ends(chunk, from, to),
+        Err(fault) => return Err(fault),
+    }
+    Ok(())
 }

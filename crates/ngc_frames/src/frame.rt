@@ -31,7 +31,7 @@ pub enum FramePart {
     Unit,
 }
 
-fn index_of(system: System) -> usize
+pub(crate) fn index_of(system: System) -> usize
     ensures value { result ≡ index system }
     ensures nine { result < 9 }
 {

@@ -22,22 +22,23 @@ pub struct FrameInForce {
     pub unit_line: u32,
 }
 
-fn is_up_to(change: &FrameChange, line: u32) -> bool
+pub(crate) fn is_up_to(change: &FrameChange, line: u32) -> bool
     ensures { result ≡ nat_le change.now.line line }
 {
     change.line <= line
 }
 
-/// Returns the frame by which a line's motions are executed: after the last change on the line or
-/// before it, since a line sets its frame before it moves. NISTIR 6556, 3.8.
+/// Returns the frame by which a line's motions are executed: after the changes before the first one
+/// on a later line, since a line sets its frame before it moves. NISTIR 6556, 3.8.
 pub fn frame_at(start: &Frame, changes: &[FrameChange], line: u32) -> Frame
     ensures { result ≡ frame_at start.now changes.now line }
 {
     let mut frame = *start;
     for change in changes {
-        if is_up_to(change, line) {
-            frame = change.frame;
+        if !is_up_to(change, line) {
+            return frame;
         }
+        frame = change.frame;
     }
     frame
 }
@@ -49,12 +50,13 @@ pub fn line_that_set(part: FramePart, start: &Frame, changes: &[FrameChange], li
     let mut set = 0;
     let mut frame = *start;
     for change in changes {
-        if is_up_to(change, line) {
-            if !is_same_part(part, &frame, &change.frame) {
-                set = change.line;
-            }
-            frame = change.frame;
+        if !is_up_to(change, line) {
+            return set;
         }
+        if !is_same_part(part, &frame, &change.frame) {
+            set = change.line;
+        }
+        frame = change.frame;
     }
     set
 }

@@ -1,18 +1,21 @@
 //! A motion in the program's coordinates, in words and millimetres.
 ghost use Rattle.std.specs.Prelude.{◌≡◌, ◌+◌, ◌≤◌, ◌++◌, codes, length};
+ghost use Rattle.ngc_certificate_text.specs.Collects.{Collects};
 ghost use Rattle.ngc_collision.specs.Inside.{place_of};
-ghost use Rattle.ngc_text.specs.Collected.{CHUNK_SIZE};
+ghost use Rattle.ngc_text.specs.Collected.{CHUNK_SIZE, HasLineRoom};
+ghost use Rattle.ngc_text.specs.Failures.{CountsFailure};
 ghost use Rattle.ngc_text.specs.Millimetres.{mm_text};
-ghost use Rattle.ngc_frames.specs.Words.{axis_offset_words, ends_words, length_offset_words};
-ghost use Rattle.ngc_frames.specs.Words.{line_if_set, line_text, motion_words, offsets_words};
-ghost use Rattle.ngc_frames.specs.Words.{origin_source, origin_words, place_text, system_text};
-ghost use Rattle.ngc_frames.specs.Words.{system_words, tool_length_words, unit_words};
+ghost use Rattle.ngc_frames.specs.Words.{axis_offset_words, ends_words, goes_words};
+ghost use Rattle.ngc_frames.specs.Words.{length_offset_words, lengths_words, line_if_set, line_text};
+ghost use Rattle.ngc_frames.specs.Words.{motion_words, origin_source, origin_words, place_text};
+ghost use Rattle.ngc_frames.specs.Words.{system_text, system_words, tool_length_words, unit_words};
+ghost use Rattle.ngc_frames.specs.Words.{zero_words};
 
 use crate::in_force::FrameInForce;
 use crate::place::as_place;
 use ngc_collision::Place;
 use ngc_fixed_length::{System, Units};
-use ngc_text::Chunk;
+use ngc_text::{Chunk, Sink, WriteFault};
 
 #[tactic(auto, unfolding(crate::specs::Words::system_text))]
 pub(crate) fn system_name(system: System) -> &'static [u8]
@@ -173,29 +176,61 @@ fn add_unit(chunk: &mut Chunk, line: u32, unit: Units)
     }
 }
 
-#[tactic(auto, unfolding(crate::specs::Words::offsets_words))]
-fn add_offsets(chunk: &mut Chunk, frame: &FrameInForce)
-    requires { length chunk.old + 750 ≤ CHUNK_SIZE }
-    ensures text { chunk.new ≡ chunk.old ++ offsets_words frame.now }
-    ensures short { length chunk.new ≤ length chunk.old + 750 }
-{
-    add_origin(chunk, frame);
-    add_axis_offset(chunk, frame);
-    add_tool_length(chunk, frame);
-    add_unit(chunk, frame.unit_line, frame.frame.unit);
-}
-
-/// Adds in words the start and the end of a motion in the program's coordinates. It adds which
-/// coordinates these are, with the lines that set them. The buffer must have space for 1200 bytes.
-#[tactic(auto, unfolding(crate::specs::Words::motion_words))]
-pub fn add_motion_words(chunk: &mut Chunk, frame: &FrameInForce, from: &Place, to: &Place)
-    requires { length chunk.old + 1200 ≤ CHUNK_SIZE }
-    ensures text { chunk.new ≡ chunk.old
-        ++ motion_words frame.now (place_of from.now) (place_of to.now) }
-    ensures short { length chunk.new ≤ length chunk.old + 1200 }
+#[tactic(auto, unfolding(crate::specs::Words::goes_words))]
+fn add_goes(chunk: &mut Chunk, frame: &FrameInForce, from: &Place, to: &Place)
+    requires { HasLineRoom chunk.old }
+    ensures { chunk.new ≡ chunk.old
+        ++ goes_words frame.now (place_of from.now) (place_of to.now) }
 {
     add_system(chunk, frame);
     add_ends(chunk, from, to);
-    add_offsets(chunk, frame);
+}
+
+#[tactic(auto, unfolding(crate::specs::Words::zero_words))]
+fn add_zero(chunk: &mut Chunk, frame: &FrameInForce)
+    requires { HasLineRoom chunk.old }
+    ensures { chunk.new ≡ chunk.old ++ zero_words frame.now }
+{
+    add_origin(chunk, frame);
+    add_axis_offset(chunk, frame);
+}
+
+#[tactic(auto, unfolding(crate::specs::Words::lengths_words))]
+fn add_lengths(chunk: &mut Chunk, frame: &FrameInForce)
+    requires { HasLineRoom chunk.old }
+    ensures { chunk.new ≡ chunk.old ++ lengths_words frame.now }
+{
+    add_tool_length(chunk, frame);
+    add_unit(chunk, frame.unit_line, frame.frame.unit);
     chunk.add_text(b".\n");
+}
+
+/// Adds in words the start and the end of a motion in the program's coordinates. It adds which
+/// coordinates these are, with the lines that set them.
+///
+/// After a fault (902, only if the sink failed) a prefix of the text is written.
+pub fn collect_motion_words<W: Sink>(
+    chunk: &mut Chunk,
+    frame: &FrameInForce,
+    from: &Place,
+    to: &Place,
+    sink: &mut W,
+) -> Result<(), WriteFault>
+    ensures text { Collects (W.written sink.old) (W.written sink.new) chunk.old chunk.new result
+        (motion_words frame.now (place_of from.now) (place_of to.now)) }
+    ensures counts { CountsFailure (W.failures sink.old) (W.failures sink.new) result }
+{
+    match chunk.make_room(sink) {
+        Ok(()) => add_goes(chunk, frame, from, to),
+        Err(fault) => return Err(fault),
+    }
+    match chunk.make_room(sink) {
+        Ok(()) => add_zero(chunk, frame),
+        Err(fault) => return Err(fault),
+    }
+    match chunk.make_room(sink) {
+        Ok(()) => add_lengths(chunk, frame),
+        Err(fault) => return Err(fault),
+    }
+    Ok(())
 }

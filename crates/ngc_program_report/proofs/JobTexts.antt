@@ -1,5 +1,5 @@
 -- The texts of a job, from those of the accepted program.
-use Rattle.std.proofs.Common.{◌≡◌, ℕ, List, Option, Some, None, Bool, false, ap, ap₂, refl, subst, sym, ◌∙◌}
+use Rattle.std.proofs.Common.{◌≡◌, ℕ, List, Option, Some, None, Result, Ok, Err, IfOk, IsTrue, Bool, false, ap, ap₂, refl, subst, sym, ◌∙◌}
 use Rattle.std.specs.Prelude.{is_some, slice_get, true}
 use Rattle.ngc_canonical.specs.Meaning.{with_readings}
 use Rattle.ngc_canonical.specs.State.{Setup}
@@ -22,7 +22,8 @@ use Rattle.ngc_checker.specs.Accepted.{AcceptedData, commands_at}
 use Rattle.ngc_checker.specs.Held.{accepted_of}
 use Rattle.ngc_job.specs.Job.{JobData, commands_in, on_or}
 use Rattle.ngc_report.specs.declared.form.Form.{Form}
-use Rattle.ngc_program_report.specs.JobReports.{IsFitText, IsFrameAt, IsRefusalsText, IsStartClear, OffBegins, OnBegins, first_text, line_of, setup_in}
+use Rattle.ngc_program_report.specs.Coordinates.{History, history_of, line_of}
+use Rattle.ngc_program_report.specs.JobReports.{IsFitText, IsFrameAt, IsHistoryAt, IsRefusalsText, IsStartClear, OffBegins, OnBegins, first_text, setup_in}
 use Rattle.ngc_program_report.specs.Texts.{LastsFor, accepted_text, fits_text, is_on, refusal_text, refusals_text}
 use Rattle.ngc_program_report.specs.Times.{ProgramTimeData}
 
@@ -71,42 +72,59 @@ first_as j form s k lines frame named m b cs is_named is_machine is_set are =
     ∙ ap (λ (x : MachineFile). refusal_text form (is_some j.on) s x cs k lines frame) is_machine
     ∙ ap (λ (l : List Command). refusal_text form (is_some j.on) s j.machine l k lines frame) (are ∙ ap (λ (x : Bool). commands_in x j) is_set)
 
--- the frame of a command, from its computed value
-pub frame_as : (j : JobData) (s : Setting) (k : ℕ) (lines : List Line) (m : MachineFile) (tools : List Tool) (b : Bool) (cs : List Command) (n : ℕ)
-    (start : Frame) (changes : List FrameChange) (frame : FrameInForce)
-    → m ≡ j.machine → tools ≡ j.tools → b ≡ is_on s → cs ≡ commands_in b j → n ≡ line_of (slice_get cs k)
+-- what two facts imply of a value
+pub both_ok : {T E : Type 0} (r : Result T E) (P Q R : T → Type 0) → ((v : T) → P v → Q v → R v) → IfOk r P → IfOk r Q → IfOk r R
+both_ok (Ok v) P Q R on p q = on v p q
+both_ok (Err e) P Q R on p q = tt
+
+-- the frames of a job's program, from their computed values
+pub history_as : (j : JobData) (s : Setting) (lines : List Line) (m : MachineFile) (tools : List Tool) (b : Bool) (start : Frame) (changes : List FrameChange)
+    → m ≡ j.machine → tools ≡ j.tools → b ≡ is_on s
     → start ≡ start_frame (record { machine = m; tools = tools })
     → ((rs : List Reading) → AreReadings lines rs → changes ≡ frame_changes (record { machine = m; tools = tools }) (with_readings lines rs) b)
-    → frame ≡ frame_in_force start changes n → IsFrameAt j s k lines frame
-frame_as j s k lines m tools b cs n start changes frame is_machine are_tools is_set are is_line is_start are_changes is rs readings =
+    → IsHistoryAt j s lines (history_of start changes)
+history_as j s lines m tools b start changes is_machine are_tools is_set is_start are_changes rs readings =
     let setup : Setup = record { machine = m; tools = tools } in
     let same : setup ≡ setup_in j = ap₂ (λ (x : MachineFile) (t : List Tool). record { machine = x; tools = t }) is_machine are_tools in
-    let line : n ≡ line_of (slice_get (commands_in (is_on s) j) k) =
-    is_line ∙ ap (λ (l : List Command). line_of (slice_get l k)) (are ∙ ap (λ (x : Bool). commands_in x j) is_set) in
-    is
-    ∙ ap (λ (f : Frame). frame_in_force f changes n) (is_start ∙ ap (λ (x : Setup). start_frame x) same)
-    ∙ ap (λ (l : List FrameChange). frame_in_force (start_frame (setup_in j)) l n)
+    ap₂ (λ (f : Frame) (l : List FrameChange). history_of f l) (is_start ∙ ap (λ (x : Setup). start_frame x) same)
     (are_changes rs readings
     ∙ ap (λ (x : Setup). frame_changes x (with_readings lines rs) b) same
     ∙ ap (λ (x : Bool). frame_changes (setup_in j) (with_readings lines rs) x) is_set)
+
+-- the frame of a command, from its computed value
+pub frame_as : (j : JobData) (s : Setting) (k : ℕ) (lines : List Line) (b : Bool) (cs : List Command) (n : ℕ)
+    (start : Frame) (changes : List FrameChange) (frame : FrameInForce)
+    → b ≡ is_on s → cs ≡ commands_in b j → n ≡ line_of (slice_get cs k) → IsHistoryAt j s lines (history_of start changes)
+    → frame ≡ frame_in_force start changes n → IsFrameAt j s k lines frame
+frame_as j s k lines b cs n start changes frame is_set are is_line history is rs readings =
+    let line : n ≡ line_of (slice_get (commands_in (is_on s) j) k) =
+    is_line ∙ ap (λ (l : List Command). line_of (slice_get l k)) (are ∙ ap (λ (x : Bool). commands_in x j) is_set) in
+    is
+    ∙ ap (λ (h : History). frame_in_force h.start h.changes n) (history rs readings)
     ∙ ap (λ (x : ℕ). frame_in_force (start_frame (setup_in j)) (frame_changes (setup_in j) (with_readings lines rs) (is_on s)) x) line
 
-pub all_text : (j : JobData) (cuts : ℕ) (s : Setting) (k : ℕ) (form : Form) (named : Bool) (m : MachineFile) (off on : List Command) (off_ks on_ks : List ℕ)
+pub all_text : (j : JobData) (cuts : ℕ) (s : Setting) (k : ℕ) (form : Form) (lines : List Line) (named : Bool) (m : MachineFile) (off on : List Command)
+    (off_h on_h : History) (off_ks on_ks : List ℕ)
     → named ≡ is_some j.on → m ≡ j.machine → off ≡ j.off → on ≡ commands_in true j
     → AreUncleared j.machine cuts j.off off_ks → (IsStartClear j.machine → OffBegins (is_some j.on) s k off_ks)
     → AreUncleared j.machine cuts (commands_in true j) on_ks → (IsStartClear j.machine → OnBegins s k on_ks)
-    → IsRefusalsText j cuts s k form (refusals_text form named m off on off_ks on_ks)
-all_text j cuts s k form named m off on off_ks on_ks is_named is_machine is_off is_on off_are off_begins on_are on_begins = record {
+    → IsHistoryAt j Off lines off_h → (IsTrue (is_some j.on) → IsHistoryAt j On lines on_h)
+    → IsRefusalsText j cuts s k form lines (refusals_text form named m off on off_h on_h off_ks on_ks)
+all_text j cuts s k form lines named m off on off_h on_h off_ks on_ks is_named is_machine is_off is_on off_are off_begins on_are on_begins off_is on_is = record {
   off_ks = off_ks;
   off_uncleared = off_are;
   off_begins = off_begins;
   on_ks = on_ks;
   on_uncleared = on_are;
   on_begins = on_begins;
-  tells = ap (λ (d : Bool). refusals_text form d m off on off_ks on_ks) is_named
-      ∙ ap (λ (x : MachineFile). refusals_text form (is_some j.on) x off on off_ks on_ks) is_machine
-      ∙ ap (λ (cs : List Command). refusals_text form (is_some j.on) j.machine cs on off_ks on_ks) is_off
-      ∙ ap (λ (cs : List Command). refusals_text form (is_some j.on) j.machine j.off cs off_ks on_ks) is_on;
+  off_frames = off_h;
+  off_executed = off_is;
+  on_frames = on_h;
+  on_executed = on_is;
+  tells = ap (λ (d : Bool). refusals_text form d m off on off_h on_h off_ks on_ks) is_named
+      ∙ ap (λ (x : MachineFile). refusals_text form (is_some j.on) x off on off_h on_h off_ks on_ks) is_machine
+      ∙ ap (λ (cs : List Command). refusals_text form (is_some j.on) j.machine cs on off_h on_h off_ks on_ks) is_off
+      ∙ ap (λ (cs : List Command). refusals_text form (is_some j.on) j.machine j.off cs off_h on_h off_ks on_ks) is_on;
 }
 
 -- if both settings have the same commands, the commands that aren't cleared are reported once

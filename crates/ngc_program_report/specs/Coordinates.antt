@@ -9,6 +9,8 @@ use Rattle.ngc_commands.specs.declared.command.Command.{Command}
 use Rattle.ngc_commands.specs.declared.movement.Way.{Way}
 use Rattle.ngc_frames.specs.Facts.{motion_fact}
 use Rattle.ngc_frames.specs.Words.{motion_words}
+use Rattle.ngc_frames.specs.declared.change.FrameChange.{FrameChange}
+use Rattle.ngc_frames.specs.declared.frame.Frame.{Frame}
 use Rattle.ngc_frames.specs.declared.in_force.FrameInForce.{FrameInForce}
 use Rattle.ngc_report.specs.declared.form.Form.{Form}
 use Rattle.ngc_report.specs.declared.form.Form.TheVariants.{Words, Json}
@@ -16,6 +18,19 @@ use Rattle.ngc_report.specs.declared.form.Form.TheVariants.{Words, Json}
 abbrev pub way_of : Action → Option Way
 way_of (Move m) = Some m.way
 way_of _ = None
+
+-- the program line of a command, 0 without one
+abbrev pub line_of : Option Command → ℕ
+line_of None = 0
+line_of (Some c) = c.line
+
+-- the frames of a program at a setting: that at the start, and each change
+pub record History : Type 0 where
+  pub start : Frame
+  pub changes : List FrameChange
+
+abbrev pub history_of : Frame → List FrameChange → History
+history_of start changes = record { start = start; changes = changes }
 
 -- the path of the reported command, if it is a motion
 abbrev pub told_way : List Command → Option ℕ → Option Way

@@ -29,6 +29,7 @@ use Rattle.ngc_report.specs.declared.form.Form.{Form}
 use Rattle.ngc_program_report.specs.declared.report_fault.ReportFault.{ReportFault}
 use Rattle.ngc_program_report.specs.declared.report_fault.ReportFault.TheVariants as faults
 use Rattle.ngc_program_report.specs.declared.request.ReportRequest.{ReportRequest}
+use Rattle.ngc_program_report.specs.Coordinates.{History, history_of, line_of}
 use Rattle.ngc_program_report.specs.Texts.{LastsFor, fits_text, is_on, refusal_text, refusals_text}
 use Rattle.ngc_program_report.specs.Times.{ProgramTimeData}
 
@@ -67,28 +68,33 @@ abbrev pub OnBegins : Setting → ℕ → List ℕ → Type 0
 OnBegins Off k ks = Unit {0}
 OnBegins On k ks = BeginsWith k ks
 
+-- the frames of a job's program at a setting, whatever the readings of its lines are
+abbrev pub IsHistoryAt : JobData → Setting → List Line → History → Type 0
+IsHistoryAt j s lines h = (rs : List Reading) → AreReadings lines rs →
+    h ≡ history_of (start_frame (setup_in j))
+    (frame_changes (setup_in j) (with_readings lines rs) (is_on s))
+
 -- the report of all commands that aren't cleared, at either setting, if no certificate is made
 -- because of command `k` at a setting
 pub record IsRefusalsText (j : JobData) (cuts : ℕ) (s : Setting) (k : ℕ) (form : Form)
-    (text : List ℕ) : Type 0 where
+    (lines : List Line) (text : List ℕ) : Type 0 where
   pub off_ks : List ℕ
   pub off_uncleared : AreUncleared j.machine cuts j.off off_ks
   pub off_begins : IsStartClear j.machine → OffBegins (is_some j.on) s k off_ks
   pub on_ks : List ℕ
   pub on_uncleared : AreUncleared j.machine cuts (commands_in true j) on_ks
   pub on_begins : IsStartClear j.machine → OnBegins s k on_ks
+  pub off_frames : History
+  pub off_executed : IsHistoryAt j Off lines off_frames
+  pub on_frames : History
+  pub on_executed : IsTrue (is_some j.on) → IsHistoryAt j On lines on_frames
   pub tells : text ≡ refusals_text form (is_some j.on) j.machine j.off (commands_in true j)
-      off_ks on_ks
+      off_frames on_frames off_ks on_ks
 
 -- the report of only command `k`, which isn't cleared at a setting
 abbrev pub first_text : JobData → Form → Setting → ℕ → List Line → FrameInForce → List ℕ
 first_text j form s k lines frame =
     refusal_text form (is_some j.on) s j.machine (commands_in (is_on s) j) k lines frame
-
--- the program line of command `k`
-abbrev pub line_of : Option Command → ℕ
-line_of None = 0
-line_of (Some c) = c.line
 
 -- command `k` is executed in this frame at a setting, whatever the readings of the program's lines
 -- are
@@ -108,7 +114,7 @@ pub record IsFirstText (j : JobData) (form : Form) (s : Setting) (k : ℕ) (line
 abbrev pub IsRefusalText : Bool → JobData → ReportRequest → Setting → ℕ → List Line → List ℕ →
     Type 0
 IsRefusalText true j request s k lines text =
-    IsRefusalsText j request.cuts s k request.form text
+    IsRefusalsText j request.cuts s k request.form lines text
 IsRefusalText false j request s k lines text = IsFirstText j request.form s k lines text
 
 -- this text was written, or a prefix of it if the sink failed; or memory ran out, and nothing was

@@ -1,6 +1,6 @@
 -- The texts of reports of programs. Our own.
 use Rattle.std.specs.Prelude.{◌≡◌, ℕ, List, [], ◌++◌, codes, decimal, slice_get, Option, Some}
-use Rattle.std.specs.Prelude.{None, is_some, option_map, Bool, true, false}
+use Rattle.std.specs.Prelude.{None, is_some, option_map, flat_map, Bool, true, false}
 use Rattle.std.specs.Prelude.{if◌then◌else◌}
 use Rattle.ngc_fixed_length.specs.Grid.{grid}
 use Rattle.ngc_line_reader.specs.Program.{Line}
@@ -18,18 +18,20 @@ use Rattle.ngc_certificate.specs.PieceFault.{place_fault}
 use Rattle.ngc_checker.specs.Accepted.{AcceptedData}
 use Rattle.ngc_machine_model.specs.Headline.{job_of}
 use Rattle.ngc_run_log.specs.Parts.{IsTimedThrough}
+use Rattle.ngc_frames.specs.InForce.{frame_in_force}
 use Rattle.ngc_frames.specs.declared.in_force.FrameInForce.{FrameInForce}
 use Rattle.ngc_report.specs.Forms.{closing, opening, report_text}
 use Rattle.ngc_report.specs.Marks.{named_line}
 use Rattle.ngc_report.specs.Quotes.{quoted}
-use Rattle.ngc_report.specs.Reports.{all_lines, fit_lines, refusal_lines}
+use Rattle.ngc_report.specs.Reports.{fit_lines, refusal_lines, refusals_head, scene_lines}
+use Rattle.ngc_report.specs.Scenes.{scene_at}
 use Rattle.ngc_report.specs.Warnings.{warning_lines}
 use Rattle.ngc_report.specs.declared.form.Form.{Form}
 use Rattle.ngc_report.specs.declared.form.Form.TheVariants.{Words, Json}
 use Rattle.ngc_word_warnings.specs.Spelling.{word_warnings}
 use Rattle.ngc_setup_sheet.specs.Sheets.{warning_facts, warnings_text}
 use Rattle.ngc_program_report.specs.declared.run_time.RunTime.{RunTime}
-use Rattle.ngc_program_report.specs.Coordinates.{coordinates_text, told_way}
+use Rattle.ngc_program_report.specs.Coordinates.{History, coordinates_text, line_of, told_way}
 use Rattle.ngc_program_report.specs.Met.{met_at}
 use Rattle.ngc_program_report.specs.Times.{ProgramTimeData, seconds_text, time_text, uses_text}
 
@@ -157,23 +159,41 @@ refusal_text form named s machine commands k lines frame =
     (told_command (place_fault machine None (grid machine.step machine.start)) k)
     (met_at machine commands k) lines frame
 
--- all obstacles at a setting
-abbrev pub setting_refusals : Form → Bool → Bool → Setting → MachineFile → List Command →
-    List ℕ → List ℕ
-setting_refusals form first named s machine commands ks =
-    heading form first named s
-    ++ report_text form
-    (all_lines machine commands
+-- the obstacle of command `k`, and its coordinates in the program
+abbrev pub command_refusal : Form → MachineFile → List Command → History → ℕ → List ℕ
+command_refusal form machine commands h k =
+    report_text form (scene_lines machine k None (scene_at machine commands k))
+    ++ coordinates_text form
+    (frame_in_force h.start h.changes (line_of (slice_get commands k)))
+    (told_way commands (Some k))
+
+-- those of commands in order
+abbrev pub command_refusals : Form → MachineFile → List Command → History → List ℕ → List ℕ
+command_refusals form machine commands h ks =
+    flat_map (command_refusal form machine commands h) ks
+
+-- the verdict and the extents, the start if it is refused, and the refused commands
+abbrev pub all_refusals : Form → MachineFile → List Command → History → List ℕ → List ℕ
+all_refusals form machine commands h ks =
+    report_text form
+    (refusals_head machine commands
     (is_some (place_fault machine None (grid machine.step machine.start))) ks)
+    ++ command_refusals form machine commands h ks
+
+-- all obstacles at a setting, where the program has these frames
+abbrev pub setting_refusals : Form → Bool → Bool → Setting → MachineFile → List Command → History →
+    List ℕ → List ℕ
+setting_refusals form first named s machine commands h ks =
+    heading form first named s ++ all_refusals form machine commands h ks
 
 -- the text for both settings, or once if they have the same commands
-abbrev pub refusals_text : Form → Bool → MachineFile → List Command → List Command → List ℕ →
-    List ℕ → List ℕ
-refusals_text form false machine off on off_ks on_ks =
-    setting_refusals form true false Off machine off off_ks ++ ending form 304
-refusals_text form true machine off on off_ks on_ks =
-    setting_refusals form true true Off machine off off_ks
-    ++ (setting_refusals form false true On machine on on_ks ++ ending form 304)
+abbrev pub refusals_text : Form → Bool → MachineFile → List Command → List Command → History →
+    History → List ℕ → List ℕ → List ℕ
+refusals_text form false machine off on off_h on_h off_ks on_ks =
+    setting_refusals form true false Off machine off off_h off_ks ++ ending form 304
+refusals_text form true machine off on off_h on_h off_ks on_ks =
+    setting_refusals form true true Off machine off off_h off_ks
+    ++ (setting_refusals form false true On machine on on_h on_ks ++ ending form 304)
 
 -- the line for a program that is refused
 abbrev pub refused_line : Form → List ℕ

@@ -1,17 +1,18 @@
 //! The motion that a report is about, in the program's coordinates.
-ghost use Rattle.std.specs.Prelude.{◌≡◌, ◌++◌, OnOk, OnErr, [], length};
+ghost use Rattle.std.specs.Prelude.{◌≡◌, OnOk, OnErr, slice_get};
 ghost use Rattle.std.specs.Io.KnownBytes.{Appends};
+ghost use Rattle.ngc_certificate_text.specs.Collects.{Collects};
 ghost use Rattle.ngc_collision.specs.Inside.{place_of};
 ghost use Rattle.ngc_commands.specs.Movement.{start_of};
 ghost use Rattle.ngc_text.specs.Failures.{CountsFailure};
 ghost use Rattle.ngc_text.specs.Written.{AppendsBeginning};
 ghost use Rattle.ngc_program_report.specs.Coordinates.{coordinates_text, motion_text, told_way};
-ghost use Rattle.ngc_program_report.specs.Coordinates.{way_of};
+ghost use Rattle.ngc_program_report.specs.Coordinates.{line_of, way_of};
 
 use ngc_collision::Place;
 use ngc_commands::{Action, Command, Way};
 use ngc_fixed_length::Point3;
-use ngc_frames::{FrameInForce, add_motion_fact, add_motion_words, program_point};
+use ngc_frames::{FrameInForce, collect_motion_fact, collect_motion_words, program_point};
 use ngc_report::Form;
 use ngc_text::{Chunk, Sink, WriteFault};
 
@@ -46,28 +47,55 @@ pub(crate) fn told_way(commands: &[Command], told: Option<usize>) -> Option<Way>
     }
 }
 
-#[tactic(auto, unfolding(crate::specs::Coordinates::motion_text))]
-fn motion_of(form: Form, frame: &FrameInForce, from: &Place, to: &Place) -> Chunk
-    ensures { result ≡ motion_text form frame.now (place_of from.now) (place_of to.now) }
+/// Returns the line of the program from which a command is, or 0 if there is no such command.
+pub(crate) fn line_of(commands: &[Command], command: usize) -> u32
+    ensures { result ≡ line_of (slice_get commands.now command) }
 {
-    let mut chunk = Chunk::new();
-    match form {
-        Form::Words => add_motion_words(&mut chunk, frame, from, to),
-        Form::Json => add_motion_fact(&mut chunk, frame, from, to),
+    match commands.get(command) {
+        None => 0,
+        Some(command) => command.line,
     }
-    chunk
 }
 
+#[tactic(auto, unfolding(crate::specs::Coordinates::motion_text))]
+fn collect_motion<W: Sink>(
+    chunk: &mut Chunk,
+    form: Form,
+    frame: &FrameInForce,
+    from: &Place,
+    to: &Place,
+    output: &mut W,
+) -> Result<(), WriteFault>
+    ensures text { Collects (W.written output.old) (W.written output.new) chunk.old chunk.new result
+        (motion_text form frame.now (place_of from.now) (place_of to.now)) }
+    ensures counts { CountsFailure (W.failures output.old) (W.failures output.new) result }
+{
+    match form {
+        Form::Words => collect_motion_words(chunk, frame, from, to, output),
+        Form::Json => collect_motion_fact(chunk, frame, from, to, output),
+    }
+}
+
+/// Adds where a path begins and ends in the program's coordinates, and which coordinates these are.
+/// Without a path, nothing is added.
 #[tactic(auto, unfolding(crate::specs::Coordinates::coordinates_text))]
-fn coordinates_of(form: Form, frame: &FrameInForce, way: &Option<Way>) -> Chunk
-    ensures { result ≡ coordinates_text form frame.now way.now }
+pub(crate) fn collect_coordinates<W: Sink>(
+    chunk: &mut Chunk,
+    form: Form,
+    frame: &FrameInForce,
+    way: &Option<Way>,
+    output: &mut W,
+) -> Result<(), WriteFault>
+    ensures text { Collects (W.written output.old) (W.written output.new) chunk.old chunk.new result
+        (coordinates_text form frame.now way.now) }
+    ensures counts { CountsFailure (W.failures output.old) (W.failures output.new) result }
 {
     match way {
-        None => Chunk::new(),
+        None => Ok(()),
         Some(way) => {
             let from = program_point(&start_of(way), &frame.frame);
             let to = program_point(&way.end(), &frame.frame);
-            motion_of(form, frame, &from, &to)
+            collect_motion(chunk, form, frame, &from, &to, output)
         }
     }
 }
@@ -88,5 +116,9 @@ pub(crate) fn write_coordinates<W: Sink>(
         (coordinates_text form frame.now way.now)) }
     ensures counts { CountsFailure (W.failures output.old) (W.failures output.new) result }
 {
-    coordinates_of(form, frame, way).write_out(output)
+    let mut chunk = Chunk::new();
+    match collect_coordinates(&mut chunk, form, frame, way, output) {
+        Ok(()) => chunk.write_out(output),
+        Err(fault) => Err(fault),
+    }
 }

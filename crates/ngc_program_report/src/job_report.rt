@@ -1,5 +1,5 @@
 //! The reports of jobs that fit, and of those that don't.
-ghost use Rattle.std.specs.Prelude.{◌≡◌, ◌≤◌, is_some, slice_get, Err, IfOk, OnErr, OnOk, true};
+ghost use Rattle.std.specs.Prelude.{◌≡◌, ◌≤◌, is_some, Err, IfOk, OnErr, OnOk, true};
 ghost use Rattle.std.specs.Io.KnownBytes.{Appends};
 ghost use Rattle.ngc_certificate.specs.Made.{IsMade};
 ghost use Rattle.ngc_certificate.specs.Uncleared.{AreUncleared};
@@ -9,11 +9,13 @@ ghost use Rattle.ngc_job.specs.Job.{commands_in};
 ghost use Rattle.ngc_text.specs.Failures.{CountsFailure};
 ghost use Rattle.ngc_text.specs.Written.{AppendsBeginning};
 ghost use Rattle.ngc_line_reader.specs.ProgramView.{text_in};
+ghost use Rattle.ngc_program_report.specs.Coordinates.{history_of};
 ghost use Rattle.ngc_program_report.specs.JobReports.{FailsByWriting, IsFitText, IsFrameAt};
-ghost use Rattle.ngc_program_report.specs.JobReports.{IsRefusalText, IsRefusalsText, IsStartClear};
-ghost use Rattle.ngc_program_report.specs.JobReports.{OffBegins, OnBegins, Tells, first_text};
-ghost use Rattle.ngc_program_report.specs.JobReports.{line_of};
+ghost use Rattle.ngc_program_report.specs.JobReports.{IsHistoryAt, IsRefusalText, IsRefusalsText};
+ghost use Rattle.ngc_program_report.specs.JobReports.{IsStartClear, OffBegins, OnBegins, Tells};
+ghost use Rattle.ngc_program_report.specs.JobReports.{first_text};
 
+use crate::coordinates::line_of;
 use crate::fit_writer::{is_on, write_both, write_once};
 use crate::refusal_writer::{is_start_refused, write_all_both, write_all_once, write_refused};
 use crate::report_fault::ReportFault;
@@ -22,7 +24,7 @@ use crate::timing::{accept, time_of};
 use ngc_certificate::{MakeFault, MemoryFault, Setting, uncleared, uncleared_from};
 use ngc_certificate_text::Certificate;
 use ngc_commands::Command;
-use ngc_frames::{FrameInForce, OutOfMemory, frame_history};
+use ngc_frames::{FrameHistory, FrameInForce, OutOfMemory, frame_history};
 use ngc_job::Job;
 use ngc_line_reader::Program;
 use ngc_report::Form;
@@ -69,13 +71,17 @@ pub fn report_fit<A: Allocator + Copy, W: Sink>(
     Ok(())
 }
 
-fn line_of(commands: &[Command], command: usize) -> u32
-    ensures { result ≡ line_of (slice_get commands.now command) }
+// Returns the frames of the program at a setting.
+fn history_at<A: Allocator + Copy>(
+    alloc: A,
+    program: &Program<A>,
+    job: &Job<A>,
+    setting: Setting,
+) -> Result<FrameHistory<A>, OutOfMemory>
+    ensures { IfOk result (λ h. IsHistoryAt job.now setting (text_in program.now).lines
+        (history_of h.start h.changes.items)) }
 {
-    match commands.get(command) {
-        None => 0,
-        Some(command) => command.line,
-    }
+    frame_history(alloc, program, job.machine(), job.tools(), is_on(setting))
 }
 
 // Returns the frame in which a command is executed at a setting.
@@ -88,9 +94,8 @@ fn frame_at<A: Allocator + Copy>(
 ) -> Result<FrameInForce, OutOfMemory>
     ensures { IfOk result (IsFrameAt job.now setting command (text_in program.now).lines) }
 {
-    let on = is_on(setting);
-    let history = frame_history(alloc, program, job.machine(), job.tools(), on)?;
-    let line = line_of(job.commands(on), command as usize);
+    let history = history_at(alloc, program, job, setting)?;
+    let line = line_of(job.commands(is_on(setting)), command as usize);
     Ok(history.in_force(line))
 }
 
@@ -182,6 +187,7 @@ fn on_uncleared<A: Allocator + Copy>(
 // Writes the report of all commands that aren't cleared, if no certificate is made because of one.
 fn report_all<A: Allocator + Copy, W: Sink>(
     alloc: A,
+    program: &Program<A>,
     job: &Job<A>,
     setting: Setting,
     command: u32,
@@ -190,7 +196,9 @@ fn report_all<A: Allocator + Copy, W: Sink>(
 ) -> Result<(), ReportFault>
     requires { IsMade job.now.machine request.cuts job.now.off (commands_in true job.now)
         (Err (MakeFault.NotCleared setting command)) }
-    ensures tells { Tells (IsRefusalsText job.now request.cuts setting command request.form)
+    ensures tells { Tells
+        (IsRefusalsText job.now request.cuts setting command request.form
+        (text_in program.now).lines)
         (W.written output.old) (W.written output.new) result }
     ensures counts { FailsByWriting result (W.failures output.old) (W.failures output.new) }
 {
@@ -201,12 +209,21 @@ fn report_all<A: Allocator + Copy, W: Sink>(
         Ok(indices) => indices,
         Err(_) => return Err(ReportFault::Memory),
     };
+    let off_history = match history_at(alloc, program, job, Setting::Off) {
+        Ok(history) => history,
+        Err(_) => return Err(ReportFault::Memory),
+    };
     if !job.has_deleted_lines() {
-        write_all_once(form, machine, off, off_indices.as_slice(), output)?;
+        let indices = off_indices.as_slice();
+        write_all_once(form, machine, off, indices, &off_history, output)?;
         return Ok(());
     }
     let on_indices = match on_uncleared(alloc, job, setting, command, cuts) {
         Ok(indices) => indices,
+        Err(_) => return Err(ReportFault::Memory),
+    };
+    let on_history = match history_at(alloc, program, job, Setting::On) {
+        Ok(history) => history,
         Err(_) => return Err(ReportFault::Memory),
     };
     write_all_both(
@@ -214,16 +231,18 @@ fn report_all<A: Allocator + Copy, W: Sink>(
         machine,
         off,
         off_indices.as_slice(),
+        &off_history,
         job.commands(true),
         on_indices.as_slice(),
+        &on_history,
         output,
     )?;
     Ok(())
 }
 
 /// Writes the report of a job without a certificate, because a command, counted from 0, isn't
-/// cleared at a setting of block delete. It reports the obstacle of that command and its
-/// coordinates in the program, or the obstacles of all commands that aren't cleared.
+/// cleared at a setting of block delete. It reports the obstacle of that command, or those of all
+/// commands that aren't cleared, and the coordinates of these commands in the program.
 ///
 /// If memory runs out (900), nothing is written. If a write fails (902), a prefix is written.
 pub fn report_refusal<A: Allocator + Copy, W: Sink>(
@@ -243,7 +262,7 @@ pub fn report_refusal<A: Allocator + Copy, W: Sink>(
     ensures counts { FailsByWriting result (W.failures output.old) (W.failures output.new) }
 {
     if request.all {
-        return report_all(alloc, job, setting, command, request, output);
+        return report_all(alloc, program, job, setting, command, request, output);
     }
     let frame = match frame_at(alloc, program, job, setting, command) {
         Ok(frame) => frame,

@@ -3,28 +3,35 @@ ghost use Rattle.std.specs.Prelude.{◌≡◌, ◌++◌, OnOk, OnErr, None, is_s
 ghost use Rattle.std.specs.Io.KnownBytes.{Appends};
 ghost use Rattle.ngc_canonical.specs.Faults.{fault_number};
 ghost use Rattle.ngc_certificate.specs.PieceFault.{place_fault};
+ghost use Rattle.ngc_certificate_text.specs.Collects.{Collects};
 ghost use Rattle.ngc_text.specs.Failures.{CountsFailure};
 ghost use Rattle.ngc_text.specs.Written.{AppendsBeginning};
 ghost use Rattle.ngc_fixed_length.specs.Grid.{grid};
 ghost use Rattle.ngc_line_reader.specs.ProgramView.{text_in};
 ghost use Rattle.ngc_machine_files.specs.Machine.{file_of};
+ghost use Rattle.ngc_frames.specs.Walks.{WalksOver};
 ghost use Rattle.ngc_report.specs.Marks.{named_line};
-ghost use Rattle.ngc_program_report.specs.Coordinates.{coordinates_text};
-ghost use Rattle.ngc_program_report.specs.Texts.{cause_text, ending, quoted_if, refusal_text};
+ghost use Rattle.ngc_report.specs.Scenes.{StandsBehind};
+ghost use Rattle.ngc_program_report.specs.Coordinates.{coordinates_text, history_of};
+ghost use Rattle.ngc_program_report.specs.Texts.{all_refusals, cause_text, command_refusal};
+ghost use Rattle.ngc_program_report.specs.Texts.{command_refusals, ending, quoted_if, refusal_text};
 ghost use Rattle.ngc_program_report.specs.Texts.{refusals_text, refused_line, rejection_text};
 ghost use Rattle.ngc_program_report.specs.Texts.{setting_refusals, told_command, told_number};
 
-use crate::coordinates::{told_way, write_coordinates};
+use crate::coordinates::{collect_coordinates, line_of, told_way, write_coordinates};
 use crate::met::met_at;
 use crate::report_frame::{write_ending, write_heading};
 use ngc_canonical::Fault;
 use ngc_certificate::{Setting, place_fault};
 use ngc_commands::{Command, Way};
-use ngc_frames::FrameInForce;
+use ngc_frames::{FrameHistory, FrameInForce, FrameWalk};
 use ngc_line_reader::Program;
 use ngc_machine_files::Machine;
-use ngc_report::{Form, write_line, write_named, write_refusal, write_refusals};
-use ngc_text::{Sink, WriteFault, write_all};
+use ngc_report::{
+    Form, Standing, collect_refusals_head, collect_refused_command, write_line, write_named,
+    write_refusal,
+};
+use ngc_text::{Chunk, Sink, WriteFault, write_all};
 use std::alloc::Allocator;
 
 // Returns the command that a refusal reports, or `None` if the start point isn't clear.
@@ -180,6 +187,122 @@ pub(crate) fn is_start_refused<A: Allocator>(machine: &Machine<A>) -> bool
     place_fault(machine, None, &machine.start.to_grid(machine.step)).is_some()
 }
 
+// Adds a refused command: its obstacle, and its coordinates in the program.
+fn collect_refusal<A: Allocator, W: Sink>(
+    chunk: &mut Chunk,
+    form: Form,
+    machine: &Machine<A>,
+    commands: &[Command],
+    command: usize,
+    standing: &mut Standing,
+    history: &FrameHistory<A>,
+    walk: &mut FrameWalk,
+    output: &mut W,
+) -> Result<(), WriteFault>
+    requires standing { StandsBehind (file_of machine.now) commands.now standing.old }
+    requires walk { WalksOver history.now.start history.now.changes.items walk.old }
+    ensures text { Collects (W.written output.old) (W.written output.new) chunk.old chunk.new result
+        (command_refusal form (file_of machine.now) commands.now
+        (history_of history.now.start history.now.changes.items) command) }
+    ensures standing { StandsBehind (file_of machine.now) commands.now standing.new }
+    ensures walk { WalksOver history.now.start history.now.changes.items walk.new }
+    ensures counts { CountsFailure (W.failures output.old) (W.failures output.new) result }
+{
+    match collect_refused_command(chunk, form, machine, commands, standing, command, output) {
+        Ok(()) => {}
+        Err(fault) => return Err(fault),
+    }
+    let frame = walk.in_force(history, line_of(commands, command));
+    let way = told_way(commands, Some(command));
+    collect_coordinates(chunk, form, &frame, &way, output)
+}
+
+// Adds the refused commands in order.
+fn collect_refusals<A: Allocator, W: Sink>(
+    chunk: &mut Chunk,
+    form: Form,
+    machine: &Machine<A>,
+    commands: &[Command],
+    indices: &[u32],
+    history: &FrameHistory<A>,
+    output: &mut W,
+) -> Result<(), WriteFault>
+    ensures text { Collects (W.written output.old) (W.written output.new) chunk.old chunk.new result
+        (command_refusals form (file_of machine.now) commands.now
+        (history_of history.now.start history.now.changes.items) indices.now) }
+    ensures counts { CountsFailure (W.failures output.old) (W.failures output.new) result }
+{
+    let mut standing = Standing::first(machine, commands);
+    let mut walk = FrameWalk::start(history);
+    for index in indices {
+        match collect_refusal(
+            chunk,
+            form,
+            machine,
+            commands,
+            *index as usize,
+            &mut standing,
+            history,
+            &mut walk,
+            output,
+        ) {
+            Ok(()) => {}
+            Err(fault) => return Err(fault),
+        }
+    }
+    Ok(())
+}
+
+// Adds all obstacles of commands, and that of the start if it has one.
+fn collect_all<A: Allocator, W: Sink>(
+    chunk: &mut Chunk,
+    form: Form,
+    machine: &Machine<A>,
+    commands: &[Command],
+    indices: &[u32],
+    history: &FrameHistory<A>,
+    output: &mut W,
+) -> Result<(), WriteFault>
+    ensures text { Collects (W.written output.old) (W.written output.new) chunk.old chunk.new result
+        (all_refusals form (file_of machine.now) commands.now
+        (history_of history.now.start history.now.changes.items) indices.now) }
+    ensures counts { CountsFailure (W.failures output.old) (W.failures output.new) result }
+{
+    let start = is_start_refused(machine);
+    match collect_refusals_head(chunk, form, machine, commands, start, indices, output) {
+        Ok(()) => {}
+        Err(fault) => return Err(fault),
+    }
+    collect_refusals(chunk, form, machine, commands, indices, history, output)
+}
+
+fn write_obstacles<A: Allocator, W: Sink>(
+    form: Form,
+    machine: &Machine<A>,
+    commands: &[Command],
+    indices: &[u32],
+    history: &FrameHistory<A>,
+    output: &mut W,
+) -> Result<(), WriteFault>
+    ensures ok { OnOk result
+        (Appends (W.written output.old) (W.written output.new)
+        (all_refusals form (file_of machine.now) commands.now
+        (history_of history.now.start history.now.changes.items) indices.now)) }
+    ensures fault { OnErr result
+        (AppendsBeginning (W.written output.old) (W.written output.new)
+        (all_refusals form (file_of machine.now) commands.now
+        (history_of history.now.start history.now.changes.items) indices.now)) }
+    ensures counts { CountsFailure (W.failures output.old) (W.failures output.new) result }
+{
+    let mut chunk = Chunk::new();
+    match collect_all(
+        &mut chunk, form, machine, commands, indices, history, output,
+    ) {
+        Ok(()) => chunk.write_out(output),
+        Err(fault) => Err(fault),
+    }
+}
+
 // Writes all obstacles at a setting.
 fn write_setting_refusals<A: Allocator, W: Sink>(
     form: Form,
@@ -189,21 +312,21 @@ fn write_setting_refusals<A: Allocator, W: Sink>(
     machine: &Machine<A>,
     commands: &[Command],
     indices: &[u32],
+    history: &FrameHistory<A>,
     output: &mut W,
 ) -> Result<(), WriteFault>
     ensures ok { OnOk result
         (Appends (W.written output.old) (W.written output.new)
-        (setting_refusals form first named setting
-        (file_of machine.now) commands.now indices.now)) }
+        (setting_refusals form first named setting (file_of machine.now) commands.now
+        (history_of history.now.start history.now.changes.items) indices.now)) }
     ensures fault { OnErr result
         (AppendsBeginning (W.written output.old) (W.written output.new)
-        (setting_refusals form first named setting
-        (file_of machine.now) commands.now indices.now)) }
+        (setting_refusals form first named setting (file_of machine.now) commands.now
+        (history_of history.now.start history.now.changes.items) indices.now)) }
     ensures counts { CountsFailure (W.failures output.old) (W.failures output.new) result }
 {
     write_heading(form, first, named, setting, output)?;
-    let start = is_start_refused(machine);
-    write_refusals(form, machine, commands, start, indices, output)
+    write_obstacles(form, machine, commands, indices, history, output)
 }
 
 /// Writes all obstacles at both settings, which have the same commands.
@@ -212,16 +335,19 @@ pub(crate) fn write_all_once<A: Allocator, W: Sink>(
     machine: &Machine<A>,
     commands: &[Command],
     indices: &[u32],
+    history: &FrameHistory<A>,
     output: &mut W,
 ) -> Result<(), WriteFault>
     ensures ok { OnOk result
         (Appends (W.written output.old) (W.written output.new)
-        (refusals_text form false (file_of machine.now) commands.now commands.now indices.now
-        indices.now)) }
+        (refusals_text form false (file_of machine.now) commands.now commands.now
+        (history_of history.now.start history.now.changes.items)
+        (history_of history.now.start history.now.changes.items) indices.now indices.now)) }
     ensures fault { OnErr result
         (AppendsBeginning (W.written output.old) (W.written output.new)
-        (refusals_text form false (file_of machine.now) commands.now commands.now indices.now
-        indices.now)) }
+        (refusals_text form false (file_of machine.now) commands.now commands.now
+        (history_of history.now.start history.now.changes.items)
+        (history_of history.now.start history.now.changes.items) indices.now indices.now)) }
     ensures counts { CountsFailure (W.failures output.old) (W.failures output.new) result }
 {
     write_setting_refusals(
@@ -232,6 +358,7 @@ pub(crate) fn write_all_once<A: Allocator, W: Sink>(
         machine,
         commands,
         indices,
+        history,
         output,
     )?;
     write_ending(form, 304, output)
@@ -243,17 +370,23 @@ pub(crate) fn write_all_both<A: Allocator, W: Sink>(
     machine: &Machine<A>,
     off: &[Command],
     off_indices: &[u32],
+    off_history: &FrameHistory<A>,
     on: &[Command],
     on_indices: &[u32],
+    on_history: &FrameHistory<A>,
     output: &mut W,
 ) -> Result<(), WriteFault>
     ensures ok { OnOk result
         (Appends (W.written output.old) (W.written output.new)
-        (refusals_text form true (file_of machine.now) off.now on.now off_indices.now
+        (refusals_text form true (file_of machine.now) off.now on.now
+        (history_of off_history.now.start off_history.now.changes.items)
+        (history_of on_history.now.start on_history.now.changes.items) off_indices.now
         on_indices.now)) }
     ensures fault { OnErr result
         (AppendsBeginning (W.written output.old) (W.written output.new)
-        (refusals_text form true (file_of machine.now) off.now on.now off_indices.now
+        (refusals_text form true (file_of machine.now) off.now on.now
+        (history_of off_history.now.start off_history.now.changes.items)
+        (history_of on_history.now.start on_history.now.changes.items) off_indices.now
         on_indices.now)) }
     ensures counts { CountsFailure (W.failures output.old) (W.failures output.new) result }
 {
@@ -265,6 +398,7 @@ pub(crate) fn write_all_both<A: Allocator, W: Sink>(
         machine,
         off,
         off_indices,
+        off_history,
         output,
     )?;
     write_setting_refusals(
@@ -275,6 +409,7 @@ pub(crate) fn write_all_both<A: Allocator, W: Sink>(
         machine,
         on,
         on_indices,
+        on_history,
         output,
     )?;
     write_ending(form, 304, output)

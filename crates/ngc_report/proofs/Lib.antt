@@ -20,7 +20,7 @@ pub mod Lines
 pub mod Counts
 -- The first line of a text, and lines by their number.
 pub mod Splits
--- The commands that are refused, in order.
+-- The machine's state some commands further.
 pub mod Causes
 -- A difference of two coordinates fits in 64 bits.
 mod Apart

@@ -1,5 +1,5 @@
 -- The lines of reports. Our own.
-use Rattle.std.specs.Prelude.{ℕ, ◌+◌, ℤ, ◌*ℤ◌, List, [], ◌∷◌, ◌++◌, take, drop, flat_map, Bool}
+use Rattle.std.specs.Prelude.{ℕ, ◌+◌, ℤ, ◌*ℤ◌, List, [], ◌∷◌, ◌++◌, take, drop, Bool}
 use Rattle.std.specs.Prelude.{true, false, Option, Some, None, Result, IsTrue}
 use Rattle.std.specs.List.{All, list_all}
 use Rattle.ngc_fixed_length.specs.Length.{IsStep}
@@ -117,11 +117,6 @@ refusal_lines machine commands command fixture =
 
 -- ---- all refused commands
 
--- each command with one of these indices that is a motion or a tool change, with its obstacle
-abbrev pub causes_lines : MachineFile → List Command → List ℕ → List Line
-causes_lines machine commands ks =
-    flat_map (λ k. scene_lines machine k None (scene_at machine commands k)) ks
-
 abbrev pub verdict_line : MachineFile → List Command → Bool → List ℕ → Line
 verdict_line machine commands false [] = fit_line machine commands
 verdict_line machine commands _ _ = lines.Refused
@@ -136,14 +131,14 @@ abbrev pub told_extent : MachineFile → List Command → Bool → List ℕ → 
 told_extent machine commands false [] = extent_in_travel machine commands
 told_extent machine commands _ _ = extent machine commands
 
--- the lines of a setting at which these commands are refused, and perhaps the start
-abbrev pub all_lines : MachineFile → List Command → Bool → List ℕ → List Line
-all_lines machine commands start ks =
+-- the lines of a setting at which these commands are refused, and perhaps the start, before those
+-- of the commands
+abbrev pub refusals_head : MachineFile → List Command → Bool → List ℕ → List Line
+refusals_head machine commands start ks =
     verdict_line machine commands start ks
-    ∷ (alongs machine (told_extent machine commands start ks)
-    ++ (start_lines_if machine start ++ causes_lines machine commands ks))
+    ∷ (alongs machine (told_extent machine commands start ks) ++ start_lines_if machine start)
 
 -- a setting at which the program fits never has a negative margin
 abbrev pub SettingStaysInside : Type 0
 SettingStaysInside = (machine : MachineFile) (commands : List Command) → IsStep machine.step →
-    IsTrue (list_all is_line_inside (all_lines machine commands false []))
+    IsTrue (list_all is_line_inside (refusals_head machine commands false []))

@@ -80,7 +80,7 @@ pub use margins::{Axis, Margin, Side};
 pub use marks::{letter_byte, mark_of, write_named, write_named_source, written_number};
 pub use nearest::Nearest;
 pub use quotes::write_line;
-pub use refusals::write_refusals;
+pub use refusals::{Standing, collect_refusals_head, collect_refused_command};
 pub use report::{write_fit, write_refusal};
 pub use scene::{Met, Obstacle, Scene};
 pub use shifts::{AxisShift, Shifts};

@@ -1,12 +1,9 @@
 //! Reports of all commands that are refused.
-ghost use Rattle.std.specs.Prelude.{◌≡◌, ◌≤◌, ◌++◌, length, take, OnOk, OnErr};
-ghost use Rattle.std.specs.Io.KnownBytes.{Appends};
+ghost use Rattle.std.specs.Prelude.{◌≡◌, ◌≤◌, length, take, None};
 ghost use Rattle.ngc_text.specs.Failures.{CountsFailure};
-ghost use Rattle.ngc_text.specs.Written.{AppendsBeginning};
 ghost use Rattle.ngc_machine_files.specs.Machine.{file_of};
-ghost use Rattle.ngc_report.specs.Forms.{report_text};
-ghost use Rattle.ngc_report.specs.Reports.{Tells, all_lines, causes_lines, start_lines_if};
-ghost use Rattle.ngc_report.specs.Reports.{verdict_line, told_extent};
+ghost use Rattle.ngc_report.specs.Reports.{Tells, refusals_head, scene_lines, start_lines_if};
+ghost use Rattle.ngc_report.specs.Reports.{told_extent, verdict_line};
 ghost use Rattle.ngc_report.specs.Scenes.{StandsBehind, scene_at, standing as standing_behind};
 
 use crate::bounds::{extent, extent_in_travel};
@@ -22,14 +19,14 @@ use std::alloc::Allocator;
 
 /// The machine's state after the first of the commands.
 #[derive(Clone, Copy)]
-pub(crate) struct Standing {
+pub struct Standing {
     pub(crate) count: usize,
     pub(crate) reached: Reached,
 }
 
 impl Standing {
     /// Returns the state at the start.
-    fn first<A: Allocator>(machine: &Machine<A>, commands: &[Command]) -> Standing
+    pub fn first<A: Allocator>(machine: &Machine<A>, commands: &[Command]) -> Standing
         ensures { StandsBehind (file_of machine.now) commands.now result }
     {
         Standing {
@@ -75,30 +72,6 @@ impl Standing {
     }
 }
 
-fn tell_causes<A: Allocator, W: Sink>(
-    chunk: &mut Chunk,
-    form: Form,
-    machine: &Machine<A>,
-    commands: &[Command],
-    indices: &[u32],
-    sink: &mut W,
-) -> Result<(), WriteFault>
-    ensures told { Tells form (W.written sink.old) (W.written sink.new) chunk.old chunk.new result
-        (causes_lines (file_of machine.now) commands.now indices.now) }
-    ensures counts { CountsFailure (W.failures sink.old) (W.failures sink.new) result }
-{
-    let mut standing = Standing::first(machine, commands);
-    for index in indices {
-        let index = *index as usize;
-        let scene = standing.scene(machine, commands, index);
-        match tell_scene(chunk, form, machine, index, None, &scene, sink) {
-            Ok(()) => {}
-            Err(fault) => return Err(fault),
-        }
-    }
-    Ok(())
-}
-
 fn tell_start_if<A: Allocator, W: Sink>(
     chunk: &mut Chunk,
     form: Form,
@@ -115,27 +88,6 @@ fn tell_start_if<A: Allocator, W: Sink>(
     } else {
         tell_all(chunk, form, &[], sink)
     }
-}
-
-fn tell_refused<A: Allocator, W: Sink>(
-    chunk: &mut Chunk,
-    form: Form,
-    machine: &Machine<A>,
-    commands: &[Command],
-    start: bool,
-    indices: &[u32],
-    sink: &mut W,
-) -> Result<(), WriteFault>
-    ensures told { Tells form (W.written sink.old) (W.written sink.new) chunk.old chunk.new result
-        (start_lines_if (file_of machine.now) start
-        ++ causes_lines (file_of machine.now) commands.now indices.now) }
-    ensures counts { CountsFailure (W.failures sink.old) (W.failures sink.new) result }
-{
-    match tell_start_if(chunk, form, machine, start, sink) {
-        Ok(()) => {}
-        Err(fault) => return Err(fault),
-    }
-    tell_causes(chunk, form, machine, commands, indices, sink)
 }
 
 fn verdict<A: Allocator>(
@@ -168,7 +120,12 @@ fn told_extent<A: Allocator>(
     }
 }
 
-fn tell_everything<A: Allocator, W: Sink>(
+/// Adds the head of the report of a program whose commands at these indices, from 0, are refused,
+/// and the start, if it is: the verdict, the extent along each axis, and the obstacle of the start.
+/// Without indices the program fits.
+///
+/// After a fault (902, only if the sink failed) a prefix of the text is written.
+pub fn collect_refusals_head<A: Allocator, W: Sink>(
     chunk: &mut Chunk,
     form: Form,
     machine: &Machine<A>,
@@ -178,7 +135,7 @@ fn tell_everything<A: Allocator, W: Sink>(
     sink: &mut W,
 ) -> Result<(), WriteFault>
     ensures told { Tells form (W.written sink.old) (W.written sink.new) chunk.old chunk.new result
-        (all_lines (file_of machine.now) commands.now start indices.now) }
+        (refusals_head (file_of machine.now) commands.now start indices.now) }
     ensures counts { CountsFailure (W.failures sink.old) (W.failures sink.new) result }
 {
     match tell_all(
@@ -195,34 +152,30 @@ fn tell_everything<A: Allocator, W: Sink>(
         Ok(()) => {}
         Err(fault) => return Err(fault),
     }
-    tell_refused(chunk, form, machine, commands, start, indices, sink)
+    tell_start_if(chunk, form, machine, start, sink)
 }
 
-/// Writes the report of a program whose commands at these indices, from 0, are refused, and the
-/// start, if it is: its extent along each axis, and for each command what it does, its obstacle, and
-/// how far it must move to be clear of that. Without indices the program fits. The function is
-/// fastest if the indices rise.
+/// Adds the report of a refused command, by its index from 0: what it does, its obstacle, and how
+/// far it must move to be clear of that. Nothing is added for a command that neither moves nor
+/// changes the tool. The function is fastest if the indices rise from call to call.
 ///
 /// After a fault (902, only if the sink failed) a prefix of the text is written.
-pub fn write_refusals<A: Allocator, W: Sink>(
+pub fn collect_refused_command<A: Allocator, W: Sink>(
+    chunk: &mut Chunk,
     form: Form,
     machine: &Machine<A>,
     commands: &[Command],
-    start: bool,
-    indices: &[u32],
+    standing: &mut Standing,
+    command: usize,
     sink: &mut W,
 ) -> Result<(), WriteFault>
-    ensures ok { OnOk result
-        (Appends (W.written sink.old) (W.written sink.new)
-        (report_text form (all_lines (file_of machine.now) commands.now start indices.now))) }
-    ensures fault { OnErr result
-        (AppendsBeginning (W.written sink.old) (W.written sink.new)
-        (report_text form (all_lines (file_of machine.now) commands.now start indices.now))) }
+    requires { StandsBehind (file_of machine.now) commands.now standing.old }
+    ensures told { Tells form (W.written sink.old) (W.written sink.new) chunk.old chunk.new result
+        (scene_lines (file_of machine.now) command None
+        (scene_at (file_of machine.now) commands.now command)) }
+    ensures stands { StandsBehind (file_of machine.now) commands.now standing.new }
     ensures counts { CountsFailure (W.failures sink.old) (W.failures sink.new) result }
 {
-    let mut chunk = Chunk::new();
-    match tell_everything(&mut chunk, form, machine, commands, start, indices, sink) {
-        Ok(()) => chunk.write_out(sink),
-        Err(fault) => Err(fault),
-    }
+    let scene = standing.scene(machine, commands, command);
+    tell_scene(chunk, form, machine, command, None, &scene, sink)
 }

@@ -1,5 +1,5 @@
 -- The result of reporting whether a program fits, from the results of its parts.
-use Rattle.std.proofs.Common.{◌≡◌, ℕ, List, Option, Some, Bool, true, false, Result, Ok, Err, IfSome, ap, ap₂, inl, inr, refl, subst, sym}
+use Rattle.std.proofs.Common.{◌≡◌, ℕ, List, Option, Some, Bool, true, false, IsTrue, Result, Ok, Err, IfSome, ap, ap₂, inl, inr, refl, subst, sym}
 use Rattle.std.proofs.Common.{◌∙◌}
 use Rattle.std.specs.Prelude.{is_some, option_map, slice_get}
 use Rattle.ngc_frames.specs.Changes.{frame_changes, start_frame}
@@ -26,9 +26,10 @@ use Rattle.ngc_command_line.specs.declared.options.ReportOptions.{ReportOptions}
 use Rattle.ngc_machine_files.specs.Machine.{MachineFile}
 use Rattle.ngc_machine_files.specs.declared.tools.Tool.{Tool}
 use Rattle.ngc_simulator.specs.Answers.{ReportsOn, request_of}
-use Rattle.ngc_program_report.specs.JobReports.{IsFirstText, IsFitText, IsRefusalText, IsRefusalsText, IsStartClear, OffBegins, Tells, line_of, setup_in}
+use Rattle.ngc_program_report.specs.JobReports.{IsFirstText, IsFitText, IsRefusalText, IsRefusalsText, IsStartClear, OffBegins, Tells, setup_in}
+use Rattle.ngc_program_report.specs.Coordinates.{line_of}
 use Rattle.ngc_inputs.specs.Jobs.{IsMadeOf, IsProgram, IsUnmade, WhyNotMade}
-use Rattle.ngc_simulator.specs.Reporting.{IsAllReport, IsFirstReport, IsFitReport, IsReportOf, IsRejectionReport, Reports}
+use Rattle.ngc_simulator.specs.Reporting.{IsAllReport, IsFirstReport, IsFitReport, IsReportOf, IsRejectionReport, Reports, frames_of}
 use Rattle.ngc_program_report.specs.Texts.{LastsFor}
 use Rattle.ngc_program_report.specs.Texts.{commands_of, fault_text, fits_text, is_on, refusal_text, refusals_text, rejection_text}
 use Rattle.ngc_program_report.specs.declared.request.ReportRequest.{ReportRequest}
@@ -112,7 +113,7 @@ module _ (setup : Setup) (bytes : List ℕ) (request : ReportRequest) (text : Pr
         (commands_of s j.off (commands_in true j)) k text.lines is.frame) the_job.machine;
   }
 
-  all_report : (s : Setting) (k : ℕ) (t : List ℕ) → IsUnmade j request.cuts (NotCleared s k) → IsRefusalsText j request.cuts s k request.form t
+  all_report : (s : Setting) (k : ℕ) (t : List ℕ) → IsUnmade j request.cuts (NotCleared s k) → IsRefusalsText j request.cuts s k request.form text.lines t
       → IsAllReport setup bytes request s k t
   all_report s k t unmade is = record {
     off = j.off;
@@ -125,10 +126,15 @@ module _ (setup : Setup) (bytes : List ℕ) (request : ReportRequest) (text : Pr
     on_ks = is.on_ks;
     on_uncleared = subst (λ (m : MachineFile). AreUncleared m request.cuts (commands_in true j) is.on_ks) the_job.machine is.on_uncleared;
     on_begins = λ start. is.on_begins (subst IsStartClear (sym the_job.machine) start);
+    off_frames = is.off_frames;
+    off_executed = is.off_executed have.readings have.are ∙ ap (λ (of : Setup). frames_of of (with_readings text.lines have.readings) Off) same_setup;
+    on_frames = is.on_frames;
+    on_executed = λ told. is.on_executed (subst IsTrue (sym the_job.apart) told) have.readings have.are
+        ∙ ap (λ (of : Setup). frames_of of (with_readings text.lines have.readings) On) same_setup;
     tells = is.tells
-        ∙ ap (λ (d : Bool). refusals_text request.form d j.machine j.off (commands_in true j) is.off_ks is.on_ks) the_job.apart
+        ∙ ap (λ (d : Bool). refusals_text request.form d j.machine j.off (commands_in true j) is.off_frames is.on_frames is.off_ks is.on_ks) the_job.apart
         ∙ ap (λ (m : MachineFile). refusals_text request.form (has_deleted (program_said text have.readings).lines) m j.off (commands_in true j)
-        is.off_ks is.on_ks) the_job.machine;
+        is.off_frames is.on_frames is.off_ks is.on_ks) the_job.machine;
   }
 
   refusal_report : (all : Bool) (s : Setting) (k : ℕ) (t : List ℕ) → IsUnmade j request.cuts (NotCleared s k)

@@ -1,6 +1,6 @@
 -- The result of reporting whether a program fits. Our own.
 use Rattle.std.specs.Prelude.{◌≡◌, ◌⊎◌, ℕ, List, Option}
-use Rattle.std.specs.Prelude.{Result, Ok, Err, Bool, true, false, slice_get}
+use Rattle.std.specs.Prelude.{Result, Ok, Err, Bool, true, false, IsTrue, slice_get}
 use Rattle.std.specs.Io.KnownBytes.{Appends, Keeps}
 use Rattle.ngc_text.specs.Written.{AppendsBeginning}
 use Rattle.ngc_line_reader.specs.ProgramText.{program_of}
@@ -8,8 +8,9 @@ use Rattle.ngc_line_reader.specs.ProgramView.{FaultIs}
 use Rattle.ngc_commands.specs.declared.command.Command.{Command}
 use Rattle.ngc_canonical.specs.declared.fault.ProgramFault.{ProgramFault}
 use Rattle.ngc_canonical.specs.State.{Setup}
-use Rattle.ngc_canonical.specs.Meaning.{Program as ProgramLines, has_deleted}
+use Rattle.ngc_canonical.specs.Meaning.{NumberedLine, Program as ProgramLines, has_deleted}
 use Rattle.ngc_certificate_text.specs.declared.piece.Setting.{Setting}
+use Rattle.ngc_certificate_text.specs.declared.piece.Setting.TheVariants.{Off, On}
 use Rattle.ngc_certificate_text.specs.Certificate.{CertificateData}
 use Rattle.ngc_certificate.specs.declared.fault.MakeFault.TheVariants.{NotCleared, Memory}
 use Rattle.ngc_certificate.specs.Made.{IsMade}
@@ -20,7 +21,8 @@ use Rattle.ngc_inputs.specs.Jobs.{AreMeanings, IsMadeFor, IsProgram, IsRefusedAt
 use Rattle.ngc_frames.specs.Changes.{frame_changes, start_frame}
 use Rattle.ngc_frames.specs.InForce.{frame_in_force}
 use Rattle.ngc_frames.specs.declared.in_force.FrameInForce.{FrameInForce}
-use Rattle.ngc_program_report.specs.JobReports.{IsStartClear, OffBegins, OnBegins, line_of}
+use Rattle.ngc_program_report.specs.Coordinates.{History, history_of, line_of}
+use Rattle.ngc_program_report.specs.JobReports.{IsStartClear, OffBegins, OnBegins}
 use Rattle.ngc_program_report.specs.Texts.{LastsFor, commands_of, fault_text, fits_text, is_on}
 use Rattle.ngc_program_report.specs.Texts.{refusal_text, refusals_text}
 use Rattle.ngc_program_report.specs.Times.{ProgramTimeData}
@@ -54,6 +56,10 @@ pub record IsFirstReport (setup : Setup) (bytes : List ℕ) (request : ReportReq
   pub tells : text ≡ refusal_text request.form (has_deleted means.program.lines) s setup.machine
       (commands_of s off on) k means.is_program.text.lines frame
 
+-- the frames of a program at a setting
+abbrev pub frames_of : Setup → List NumberedLine → Setting → History
+frames_of setup lines s = history_of (start_frame setup) (frame_changes setup lines (is_on s))
+
 -- the report of all commands that aren't cleared, at either setting: at least command k of that
 -- setting, or the start point
 pub record IsAllReport (setup : Setup) (bytes : List ℕ) (request : ReportRequest) (s : Setting)
@@ -69,8 +75,14 @@ pub record IsAllReport (setup : Setup) (bytes : List ℕ) (request : ReportReque
   pub on_ks : List ℕ
   pub on_uncleared : AreUncleared setup.machine request.cuts on on_ks
   pub on_begins : IsStartClear setup.machine → OnBegins s k on_ks
+  -- the frames in which the commands are executed, at both settings
+  pub off_frames : History
+  pub off_executed : off_frames ≡ frames_of setup means.program.lines Off
+  pub on_frames : History
+  pub on_executed : IsTrue (has_deleted means.program.lines) →
+      on_frames ≡ frames_of setup means.program.lines On
   pub tells : text ≡ refusals_text request.form
-      (has_deleted means.program.lines) setup.machine off on off_ks on_ks
+      (has_deleted means.program.lines) setup.machine off on off_frames on_frames off_ks on_ks
 
 abbrev pub IsReportOf : Bool → Setup → List ℕ → ReportRequest → Setting → ℕ → List ℕ → Type 0
 IsReportOf false setup bytes request s k text = IsFirstReport setup bytes request s k text

@@ -1,6 +1,7 @@
 use Rattle.std.proofs.Common.{◌++◌, true, false}
 use Rattle.ngc_certificate_text.specs.declared.piece.Setting.TheVariants.{Off, On}
 use Rattle.ngc_machine_files.specs.Machine.{file_of}
+use Rattle.ngc_program_report.specs.Coordinates.{history_of}
 use Rattle.ngc_program_report.specs.Texts.{ending, setting_refusals}
 use Rattle.ngc_text.proofs.Appended.{appends_both}
 use Rattle.ngc_program_report.proofs.WrittenLaws.{begins_first, begins_last, err_weaker, ok_weaker, on_err}
@@ -21,8 +22,10 @@ returns-clause-ok g c = ok_weaker c.write_ending.result _ _
 pub returns-clause-fault : goal.returns-clause-fault
 returns-clause-fault g c =
     let file = file_of c.args.machine.now in
-    let off = setting_refusals c.args.form true true Off file c.args.off.now c.args.off_indices.now in
-    let on = setting_refusals c.args.form false true On file c.args.on.now c.args.on_indices.now in
+    let off = setting_refusals c.args.form true true Off file c.args.off.now
+    (history_of c.args.off_history.now.start c.args.off_history.now.changes.items) c.args.off_indices.now in
+    let on = setting_refusals c.args.form false true On file c.args.on.now
+    (history_of c.args.on_history.now.start c.args.on_history.now.changes.items) c.args.on_indices.now in
     err_weaker c.write_ending.result _ _
     (λ wrote. begins_last _ _ _ off (on ++ ending c.args.form 304) c.in_ok-write_setting_refusals.ensures.ok
     (begins_last _ _ _ on (ending c.args.form 304) c.in_ok-write_setting_refusals-2.ensures.ok wrote))

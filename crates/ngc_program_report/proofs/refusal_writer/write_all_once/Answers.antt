@@ -1,6 +1,7 @@
 use Rattle.std.proofs.Common.{true, false}
 use Rattle.ngc_certificate_text.specs.declared.piece.Setting.TheVariants.{Off}
 use Rattle.ngc_machine_files.specs.Machine.{file_of}
+use Rattle.ngc_program_report.specs.Coordinates.{history_of}
 use Rattle.ngc_program_report.specs.Texts.{ending, setting_refusals}
 use Rattle.ngc_text.proofs.Appended.{appends_both}
 use Rattle.ngc_program_report.proofs.WrittenLaws.{begins_first, begins_last, err_weaker, ok_weaker, on_err}
@@ -15,6 +16,7 @@ returns-clause-ok g c =
 
 pub returns-clause-fault : goal.returns-clause-fault
 returns-clause-fault g c =
-    let told = setting_refusals c.args.form true false Off (file_of c.args.machine.now) c.args.commands.now c.args.indices.now in
+    let told = setting_refusals c.args.form true false Off (file_of c.args.machine.now) c.args.commands.now
+    (history_of c.args.history.now.start c.args.history.now.changes.items) c.args.indices.now in
     err_weaker c.write_ending.result _ _
     (λ wrote. begins_last _ _ _ told (ending c.args.form 304) c.in_ok-write_setting_refusals.ensures.ok wrote) c.write_ending.ensures.fault

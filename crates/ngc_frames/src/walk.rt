@@ -1,0 +1,212 @@
+//! The frames of lines in order, where each change is passed once.
+ghost use Rattle.std.specs.Prelude.{◌≡◌, ◌≤◌, ◌<◌, ◌+◌, ◌^◌, List, slice_index_or};
+ghost use Rattle.ngc_offsets.specs.Frames.{index};
+ghost use Rattle.ngc_fixed_length.specs.declared.modes.System.{System};
+ghost use Rattle.ngc_frames.specs.InForce.{frame_at, frame_in_force, line_that_set};
+ghost use Rattle.ngc_frames.specs.InForce.{set_by};
+ghost use Rattle.ngc_frames.specs.Walks.{WalksOver, here, set_line};
+ghost use Rattle.ngc_frames.specs.declared.change.FrameChange.{FrameChange};
+ghost use Rattle.ngc_frames.specs.declared.frame.FramePart.{FramePart};
+
+use crate::change::FrameChange;
+use crate::frame::{Frame, FramePart, index_of, is_same_part};
+use crate::history::FrameHistory;
+use crate::in_force::{FrameInForce, is_up_to};
+use ngc_fixed_length::System;
+use std::alloc::Allocator;
+
+/// The lines that set the parts of a frame last: 0 for a part that is as at the start.
+#[derive(Clone, Copy)]
+pub(crate) struct SetLines {
+    pub(crate) selection: u32,
+    pub(crate) origins: [u32; 9],
+    pub(crate) axis_offset: u32,
+    pub(crate) tool_length: u32,
+    pub(crate) unit: u32,
+}
+
+impl SetLines {
+    fn none() -> SetLines
+        ensures { (part : FramePart) → set_line result part ≡ 0 }
+    {
+        SetLines {
+            selection: 0,
+            origins: [0; 9],
+            axis_offset: 0,
+            tool_length: 0,
+            unit: 0,
+        }
+    }
+
+    fn of(&self, part: FramePart) -> u32
+        ensures { result ≡ set_line self.now part }
+    {
+        match part {
+            FramePart::Selection => self.selection,
+            FramePart::Origin(system) => self.origins[index_of(system)],
+            FramePart::AxisOffset => self.axis_offset,
+            FramePart::ToolLength => self.tool_length,
+            FramePart::Unit => self.unit,
+        }
+    }
+
+    fn line_after(&self, part: FramePart, frame: &Frame, change: &FrameChange) -> u32
+        ensures { result ≡ set_by part (set_line self.now part) frame.now change.now }
+    {
+        if is_same_part(part, frame, &change.frame) {
+            self.of(part)
+        } else {
+            change.line
+        }
+    }
+
+    fn origin_after(&self, system: System, frame: &Frame, change: &FrameChange) -> u32
+        ensures { result ≡ set_by (FramePart.Origin system)
+            (set_line self.now (FramePart.Origin system)) frame.now change.now }
+    {
+        self.line_after(FramePart::Origin(system), frame, change)
+    }
+
+    fn origins_after(&self, frame: &Frame, change: &FrameChange) -> [u32; 9]
+        ensures { (system : System) → slice_index_or result (index system) 0
+            ≡ set_by (FramePart.Origin system)
+            (set_line self.now (FramePart.Origin system)) frame.now change.now }
+    {
+        [
+            self.origin_after(System::First, frame, change),
+            self.origin_after(System::Second, frame, change),
+            self.origin_after(System::Third, frame, change),
+            self.origin_after(System::Fourth, frame, change),
+            self.origin_after(System::Fifth, frame, change),
+            self.origin_after(System::Sixth, frame, change),
+            self.origin_after(System::Seventh, frame, change),
+            self.origin_after(System::Eighth, frame, change),
+            self.origin_after(System::Ninth, frame, change),
+        ]
+    }
+
+    // Returns the lines that set the parts after a change of this frame.
+    fn after(&self, frame: &Frame, change: &FrameChange) -> SetLines
+        ensures { (part : FramePart) → set_line result part
+            ≡ set_by part (set_line self.now part) frame.now change.now }
+    {
+        SetLines {
+            selection: self.line_after(FramePart::Selection, frame, change),
+            origins: self.origins_after(frame, change),
+            axis_offset: self.line_after(FramePart::AxisOffset, frame, change),
+            tool_length: self.line_after(FramePart::ToolLength, frame, change),
+            unit: self.line_after(FramePart::Unit, frame, change),
+        }
+    }
+}
+
+/// A walk over the changes of a program's frames, from line to line. Along rising lines each change
+/// is passed once.
+#[derive(Clone, Copy)]
+pub struct FrameWalk {
+    pub(crate) passed: usize,
+    pub(crate) line: u32,
+    pub(crate) frame: Frame,
+    pub(crate) set: SetLines,
+}
+
+impl FrameWalk {
+    // Returns the walk at the start, in this frame.
+    fn fresh(frame: &Frame) -> FrameWalk
+        ensures line { result.line ≡ 0 }
+        ensures walks { (changes : List FrameChange) → WalksOver frame.now changes result }
+    {
+        FrameWalk {
+            passed: 0,
+            line: 0,
+            frame: *frame,
+            set: SetLines::none(),
+        }
+    }
+
+    /// Returns the walk at its start.
+    pub fn start<A: Allocator>(history: &FrameHistory<A>) -> FrameWalk
+        ensures { WalksOver history.now.start history.now.changes.items result }
+    {
+        FrameWalk::fresh(&history.start)
+    }
+
+    // Returns a walk that isn't past a line: this one, or one at the start.
+    fn before(&self, start: &Frame, changes: &[FrameChange], line: u32) -> FrameWalk
+        requires { WalksOver start.now changes.now self.now }
+        ensures walks { WalksOver start.now changes.now result }
+        ensures ahead { result.line ≤ line }
+    {
+        if line < self.line {
+            FrameWalk::fresh(start)
+        } else {
+            *self
+        }
+    }
+
+    // Returns the walk after the next change.
+    fn after(&self, change: &FrameChange) -> FrameWalk
+        requires { self.now.passed < 2 ^ 63 }
+        ensures passed { result.passed ≡ self.now.passed + 1 }
+        ensures line { result.line ≡ self.now.line }
+        ensures frame { result.frame ≡ change.now.frame }
+        ensures set { (part : FramePart) → set_line result.set part
+            ≡ set_by part (set_line self.now.set part) self.now.frame change.now }
+    {
+        FrameWalk {
+            passed: self.passed + 1,
+            line: self.line,
+            frame: change.frame,
+            set: self.set.after(&self.frame, change),
+        }
+    }
+
+    // Returns the walk after all changes of the lines up to this one.
+    fn up_to(&self, start: &Frame, changes: &[FrameChange], line: u32) -> FrameWalk
+        requires walks { WalksOver start.now changes.now self.now }
+        requires ahead { self.now.line ≤ line }
+        ensures walks { WalksOver start.now changes.now result }
+        ensures frame { result.frame ≡ frame_at start.now changes.now line }
+        ensures set { (part : FramePart) →
+            set_line result.set part ≡ line_that_set part line 0 start.now changes.now }
+    {
+        let mut walk = *self;
+        walk.line = line;
+        for change in &changes[self.passed..] {
+            if !is_up_to(change, line) {
+                return walk;
+            }
+            walk = walk.after(change);
+        }
+        walk
+    }
+
+    /// Returns the frame by which a line's motions are executed, with the lines that set its parts.
+    /// The function is fastest if the lines rise from call to call.
+    pub fn in_force<A: Allocator>(&mut self, history: &FrameHistory<A>, line: u32) -> FrameInForce
+        requires { WalksOver history.now.start history.now.changes.items self.old }
+        ensures frame { result ≡
+            frame_in_force history.now.start history.now.changes.items line }
+        ensures walks { WalksOver history.now.start history.now.changes.items self.new }
+    {
+        let changes = history.changes.as_slice();
+        let from = self.before(&history.start, changes, line);
+        *self = from.up_to(&history.start, changes, line);
+        self.here()
+    }
+
+    // Returns the frame at this place, with the lines that set its parts.
+    fn here(&self) -> FrameInForce
+        ensures { result ≡ here self.now }
+    {
+        let origin = FramePart::Origin(self.frame.frames.active);
+        FrameInForce {
+            frame: self.frame,
+            selection_line: self.set.selection,
+            origin_line: self.set.of(origin),
+            axis_offset_line: self.set.axis_offset,
+            tool_length_line: self.set.tool_length,
+            unit_line: self.set.unit,
+        }
+    }
+}
