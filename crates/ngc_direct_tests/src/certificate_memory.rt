@@ -8,7 +8,7 @@ use ngc_certificate::{join, make, uncleared};
 use ngc_certificate_text::{Certificate, CertificateFault, Setting};
 use ngc_checker::{CheckReader, check};
 use ngc_commands::{Action, Command, Motion, Pace, Way};
-use ngc_drawing::{Look, View, write_svg};
+use ngc_drawing::{Look, View, WorkOrigin, write_svg};
 use ngc_fixed_length::{Nm, Point3};
 use ngc_line_reader::Program;
 use ngc_machine_files::{Fixture, Machine, Name, Tools, built_in_machine};
@@ -187,7 +187,14 @@ fn number_of_drawing(rt: &impl Abort, alloc: Global, heap: &LocalHeap) -> Result
         whole: true,
         bodies: true,
     };
-    let result = write_svg(heap, &look, &machine, commands, motions, &None, &mut sink);
+    let work = WorkOrigin {
+        system: 0,
+        origin: machine.start,
+        axis_offset: machine.start,
+    };
+    let result = write_svg(
+        heap, &look, &machine, commands, motions, &None, &work, &mut sink,
+    );
     if let Err(fault) = result {
         same(rt, &"written", &sink.into_inner().len(), &0);
         return Ok(fault.number());

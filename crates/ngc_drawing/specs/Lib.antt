@@ -11,5 +11,6 @@ pub mod Sweeping
 pub mod Spelling
 pub mod Draws
 pub mod Sheets
+pub mod Labels
 pub mod Pictures
 pub mod Faults

@@ -1,8 +1,6 @@
 -- The picture of a program on its machine. Our own.
 use Rattle.std.specs.Prelude.{ℕ, ◌+◌, ◌*◌, ℤ, min, nat_le, pos, ◌*ℤ◌, unsigned_abs, List, [], ◌∷◌}
 use Rattle.std.specs.Prelude.{◌++◌, length, map, drop, take, Option, Some, None, if◌then◌else◌}
-use Rattle.std.specs.Prelude.{Bool, ◌&&◌}
-use Rattle.std.specs.Ordering.{int_eq}
 use Rattle.ngc_fixed_length.specs.Boxes.{only}
 use Rattle.ngc_fixed_length.specs.Grid.{grid}
 use Rattle.ngc_fixed_length.specs.declared.points.Point3.{Point3}
@@ -20,13 +18,16 @@ use Rattle.ngc_certificate_text.specs.Certificate.{Entry}
 use Rattle.ngc_collision.specs.Body.{bodies, span}
 use Rattle.ngc_drawing.specs.Bodies.{sweeps, swept_from}
 use Rattle.ngc_drawing.specs.Holes.{holes}
+use Rattle.ngc_drawing.specs.Labels.{is_moved, is_zero, labels, lines_at, work_place}
 use Rattle.ngc_drawing.specs.Sheets.{frame, is_in, is_within, unit_of, sheet, pane}
 use Rattle.ngc_drawing.specs.Spelling.{shapes_text}
 use Rattle.ngc_drawing.specs.Strokes.{stroke, strokes}
 use Rattle.ngc_drawing.specs.Tools.{used, number_of, name_of, eye_of}
 use Rattle.ngc_drawing.specs.Views.{spot, tip_spot, rectangle, block, micrometres}
 use Rattle.ngc_drawing.specs.declared.eye.Eye.{Eye}
+use Rattle.ngc_drawing.specs.declared.label.Placed.{Placed}
 use Rattle.ngc_drawing.specs.declared.look.Look.{Look}
+use Rattle.ngc_drawing.specs.declared.origin.WorkOrigin.{WorkOrigin}
 use Rattle.ngc_drawing.specs.declared.refusal.RefusedMotion.{RefusedMotion}
 use Rattle.ngc_drawing.specs.declared.shape.BoxKind.{BoxKind}
 use Rattle.ngc_drawing.specs.declared.shape.BoxKind.TheVariants as kinds
@@ -48,42 +49,38 @@ boxed Iso kind low high =
     ∷ shapes.PathEnd ∷ []
 boxed view kind low high = shapes.Outline kind (rectangle view low high) ∷ []
 
--- a fixture, and its label: its number and its name
-abbrev pub fixture : View → ℕ → Fixture → List Shape
-fixture view i f =
+-- a fixture, and its label, moved down by this number of lines: its number and its name
+abbrev pub fixture : View → ℕ → ℕ → Fixture → List Shape
+fixture view lines i f =
     boxed view kinds.Fixture f.low f.high
-    ++ (shapes.FixtureNumber (spot view f.low) i ∷ shapes.Name f.name ∷ shapes.LabelEnd ∷ [])
+    ++ (shapes.FixtureNumber (spot view f.low) i lines ∷ shapes.Name f.name ∷ shapes.LabelEnd ∷ [])
 
-abbrev pub fixtures_from : View → ℕ → List Fixture → List Shape
-fixtures_from view i [] = []
-fixtures_from view i (f ∷ fs) = fixture view i f ++ fixtures_from view (i + 1) fs
+abbrev pub fixtures_from : View → List Placed → ℕ → List Fixture → List Shape
+fixtures_from view labels i [] = []
+fixtures_from view labels i (f ∷ fs) =
+    fixture view (lines_at labels i) i f ++ fixtures_from view labels (i + 1) fs
 
 -- a mark at a spot that the picture shows
 abbrev pub marked_in : Rectangle → Mark → Spot → List Shape
 marked_in area mark p = if is_in area p then shapes.Mark mark p ∷ [] else []
 
 -- the machine's start, its homes, and the names of the axes
-abbrev pub places : View → MachineFile → Rectangle → List Shape
-places view machine area =
-    marked_in area marks.Start (spot view machine.start)
-    ++ marked_in area marks.Home (spot view machine.home28)
-    ++ marked_in area marks.SecondHome (spot view machine.home30)
+abbrev pub places : View → MachineFile → Rectangle → List Placed → List Shape
+places view machine area labels =
+    marked_in area (marks.Start (lines_at labels 1)) (spot view machine.start)
+    ++ marked_in area (marks.Home (lines_at labels 2)) (spot view machine.home28)
+    ++ marked_in area (marks.SecondHome (lines_at labels 3)) (spot view machine.home30)
     ++ shapes.Mark (marks.Axes view) area.low ∷ []
 
-abbrev pub is_zero : Point3 → Bool
-is_zero p = int_eq p.x (pos 0) && (int_eq p.y (pos 0) && int_eq p.z (pos 0))
+-- the origin of the work, with the code of its coordinate system, unless it is the machine's zero
+abbrev pub origin : View → Rectangle → List Placed → WorkOrigin → List Shape
+origin view area labels w =
+    if is_zero (work_place w) then []
+    else marked_in area (marks.Origin w.system (is_moved w) (lines_at labels 0)) (spot view (work_place w))
 
--- the origin of the coordinate system with this number, from 0, unless it is that of the machine
-abbrev pub origin : View → Rectangle → ℕ → Point3 → List Shape
-origin view area i p = if is_zero p then [] else marked_in area (marks.Origin i) (spot view p)
-
-abbrev pub origins_from : View → Rectangle → ℕ → List Point3 → List Shape
-origins_from view area i [] = []
-origins_from view area i (p ∷ ps) = origin view area i p ++ origins_from view area (i + 1) ps
-
-abbrev pub marked : View → MachineFile → Rectangle → List Shape
-marked view machine area =
-    places view machine area ++ origins_from view area 0 machine.origins
+abbrev pub marked : View → MachineFile → Rectangle → List Placed → WorkOrigin → List Shape
+marked view machine area labels w =
+    places view machine area labels ++ origin view area labels w
 
 -- lengths that a scale has, in micrometres: 1, 2 and 5 followed by zeros
 abbrev pub SCALES : List ℕ
@@ -202,11 +199,14 @@ scaled view area =
     shapes.ScaleLength area.low (scale_in (25 * unsigned_abs (unit_of area)) SCALES)
     ∷ shapes.ScaleNote view area.low ∷ shapes.Legend area.low ∷ []
 
--- travel, fixtures, and the bodies of tools over these boxes
-abbrev pub ground : View → MachineFile → Rectangle → List (Option Tool) → List Sweep → List Shape
-ground view machine area tools swept =
+-- travel, fixtures, whose labels follow the four of the marks, and the bodies of tools over these
+-- boxes
+abbrev pub ground : View → MachineFile → Rectangle → List (Option Tool) → List Sweep →
+    List Placed → List Shape
+ground view machine area tools swept labels =
     opening view machine area tools
-    ++ (fixtures_from view 0 machine.fixtures ++ swept_from view machine.step tools None swept)
+    ++ (fixtures_from view (drop 4 labels) 0 machine.fixtures
+    ++ swept_from view machine.step tools None swept)
 
 -- the path and the holes that are drilled
 abbrev pub path : View → List (Option Tool) → List Command → List Shape
@@ -214,27 +214,35 @@ path view tools commands = strokes view tools commands ++ holes view commands
 
 -- these, the path, the marks, the refusal, the scale and the legend
 abbrev pub picture_of : View → MachineFile → List Command → Option RefusedMotion → Rectangle →
-    List (Option Tool) → List Sweep → List Shape
-picture_of view machine commands refusal area tools swept =
-    ground view machine area tools swept ++ (path view tools commands ++
-    (marked view machine area
+    List (Option Tool) → List Sweep → List Placed → WorkOrigin → List Shape
+picture_of view machine commands refusal area tools swept labels w =
+    ground view machine area tools swept labels ++ (path view tools commands ++
+    (marked view machine area labels w
     ++ (refused view machine commands refusal ++ (scaled view area ++ (tool_rows 0 tools ++
     (refusal_row refusal ++ shapes.End ∷ []))))))
 
+-- in an area, with the labels that it has there
+abbrev pub text_in : View → MachineFile → List Command → Option RefusedMotion → Rectangle →
+    List (Option Tool) → List Sweep → WorkOrigin → List ℕ
+text_in view machine commands refusal area tools swept w =
+    shapes_text (unit_of area) (picture_of view machine commands refusal area tools swept
+    (labels (unit_of area) view area machine w) w)
+
 -- on the sheet that commands need
 abbrev pub text_of : Look → MachineFile → List Command → Option RefusedMotion → List (Option Tool) →
-    List Sweep → List ℕ
-text_of look machine commands refusal tools swept =
-    shapes_text (unit_of (frame look machine commands))
-    (picture_of look.view machine commands refusal (frame look machine commands) tools swept)
+    List Sweep → WorkOrigin → List ℕ
+text_of look machine commands refusal tools swept w =
+    text_in look.view machine commands refusal (frame look machine commands) tools swept w
 
 -- the bodies over the boxes of a certificate's motions, if they are to be drawn
 abbrev pub shown_sweeps : Look → List (Option Tool) → List Command → List Entry → List Sweep
 shown_sweeps look tools commands entries =
     if look.bodies then sweeps look.view tools commands entries else []
 
--- the text of the picture of commands with the motions of a certificate, or with none
-abbrev pub picture_text : Look → MachineFile → List Command → List Entry → Option RefusedMotion → List ℕ
-picture_text look machine commands entries refusal =
+-- The text of the picture of commands with the motions of a certificate, or with none, and with
+-- this work origin.
+abbrev pub picture_text : Look → MachineFile → List Command → List Entry → Option RefusedMotion →
+    WorkOrigin → List ℕ
+picture_text look machine commands entries refusal w =
     text_of look machine commands refusal (used commands)
-    (shown_sweeps look (used commands) commands entries)
+    (shown_sweeps look (used commands) commands entries) w

@@ -1,5 +1,5 @@
 -- The text of shapes: SVG 1.1, in millimetres. Our own use of it.
-use Rattle.std.specs.Prelude.{ℕ, ◌+◌, ◌-◌, nat_lt, ◌/◌, ◌%◌, ◌==◌, ℤ, pos, ◌-ℤ◌, ◌*ℤ◌, unsigned_abs, List, []}
+use Rattle.std.specs.Prelude.{ℕ, ◌+◌, ◌-◌, ◌*◌, nat_lt, ◌/◌, ◌%◌, ◌==◌, ℤ, pos, ◌-ℤ◌, ◌*ℤ◌, unsigned_abs, List, []}
 use Rattle.std.specs.Prelude.{◌∷◌, ◌++◌, flat_map, codes, decimal, Bool, true, false, if◌then◌else◌}
 use Rattle.std.specs.Prelude.{length}
 use Rattle.ngc_text.specs.Millimetres.{sign_text}
@@ -115,16 +115,42 @@ abbrev pub system_text : ℕ → List ℕ
 system_text i =
     if nat_lt i 6 then codes "G" ++ decimal (54 + i) else codes "G59." ++ decimal (i - 5)
 
+-- by how many lines, of two units each, a label is moved down
+unfoldable pub lines_text : ℕ → List ℕ
+lines_text lines = if lines == 0 then [] else codes " dy=\"" ++ decimal (2 * lines) ++ codes "\""
+
+abbrev pub start_text : ℕ → List ℕ
+start_text lines =
+    codes "<circle r=\".8\"/><text x=\"1\" y=\"-1\"" ++ lines_text lines
+    ++ codes " fill=\"#808080\" stroke=\"none\">start</text>"
+
+abbrev pub home_text : ℕ → List ℕ
+home_text lines =
+    codes "<path d=\"M-1 -1L1 1M-1 1L1 -1\"/><text x=\"1\" y=\"2.4\"" ++ lines_text lines
+    ++ codes " fill=\"#808080\" stroke=\"none\">G28</text>"
+
+abbrev pub second_home_text : ℕ → List ℕ
+second_home_text lines =
+    codes "<path d=\"M-1 0L0 -1L1 0L0 1Z\"/><text x=\"-1\" y=\"2.4\"" ++ lines_text lines
+    ++ codes " text-anchor=\"end\" fill=\"#808080\" stroke=\"none\">G30</text>"
+
+unfoldable pub moved_text : Bool → List ℕ
+moved_text true = codes " G92"
+moved_text false = []
+
+-- the code of its coordinate system, and G92 after it where an axis offset is in force
+abbrev pub origin_text : ℕ → Bool → ℕ → List ℕ
+origin_text system is_moved lines =
+    codes "<path d=\"M0 -3V0H3M-.5 -2L0 -3L.5 -2M2 -.5L3 0L2 .5\"/><text x=\"-.6\" y=\"2\"" ++
+    lines_text lines
+    ++ codes " text-anchor=\"end\" fill=\"#808080\" stroke=\"none\">" ++ system_text system
+    ++ moved_text is_moved ++ codes "</text>"
+
 unfoldable pub mark_text : Mark → List ℕ
-mark_text marks.Start =
-    codes "<circle r=\".8\"/><text x=\"1\" y=\"-1\" fill=\"#808080\" stroke=\"none\">start</text>"
-mark_text marks.Home =
-    codes "<path d=\"M-1 -1L1 1M-1 1L1 -1\"/><text x=\"1\" y=\"2.4\" fill=\"#808080\" stroke=\"none\">G28</text>"
-mark_text marks.SecondHome =
-    codes "<path d=\"M-1 0L0 -1L1 0L0 1Z\"/><text x=\"-1\" y=\"2.4\" text-anchor=\"end\" fill=\"#808080\" stroke=\"none\">G30</text>"
-mark_text (marks.Origin i) =
-    codes "<path d=\"M0 -3V0H3M-.5 -2L0 -3L.5 -2M2 -.5L3 0L2 .5\"/><text x=\"-.6\" y=\"2\" text-anchor=\"end\" fill=\"#808080\" stroke=\"none\">" ++
-    system_text i ++ codes "</text>"
+mark_text (marks.Start lines) = start_text lines
+mark_text (marks.Home lines) = home_text lines
+mark_text (marks.SecondHome lines) = second_home_text lines
+mark_text (marks.Origin system is_moved lines) = origin_text system is_moved lines
 mark_text marks.Hole = codes "<circle r=\".6\"/><path d=\"M-1 0H1M0 -1V1\"/>"
 mark_text (marks.Axes view) = arrows_text view ++ axes_text view ++ codes "</text>"
 
@@ -188,9 +214,10 @@ shape_text unit (shapes.FaultBlock b) =
     kind_text kinds.FaultTool ++ silhouette_text b ++ codes "\"/>\n"
 shape_text unit (shapes.Window pane) = window_text pane
 shape_text unit shapes.WindowEnd = codes "</svg>\n"
-shape_text unit (shapes.FixtureNumber at number) =
+shape_text unit (shapes.FixtureNumber at number lines) =
     sign_begin unit at
-    ++ (codes "<text x=\".5\" y=\"-.5\" fill=\"#808080\" stroke=\"none\">" ++ decimal number)
+    ++ (codes "<text x=\".5\" y=\"-.5\"" ++ lines_text lines
+    ++ codes " fill=\"#808080\" stroke=\"none\">" ++ decimal number)
 shape_text unit (shapes.Name name) = name_text name
 shape_text unit shapes.LabelEnd = codes "</text></g>\n"
 shape_text unit shapes.Bodies = codes "<g stroke=\"none\" opacity=\".2\">\n"

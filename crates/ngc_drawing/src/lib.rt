@@ -7,7 +7,9 @@ mod eye;
 mod fault;
 mod helix;
 mod holes;
+mod label;
 mod look;
+mod origin;
 mod outline;
 mod pen;
 mod picture;
@@ -23,6 +25,7 @@ mod view;
 
 pub use fault::DrawFault;
 pub use look::Look;
+pub use origin::WorkOrigin;
 pub use picture::write_svg;
 pub use refusal::RefusedMotion;
 pub use shape::{BoxKind, Ink, Mark, Shape, Sheet};

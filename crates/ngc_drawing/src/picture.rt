@@ -13,12 +13,12 @@ ghost use Rattle.ngc_drawing.specs.Holes.{holes};
 ghost use Rattle.ngc_drawing.specs.Tools.{used, eye_of};
 ghost use Rattle.ngc_drawing.specs.Pictures.{fixture, fixtures_from, marked_in, marked, SCALES};
 ghost use Rattle.ngc_drawing.specs.Pictures.{scale_in, boxed, travel_in, shown_sweeps, places};
-ghost use Rattle.ngc_drawing.specs.Pictures.{is_zero};
-ghost use Rattle.ngc_drawing.specs.Pictures.{origin, origins_from, picture_text};
+ghost use Rattle.ngc_drawing.specs.Pictures.{origin, picture_text};
+ghost use Rattle.ngc_drawing.specs.Spelling.{shapes_text};
 ghost use Rattle.ngc_drawing.specs.Pictures.{part, parts, tool_row, tool_rows, first_red};
 ghost use Rattle.ngc_drawing.specs.Pictures.{refused_fixture, refused_way, refused_action};
 ghost use Rattle.ngc_drawing.specs.Pictures.{first_refused, refused, refusal_row, rows, opening};
-ghost use Rattle.ngc_drawing.specs.Pictures.{refused_by, path, scaled, ground, picture_of, text_of};
+ghost use Rattle.ngc_drawing.specs.Pictures.{refused_by, path, scaled, ground, picture_of};
 ghost use Rattle.ngc_drawing.specs.Strokes.{strokes_from, strokes, last_end};
 
 use crate::bodies::draw_swept;
@@ -26,7 +26,9 @@ use crate::drawer::draw_all;
 use crate::eye::Eye;
 use crate::fault::DrawFault;
 use crate::holes::draw_holes;
+use crate::label::{Placed, labels, lines_at};
 use crate::look::Look;
+use crate::origin::WorkOrigin;
 use crate::outline::{add_outline_at, tool_before};
 use crate::pen::{Pen, Run};
 use crate::refusal::RefusedMotion;
@@ -88,13 +90,13 @@ fn add_box(shapes: &mut ArrayVec<Shape, 8>, view: View, kind: BoxKind, low: &Poi
     }
 }
 
-/// Returns the shapes of a fixture and its label.
-fn fixture(view: View, number: usize, one: &Fixture) -> ArrayVec<Shape, 8>
-    ensures { result.items ≡ fixture view number one.now }
+/// Returns the shapes of a fixture and its label, which is moved down by `lines` lines.
+fn fixture(view: View, lines: usize, number: usize, one: &Fixture) -> ArrayVec<Shape, 8>
+    ensures { result.items ≡ fixture view lines number one.now }
 {
     let mut shapes = ArrayVec::new();
     add_box(&mut shapes, view, BoxKind::Fixture, &one.low, &one.high);
-    shapes.push(Shape::FixtureNumber(view.spot(&one.low), number));
+    shapes.push(Shape::FixtureNumber(view.spot(&one.low), number, lines));
     shapes.push(Shape::Name(one.name));
     shapes.push(Shape::LabelEnd);
     shapes
@@ -104,15 +106,17 @@ fn draw_fixtures<W: Sink>(
     chunk: &mut Chunk,
     unit: &Unit,
     view: View,
+    labels: &[Placed],
     fixtures: &[Fixture],
     sink: &mut W,
 ) -> Result<(), WriteFault>
     ensures drawn { Draws unit.now.micrometres (W.written sink.old)
-        (W.written sink.new) chunk.old chunk.new result (fixtures_from view 0 fixtures.now) }
+        (W.written sink.new) chunk.old chunk.new result
+        (fixtures_from view labels.now 0 fixtures.now) }
     ensures counts { CountsFailure (W.failures sink.old) (W.failures sink.new) result }
 {
     for (i, one) in fixtures.iter().enumerate() {
-        let shapes = fixture(view, i, one);
+        let shapes = fixture(view, lines_at(labels, i), i, one);
         match draw_all(chunk, unit, shapes.as_slice(), sink) {
             Ok(()) => {}
             Err(fault) => return Err(fault),
@@ -485,60 +489,34 @@ fn mark_in(shapes: &mut ArrayVec<Shape, 8>, area: &Rectangle, mark: Mark, spot: 
     }
 }
 
-fn places<A: Allocator>(view: View, machine: &Machine<A>, area: &Rectangle) -> ArrayVec<Shape, 8>
-    ensures { result.items ≡ places view (file_of machine.now) area.now }
+fn places<A: Allocator>(
+    view: View,
+    machine: &Machine<A>,
+    area: &Rectangle,
+    labels: &[Placed],
+) -> ArrayVec<Shape, 8>
+    ensures { result.items ≡ places view (file_of machine.now) area.now labels.now }
 {
     let mut shapes = ArrayVec::new();
-    mark_in(&mut shapes, area, Mark::Start, &view.spot(&machine.start));
-    mark_in(&mut shapes, area, Mark::Home, &view.spot(&machine.home28));
-    mark_in(
-        &mut shapes,
-        area,
-        Mark::SecondHome,
-        &view.spot(&machine.home30),
-    );
+    let start = Mark::Start(lines_at(labels, 1));
+    mark_in(&mut shapes, area, start, &view.spot(&machine.start));
+    let home = Mark::Home(lines_at(labels, 2));
+    mark_in(&mut shapes, area, home, &view.spot(&machine.home28));
+    let second_home = Mark::SecondHome(lines_at(labels, 3));
+    mark_in(&mut shapes, area, second_home, &view.spot(&machine.home30));
     shapes.push(Shape::Mark(Mark::Axes(view), area.low));
     shapes
 }
 
-fn is_zero(point: &Point3) -> bool
-    ensures { result ≡ is_zero point.now }
-{
-    point.x.nanometres() == 0 && point.y.nanometres() == 0 && point.z.nanometres() == 0
-}
-
-fn origin(view: View, area: &Rectangle, system: usize, place: &Point3) -> ArrayVec<Shape, 8>
-    ensures { result.items ≡ origin view area.now system place.now }
+fn origin(view: View, area: &Rectangle, labels: &[Placed], work: &WorkOrigin) -> ArrayVec<Shape, 8>
+    ensures { result.items ≡ origin view area.now labels.now work.now }
 {
     let mut shapes = ArrayVec::new();
-    if !is_zero(place) {
-        mark_in(&mut shapes, area, Mark::Origin(system), &view.spot(place));
+    if !work.is_at_zero() {
+        let mark = Mark::Origin(work.system, work.is_moved(), lines_at(labels, 0));
+        mark_in(&mut shapes, area, mark, &view.sees(&work.place()));
     }
     shapes
-}
-
-// Draws the origins of the coordinate systems that are set in the machine file.
-fn draw_origins<W: Sink>(
-    chunk: &mut Chunk,
-    unit: &Unit,
-    view: View,
-    area: &Rectangle,
-    origins: &[Point3],
-    sink: &mut W,
-) -> Result<(), WriteFault>
-    ensures drawn { Draws unit.now.micrometres (W.written sink.old)
-        (W.written sink.new) chunk.old chunk.new result
-        (origins_from view area.now 0 origins.now) }
-    ensures counts { CountsFailure (W.failures sink.old) (W.failures sink.new) result }
-{
-    for (i, place) in origins.iter().enumerate() {
-        let shapes = origin(view, area, i, place);
-        match draw_all(chunk, unit, shapes.as_slice(), sink) {
-            Ok(()) => {}
-            Err(fault) => return Err(fault),
-        }
-    }
-    Ok(())
 }
 
 fn draw_marks<A: Allocator, W: Sink>(
@@ -547,19 +525,22 @@ fn draw_marks<A: Allocator, W: Sink>(
     view: View,
     machine: &Machine<A>,
     area: &Rectangle,
+    labels: &[Placed],
+    work: &WorkOrigin,
     sink: &mut W,
 ) -> Result<(), WriteFault>
     ensures drawn { Draws unit.now.micrometres (W.written sink.old)
         (W.written sink.new) chunk.old chunk.new result
-        (marked view (file_of machine.now) area.now) }
+        (marked view (file_of machine.now) area.now labels.now work.now) }
     ensures counts { CountsFailure (W.failures sink.old) (W.failures sink.new) result }
 {
-    let shapes = places(view, machine, area);
+    let shapes = places(view, machine, area, labels);
     match draw_all(chunk, unit, shapes.as_slice(), sink) {
         Ok(()) => {}
         Err(fault) => return Err(fault),
     }
-    draw_origins(chunk, unit, view, area, &machine.origins, sink)
+    let last = origin(view, area, labels, work);
+    draw_all(chunk, unit, last.as_slice(), sink)
 }
 
 fn draw_scale<W: Sink>(
@@ -612,6 +593,13 @@ fn draw_legend<W: Sink>(
     draw_all(chunk, &unit, last.as_slice(), sink)
 }
 
+// Returns the labels of the fixtures, which follow the four of the marks.
+fn after_marks(labels: &[Placed]) -> &[Placed]
+    ensures { result.now ≡ drop 4 labels.now }
+{
+    &labels[labels.len().min(4)..]
+}
+
 fn draw_ground<A: Allocator, W: Sink>(
     chunk: &mut Chunk,
     view: View,
@@ -619,11 +607,12 @@ fn draw_ground<A: Allocator, W: Sink>(
     area: &Rectangle,
     tools: &[Option<Tool>],
     swept: &[Sweep],
+    labels: &[Placed],
     sink: &mut W,
 ) -> Result<(), WriteFault>
     ensures drawn { Draws (unit_of area.now) (W.written sink.old)
         (W.written sink.new) chunk.old chunk.new result
-        (ground view (file_of machine.now) area.now tools.now swept.now) }
+        (ground view (file_of machine.now) area.now tools.now swept.now labels.now) }
     ensures counts { CountsFailure (W.failures sink.old) (W.failures sink.new) result }
 {
     match draw_opening(chunk, view, machine, area, tools, sink) {
@@ -631,7 +620,8 @@ fn draw_ground<A: Allocator, W: Sink>(
         Err(fault) => return Err(fault),
     }
     let unit = unit_of(area);
-    match draw_fixtures(chunk, &unit, view, machine.fixtures.as_slice(), sink) {
+    let fixtures = machine.fixtures.as_slice();
+    match draw_fixtures(chunk, &unit, view, after_marks(labels), fixtures, sink) {
         Ok(()) => {}
         Err(fault) => return Err(fault),
     }
@@ -647,15 +637,17 @@ fn draw_picture<A: Allocator, W: Sink>(
     area: &Rectangle,
     tools: &[Option<Tool>],
     swept: &[Sweep],
+    labels: &[Placed],
+    work: &WorkOrigin,
     sink: &mut W,
 ) -> Result<(), WriteFault>
     ensures drawn { Draws (unit_of area.now) (W.written sink.old)
         (W.written sink.new) chunk.old chunk.new result
         (picture_of view (file_of machine.now) commands.now refusal.now area.now tools.now
-        swept.now) }
+        swept.now labels.now work.now) }
     ensures counts { CountsFailure (W.failures sink.old) (W.failures sink.new) result }
 {
-    match draw_ground(chunk, view, machine, area, tools, swept, sink) {
+    match draw_ground(chunk, view, machine, area, tools, swept, labels, sink) {
         Ok(()) => {}
         Err(fault) => return Err(fault),
     }
@@ -664,7 +656,7 @@ fn draw_picture<A: Allocator, W: Sink>(
         Ok(()) => {}
         Err(fault) => return Err(fault),
     }
-    match draw_marks(chunk, &unit, view, machine, area, sink) {
+    match draw_marks(chunk, &unit, view, machine, area, labels, work, sink) {
         Ok(()) => {}
         Err(fault) => return Err(fault),
     }
@@ -676,26 +668,30 @@ fn draw_picture<A: Allocator, W: Sink>(
 }
 
 fn write_picture<A: Allocator, W: Sink>(
-    look: &Look,
+    view: View,
     machine: &Machine<A>,
     commands: &[Command],
     refusal: &Option<RefusedMotion>,
+    area: &Rectangle,
     tools: &[Option<Tool>],
     swept: &[Sweep],
+    labels: &[Placed],
+    work: &WorkOrigin,
     sink: &mut W,
 ) -> Result<(), WriteFault>
     ensures ok { OnOk result
         (Appends (W.written sink.old) (W.written sink.new)
-        (text_of look.now (file_of machine.now) commands.now refusal.now tools.now swept.now)) }
+        (shapes_text (unit_of area.now) (picture_of view (file_of machine.now) commands.now
+        refusal.now area.now tools.now swept.now labels.now work.now))) }
     ensures fault { OnErr result
         (AppendsBeginning (W.written sink.old) (W.written sink.new)
-        (text_of look.now (file_of machine.now) commands.now refusal.now tools.now swept.now)) }
+        (shapes_text (unit_of area.now) (picture_of view (file_of machine.now) commands.now
+        refusal.now area.now tools.now swept.now labels.now work.now))) }
     ensures counts { CountsFailure (W.failures sink.old) (W.failures sink.new) result }
 {
-    let area = frame(look, machine, commands);
     let mut chunk = Chunk::new();
     match draw_picture(
-        &mut chunk, look.view, machine, commands, refusal, &area, tools, swept, sink,
+        &mut chunk, view, machine, commands, refusal, area, tools, swept, labels, work, sink,
     ) {
         Ok(()) => chunk.write_out(sink),
         Err(fault) => Err(fault),
@@ -722,9 +718,10 @@ fn shown_sweeps<A: Allocator, B: Allocator>(
 
 /// Writes the picture of a program on a machine, as SVG 1.1 in millimetres, seen from one side:
 /// travel, fixtures, if `look` says so the bodies of the tools over the boxes of a certificate's
-/// motions, home and start, the path of the mounted tool's tip, the refusal in red, a scale and a
-/// legend. The picture has the whole travel, or, where the travel is more than three times as wide
-/// or as high as the fixtures and the path, these alone.
+/// motions, home and start, the work origin, the path of the mounted tool's tip, the refusal in
+/// red, a scale and a legend. The picture has the whole travel, or, where the travel is more than
+/// three times as wide or as high as the fixtures and the path, these alone. Labels of marks and
+/// fixtures are moved down where they would overlap.
 ///
 /// After a fault (900 for refused memory, when nothing is written; 902, and only where the sink
 /// failed) a prefix of the text is written.
@@ -735,14 +732,17 @@ pub fn write_svg<A: Allocator + Copy, B: Allocator, W: Sink>(
     commands: &[Command],
     motions: &Motions<B>,
     refusal: &Option<RefusedMotion>,
+    work: &WorkOrigin,
     sink: &mut W,
 ) -> Result<(), DrawFault>
     ensures ok { OnOk result
         (Appends (W.written sink.old) (W.written sink.new)
-        (picture_text look.now (file_of machine.now) commands.now motions.now refusal.now)) }
+        (picture_text look.now (file_of machine.now) commands.now motions.now refusal.now
+        work.now)) }
     ensures fault { OnErr result
         (AppendsBeginning (W.written sink.old) (W.written sink.new)
-        (picture_text look.now (file_of machine.now) commands.now motions.now refusal.now)) }
+        (picture_text look.now (file_of machine.now) commands.now motions.now refusal.now
+        work.now)) }
     ensures memory { result ≡ Err DrawFault.Memory →
         Keeps (W.written sink.old) (W.written sink.new) }
     ensures counts { CountsUnlessMemory (W.failures sink.old) (W.failures sink.new) result }
@@ -753,13 +753,21 @@ pub fn write_svg<A: Allocator + Copy, B: Allocator, W: Sink>(
     let Ok(swept) = shown_sweeps(alloc, look, tools.as_slice(), commands, motions) else {
         return Err(DrawFault::Memory);
     };
+    let area = frame(look, machine, commands);
+    let unit = unit_of(&area);
+    let Ok(labels) = labels(alloc, &unit, look.view, &area, machine, work) else {
+        return Err(DrawFault::Memory);
+    };
     match write_picture(
-        look,
+        look.view,
         machine,
         commands,
         refusal,
+        &area,
         tools.as_slice(),
         swept.as_slice(),
+        labels.as_slice(),
+        work,
         sink,
     ) {
         Ok(()) => Ok(()),

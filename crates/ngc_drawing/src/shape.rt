@@ -11,17 +11,18 @@ pub enum Ink {
     Fault,
 }
 
-/// A mark beside the path.
+/// A mark beside the path. Each with a label has by how many lines the label is moved down.
 #[derive(Clone, Copy)]
 pub enum Mark {
     /// The position of the axes when the machine is started.
-    Start,
+    Start(usize),
     /// The home position of G28.
-    Home,
+    Home(usize),
     /// The home position of G30.
-    SecondHome,
-    /// The origin of a coordinate system, by its number from 0: G54, G55 and so on.
-    Origin(usize),
+    SecondHome(usize),
+    /// The work origin: its coordinate system by the number from 0, as G54, and whether an axis
+    /// offset is in force.
+    Origin(usize, bool, usize),
     /// A drilled hole, at its bottom.
     Hole,
     /// The names of the axes.
@@ -83,8 +84,9 @@ pub enum Shape {
     /// A part of the sheet, outside of which nothing that follows is visible.
     Window(Pane),
     WindowEnd,
-    /// The number of a fixture, which begins its label.
-    FixtureNumber(Spot, usize),
+    /// The number of a fixture, which begins its label, and by how many lines the label is moved
+    /// down.
+    FixtureNumber(Spot, usize, usize),
     /// The name of a fixture or a tool, after its number.
     Name(Name),
     /// The end of a fixture's label.

@@ -10,7 +10,8 @@ ghost use Rattle.ngc_drawing.specs.Spelling.{axes_text, mark_text, turn_text, be
 ghost use Rattle.ngc_drawing.specs.Spelling.{system_text, window_text, scale_text, tool_text, shape_text};
 ghost use Rattle.ngc_drawing.specs.Spelling.{escaped, name_text, kind_text};
 ghost use Rattle.ngc_drawing.specs.Spelling.{silhouette_text, near_edges_text};
-ghost use Rattle.ngc_drawing.specs.Spelling.{arrows_text, scale_note_text};
+ghost use Rattle.ngc_drawing.specs.Spelling.{arrows_text, scale_note_text, lines_text, moved_text};
+ghost use Rattle.ngc_drawing.specs.Spelling.{start_text, home_text, second_home_text, origin_text};
 
 use crate::shape::{BoxKind, Ink, Mark, Pane, Shape, Sheet};
 use crate::spot::{Block, Rectangle, Spot};
@@ -264,6 +265,73 @@ fn add_system(chunk: &mut Chunk, system: usize)
     }
 }
 
+/// Adds by how many lines, of two units each, a label is moved down.
+#[tactic(auto, unfolding(crate::specs::Spelling::lines_text))]
+fn add_lines(chunk: &mut Chunk, lines: usize)
+    requires { length chunk.old + 50 ≤ CHUNK_SIZE }
+    ensures text { chunk.new ≡ chunk.old ++ lines_text lines }
+    ensures short { length chunk.new ≤ length chunk.old + 50 }
+{
+    if lines != 0 {
+        chunk.add_text(b" dy=\"");
+        chunk.add_number(2 * lines as u128);
+        chunk.add_text(b"\"");
+    }
+}
+
+#[tactic(auto, unfolding(crate::specs::Spelling::moved_text))]
+fn moved(is_moved: bool) -> &'static [u8]
+    ensures text { result.now ≡ moved_text is_moved }
+    ensures short { length result.now ≤ 4 }
+{
+    if is_moved { b" G92" } else { b"" }
+}
+
+fn add_start(chunk: &mut Chunk, lines: usize)
+    requires { length chunk.old + 150 ≤ CHUNK_SIZE }
+    ensures text { chunk.new ≡ chunk.old ++ start_text lines }
+    ensures short { length chunk.new ≤ length chunk.old + 150 }
+{
+    chunk.add_text(b"<circle r=\".8\"/><text x=\"1\" y=\"-1\"");
+    add_lines(chunk, lines);
+    chunk.add_text(b" fill=\"#808080\" stroke=\"none\">start</text>");
+}
+
+fn add_home(chunk: &mut Chunk, lines: usize)
+    requires { length chunk.old + 180 ≤ CHUNK_SIZE }
+    ensures text { chunk.new ≡ chunk.old ++ home_text lines }
+    ensures short { length chunk.new ≤ length chunk.old + 180 }
+{
+    chunk.add_text(b"<path d=\"M-1 -1L1 1M-1 1L1 -1\"/><text x=\"1\" y=\"2.4\"");
+    add_lines(chunk, lines);
+    chunk.add_text(b" fill=\"#808080\" stroke=\"none\">G28</text>");
+}
+
+fn add_second_home(chunk: &mut Chunk, lines: usize)
+    requires { length chunk.old + 180 ≤ CHUNK_SIZE }
+    ensures text { chunk.new ≡ chunk.old ++ second_home_text lines }
+    ensures short { length chunk.new ≤ length chunk.old + 180 }
+{
+    chunk.add_text(b"<path d=\"M-1 0L0 -1L1 0L0 1Z\"/><text x=\"-1\" y=\"2.4\"");
+    add_lines(chunk, lines);
+    chunk.add_text(b" text-anchor=\"end\" fill=\"#808080\" stroke=\"none\">G30</text>");
+}
+
+fn add_origin(chunk: &mut Chunk, system: usize, is_moved: bool, lines: usize)
+    requires { length chunk.old + 300 ≤ CHUNK_SIZE }
+    ensures text { chunk.new ≡ chunk.old ++ origin_text system is_moved lines }
+    ensures short { length chunk.new ≤ length chunk.old + 300 }
+{
+    chunk.add_text(
+        b"<path d=\"M0 -3V0H3M-.5 -2L0 -3L.5 -2M2 -.5L3 0L2 .5\"/><text x=\"-.6\" y=\"2\"",
+    );
+    add_lines(chunk, lines);
+    chunk.add_text(b" text-anchor=\"end\" fill=\"#808080\" stroke=\"none\">");
+    add_system(chunk, system);
+    chunk.add_text(moved(is_moved));
+    chunk.add_text(b"</text>");
+}
+
 #[tactic(auto, unfolding(crate::specs::Spelling::mark_text))]
 fn add_mark(chunk: &mut Chunk, mark: &Mark)
     requires { length chunk.old + 300 ≤ CHUNK_SIZE }
@@ -271,22 +339,10 @@ fn add_mark(chunk: &mut Chunk, mark: &Mark)
     ensures short { length chunk.new ≤ length chunk.old + 300 }
 {
     match mark {
-        Mark::Start => chunk.add_text(
-            b"<circle r=\".8\"/><text x=\"1\" y=\"-1\" fill=\"#808080\" stroke=\"none\">start</text>",
-        ),
-        Mark::Home => chunk.add_text(
-            b"<path d=\"M-1 -1L1 1M-1 1L1 -1\"/><text x=\"1\" y=\"2.4\" fill=\"#808080\" stroke=\"none\">G28</text>",
-        ),
-        Mark::SecondHome => chunk.add_text(
-            b"<path d=\"M-1 0L0 -1L1 0L0 1Z\"/><text x=\"-1\" y=\"2.4\" text-anchor=\"end\" fill=\"#808080\" stroke=\"none\">G30</text>",
-        ),
-        Mark::Origin(system) => {
-            chunk.add_text(
-                b"<path d=\"M0 -3V0H3M-.5 -2L0 -3L.5 -2M2 -.5L3 0L2 .5\"/><text x=\"-.6\" y=\"2\" text-anchor=\"end\" fill=\"#808080\" stroke=\"none\">",
-            );
-            add_system(chunk, *system);
-            chunk.add_text(b"</text>");
-        }
+        Mark::Start(lines) => add_start(chunk, *lines),
+        Mark::Home(lines) => add_home(chunk, *lines),
+        Mark::SecondHome(lines) => add_second_home(chunk, *lines),
+        Mark::Origin(system, is_moved, lines) => add_origin(chunk, *system, *is_moved, *lines),
         Mark::Hole => chunk.add_text(b"<circle r=\".6\"/><path d=\"M-1 0H1M0 -1V1\"/>"),
         Mark::Axes(view) => {
             chunk.add_text(arrows(*view));
@@ -358,12 +414,14 @@ fn add_outline(chunk: &mut Chunk, kind: BoxKind, area: &Rectangle)
     chunk.add_text(b"\"/>\n");
 }
 
-fn add_fixture_number(chunk: &mut Chunk, unit: i64, at: &Spot, number: usize)
+fn add_fixture_number(chunk: &mut Chunk, unit: i64, at: &Spot, number: usize, lines: usize)
     requires { HasLineRoom chunk.old }
-    ensures { chunk.new ≡ chunk.old ++ shape_text unit (shapes.FixtureNumber at.now number) }
+    ensures { chunk.new ≡ chunk.old ++ shape_text unit (shapes.FixtureNumber at.now number lines) }
 {
     begin_sign(chunk, unit, at);
-    chunk.add_text(b"<text x=\".5\" y=\"-.5\" fill=\"#808080\" stroke=\"none\">");
+    chunk.add_text(b"<text x=\".5\" y=\"-.5\"");
+    add_lines(chunk, lines);
+    chunk.add_text(b" fill=\"#808080\" stroke=\"none\">");
     chunk.add_number(number);
 }
 
@@ -607,7 +665,9 @@ pub(crate) fn add_shape(chunk: &mut Chunk, unit: i64, shape: &Shape)
         Shape::FaultBlock(block) => add_fault_block(chunk, block),
         Shape::Window(pane) => add_window(chunk, pane),
         Shape::WindowEnd => chunk.add_text(b"</svg>\n"),
-        Shape::FixtureNumber(at, number) => add_fixture_number(chunk, unit, at, *number),
+        Shape::FixtureNumber(at, number, lines) => {
+            add_fixture_number(chunk, unit, at, *number, *lines)
+        }
         Shape::Name(name) => add_name(chunk, name),
         Shape::LabelEnd => chunk.add_text(b"</text></g>\n"),
         Shape::FaultNumber(at, fault) => add_fault_number(chunk, unit, at, *fault),

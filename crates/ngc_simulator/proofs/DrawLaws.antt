@@ -5,7 +5,8 @@ use Rattle.std.specs.Option.{is_some}
 use Rattle.std.specs.Prelude.{MatchOption, option_map, slice_get}
 use Rattle.std.specs.Io.KnownBytes.{Appends, Keeps}
 use Rattle.ngc_text.specs.Written.{AppendsBeginning}
-use Rattle.ngc_line_reader.specs.ProgramText.{ProgramText, program_of, HaveReadings}
+use Rattle.ngc_line_reader.specs.Grammar.{Reading}
+use Rattle.ngc_line_reader.specs.ProgramText.{AreReadings, ProgramText, program_of, HaveReadings}
 use Rattle.ngc_fixed_length.specs.Grid.{grid}
 use Rattle.ngc_fixed_length.specs.declared.points.StepPos.{StepPos}
 use Rattle.ngc_commands.specs.Movement.{actions_of}
@@ -13,7 +14,7 @@ use Rattle.ngc_commands.specs.declared.command.Command.{Command}
 use Rattle.ngc_canonical.specs.declared.fault.ProgramFault.{ProgramFault}
 use Rattle.ngc_canonical.specs.Interpreter.{setup_of}
 use Rattle.ngc_canonical.specs.State.{Setup}
-use Rattle.ngc_canonical.specs.Meaning.{meaning, program_said}
+use Rattle.ngc_canonical.specs.Meaning.{meaning, program_said, with_readings}
 use Rattle.ngc_certificate_text.specs.Certificate.{CertificateData, Entry, entries_at}
 use Rattle.ngc_certificate_text.specs.Said.{certificate_said}
 use Rattle.ngc_certificate_text.specs.declared.piece.Setting.{Setting}
@@ -30,10 +31,11 @@ use Rattle.ngc_drawing.specs.Pictures.{picture_text}
 use Rattle.ngc_drawing.specs.declared.fault.DrawFault.{DrawFault}
 use Rattle.ngc_drawing.specs.declared.fault.DrawFault.TheVariants.{Memory, Write}
 use Rattle.ngc_drawing.specs.declared.look.Look.{Look}
+use Rattle.ngc_drawing.specs.declared.origin.WorkOrigin.{WorkOrigin}
 use Rattle.ngc_drawing.specs.declared.refusal.RefusedMotion.{RefusedMotion}
 use Rattle.ngc_drawing.specs.declared.view.View.{View}
 use Rattle.ngc_simulator.specs.Answers.{DrawsFrom, certificate_input, certificate_inputs, draw_inputs, program_input}
-use Rattle.ngc_simulator.specs.Drawing.{Draws, DrawsGiven, DrawsProgram, IsFirstRefused, IsGivenRefusal, fault_at, refusal_answer}
+use Rattle.ngc_simulator.specs.Drawing.{Draws, DrawsGiven, DrawsProgram, IsFirstRefused, IsGivenRefusal, IsPicture, fault_at, refusal_answer, work_origin}
 use Rattle.ngc_program_report.specs.Met.{met_at}
 use Rattle.ngc_simulator.specs.Drawing.{look_of, setting_of}
 use Rattle.ngc_inputs.specs.Faults.{of_picture}
@@ -73,46 +75,63 @@ refused_program setup bytes block_delete text fault is_text have fails = record 
   fails = fails have.readings have.are;
 }
 
+-- this work origin is the one in force, by all readings of the lines
+abbrev pub IsInForce : Setup → ProgramText → Bool → List Command → Option RefusedMotion → WorkOrigin → Type 0
+IsInForce setup text block_delete commands refusal w = (rs : List Reading) → AreReadings text.lines rs →
+    w ≡ work_origin setup (with_readings text.lines rs) block_delete commands refusal
+
+picture : (setup : Setup) (bytes : List ℕ) (block_delete : Bool) (look : Look) (entries : List Entry) (IsShown : List Command → Option RefusedMotion → Type 0)
+    (text : ProgramText) (commands given seen shown : List Command) (found : List Entry) (refusal : Option RefusedMotion) (w : WorkOrigin)
+    → given ≡ commands → seen ≡ commands → shown ≡ commands → found ≡ entries → program_of bytes ≡ Ok text → HaveReadings text.lines →
+    Means text setup block_delete (Ok commands) → IsShown given refusal
+    → IsInForce setup text block_delete seen refusal w
+    → IsPicture setup bytes block_delete look entries IsShown (picture_text look setup.machine shown found refusal w)
+picture setup bytes block_delete look entries IsShown text commands given seen shown found refusal w same same_seen same_shown same_found is_text have means shows
+    force = record {
+      commands = commands;
+      meaning = is_meaning setup bytes block_delete text (Ok commands) is_text have means;
+      refusal = refusal;
+      shows = subst (λ cs. IsShown cs refusal) same shows;
+      draws =
+          ap (λ cs. picture_text look setup.machine cs found refusal w) same_shown
+          ∙ ap (λ es. picture_text look setup.machine commands es refusal w) same_found
+          ∙ ap (λ (o : WorkOrigin). picture_text look setup.machine commands entries refusal o)
+          (force have.readings have.are
+          ∙ ap (λ cs. work_origin setup (with_readings text.lines have.readings) block_delete cs refusal) same_seen);
+    }
+
 -- the picture of commands that were handed on as a slice
 pub drawn : (setup : Setup) (bytes : List ℕ) (block_delete : Bool) (look : Look) (entries : List Entry) (IsShown : List Command → Option RefusedMotion → Type 0)
     (old new : Option (List ℕ))
-    (text : ProgramText) (commands given shown : List Command) (found : List Entry) (refusal : Option RefusedMotion)
-    → given ≡ commands → shown ≡ commands → found ≡ entries → program_of bytes ≡ Ok text → HaveReadings text.lines →
+    (text : ProgramText) (commands given seen shown : List Command) (found : List Entry) (refusal : Option RefusedMotion) (w : WorkOrigin)
+    → given ≡ commands → seen ≡ commands → shown ≡ commands → found ≡ entries → program_of bytes ≡ Ok text → HaveReadings text.lines →
     Means text setup block_delete (Ok commands) → IsShown given refusal
-    → Appends old new (picture_text look setup.machine shown found refusal) → Draws setup bytes block_delete look entries IsShown old new (Ok tt)
-drawn setup bytes block_delete look entries IsShown old new text commands given shown found refusal same same_shown same_found is_text have means shows wrote = (
-  picture_text look setup.machine shown found refusal,
-  record {
-    commands = commands;
-    meaning = is_meaning setup bytes block_delete text (Ok commands) is_text have means;
-    refusal = refusal;
-    shows = subst (λ cs. IsShown cs refusal) same shows;
-    draws = ap (λ cs. picture_text look setup.machine cs found refusal) same_shown ∙ ap (λ es. picture_text look setup.machine commands es refusal) same_found;
-  },
+    → IsInForce setup text block_delete seen refusal w
+    → Appends old new (picture_text look setup.machine shown found refusal w) → Draws setup bytes block_delete look entries IsShown old new (Ok tt)
+drawn setup bytes block_delete look entries IsShown old new text commands given seen shown found refusal w same same_seen same_shown same_found is_text have means
+    shows force wrote = (
+  picture_text look setup.machine shown found refusal w,
+  picture setup bytes block_delete look entries IsShown text commands given seen shown found refusal w same same_seen same_shown same_found is_text have means
+    shows force,
   wrote,
 )
 
 -- and a prefix of it, or nothing where memory ran out
 pub drawing_stopped : (setup : Setup) (bytes : List ℕ) (block_delete : Bool) (look : Look) (entries : List Entry)
     (IsShown : List Command → Option RefusedMotion → Type 0) (old new : Option (List ℕ))
-    (text : ProgramText) (commands given shown : List Command) (found : List Entry) (refusal : Option RefusedMotion) (fault : DrawFault)
-    → given ≡ commands → shown ≡ commands → found ≡ entries → program_of bytes ≡ Ok text → HaveReadings text.lines →
+    (text : ProgramText) (commands given seen shown : List Command) (found : List Entry) (refusal : Option RefusedMotion) (w : WorkOrigin) (fault : DrawFault)
+    → given ≡ commands → seen ≡ commands → shown ≡ commands → found ≡ entries → program_of bytes ≡ Ok text → HaveReadings text.lines →
     Means text setup block_delete (Ok commands) → IsShown given refusal
-    → AppendsBeginning old new (picture_text look setup.machine shown found refusal) → (fault ≡ Memory → Keeps old new)
+    → IsInForce setup text block_delete seen refusal w
+    → AppendsBeginning old new (picture_text look setup.machine shown found refusal w) → (fault ≡ Memory → Keeps old new)
     → Draws setup bytes block_delete look entries IsShown old new (Err (of_picture fault))
-drawing_stopped setup bytes block_delete look entries IsShown old new text commands given shown found refusal Memory same same_shown same_found is_text have
-    means shows wrote keeps = keeps refl
-drawing_stopped setup bytes block_delete look entries IsShown old new text commands given shown found refusal Write same same_shown same_found is_text have
-    means shows wrote keeps = (
-      picture_text look setup.machine shown found refusal,
-      record {
-        commands = commands;
-        meaning = is_meaning setup bytes block_delete text (Ok commands) is_text have means;
-        refusal = refusal;
-        shows = subst (λ cs. IsShown cs refusal) same shows;
-        draws =
-            ap (λ cs. picture_text look setup.machine cs found refusal) same_shown ∙ ap (λ es. picture_text look setup.machine commands es refusal) same_found;
-      },
+drawing_stopped setup bytes block_delete look entries IsShown old new text commands given seen shown found refusal w Memory same same_seen same_shown same_found
+    is_text have means shows force wrote keeps = keeps refl
+drawing_stopped setup bytes block_delete look entries IsShown old new text commands given seen shown found refusal w Write same same_seen same_shown same_found
+    is_text have means shows force wrote keeps = (
+      picture_text look setup.machine shown found refusal w,
+      picture setup bytes block_delete look entries IsShown text commands given seen shown found refusal w same same_seen same_shown same_found is_text have means
+        shows force,
       wrote,
     )
 

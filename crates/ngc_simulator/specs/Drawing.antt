@@ -1,6 +1,6 @@
 -- The result of drawing a program. Our own.
 use Rattle.std.specs.Prelude.{◌≡◌, ℕ, List, [], Option, Some, None, Result, Ok}
-use Rattle.std.specs.Prelude.{Err, Bool, codes, if◌then◌else◌}
+use Rattle.std.specs.Prelude.{Err, Bool, codes, if◌then◌else◌, slice_get}
 use Rattle.std.specs.Str.{bytes_eq}
 use Rattle.std.specs.Io.KnownBytes.{Appends, Keeps}
 use Rattle.ngc_text.specs.Written.{AppendsBeginning}
@@ -8,7 +8,13 @@ use Rattle.ngc_line_reader.specs.ProgramText.{program_of}
 use Rattle.ngc_line_reader.specs.ProgramView.{FaultIs}
 use Rattle.ngc_machine_files.specs.Machine.{MachineFile}
 use Rattle.ngc_commands.specs.declared.command.Command.{Command}
+use Rattle.ngc_canonical.specs.Meaning.{NumberedLine, with_readings}
 use Rattle.ngc_canonical.specs.State.{Setup}
+use Rattle.ngc_offsets.specs.Frames.{index}
+use Rattle.ngc_frames.specs.Changes.{frame_changes, start_frame}
+use Rattle.ngc_frames.specs.Frame.{selected_origin}
+use Rattle.ngc_frames.specs.InForce.{frame_in_force}
+use Rattle.ngc_frames.specs.declared.frame.Frame.{Frame}
 use Rattle.ngc_certificate_text.specs.declared.piece.Setting.{Setting}
 use Rattle.ngc_certificate_text.specs.declared.piece.Setting.TheVariants.{Off, On}
 use Rattle.ngc_certificate_text.specs.Certificate.{CertificateData, Entry, entries_at}
@@ -23,6 +29,7 @@ use Rattle.ngc_checker.specs.FirstRefusal.{setting_fault}
 use Rattle.ngc_command_line.specs.declared.options.DrawOptions.{DrawOptions}
 use Rattle.ngc_drawing.specs.Pictures.{picture_text}
 use Rattle.ngc_drawing.specs.declared.look.Look.{Look}
+use Rattle.ngc_drawing.specs.declared.origin.WorkOrigin.{WorkOrigin}
 use Rattle.ngc_drawing.specs.declared.refusal.RefusedMotion.{RefusedMotion}
 use Rattle.ngc_drawing.specs.declared.view.View.{View}
 use Rattle.ngc_drawing.specs.declared.view.View.TheVariants.{Top, Front, Side, Iso}
@@ -94,6 +101,31 @@ abbrev pub refusal_answer : Option CheckFault → Result (Option RefusedMotion) 
 refusal_answer None = Ok None
 refusal_answer (Some fault) = drawn_or fault (drawn_refusal fault)
 
+-- ---- the work origin
+
+abbrev pub work_of : Frame → WorkOrigin
+work_of f = record {
+  system = index f.frames.active;
+  origin = selected_origin f;
+  axis_offset = f.frames.axis_offset;
+}
+
+-- the line of a command; without one a line after all others
+abbrev pub line_or_last : Option Command → ℕ
+line_or_last None = 4294967295
+line_or_last (Some c) = c.line
+
+abbrev pub shown_line : List Command → Option RefusedMotion → ℕ
+shown_line commands None = 4294967295
+shown_line commands (Some r) = line_or_last (slice_get commands r.command)
+
+-- that in force at the refused motion, or at the end of the program
+abbrev pub work_origin : Setup → List NumberedLine → Bool → List Command → Option RefusedMotion →
+    WorkOrigin
+work_origin setup lines block_delete commands refusal =
+    work_of (frame_in_force (start_frame setup) (frame_changes setup lines block_delete)
+    (shown_line commands refusal)).frame
+
 -- ---- the picture
 
 -- the picture of a file's meaning with the motions of a certificate, and with its refusal
@@ -105,6 +137,8 @@ pub record IsPicture (setup : Setup) (bytes : List ℕ) (block_delete : Bool) (l
   pub refusal : Option RefusedMotion
   pub shows : IsShown commands refusal
   pub draws : text ≡ picture_text look setup.machine commands entries refusal
+      (work_origin setup (with_readings meaning.text.lines meaning.readings) block_delete commands
+      refusal)
 
 -- the picture was written, or a prefix of it where the sink failed; where there is none, the output
 -- is unchanged

@@ -10,7 +10,12 @@ ghost use Rattle.ngc_line_reader.specs.ProgramView.{text_in};
 ghost use Rattle.ngc_machine_files.specs.Machine.{file_of};
 ghost use Rattle.ngc_inputs.specs.Faults.{FailsByOutput, OfDrawing};
 ghost use Rattle.ngc_simulator.specs.Drawing.{DrawsGiven, DrawsProgram, IsFirstRefused, IsMadeRefusal};
-ghost use Rattle.ngc_simulator.specs.Drawing.{drawn_refusal, fault_at};
+ghost use Rattle.ngc_simulator.specs.Drawing.{drawn_refusal, fault_at, line_or_last, shown_line};
+ghost use Rattle.ngc_simulator.specs.Drawing.{work_of, work_origin};
+ghost use Rattle.ngc_canonical.specs.Meaning.{with_readings};
+ghost use Rattle.ngc_line_reader.specs.Grammar.{Reading};
+ghost use Rattle.ngc_line_reader.specs.ProgramText.{AreReadings};
+ghost use Rattle.ngc_offsets.specs.Frames.{index};
 ghost use Rattle.ngc_program_report.specs.Met.{met_at};
 ghost use Rattle.ngc_simulator.specs.Drawing.{refusal_answer, setting_of, view_named};
 
@@ -19,7 +24,9 @@ use ngc_certificate::{PieceFault, Setting, place_fault, uncleared};
 use ngc_certificate_text::{Certificate, Motions};
 use ngc_checker::{CheckFault, setting_fault};
 use ngc_commands::Command;
-use ngc_drawing::{DrawFault, Look, RefusedMotion, View, write_svg};
+use ngc_drawing::{DrawFault, Look, RefusedMotion, View, WorkOrigin, write_svg};
+use ngc_fixed_length::System;
+use ngc_frames::{Frame, frame_history};
 use ngc_inputs::AnswerFault;
 use ngc_line_reader::Program;
 use ngc_machine_files::{Machine, Tools};
@@ -155,6 +162,77 @@ fn checked_refusal<A: Allocator>(
     }
 }
 
+fn index_of(system: System) -> usize
+    ensures { result ≡ index system }
+{
+    match system {
+        System::First => 0,
+        System::Second => 1,
+        System::Third => 2,
+        System::Fourth => 3,
+        System::Fifth => 4,
+        System::Sixth => 5,
+        System::Seventh => 6,
+        System::Eighth => 7,
+        System::Ninth => 8,
+    }
+}
+
+fn work_of(frame: &Frame) -> WorkOrigin
+    ensures { result ≡ work_of frame.now }
+{
+    WorkOrigin {
+        system: index_of(frame.system()),
+        origin: frame.selected_origin(),
+        axis_offset: frame.frames.axis_offset,
+    }
+}
+
+fn line_of(command: Option<&Command>) -> u32
+    ensures { result ≡ line_or_last (option_map (λ c. c.now) command.entry) }
+{
+    match command {
+        None => u32::MAX,
+        Some(command) => command.line,
+    }
+}
+
+// Returns the line by whose frame the work origin is drawn: that of the refused motion, or a line
+// after all others.
+fn shown_line(commands: &[Command], refusal: &Option<RefusedMotion>) -> u32
+    ensures { result ≡ shown_line commands.now refusal.now }
+{
+    match refusal {
+        None => u32::MAX,
+        Some(refusal) => line_of(commands.get(refusal.command)),
+    }
+}
+
+// Returns the work origin in force at the refused motion, or at the end of the program. It executes
+// the program once more.
+fn work_origin<A: Allocator + Copy>(
+    alloc: A,
+    program: &Program<A>,
+    machine: &Machine<A>,
+    tools: &Tools<A>,
+    block_delete: bool,
+    commands: &[Command],
+    refusal: &Option<RefusedMotion>,
+) -> Result<WorkOrigin, DrawFault>
+    // For all readings of the lines. Each line has exactly one.
+    ensures { MatchResult result (λ w. (rs : List Reading) →
+        AreReadings (text_in program.now).lines rs →
+        w ≡ work_origin (setup_of machine.now tools.now)
+        (with_readings (text_in program.now).lines rs) block_delete commands.now refusal.now)
+        (λ fault. fault ≡ DrawFault.Memory) }
+{
+    let Ok(history) = frame_history(alloc, program, machine, tools, block_delete) else {
+        return Err(DrawFault::Memory);
+    };
+    let in_force = history.in_force(shown_line(commands, refusal));
+    Ok(work_of(&in_force.frame))
+}
+
 /// Draws a program on a machine, at a setting of block delete, with the motion that no certificate
 /// clears, and the fixture that it meets in one piece.
 pub fn draw_program<A: Allocator + Copy, W: Sink>(
@@ -176,6 +254,15 @@ pub fn draw_program<A: Allocator + Copy, W: Sink>(
 {
     let commands = interpret(alloc, program, machine, tools, block_delete)?;
     let refusal = made_refusal(alloc, commands.as_slice(), machine)?;
+    let work = work_origin(
+        alloc,
+        program,
+        machine,
+        tools,
+        block_delete,
+        commands.as_slice(),
+        &refusal,
+    )?;
     let none = Motions::new(alloc);
     write_svg(
         alloc,
@@ -184,6 +271,7 @@ pub fn draw_program<A: Allocator + Copy, W: Sink>(
         commands.as_slice(),
         &none,
         &refusal,
+        &work,
         output,
     )?;
     Ok(())
@@ -213,6 +301,15 @@ pub fn draw_certified<A: Allocator + Copy, W: Sink>(
 {
     let commands = interpret(alloc, program, machine, tools, block_delete)?;
     let refusal = checked_refusal(machine, block_delete, commands.as_slice(), certificate)?;
+    let work = work_origin(
+        alloc,
+        program,
+        machine,
+        tools,
+        block_delete,
+        commands.as_slice(),
+        &refusal,
+    )?;
     let motions = certificate.motions(setting_of(block_delete));
     write_svg(
         alloc,
@@ -221,6 +318,7 @@ pub fn draw_certified<A: Allocator + Copy, W: Sink>(
         commands.as_slice(),
         motions,
         &refusal,
+        &work,
         output,
     )?;
     Ok(())

@@ -42,7 +42,7 @@ pub use ngc_command_line::{
     ShowOptions, UsageFault, help_text, read_options,
 };
 pub use ngc_controller::{Controller, MemoryFault};
-pub use ngc_drawing::{DrawFault, RefusedMotion, View, write_svg};
+pub use ngc_drawing::{DrawFault, RefusedMotion, View, WorkOrigin, write_svg};
 pub use ngc_events::{Ending, Event, EventFault, EventLine, EventsFault, Reply, read_events};
 pub use ngc_fault_texts::{ExplainFault, explain};
 pub use ngc_inputs::{AnswerFault, Files, Verdict, judge};

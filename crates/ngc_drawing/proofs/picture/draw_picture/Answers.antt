@@ -10,9 +10,9 @@ use Rattle.ngc_drawing.proofs.picture.draw_picture.Goals as goal
 pub returns-in-Err-clause-drawn : goal.returns-in-Err-clause-drawn
 returns-in-Err-clause-drawn g c =
     let unit = unit_of c.args.area.now in
-    let part0 : List Shape = ground c.args.view (file_of c.args.machine.now) c.args.area.now c.args.tools.now c.args.swept.now in
+    let part0 : List Shape = ground c.args.view (file_of c.args.machine.now) c.args.area.now c.args.tools.now c.args.swept.now c.args.labels.now in
     let part1 : List Shape = path c.args.view c.args.tools.now c.args.commands.now in
-    let part2 : List Shape = marked c.args.view (file_of c.args.machine.now) c.args.area.now in
+    let part2 : List Shape = marked c.args.view (file_of c.args.machine.now) c.args.area.now c.args.labels.now c.args.work.now in
     let part3 : List Shape = refused c.args.view (file_of c.args.machine.now) c.args.commands.now c.args.refusal.now in
     let part4 : List Shape = scaled c.args.view c.args.area.now ++ (tool_rows 0 c.args.tools.now ++ (refusal_row c.args.refusal.now ++ shapes.End ∷ [])) in
     let left4 : List Shape = part4 in
@@ -28,9 +28,9 @@ returns-in-Err-clause-drawn g c =
 pub returns-in-Err-draw_path-clause-drawn : goal.returns-in-Err-draw_path-clause-drawn
 returns-in-Err-draw_path-clause-drawn g c =
     let unit = unit_of c.args.area.now in
-    let part0 : List Shape = ground c.args.view (file_of c.args.machine.now) c.args.area.now c.args.tools.now c.args.swept.now in
+    let part0 : List Shape = ground c.args.view (file_of c.args.machine.now) c.args.area.now c.args.tools.now c.args.swept.now c.args.labels.now in
     let part1 : List Shape = path c.args.view c.args.tools.now c.args.commands.now in
-    let part2 : List Shape = marked c.args.view (file_of c.args.machine.now) c.args.area.now in
+    let part2 : List Shape = marked c.args.view (file_of c.args.machine.now) c.args.area.now c.args.labels.now c.args.work.now in
     let part3 : List Shape = refused c.args.view (file_of c.args.machine.now) c.args.commands.now c.args.refusal.now in
     let part4 : List Shape = scaled c.args.view c.args.area.now ++ (tool_rows 0 c.args.tools.now ++ (refusal_row c.args.refusal.now ++ shapes.End ∷ [])) in
     let left4 : List Shape = part4 in
@@ -51,9 +51,9 @@ returns-in-Err-draw_path-clause-drawn g c =
 pub returns-in-Err-draw_marks-clause-drawn : goal.returns-in-Err-draw_marks-clause-drawn
 returns-in-Err-draw_marks-clause-drawn g c =
     let unit = unit_of c.args.area.now in
-    let part0 : List Shape = ground c.args.view (file_of c.args.machine.now) c.args.area.now c.args.tools.now c.args.swept.now in
+    let part0 : List Shape = ground c.args.view (file_of c.args.machine.now) c.args.area.now c.args.tools.now c.args.swept.now c.args.labels.now in
     let part1 : List Shape = path c.args.view c.args.tools.now c.args.commands.now in
-    let part2 : List Shape = marked c.args.view (file_of c.args.machine.now) c.args.area.now in
+    let part2 : List Shape = marked c.args.view (file_of c.args.machine.now) c.args.area.now c.args.labels.now c.args.work.now in
     let part3 : List Shape = refused c.args.view (file_of c.args.machine.now) c.args.commands.now c.args.refusal.now in
     let part4 : List Shape = scaled c.args.view c.args.area.now ++ (tool_rows 0 c.args.tools.now ++ (refusal_row c.args.refusal.now ++ shapes.End ∷ [])) in
     let left4 : List Shape = part4 in
@@ -79,9 +79,9 @@ returns-in-Err-draw_marks-clause-drawn g c =
 pub returns-in-Err-draw_refused-clause-drawn : goal.returns-in-Err-draw_refused-clause-drawn
 returns-in-Err-draw_refused-clause-drawn g c =
     let unit = unit_of c.args.area.now in
-    let part0 : List Shape = ground c.args.view (file_of c.args.machine.now) c.args.area.now c.args.tools.now c.args.swept.now in
+    let part0 : List Shape = ground c.args.view (file_of c.args.machine.now) c.args.area.now c.args.tools.now c.args.swept.now c.args.labels.now in
     let part1 : List Shape = path c.args.view c.args.tools.now c.args.commands.now in
-    let part2 : List Shape = marked c.args.view (file_of c.args.machine.now) c.args.area.now in
+    let part2 : List Shape = marked c.args.view (file_of c.args.machine.now) c.args.area.now c.args.labels.now c.args.work.now in
     let part3 : List Shape = refused c.args.view (file_of c.args.machine.now) c.args.commands.now c.args.refusal.now in
     let part4 : List Shape = scaled c.args.view c.args.area.now ++ (tool_rows 0 c.args.tools.now ++ (refusal_row c.args.refusal.now ++ shapes.End ∷ [])) in
     let left4 : List Shape = part4 in
@@ -111,9 +111,9 @@ returns-in-Err-draw_refused-clause-drawn g c =
 pub returns-clause-drawn : goal.returns-clause-drawn
 returns-clause-drawn g c =
     let unit = unit_of c.args.area.now in
-    let part0 : List Shape = ground c.args.view (file_of c.args.machine.now) c.args.area.now c.args.tools.now c.args.swept.now in
+    let part0 : List Shape = ground c.args.view (file_of c.args.machine.now) c.args.area.now c.args.tools.now c.args.swept.now c.args.labels.now in
     let part1 : List Shape = path c.args.view c.args.tools.now c.args.commands.now in
-    let part2 : List Shape = marked c.args.view (file_of c.args.machine.now) c.args.area.now in
+    let part2 : List Shape = marked c.args.view (file_of c.args.machine.now) c.args.area.now c.args.labels.now c.args.work.now in
     let part3 : List Shape = refused c.args.view (file_of c.args.machine.now) c.args.commands.now c.args.refusal.now in
     let part4 : List Shape = scaled c.args.view c.args.area.now ++ (tool_rows 0 c.args.tools.now ++ (refusal_row c.args.refusal.now ++ shapes.End ∷ [])) in
     let left4 : List Shape = part4 in

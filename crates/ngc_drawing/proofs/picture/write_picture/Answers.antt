@@ -6,7 +6,9 @@ use Rattle.ngc_text.specs.declared.writing.WriteFault.{WriteFault}
 use Rattle.ngc_text.specs.Collected.{WritesFront}
 use Rattle.ngc_certificate_text.proofs.Fronts.{all_written, beginning_written}
 use Rattle.ngc_drawing.proofs.Whole.{from_start}
-use Rattle.ngc_drawing.specs.Pictures.{text_of}
+use Rattle.ngc_drawing.specs.Pictures.{picture_of}
+use Rattle.ngc_drawing.specs.Sheets.{unit_of}
+use Rattle.ngc_drawing.specs.Spelling.{shapes_text}
 use Rattle.ngc_machine_files.specs.Machine.{file_of}
 use Rattle.ngc_drawing.proofs.picture.write_picture.Goals as goal
 
@@ -23,20 +25,27 @@ part_out (Err e) old mid new text after h k = beginning_written old mid new text
 pub returns-in-Ok-clause-ok : goal.returns-in-Ok-clause-ok
 returns-in-Ok-clause-ok g c =
     whole_out c.write_out.result (g.W.Sink.written c.args.sink.now) (g.W.Sink.written c.draw_picture.new.sink) (g.W.Sink.written c.write_out.new.sink)
-    (text_of c.args.look.now (file_of c.args.machine.now) c.args.commands.now c.args.refusal.now c.args.tools.now c.args.swept.now) c.draw_picture.new.chunk
+    (shapes_text (unit_of c.args.area.now)
+    (picture_of c.args.view (file_of c.args.machine.now) c.args.commands.now c.args.refusal.now c.args.area.now c.args.tools.now c.args.swept.now
+    c.args.labels.now c.args.work.now)) c.draw_picture.new.chunk
     (subst (λ (l : List ℕ). WritesFront (g.W.Sink.written c.args.sink.now) (g.W.Sink.written c.draw_picture.new.sink) l c.draw_picture.new.chunk)
-    (from_start c.args.look.now (file_of c.args.machine.now) c.args.commands.now c.args.refusal.now c.frame-area.result c.args.tools.now c.args.swept.now
-    c.new-chunk.result c.frame-area.ensures c.new-chunk.ensures) c.in-Ok.ensures.drawn) c.write_out.ensures.ok
+    (from_start c.args.area.now
+    (picture_of c.args.view (file_of c.args.machine.now) c.args.commands.now c.args.refusal.now c.args.area.now c.args.tools.now c.args.swept.now
+    c.args.labels.now c.args.work.now) c.new-chunk.result c.new-chunk.ensures) c.in-Ok.ensures.drawn) c.write_out.ensures.ok
 
 pub returns-in-Ok-clause-fault : goal.returns-in-Ok-clause-fault
 returns-in-Ok-clause-fault g c =
     part_out c.write_out.result (g.W.Sink.written c.args.sink.now) (g.W.Sink.written c.draw_picture.new.sink) (g.W.Sink.written c.write_out.new.sink)
-    (text_of c.args.look.now (file_of c.args.machine.now) c.args.commands.now c.args.refusal.now c.args.tools.now c.args.swept.now) c.draw_picture.new.chunk
+    (shapes_text (unit_of c.args.area.now)
+    (picture_of c.args.view (file_of c.args.machine.now) c.args.commands.now c.args.refusal.now c.args.area.now c.args.tools.now c.args.swept.now
+    c.args.labels.now c.args.work.now)) c.draw_picture.new.chunk
     (subst (λ (l : List ℕ). WritesFront (g.W.Sink.written c.args.sink.now) (g.W.Sink.written c.draw_picture.new.sink) l c.draw_picture.new.chunk)
-    (from_start c.args.look.now (file_of c.args.machine.now) c.args.commands.now c.args.refusal.now c.frame-area.result c.args.tools.now c.args.swept.now
-    c.new-chunk.result c.frame-area.ensures c.new-chunk.ensures) c.in-Ok.ensures.drawn) c.write_out.ensures.fault
+    (from_start c.args.area.now
+    (picture_of c.args.view (file_of c.args.machine.now) c.args.commands.now c.args.refusal.now c.args.area.now c.args.tools.now c.args.swept.now
+    c.args.labels.now c.args.work.now) c.new-chunk.result c.new-chunk.ensures) c.in-Ok.ensures.drawn) c.write_out.ensures.fault
 
 pub returns-in-Err-clause-fault : goal.returns-in-Err-clause-fault
 returns-in-Err-clause-fault g c = subst (λ (l : List ℕ). AppendsBeginning (g.W.Sink.written c.args.sink.now) (g.W.Sink.written c.draw_picture.new.sink) l)
-    (from_start c.args.look.now (file_of c.args.machine.now) c.args.commands.now c.args.refusal.now c.frame-area.result c.args.tools.now c.args.swept.now
-    c.new-chunk.result c.frame-area.ensures c.new-chunk.ensures) c.in-Err.ensures.drawn
+    (from_start c.args.area.now
+    (picture_of c.args.view (file_of c.args.machine.now) c.args.commands.now c.args.refusal.now c.args.area.now c.args.tools.now c.args.swept.now
+    c.args.labels.now c.args.work.now) c.new-chunk.result c.new-chunk.ensures) c.in-Err.ensures.drawn

@@ -7,11 +7,6 @@ unfolding mark_text
 returns-in-Axes-clause-text c =
     rw (c.in-Axes.is, c.add_text-in-Axes-3.ensures, c.add_text-in-Axes-2.ensures, c.axes.ensures.text, c.add_text-in-Axes.ensures, c.arrows.ensures.text) (simp append_assoc)
 
-pub returns-in-Origin-clause-text : goal.returns-in-Origin-clause-text
-unfolding mark_text
-returns-in-Origin-clause-text c =
-    rw (c.in-Origin.is, c.add_text-in-Origin-2.ensures, c.add_system.ensures.text, c.add_text-in-Origin.ensures) (simp append_assoc)
-
 pub returns-in-Hole-clause-text : goal.returns-in-Hole-clause-text
 unfolding mark_text
-returns-in-Hole-clause-text c = rw (c.in-Hole.is, c.add_text-in-Hole.ensures)
+returns-in-Hole-clause-text c = rw (c.in-Hole.is, c.add_text.ensures)

@@ -6,7 +6,7 @@ use Rattle.ngc_line_reader.specs.ProgramView.{text_in}
 use Rattle.ngc_simulator.specs.Drawing.{DrawsGiven, IsGivenRefusal, fault_at, refusal_answer, setting_of}
 use Rattle.ngc_inputs.specs.Faults.{of_picture}
 use Rattle.ngc_inputs.specs.declared.fault.AnswerFault.TheVariants as answers
-use Rattle.ngc_simulator.proofs.DrawLaws.{drawing_stopped, drawn, given_fault, given_stopped, refused_program}
+use Rattle.ngc_simulator.proofs.DrawLaws.{drawing_stopped, drawn, given_fault, given_stopped, no_memory, refused_program}
 use Rattle.ngc_program_report.proofs.WrittenLaws.{turned}
 use Rattle.ngc_inputs.proofs.JobLaws.{keeps_same}
 use Rattle.ngc_simulator.proofs.drawing.draw_certified.Goals as goal
@@ -34,6 +34,18 @@ returns-in_err-refusal-clause-draws g c = λ bytes text is_text have said.
     (text_in c.args.program.now) c.in_ok-commands.commands.items c.as_slice.result.now (said_of c.args.certificate.now) c.in_err-refusal.field-0.0
     c.as_slice.ensures.value is_text have c.in_ok-commands.ensures.commands said c.in_err-refusal.ensures)
 
+pub returns-in_err-work-clause-draws : goal.returns-in_err-work-clause-draws
+returns-in_err-work-clause-draws g c = λ bytes text is_text have said.
+    turned _ (of_picture c.in_err-work.field-0.0)
+    (DrawsGiven (setup_of c.args.machine.now c.args.tools.now) bytes text c.args.block_delete c.args.look (g.W.Sink.written c.args.output.now)
+    (g.W.Sink.written c.args.output.now)) c.from_residual-in_err-work.ensures.1
+    (given_stopped (setup_of c.args.machine.now c.args.tools.now) bytes text c.args.block_delete c.args.look _ _ (said_of c.args.certificate.now)
+    c.in_err-work.field-0.0 said
+    (no_memory (setup_of c.args.machine.now c.args.tools.now) bytes c.args.block_delete c.args.look
+    (entries_at (setting_of c.args.block_delete) (said_of c.args.certificate.now))
+    (IsGivenRefusal (setup_of c.args.machine.now c.args.tools.now).machine (setting_of c.args.block_delete) (said_of c.args.certificate.now)) _
+    c.in_err-work.field-0.0 c.in_err-work.ensures))
+
 pub returns-in_err-write_svg-clause-draws : goal.returns-in_err-write_svg-clause-draws
 returns-in_err-write_svg-clause-draws g c = λ bytes text is_text have said.
     let setup = setup_of c.args.machine.now c.args.tools.now in
@@ -43,13 +55,13 @@ returns-in_err-write_svg-clause-draws g c = λ bytes text is_text have said.
     (given_stopped setup bytes text c.args.block_delete c.args.look _ _ (said_of c.args.certificate.now) c.in_err-write_svg.field-0.0 said
     (drawing_stopped setup bytes c.args.block_delete c.args.look (entries_at (setting_of c.args.block_delete) (said_of c.args.certificate.now))
     (IsGivenRefusal setup.machine (setting_of c.args.block_delete) (said_of c.args.certificate.now)) _ _
-    (text_in c.args.program.now) c.in_ok-commands.commands.items c.as_slice.result.now c.as_slice-2.result.now c.motions-motions.result.now _
+    (text_in c.args.program.now) c.in_ok-commands.commands.items c.as_slice.result.now c.as_slice-2.result.now c.as_slice-3.result.now c.motions-motions.result.now _ _
     c.in_err-write_svg.field-0.0
-    c.as_slice.ensures.value c.as_slice-2.ensures.value
+    c.as_slice.ensures.value c.as_slice-2.ensures.value c.as_slice-3.ensures.value
     (c.motions-motions.ensures ∙ ap (λ s. entries_at s (said_of c.args.certificate.now)) c.setting_of.ensures) is_text have
     c.in_ok-commands.ensures.commands
     (sym {b = refusal_answer (fault_at setup.machine (setting_of c.args.block_delete) c.as_slice.result.now (said_of c.args.certificate.now))}
-    c.in_ok-refusal.ensures) c.in_err-write_svg.ensures.fault (λ is. c.in_err-write_svg.ensures.memory (ap Err is))))
+    c.in_ok-refusal.ensures) c.in_ok-work.ensures c.in_err-write_svg.ensures.fault (λ is. c.in_err-write_svg.ensures.memory (ap Err is))))
 
 pub returns-clause-draws : goal.returns-clause-draws
 returns-clause-draws g c = λ bytes text is_text have said.
@@ -58,10 +70,10 @@ returns-clause-draws g c = λ bytes text is_text have said.
       said,
       drawn setup bytes c.args.block_delete c.args.look (entries_at (setting_of c.args.block_delete) (said_of c.args.certificate.now))
           (IsGivenRefusal setup.machine (setting_of c.args.block_delete) (said_of c.args.certificate.now)) _ _
-          (text_in c.args.program.now) c.in_ok-commands.commands.items c.as_slice.result.now c.as_slice-2.result.now c.motions-motions.result.now _
-          c.as_slice.ensures.value c.as_slice-2.ensures.value
+          (text_in c.args.program.now) c.in_ok-commands.commands.items c.as_slice.result.now c.as_slice-2.result.now c.as_slice-3.result.now c.motions-motions.result.now _ _
+          c.as_slice.ensures.value c.as_slice-2.ensures.value c.as_slice-3.ensures.value
           (c.motions-motions.ensures ∙ ap (λ s. entries_at s (said_of c.args.certificate.now)) c.setting_of.ensures) is_text have
           c.in_ok-commands.ensures.commands
           (sym {b = refusal_answer (fault_at setup.machine (setting_of c.args.block_delete) c.as_slice.result.now (said_of c.args.certificate.now))}
-          c.in_ok-refusal.ensures) c.in_ok-write_svg.ensures.ok,
+          c.in_ok-refusal.ensures) c.in_ok-work.ensures c.in_ok-write_svg.ensures.ok,
     )

@@ -26,6 +26,13 @@ returns-in_err-refusal-clause-draws g c = λ bytes is_text have.
     (g.W.Sink.written c.args.output.now)) c.from_residual-in_err-refusal.ensures.1
     (no_memory (setup_of c.args.machine.now c.args.tools.now) bytes c.args.block_delete c.args.look [] _ _ c.in_err-refusal.field-0.0 c.in_err-refusal.ensures)
 
+pub returns-in_err-work-clause-draws : goal.returns-in_err-work-clause-draws
+returns-in_err-work-clause-draws g c = λ bytes is_text have.
+    turned _ (of_picture c.in_err-work.field-0.0)
+    (DrawsProgram (setup_of c.args.machine.now c.args.tools.now) bytes c.args.block_delete c.args.look (g.W.Sink.written c.args.output.now)
+    (g.W.Sink.written c.args.output.now)) c.from_residual-in_err-work.ensures.1
+    (no_memory (setup_of c.args.machine.now c.args.tools.now) bytes c.args.block_delete c.args.look [] _ _ c.in_err-work.field-0.0 c.in_err-work.ensures)
+
 pub returns-in_err-write_svg-clause-draws : goal.returns-in_err-write_svg-clause-draws
 returns-in_err-write_svg-clause-draws g c = λ bytes is_text have.
     let setup = setup_of c.args.machine.now c.args.tools.now in
@@ -33,15 +40,15 @@ returns-in_err-write_svg-clause-draws g c = λ bytes is_text have.
     (DrawsProgram (setup_of c.args.machine.now c.args.tools.now) bytes c.args.block_delete c.args.look (g.W.Sink.written c.args.output.now)
     (g.W.Sink.written c.write_svg.new.sink)) c.from_residual-in_err-write_svg.ensures.1
     (drawing_stopped setup bytes c.args.block_delete c.args.look [] (IsMadeRefusal setup.machine) _ _
-    (text_in c.args.program.now) c.in_ok-commands.commands.items c.as_slice.result.now c.as_slice-2.result.now c.new-none.result _
+    (text_in c.args.program.now) c.in_ok-commands.commands.items c.as_slice.result.now c.as_slice-2.result.now c.as_slice-3.result.now c.new-none.result _ _
     c.in_err-write_svg.field-0.0
-    c.as_slice.ensures.value c.as_slice-2.ensures.value c.new-none.ensures is_text have c.in_ok-commands.ensures.commands c.in_ok-refusal.ensures
+    c.as_slice.ensures.value c.as_slice-2.ensures.value c.as_slice-3.ensures.value c.new-none.ensures is_text have c.in_ok-commands.ensures.commands c.in_ok-refusal.ensures c.in_ok-work.ensures
     c.in_err-write_svg.ensures.fault (λ is. c.in_err-write_svg.ensures.memory (ap Err is)))
 
 pub returns-clause-draws : goal.returns-clause-draws
 returns-clause-draws g c = λ bytes is_text have.
     let setup = setup_of c.args.machine.now c.args.tools.now in
     drawn setup bytes c.args.block_delete c.args.look [] (IsMadeRefusal setup.machine) _ _
-    (text_in c.args.program.now) c.in_ok-commands.commands.items c.as_slice.result.now c.as_slice-2.result.now c.new-none.result _
-    c.as_slice.ensures.value c.as_slice-2.ensures.value c.new-none.ensures is_text have c.in_ok-commands.ensures.commands c.in_ok-refusal.ensures
+    (text_in c.args.program.now) c.in_ok-commands.commands.items c.as_slice.result.now c.as_slice-2.result.now c.as_slice-3.result.now c.new-none.result _ _
+    c.as_slice.ensures.value c.as_slice-2.ensures.value c.as_slice-3.ensures.value c.new-none.ensures is_text have c.in_ok-commands.ensures.commands c.in_ok-refusal.ensures c.in_ok-work.ensures
     c.in_ok-write_svg.ensures.ok
