@@ -39,7 +39,7 @@ is_moved w = not (is_zero w.axis_offset)
 -- ---- the rectangle of a label's text
 
 -- where a text begins or ends, across from its spot, and how far below the spot its base line is, in
--- tenths of units; specs/Spelling.antt has the same places
+-- tenths of units; `Spelling.antt` has the same places
 abbrev pub anchor : Kind → Anchor
 anchor kinds.Fixture = record { across = pos 5; down = neg_ℤ (pos 5); is_end = false }
 anchor kinds.Start = record { across = pos 10; down = neg_ℤ (pos 10); is_end = false }

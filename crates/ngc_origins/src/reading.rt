@@ -14,7 +14,7 @@ pub enum OriginMistake {
     NoSystem,
     /// The place isn't three lengths from -1000 to 1000 mm with at most six decimals.
     NoPlace,
-    /// The origin of the system is given by an earlier text.
+    /// An earlier text has an origin of the same system.
     Twice,
 }
 
