@@ -187,9 +187,8 @@ fn mark_of(step: Nm, by: &StepPos, start: bool, action: &Action, other: &Action)
 /// origin. `others` are the commands of the program with the origin shifted by `by`, as they are
 /// executed.
 ///
-/// Returns `None` if no marks explain `others` (*AreMarks*), as for a program that computes a motion
-/// from the origin's parameters. The marks are shown for this shift alone. Shifts are whole steps,
-/// at most 4,000,000 along each axis. It fails if memory is refused.
+/// Returns `None` if no marks explain `others` (*AreMarks*). The marks are shown for this shift
+/// alone. Shifts are whole steps, at most 4,000,000 along each axis. It fails if memory is refused.
 pub fn marks<A: Allocator>(
     alloc: A,
     step: Nm,
