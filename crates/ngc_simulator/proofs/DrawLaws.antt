@@ -110,11 +110,11 @@ pub drawn : (setup : Setup) (bytes : List ℕ) (block_delete : Bool) (look : Loo
     → Appends old new (picture_text look setup.machine shown found refusal w) → Draws setup bytes block_delete look entries IsShown old new (Ok tt)
 drawn setup bytes block_delete look entries IsShown old new text commands given seen shown found refusal w same same_seen same_shown same_found is_text have means
     shows force wrote = (
-  picture_text look setup.machine shown found refusal w,
-  picture setup bytes block_delete look entries IsShown text commands given seen shown found refusal w same same_seen same_shown same_found is_text have means
-    shows force,
-  wrote,
-)
+      picture_text look setup.machine shown found refusal w,
+      picture setup bytes block_delete look entries IsShown text commands given seen shown found refusal w same same_seen same_shown same_found is_text have means
+          shows force,
+      wrote,
+    )
 
 -- and a prefix of it, or nothing where memory ran out
 pub drawing_stopped : (setup : Setup) (bytes : List ℕ) (block_delete : Bool) (look : Look) (entries : List Entry)
@@ -131,7 +131,7 @@ drawing_stopped setup bytes block_delete look entries IsShown old new text comma
     is_text have means shows force wrote keeps = (
       picture_text look setup.machine shown found refusal w,
       picture setup bytes block_delete look entries IsShown text commands given seen shown found refusal w same same_seen same_shown same_found is_text have means
-        shows force,
+          shows force,
       wrote,
     )
 
