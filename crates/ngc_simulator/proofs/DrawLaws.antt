@@ -86,6 +86,7 @@ picture : (setup : Setup) (bytes : List ℕ) (block_delete : Bool) (look : Look)
     Means text setup block_delete (Ok commands) → IsShown given refusal
     → IsInForce setup text block_delete seen refusal w
     → IsPicture setup bytes block_delete look entries IsShown (picture_text look setup.machine shown found refusal w)
+unfolding is_meaning
 picture setup bytes block_delete look entries IsShown text commands given seen shown found refusal w same same_seen same_shown same_found is_text have means shows
     force = record {
       commands = commands;
