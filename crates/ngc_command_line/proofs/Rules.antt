@@ -13,7 +13,7 @@ use Rattle.clap.specs.Values.{IsUnsignedIn}
 use Rattle.clap.specs.Walk.{Names, Row, Rule, Text, action_of, default_rows, first_of, has_row, most_values, nothing_held, reading_by, rows_after, settled}
 use Rattle.clap.specs.Walk.{used, used_as, values_or_missing, walk, walk_from, with_default, without}
 use Rattle.clap.specs.declared.builder.action.ArgAction.{ArgAction}
-use Rattle.clap.specs.declared.builder.action.ArgAction.TheVariants.{Help, Set, SetTrue}
+use Rattle.clap.specs.declared.builder.action.ArgAction.TheVariants.{Append, Help, Set, SetTrue}
 use Rattle.clap.specs.declared.builder.value_parser.ValueParser.TheVariants.{Unsigned}
 use Rattle.clap.specs.declared.error.kind.ErrorKind.{ErrorKind}
 use Rattle.clap.specs.declared.parser.matches.ValueSource.TheVariants.{CommandLine, DefaultValue}
@@ -49,6 +49,21 @@ set_is_sound P a action least none takes = record { uses = uses; defaults = no_d
         let first = (neither (value_kinds a.ignore_case parser v) (values_kinds a.ignore_case parser vs) passes).0 in
         subst (λ (x : ArgAction). AreFilled P (used_as x a.id (reading_by a) (v ∷ vs) rows)) (sym action)
         (with_values_filled P a.id (reading_by a) CommandLine (v ∷ vs) (without a.id rows) (takes v first) (without_filled P a.id rows filled))
+
+-- an option that takes one value each time
+pub append_is_sound : (P : Text → Text → Type 0) (a : Rule) → action_of a ≡ Append → (unwrap_or_range a.range).start_inclusive ≡ 1 → a.defaults ≡ []
+    → ((v : Text) → P a.id v) → IsSound P a
+append_is_sound P a action least none takes = record { uses = uses; defaults = no_default P a none }
+  where
+    uses : (again : Bool) (values : List Text) (rows : List Row) → use_fault again a values rows ≡ [] → AreFilled P rows
+        → AreFilled P (used a values rows)
+    uses again [] rows fault filled =
+        let range = (neither _ _ fault).0 in
+        let bad : range_kinds 1 (most_values a) 0 ≡ [] = subst (λ (n : ℕ). range_kinds n (most_values a) 0 ≡ []) least range in
+        cc
+    uses again (v ∷ vs) rows fault filled =
+        subst (λ (x : ArgAction). AreFilled P (used_as x a.id (reading_by a) (v ∷ vs) rows)) (sym action)
+        (with_values_filled P a.id (reading_by a) CommandLine (v ∷ vs) rows (takes v) filled)
 
 -- a flag, whose value shows whether it is in the words or not
 pub flag_is_sound : (P : Text → Text → Type 0) (a : Rule) (met unmet : Text) → action_of a ≡ SetTrue → a.missing ≡ met ∷ [] → a.defaults ≡ unmet ∷ []

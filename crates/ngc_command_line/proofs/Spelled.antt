@@ -1,12 +1,15 @@
 -- The options are read back from the words in which they are written.
 use Rattle.std.proofs.Common.{◌≡◌, ◌==◌, ◌∙◌, [], ◌∷◌, cond, drop, if◌then◌else◌, ℕ, Bool, true, false, List, Option, Some, None, refl, inl, inr, subst, sym}
 use Rattle.std.proofs.Common.{codes, ◌≤◌, ◌<◌, ◌^◌, ap, option_map, arith}
-use Rattle.std.specs.Prelude.{unwrap_or}
+use Rattle.std.specs.Prelude.{unwrap_or, IsOk, Ok, Err, Result}
+use Rattle.ngc_origins.specs.Texts.{OriginList, no_origins, origins_said}
+use Rattle.ngc_origins.specs.declared.reading.OriginMistake.{OriginMistake}
+use Rattle.std.specs.Result.{result_ok}
 use Rattle.std.specs.Fmt.{decimal}
 use Rattle.std.specs.Str.Parse.{IsNumeral, digits_value, without_leading_plus}
 use Rattle.std.proofs.lemmas.Fmt.{decimal_is_IsNumeral}
 use Rattle.std.proofs.lemmas.Option.{same_Some}
-use Rattle.clap.specs.Words.{Row, Text, first_of, subcommand_of}
+use Rattle.clap.specs.Words.{Row, Text, all_of, first_of, subcommand_of}
 use Rattle.clap.proofs.OnLiterals.{clap_on_literals}
 use Rattle.clap.specs.Values.{IsUnsignedIn}
 use Rattle.clap.specs.ValueTests.{accepts}
@@ -21,6 +24,7 @@ use Rattle.ngc_command_line.specs.CommandLine.{certify_words, check_words, draw_
 use Rattle.ngc_command_line.specs.CommandLine.{run_words, show_words}
 use Rattle.ngc_command_line.specs.Meant.{AreCommands, AreCuts, AreCutsInRange, AreOptions, AsksForCertify, AsksForCheck, AsksForDraw, AsksForHelp, AsksForList}
 use Rattle.ngc_command_line.specs.Meant.{AsksForAdapt, AsksForLive, AsksForMachine, acceleration_in, feed_in, grbl_in, steps_in, travel_in}
+use Rattle.ngc_command_line.specs.Meant.{HaveOrigins, origins_in}
 use Rattle.ngc_command_line.specs.Meant.{AsksForReport, AsksForRun, AsksForShow, IsFormat, IsMask, IsTaken, IsTool, IsToolInRange, is_set}
 use Rattle.ngc_command_line.specs.declared.options.Format.{Format}
 use Rattle.ngc_command_line.specs.declared.options.Format.TheVariants.{One, Two}
@@ -37,37 +41,60 @@ use Rattle.ngc_command_line.proofs.Whole.{no_run, other_letter, other_name, othe
 abbrev Spells : List Text → (Option (Text × List Row) → Type 0) → Type 0
 Spells words Finds = IsTaken words × Finds (subcommand_of ngc_app words)
 
+-- no origin is replaced where no value of `--origin` was found
+none_replaced : (rows : List Row) (origins : OriginList) → origins_in rows ≡ Ok origins → all_of (codes "origin") rows ≡ None → origins ≡ no_origins
+none_replaced rows origins are none =
+    let In : Option (List Text) → Type 0 = λ texts. origins_said (unwrap_or texts []) ≡ Ok origins in
+    let said : Ok no_origins ≡ Ok origins = subst In none are in
+    sym (same_Some _ _ (ap result_ok said))
+
+-- words without `--origin` have no wrong one
+none_wrong : (found : Text × List Row) → all_of (codes "origin") found.1 ≡ None → HaveOrigins (Some found)
+none_wrong found none =
+    let Are : Option (List Text) → Type 0 = λ texts. IsOk (origins_said (unwrap_or texts [])) in
+    subst Are (sym none) refl
+
+-- a wrong origin isn't in words without one
+pub wrong_origins : {X : Type 0} (found : Option (Text × List Row)) (name : Text) (rows : List Row) (mistake : OriginMistake) → found ≡ Some (name, rows)
+    → origins_in rows ≡ Err mistake → HaveOrigins found → X
+wrong_origins found name rows mistake is wrong have =
+    let said : HaveOrigins (Some (name, rows)) = subst HaveOrigins is have in
+    let refused : Result OriginList OriginMistake = Err mistake in
+    let bad : IsOk refused = subst (λ (r : Result OriginList OriginMistake). IsOk r) wrong said in
+    cc
+
 -- the values of `list` that were found are these
 abbrev FindsList : Option Text → Option Text → Option Text → Bool → Option (Text × List Row) → Type 0
 FindsList program machine tools delete None = ⊥
 FindsList program machine tools delete (Some found) = (found.0 ≡ codes "list") × (first_of (codes "program") found.1 ≡ program)
     × (first_of (codes "machine") found.1 ≡ machine) × (first_of (codes "tools") found.1 ≡ tools) × (is_set (codes "delete") found.1 ≡ delete)
+    × (all_of (codes "origin") found.1 ≡ None)
 
 list_spells : (program machine tools : Option Text) (delete : Bool) → Spells (list_words program machine tools delete) (FindsList program machine tools delete)
 unfolding clap_on_literals
-list_spells None None None false = (refl, (refl, refl, refl, refl, refl))
-list_spells None None None true = (refl, (refl, refl, refl, refl, refl))
-list_spells None None (Some tools) false = (refl, (refl, refl, refl, refl, refl))
-list_spells None None (Some tools) true = (refl, (refl, refl, refl, refl, refl))
-list_spells None (Some machine) None false = (refl, (refl, refl, refl, refl, refl))
-list_spells None (Some machine) None true = (refl, (refl, refl, refl, refl, refl))
-list_spells None (Some machine) (Some tools) false = (refl, (refl, refl, refl, refl, refl))
-list_spells None (Some machine) (Some tools) true = (refl, (refl, refl, refl, refl, refl))
-list_spells (Some program) None None false = (refl, (refl, refl, refl, refl, refl))
-list_spells (Some program) None None true = (refl, (refl, refl, refl, refl, refl))
-list_spells (Some program) None (Some tools) false = (refl, (refl, refl, refl, refl, refl))
-list_spells (Some program) None (Some tools) true = (refl, (refl, refl, refl, refl, refl))
-list_spells (Some program) (Some machine) None false = (refl, (refl, refl, refl, refl, refl))
-list_spells (Some program) (Some machine) None true = (refl, (refl, refl, refl, refl, refl))
-list_spells (Some program) (Some machine) (Some tools) false = (refl, (refl, refl, refl, refl, refl))
-list_spells (Some program) (Some machine) (Some tools) true = (refl, (refl, refl, refl, refl, refl))
+list_spells None None None false = (refl, (refl, refl, refl, refl, refl, refl))
+list_spells None None None true = (refl, (refl, refl, refl, refl, refl, refl))
+list_spells None None (Some tools) false = (refl, (refl, refl, refl, refl, refl, refl))
+list_spells None None (Some tools) true = (refl, (refl, refl, refl, refl, refl, refl))
+list_spells None (Some machine) None false = (refl, (refl, refl, refl, refl, refl, refl))
+list_spells None (Some machine) None true = (refl, (refl, refl, refl, refl, refl, refl))
+list_spells None (Some machine) (Some tools) false = (refl, (refl, refl, refl, refl, refl, refl))
+list_spells None (Some machine) (Some tools) true = (refl, (refl, refl, refl, refl, refl, refl))
+list_spells (Some program) None None false = (refl, (refl, refl, refl, refl, refl, refl))
+list_spells (Some program) None None true = (refl, (refl, refl, refl, refl, refl, refl))
+list_spells (Some program) None (Some tools) false = (refl, (refl, refl, refl, refl, refl, refl))
+list_spells (Some program) None (Some tools) true = (refl, (refl, refl, refl, refl, refl, refl))
+list_spells (Some program) (Some machine) None false = (refl, (refl, refl, refl, refl, refl, refl))
+list_spells (Some program) (Some machine) None true = (refl, (refl, refl, refl, refl, refl, refl))
+list_spells (Some program) (Some machine) (Some tools) false = (refl, (refl, refl, refl, refl, refl, refl))
+list_spells (Some program) (Some machine) (Some tools) true = (refl, (refl, refl, refl, refl, refl, refl))
 
 list_asked : (program machine tools : Option Text) (delete : Bool) (found : Option (Text × List Row)) (options : Options) →
     FindsList program machine tools delete found
     → AreOptions found options → AsksForList program machine tools delete options
 list_asked program machine tools delete None options finds are = absurd finds
 list_asked program machine tools delete (Some found) (ToList list) finds are =
-    (are.1.program ∙ finds.1, are.1.machine ∙ finds.2, are.1.tools ∙ finds.3, are.1.delete ∙ finds.4)
+    (are.1.program ∙ finds.1, are.1.machine ∙ finds.2, are.1.tools ∙ finds.3, are.1.delete ∙ finds.4, none_replaced found.1 list.origins are.1.origins finds.5)
 list_asked program machine tools delete (Some found) (ToCertify certify) finds are =
     other_name (codes "list") (codes "certify") (sym finds.0 ∙ are.0) (λ lengths. omega (arith, lengths))
 list_asked program machine tools delete (Some found) (ToCheck check) finds are =
@@ -98,6 +125,15 @@ list_asked program machine tools delete (Some found) ToVersion finds are =
 pub list_taken : (words : List Text) (program machine tools : Option Text) (delete : Bool) → words ≡ list_words program machine tools delete → IsTaken words
 list_taken words program machine tools delete spelled = subst IsTaken (sym spelled) (list_spells program machine tools delete).0
 
+list_have : (found : Option (Text × List Row)) (program : Option Text) (machine : Option Text) (tools : Option Text) (delete : Bool) → FindsList program machine tools delete found → HaveOrigins found
+list_have None program machine tools delete finds = absurd finds
+list_have (Some found) program machine tools delete finds = none_wrong found finds.5
+
+pub list_origins : (words : List Text) (program machine tools : Option Text) (delete : Bool) → words ≡ list_words program machine tools delete → HaveOrigins (subcommand_of ngc_app words)
+list_origins words program machine tools delete spelled =
+    let Have : List Text → Type 0 = λ ws. HaveOrigins (subcommand_of ngc_app ws) in
+    subst Have (sym spelled) (list_have _ program machine tools delete (list_spells program machine tools delete).1)
+
 pub list_read : (words : List Text) (program machine tools : Option Text) (delete : Bool) (options : Options) → words ≡ list_words program machine tools delete
     → AreOptions (subcommand_of ngc_app words) options → AsksForList program machine tools delete options
 list_read words program machine tools delete options spelled are =
@@ -110,12 +146,13 @@ FindsCheck machine tools certificate program None = ⊥
 FindsCheck machine tools certificate program (Some found) = (found.0 ≡ codes "check") × (first_of (codes "machine") found.1 ≡ Some machine)
     × (first_of (codes "tools") found.1 ≡ Some tools) × (first_of (codes "certificate") found.1 ≡ Some certificate) ×
     (first_of (codes "program") found.1 ≡ program)
+    × (all_of (codes "origin") found.1 ≡ None)
 
 check_spells : (machine tools certificate : Text) (program : Option Text) →
     Spells (check_words machine tools certificate program) (FindsCheck machine tools certificate program)
 unfolding clap_on_literals
-check_spells machine tools certificate None = (refl, (refl, refl, refl, refl, refl))
-check_spells machine tools certificate (Some program) = (refl, (refl, refl, refl, refl, refl))
+check_spells machine tools certificate None = (refl, (refl, refl, refl, refl, refl, refl))
+check_spells machine tools certificate (Some program) = (refl, (refl, refl, refl, refl, refl, refl))
 
 pub same_text : (a b : Text) (o : Option Text) → Some a ≡ o → o ≡ Some b → a ≡ b
 same_text a b o first second = same_Some _ _ (first ∙ second)
@@ -123,8 +160,13 @@ same_text a b o first second = same_Some _ _ (first ∙ second)
 check_asked : (machine tools certificate : Text) (program : Option Text) (found : Option (Text × List Row)) (options : Options)
     → FindsCheck machine tools certificate program found → AreOptions found options → AsksForCheck machine tools certificate program options
 check_asked machine tools certificate program None options finds are = absurd finds
-check_asked machine tools certificate program (Some found) (ToCheck check) finds are =
-    (same_text _ _ _ are.1.machine finds.1, same_text _ _ _ are.1.tools finds.2, same_text _ _ _ are.1.certificate finds.3, are.1.program ∙ finds.4)
+check_asked machine tools certificate program (Some found) (ToCheck check) finds are = (
+  same_text _ _ _ are.1.machine finds.1,
+  same_text _ _ _ are.1.tools finds.2,
+  same_text _ _ _ are.1.certificate finds.3,
+  are.1.program ∙ finds.4,
+  none_replaced found.1 check.origins are.1.origins finds.5,
+)
 check_asked machine tools certificate program (Some found) (ToCertify certify) finds are =
     other_name (codes "check") (codes "certify") (sym finds.0 ∙ are.0) (λ lengths. omega (arith, lengths))
 check_asked machine tools certificate program (Some found) (ToList list) finds are =
@@ -156,6 +198,15 @@ pub check_taken : (words : List Text) (machine tools certificate : Text) (progra
     IsTaken words
 check_taken words machine tools certificate program spelled = subst IsTaken (sym spelled) (check_spells machine tools certificate program).0
 
+check_have : (found : Option (Text × List Row)) (machine : Text) (tools : Text) (certificate : Text) (program : Option Text) → FindsCheck machine tools certificate program found → HaveOrigins found
+check_have None machine tools certificate program finds = absurd finds
+check_have (Some found) machine tools certificate program finds = none_wrong found finds.5
+
+pub check_origins : (words : List Text) (machine tools certificate : Text) (program : Option Text) → words ≡ check_words machine tools certificate program → HaveOrigins (subcommand_of ngc_app words)
+check_origins words machine tools certificate program spelled =
+    let Have : List Text → Type 0 = λ ws. HaveOrigins (subcommand_of ngc_app ws) in
+    subst Have (sym spelled) (check_have _ machine tools certificate program (check_spells machine tools certificate program).1)
+
 pub check_read : (words : List Text) (machine tools certificate : Text) (program : Option Text) (options : Options) →
     words ≡ check_words machine tools certificate program
     → AreOptions (subcommand_of ngc_app words) options → AsksForCheck machine tools certificate program options
@@ -171,42 +222,43 @@ FindsRun recording machine tools certificate events program delete output (Some 
     × (first_of (codes "certificate") found.1 ≡ Some certificate) × (first_of (codes "events") found.1 ≡ events)
     × (first_of (codes "program") found.1 ≡ program) × (is_set (codes "delete") found.1 ≡ delete)
     × (first_of (codes "output") found.1 ≡ output) × (first_of (codes "inverted") found.1 ≡ None)
+    × (all_of (codes "origin") found.1 ≡ None)
 
 run_spells : (recording : Recording) (machine tools certificate : Text) (events program : Option Text) (delete : Bool) (output : Option Text)
     → Spells (run_words recording machine tools certificate events program delete output) (FindsRun recording machine tools certificate events program delete output)
 unfolding clap_on_literals
-run_spells Log machine tools certificate None None false None = (refl, (refl, refl, refl, refl, refl, refl, refl, refl, refl))
-run_spells Log machine tools certificate None None false (Some output) = (refl, (refl, refl, refl, refl, refl, refl, refl, refl, refl))
-run_spells Log machine tools certificate None None true None = (refl, (refl, refl, refl, refl, refl, refl, refl, refl, refl))
-run_spells Log machine tools certificate None None true (Some output) = (refl, (refl, refl, refl, refl, refl, refl, refl, refl, refl))
-run_spells Log machine tools certificate None (Some program) false None = (refl, (refl, refl, refl, refl, refl, refl, refl, refl, refl))
-run_spells Log machine tools certificate None (Some program) false (Some output) = (refl, (refl, refl, refl, refl, refl, refl, refl, refl, refl))
-run_spells Log machine tools certificate None (Some program) true None = (refl, (refl, refl, refl, refl, refl, refl, refl, refl, refl))
-run_spells Log machine tools certificate None (Some program) true (Some output) = (refl, (refl, refl, refl, refl, refl, refl, refl, refl, refl))
-run_spells Log machine tools certificate (Some events) None false None = (refl, (refl, refl, refl, refl, refl, refl, refl, refl, refl))
-run_spells Log machine tools certificate (Some events) None false (Some output) = (refl, (refl, refl, refl, refl, refl, refl, refl, refl, refl))
-run_spells Log machine tools certificate (Some events) None true None = (refl, (refl, refl, refl, refl, refl, refl, refl, refl, refl))
-run_spells Log machine tools certificate (Some events) None true (Some output) = (refl, (refl, refl, refl, refl, refl, refl, refl, refl, refl))
-run_spells Log machine tools certificate (Some events) (Some program) false None = (refl, (refl, refl, refl, refl, refl, refl, refl, refl, refl))
-run_spells Log machine tools certificate (Some events) (Some program) false (Some output) = (refl, (refl, refl, refl, refl, refl, refl, refl, refl, refl))
-run_spells Log machine tools certificate (Some events) (Some program) true None = (refl, (refl, refl, refl, refl, refl, refl, refl, refl, refl))
-run_spells Log machine tools certificate (Some events) (Some program) true (Some output) = (refl, (refl, refl, refl, refl, refl, refl, refl, refl, refl))
-run_spells Pulses machine tools certificate None None false None = (refl, (refl, refl, refl, refl, refl, refl, refl, refl, refl))
-run_spells Pulses machine tools certificate None None false (Some output) = (refl, (refl, refl, refl, refl, refl, refl, refl, refl, refl))
-run_spells Pulses machine tools certificate None None true None = (refl, (refl, refl, refl, refl, refl, refl, refl, refl, refl))
-run_spells Pulses machine tools certificate None None true (Some output) = (refl, (refl, refl, refl, refl, refl, refl, refl, refl, refl))
-run_spells Pulses machine tools certificate None (Some program) false None = (refl, (refl, refl, refl, refl, refl, refl, refl, refl, refl))
-run_spells Pulses machine tools certificate None (Some program) false (Some output) = (refl, (refl, refl, refl, refl, refl, refl, refl, refl, refl))
-run_spells Pulses machine tools certificate None (Some program) true None = (refl, (refl, refl, refl, refl, refl, refl, refl, refl, refl))
-run_spells Pulses machine tools certificate None (Some program) true (Some output) = (refl, (refl, refl, refl, refl, refl, refl, refl, refl, refl))
-run_spells Pulses machine tools certificate (Some events) None false None = (refl, (refl, refl, refl, refl, refl, refl, refl, refl, refl))
-run_spells Pulses machine tools certificate (Some events) None false (Some output) = (refl, (refl, refl, refl, refl, refl, refl, refl, refl, refl))
-run_spells Pulses machine tools certificate (Some events) None true None = (refl, (refl, refl, refl, refl, refl, refl, refl, refl, refl))
-run_spells Pulses machine tools certificate (Some events) None true (Some output) = (refl, (refl, refl, refl, refl, refl, refl, refl, refl, refl))
-run_spells Pulses machine tools certificate (Some events) (Some program) false None = (refl, (refl, refl, refl, refl, refl, refl, refl, refl, refl))
-run_spells Pulses machine tools certificate (Some events) (Some program) false (Some output) = (refl, (refl, refl, refl, refl, refl, refl, refl, refl, refl))
-run_spells Pulses machine tools certificate (Some events) (Some program) true None = (refl, (refl, refl, refl, refl, refl, refl, refl, refl, refl))
-run_spells Pulses machine tools certificate (Some events) (Some program) true (Some output) = (refl, (refl, refl, refl, refl, refl, refl, refl, refl, refl))
+run_spells Log machine tools certificate None None false None = (refl, (refl, refl, refl, refl, refl, refl, refl, refl, refl, refl))
+run_spells Log machine tools certificate None None false (Some output) = (refl, (refl, refl, refl, refl, refl, refl, refl, refl, refl, refl))
+run_spells Log machine tools certificate None None true None = (refl, (refl, refl, refl, refl, refl, refl, refl, refl, refl, refl))
+run_spells Log machine tools certificate None None true (Some output) = (refl, (refl, refl, refl, refl, refl, refl, refl, refl, refl, refl))
+run_spells Log machine tools certificate None (Some program) false None = (refl, (refl, refl, refl, refl, refl, refl, refl, refl, refl, refl))
+run_spells Log machine tools certificate None (Some program) false (Some output) = (refl, (refl, refl, refl, refl, refl, refl, refl, refl, refl, refl))
+run_spells Log machine tools certificate None (Some program) true None = (refl, (refl, refl, refl, refl, refl, refl, refl, refl, refl, refl))
+run_spells Log machine tools certificate None (Some program) true (Some output) = (refl, (refl, refl, refl, refl, refl, refl, refl, refl, refl, refl))
+run_spells Log machine tools certificate (Some events) None false None = (refl, (refl, refl, refl, refl, refl, refl, refl, refl, refl, refl))
+run_spells Log machine tools certificate (Some events) None false (Some output) = (refl, (refl, refl, refl, refl, refl, refl, refl, refl, refl, refl))
+run_spells Log machine tools certificate (Some events) None true None = (refl, (refl, refl, refl, refl, refl, refl, refl, refl, refl, refl))
+run_spells Log machine tools certificate (Some events) None true (Some output) = (refl, (refl, refl, refl, refl, refl, refl, refl, refl, refl, refl))
+run_spells Log machine tools certificate (Some events) (Some program) false None = (refl, (refl, refl, refl, refl, refl, refl, refl, refl, refl, refl))
+run_spells Log machine tools certificate (Some events) (Some program) false (Some output) = (refl, (refl, refl, refl, refl, refl, refl, refl, refl, refl, refl))
+run_spells Log machine tools certificate (Some events) (Some program) true None = (refl, (refl, refl, refl, refl, refl, refl, refl, refl, refl, refl))
+run_spells Log machine tools certificate (Some events) (Some program) true (Some output) = (refl, (refl, refl, refl, refl, refl, refl, refl, refl, refl, refl))
+run_spells Pulses machine tools certificate None None false None = (refl, (refl, refl, refl, refl, refl, refl, refl, refl, refl, refl))
+run_spells Pulses machine tools certificate None None false (Some output) = (refl, (refl, refl, refl, refl, refl, refl, refl, refl, refl, refl))
+run_spells Pulses machine tools certificate None None true None = (refl, (refl, refl, refl, refl, refl, refl, refl, refl, refl, refl))
+run_spells Pulses machine tools certificate None None true (Some output) = (refl, (refl, refl, refl, refl, refl, refl, refl, refl, refl, refl))
+run_spells Pulses machine tools certificate None (Some program) false None = (refl, (refl, refl, refl, refl, refl, refl, refl, refl, refl, refl))
+run_spells Pulses machine tools certificate None (Some program) false (Some output) = (refl, (refl, refl, refl, refl, refl, refl, refl, refl, refl, refl))
+run_spells Pulses machine tools certificate None (Some program) true None = (refl, (refl, refl, refl, refl, refl, refl, refl, refl, refl, refl))
+run_spells Pulses machine tools certificate None (Some program) true (Some output) = (refl, (refl, refl, refl, refl, refl, refl, refl, refl, refl, refl))
+run_spells Pulses machine tools certificate (Some events) None false None = (refl, (refl, refl, refl, refl, refl, refl, refl, refl, refl, refl))
+run_spells Pulses machine tools certificate (Some events) None false (Some output) = (refl, (refl, refl, refl, refl, refl, refl, refl, refl, refl, refl))
+run_spells Pulses machine tools certificate (Some events) None true None = (refl, (refl, refl, refl, refl, refl, refl, refl, refl, refl, refl))
+run_spells Pulses machine tools certificate (Some events) None true (Some output) = (refl, (refl, refl, refl, refl, refl, refl, refl, refl, refl, refl))
+run_spells Pulses machine tools certificate (Some events) (Some program) false None = (refl, (refl, refl, refl, refl, refl, refl, refl, refl, refl, refl))
+run_spells Pulses machine tools certificate (Some events) (Some program) false (Some output) = (refl, (refl, refl, refl, refl, refl, refl, refl, refl, refl, refl))
+run_spells Pulses machine tools certificate (Some events) (Some program) true None = (refl, (refl, refl, refl, refl, refl, refl, refl, refl, refl, refl))
+run_spells Pulses machine tools certificate (Some events) (Some program) true (Some output) = (refl, (refl, refl, refl, refl, refl, refl, refl, refl, refl, refl))
 
 -- no bits are turned over
 no_mask : (found : Option Text) (mask : ℕ) → IsMask found mask → found ≡ None → mask ≡ 0
@@ -235,6 +287,7 @@ run_asked recording machine tools certificate (Some events) program delete outpu
   are.1.delete ∙ finds.6,
   are.1.output ∙ finds.7,
   no_mask _ run.inverted are.1.inverted finds.8,
+  none_replaced found.1 run.origins are.1.origins finds.9,
 )
 run_asked recording machine tools certificate None program delete output (Some found) (ToRun run) finds are = let h : Some run.events.now ≡ None =
     are.1.events ∙ finds.4 in cc
@@ -249,6 +302,7 @@ run_asked recording machine tools certificate None program delete output (Some f
   are.1.delete ∙ finds.6,
   are.1.output ∙ finds.7,
   no_mask _ run.inverted are.1.inverted finds.8,
+  none_replaced found.1 run.origins are.1.origins finds.9,
 )
 run_asked recording machine tools certificate events program delete output (Some found) (ToList list) finds are =
     no_run (codes "list") recording (sym (are.0) ∙ finds.0) (λ three. omega (arith, three)) (λ six. omega (arith, six))
@@ -279,6 +333,15 @@ pub run_taken : (words : List Text) (recording : Recording) (machine tools certi
 run_taken words recording machine tools certificate events program delete output spelled =
     subst IsTaken (sym spelled) (run_spells recording machine tools certificate events program delete output).0
 
+run_have : (found : Option (Text × List Row)) (recording : Recording) (machine : Text) (tools : Text) (certificate : Text) (events : Option Text) (program : Option Text) (delete : Bool) (output : Option Text) → FindsRun recording machine tools certificate events program delete output found → HaveOrigins found
+run_have None recording machine tools certificate events program delete output finds = absurd finds
+run_have (Some found) recording machine tools certificate events program delete output finds = none_wrong found finds.9
+
+pub run_origins : (words : List Text) (recording : Recording) (machine tools certificate : Text) (events program : Option Text) (delete : Bool) (output : Option Text) → words ≡ run_words recording machine tools certificate events program delete output → HaveOrigins (subcommand_of ngc_app words)
+run_origins words recording machine tools certificate events program delete output spelled =
+    let Have : List Text → Type 0 = λ ws. HaveOrigins (subcommand_of ngc_app ws) in
+    subst Have (sym spelled) (run_have _ recording machine tools certificate events program delete output (run_spells recording machine tools certificate events program delete output).1)
+
 pub run_read : (words : List Text) (recording : Recording) (machine tools certificate : Text) (events program : Option Text) (delete : Bool) (output : Option Text) (options : Options)
     → words ≡ run_words recording machine tools certificate events program delete output → AreOptions (subcommand_of ngc_app words) options
     → AsksForRun recording machine tools certificate events program delete output options
@@ -294,18 +357,19 @@ FindsLive machine tools certificate program delete output feed_ring (Some found)
     × (first_of (codes "tools") found.1 ≡ Some tools) × (first_of (codes "certificate") found.1 ≡ Some certificate)
     × (first_of (codes "program") found.1 ≡ Some program) × (is_set (codes "delete") found.1 ≡ delete)
     × (first_of (codes "output") found.1 ≡ output) × (first_of (codes "inverted") found.1 ≡ None) × (is_set (codes "feed-ring") found.1 ≡ feed_ring)
+    × (all_of (codes "origin") found.1 ≡ None)
 
 live_spells : (machine tools certificate program : Text) (delete : Bool) (output : Option Text) (feed_ring : Bool)
     → Spells (live_words machine tools certificate program delete output feed_ring) (FindsLive machine tools certificate program delete output feed_ring)
 unfolding clap_on_literals
-live_spells machine tools certificate program false None false = (refl, (refl, refl, refl, refl, refl, refl, refl, refl, refl))
-live_spells machine tools certificate program false None true = (refl, (refl, refl, refl, refl, refl, refl, refl, refl, refl))
-live_spells machine tools certificate program false (Some output) false = (refl, (refl, refl, refl, refl, refl, refl, refl, refl, refl))
-live_spells machine tools certificate program false (Some output) true = (refl, (refl, refl, refl, refl, refl, refl, refl, refl, refl))
-live_spells machine tools certificate program true None false = (refl, (refl, refl, refl, refl, refl, refl, refl, refl, refl))
-live_spells machine tools certificate program true None true = (refl, (refl, refl, refl, refl, refl, refl, refl, refl, refl))
-live_spells machine tools certificate program true (Some output) false = (refl, (refl, refl, refl, refl, refl, refl, refl, refl, refl))
-live_spells machine tools certificate program true (Some output) true = (refl, (refl, refl, refl, refl, refl, refl, refl, refl, refl))
+live_spells machine tools certificate program false None false = (refl, (refl, refl, refl, refl, refl, refl, refl, refl, refl, refl))
+live_spells machine tools certificate program false None true = (refl, (refl, refl, refl, refl, refl, refl, refl, refl, refl, refl))
+live_spells machine tools certificate program false (Some output) false = (refl, (refl, refl, refl, refl, refl, refl, refl, refl, refl, refl))
+live_spells machine tools certificate program false (Some output) true = (refl, (refl, refl, refl, refl, refl, refl, refl, refl, refl, refl))
+live_spells machine tools certificate program true None false = (refl, (refl, refl, refl, refl, refl, refl, refl, refl, refl, refl))
+live_spells machine tools certificate program true None true = (refl, (refl, refl, refl, refl, refl, refl, refl, refl, refl, refl))
+live_spells machine tools certificate program true (Some output) false = (refl, (refl, refl, refl, refl, refl, refl, refl, refl, refl, refl))
+live_spells machine tools certificate program true (Some output) true = (refl, (refl, refl, refl, refl, refl, refl, refl, refl, refl, refl))
 
 live_asked : (machine tools certificate program : Text) (delete : Bool) (output : Option Text) (feed_ring : Bool) (found : Option (Text × List Row)) (options : Options)
     → FindsLive machine tools certificate program delete output feed_ring found → AreOptions found options →
@@ -320,6 +384,7 @@ live_asked machine tools certificate program delete output feed_ring (Some found
   are.1.output ∙ finds.6,
   no_mask _ live.inverted are.1.inverted finds.7,
   are.1.feed_ring ∙ finds.8,
+  none_replaced found.1 live.origins are.1.origins finds.9,
 )
 live_asked machine tools certificate program delete output feed_ring (Some found) (ToList list) finds are =
     other_third (codes "live") (codes "list") (sym finds.0 ∙ are.0) (λ thirds. omega (arith, thirds))
@@ -353,6 +418,15 @@ pub live_taken : (words : List Text) (machine tools certificate program : Text) 
 live_taken words machine tools certificate program delete output feed_ring spelled =
     subst IsTaken (sym spelled) (live_spells machine tools certificate program delete output feed_ring).0
 
+live_have : (found : Option (Text × List Row)) (machine : Text) (tools : Text) (certificate : Text) (program : Text) (delete : Bool) (output : Option Text) (feed_ring : Bool) → FindsLive machine tools certificate program delete output feed_ring found → HaveOrigins found
+live_have None machine tools certificate program delete output feed_ring finds = absurd finds
+live_have (Some found) machine tools certificate program delete output feed_ring finds = none_wrong found finds.9
+
+pub live_origins : (words : List Text) (machine tools certificate program : Text) (delete : Bool) (output : Option Text) (feed_ring : Bool) → words ≡ live_words machine tools certificate program delete output feed_ring → HaveOrigins (subcommand_of ngc_app words)
+live_origins words machine tools certificate program delete output feed_ring spelled =
+    let Have : List Text → Type 0 = λ ws. HaveOrigins (subcommand_of ngc_app ws) in
+    subst Have (sym spelled) (live_have _ machine tools certificate program delete output feed_ring (live_spells machine tools certificate program delete output feed_ring).1)
+
 pub live_read : (words : List Text) (machine tools certificate program : Text) (delete : Bool) (output : Option Text) (feed_ring : Bool) (options : Options)
     → words ≡ live_words machine tools certificate program delete output feed_ring → AreOptions (subcommand_of ngc_app words) options
     → AsksForLive machine tools certificate program delete output feed_ring options
@@ -369,74 +443,75 @@ FindsDraw machine tools certificate program view delete bodies whole (Some found
     × (first_of (codes "program") found.1 ≡ program) × (first_of (codes "view") found.1 ≡ view)
     × (is_set (codes "delete") found.1 ≡ delete) × (is_set (codes "bodies") found.1 ≡ bodies)
     × (is_set (codes "whole") found.1 ≡ whole)
+    × (all_of (codes "origin") found.1 ≡ None)
 
 draw_spells : (machine tools : Text) (certificate program view : Option Text) (delete bodies whole : Bool)
     → Spells (draw_words machine tools certificate program view delete bodies whole) (FindsDraw machine tools certificate program view delete bodies whole)
 unfolding clap_on_literals
-draw_spells machine tools None None None false false false = (refl, (refl, refl, refl, refl, refl, refl, refl, refl, refl))
-draw_spells machine tools None None None false false true = (refl, (refl, refl, refl, refl, refl, refl, refl, refl, refl))
-draw_spells machine tools None None None false true false = (refl, (refl, refl, refl, refl, refl, refl, refl, refl, refl))
-draw_spells machine tools None None None false true true = (refl, (refl, refl, refl, refl, refl, refl, refl, refl, refl))
-draw_spells machine tools None None None true false false = (refl, (refl, refl, refl, refl, refl, refl, refl, refl, refl))
-draw_spells machine tools None None None true false true = (refl, (refl, refl, refl, refl, refl, refl, refl, refl, refl))
-draw_spells machine tools None None None true true false = (refl, (refl, refl, refl, refl, refl, refl, refl, refl, refl))
-draw_spells machine tools None None None true true true = (refl, (refl, refl, refl, refl, refl, refl, refl, refl, refl))
-draw_spells machine tools None None (Some view) false false false = (refl, (refl, refl, refl, refl, refl, refl, refl, refl, refl))
-draw_spells machine tools None None (Some view) false false true = (refl, (refl, refl, refl, refl, refl, refl, refl, refl, refl))
-draw_spells machine tools None None (Some view) false true false = (refl, (refl, refl, refl, refl, refl, refl, refl, refl, refl))
-draw_spells machine tools None None (Some view) false true true = (refl, (refl, refl, refl, refl, refl, refl, refl, refl, refl))
-draw_spells machine tools None None (Some view) true false false = (refl, (refl, refl, refl, refl, refl, refl, refl, refl, refl))
-draw_spells machine tools None None (Some view) true false true = (refl, (refl, refl, refl, refl, refl, refl, refl, refl, refl))
-draw_spells machine tools None None (Some view) true true false = (refl, (refl, refl, refl, refl, refl, refl, refl, refl, refl))
-draw_spells machine tools None None (Some view) true true true = (refl, (refl, refl, refl, refl, refl, refl, refl, refl, refl))
-draw_spells machine tools None (Some program) None false false false = (refl, (refl, refl, refl, refl, refl, refl, refl, refl, refl))
-draw_spells machine tools None (Some program) None false false true = (refl, (refl, refl, refl, refl, refl, refl, refl, refl, refl))
-draw_spells machine tools None (Some program) None false true false = (refl, (refl, refl, refl, refl, refl, refl, refl, refl, refl))
-draw_spells machine tools None (Some program) None false true true = (refl, (refl, refl, refl, refl, refl, refl, refl, refl, refl))
-draw_spells machine tools None (Some program) None true false false = (refl, (refl, refl, refl, refl, refl, refl, refl, refl, refl))
-draw_spells machine tools None (Some program) None true false true = (refl, (refl, refl, refl, refl, refl, refl, refl, refl, refl))
-draw_spells machine tools None (Some program) None true true false = (refl, (refl, refl, refl, refl, refl, refl, refl, refl, refl))
-draw_spells machine tools None (Some program) None true true true = (refl, (refl, refl, refl, refl, refl, refl, refl, refl, refl))
-draw_spells machine tools None (Some program) (Some view) false false false = (refl, (refl, refl, refl, refl, refl, refl, refl, refl, refl))
-draw_spells machine tools None (Some program) (Some view) false false true = (refl, (refl, refl, refl, refl, refl, refl, refl, refl, refl))
-draw_spells machine tools None (Some program) (Some view) false true false = (refl, (refl, refl, refl, refl, refl, refl, refl, refl, refl))
-draw_spells machine tools None (Some program) (Some view) false true true = (refl, (refl, refl, refl, refl, refl, refl, refl, refl, refl))
-draw_spells machine tools None (Some program) (Some view) true false false = (refl, (refl, refl, refl, refl, refl, refl, refl, refl, refl))
-draw_spells machine tools None (Some program) (Some view) true false true = (refl, (refl, refl, refl, refl, refl, refl, refl, refl, refl))
-draw_spells machine tools None (Some program) (Some view) true true false = (refl, (refl, refl, refl, refl, refl, refl, refl, refl, refl))
-draw_spells machine tools None (Some program) (Some view) true true true = (refl, (refl, refl, refl, refl, refl, refl, refl, refl, refl))
-draw_spells machine tools (Some certificate) None None false false false = (refl, (refl, refl, refl, refl, refl, refl, refl, refl, refl))
-draw_spells machine tools (Some certificate) None None false false true = (refl, (refl, refl, refl, refl, refl, refl, refl, refl, refl))
-draw_spells machine tools (Some certificate) None None false true false = (refl, (refl, refl, refl, refl, refl, refl, refl, refl, refl))
-draw_spells machine tools (Some certificate) None None false true true = (refl, (refl, refl, refl, refl, refl, refl, refl, refl, refl))
-draw_spells machine tools (Some certificate) None None true false false = (refl, (refl, refl, refl, refl, refl, refl, refl, refl, refl))
-draw_spells machine tools (Some certificate) None None true false true = (refl, (refl, refl, refl, refl, refl, refl, refl, refl, refl))
-draw_spells machine tools (Some certificate) None None true true false = (refl, (refl, refl, refl, refl, refl, refl, refl, refl, refl))
-draw_spells machine tools (Some certificate) None None true true true = (refl, (refl, refl, refl, refl, refl, refl, refl, refl, refl))
-draw_spells machine tools (Some certificate) None (Some view) false false false = (refl, (refl, refl, refl, refl, refl, refl, refl, refl, refl))
-draw_spells machine tools (Some certificate) None (Some view) false false true = (refl, (refl, refl, refl, refl, refl, refl, refl, refl, refl))
-draw_spells machine tools (Some certificate) None (Some view) false true false = (refl, (refl, refl, refl, refl, refl, refl, refl, refl, refl))
-draw_spells machine tools (Some certificate) None (Some view) false true true = (refl, (refl, refl, refl, refl, refl, refl, refl, refl, refl))
-draw_spells machine tools (Some certificate) None (Some view) true false false = (refl, (refl, refl, refl, refl, refl, refl, refl, refl, refl))
-draw_spells machine tools (Some certificate) None (Some view) true false true = (refl, (refl, refl, refl, refl, refl, refl, refl, refl, refl))
-draw_spells machine tools (Some certificate) None (Some view) true true false = (refl, (refl, refl, refl, refl, refl, refl, refl, refl, refl))
-draw_spells machine tools (Some certificate) None (Some view) true true true = (refl, (refl, refl, refl, refl, refl, refl, refl, refl, refl))
-draw_spells machine tools (Some certificate) (Some program) None false false false = (refl, (refl, refl, refl, refl, refl, refl, refl, refl, refl))
-draw_spells machine tools (Some certificate) (Some program) None false false true = (refl, (refl, refl, refl, refl, refl, refl, refl, refl, refl))
-draw_spells machine tools (Some certificate) (Some program) None false true false = (refl, (refl, refl, refl, refl, refl, refl, refl, refl, refl))
-draw_spells machine tools (Some certificate) (Some program) None false true true = (refl, (refl, refl, refl, refl, refl, refl, refl, refl, refl))
-draw_spells machine tools (Some certificate) (Some program) None true false false = (refl, (refl, refl, refl, refl, refl, refl, refl, refl, refl))
-draw_spells machine tools (Some certificate) (Some program) None true false true = (refl, (refl, refl, refl, refl, refl, refl, refl, refl, refl))
-draw_spells machine tools (Some certificate) (Some program) None true true false = (refl, (refl, refl, refl, refl, refl, refl, refl, refl, refl))
-draw_spells machine tools (Some certificate) (Some program) None true true true = (refl, (refl, refl, refl, refl, refl, refl, refl, refl, refl))
-draw_spells machine tools (Some certificate) (Some program) (Some view) false false false = (refl, (refl, refl, refl, refl, refl, refl, refl, refl, refl))
-draw_spells machine tools (Some certificate) (Some program) (Some view) false false true = (refl, (refl, refl, refl, refl, refl, refl, refl, refl, refl))
-draw_spells machine tools (Some certificate) (Some program) (Some view) false true false = (refl, (refl, refl, refl, refl, refl, refl, refl, refl, refl))
-draw_spells machine tools (Some certificate) (Some program) (Some view) false true true = (refl, (refl, refl, refl, refl, refl, refl, refl, refl, refl))
-draw_spells machine tools (Some certificate) (Some program) (Some view) true false false = (refl, (refl, refl, refl, refl, refl, refl, refl, refl, refl))
-draw_spells machine tools (Some certificate) (Some program) (Some view) true false true = (refl, (refl, refl, refl, refl, refl, refl, refl, refl, refl))
-draw_spells machine tools (Some certificate) (Some program) (Some view) true true false = (refl, (refl, refl, refl, refl, refl, refl, refl, refl, refl))
-draw_spells machine tools (Some certificate) (Some program) (Some view) true true true = (refl, (refl, refl, refl, refl, refl, refl, refl, refl, refl))
+draw_spells machine tools None None None false false false = (refl, (refl, refl, refl, refl, refl, refl, refl, refl, refl, refl))
+draw_spells machine tools None None None false false true = (refl, (refl, refl, refl, refl, refl, refl, refl, refl, refl, refl))
+draw_spells machine tools None None None false true false = (refl, (refl, refl, refl, refl, refl, refl, refl, refl, refl, refl))
+draw_spells machine tools None None None false true true = (refl, (refl, refl, refl, refl, refl, refl, refl, refl, refl, refl))
+draw_spells machine tools None None None true false false = (refl, (refl, refl, refl, refl, refl, refl, refl, refl, refl, refl))
+draw_spells machine tools None None None true false true = (refl, (refl, refl, refl, refl, refl, refl, refl, refl, refl, refl))
+draw_spells machine tools None None None true true false = (refl, (refl, refl, refl, refl, refl, refl, refl, refl, refl, refl))
+draw_spells machine tools None None None true true true = (refl, (refl, refl, refl, refl, refl, refl, refl, refl, refl, refl))
+draw_spells machine tools None None (Some view) false false false = (refl, (refl, refl, refl, refl, refl, refl, refl, refl, refl, refl))
+draw_spells machine tools None None (Some view) false false true = (refl, (refl, refl, refl, refl, refl, refl, refl, refl, refl, refl))
+draw_spells machine tools None None (Some view) false true false = (refl, (refl, refl, refl, refl, refl, refl, refl, refl, refl, refl))
+draw_spells machine tools None None (Some view) false true true = (refl, (refl, refl, refl, refl, refl, refl, refl, refl, refl, refl))
+draw_spells machine tools None None (Some view) true false false = (refl, (refl, refl, refl, refl, refl, refl, refl, refl, refl, refl))
+draw_spells machine tools None None (Some view) true false true = (refl, (refl, refl, refl, refl, refl, refl, refl, refl, refl, refl))
+draw_spells machine tools None None (Some view) true true false = (refl, (refl, refl, refl, refl, refl, refl, refl, refl, refl, refl))
+draw_spells machine tools None None (Some view) true true true = (refl, (refl, refl, refl, refl, refl, refl, refl, refl, refl, refl))
+draw_spells machine tools None (Some program) None false false false = (refl, (refl, refl, refl, refl, refl, refl, refl, refl, refl, refl))
+draw_spells machine tools None (Some program) None false false true = (refl, (refl, refl, refl, refl, refl, refl, refl, refl, refl, refl))
+draw_spells machine tools None (Some program) None false true false = (refl, (refl, refl, refl, refl, refl, refl, refl, refl, refl, refl))
+draw_spells machine tools None (Some program) None false true true = (refl, (refl, refl, refl, refl, refl, refl, refl, refl, refl, refl))
+draw_spells machine tools None (Some program) None true false false = (refl, (refl, refl, refl, refl, refl, refl, refl, refl, refl, refl))
+draw_spells machine tools None (Some program) None true false true = (refl, (refl, refl, refl, refl, refl, refl, refl, refl, refl, refl))
+draw_spells machine tools None (Some program) None true true false = (refl, (refl, refl, refl, refl, refl, refl, refl, refl, refl, refl))
+draw_spells machine tools None (Some program) None true true true = (refl, (refl, refl, refl, refl, refl, refl, refl, refl, refl, refl))
+draw_spells machine tools None (Some program) (Some view) false false false = (refl, (refl, refl, refl, refl, refl, refl, refl, refl, refl, refl))
+draw_spells machine tools None (Some program) (Some view) false false true = (refl, (refl, refl, refl, refl, refl, refl, refl, refl, refl, refl))
+draw_spells machine tools None (Some program) (Some view) false true false = (refl, (refl, refl, refl, refl, refl, refl, refl, refl, refl, refl))
+draw_spells machine tools None (Some program) (Some view) false true true = (refl, (refl, refl, refl, refl, refl, refl, refl, refl, refl, refl))
+draw_spells machine tools None (Some program) (Some view) true false false = (refl, (refl, refl, refl, refl, refl, refl, refl, refl, refl, refl))
+draw_spells machine tools None (Some program) (Some view) true false true = (refl, (refl, refl, refl, refl, refl, refl, refl, refl, refl, refl))
+draw_spells machine tools None (Some program) (Some view) true true false = (refl, (refl, refl, refl, refl, refl, refl, refl, refl, refl, refl))
+draw_spells machine tools None (Some program) (Some view) true true true = (refl, (refl, refl, refl, refl, refl, refl, refl, refl, refl, refl))
+draw_spells machine tools (Some certificate) None None false false false = (refl, (refl, refl, refl, refl, refl, refl, refl, refl, refl, refl))
+draw_spells machine tools (Some certificate) None None false false true = (refl, (refl, refl, refl, refl, refl, refl, refl, refl, refl, refl))
+draw_spells machine tools (Some certificate) None None false true false = (refl, (refl, refl, refl, refl, refl, refl, refl, refl, refl, refl))
+draw_spells machine tools (Some certificate) None None false true true = (refl, (refl, refl, refl, refl, refl, refl, refl, refl, refl, refl))
+draw_spells machine tools (Some certificate) None None true false false = (refl, (refl, refl, refl, refl, refl, refl, refl, refl, refl, refl))
+draw_spells machine tools (Some certificate) None None true false true = (refl, (refl, refl, refl, refl, refl, refl, refl, refl, refl, refl))
+draw_spells machine tools (Some certificate) None None true true false = (refl, (refl, refl, refl, refl, refl, refl, refl, refl, refl, refl))
+draw_spells machine tools (Some certificate) None None true true true = (refl, (refl, refl, refl, refl, refl, refl, refl, refl, refl, refl))
+draw_spells machine tools (Some certificate) None (Some view) false false false = (refl, (refl, refl, refl, refl, refl, refl, refl, refl, refl, refl))
+draw_spells machine tools (Some certificate) None (Some view) false false true = (refl, (refl, refl, refl, refl, refl, refl, refl, refl, refl, refl))
+draw_spells machine tools (Some certificate) None (Some view) false true false = (refl, (refl, refl, refl, refl, refl, refl, refl, refl, refl, refl))
+draw_spells machine tools (Some certificate) None (Some view) false true true = (refl, (refl, refl, refl, refl, refl, refl, refl, refl, refl, refl))
+draw_spells machine tools (Some certificate) None (Some view) true false false = (refl, (refl, refl, refl, refl, refl, refl, refl, refl, refl, refl))
+draw_spells machine tools (Some certificate) None (Some view) true false true = (refl, (refl, refl, refl, refl, refl, refl, refl, refl, refl, refl))
+draw_spells machine tools (Some certificate) None (Some view) true true false = (refl, (refl, refl, refl, refl, refl, refl, refl, refl, refl, refl))
+draw_spells machine tools (Some certificate) None (Some view) true true true = (refl, (refl, refl, refl, refl, refl, refl, refl, refl, refl, refl))
+draw_spells machine tools (Some certificate) (Some program) None false false false = (refl, (refl, refl, refl, refl, refl, refl, refl, refl, refl, refl))
+draw_spells machine tools (Some certificate) (Some program) None false false true = (refl, (refl, refl, refl, refl, refl, refl, refl, refl, refl, refl))
+draw_spells machine tools (Some certificate) (Some program) None false true false = (refl, (refl, refl, refl, refl, refl, refl, refl, refl, refl, refl))
+draw_spells machine tools (Some certificate) (Some program) None false true true = (refl, (refl, refl, refl, refl, refl, refl, refl, refl, refl, refl))
+draw_spells machine tools (Some certificate) (Some program) None true false false = (refl, (refl, refl, refl, refl, refl, refl, refl, refl, refl, refl))
+draw_spells machine tools (Some certificate) (Some program) None true false true = (refl, (refl, refl, refl, refl, refl, refl, refl, refl, refl, refl))
+draw_spells machine tools (Some certificate) (Some program) None true true false = (refl, (refl, refl, refl, refl, refl, refl, refl, refl, refl, refl))
+draw_spells machine tools (Some certificate) (Some program) None true true true = (refl, (refl, refl, refl, refl, refl, refl, refl, refl, refl, refl))
+draw_spells machine tools (Some certificate) (Some program) (Some view) false false false = (refl, (refl, refl, refl, refl, refl, refl, refl, refl, refl, refl))
+draw_spells machine tools (Some certificate) (Some program) (Some view) false false true = (refl, (refl, refl, refl, refl, refl, refl, refl, refl, refl, refl))
+draw_spells machine tools (Some certificate) (Some program) (Some view) false true false = (refl, (refl, refl, refl, refl, refl, refl, refl, refl, refl, refl))
+draw_spells machine tools (Some certificate) (Some program) (Some view) false true true = (refl, (refl, refl, refl, refl, refl, refl, refl, refl, refl, refl))
+draw_spells machine tools (Some certificate) (Some program) (Some view) true false false = (refl, (refl, refl, refl, refl, refl, refl, refl, refl, refl, refl))
+draw_spells machine tools (Some certificate) (Some program) (Some view) true false true = (refl, (refl, refl, refl, refl, refl, refl, refl, refl, refl, refl))
+draw_spells machine tools (Some certificate) (Some program) (Some view) true true false = (refl, (refl, refl, refl, refl, refl, refl, refl, refl, refl, refl))
+draw_spells machine tools (Some certificate) (Some program) (Some view) true true true = (refl, (refl, refl, refl, refl, refl, refl, refl, refl, refl, refl))
 
 draw_asked : (machine tools : Text) (certificate program view : Option Text) (delete bodies whole : Bool) (found : Option (Text × List Row)) (options : Options)
     → FindsDraw machine tools certificate program view delete bodies whole found → AreOptions found options →
@@ -451,6 +526,7 @@ draw_asked machine tools certificate program view delete bodies whole (Some foun
   are.1.delete ∙ finds.6,
   are.1.bodies ∙ finds.7,
   are.1.whole ∙ finds.8,
+  none_replaced found.1 draw.origins are.1.origins finds.9,
 )
 draw_asked machine tools certificate program view delete bodies whole (Some found) (ToLive live) finds are =
     other_letter (codes "draw") (codes "live") (sym finds.0 ∙ are.0) (λ letters. omega (arith, letters))
@@ -484,6 +560,15 @@ pub draw_taken : (words : List Text) (machine tools : Text) (certificate program
 draw_taken words machine tools certificate program view delete bodies whole spelled =
     subst IsTaken (sym spelled) (draw_spells machine tools certificate program view delete bodies whole).0
 
+draw_have : (found : Option (Text × List Row)) (machine : Text) (tools : Text) (certificate : Option Text) (program : Option Text) (view : Option Text) (delete : Bool) (bodies : Bool) (whole : Bool) → FindsDraw machine tools certificate program view delete bodies whole found → HaveOrigins found
+draw_have None machine tools certificate program view delete bodies whole finds = absurd finds
+draw_have (Some found) machine tools certificate program view delete bodies whole finds = none_wrong found finds.9
+
+pub draw_origins : (words : List Text) (machine tools : Text) (certificate program view : Option Text) (delete bodies whole : Bool) → words ≡ draw_words machine tools certificate program view delete bodies whole → HaveOrigins (subcommand_of ngc_app words)
+draw_origins words machine tools certificate program view delete bodies whole spelled =
+    let Have : List Text → Type 0 = λ ws. HaveOrigins (subcommand_of ngc_app ws) in
+    subst Have (sym spelled) (draw_have _ machine tools certificate program view delete bodies whole (draw_spells machine tools certificate program view delete bodies whole).1)
+
 pub draw_read : (words : List Text) (machine tools : Text) (certificate program view : Option Text) (delete bodies whole : Bool) (options : Options)
     → words ≡ draw_words machine tools certificate program view delete bodies whole → AreOptions (subcommand_of ngc_app words) options
     → AsksForDraw machine tools certificate program view delete bodies whole options
@@ -497,13 +582,14 @@ FindsShow machine tools warnings None = ⊥
 FindsShow machine tools warnings (Some found) =
     (found.0 ≡ codes "show") × (first_of (codes "machine") found.1 ≡ Some machine) × (first_of (codes "tools") found.1 ≡ tools)
     × (is_set (codes "warnings") found.1 ≡ warnings)
+    × (all_of (codes "origin") found.1 ≡ None)
 
 show_spells : (machine : Text) (tools : Option Text) (warnings : Bool) → Spells (show_words machine tools warnings) (FindsShow machine tools warnings)
 unfolding clap_on_literals
-show_spells machine None false = (refl, (refl, refl, refl, refl))
-show_spells machine None true = (refl, (refl, refl, refl, refl))
-show_spells machine (Some tools) false = (refl, (refl, refl, refl, refl))
-show_spells machine (Some tools) true = (refl, (refl, refl, refl, refl))
+show_spells machine None false = (refl, (refl, refl, refl, refl, refl))
+show_spells machine None true = (refl, (refl, refl, refl, refl, refl))
+show_spells machine (Some tools) false = (refl, (refl, refl, refl, refl, refl))
+show_spells machine (Some tools) true = (refl, (refl, refl, refl, refl, refl))
 
 show_asked : (machine : Text) (tools : Option Text) (warnings : Bool) (found : Option (Text × List Row)) (options : Options)
     → FindsShow machine tools warnings found → AreOptions found options → AsksForShow machine tools warnings options
@@ -539,6 +625,15 @@ show_asked machine tools warnings (Some found) ToVersion finds are =
 pub show_taken : (words : List Text) (machine : Text) (tools : Option Text) (warnings : Bool) → words ≡ show_words machine tools warnings → IsTaken words
 show_taken words machine tools warnings spelled = subst IsTaken (sym spelled) (show_spells machine tools warnings).0
 
+show_have : (found : Option (Text × List Row)) (machine : Text) (tools : Option Text) (warnings : Bool) → FindsShow machine tools warnings found → HaveOrigins found
+show_have None machine tools warnings finds = absurd finds
+show_have (Some found) machine tools warnings finds = none_wrong found finds.4
+
+pub show_origins : (words : List Text) (machine : Text) (tools : Option Text) (warnings : Bool) → words ≡ show_words machine tools warnings → HaveOrigins (subcommand_of ngc_app words)
+show_origins words machine tools warnings spelled =
+    let Have : List Text → Type 0 = λ ws. HaveOrigins (subcommand_of ngc_app ws) in
+    subst Have (sym spelled) (show_have _ machine tools warnings (show_spells machine tools warnings).1)
+
 pub show_read : (words : List Text) (machine : Text) (tools : Option Text) (warnings : Bool) (options : Options)
     → words ≡ show_words machine tools warnings → AreOptions (subcommand_of ngc_app words) options → AsksForShow machine tools warnings options
 show_read words machine tools warnings options spelled are =
@@ -551,6 +646,7 @@ FindsCertify machine tools program cuts format None = ⊥
 FindsCertify machine tools program cuts format (Some found) = (found.0 ≡ codes "certify") × (first_of (codes "machine") found.1 ≡ Some machine)
     × (first_of (codes "tools") found.1 ≡ Some tools) × (first_of (codes "program") found.1 ≡ program) × (first_of (codes "cuts") found.1 ≡ cuts)
     × (first_of (codes "format") found.1 ≡ format)
+    × (all_of (codes "origin") found.1 ≡ None)
 
 -- a number as a text
 abbrev text_of : Option ℕ → Option Text
@@ -563,18 +659,18 @@ text_of_format format = option_map format_text format
 certify_finds : (machine tools : Text) (program : Option Text) (cuts : Option ℕ) (format : Option Format)
     → FindsCertify machine tools program (text_of cuts) (text_of_format format) (subcommand_of ngc_app (certify_words machine tools program cuts format))
 unfolding clap_on_literals
-certify_finds machine tools None None None = (refl, refl, refl, refl, refl, refl)
-certify_finds machine tools None None (Some One) = (refl, refl, refl, refl, refl, refl)
-certify_finds machine tools None None (Some Two) = (refl, refl, refl, refl, refl, refl)
-certify_finds machine tools None (Some cuts) None = (refl, refl, refl, refl, refl, refl)
-certify_finds machine tools None (Some cuts) (Some One) = (refl, refl, refl, refl, refl, refl)
-certify_finds machine tools None (Some cuts) (Some Two) = (refl, refl, refl, refl, refl, refl)
-certify_finds machine tools (Some program) None None = (refl, refl, refl, refl, refl, refl)
-certify_finds machine tools (Some program) None (Some One) = (refl, refl, refl, refl, refl, refl)
-certify_finds machine tools (Some program) None (Some Two) = (refl, refl, refl, refl, refl, refl)
-certify_finds machine tools (Some program) (Some cuts) None = (refl, refl, refl, refl, refl, refl)
-certify_finds machine tools (Some program) (Some cuts) (Some One) = (refl, refl, refl, refl, refl, refl)
-certify_finds machine tools (Some program) (Some cuts) (Some Two) = (refl, refl, refl, refl, refl, refl)
+certify_finds machine tools None None None = (refl, refl, refl, refl, refl, refl, refl)
+certify_finds machine tools None None (Some One) = (refl, refl, refl, refl, refl, refl, refl)
+certify_finds machine tools None None (Some Two) = (refl, refl, refl, refl, refl, refl, refl)
+certify_finds machine tools None (Some cuts) None = (refl, refl, refl, refl, refl, refl, refl)
+certify_finds machine tools None (Some cuts) (Some One) = (refl, refl, refl, refl, refl, refl, refl)
+certify_finds machine tools None (Some cuts) (Some Two) = (refl, refl, refl, refl, refl, refl, refl)
+certify_finds machine tools (Some program) None None = (refl, refl, refl, refl, refl, refl, refl)
+certify_finds machine tools (Some program) None (Some One) = (refl, refl, refl, refl, refl, refl, refl)
+certify_finds machine tools (Some program) None (Some Two) = (refl, refl, refl, refl, refl, refl, refl)
+certify_finds machine tools (Some program) (Some cuts) None = (refl, refl, refl, refl, refl, refl, refl)
+certify_finds machine tools (Some program) (Some cuts) (Some One) = (refl, refl, refl, refl, refl, refl, refl)
+certify_finds machine tools (Some program) (Some cuts) (Some Two) = (refl, refl, refl, refl, refl, refl, refl)
 
 -- digits have no sign before them
 no_plus : (ds : Text) → IsNumeral 10 ds → without_leading_plus ds ≡ ds
@@ -653,6 +749,7 @@ certify_asked machine tools program cuts format (Some found) (ToCertify certify)
       are.1.program ∙ finds.3,
       cuts_read cuts certify.cuts range read,
       format_read format certify.format version,
+      none_replaced found.1 certify.origins are.1.origins finds.6,
     )
 certify_asked machine tools program cuts format (Some found) (ToList list) range finds are =
     other_name (codes "certify") (codes "list") (sym finds.0 ∙ are.0) (λ lengths. omega (arith, lengths))
@@ -685,6 +782,15 @@ pub certify_taken : (words : List Text) (machine tools : Text) (program : Option
     → words ≡ certify_words machine tools program cuts format → IsTaken words
 certify_taken words machine tools program cuts format range spelled = subst IsTaken (sym spelled) (certify_spells machine tools program cuts format range)
 
+certify_have : (found : Option (Text × List Row)) (machine : Text) (tools : Text) (program : Option Text) (cuts : Option Text) (format : Option Text) → FindsCertify machine tools program cuts format found → HaveOrigins found
+certify_have None machine tools program cuts format finds = absurd finds
+certify_have (Some found) machine tools program cuts format finds = none_wrong found finds.6
+
+pub certify_origins : (words : List Text) (machine tools : Text) (program : Option Text) (cuts : Option ℕ) (format : Option Format) → AreCutsInRange cuts → words ≡ certify_words machine tools program cuts format → HaveOrigins (subcommand_of ngc_app words)
+certify_origins words machine tools program cuts format range spelled =
+    let Have : List Text → Type 0 = λ ws. HaveOrigins (subcommand_of ngc_app ws) in
+    subst Have (sym spelled) (certify_have _ machine tools program (text_of cuts) (text_of_format format) (certify_finds machine tools program cuts format))
+
 pub certify_read : (words : List Text) (machine tools : Text) (program : Option Text) (cuts : Option ℕ) (format : Option Format) (options : Options) →
     AreCutsInRange cuts
     → words ≡ certify_words machine tools program cuts format → AreOptions (subcommand_of ngc_app words) options →
@@ -699,26 +805,27 @@ FindsReport machine tools program cuts all json None = ⊥
 FindsReport machine tools program cuts all json (Some found) = (found.0 ≡ codes "report") × (first_of (codes "machine") found.1 ≡ Some machine)
     × (first_of (codes "tools") found.1 ≡ Some tools) × (first_of (codes "program") found.1 ≡ program) × (first_of (codes "cuts") found.1 ≡ cuts)
     × (is_set (codes "all") found.1 ≡ all) × (is_set (codes "json") found.1 ≡ json)
+    × (all_of (codes "origin") found.1 ≡ None)
 
 report_finds : (machine tools : Text) (program : Option Text) (cuts : Option ℕ) (all json : Bool)
     → FindsReport machine tools program (text_of cuts) all json (subcommand_of ngc_app (report_words machine tools program cuts all json))
 unfolding clap_on_literals
-report_finds machine tools None None false false = (refl, refl, refl, refl, refl, refl, refl)
-report_finds machine tools None None false true = (refl, refl, refl, refl, refl, refl, refl)
-report_finds machine tools None None true false = (refl, refl, refl, refl, refl, refl, refl)
-report_finds machine tools None None true true = (refl, refl, refl, refl, refl, refl, refl)
-report_finds machine tools None (Some cuts) false false = (refl, refl, refl, refl, refl, refl, refl)
-report_finds machine tools None (Some cuts) false true = (refl, refl, refl, refl, refl, refl, refl)
-report_finds machine tools None (Some cuts) true false = (refl, refl, refl, refl, refl, refl, refl)
-report_finds machine tools None (Some cuts) true true = (refl, refl, refl, refl, refl, refl, refl)
-report_finds machine tools (Some program) None false false = (refl, refl, refl, refl, refl, refl, refl)
-report_finds machine tools (Some program) None false true = (refl, refl, refl, refl, refl, refl, refl)
-report_finds machine tools (Some program) None true false = (refl, refl, refl, refl, refl, refl, refl)
-report_finds machine tools (Some program) None true true = (refl, refl, refl, refl, refl, refl, refl)
-report_finds machine tools (Some program) (Some cuts) false false = (refl, refl, refl, refl, refl, refl, refl)
-report_finds machine tools (Some program) (Some cuts) false true = (refl, refl, refl, refl, refl, refl, refl)
-report_finds machine tools (Some program) (Some cuts) true false = (refl, refl, refl, refl, refl, refl, refl)
-report_finds machine tools (Some program) (Some cuts) true true = (refl, refl, refl, refl, refl, refl, refl)
+report_finds machine tools None None false false = (refl, refl, refl, refl, refl, refl, refl, refl)
+report_finds machine tools None None false true = (refl, refl, refl, refl, refl, refl, refl, refl)
+report_finds machine tools None None true false = (refl, refl, refl, refl, refl, refl, refl, refl)
+report_finds machine tools None None true true = (refl, refl, refl, refl, refl, refl, refl, refl)
+report_finds machine tools None (Some cuts) false false = (refl, refl, refl, refl, refl, refl, refl, refl)
+report_finds machine tools None (Some cuts) false true = (refl, refl, refl, refl, refl, refl, refl, refl)
+report_finds machine tools None (Some cuts) true false = (refl, refl, refl, refl, refl, refl, refl, refl)
+report_finds machine tools None (Some cuts) true true = (refl, refl, refl, refl, refl, refl, refl, refl)
+report_finds machine tools (Some program) None false false = (refl, refl, refl, refl, refl, refl, refl, refl)
+report_finds machine tools (Some program) None false true = (refl, refl, refl, refl, refl, refl, refl, refl)
+report_finds machine tools (Some program) None true false = (refl, refl, refl, refl, refl, refl, refl, refl)
+report_finds machine tools (Some program) None true true = (refl, refl, refl, refl, refl, refl, refl, refl)
+report_finds machine tools (Some program) (Some cuts) false false = (refl, refl, refl, refl, refl, refl, refl, refl)
+report_finds machine tools (Some program) (Some cuts) false true = (refl, refl, refl, refl, refl, refl, refl, refl)
+report_finds machine tools (Some program) (Some cuts) true false = (refl, refl, refl, refl, refl, refl, refl, refl)
+report_finds machine tools (Some program) (Some cuts) true true = (refl, refl, refl, refl, refl, refl, refl, refl)
 
 report_cuts_taken : (machine tools : Text) (program : Option Text) (cuts : ℕ) (all json : Bool) → value_kinds false (Unsigned 1 65535) (decimal cuts) ≡ []
     → IsTaken (report_words machine tools program (Some cuts) all json)
@@ -759,6 +866,7 @@ report_asked machine tools program cuts all json (Some found) (ToReport report) 
       cuts_read cuts report.cuts range read,
       are.1.all ∙ finds.5,
       are.1.json ∙ finds.6,
+      none_replaced found.1 report.origins are.1.origins finds.7,
     )
 report_asked machine tools program cuts all json (Some found) (ToList list) range finds are =
     other_name (codes "report") (codes "list") (sym finds.0 ∙ are.0) (λ lengths. omega (arith, lengths))
@@ -789,6 +897,15 @@ pub report_taken : (words : List Text) (machine tools : Text) (program : Option 
     → words ≡ report_words machine tools program cuts all json → IsTaken words
 report_taken words machine tools program cuts all json range spelled = subst IsTaken (sym spelled) (report_spells machine tools program cuts all json range)
 
+report_have : (found : Option (Text × List Row)) (machine : Text) (tools : Text) (program : Option Text) (cuts : Option Text) (all : Bool) (json : Bool) → FindsReport machine tools program cuts all json found → HaveOrigins found
+report_have None machine tools program cuts all json finds = absurd finds
+report_have (Some found) machine tools program cuts all json finds = none_wrong found finds.7
+
+pub report_origins : (words : List Text) (machine tools : Text) (program : Option Text) (cuts : Option ℕ) (all json : Bool) → AreCutsInRange cuts → words ≡ report_words machine tools program cuts all json → HaveOrigins (subcommand_of ngc_app words)
+report_origins words machine tools program cuts all json range spelled =
+    let Have : List Text → Type 0 = λ ws. HaveOrigins (subcommand_of ngc_app ws) in
+    subst Have (sym spelled) (report_have _ machine tools program (text_of cuts) all json (report_finds machine tools program cuts all json))
+
 pub report_read : (words : List Text) (machine tools : Text) (program : Option Text) (cuts : Option ℕ) (all json : Bool) (options : Options) →
     AreCutsInRange cuts
     → words ≡ report_words machine tools program cuts all json → AreOptions (subcommand_of ngc_app words) options
@@ -803,26 +920,27 @@ FindsAdapt from machine tool drop program None = ⊥
 FindsAdapt from machine tool drop program (Some found) = (found.0 ≡ codes "adapt") × (first_of (codes "from") found.1 ≡ Some from)
     × (first_of (codes "machine") found.1 ≡ machine) × (first_of (codes "tool") found.1 ≡ tool) × (first_of (codes "drop") found.1 ≡ drop)
     × (first_of (codes "program") found.1 ≡ program)
+    × (all_of (codes "origin") found.1 ≡ None)
 
 adapt_finds : (from : Text) (machine : Option Text) (tool : Option ℕ) (drop program : Option Text)
     → FindsAdapt from machine (text_of tool) drop program (subcommand_of ngc_app (adapt_words from machine tool drop program))
 unfolding clap_on_literals
-adapt_finds from None None None None = (refl, refl, refl, refl, refl, refl)
-adapt_finds from None None None (Some program) = (refl, refl, refl, refl, refl, refl)
-adapt_finds from None None (Some drop) None = (refl, refl, refl, refl, refl, refl)
-adapt_finds from None None (Some drop) (Some program) = (refl, refl, refl, refl, refl, refl)
-adapt_finds from None (Some tool) None None = (refl, refl, refl, refl, refl, refl)
-adapt_finds from None (Some tool) None (Some program) = (refl, refl, refl, refl, refl, refl)
-adapt_finds from None (Some tool) (Some drop) None = (refl, refl, refl, refl, refl, refl)
-adapt_finds from None (Some tool) (Some drop) (Some program) = (refl, refl, refl, refl, refl, refl)
-adapt_finds from (Some machine) None None None = (refl, refl, refl, refl, refl, refl)
-adapt_finds from (Some machine) None None (Some program) = (refl, refl, refl, refl, refl, refl)
-adapt_finds from (Some machine) None (Some drop) None = (refl, refl, refl, refl, refl, refl)
-adapt_finds from (Some machine) None (Some drop) (Some program) = (refl, refl, refl, refl, refl, refl)
-adapt_finds from (Some machine) (Some tool) None None = (refl, refl, refl, refl, refl, refl)
-adapt_finds from (Some machine) (Some tool) None (Some program) = (refl, refl, refl, refl, refl, refl)
-adapt_finds from (Some machine) (Some tool) (Some drop) None = (refl, refl, refl, refl, refl, refl)
-adapt_finds from (Some machine) (Some tool) (Some drop) (Some program) = (refl, refl, refl, refl, refl, refl)
+adapt_finds from None None None None = (refl, refl, refl, refl, refl, refl, refl)
+adapt_finds from None None None (Some program) = (refl, refl, refl, refl, refl, refl, refl)
+adapt_finds from None None (Some drop) None = (refl, refl, refl, refl, refl, refl, refl)
+adapt_finds from None None (Some drop) (Some program) = (refl, refl, refl, refl, refl, refl, refl)
+adapt_finds from None (Some tool) None None = (refl, refl, refl, refl, refl, refl, refl)
+adapt_finds from None (Some tool) None (Some program) = (refl, refl, refl, refl, refl, refl, refl)
+adapt_finds from None (Some tool) (Some drop) None = (refl, refl, refl, refl, refl, refl, refl)
+adapt_finds from None (Some tool) (Some drop) (Some program) = (refl, refl, refl, refl, refl, refl, refl)
+adapt_finds from (Some machine) None None None = (refl, refl, refl, refl, refl, refl, refl)
+adapt_finds from (Some machine) None None (Some program) = (refl, refl, refl, refl, refl, refl, refl)
+adapt_finds from (Some machine) None (Some drop) None = (refl, refl, refl, refl, refl, refl, refl)
+adapt_finds from (Some machine) None (Some drop) (Some program) = (refl, refl, refl, refl, refl, refl, refl)
+adapt_finds from (Some machine) (Some tool) None None = (refl, refl, refl, refl, refl, refl, refl)
+adapt_finds from (Some machine) (Some tool) None (Some program) = (refl, refl, refl, refl, refl, refl, refl)
+adapt_finds from (Some machine) (Some tool) (Some drop) None = (refl, refl, refl, refl, refl, refl, refl)
+adapt_finds from (Some machine) (Some tool) (Some drop) (Some program) = (refl, refl, refl, refl, refl, refl, refl)
 
 adapt_tool_taken : (from : Text) (machine : Option Text) (tool : ℕ) (drop program : Option Text) → value_kinds false (Unsigned 1 9999) (decimal tool) ≡ []
     → IsTaken (adapt_words from machine (Some tool) drop program)
@@ -907,6 +1025,15 @@ pub adapt_taken : (words : List Text) (from : Text) (machine : Option Text) (too
     → words ≡ adapt_words from machine tool drop program → IsTaken words
 adapt_taken words from machine tool drop program range spelled = subst IsTaken (sym spelled) (adapt_spells from machine tool drop program range)
 
+adapt_have : (found : Option (Text × List Row)) (from : Text) (machine : Option Text) (tool : Option Text) (drop : Option Text) (program : Option Text) → FindsAdapt from machine tool drop program found → HaveOrigins found
+adapt_have None from machine tool drop program finds = absurd finds
+adapt_have (Some found) from machine tool drop program finds = none_wrong found finds.6
+
+pub adapt_origins : (words : List Text) (from : Text) (machine : Option Text) (tool : Option ℕ) (drop program : Option Text) → IsToolInRange tool → words ≡ adapt_words from machine tool drop program → HaveOrigins (subcommand_of ngc_app words)
+adapt_origins words from machine tool drop program range spelled =
+    let Have : List Text → Type 0 = λ ws. HaveOrigins (subcommand_of ngc_app ws) in
+    subst Have (sym spelled) (adapt_have _ from machine (text_of tool) drop program (adapt_finds from machine tool drop program))
+
 pub adapt_read : (words : List Text) (from : Text) (machine : Option Text) (tool : Option ℕ) (drop program : Option Text) (options : Options) →
     IsToolInRange tool → words ≡ adapt_words from machine tool drop program
     → AreOptions (subcommand_of ngc_app words) options → AsksForAdapt from machine tool drop program options
@@ -923,26 +1050,27 @@ FindsMachine source corner ticks frame (Some found) = (found.0 ≡ codes "machin
     × (first_of (codes "corner") found.1 ≡ corner) × (first_of (codes "ticks") found.1 ≡ ticks) × (first_of (codes "frame") found.1 ≡ frame)
     × (first_of (codes "jump") found.1 ≡ None) × (first_of (codes "turn") found.1 ≡ None) × (first_of (codes "start") found.1 ≡ None) × (first_of (codes "home28") found.1 ≡ None) × (first_of (codes "home30") found.1 ≡ None)
     × (first_of (codes "ring") found.1 ≡ None) × (is_set (codes "arc-feed") found.1 ≡ false)
+    × (all_of (codes "origin") found.1 ≡ None)
 
 machine_spells : (source : MachineSource) (corner ticks frame : Option Text) →
     Spells (machine_words source corner ticks frame) (FindsMachine source corner ticks frame)
 unfolding clap_on_literals
-machine_spells (FromGrbl file) None None None = (refl, (refl, refl, refl, refl, refl, refl, refl, refl, refl, refl, refl, refl, refl, refl, refl, refl))
-machine_spells (FromGrbl file) None None (Some frame) = (refl, (refl, refl, refl, refl, refl, refl, refl, refl, refl, refl, refl, refl, refl, refl, refl, refl))
-machine_spells (FromGrbl file) None (Some ticks) None = (refl, (refl, refl, refl, refl, refl, refl, refl, refl, refl, refl, refl, refl, refl, refl, refl, refl))
-machine_spells (FromGrbl file) None (Some ticks) (Some frame) = (refl, (refl, refl, refl, refl, refl, refl, refl, refl, refl, refl, refl, refl, refl, refl, refl, refl))
-machine_spells (FromGrbl file) (Some corner) None None = (refl, (refl, refl, refl, refl, refl, refl, refl, refl, refl, refl, refl, refl, refl, refl, refl, refl))
-machine_spells (FromGrbl file) (Some corner) None (Some frame) = (refl, (refl, refl, refl, refl, refl, refl, refl, refl, refl, refl, refl, refl, refl, refl, refl, refl))
-machine_spells (FromGrbl file) (Some corner) (Some ticks) None = (refl, (refl, refl, refl, refl, refl, refl, refl, refl, refl, refl, refl, refl, refl, refl, refl, refl))
-machine_spells (FromGrbl file) (Some corner) (Some ticks) (Some frame) = (refl, (refl, refl, refl, refl, refl, refl, refl, refl, refl, refl, refl, refl, refl, refl, refl, refl))
-machine_spells (FromFigures steps travel feed acceleration) None None None = (refl, (refl, refl, refl, refl, refl, refl, refl, refl, refl, refl, refl, refl, refl, refl, refl, refl))
-machine_spells (FromFigures steps travel feed acceleration) None None (Some frame) = (refl, (refl, refl, refl, refl, refl, refl, refl, refl, refl, refl, refl, refl, refl, refl, refl, refl))
-machine_spells (FromFigures steps travel feed acceleration) None (Some ticks) None = (refl, (refl, refl, refl, refl, refl, refl, refl, refl, refl, refl, refl, refl, refl, refl, refl, refl))
-machine_spells (FromFigures steps travel feed acceleration) None (Some ticks) (Some frame) = (refl, (refl, refl, refl, refl, refl, refl, refl, refl, refl, refl, refl, refl, refl, refl, refl, refl))
-machine_spells (FromFigures steps travel feed acceleration) (Some corner) None None = (refl, (refl, refl, refl, refl, refl, refl, refl, refl, refl, refl, refl, refl, refl, refl, refl, refl))
-machine_spells (FromFigures steps travel feed acceleration) (Some corner) None (Some frame) = (refl, (refl, refl, refl, refl, refl, refl, refl, refl, refl, refl, refl, refl, refl, refl, refl, refl))
-machine_spells (FromFigures steps travel feed acceleration) (Some corner) (Some ticks) None = (refl, (refl, refl, refl, refl, refl, refl, refl, refl, refl, refl, refl, refl, refl, refl, refl, refl))
-machine_spells (FromFigures steps travel feed acceleration) (Some corner) (Some ticks) (Some frame) = (refl, (refl, refl, refl, refl, refl, refl, refl, refl, refl, refl, refl, refl, refl, refl, refl, refl))
+machine_spells (FromGrbl file) None None None = (refl, (refl, refl, refl, refl, refl, refl, refl, refl, refl, refl, refl, refl, refl, refl, refl, refl, refl))
+machine_spells (FromGrbl file) None None (Some frame) = (refl, (refl, refl, refl, refl, refl, refl, refl, refl, refl, refl, refl, refl, refl, refl, refl, refl, refl))
+machine_spells (FromGrbl file) None (Some ticks) None = (refl, (refl, refl, refl, refl, refl, refl, refl, refl, refl, refl, refl, refl, refl, refl, refl, refl, refl))
+machine_spells (FromGrbl file) None (Some ticks) (Some frame) = (refl, (refl, refl, refl, refl, refl, refl, refl, refl, refl, refl, refl, refl, refl, refl, refl, refl, refl))
+machine_spells (FromGrbl file) (Some corner) None None = (refl, (refl, refl, refl, refl, refl, refl, refl, refl, refl, refl, refl, refl, refl, refl, refl, refl, refl))
+machine_spells (FromGrbl file) (Some corner) None (Some frame) = (refl, (refl, refl, refl, refl, refl, refl, refl, refl, refl, refl, refl, refl, refl, refl, refl, refl, refl))
+machine_spells (FromGrbl file) (Some corner) (Some ticks) None = (refl, (refl, refl, refl, refl, refl, refl, refl, refl, refl, refl, refl, refl, refl, refl, refl, refl, refl))
+machine_spells (FromGrbl file) (Some corner) (Some ticks) (Some frame) = (refl, (refl, refl, refl, refl, refl, refl, refl, refl, refl, refl, refl, refl, refl, refl, refl, refl, refl))
+machine_spells (FromFigures steps travel feed acceleration) None None None = (refl, (refl, refl, refl, refl, refl, refl, refl, refl, refl, refl, refl, refl, refl, refl, refl, refl, refl))
+machine_spells (FromFigures steps travel feed acceleration) None None (Some frame) = (refl, (refl, refl, refl, refl, refl, refl, refl, refl, refl, refl, refl, refl, refl, refl, refl, refl, refl))
+machine_spells (FromFigures steps travel feed acceleration) None (Some ticks) None = (refl, (refl, refl, refl, refl, refl, refl, refl, refl, refl, refl, refl, refl, refl, refl, refl, refl, refl))
+machine_spells (FromFigures steps travel feed acceleration) None (Some ticks) (Some frame) = (refl, (refl, refl, refl, refl, refl, refl, refl, refl, refl, refl, refl, refl, refl, refl, refl, refl, refl))
+machine_spells (FromFigures steps travel feed acceleration) (Some corner) None None = (refl, (refl, refl, refl, refl, refl, refl, refl, refl, refl, refl, refl, refl, refl, refl, refl, refl, refl))
+machine_spells (FromFigures steps travel feed acceleration) (Some corner) None (Some frame) = (refl, (refl, refl, refl, refl, refl, refl, refl, refl, refl, refl, refl, refl, refl, refl, refl, refl, refl))
+machine_spells (FromFigures steps travel feed acceleration) (Some corner) (Some ticks) None = (refl, (refl, refl, refl, refl, refl, refl, refl, refl, refl, refl, refl, refl, refl, refl, refl, refl, refl))
+machine_spells (FromFigures steps travel feed acceleration) (Some corner) (Some ticks) (Some frame) = (refl, (refl, refl, refl, refl, refl, refl, refl, refl, refl, refl, refl, refl, refl, refl, refl, refl, refl))
 
 machine_asked : (source : MachineSource) (corner ticks frame : Option Text) (found : Option (Text × List Row)) (options : Options)
     → FindsMachine source corner ticks frame found → AreOptions found options → AsksForMachine source corner ticks frame options
@@ -995,6 +1123,15 @@ pub machine_taken : (words : List Text) (source : MachineSource) (corner ticks f
     IsTaken words
 machine_taken words source corner ticks frame spelled = subst IsTaken (sym spelled) (machine_spells source corner ticks frame).0
 
+machine_have : (found : Option (Text × List Row)) (source : MachineSource) (corner : Option Text) (ticks : Option Text) (frame : Option Text) → FindsMachine source corner ticks frame found → HaveOrigins found
+machine_have None source corner ticks frame finds = absurd finds
+machine_have (Some found) source corner ticks frame finds = none_wrong found finds.16
+
+pub machine_origins : (words : List Text) (source : MachineSource) (corner ticks frame : Option Text) → words ≡ machine_words source corner ticks frame → HaveOrigins (subcommand_of ngc_app words)
+machine_origins words source corner ticks frame spelled =
+    let Have : List Text → Type 0 = λ ws. HaveOrigins (subcommand_of ngc_app ws) in
+    subst Have (sym spelled) (machine_have _ source corner ticks frame (machine_spells source corner ticks frame).1)
+
 pub machine_read : (words : List Text) (source : MachineSource) (corner ticks frame : Option Text) (options : Options) →
     words ≡ machine_words source corner ticks frame
     → AreOptions (subcommand_of ngc_app words) options → AsksForMachine source corner ticks frame options
@@ -1006,6 +1143,7 @@ machine_read words source corner ticks frame options spelled are =
 abbrev FindsHelp : Option Text → Option (Text × List Row) → Type 0
 FindsHelp command None = ⊥
 FindsHelp command (Some found) = (found.0 ≡ codes "help") × (first_of (codes "command") found.1 ≡ command)
+    × (all_of (codes "origin") found.1 ≡ None)
 
 help_on : (command name : Text) → command ≡ name → Spells (help_words (Some name)) (FindsHelp (Some name)) →
     Spells (help_words (Some command)) (FindsHelp (Some command))
@@ -1013,22 +1151,22 @@ help_on command name same spells = subst (λ (c : Text). Spells (help_words (Som
 
 help_spells : (command : Option Text) → AreCommands command → Spells (help_words command) (FindsHelp command)
 unfolding clap_on_literals
-help_spells None among = (refl, (refl, refl))
+help_spells None among = (refl, (refl, refl, refl))
 help_spells (Some command) among = elim among [
-  | inl same ↦ help_on command (codes "list") same (refl, (refl, refl))
-  | inr (inl same) ↦ help_on command (codes "certify") same (refl, (refl, refl))
-  | inr (inr (inl same)) ↦ help_on command (codes "check") same (refl, (refl, refl))
-  | inr (inr (inr (inl same))) ↦ help_on command (codes "run") same (refl, (refl, refl))
-  | inr (inr (inr (inr (inl same)))) ↦ help_on command (codes "pulses") same (refl, (refl, refl))
-  | inr (inr (inr (inr (inr (inl same))))) ↦ help_on command (codes "live") same (refl, (refl, refl))
-  | inr (inr (inr (inr (inr (inr (inl same)))))) ↦ help_on command (codes "draw") same (refl, (refl, refl))
-  | inr (inr (inr (inr (inr (inr (inr (inl same))))))) ↦ help_on command (codes "show") same (refl, (refl, refl))
-  | inr (inr (inr (inr (inr (inr (inr (inr (inl same)))))))) ↦ help_on command (codes "report") same (refl, (refl, refl))
-  | inr (inr (inr (inr (inr (inr (inr (inr (inr (inl same))))))))) ↦ help_on command (codes "adapt") same (refl, (refl, refl))
-  | inr (inr (inr (inr (inr (inr (inr (inr (inr (inr (inl same)))))))))) ↦ help_on command (codes "machine") same (refl, (refl, refl))
-  | inr (inr (inr (inr (inr (inr (inr (inr (inr (inr (inr (inl same))))))))))) ↦ help_on command (codes "explain") same (refl, (refl, refl))
-  | inr (inr (inr (inr (inr (inr (inr (inr (inr (inr (inr (inr (inl same)))))))))))) ↦ help_on command (codes "help") same (refl, (refl, refl))
-  | inr (inr (inr (inr (inr (inr (inr (inr (inr (inr (inr (inr (inr (inl same))))))))))))) ↦ help_on command (codes "version") same (refl, (refl, refl))
+  | inl same ↦ help_on command (codes "list") same (refl, (refl, refl, refl))
+  | inr (inl same) ↦ help_on command (codes "certify") same (refl, (refl, refl, refl))
+  | inr (inr (inl same)) ↦ help_on command (codes "check") same (refl, (refl, refl, refl))
+  | inr (inr (inr (inl same))) ↦ help_on command (codes "run") same (refl, (refl, refl, refl))
+  | inr (inr (inr (inr (inl same)))) ↦ help_on command (codes "pulses") same (refl, (refl, refl, refl))
+  | inr (inr (inr (inr (inr (inl same))))) ↦ help_on command (codes "live") same (refl, (refl, refl, refl))
+  | inr (inr (inr (inr (inr (inr (inl same)))))) ↦ help_on command (codes "draw") same (refl, (refl, refl, refl))
+  | inr (inr (inr (inr (inr (inr (inr (inl same))))))) ↦ help_on command (codes "show") same (refl, (refl, refl, refl))
+  | inr (inr (inr (inr (inr (inr (inr (inr (inl same)))))))) ↦ help_on command (codes "report") same (refl, (refl, refl, refl))
+  | inr (inr (inr (inr (inr (inr (inr (inr (inr (inl same))))))))) ↦ help_on command (codes "adapt") same (refl, (refl, refl, refl))
+  | inr (inr (inr (inr (inr (inr (inr (inr (inr (inr (inl same)))))))))) ↦ help_on command (codes "machine") same (refl, (refl, refl, refl))
+  | inr (inr (inr (inr (inr (inr (inr (inr (inr (inr (inr (inl same))))))))))) ↦ help_on command (codes "explain") same (refl, (refl, refl, refl))
+  | inr (inr (inr (inr (inr (inr (inr (inr (inr (inr (inr (inr (inl same)))))))))))) ↦ help_on command (codes "help") same (refl, (refl, refl, refl))
+  | inr (inr (inr (inr (inr (inr (inr (inr (inr (inr (inr (inr (inr (inl same))))))))))))) ↦ help_on command (codes "version") same (refl, (refl, refl, refl))
   | inr (inr (inr (inr (inr (inr (inr (inr (inr (inr (inr (inr (inr (inr none))))))))))))) ↦ absurd none
 ]
 
@@ -1061,6 +1199,15 @@ help_asked command (Some found) ToVersion finds are = other_name (codes "help") 
 pub help_taken : (words : List Text) (command : Option Text) → AreCommands command → words ≡ help_words command → IsTaken words
 help_taken words command among spelled = subst IsTaken (sym spelled) (help_spells command among).0
 
+help_have : (found : Option (Text × List Row)) (command : Option Text) → FindsHelp command found → HaveOrigins found
+help_have None command finds = absurd finds
+help_have (Some found) command finds = none_wrong found finds.2
+
+pub help_origins : (words : List Text) (command : Option Text) → AreCommands command → words ≡ help_words command → HaveOrigins (subcommand_of ngc_app words)
+help_origins words command among spelled =
+    let Have : List Text → Type 0 = λ ws. HaveOrigins (subcommand_of ngc_app ws) in
+    subst Have (sym spelled) (help_have _ command (help_spells command among).1)
+
 pub help_read : (words : List Text) (command : Option Text) (options : Options) → AreCommands command → words ≡ help_words command
     → AreOptions (subcommand_of ngc_app words) options → AsksForHelp command options
 help_read words command options among spelled are =
@@ -1070,37 +1217,46 @@ help_read words command options among spelled are =
 -- the subcommand that was found is `version`
 abbrev FindsVersion : Option (Text × List Row) → Type 0
 FindsVersion None = ⊥
-FindsVersion (Some found) = found.0 ≡ codes "version"
+FindsVersion (Some found) = (found.0 ≡ codes "version") × (all_of (codes "origin") found.1 ≡ None)
 
 version_spells : Spells (codes "version" ∷ []) FindsVersion
 unfolding clap_on_literals
-version_spells = (refl, refl)
+version_spells = (refl, (refl, refl))
 
 version_asked : (found : Option (Text × List Row)) (options : Options) → FindsVersion found → AreOptions found options → options ≡ ToVersion
 version_asked None options finds are = absurd finds
 version_asked (Some found) ToVersion finds are = refl
-version_asked (Some found) (ToList list) finds are = other_name (codes "version") (codes "list") (sym finds ∙ are.0) (λ differ. omega (arith, differ))
+version_asked (Some found) (ToList list) finds are = other_name (codes "version") (codes "list") (sym finds.0 ∙ are.0) (λ differ. omega (arith, differ))
 version_asked (Some found) (ToCertify certify) finds are =
-    other_letter (codes "version") (codes "certify") (sym finds ∙ are.0) (λ differ. omega (arith, differ))
-version_asked (Some found) (ToCheck check) finds are = other_name (codes "version") (codes "check") (sym finds ∙ are.0) (λ differ. omega (arith, differ))
+    other_letter (codes "version") (codes "certify") (sym finds.0 ∙ are.0) (λ differ. omega (arith, differ))
+version_asked (Some found) (ToCheck check) finds are = other_name (codes "version") (codes "check") (sym finds.0 ∙ are.0) (λ differ. omega (arith, differ))
 version_asked (Some found) (ToRun run) finds are =
-    no_run (codes "version") run.recording (sym finds ∙ are.0) (λ three. omega (arith, three)) (λ six. omega (arith, six))
+    no_run (codes "version") run.recording (sym finds.0 ∙ are.0) (λ three. omega (arith, three)) (λ six. omega (arith, six))
 version_asked (Some found) (ToRunThrough run) finds are =
-    no_run (codes "version") run.recording (sym finds ∙ are.0) (λ three. omega (arith, three)) (λ six. omega (arith, six))
+    no_run (codes "version") run.recording (sym finds.0 ∙ are.0) (λ three. omega (arith, three)) (λ six. omega (arith, six))
 version_asked (Some found) (ToLive live) finds are =
-    other_letter (codes "version") (codes "live") (sym finds ∙ are.0) (λ letters. omega (arith, letters))
-version_asked (Some found) (ToDraw draw) finds are = other_name (codes "version") (codes "draw") (sym finds ∙ are.0) (λ lengths. omega (arith, lengths))
-version_asked (Some found) (ToShow show) finds are = other_letter (codes "version") (codes "show") (sym finds ∙ are.0) (λ letters. omega (arith, letters))
-version_asked (Some found) (ToReport report) finds are = other_name (codes "version") (codes "report") (sym finds ∙ are.0) (λ lengths. omega (arith, lengths))
+    other_letter (codes "version") (codes "live") (sym finds.0 ∙ are.0) (λ letters. omega (arith, letters))
+version_asked (Some found) (ToDraw draw) finds are = other_name (codes "version") (codes "draw") (sym finds.0 ∙ are.0) (λ lengths. omega (arith, lengths))
+version_asked (Some found) (ToShow show) finds are = other_letter (codes "version") (codes "show") (sym finds.0 ∙ are.0) (λ letters. omega (arith, letters))
+version_asked (Some found) (ToReport report) finds are = other_name (codes "version") (codes "report") (sym finds.0 ∙ are.0) (λ lengths. omega (arith, lengths))
 version_asked (Some found) (ToAdapt adapt) finds are =
-    other_letter (codes "version") (codes "adapt") (sym finds ∙ are.0) (λ letters. omega (arith, letters))
+    other_letter (codes "version") (codes "adapt") (sym finds.0 ∙ are.0) (λ letters. omega (arith, letters))
 version_asked (Some found) (ToMachine made) finds are =
-    other_letter (codes "version") (codes "machine") (sym finds ∙ are.0) (λ letters. omega (arith, letters))
-version_asked (Some found) (ToExplain number) finds are = other_letter (codes "version") (codes "explain") (sym finds ∙ are.0) (λ differ. omega (arith, differ))
-version_asked (Some found) (ToHelp command) finds are = other_name (codes "version") (codes "help") (sym finds ∙ are.0) (λ differ. omega (arith, differ))
+    other_letter (codes "version") (codes "machine") (sym finds.0 ∙ are.0) (λ letters. omega (arith, letters))
+version_asked (Some found) (ToExplain number) finds are = other_letter (codes "version") (codes "explain") (sym finds.0 ∙ are.0) (λ differ. omega (arith, differ))
+version_asked (Some found) (ToHelp command) finds are = other_name (codes "version") (codes "help") (sym finds.0 ∙ are.0) (λ differ. omega (arith, differ))
 
 pub version_taken : (words : List Text) → words ≡ codes "version" ∷ [] → IsTaken words
 version_taken words spelled = subst IsTaken (sym spelled) version_spells.0
+
+version_have : (found : Option (Text × List Row)) → FindsVersion found → HaveOrigins found
+version_have None finds = absurd finds
+version_have (Some found) finds = none_wrong found finds.1
+
+pub version_origins : (words : List Text) → words ≡ codes "version" ∷ [] → HaveOrigins (subcommand_of ngc_app words)
+version_origins words spelled =
+    let Have : List Text → Type 0 = λ ws. HaveOrigins (subcommand_of ngc_app ws) in
+    subst Have (sym spelled) (version_have _ version_spells.1)
 
 pub version_read : (words : List Text) (options : Options) → words ≡ codes "version" ∷ [] → AreOptions (subcommand_of ngc_app words) options →
     options ≡ ToVersion

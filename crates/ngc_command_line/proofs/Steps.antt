@@ -14,7 +14,7 @@ use Rattle.ngc_command_line.specs.declared.commands.Subcommand.{Subcommand}
 use Rattle.ngc_command_line.specs.declared.commands.Subcommand.TheVariants as named
 use Rattle.ngc_command_line.specs.declared.table.Argument.{Argument}
 use Rattle.ngc_command_line.specs.declared.table.Takes.{Takes}
-use Rattle.ngc_command_line.specs.declared.table.Takes.TheVariants.{Nothing, Text as ToText, Number}
+use Rattle.ngc_command_line.specs.declared.table.Takes.TheVariants.{Nothing, Text as ToText, Texts as ToTexts, Number}
 
 and_right : (a b : Bool) → (a && b) ≡ true → b ≡ true
 and_right true b h = h
@@ -83,6 +83,7 @@ rule_is_simple argument = of_kind argument.takes _ refl
     of_kind : (takes : Takes) (rule : Rule) → rule.is_simple ≡ true → (taking takes rule).is_simple ≡ true
     of_kind Nothing rule simple = simple
     of_kind (ToText value) rule simple = simple
+    of_kind (ToTexts value) rule simple = simple
     of_kind (Number value least most) rule simple = simple
 
 -- a subcommand is plain

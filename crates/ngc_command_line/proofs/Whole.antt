@@ -18,7 +18,7 @@ use Rattle.ngc_command_line.specs.Meant.{IsTaken, IsWhole}
 use Rattle.ngc_command_line.specs.declared.options.Recording.{Recording}
 use Rattle.ngc_command_line.specs.declared.options.Recording.TheVariants.{Log, Pulses}
 use Rattle.ngc_command_line.proofs.Filled.{AreSound}
-use Rattle.ngc_command_line.proofs.Rules.{Fits, FitsCuts, FitsFormat, FitsMask, FitsNumber, FitsTool, below_passes, cuts_fit, flag_is_sound, format_fits, found_fits}
+use Rattle.ngc_command_line.proofs.Rules.{Fits, FitsCuts, FitsFormat, FitsMask, FitsNumber, FitsTool, append_is_sound, below_passes, cuts_fit, flag_is_sound, format_fits, found_fits}
 use Rattle.ngc_command_line.proofs.Rules.{given_has_value, help_is_sound, is_true, level_is_filled, mask_fits, neither_true, number_fits, set_is_sound, tool_fits}
 
 -- what was found are the rows of one of these, at words in which it finds no fault
@@ -93,7 +93,8 @@ certify_sound =
     let program = set_is_sound FitsCuts _ refl refl refl (λ v none. no_cuts (codes "program") v refl) in
     let cuts = set_is_sound FitsCuts _ refl refl refl (λ v none same. cuts_fit v none) in
     let format = set_is_sound FitsCuts _ refl refl refl (λ v none. no_cuts (codes "format") v refl) in
-    (machine, (tools, (program, (cuts, (format, (help_is_sound FitsCuts _ refl refl, tt))))))
+    let origin = append_is_sound FitsCuts _ refl refl refl (λ v. no_cuts (codes "origin") v refl) in
+    (machine, (tools, (program, (cuts, (format, (origin, (help_is_sound FitsCuts _ refl refl, tt)))))))
 
 no_format : (id text : Text) → bytes_eq id (codes "format") ≡ false → FitsFormat id text
 no_format = other_fits (codes "format") (IsUnsignedIn 1 2)
@@ -105,7 +106,8 @@ certify_format_sound =
     let program = set_is_sound FitsFormat _ refl refl refl (λ v none. no_format (codes "program") v refl) in
     let cuts = set_is_sound FitsFormat _ refl refl refl (λ v none. no_format (codes "cuts") v refl) in
     let format = set_is_sound FitsFormat _ refl refl refl (λ v none same. format_fits v none) in
-    (machine, (tools, (program, (cuts, (format, (help_is_sound FitsFormat _ refl refl, tt))))))
+    let origin = append_is_sound FitsFormat _ refl refl refl (λ v. no_format (codes "origin") v refl) in
+    (machine, (tools, (program, (cuts, (format, (origin, (help_is_sound FitsFormat _ refl refl, tt)))))))
 
 no_mask : (id text : Text) → bytes_eq id (codes "inverted") ≡ false → FitsMask id text
 no_mask = other_fits (codes "inverted") (IsUnsignedIn 0 255)
@@ -116,7 +118,8 @@ check_sound =
     let tools = set_is_sound FitsCuts _ refl refl refl (λ v none. no_cuts (codes "tools") v refl) in
     let certificate = set_is_sound FitsCuts _ refl refl refl (λ v none. no_cuts (codes "certificate") v refl) in
     let program = set_is_sound FitsCuts _ refl refl refl (λ v none. no_cuts (codes "program") v refl) in
-    (machine, (tools, (certificate, (program, (help_is_sound FitsCuts _ refl refl, tt)))))
+    let origin = append_is_sound FitsCuts _ refl refl refl (λ v. no_cuts (codes "origin") v refl) in
+    (machine, (tools, (certificate, (program, (origin, (help_is_sound FitsCuts _ refl refl, tt))))))
 
 run_sound : AreSound FitsMask run_shape.rules
 run_sound =
@@ -128,7 +131,8 @@ run_sound =
     let delete = flag_is_sound FitsMask _ (codes "true") (codes "false") refl refl refl (λ v. no_mask (codes "delete") v refl) in
     let output = set_is_sound FitsMask _ refl refl refl (λ v none. no_mask (codes "output") v refl) in
     let inverted = set_is_sound FitsMask _ refl refl refl (λ v none same. mask_fits v none) in
-    (machine, (tools, (certificate, (events, (program, (delete, (output, (inverted, (help_is_sound FitsMask _ refl refl, tt)))))))))
+    let origin = append_is_sound FitsMask _ refl refl refl (λ v. no_mask (codes "origin") v refl) in
+    (machine, (tools, (certificate, (events, (program, (delete, (output, (inverted, (origin, (help_is_sound FitsMask _ refl refl, tt))))))))))
 
 certify_values : (words : List Text) → level_fault certify_shape [] nothing_held words false [] ≡ [] →
     HasCertifyValues (rows_after certify_shape.rules [] words)
@@ -191,7 +195,8 @@ live_sound =
     let output = set_is_sound FitsMask _ refl refl refl (λ v none. no_mask (codes "output") v refl) in
     let inverted = set_is_sound FitsMask _ refl refl refl (λ v none same. mask_fits v none) in
     let feeds = flag_is_sound FitsMask _ (codes "true") (codes "false") refl refl refl (λ v. no_mask (codes "feed-ring") v refl) in
-    (machine, (tools, (certificate, (program, (delete, (output, (inverted, (feeds, (help_is_sound FitsMask _ refl refl, tt)))))))))
+    let origin = append_is_sound FitsMask _ refl refl refl (λ v. no_mask (codes "origin") v refl) in
+    (machine, (tools, (certificate, (program, (delete, (output, (inverted, (feeds, (origin, (help_is_sound FitsMask _ refl refl, tt))))))))))
 
 live_values : (words : List Text) → level_fault live_shape [] nothing_held words false [] ≡ [] → HasLiveValues (rows_after live_shape.rules [] words)
 live_values words none =
@@ -218,7 +223,8 @@ draw_sound =
     let delete = flag_is_sound FitsCuts _ (codes "true") (codes "false") refl refl refl (λ v. no_cuts (codes "delete") v refl) in
     let bodies = flag_is_sound FitsCuts _ (codes "true") (codes "false") refl refl refl (λ v. no_cuts (codes "bodies") v refl) in
     let whole = flag_is_sound FitsCuts _ (codes "true") (codes "false") refl refl refl (λ v. no_cuts (codes "whole") v refl) in
-    (machine, (tools, (certificate, (program, (view, (delete, (bodies, (whole, (help_is_sound FitsCuts _ refl refl, tt)))))))))
+    let origin = append_is_sound FitsCuts _ refl refl refl (λ v. no_cuts (codes "origin") v refl) in
+    (machine, (tools, (certificate, (program, (view, (delete, (bodies, (whole, (origin, (help_is_sound FitsCuts _ refl refl, tt))))))))))
 
 draw_values : (words : List Text) → level_fault draw_shape [] nothing_held words false [] ≡ [] → HasDrawValues (rows_after draw_shape.rules [] words)
 draw_values words none =
@@ -252,7 +258,8 @@ report_sound =
     let cuts = set_is_sound FitsCuts _ refl refl refl (λ v none same. cuts_fit v none) in
     let all = flag_is_sound FitsCuts _ (codes "true") (codes "false") refl refl refl (λ v. no_cuts (codes "all") v refl) in
     let json = flag_is_sound FitsCuts _ (codes "true") (codes "false") refl refl refl (λ v. no_cuts (codes "json") v refl) in
-    (machine, (tools, (program, (cuts, (all, (json, (help_is_sound FitsCuts _ refl refl, tt)))))))
+    let origin = append_is_sound FitsCuts _ refl refl refl (λ v. no_cuts (codes "origin") v refl) in
+    (machine, (tools, (program, (cuts, (all, (json, (origin, (help_is_sound FitsCuts _ refl refl, tt))))))))
 
 report_values : (words : List Text) → level_fault report_shape [] nothing_held words false [] ≡ [] → HasReportValues (rows_after report_shape.rules [] words)
 report_values words none =

@@ -3,7 +3,7 @@ use Rattle.std.specs.Prelude.{ℕ, Bool, List, [], ◌∷◌, ◌++◌, Option, 
 use Rattle.std.specs.Prelude.{if◌then◌else◌}
 use Rattle.std.specs.Fmt.{decimal}
 use Rattle.clap.specs.Words.{App, Rule, Shape, Text, new_app, new_rule, with_rule, with_subcommand}
-use Rattle.clap.specs.declared.builder.action.ArgAction.TheVariants.{Set, SetTrue}
+use Rattle.clap.specs.declared.builder.action.ArgAction.TheVariants.{Set, Append, SetTrue}
 use Rattle.clap.specs.declared.builder.value_parser.ValueParser.TheVariants.{Unsigned}
 use Rattle.ngc_command_line.specs.declared.options.Format.{Format}
 use Rattle.ngc_command_line.specs.declared.options.Format.TheVariants.{One, Two}
@@ -30,36 +30,42 @@ format_option = record (file_option (codes "format")) { parser = Some (Unsigned 
 abbrev pub inverted_option : Rule
 inverted_option = record (file_option (codes "inverted")) { parser = Some (Unsigned 0 255) }
 
+-- `--origin SYSTEM=X,Y,Z`, which may be given several times
+abbrev pub origin_option : Rule
+origin_option = record (file_option (codes "origin")) { action = Some Append }
+
 -- `--NAME`
 abbrev pub flag : Text → Rule
 flag name = record (new_rule name) { long = Some name; action = Some SetTrue }
 
--- `list [--program FILE] [--machine FILE] [--tools FILE] [--delete]`
+-- `list [--program FILE] [--machine FILE] [--tools FILE] [--delete] [--origin SYSTEM=X,Y,Z]..`
 abbrev pub list_app : App
 list_app = fold with_rule (new_app (codes "list"))
     (file_option (codes "program") ∷ file_option (codes "machine") ∷ file_option (codes "tools")
-    ∷ flag (codes "delete") ∷ [])
+    ∷ flag (codes "delete") ∷ origin_option ∷ [])
 
--- `certify --machine FILE --tools FILE [--program FILE] [--cuts N] [--format VERSION]`
+-- `certify --machine FILE --tools FILE [--program FILE] [--cuts N] [--format VERSION]
+-- [--origin SYSTEM=X,Y,Z]..`
 abbrev pub certify_app : App
 certify_app = fold with_rule (new_app (codes "certify"))
     (required_file (codes "machine") ∷ required_file (codes "tools")
-    ∷ file_option (codes "program") ∷ cuts_option ∷ format_option ∷ [])
+    ∷ file_option (codes "program") ∷ cuts_option ∷ format_option ∷ origin_option ∷ [])
 
--- `check --machine FILE --tools FILE --certificate FILE [--program FILE]`
+-- `check --machine FILE --tools FILE --certificate FILE [--program FILE]
+-- [--origin SYSTEM=X,Y,Z]..`
 abbrev pub check_app : App
 check_app = fold with_rule (new_app (codes "check"))
     (required_file (codes "machine") ∷ required_file (codes "tools")
-    ∷ required_file (codes "certificate") ∷ file_option (codes "program") ∷ [])
+    ∷ required_file (codes "certificate") ∷ file_option (codes "program") ∷ origin_option ∷ [])
 
 -- `--machine FILE --tools FILE --certificate FILE [--events FILE] [--program FILE] [--delete]`
--- and `[--output FORM] [--inverted MASK]`
+-- and `[--output FORM] [--inverted MASK] [--origin SYSTEM=X,Y,Z]..`
 abbrev pub with_run_rules : App → App
 with_run_rules app = fold with_rule app
     (required_file (codes "machine") ∷ required_file (codes "tools")
     ∷ required_file (codes "certificate") ∷ file_option (codes "events")
     ∷ file_option (codes "program") ∷ flag (codes "delete") ∷ file_option (codes "output")
-    ∷ inverted_option ∷ [])
+    ∷ inverted_option ∷ origin_option ∷ [])
 
 -- the name of a run's command, by its output
 abbrev pub run_name : Recording → Text
@@ -75,33 +81,35 @@ abbrev pub pulses_app : App
 pulses_app = with_run_rules (new_app (codes "pulses"))
 
 -- `live --machine FILE --tools FILE --certificate FILE --program FILE [--delete] [--output FORM]
--- [--inverted MASK] [--feed-ring]`
+-- [--inverted MASK] [--feed-ring] [--origin SYSTEM=X,Y,Z]..`
 abbrev pub live_app : App
 live_app = fold with_rule (new_app (codes "live"))
     (required_file (codes "machine") ∷ required_file (codes "tools")
     ∷ required_file (codes "certificate") ∷ required_file (codes "program")
     ∷ flag (codes "delete") ∷ file_option (codes "output") ∷ inverted_option
-    ∷ flag (codes "feed-ring") ∷ [])
+    ∷ flag (codes "feed-ring") ∷ origin_option ∷ [])
 
 -- `draw --machine FILE --tools FILE [--certificate FILE] [--program FILE] [--view VIEW] [--delete]
--- [--bodies] [--whole]`
+-- [--bodies] [--whole] [--origin SYSTEM=X,Y,Z]..`
 abbrev pub draw_app : App
 draw_app = fold with_rule (new_app (codes "draw"))
     (required_file (codes "machine") ∷ required_file (codes "tools")
     ∷ file_option (codes "certificate") ∷ file_option (codes "program")
     ∷ file_option (codes "view") ∷ flag (codes "delete") ∷ flag (codes "bodies")
-    ∷ flag (codes "whole") ∷ [])
+    ∷ flag (codes "whole") ∷ origin_option ∷ [])
 
 -- `show --machine FILE [--tools FILE] [--warnings]`
 abbrev pub show_app : App
 show_app = fold with_rule (new_app (codes "show"))
     (required_file (codes "machine") ∷ file_option (codes "tools") ∷ flag (codes "warnings") ∷ [])
 
--- `report --machine FILE --tools FILE [--program FILE] [--cuts N] [--all] [--json]`
+-- `report --machine FILE --tools FILE [--program FILE] [--cuts N] [--all] [--json]
+-- [--origin SYSTEM=X,Y,Z]..`
 abbrev pub report_app : App
 report_app = fold with_rule (new_app (codes "report"))
     (required_file (codes "machine") ∷ required_file (codes "tools")
-    ∷ file_option (codes "program") ∷ cuts_option ∷ flag (codes "all") ∷ flag (codes "json") ∷ [])
+    ∷ file_option (codes "program") ∷ cuts_option ∷ flag (codes "all") ∷ flag (codes "json")
+    ∷ origin_option ∷ [])
 
 -- `--tool N`, with a number from 1 to 9,999
 abbrev pub tool_option : Rule

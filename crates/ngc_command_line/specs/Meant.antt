@@ -1,10 +1,12 @@
 -- The options, by the subcommand that `clap` finds in the words and its values.
 use Rattle.std.specs.Prelude.{◌≡◌, ◌≤◌, ℕ, Bool, List, [], ◌∷◌, ◌⊎◌, Option, Some, None, IfSome}
-use Rattle.std.specs.Prelude.{option_map, codes, false, true, is_some, unwrap_or}
+use Rattle.std.specs.Prelude.{option_map, codes, false, true, is_some, unwrap_or, Result, Ok, IsOk}
 use Rattle.std.specs.Str.{bytes_eq}
 use Rattle.std.specs.Str.Parse.{IsNumeral, digits_value, without_leading_plus}
 use Rattle.std.specs.Option.{option_map_or}
-use Rattle.clap.specs.Words.{IsUnsignedIn, Row, Shape, Text, fault_of, first_of}
+use Rattle.clap.specs.Words.{IsUnsignedIn, Row, Shape, Text, all_of, fault_of, first_of}
+use Rattle.ngc_origins.specs.Texts.{OriginList, no_origins, origins_said}
+use Rattle.ngc_origins.specs.declared.reading.OriginMistake.{OriginMistake}
 use Rattle.ngc_command_line.specs.CommandLine.{MachineSource, FromGrbl, FromFigures, ngc_app, run_name}
 use Rattle.ngc_command_line.specs.declared.options.AdaptOptions.{AdaptOptions}
 use Rattle.ngc_command_line.specs.declared.options.CertifyOptions.{CertifyOptions}
@@ -47,12 +49,22 @@ IsTaken words = fault_of ngc_app words ≡ []
 abbrev pub is_set : Text → List Row → Bool
 is_set name rows = option_map_or (λ value. bytes_eq value (codes "true")) (first_of name rows) false
 
+-- the origins that the values of `--origin` write, all of them, or the first mistake
+abbrev pub origins_in : List Row → Result OriginList OriginMistake
+origins_in rows = origins_said (unwrap_or (all_of (codes "origin") rows) [])
+
+-- the values of `--origin` are origins, each of another system
+abbrev pub HaveOrigins : Option (Text × List Row) → Type 0
+HaveOrigins None = Unit {0}
+HaveOrigins (Some found) = IsOk (origins_in found.1)
+
 -- each option of `list` by the values that were found: a file by the first value under its own name
 pub record AreListOptions (rows : List Row) (options : ListOptions) : Type 0 where
   pub program : option_map (λ name. name.now) options.program ≡ first_of (codes "program") rows
   pub machine : option_map (λ name. name.now) options.machine ≡ first_of (codes "machine") rows
   pub tools : option_map (λ name. name.now) options.tools ≡ first_of (codes "tools") rows
   pub delete : options.delete ≡ is_set (codes "delete") rows
+  pub origins : origins_in rows ≡ Ok options.origins
 
 -- the number of cuts: 8 without a text, otherwise the number from 1 to 65,535 whose decimal the
 -- text is; a plus sign may precede it
@@ -86,6 +98,7 @@ pub record AreCertifyOptions (rows : List Row) (options : CertifyOptions) : Type
   pub program : option_map (λ name. name.now) options.program ≡ first_of (codes "program") rows
   pub cuts : AreCuts (first_of (codes "cuts") rows) options.cuts
   pub format : IsFormat (first_of (codes "format") rows) options.format
+  pub origins : origins_in rows ≡ Ok options.origins
 
 -- the number whose decimal the text is; a plus sign may precede it
 abbrev pub IsNumber : Option Text → ℕ → Type 0
@@ -99,6 +112,7 @@ pub record AreCheckOptions (rows : List Row) (options : CheckOptions) : Type 0 w
   pub tools : Some options.tools.now ≡ first_of (codes "tools") rows
   pub certificate : Some options.certificate.now ≡ first_of (codes "certificate") rows
   pub program : option_map (λ name. name.now) options.program ≡ first_of (codes "program") rows
+  pub origins : origins_in rows ≡ Ok options.origins
 
 -- each option of a run with events by the first value that was found under its own name
 pub record AreRunOptions (rows : List Row) (options : RunOptions) : Type 0 where
@@ -110,6 +124,7 @@ pub record AreRunOptions (rows : List Row) (options : RunOptions) : Type 0 where
   pub delete : options.delete ≡ is_set (codes "delete") rows
   pub output : option_map (λ name. name.now) options.output ≡ first_of (codes "output") rows
   pub inverted : IsMask (first_of (codes "inverted") rows) options.inverted
+  pub origins : origins_in rows ≡ Ok options.origins
 
 -- and of a run without events
 pub record AreRunThroughOptions (rows : List Row) (options : RunThroughOptions) : Type 0 where
@@ -121,6 +136,7 @@ pub record AreRunThroughOptions (rows : List Row) (options : RunThroughOptions) 
   pub delete : options.delete ≡ is_set (codes "delete") rows
   pub output : option_map (λ name. name.now) options.output ≡ first_of (codes "output") rows
   pub inverted : IsMask (first_of (codes "inverted") rows) options.inverted
+  pub origins : origins_in rows ≡ Ok options.origins
 
 -- the options are those of a run that writes this, with events or without
 abbrev pub AreRunsOptions : Recording → List Row → Options → Type 0
@@ -139,6 +155,7 @@ pub record AreLiveOptions (rows : List Row) (options : LiveOptions) : Type 0 whe
   pub output : option_map (λ name. name.now) options.output ≡ first_of (codes "output") rows
   pub inverted : IsMask (first_of (codes "inverted") rows) options.inverted
   pub feed_ring : options.feed_ring ≡ is_set (codes "feed-ring") rows
+  pub origins : origins_in rows ≡ Ok options.origins
 
 -- each option of `draw` by the first value that was found under its own name
 pub record AreDrawOptions (rows : List Row) (options : DrawOptions) : Type 0 where
@@ -151,6 +168,7 @@ pub record AreDrawOptions (rows : List Row) (options : DrawOptions) : Type 0 whe
   pub delete : options.delete ≡ is_set (codes "delete") rows
   pub bodies : options.bodies ≡ is_set (codes "bodies") rows
   pub whole : options.whole ≡ is_set (codes "whole") rows
+  pub origins : origins_in rows ≡ Ok options.origins
 
 -- each option of `show` by the first value that was found under its own name
 pub record AreShowOptions (rows : List Row) (options : ShowOptions) : Type 0 where
@@ -166,6 +184,7 @@ pub record AreReportOptions (rows : List Row) (options : ReportOptions) : Type 0
   pub cuts : AreCuts (first_of (codes "cuts") rows) options.cuts
   pub all : options.all ≡ is_set (codes "all") rows
   pub json : options.json ≡ is_set (codes "json") rows
+  pub origins : origins_in rows ≡ Ok options.origins
 
 -- the number of a tool: none without a text, otherwise the number from 1 to 9,999 whose decimal the
 -- text is; a plus sign may precede it
@@ -294,32 +313,35 @@ AreOptions (Some found) (ToHelp command) = (found.0 ≡ codes "help")
     × (option_map (λ name. name.now) command ≡ first_of (codes "command") found.1)
 AreOptions (Some found) ToVersion = found.0 ≡ codes "version"
 
--- `list` is requested, with these options
+-- `list` is requested, with these options, and no origin is replaced
 abbrev pub AsksForList : Option Text → Option Text → Option Text → Bool → Options → Type 0
 AsksForList program machine tools delete (ToList list) =
     (option_map (λ name. name.now) list.program ≡ program)
     × (option_map (λ name. name.now) list.machine ≡ machine)
     × (option_map (λ name. name.now) list.tools ≡ tools)
-    × (list.delete ≡ delete)
+    × (list.delete ≡ delete) × (list.origins ≡ no_origins)
 AsksForList program machine tools delete other = ⊥
 
--- `certify` is requested, with these options, and by default 8 cuts and version 1
+-- `certify` is requested, with these options, by default 8 cuts and version 1, and no origin is
+-- replaced
 abbrev pub AsksForCertify : Text → Text → Option Text → Option ℕ → Option Format → Options → Type 0
 AsksForCertify machine tools program cuts format (ToCertify certify) =
     (certify.machine.now ≡ machine) × (certify.tools.now ≡ tools)
     × (option_map (λ name. name.now) certify.program ≡ program)
     × (certify.cuts ≡ unwrap_or cuts 8) × (certify.format ≡ unwrap_or format One)
+    × (certify.origins ≡ no_origins)
 AsksForCertify machine tools program cuts format other = ⊥
 
--- `check` is requested, with these options
+-- `check` is requested, with these options, and no origin is replaced
 abbrev pub AsksForCheck : Text → Text → Text → Option Text → Options → Type 0
 AsksForCheck machine tools certificate program (ToCheck check) =
     (check.machine.now ≡ machine) × (check.tools.now ≡ tools)
     × (check.certificate.now ≡ certificate)
-    × (option_map (λ name. name.now) check.program ≡ program)
+    × (option_map (λ name. name.now) check.program ≡ program) × (check.origins ≡ no_origins)
 AsksForCheck machine tools certificate program other = ⊥
 
--- a run that writes this is requested, with these options, and no bits are inverted
+-- a run that writes this is requested, with these options, and no bits are inverted and no
+-- origin is replaced
 abbrev pub AsksForRun : Recording → Text → Text → Text → Option Text → Option Text → Bool →
     Option Text → Options → Type 0
 AsksForRun recording machine tools certificate (Some events) program delete output (ToRun run) =
@@ -327,23 +349,26 @@ AsksForRun recording machine tools certificate (Some events) program delete outp
     × (run.certificate.now ≡ certificate) × (run.events.now ≡ events)
     × (option_map (λ name. name.now) run.program ≡ program) × (run.delete ≡ delete)
     × (option_map (λ name. name.now) run.output ≡ output) × (run.inverted ≡ 0)
+    × (run.origins ≡ no_origins)
 AsksForRun recording machine tools certificate None program delete output (ToRunThrough run) =
     (run.recording ≡ recording) × (run.machine.now ≡ machine) × (run.tools.now ≡ tools)
     × (run.certificate.now ≡ certificate)
     × (option_map (λ name. name.now) run.program ≡ program) × (run.delete ≡ delete)
     × (option_map (λ name. name.now) run.output ≡ output) × (run.inverted ≡ 0)
+    × (run.origins ≡ no_origins)
 AsksForRun recording machine tools certificate events program delete output other = ⊥
 
--- `live` is requested, with these options, and no bits are inverted
+-- `live` is requested, with these options, and no bits are inverted and no
+-- origin is replaced
 abbrev pub AsksForLive : Text → Text → Text → Text → Bool → Option Text → Bool → Options → Type 0
 AsksForLive machine tools certificate program delete output feed_ring (ToLive live) =
     (live.machine.now ≡ machine) × (live.tools.now ≡ tools)
     × (live.certificate.now ≡ certificate) × (live.program.now ≡ program)
     × (live.delete ≡ delete) × (option_map (λ name. name.now) live.output ≡ output)
-    × (live.inverted ≡ 0) × (live.feed_ring ≡ feed_ring)
+    × (live.inverted ≡ 0) × (live.feed_ring ≡ feed_ring) × (live.origins ≡ no_origins)
 AsksForLive machine tools certificate program delete output feed_ring other = ⊥
 
--- `draw` is requested, with these options
+-- `draw` is requested, with these options, and no origin is replaced
 abbrev pub AsksForDraw : Text → Text → Option Text → Option Text → Option Text → Bool → Bool →
     Bool → Options → Type 0
 AsksForDraw machine tools certificate program view delete bodies whole (ToDraw draw) =
@@ -352,6 +377,7 @@ AsksForDraw machine tools certificate program view delete bodies whole (ToDraw d
     × (option_map (λ name. name.now) draw.program ≡ program)
     × (option_map (λ name. name.now) draw.view ≡ view) × (draw.delete ≡ delete)
     × (draw.bodies ≡ bodies) × (draw.whole ≡ whole)
+    × (draw.origins ≡ no_origins)
 AsksForDraw machine tools certificate program view delete bodies whole other = ⊥
 
 -- `show` is requested, with these options
@@ -361,12 +387,13 @@ AsksForShow machine tools warnings (ToShow show) =
     × (show.warnings ≡ warnings)
 AsksForShow machine tools warnings other = ⊥
 
--- `report` is requested, with these options, and by default 8 cuts
+-- `report` is requested, with these options, by default 8 cuts, and no origin is replaced
 abbrev pub AsksForReport : Text → Text → Option Text → Option ℕ → Bool → Bool → Options → Type 0
 AsksForReport machine tools program cuts all json (ToReport report) =
     (report.machine.now ≡ machine) × (report.tools.now ≡ tools)
     × (option_map (λ name. name.now) report.program ≡ program)
     × (report.cuts ≡ unwrap_or cuts 8) × (report.all ≡ all) × (report.json ≡ json)
+    × (report.origins ≡ no_origins)
 AsksForReport machine tools program cuts all json other = ⊥
 
 -- `adapt` is requested, with these options

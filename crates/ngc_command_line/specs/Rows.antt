@@ -1,7 +1,7 @@
 -- The commands of the table's rows, as `clap` reads a command.
 use Rattle.std.specs.Prelude.{Some, None, codes, fold, map, if◌then◌else◌}
 use Rattle.clap.specs.Words.{App, Rule, Shape, new_app, new_rule, with_rule}
-use Rattle.clap.specs.declared.builder.action.ArgAction.TheVariants.{Set, SetTrue}
+use Rattle.clap.specs.declared.builder.action.ArgAction.TheVariants.{Set, Append, SetTrue}
 use Rattle.clap.specs.declared.builder.value_parser.ValueParser.TheVariants.{Unsigned}
 use Rattle.ngc_command_line.specs.CommandLine.{certify_app, check_app, draw_app, explain_app}
 use Rattle.ngc_command_line.specs.CommandLine.{adapt_app, help_app, list_app, live_app, machine_app}
@@ -11,12 +11,13 @@ use Rattle.ngc_command_line.specs.declared.commands.Subcommand.TheVariants as na
 use Rattle.ngc_command_line.specs.declared.table.Argument.{Argument}
 use Rattle.ngc_command_line.specs.declared.table.SubcommandRow.{SubcommandRow}
 use Rattle.ngc_command_line.specs.declared.table.Takes.{Takes}
-use Rattle.ngc_command_line.specs.declared.table.Takes.TheVariants.{Nothing, Text, Number}
+use Rattle.ngc_command_line.specs.declared.table.Takes.TheVariants.{Nothing, Text, Texts, Number}
 
 -- an argument that takes nothing is a flag
 abbrev pub taking : Takes → Rule → Rule
 taking Nothing rule = record rule { action = Some SetTrue }
 taking (Text value) rule = record rule { value_names = 1; action = Some Set }
+taking (Texts value) rule = record rule { value_names = 1; action = Some Append }
 taking (Number value least most) rule =
     record rule { value_names = 1; action = Some Set; parser = Some (Unsigned least most) }
 

@@ -78,6 +78,14 @@ pub(crate) const DELETE: Argument<'static> = Argument {
     help: "Turn block delete on: leave out the lines\nthat begin with `/` [default: off]",
 };
 
+pub(crate) const ORIGIN: Argument<'static> = Argument {
+    name: "origin",
+    is_named: true,
+    is_required: false,
+    takes: Takes::Texts("PLACE"),
+    help: "Origin of a system in place of the machine file's,\nin mm, as 54=60,40,-140; once for each system",
+};
+
 pub(crate) fn flag_is_set(found: &ArgMatches<'_>, name: &str) -> bool
     ensures { result ≡ is_set name.now (rows_of (found_of found.now)) }
 {

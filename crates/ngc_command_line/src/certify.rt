@@ -1,14 +1,17 @@
 //! `ngc certify`.
 
-ghost use Rattle.std.specs.Prelude.{◌≡◌, IfSome, Some, codes};
+ghost use Rattle.std.specs.Prelude.{◌≡◌, IfSome, Ok, Some, codes};
 ghost use Rattle.clap.specs.Words.{IsUnsignedIn, first_of, found_of, rows_of};
 ghost use Rattle.ngc_command_line.specs.Meant.{AreCertifyOptions, AreCuts, HasCertifyValues};
-ghost use Rattle.ngc_command_line.specs.Meant.{IsFormat};
+ghost use Rattle.ngc_command_line.specs.Meant.{IsFormat, origins_in};
 
-use crate::arguments::{CUTS, PROGRAM, REQUIRED_MACHINE, REQUIRED_TOOLS, help_end, required};
+use crate::arguments::{
+    CUTS, ORIGIN, PROGRAM, REQUIRED_MACHINE, REQUIRED_TOOLS, help_end, required,
+};
 use crate::options::{CertifyOptions, Format};
 use crate::table::{Argument, SubcommandRow, Takes};
 use clap::ArgMatches;
+use ngc_origins::Origins;
 
 const FORMAT: Argument<'static> = Argument {
     name: "format",
@@ -25,7 +28,14 @@ pub(crate) static CERTIFY: SubcommandRow<'static> = SubcommandRow {
         "  ngc certify --program examples/slot.ngc \\
     --machine examples/clamped_mill.toml --tools examples/tools.toml > slot.cert"
     ),
-    arguments: &[REQUIRED_MACHINE, REQUIRED_TOOLS, PROGRAM, CUTS, FORMAT],
+    arguments: &[
+        REQUIRED_MACHINE,
+        REQUIRED_TOOLS,
+        PROGRAM,
+        CUTS,
+        FORMAT,
+        ORIGIN,
+    ],
 };
 
 fn cuts_in(text: &str) -> u16
@@ -71,8 +81,9 @@ fn format_of(found: &ArgMatches<'_>) -> Format
     }
 }
 
-pub(crate) fn certify_options<'a>(found: &ArgMatches<'a>) -> CertifyOptions<'a>
-    requires { HasCertifyValues (rows_of (found_of found.now)) }
+pub(crate) fn certify_options<'a>(found: &ArgMatches<'a>, origins: Origins) -> CertifyOptions<'a>
+    requires values { HasCertifyValues (rows_of (found_of found.now)) }
+    requires origins { origins_in (rows_of (found_of found.now)) ≡ Ok origins }
     ensures { AreCertifyOptions (rows_of (found_of found.now)) result }
 {
     CertifyOptions {
@@ -81,5 +92,6 @@ pub(crate) fn certify_options<'a>(found: &ArgMatches<'a>) -> CertifyOptions<'a>
         program: found.get_str("program"),
         cuts: cuts_of(found),
         format: format_of(found),
+        origins,
     }
 }

@@ -1,14 +1,16 @@
 //! `ngc check`.
 
+ghost use Rattle.std.specs.Prelude.{◌≡◌, Ok};
 ghost use Rattle.clap.specs.Words.{found_of, rows_of};
-ghost use Rattle.ngc_command_line.specs.Meant.{AreCheckOptions, HasCheckValues};
+ghost use Rattle.ngc_command_line.specs.Meant.{AreCheckOptions, HasCheckValues, origins_in};
 
 use crate::CheckOptions;
 use crate::arguments::{
-    PROGRAM, REQUIRED_CERTIFICATE, REQUIRED_MACHINE, REQUIRED_TOOLS, help_end, required,
+    ORIGIN, PROGRAM, REQUIRED_CERTIFICATE, REQUIRED_MACHINE, REQUIRED_TOOLS, help_end, required,
 };
 use crate::table::SubcommandRow;
 use clap::ArgMatches;
+use ngc_origins::Origins;
 
 pub(crate) static CHECK: SubcommandRow<'static> = SubcommandRow {
     name: "check",
@@ -22,11 +24,13 @@ pub(crate) static CHECK: SubcommandRow<'static> = SubcommandRow {
         REQUIRED_TOOLS,
         REQUIRED_CERTIFICATE,
         PROGRAM,
+        ORIGIN,
     ],
 };
 
-pub(crate) fn check_options<'a>(found: &ArgMatches<'a>) -> CheckOptions<'a>
-    requires { HasCheckValues (rows_of (found_of found.now)) }
+pub(crate) fn check_options<'a>(found: &ArgMatches<'a>, origins: Origins) -> CheckOptions<'a>
+    requires values { HasCheckValues (rows_of (found_of found.now)) }
+    requires origins { origins_in (rows_of (found_of found.now)) ≡ Ok origins }
     ensures { AreCheckOptions (rows_of (found_of found.now)) result }
 {
     CheckOptions {
@@ -34,5 +38,6 @@ pub(crate) fn check_options<'a>(found: &ArgMatches<'a>) -> CheckOptions<'a>
         tools: required(found, "tools"),
         certificate: required(found, "certificate"),
         program: found.get_str("program"),
+        origins,
     }
 }

@@ -1,14 +1,16 @@
 //! `ngc draw`.
 
+ghost use Rattle.std.specs.Prelude.{◌≡◌, Ok};
 ghost use Rattle.clap.specs.Words.{found_of, rows_of};
-ghost use Rattle.ngc_command_line.specs.Meant.{AreDrawOptions, HasDrawValues};
+ghost use Rattle.ngc_command_line.specs.Meant.{AreDrawOptions, HasDrawValues, origins_in};
 
 use crate::arguments::{
-    DELETE, PROGRAM, REQUIRED_MACHINE, REQUIRED_TOOLS, flag_is_set, help_end, required,
+    DELETE, ORIGIN, PROGRAM, REQUIRED_MACHINE, REQUIRED_TOOLS, flag_is_set, help_end, required,
 };
 use crate::options::DrawOptions;
 use crate::table::{Argument, SubcommandRow, Takes};
 use clap::ArgMatches;
+use ngc_origins::Origins;
 
 const VIEW: Argument<'static> = Argument {
     name: "view",
@@ -58,11 +60,13 @@ pub(crate) static DRAW: SubcommandRow<'static> = SubcommandRow {
         DELETE,
         BODIES,
         WHOLE,
+        ORIGIN,
     ],
 };
 
-pub(crate) fn draw_options<'a>(found: &ArgMatches<'a>) -> DrawOptions<'a>
-    requires { HasDrawValues (rows_of (found_of found.now)) }
+pub(crate) fn draw_options<'a>(found: &ArgMatches<'a>, origins: Origins) -> DrawOptions<'a>
+    requires values { HasDrawValues (rows_of (found_of found.now)) }
+    requires origins { origins_in (rows_of (found_of found.now)) ≡ Ok origins }
     ensures { AreDrawOptions (rows_of (found_of found.now)) result }
 {
     DrawOptions {
@@ -74,5 +78,6 @@ pub(crate) fn draw_options<'a>(found: &ArgMatches<'a>) -> DrawOptions<'a>
         delete: flag_is_set(found, "delete"),
         bodies: flag_is_set(found, "bodies"),
         whole: flag_is_set(found, "whole"),
+        origins,
     }
 }

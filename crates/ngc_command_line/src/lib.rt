@@ -4,8 +4,8 @@
 //! `clap`.
 #![tactic(auto)]
 
-ghost use Rattle.std.specs.Prelude.{◌≡◌, Bool, IfOk, IsOkUnless, MatchResult, OnOk, Option, Some};
-ghost use Rattle.std.specs.Prelude.{ℕ, codes, ◌∷◌, []};
+ghost use Rattle.std.specs.Prelude.{◌≡◌, Bool, Err, IfOk, IsOkUnless, MatchResult, Ok, OnOk};
+ghost use Rattle.std.specs.Prelude.{Option, Some, ℕ, codes, ◌∷◌, []};
 ghost use Rattle.clap.specs.Words.{Text, found_of, kind_of, rows_of, subcommand_of};
 ghost use Rattle.clap.specs.Walk.{texts};
 ghost use Rattle.ngc_command_line.specs.CommandLine.{certify_words, check_words, draw_words};
@@ -17,7 +17,8 @@ ghost use Rattle.ngc_command_line.specs.Meant.{AreCutsInRange, AreOptions, AsksF
 ghost use Rattle.ngc_command_line.specs.Meant.{AsksForCheck, AsksForDraw, AsksForList, AsksForRun};
 ghost use Rattle.ngc_command_line.specs.Meant.{AsksForLive, AsksForShow, AsksForHelp};
 ghost use Rattle.ngc_command_line.specs.Meant.{AreCommands, AsksForReport, help_fault_number};
-ghost use Rattle.ngc_command_line.specs.Meant.{AsksForAdapt, AsksForMachine, IsTaken, IsToolInRange, IsWhole};
+ghost use Rattle.ngc_command_line.specs.Meant.{AsksForAdapt, AsksForMachine, HaveOrigins, IsTaken};
+ghost use Rattle.ngc_command_line.specs.Meant.{IsToolInRange, IsWhole, origins_in};
 ghost use Rattle.ngc_command_line.specs.Meant.{usage_fault_number};
 
 mod adapt;
@@ -32,6 +33,7 @@ mod list;
 mod live;
 mod machine;
 mod options;
+mod origin;
 mod report;
 mod run;
 mod show;
@@ -49,10 +51,12 @@ use guide::topic;
 use list::list_options;
 use live::live_options;
 use machine::machine_options;
+use ngc_origins::Origins;
 pub use options::{
     AdaptOptions, CertifyOptions, CheckOptions, DrawOptions, Format, ListOptions, LiveOptions,
     MachineOptions, Options, Recording, ReportOptions, RunOptions, RunThroughOptions, ShowOptions,
 };
+use origin::{origin_fault, origins_of};
 use report::report_options;
 use run::run_options;
 use show::show_options;
@@ -119,20 +123,21 @@ fn usage_fault(alloc: Global, error: clap::Error) -> UsageFault
 }
 
 // Returns the options of a subcommand from its matches. A new subcommand is one more arm here.
-fn options_of<'a>(name: &str, found: &ArgMatches<'a>) -> Options<'a>
-    requires { IsWhole name.now (rows_of (found_of found.now)) }
+fn options_of<'a>(name: &str, found: &ArgMatches<'a>, origins: Origins) -> Options<'a>
+    requires whole { IsWhole name.now (rows_of (found_of found.now)) }
+    requires origins { origins_in (rows_of (found_of found.now)) ≡ Ok origins }
     ensures { AreOptions (Some (name.now, rows_of (found_of found.now))) result }
 {
     match name {
-        "list" => Options::List(list_options(found)),
-        "certify" => Options::Certify(certify_options(found)),
-        "check" => Options::Check(check_options(found)),
-        "run" => run_options(Recording::Log, found),
-        "pulses" => run_options(Recording::Pulses, found),
-        "live" => Options::Live(live_options(found)),
-        "draw" => Options::Draw(draw_options(found)),
+        "list" => Options::List(list_options(found, origins)),
+        "certify" => Options::Certify(certify_options(found, origins)),
+        "check" => Options::Check(check_options(found, origins)),
+        "run" => run_options(Recording::Log, found, origins),
+        "pulses" => run_options(Recording::Pulses, found, origins),
+        "live" => Options::Live(live_options(found, origins)),
+        "draw" => Options::Draw(draw_options(found, origins)),
         "show" => Options::Show(show_options(found)),
-        "report" => Options::Report(report_options(found)),
+        "report" => Options::Report(report_options(found, origins)),
         "adapt" => Options::Adapt(adapt_options(found)),
         "machine" => Options::Machine(machine_options(found)),
         "explain" => Options::Explain(explained_number(found)),
@@ -144,17 +149,19 @@ fn options_of<'a>(name: &str, found: &ArgMatches<'a>) -> Options<'a>
 
 /// Reads the words after the program's name.
 ///
-/// The result is `Usage` only if `clap` finds a fault in the words; a request for help counts as
-/// one. If it finds one and memory runs out as well, the result may be either fault. The texts are
-/// shown by tests.
+/// The result is `Usage` only if `clap` finds a fault in the words, or if an `--origin` isn't an
+/// origin; a request for help counts as a fault. If there is one and memory runs out as well, the
+/// result may be either fault. The texts are shown by tests.
 pub fn read_options<'a>(alloc: Global, words: &'a [&'a str]) -> Result<Options<'a>, UsageFault>
     // The options are those of the subcommand that the words name. Words that name none are never
     // `Ok`.
     ensures options { IfOk result (AreOptions (subcommand_of ngc_app (texts words.entry.now))) }
-    // Words are `Ok` only where `clap` finds no fault in them, and those in which it finds none are
-    // refused only for lack of memory.
+    // Words are `Ok` only where `clap` finds no fault in them. Those in which it finds none, and
+    // whose origins are origins of different systems, are refused only for lack of memory.
     ensures taken { OnOk result (IsTaken (texts words.entry.now)) }
-    ensures refused { IsTaken (texts words.entry.now) → IsOkUnless result UsageFault.Memory }
+    ensures refused { IsTaken (texts words.entry.now) →
+        HaveOrigins (subcommand_of ngc_app (texts words.entry.now)) →
+        IsOkUnless result UsageFault.Memory }
     // `list --program=FILE --machine=FILE --tools=FILE --delete` is read as it is written, where
     // each option may be left out.
     ensures spelled { (program machine tools : Option Text) (delete : Bool)
@@ -248,7 +255,10 @@ pub fn read_options<'a>(alloc: Global, words: &'a [&'a str]) -> Result<Options<'
         Err(error) => return Err(usage_fault(alloc, error)),
     };
     match matches.subcommand() {
-        Some((name, found)) => Ok(options_of(name, found)),
+        Some((name, found)) => match origins_of(found) {
+            Ok(origins) => Ok(options_of(name, found, origins)),
+            Err(refused) => Err(origin_fault(alloc, &refused)),
+        },
         None => unreachable!(),
     }
 }

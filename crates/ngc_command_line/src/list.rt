@@ -1,12 +1,14 @@
 //! `ngc list`.
 
+ghost use Rattle.std.specs.Prelude.{◌≡◌, Ok};
 ghost use Rattle.clap.specs.Words.{found_of, rows_of};
-ghost use Rattle.ngc_command_line.specs.Meant.{AreListOptions};
+ghost use Rattle.ngc_command_line.specs.Meant.{AreListOptions, origins_in};
 
 use crate::ListOptions;
-use crate::arguments::{DELETE, PROGRAM, flag_is_set, help_end};
+use crate::arguments::{DELETE, ORIGIN, PROGRAM, flag_is_set, help_end};
 use crate::table::{Argument, SubcommandRow, Takes};
 use clap::ArgMatches;
+use ngc_origins::Origins;
 
 const MACHINE: Argument<'static> = Argument {
     name: "machine",
@@ -28,10 +30,11 @@ pub(crate) static LIST: SubcommandRow<'static> = SubcommandRow {
     name: "list",
     about: "Print the commands of a part program, one a line",
     help_end: help_end!("  ngc list --program examples/facing.ngc"),
-    arguments: &[PROGRAM, MACHINE, TOOLS, DELETE],
+    arguments: &[PROGRAM, MACHINE, TOOLS, DELETE, ORIGIN],
 };
 
-pub(crate) fn list_options<'a>(found: &ArgMatches<'a>) -> ListOptions<'a>
+pub(crate) fn list_options<'a>(found: &ArgMatches<'a>, origins: Origins) -> ListOptions<'a>
+    requires { origins_in (rows_of (found_of found.now)) ≡ Ok origins }
     ensures { AreListOptions (rows_of (found_of found.now)) result }
 {
     ListOptions {
@@ -39,5 +42,6 @@ pub(crate) fn list_options<'a>(found: &ArgMatches<'a>) -> ListOptions<'a>
         machine: found.get_str("machine"),
         tools: found.get_str("tools"),
         delete: flag_is_set(found, "delete"),
+        origins,
     }
 }

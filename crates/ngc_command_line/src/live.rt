@@ -1,15 +1,18 @@
 //! `ngc live`.
 
+ghost use Rattle.std.specs.Prelude.{◌≡◌, Ok};
 ghost use Rattle.clap.specs.Words.{found_of, rows_of};
-ghost use Rattle.ngc_command_line.specs.Meant.{AreLiveOptions, HasLiveValues};
+ghost use Rattle.ngc_command_line.specs.Meant.{AreLiveOptions, HasLiveValues, origins_in};
 
 use crate::arguments::{
-    DELETE, REQUIRED_CERTIFICATE, REQUIRED_MACHINE, REQUIRED_TOOLS, flag_is_set, help_end, required,
+    DELETE, ORIGIN, REQUIRED_CERTIFICATE, REQUIRED_MACHINE, REQUIRED_TOOLS, flag_is_set, help_end,
+    required,
 };
 use crate::options::LiveOptions;
 use crate::run::{INVERTED, LOG_OUTPUT, mask_of};
 use crate::table::{Argument, SubcommandRow, Takes};
 use clap::ArgMatches;
+use ngc_origins::Origins;
 
 const REQUIRED_PROGRAM: Argument<'static> = Argument {
     name: "program",
@@ -43,11 +46,13 @@ pub(crate) static LIVE: SubcommandRow<'static> = SubcommandRow {
         LOG_OUTPUT,
         INVERTED,
         FEED_RING,
+        ORIGIN,
     ],
 };
 
-pub(crate) fn live_options<'a>(found: &ArgMatches<'a>) -> LiveOptions<'a>
-    requires { HasLiveValues (rows_of (found_of found.now)) }
+pub(crate) fn live_options<'a>(found: &ArgMatches<'a>, origins: Origins) -> LiveOptions<'a>
+    requires values { HasLiveValues (rows_of (found_of found.now)) }
+    requires origins { origins_in (rows_of (found_of found.now)) ≡ Ok origins }
     ensures { AreLiveOptions (rows_of (found_of found.now)) result }
 {
     LiveOptions {
@@ -59,5 +64,6 @@ pub(crate) fn live_options<'a>(found: &ArgMatches<'a>) -> LiveOptions<'a>
         output: found.get_str("output"),
         inverted: mask_of(found),
         feed_ring: flag_is_set(found, "feed-ring"),
+        origins,
     }
 }

@@ -2,6 +2,8 @@
 
 ghost use Rattle.std.specs.Prelude.{◌≤◌};
 
+use ngc_origins::Origins;
+
 /// A command of the program with its options.
 #[derive(Clone, Copy)]
 pub enum Options<'a> {
@@ -47,6 +49,8 @@ pub struct ListOptions<'a> {
     pub tools: Option<&'a str>,
     /// Whether block delete is on, so that lines that begin with `/` are left out.
     pub delete: bool,
+    /// The origins that replace those of the machine file.
+    pub origins: Origins,
 }
 
 /// The version of the text of a certificate.
@@ -72,6 +76,8 @@ pub struct CertifyOptions<'a> {
     pub cuts: u16,
     /// The version of the text. The default is 1.
     pub format: Format,
+    /// The origins that replace those of the machine file.
+    pub origins: Origins,
     ghost some_cuts: { 1 ≤ cuts },
 }
 
@@ -86,6 +92,8 @@ pub struct CheckOptions<'a> {
     pub certificate: &'a str,
     /// The file of the part program. Without one it is read from standard input.
     pub program: Option<&'a str>,
+    /// The origins that replace those of the machine file.
+    pub origins: Origins,
 }
 
 /// The output of a run.
@@ -119,6 +127,8 @@ pub struct RunOptions<'a> {
     pub output: Option<&'a str>,
     /// The bits that are inverted in each byte of the samples. The default is 0.
     pub inverted: u8,
+    /// The origins that replace those of the machine file.
+    pub origins: Origins,
 }
 
 /// The options of `ngc run` and `ngc pulses` without events.
@@ -141,6 +151,8 @@ pub struct RunThroughOptions<'a> {
     pub output: Option<&'a str>,
     /// The bits that are inverted in each byte of the samples. The default is 0.
     pub inverted: u8,
+    /// The origins that replace those of the machine file.
+    pub origins: Origins,
 }
 
 /// The options of `ngc live`. Its events arrive on standard input.
@@ -163,6 +175,8 @@ pub struct LiveOptions<'a> {
     pub inverted: u8,
     /// Whether commands are loaded before each tick, while the ring has space.
     pub feed_ring: bool,
+    /// The origins that replace those of the machine file.
+    pub origins: Origins,
 }
 
 /// The options of `ngc draw`.
@@ -186,6 +200,8 @@ pub struct DrawOptions<'a> {
     /// Whether the whole travel is shown, also where it is more than three times larger than
     /// fixtures and path.
     pub whole: bool,
+    /// The origins that replace those of the machine file.
+    pub origins: Origins,
 }
 
 /// The options of `ngc show`.
@@ -215,6 +231,8 @@ pub struct ReportOptions<'a> {
     pub all: bool,
     /// Whether the report is a JSON document in place of sentences.
     pub json: bool,
+    /// The origins that replace those of the machine file.
+    pub origins: Origins,
     ghost some_cuts: { 1 ≤ cuts },
 }
 

@@ -1,15 +1,17 @@
 //! `ngc report`.
 
+ghost use Rattle.std.specs.Prelude.{◌≡◌, Ok};
 ghost use Rattle.clap.specs.Words.{found_of, rows_of};
-ghost use Rattle.ngc_command_line.specs.Meant.{AreReportOptions, HasReportValues};
+ghost use Rattle.ngc_command_line.specs.Meant.{AreReportOptions, HasReportValues, origins_in};
 
 use crate::arguments::{
-    CUTS, PROGRAM, REQUIRED_MACHINE, REQUIRED_TOOLS, flag_is_set, help_end, required,
+    CUTS, ORIGIN, PROGRAM, REQUIRED_MACHINE, REQUIRED_TOOLS, flag_is_set, help_end, required,
 };
 use crate::certify::cuts_of;
 use crate::options::ReportOptions;
 use crate::table::{Argument, SubcommandRow, Takes};
 use clap::ArgMatches;
+use ngc_origins::Origins;
 
 const ALL: Argument<'static> = Argument {
     name: "all",
@@ -34,11 +36,20 @@ pub(crate) static REPORT: SubcommandRow<'static> = SubcommandRow {
         "  ngc report --program examples/slot.ngc \\
     --machine examples/clamped_mill.toml --tools examples/tools.toml"
     ),
-    arguments: &[REQUIRED_MACHINE, REQUIRED_TOOLS, PROGRAM, CUTS, ALL, JSON],
+    arguments: &[
+        REQUIRED_MACHINE,
+        REQUIRED_TOOLS,
+        PROGRAM,
+        CUTS,
+        ALL,
+        JSON,
+        ORIGIN,
+    ],
 };
 
-pub(crate) fn report_options<'a>(found: &ArgMatches<'a>) -> ReportOptions<'a>
-    requires { HasReportValues (rows_of (found_of found.now)) }
+pub(crate) fn report_options<'a>(found: &ArgMatches<'a>, origins: Origins) -> ReportOptions<'a>
+    requires values { HasReportValues (rows_of (found_of found.now)) }
+    requires origins { origins_in (rows_of (found_of found.now)) ≡ Ok origins }
     ensures { AreReportOptions (rows_of (found_of found.now)) result }
 {
     ReportOptions {
@@ -48,5 +59,6 @@ pub(crate) fn report_options<'a>(found: &ArgMatches<'a>) -> ReportOptions<'a>
         cuts: cuts_of(found),
         all: flag_is_set(found, "all"),
         json: flag_is_set(found, "json"),
+        origins,
     }
 }

@@ -1,16 +1,17 @@
 //! `ngc run` and `ngc pulses`.
 
-ghost use Rattle.std.specs.Prelude.{IfSome, Some, codes};
+ghost use Rattle.std.specs.Prelude.{◌≡◌, IfSome, Ok, Some, codes};
 ghost use Rattle.clap.specs.Words.{IsUnsignedIn, first_of, found_of, rows_of};
-ghost use Rattle.ngc_command_line.specs.Meant.{AreRunsOptions, HasRunValues, IsMask};
+ghost use Rattle.ngc_command_line.specs.Meant.{AreRunsOptions, HasRunValues, IsMask, origins_in};
 
 use crate::arguments::{
-    DELETE, PROGRAM, REQUIRED_CERTIFICATE, REQUIRED_MACHINE, REQUIRED_TOOLS, flag_is_set, help_end,
-    required,
+    DELETE, ORIGIN, PROGRAM, REQUIRED_CERTIFICATE, REQUIRED_MACHINE, REQUIRED_TOOLS, flag_is_set,
+    help_end, required,
 };
 use crate::options::{Options, Recording, RunOptions, RunThroughOptions};
 use crate::table::{Argument, SubcommandRow, Takes};
 use clap::ArgMatches;
+use ngc_origins::Origins;
 
 const EVENTS: Argument<'static> = Argument {
     name: "events",
@@ -60,6 +61,7 @@ pub(crate) static RUN: SubcommandRow<'static> = SubcommandRow {
         DELETE,
         LOG_OUTPUT,
         INVERTED,
+        ORIGIN,
     ],
 };
 
@@ -79,6 +81,7 @@ pub(crate) static PULSES: SubcommandRow<'static> = SubcommandRow {
         DELETE,
         PULSES_OUTPUT,
         INVERTED,
+        ORIGIN,
     ],
 };
 
@@ -104,8 +107,13 @@ pub(crate) fn mask_of(found: &ArgMatches<'_>) -> u8
 }
 
 // Returns the options of a run with events, or of a run through to the program's end.
-pub(crate) fn run_options<'a>(recording: Recording, found: &ArgMatches<'a>) -> Options<'a>
-    requires { HasRunValues (rows_of (found_of found.now)) }
+pub(crate) fn run_options<'a>(
+    recording: Recording,
+    found: &ArgMatches<'a>,
+    origins: Origins,
+) -> Options<'a>
+    requires values { HasRunValues (rows_of (found_of found.now)) }
+    requires origins { origins_in (rows_of (found_of found.now)) ≡ Ok origins }
     ensures { AreRunsOptions recording (rows_of (found_of found.now)) result }
 {
     let machine = required(found, "machine");
@@ -126,6 +134,7 @@ pub(crate) fn run_options<'a>(recording: Recording, found: &ArgMatches<'a>) -> O
             delete,
             output,
             inverted,
+            origins,
         }),
         None => Options::RunThrough(RunThroughOptions {
             recording,
@@ -136,6 +145,7 @@ pub(crate) fn run_options<'a>(recording: Recording, found: &ArgMatches<'a>) -> O
             delete,
             output,
             inverted,
+            origins,
         }),
     }
 }

@@ -12,6 +12,8 @@ use std::alloc::{AllocError, Global};
 pub(crate) enum Takes<'a> {
     Nothing,
     Text(&'a str),
+    // A text each time that the argument is given.
+    Texts(&'a str),
     // A number within these bounds.
     Number(&'a str, u64, u64),
 }
@@ -40,6 +42,7 @@ fn taking<'a>(arg: Arg<'a>, takes: &Takes<'a>) -> Arg<'a>
     match takes {
         Takes::Nothing => arg.action(ArgAction::SetTrue),
         Takes::Text(value) => arg.action(ArgAction::Set).value_name(value),
+        Takes::Texts(value) => arg.action(ArgAction::Append).value_name(value),
         Takes::Number(value, least, most) => arg
             .action(ArgAction::Set)
             .value_name(value)

@@ -1,5 +1,5 @@
 -- A motion in the program's coordinates, in words and millimetres. Our own.
-use Rattle.std.specs.Prelude.{ℕ, ◌==◌, List, [], ◌++◌, codes, decimal, if◌then◌else◌}
+use Rattle.std.specs.Prelude.{ℕ, ◌==◌, Bool, List, [], ◌++◌, codes, decimal, if◌then◌else◌}
 use Rattle.ngc_fixed_length.specs.declared.modes.System.{System}
 use Rattle.ngc_fixed_length.specs.declared.modes.System.TheVariants as systems
 use Rattle.ngc_fixed_length.specs.declared.points.Point3.{Point3}
@@ -33,9 +33,13 @@ line_text line = codes " of line " ++ decimal line
 unfoldable pub line_if_set : ℕ → List ℕ
 line_if_set line = if line == 0 then [] else line_text line
 
--- an origin that no line set is that of the machine file
-unfoldable pub origin_source : ℕ → List ℕ
-origin_source line = if line == 0 then codes " of the machine file" else line_text line
+-- an origin that no line set is that of `--origin` where one is given, and that of the machine file
+-- otherwise
+abbrev pub origin_at_start : Bool → List ℕ
+origin_at_start given = if given then codes " of --origin" else codes " of the machine file"
+
+unfoldable pub origin_source : Bool → ℕ → List ℕ
+origin_source given line = if line == 0 then origin_at_start given else line_text line
 
 abbrev pub system_words : FrameInForce → List ℕ
 system_words f =
@@ -44,9 +48,9 @@ system_words f =
 abbrev pub ends_words : Point3 → Point3 → List ℕ
 ends_words from to = codes " it goes from " ++ (place_text from ++ (codes " to " ++ place_text to))
 
-abbrev pub origin_words : FrameInForce → List ℕ
-origin_words f =
-    codes ".\nThe origin is " ++ (place_text (selected_origin f.frame) ++ origin_source f.origin_line)
+abbrev pub origin_words : Bool → FrameInForce → List ℕ
+origin_words given f = codes ".\nThe origin is " ++
+    (place_text (selected_origin f.frame) ++ origin_source given f.origin_line)
 
 abbrev pub axis_offset_words : FrameInForce → List ℕ
 axis_offset_words f = if f.axis_offset_line == 0 then [] else codes ", the axis offset "
@@ -70,12 +74,13 @@ unfoldable pub goes_words : FrameInForce → Point3 → Point3 → List ℕ
 goes_words f from to = system_words f ++ ends_words from to
 
 -- the zero of these coordinates
-unfoldable pub zero_words : FrameInForce → List ℕ
-zero_words f = origin_words f ++ axis_offset_words f
+unfoldable pub zero_words : Bool → FrameInForce → List ℕ
+zero_words given f = origin_words given f ++ axis_offset_words f
 
 unfoldable pub lengths_words : FrameInForce → List ℕ
 lengths_words f = tool_length_words f ++ (unit_words f.unit_line f.frame.unit ++ codes ".\n")
 
 -- the start and the end of a motion in the program's coordinates, and which coordinates these are
-abbrev pub motion_words : FrameInForce → Point3 → Point3 → List ℕ
-motion_words f from to = goes_words f from to ++ (zero_words f ++ lengths_words f)
+abbrev pub motion_words : Bool → FrameInForce → Point3 → Point3 → List ℕ
+motion_words given f from to =
+    goes_words f from to ++ (zero_words given f ++ lengths_words f)

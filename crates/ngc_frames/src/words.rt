@@ -7,9 +7,9 @@ ghost use Rattle.ngc_text.specs.Failures.{CountsFailure};
 ghost use Rattle.ngc_text.specs.Millimetres.{mm_text};
 ghost use Rattle.ngc_frames.specs.Words.{axis_offset_words, ends_words, goes_words};
 ghost use Rattle.ngc_frames.specs.Words.{length_offset_words, lengths_words, line_if_set, line_text};
-ghost use Rattle.ngc_frames.specs.Words.{motion_words, origin_source, origin_words, place_text};
-ghost use Rattle.ngc_frames.specs.Words.{system_text, system_words, tool_length_words, unit_words};
-ghost use Rattle.ngc_frames.specs.Words.{zero_words};
+ghost use Rattle.ngc_frames.specs.Words.{motion_words, origin_at_start, origin_source};
+ghost use Rattle.ngc_frames.specs.Words.{origin_words, place_text, system_text, system_words};
+ghost use Rattle.ngc_frames.specs.Words.{tool_length_words, unit_words, zero_words};
 
 use crate::in_force::FrameInForce;
 use crate::place::as_place;
@@ -80,14 +80,26 @@ fn add_line_if_set(chunk: &mut Chunk, line: u32)
     }
 }
 
-#[tactic(auto, unfolding(crate::specs::Words::origin_source))]
-fn add_origin_source(chunk: &mut Chunk, line: u32)
+fn add_origin_at_start(chunk: &mut Chunk, given: bool)
     requires { length chunk.old + 49 ≤ CHUNK_SIZE }
-    ensures text { chunk.new ≡ chunk.old ++ origin_source line }
+    ensures text { chunk.new ≡ chunk.old ++ origin_at_start given }
+    ensures short { length chunk.new ≤ length chunk.old + 49 }
+{
+    if given {
+        chunk.add_text(b" of --origin");
+    } else {
+        chunk.add_text(b" of the machine file");
+    }
+}
+
+#[tactic(auto, unfolding(crate::specs::Words::origin_source))]
+fn add_origin_source(chunk: &mut Chunk, given: bool, line: u32)
+    requires { length chunk.old + 49 ≤ CHUNK_SIZE }
+    ensures text { chunk.new ≡ chunk.old ++ origin_source given line }
     ensures short { length chunk.new ≤ length chunk.old + 49 }
 {
     if line == 0 {
-        chunk.add_text(b" of the machine file");
+        add_origin_at_start(chunk, given);
     } else {
         add_line(chunk, line);
     }
@@ -114,15 +126,15 @@ fn add_ends(chunk: &mut Chunk, from: &Place, to: &Place)
     add_place(chunk, to);
 }
 
-fn add_origin(chunk: &mut Chunk, frame: &FrameInForce)
+fn add_origin(chunk: &mut Chunk, given: bool, frame: &FrameInForce)
     requires { length chunk.old + 250 ≤ CHUNK_SIZE }
-    ensures text { chunk.new ≡ chunk.old ++ origin_words frame.now }
+    ensures text { chunk.new ≡ chunk.old ++ origin_words given frame.now }
     ensures short { length chunk.new ≤ length chunk.old + 250 }
 {
     let origin = as_place(&frame.frame.selected_origin());
     chunk.add_text(b".\nThe origin is ");
     add_place(chunk, &origin);
-    add_origin_source(chunk, frame.origin_line);
+    add_origin_source(chunk, given, frame.origin_line);
 }
 
 fn add_axis_offset(chunk: &mut Chunk, frame: &FrameInForce)
@@ -187,11 +199,11 @@ fn add_goes(chunk: &mut Chunk, frame: &FrameInForce, from: &Place, to: &Place)
 }
 
 #[tactic(auto, unfolding(crate::specs::Words::zero_words))]
-fn add_zero(chunk: &mut Chunk, frame: &FrameInForce)
+fn add_zero(chunk: &mut Chunk, given: bool, frame: &FrameInForce)
     requires { HasLineRoom chunk.old }
-    ensures { chunk.new ≡ chunk.old ++ zero_words frame.now }
+    ensures { chunk.new ≡ chunk.old ++ zero_words given frame.now }
 {
-    add_origin(chunk, frame);
+    add_origin(chunk, given, frame);
     add_axis_offset(chunk, frame);
 }
 
@@ -206,18 +218,20 @@ fn add_lengths(chunk: &mut Chunk, frame: &FrameInForce)
 }
 
 /// Adds in words the start and the end of a motion in the program's coordinates. It adds which
-/// coordinates these are, with the lines that set them.
+/// coordinates these are, with the lines that set them; `given` says whether an origin that no line
+/// set is that of `--origin`.
 ///
 /// After a fault (902, only if the sink failed) a prefix of the text is written.
 pub fn collect_motion_words<W: Sink>(
     chunk: &mut Chunk,
+    given: bool,
     frame: &FrameInForce,
     from: &Place,
     to: &Place,
     sink: &mut W,
 ) -> Result<(), WriteFault>
     ensures text { Collects (W.written sink.old) (W.written sink.new) chunk.old chunk.new result
-        (motion_words frame.now (place_of from.now) (place_of to.now)) }
+        (motion_words given frame.now (place_of from.now) (place_of to.now)) }
     ensures counts { CountsFailure (W.failures sink.old) (W.failures sink.new) result }
 {
     match chunk.make_room(sink) {
@@ -225,7 +239,7 @@ pub fn collect_motion_words<W: Sink>(
         Err(fault) => return Err(fault),
     }
     match chunk.make_room(sink) {
-        Ok(()) => add_zero(chunk, frame),
+        Ok(()) => add_zero(chunk, given, frame),
         Err(fault) => return Err(fault),
     }
     match chunk.make_room(sink) {

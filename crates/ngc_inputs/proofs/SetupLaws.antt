@@ -1,5 +1,5 @@
 -- Statements about a file's text, and about the contents of a run's files.
-use Rattle.std.proofs.Common.{◌≡◌, ℕ, List, [], Option, Some, None, Result, Ok, Err, IfSome, refl, subst, sym, ◌∙◌}
+use Rattle.std.proofs.Common.{◌≡◌, ℕ, List, [], Option, Some, None, Result, Ok, Err, IfSome, ap, refl, subst, sym, ◌∙◌}
 use Rattle.std.specs.Prelude.{IsOk}
 use Rattle.ngc_canonical.specs.State.{Setup}
 use Rattle.ngc_machine_files.specs.Machine.{MachineFile, built_in_machine}
@@ -8,7 +8,13 @@ use Rattle.ngc_machine_files.specs.ToolText.{tool_table}
 use Rattle.ngc_machine_files.specs.declared.fault.FileFault.{FileFault}
 use Rattle.ngc_machine_files.specs.declared.tools.Tool.{Tool}
 use Rattle.ngc_inputs.specs.Setups.{FileBytes, IfSaid, KeepsFiles, IfMachine, IfTools, OnSetup, AreSetup, Refuses}
-use Rattle.ngc_inputs.specs.Shops.{RefusesMachine, RefusesShop, RefusesTools}
+use Rattle.ngc_inputs.specs.Setups.{OnPlaced}
+use Rattle.ngc_inputs.specs.Shops.{GivesPlaced, GivesShop, IsPlaced, RefusesMachine, RefusesShop, RefusesTools}
+use Rattle.ngc_inputs.specs.declared.setup.Shop.{Shop}
+use Rattle.ngc_machine_files.specs.Machine.{file_of}
+use Rattle.ngc_machine_files.specs.Tools.{tools_of}
+use Rattle.ngc_origins.specs.Placed.{placed}
+use Rattle.ngc_origins.specs.Texts.{OriginList}
 use Rattle.ngc_inputs.specs.declared.fault.AnswerFault.{AnswerFault}
 use Rattle.ngc_inputs.specs.declared.fault.AnswerFault.TheVariants as answers
 
@@ -46,6 +52,34 @@ on_setup bytes machine tools setup P machine_said tools_said p =
     said_weaker tool_table [] bytes tools (λ says. says ≡ Ok setup.tools) (λ t. (s : Setup) × AreSetup m t s × P s)
     (λ t said_t. (setup, record { machine_said = said_m; tools_said = said_t }, p)) tools_said)
     machine_said
+
+-- and with other origins, for the contents of the two files and these origins
+pub on_placed : (bytes : FileBytes) (machine tools : Option (List ℕ)) (origins : OriginList) (setup : Setup) (P : Setup → Type 0)
+    → IfMachine bytes machine (IsPlaced origins setup.machine) → IfTools bytes tools (λ says. says ≡ Ok setup.tools) → P setup
+    → OnPlaced bytes machine tools origins P
+on_placed bytes machine tools origins setup P machine_said tools_said p =
+    said_weaker machine_file built_in_machine bytes machine (IsPlaced origins setup.machine)
+    (λ m. IfTools bytes tools (λ t. (s : Setup) × AreSetup m t s × P (record s { machine = placed origins s.machine })))
+    (λ m said_m.
+    said_weaker tool_table [] bytes tools (λ says. says ≡ Ok setup.tools)
+    (λ t. (s : Setup) × AreSetup m t s × P (record s { machine = placed origins s.machine }))
+    (λ t said_t. (
+      record { machine = said_m.0; tools = setup.tools },
+      record { machine_said = said_m.1; tools_said = said_t },
+      subst (λ (m : MachineFile). P (record { machine = m; tools = setup.tools })) said_m.2 p,
+    )) tools_said)
+    machine_said
+
+-- a machine and its tools that were read, with these origins
+pub shop_placed : (bytes : FileBytes) (machine tools : Option (List ℕ)) (origins : OriginList) (shop placed_shop : Shop)
+    → GivesShop bytes machine tools (Ok shop) → file_of placed_shop.machine ≡ placed origins (file_of shop.machine)
+    → tools_of placed_shop.tools ≡ tools_of shop.tools → GivesPlaced bytes machine tools origins (Ok placed_shop)
+shop_placed bytes machine tools origins shop placed_shop said placed_machine same_tools = (
+  said_weaker machine_file built_in_machine bytes machine (λ says. says ≡ Ok (file_of shop.machine)) (IsPlaced origins (file_of placed_shop.machine))
+      (λ says is. (file_of shop.machine, is, placed_machine)) said.0,
+  said_weaker tool_table [] bytes tools (λ says. says ≡ Ok (tools_of shop.tools)) (λ says. says ≡ Ok (tools_of placed_shop.tools))
+      (λ says is. is ∙ ap Ok (sym same_tools)) said.1,
+)
 
 -- of a file's bytes, from a source with these bytes
 pub of_file : (known source : Option (List ℕ)) (P : List ℕ → Type 0) → source ≡ known → IfSome source P → IfSome known P

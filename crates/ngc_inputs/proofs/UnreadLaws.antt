@@ -8,11 +8,12 @@ use Rattle.ngc_text.specs.declared.input_fault.InputFault.{InputFault}
 use Rattle.ngc_text.specs.declared.input_fault.InputFault.TheVariants as inputs
 use Rattle.ngc_line_reader.specs.declared.program.fault.ReadFault.{ReadFault}
 use Rattle.ngc_line_reader.specs.declared.program.fault.ReadFault.TheVariants as reads
-use Rattle.ngc_machine_files.specs.Machine.{MachineFile}
+use Rattle.ngc_machine_files.specs.Machine.{MachineFile, file_of}
 use Rattle.ngc_machine_files.specs.MachineText.{machine_file}
 use Rattle.ngc_machine_files.specs.ToolText.{tool_table}
 use Rattle.ngc_inputs.specs.Setups.{FileBytes, IfMachine, KeepsFiles}
-use Rattle.ngc_inputs.specs.Shops.{GivesShop}
+use Rattle.ngc_inputs.specs.Shops.{GivesPlaced, GivesShop, IsPlaced}
+use Rattle.ngc_origins.specs.Texts.{OriginList}
 use Rattle.ngc_inputs.specs.Faults.{OfCertifying, OfChecking, OfDrawing, OfListing, OfLiving, OfRunning}
 use Rattle.ngc_inputs.specs.Unread.{Kind, OfMachine, OfTools, OfProgram, OfCertificate, OfEvents, OfSource, IsReadAs, Input, setup_input, shop_inputs, AtFirst}
 use Rattle.ngc_inputs.specs.Unread.{TellsKindUnread, TellsFirstUnread, FailsBy, FailsByInput, program_unread, certificate_unread, unread_by}
@@ -105,6 +106,22 @@ shop_read bytes None (Some t) shop said = (is_read tool_table _ (bytes (Some t))
 shop_read bytes (Some m) None shop said = (is_read machine_file _ (bytes (Some m)) (bytes (Some m)) refl said.0, tt)
 shop_read bytes (Some m) (Some t) shop said =
     (is_read machine_file _ (bytes (Some m)) (bytes (Some m)) refl said.0, (is_read tool_table _ (bytes (Some t)) (bytes (Some t)) refl said.1, tt))
+
+-- the same of a machine with other origins
+pub placed_read : (bytes : FileBytes) (machine tools : Option (List ℕ)) (origins : OriginList) (shop : Shop) → GivesPlaced bytes machine tools origins (Ok shop)
+    → AllRead bytes (shop_inputs machine tools)
+placed_read bytes machine tools origins shop said = both machine tools said
+  where
+    of_machine : (known : Option (List ℕ)) → IfSome known (λ text. IsPlaced origins (file_of shop.machine) (machine_file text)) →
+        IfSome known (λ text. IsOk (machine_file text))
+    of_machine None said = tt
+    of_machine (Some text) said = subst IsOk (sym said.1) refl
+
+    both : (machine tools : Option (List ℕ)) → GivesPlaced bytes machine tools origins (Ok shop) → AllRead bytes (shop_inputs machine tools)
+    both None None said = tt
+    both None (Some t) said = (is_read tool_table _ (bytes (Some t)) (bytes (Some t)) refl said.1, tt)
+    both (Some m) None said = (of_machine (bytes (Some m)) said.0, tt)
+    both (Some m) (Some t) said = (of_machine (bytes (Some m)) said.0, (is_read tool_table _ (bytes (Some t)) (bytes (Some t)) refl said.1, tt))
 
 -- ---- the machine file and the tool table
 

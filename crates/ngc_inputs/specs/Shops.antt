@@ -1,7 +1,10 @@
 -- The result of reading the machine file and the tool table.
 use Rattle.std.specs.Prelude.{◌≡◌, ℕ, List, Option, Result, Ok, Err, IsOk}
-use Rattle.ngc_machine_files.specs.Machine.{file_of}
+use Rattle.ngc_machine_files.specs.Machine.{MachineFile, file_of}
+use Rattle.ngc_machine_files.specs.declared.fault.FileFault.{FileFault}
 use Rattle.ngc_machine_files.specs.Tools.{tools_of}
+use Rattle.ngc_origins.specs.Placed.{placed}
+use Rattle.ngc_origins.specs.Texts.{OriginList}
 use Rattle.ngc_inputs.specs.declared.fault.AnswerFault.{AnswerFault}
 use Rattle.ngc_inputs.specs.declared.fault.AnswerFault.TheVariants as answers
 use Rattle.ngc_inputs.specs.declared.setup.Shop.{Shop}
@@ -31,3 +34,16 @@ GivesShop bytes machine tools (Ok shop) =
     IfMachine bytes machine (λ says. says ≡ Ok (file_of shop.machine)) ×
     IfTools bytes tools (λ says. says ≡ Ok (tools_of shop.tools))
 GivesShop bytes machine tools (Err fault) = RefusesShop bytes machine tools fault
+
+-- what is read is a machine, and with these origins it is this one
+abbrev pub IsPlaced : OriginList → MachineFile → Result MachineFile FileFault → Type 0
+IsPlaced origins machine says =
+    (m : MachineFile) × (says ≡ Ok m) × (machine ≡ placed origins m)
+
+-- the machine has these origins in place of its own
+abbrev pub GivesPlaced : FileBytes → Option (List ℕ) → Option (List ℕ) → OriginList →
+    Result Shop AnswerFault → Type 0
+GivesPlaced bytes machine tools origins (Ok shop) =
+    IfMachine bytes machine (IsPlaced origins (file_of shop.machine)) ×
+    IfTools bytes tools (λ says. says ≡ Ok (tools_of shop.tools))
+GivesPlaced bytes machine tools origins (Err fault) = RefusesShop bytes machine tools fault

@@ -14,4 +14,4 @@ pub use fault_line::add_fault_line;
 pub use files::Files;
 pub use judging::{Verdict, judge, judge_file};
 pub use opening::{open_file, read_certificate, read_program};
-pub use setup::{FILE_LIMIT, Shop, bytes_of, read_shop};
+pub use setup::{FILE_LIMIT, Shop, bytes_of, read_placed, read_shop};

@@ -4,7 +4,8 @@ ghost use Rattle.std.specs.Prelude.{option_map};
 ghost use Rattle.ngc_machine_files.specs.Machine.{file_of};
 ghost use Rattle.ngc_machine_files.specs.Tools.{tools_of};
 ghost use Rattle.ngc_inputs.specs.Setups.{IfMachine, IfTools, KeepsFiles};
-ghost use Rattle.ngc_inputs.specs.Shops.{GivesShop, RefusesMachine, RefusesTools};
+ghost use Rattle.ngc_inputs.specs.Shops.{GivesPlaced, GivesShop, RefusesMachine, RefusesTools};
+ghost use Rattle.ngc_origins.specs.Placed.{placed};
 ghost use Rattle.ngc_inputs.specs.Unread.{FailsByInput, OfMachine, OfTools, SourceFails};
 ghost use Rattle.ngc_inputs.specs.Unread.{TellsUnread, setup_input, shop_inputs};
 
@@ -12,6 +13,7 @@ use crate::fault::AnswerFault;
 use crate::files::Files;
 use crate::opening::open_file;
 use ngc_machine_files::{Machine, Tools, built_in_machine};
+use ngc_origins::Origins;
 use ngc_text::{InputFault, read_whole};
 use std::alloc::Global;
 
@@ -20,6 +22,19 @@ use std::alloc::Global;
 pub struct Shop {
     pub machine: Machine<Global>,
     pub tools: Tools<Global>,
+}
+
+impl Shop {
+    /// Returns the machine with these origins in place of its own, and its tools.
+    pub fn with_origins(self, origins: &Origins) -> Shop
+        ensures machine { file_of result.machine ≡ placed origins.now (file_of self.machine) }
+        ensures tools { tools_of result.tools ≡ tools_of self.tools }
+    {
+        Shop {
+            machine: origins.place(self.machine),
+            tools: self.tools,
+        }
+    }
 }
 
 /// The greatest number of bytes of a machine file, tool table or events file: a longer one is 901.
@@ -139,4 +154,26 @@ pub fn read_shop<F: Files>(
     let machine = read_machine(alloc, machine, files)?;
     let tools = read_tools(alloc, tools, files)?;
     Ok(Shop { machine, tools })
+}
+
+/// Returns the machine, with these origins in place of its own, and its tools.
+pub fn read_placed<F: Files>(
+    alloc: Global,
+    machine: Option<&str>,
+    tools: Option<&str>,
+    origins: &Origins,
+    files: &mut F,
+) -> Result<Shop, AnswerFault>
+    ensures said { GivesPlaced (F.bytes files.old) (option_map (λ n. n.now) machine.entry)
+        (option_map (λ n. n.now) tools.entry) origins.now result }
+    ensures keeps { KeepsFiles (F.bytes files.old) (F.bytes files.new) }
+    // The first file that isn't read can't be opened, its source fails, or it is too long.
+    ensures unread { FailsByInput (SourceFails F.R.remaining F.R.failures) (F.bytes files.old)
+        (shop_inputs (option_map (λ n. n.now) machine.entry) (option_map (λ n. n.now) tools.entry))
+        (F.failures files.old) (F.failures files.new) result }
+{
+    match read_shop(alloc, machine, tools, files) {
+        Ok(shop) => Ok(shop.with_origins(origins)),
+        Err(fault) => Err(fault),
+    }
 }

@@ -1,5 +1,6 @@
 -- The text of an accepted program, from its machine, tools and commands.
 use Rattle.std.proofs.Common.{◌≡◌, List, ◌++◌, Bool, ap₂}
+use Rattle.ngc_origins.specs.Texts.{OriginList}
 use Rattle.ngc_commands.specs.declared.command.Command.{Command}
 use Rattle.ngc_certificate_text.specs.Certificate.{Entry}
 use Rattle.ngc_certificate_text.specs.declared.piece.Setting.{Setting}
@@ -11,11 +12,11 @@ use Rattle.ngc_report.specs.declared.form.Form.{Form}
 use Rattle.ngc_program_report.specs.Texts.{setting_text, shop_text}
 use Rattle.ngc_program_report.specs.Times.{ProgramTimeData}
 
-pub setting_as : (form : Form) (first named : Bool) (s : Setting) (entries : List Entry) (time : ProgramTimeData) (lines : List Line) (machine own : MachineFile)
+pub setting_as : (form : Form) (origins : OriginList) (first named : Bool) (s : Setting) (entries : List Entry) (time : ProgramTimeData) (lines : List Line) (machine own : MachineFile)
     (commands given : List Command) → machine ≡ own → commands ≡ given
-    → setting_text form first named s machine commands entries time lines ≡ setting_text form first named s own given entries time lines
-setting_as form first named s entries time lines machine own commands given is are =
-    ap₂ (λ (m : MachineFile) (cs : List Command). setting_text form first named s m cs entries time lines) is are
+    → setting_text form origins first named s machine commands entries time lines ≡ setting_text form origins first named s own given entries time lines
+setting_as form origins first named s entries time lines machine own commands given is are =
+    ap₂ (λ (m : MachineFile) (cs : List Command). setting_text form origins first named s m cs entries time lines) is are
 
 pub shop_as : (form : Form) (machine own : MachineFile) (tools given : List Tool) → machine ≡ own → tools ≡ given
     → shop_text form (record { machine = machine; tools = tools }) ++ closing form ≡ shop_text form (record { machine = own; tools = given }) ++ closing form

@@ -1,6 +1,7 @@
 -- The texts of a job, from those of the accepted program.
 use Rattle.std.proofs.Common.{◌≡◌, ℕ, List, Option, Some, None, Result, Ok, Err, IfOk, IsTrue, Bool, false, ap, ap₂, refl, subst, sym, ◌∙◌}
 use Rattle.std.specs.Prelude.{is_some, slice_get, true}
+use Rattle.ngc_origins.specs.Texts.{OriginList}
 use Rattle.ngc_canonical.specs.Meaning.{with_readings}
 use Rattle.ngc_canonical.specs.State.{Setup}
 use Rattle.ngc_frames.specs.Changes.{frame_changes, start_frame}
@@ -28,11 +29,11 @@ use Rattle.ngc_program_report.specs.Texts.{LastsFor, accepted_text, fits_text, i
 use Rattle.ngc_program_report.specs.Times.{ProgramTimeData}
 
 -- the report of the accepted program is the report of the job
-pub accepted_as : (j : JobData) (c : CertificateData) (form : Form) (apart : Bool) (off_time on_time : ProgramTimeData) (lines : List Line) → apart ≡ is_some j.on
-    → accepted_text form apart (accepted_of j) c off_time on_time lines
-    ≡ fits_text form (is_some j.on) (setup_in j) j.off (commands_in true j) c off_time on_time lines
-accepted_as j c form apart off_time on_time lines is =
-    ap (λ (d : Bool). fits_text form d (setup_in j) j.off (commands_in true j) c off_time on_time lines) is
+pub accepted_as : (j : JobData) (c : CertificateData) (form : Form) (origins : OriginList) (apart : Bool) (off_time on_time : ProgramTimeData) (lines : List Line) → apart ≡ is_some j.on
+    → accepted_text form origins apart (accepted_of j) c off_time on_time lines
+    ≡ fits_text form origins (is_some j.on) (setup_in j) j.off (commands_in true j) c off_time on_time lines
+accepted_as j c form origins apart off_time on_time lines is =
+    ap (λ (d : Bool). fits_text form origins d (setup_in j) j.off (commands_in true j) c off_time on_time lines) is
 
 -- if no line begins with `/`, both settings have the same commands
 pub alike : (off : List Command) (on : Option (List Command)) → is_some on ≡ false → on_or off on ≡ off
@@ -51,26 +52,26 @@ lasts_on a j time is lasts = subst (λ (x : AcceptedData). LastsFor x.machine (c
 pub lasts_alike : (j : JobData) (time : ProgramTimeData) → is_some j.on ≡ false → LastsFor j.machine j.off time → LastsFor j.machine (commands_in true j) time
 lasts_alike j time none lasts = subst (λ (cs : List Command). LastsFor j.machine cs time) (sym (alike j.off j.on none)) lasts
 
-pub fit_text : (j : JobData) (c : CertificateData) (form : Form) (apart : Bool) (a : AcceptedData) (off_time on_time : ProgramTimeData) (lines : List Line) → apart ≡ is_some j.on
+pub fit_text : (j : JobData) (c : CertificateData) (form : Form) (origins : OriginList) (apart : Bool) (a : AcceptedData) (off_time on_time : ProgramTimeData) (lines : List Line) → apart ≡ is_some j.on
     → a ≡ accepted_of j → LastsFor j.machine j.off off_time → LastsFor j.machine (commands_in true j) on_time
-    → IsFitText j c form lines (accepted_text form apart a c off_time on_time lines)
-fit_text j c form apart a off_time on_time lines is_apart is off_lasts on_lasts = record {
+    → IsFitText j c form origins lines (accepted_text form origins apart a c off_time on_time lines)
+fit_text j c form origins apart a off_time on_time lines is_apart is off_lasts on_lasts = record {
   off_time = off_time;
   off_lasts = off_lasts;
   on_time = on_time;
   on_lasts = on_lasts;
-  tells = ap (λ (x : AcceptedData). accepted_text form apart x c off_time on_time lines) is ∙ accepted_as j c form apart off_time on_time lines is_apart;
+  tells = ap (λ (x : AcceptedData). accepted_text form origins apart x c off_time on_time lines) is ∙ accepted_as j c form origins apart off_time on_time lines is_apart;
 }
 
 -- ---- obstacles
 
-pub first_as : (j : JobData) (form : Form) (s : Setting) (k : ℕ) (lines : List Line) (frame : FrameInForce) (named : Bool) (m : MachineFile) (b : Bool)
+pub first_as : (j : JobData) (form : Form) (origins : OriginList) (s : Setting) (k : ℕ) (lines : List Line) (frame : FrameInForce) (named : Bool) (m : MachineFile) (b : Bool)
     (cs : List Command) → named ≡ is_some j.on → m ≡ j.machine → b ≡ is_on s → cs ≡ commands_in b j
-    → refusal_text form named s m cs k lines frame ≡ first_text j form s k lines frame
-first_as j form s k lines frame named m b cs is_named is_machine is_set are =
-    ap (λ (d : Bool). refusal_text form d s m cs k lines frame) is_named
-    ∙ ap (λ (x : MachineFile). refusal_text form (is_some j.on) s x cs k lines frame) is_machine
-    ∙ ap (λ (l : List Command). refusal_text form (is_some j.on) s j.machine l k lines frame) (are ∙ ap (λ (x : Bool). commands_in x j) is_set)
+    → refusal_text form origins named s m cs k lines frame ≡ first_text j form origins s k lines frame
+first_as j form origins s k lines frame named m b cs is_named is_machine is_set are =
+    ap (λ (d : Bool). refusal_text form origins d s m cs k lines frame) is_named
+    ∙ ap (λ (x : MachineFile). refusal_text form origins (is_some j.on) s x cs k lines frame) is_machine
+    ∙ ap (λ (l : List Command). refusal_text form origins (is_some j.on) s j.machine l k lines frame) (are ∙ ap (λ (x : Bool). commands_in x j) is_set)
 
 -- what two facts imply of a value
 pub both_ok : {T E : Type 0} (r : Result T E) (P Q R : T → Type 0) → ((v : T) → P v → Q v → R v) → IfOk r P → IfOk r Q → IfOk r R
@@ -103,14 +104,14 @@ frame_as j s k lines b cs n start changes frame is_set are is_line history is rs
     ∙ ap (λ (h : History). frame_in_force h.start h.changes n) (history rs readings)
     ∙ ap (λ (x : ℕ). frame_in_force (start_frame (setup_in j)) (frame_changes (setup_in j) (with_readings lines rs) (is_on s)) x) line
 
-pub all_text : (j : JobData) (cuts : ℕ) (s : Setting) (k : ℕ) (form : Form) (lines : List Line) (named : Bool) (m : MachineFile) (off on : List Command)
+pub all_text : (j : JobData) (cuts : ℕ) (s : Setting) (k : ℕ) (form : Form) (origins : OriginList) (lines : List Line) (named : Bool) (m : MachineFile) (off on : List Command)
     (off_h on_h : History) (off_ks on_ks : List ℕ)
     → named ≡ is_some j.on → m ≡ j.machine → off ≡ j.off → on ≡ commands_in true j
     → AreUncleared j.machine cuts j.off off_ks → (IsStartClear j.machine → OffBegins (is_some j.on) s k off_ks)
     → AreUncleared j.machine cuts (commands_in true j) on_ks → (IsStartClear j.machine → OnBegins s k on_ks)
     → IsHistoryAt j Off lines off_h → (IsTrue (is_some j.on) → IsHistoryAt j On lines on_h)
-    → IsRefusalsText j cuts s k form lines (refusals_text form named m off on off_h on_h off_ks on_ks)
-all_text j cuts s k form lines named m off on off_h on_h off_ks on_ks is_named is_machine is_off is_on off_are off_begins on_are on_begins off_is on_is = record {
+    → IsRefusalsText j cuts s k form origins lines (refusals_text form origins named m off on off_h on_h off_ks on_ks)
+all_text j cuts s k form origins lines named m off on off_h on_h off_ks on_ks is_named is_machine is_off is_on off_are off_begins on_are on_begins off_is on_is = record {
   off_ks = off_ks;
   off_uncleared = off_are;
   off_begins = off_begins;
@@ -121,10 +122,10 @@ all_text j cuts s k form lines named m off on off_h on_h off_ks on_ks is_named i
   off_executed = off_is;
   on_frames = on_h;
   on_executed = on_is;
-  tells = ap (λ (d : Bool). refusals_text form d m off on off_h on_h off_ks on_ks) is_named
-      ∙ ap (λ (x : MachineFile). refusals_text form (is_some j.on) x off on off_h on_h off_ks on_ks) is_machine
-      ∙ ap (λ (cs : List Command). refusals_text form (is_some j.on) j.machine cs on off_h on_h off_ks on_ks) is_off
-      ∙ ap (λ (cs : List Command). refusals_text form (is_some j.on) j.machine j.off cs off_h on_h off_ks on_ks) is_on;
+  tells = ap (λ (d : Bool). refusals_text form origins d m off on off_h on_h off_ks on_ks) is_named
+      ∙ ap (λ (x : MachineFile). refusals_text form origins (is_some j.on) x off on off_h on_h off_ks on_ks) is_machine
+      ∙ ap (λ (cs : List Command). refusals_text form origins (is_some j.on) j.machine cs on off_h on_h off_ks on_ks) is_off
+      ∙ ap (λ (cs : List Command). refusals_text form origins (is_some j.on) j.machine j.off cs off_h on_h off_ks on_ks) is_on;
 }
 
 -- if both settings have the same commands, the commands that aren't cleared are reported once

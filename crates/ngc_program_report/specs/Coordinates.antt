@@ -1,5 +1,6 @@
 -- The motion that a report is about, in the program's coordinates. Our own.
-use Rattle.std.specs.Prelude.{◌≡◌, ℕ, List, [], slice_get, Option, Some, None, option_and_then}
+use Rattle.std.specs.Prelude.{◌≡◌, ℕ, Bool, List, [], slice_get, Option, Some, None}
+use Rattle.std.specs.Prelude.{option_and_then}
 use Rattle.ngc_fixed_length.specs.declared.points.Point3.{Point3}
 use Rattle.ngc_offsets.specs.Frames.{to_program}
 use Rattle.ngc_commands.specs.Movement.{start_of, end_of}
@@ -12,6 +13,7 @@ use Rattle.ngc_frames.specs.Words.{motion_words}
 use Rattle.ngc_frames.specs.declared.change.FrameChange.{FrameChange}
 use Rattle.ngc_frames.specs.declared.frame.Frame.{Frame}
 use Rattle.ngc_frames.specs.declared.in_force.FrameInForce.{FrameInForce}
+use Rattle.ngc_origins.specs.Texts.{OriginList, replaces}
 use Rattle.ngc_report.specs.declared.form.Form.{Form}
 use Rattle.ngc_report.specs.declared.form.Form.TheVariants.{Words, Json}
 
@@ -37,13 +39,14 @@ abbrev pub told_way : List Command → Option ℕ → Option Way
 told_way commands None = None
 told_way commands (Some k) = option_and_then (λ c. way_of c.action) (slice_get commands k)
 
-unfoldable pub motion_text : Form → FrameInForce → Point3 → Point3 → List ℕ
-motion_text Words f from to = motion_words f from to
-motion_text Json f from to = motion_fact f from to
+unfoldable pub motion_text : Form → Bool → FrameInForce → Point3 → Point3 → List ℕ
+motion_text Words given f from to = motion_words given f from to
+motion_text Json given f from to = motion_fact f from to
 
 -- where it begins and ends in the program's coordinates
-unfoldable pub coordinates_text : Form → FrameInForce → Option Way → List ℕ
-coordinates_text form f None = []
-coordinates_text form f (Some way) =
-    motion_text form f (to_program f.frame.frames (start_of way))
+unfoldable pub coordinates_text : Form → OriginList → FrameInForce → Option Way → List ℕ
+coordinates_text form origins f None = []
+coordinates_text form origins f (Some way) =
+    motion_text form (replaces origins f.frame.frames.active) f
+    (to_program f.frame.frames (start_of way))
     (to_program f.frame.frames (end_of way))

@@ -3,6 +3,7 @@ use Rattle.std.specs.Prelude.{◌≡◌, ℕ, List, [], Option, Some, None, is_s
 use Rattle.std.specs.Prelude.{true, false, IsTrue, slice_get}
 use Rattle.std.specs.List.{list_all}
 use Rattle.std.specs.Io.KnownBytes.{Appends, Keeps}
+use Rattle.ngc_origins.specs.Texts.{OriginList}
 use Rattle.ngc_text.specs.Failures.{Rises}
 use Rattle.ngc_text.specs.Written.{AppendsBeginning}
 use Rattle.ngc_line_reader.specs.Grammar.{Reading}
@@ -38,13 +39,13 @@ abbrev pub setup_in : JobData → Setup
 setup_in j = record { machine = j.machine; tools = j.tools }
 
 -- the report of a job with this certificate, for a program with these lines
-pub record IsFitText (j : JobData) (c : CertificateData) (form : Form) (lines : List Line)
-    (text : List ℕ) : Type 0 where
+pub record IsFitText (j : JobData) (c : CertificateData) (form : Form) (origins : OriginList)
+    (lines : List Line) (text : List ℕ) : Type 0 where
   pub off_time : ProgramTimeData
   pub off_lasts : LastsFor j.machine j.off off_time
   pub on_time : ProgramTimeData
   pub on_lasts : LastsFor j.machine (commands_in true j) on_time
-  pub tells : text ≡ fits_text form (is_some j.on) (setup_in j) j.off (commands_in true j) c
+  pub tells : text ≡ fits_text form origins (is_some j.on) (setup_in j) j.off (commands_in true j) c
       off_time on_time lines
 
 -- the report of a program with a valid certificate has no negative margin
@@ -77,7 +78,7 @@ IsHistoryAt j s lines h = (rs : List Reading) → AreReadings lines rs →
 -- the report of all commands that aren't cleared, at either setting, if no certificate is made
 -- because of command `k` at a setting
 pub record IsRefusalsText (j : JobData) (cuts : ℕ) (s : Setting) (k : ℕ) (form : Form)
-    (lines : List Line) (text : List ℕ) : Type 0 where
+    (origins : OriginList) (lines : List Line) (text : List ℕ) : Type 0 where
   pub off_ks : List ℕ
   pub off_uncleared : AreUncleared j.machine cuts j.off off_ks
   pub off_begins : IsStartClear j.machine → OffBegins (is_some j.on) s k off_ks
@@ -88,13 +89,14 @@ pub record IsRefusalsText (j : JobData) (cuts : ℕ) (s : Setting) (k : ℕ) (fo
   pub off_executed : IsHistoryAt j Off lines off_frames
   pub on_frames : History
   pub on_executed : IsTrue (is_some j.on) → IsHistoryAt j On lines on_frames
-  pub tells : text ≡ refusals_text form (is_some j.on) j.machine j.off (commands_in true j)
-      off_frames on_frames off_ks on_ks
+  pub tells : text ≡ refusals_text form origins (is_some j.on) j.machine j.off
+      (commands_in true j) off_frames on_frames off_ks on_ks
 
 -- the report of only command `k`, which isn't cleared at a setting
-abbrev pub first_text : JobData → Form → Setting → ℕ → List Line → FrameInForce → List ℕ
-first_text j form s k lines frame =
-    refusal_text form (is_some j.on) s j.machine (commands_in (is_on s) j) k lines frame
+abbrev pub first_text : JobData → Form → OriginList → Setting → ℕ → List Line → FrameInForce →
+    List ℕ
+first_text j form origins s k lines frame =
+    refusal_text form origins (is_some j.on) s j.machine (commands_in (is_on s) j) k lines frame
 
 -- command `k` is executed in this frame at a setting, whatever the readings of the program's lines
 -- are
@@ -104,18 +106,19 @@ IsFrameAt j s k lines frame = (rs : List Reading) → AreReadings lines rs →
     (frame_changes (setup_in j) (with_readings lines rs) (is_on s))
     (line_of (slice_get (commands_in (is_on s) j) k))
 
-pub record IsFirstText (j : JobData) (form : Form) (s : Setting) (k : ℕ) (lines : List Line)
-    (text : List ℕ) : Type 0 where
+pub record IsFirstText (j : JobData) (form : Form) (origins : OriginList) (s : Setting) (k : ℕ)
+    (lines : List Line) (text : List ℕ) : Type 0 where
   pub frame : FrameInForce
   pub executed : IsFrameAt j s k lines frame
-  pub tells : text ≡ first_text j form s k lines frame
+  pub tells : text ≡ first_text j form origins s k lines frame
 
 -- the report of a job whose command `k` isn't cleared: of all such commands, or of only that one
 abbrev pub IsRefusalText : Bool → JobData → ReportRequest → Setting → ℕ → List Line → List ℕ →
     Type 0
 IsRefusalText true j request s k lines text =
-    IsRefusalsText j request.cuts s k request.form lines text
-IsRefusalText false j request s k lines text = IsFirstText j request.form s k lines text
+    IsRefusalsText j request.cuts s k request.form request.origins lines text
+IsRefusalText false j request s k lines text =
+    IsFirstText j request.form request.origins s k lines text
 
 -- this text was written, or a prefix of it if the sink failed; or memory ran out, and nothing was
 -- written

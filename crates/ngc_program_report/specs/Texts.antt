@@ -2,6 +2,8 @@
 use Rattle.std.specs.Prelude.{◌≡◌, ℕ, List, [], ◌++◌, codes, decimal, slice_get, Option, Some}
 use Rattle.std.specs.Prelude.{None, is_some, option_map, flat_map, Bool, true, false}
 use Rattle.std.specs.Prelude.{if◌then◌else◌}
+use Rattle.ngc_origins.specs.Lines.{origins_facts, origins_words}
+use Rattle.ngc_origins.specs.Texts.{OriginList}
 use Rattle.ngc_fixed_length.specs.Grid.{grid}
 use Rattle.ngc_line_reader.specs.Program.{Line}
 use Rattle.ngc_machine_files.specs.Machine.{MachineFile}
@@ -73,10 +75,16 @@ setting_line Words On = codes "With block delete on:\n"
 setting_line Json Off = codes ",\n{\"fact\":\"setting\",\"block_delete\":false}"
 setting_line Json On = codes ",\n{\"fact\":\"setting\",\"block_delete\":true}"
 
+-- the origins that replace those of the machine file
+abbrev pub origins_text : Form → OriginList → List ℕ
+origins_text Words origins = origins_words origins
+origins_text Json origins = origins_facts origins
+
 -- the text before the first setting of a report, and before the other
-abbrev pub heading : Form → Bool → Bool → Setting → List ℕ
-heading form first named s =
-    (if first then opening form else []) ++ (if named then setting_line form s else [])
+abbrev pub heading : Form → OriginList → Bool → Bool → Setting → List ℕ
+heading form origins first named s =
+    (if first then opening form ++ origins_text form origins else [])
+    ++ (if named then setting_line form s else [])
 
 abbrev pub is_on : Setting → Bool
 is_on Off = false
@@ -89,10 +97,10 @@ remarks form s machine commands lines =
     ++ word_warnings form (is_on s) machine commands lines
 
 -- what fits at a setting, the time there, and the warnings
-abbrev pub setting_text : Form → Bool → Bool → Setting → MachineFile → List Command → List Entry →
-    ProgramTimeData → List Line → List ℕ
-setting_text form first named s machine commands motions time lines =
-    heading form first named s
+abbrev pub setting_text : Form → OriginList → Bool → Bool → Setting → MachineFile → List Command →
+    List Entry → ProgramTimeData → List Line → List ℕ
+setting_text form origins first named s machine commands motions time lines =
+    heading form origins first named s
     ++ (report_text form (fit_lines machine commands motions)
     ++ (duration_text form commands time ++ remarks form s machine commands lines))
 
@@ -103,20 +111,20 @@ shop_text Json setup = warning_facts setup.machine setup.tools
 
 -- the text for both settings, or once if they have the same commands; and the warnings about
 -- machine and tools
-abbrev pub fits_text : Form → Bool → Setup → List Command → List Command → CertificateData →
-    ProgramTimeData → ProgramTimeData → List Line → List ℕ
-fits_text form false setup off on c off_time on_time lines =
-    setting_text form true false Off setup.machine off c.off off_time lines
+abbrev pub fits_text : Form → OriginList → Bool → Setup → List Command → List Command →
+    CertificateData → ProgramTimeData → ProgramTimeData → List Line → List ℕ
+fits_text form origins false setup off on c off_time on_time lines =
+    setting_text form origins true false Off setup.machine off c.off off_time lines
     ++ (shop_text form setup ++ closing form)
-fits_text form true setup off on c off_time on_time lines =
-    setting_text form true true Off setup.machine off c.off off_time lines
-    ++ (setting_text form false true On setup.machine on c.on on_time lines
+fits_text form origins true setup off on c off_time on_time lines =
+    setting_text form origins true true Off setup.machine off c.off off_time lines
+    ++ (setting_text form origins false true On setup.machine on c.on on_time lines
     ++ (shop_text form setup ++ closing form))
 
 -- the text for an accepted program
-abbrev pub accepted_text : Form → Bool → AcceptedData → CertificateData → ProgramTimeData →
-    ProgramTimeData → List Line → List ℕ
-accepted_text form named a c off_time on_time lines = fits_text form named
+abbrev pub accepted_text : Form → OriginList → Bool → AcceptedData → CertificateData →
+    ProgramTimeData → ProgramTimeData → List Line → List ℕ
+accepted_text form origins named a c off_time on_time lines = fits_text form origins named
     (record { machine = a.machine; tools = a.tools }) a.off a.on c off_time on_time lines
 
 -- the number of the reported fault, which `ngc explain` explains
@@ -143,57 +151,60 @@ quoted_if form None lines = []
 quoted_if form (Some number) lines = quoted form number lines
 
 -- the obstacle of a command, its program line, and its coordinates in the program
-abbrev pub cause_text : Form → MachineFile → List Command → Option ℕ → Option ℕ → List Line →
-    FrameInForce → List ℕ
-cause_text form machine commands told fixture lines frame =
+abbrev pub cause_text : Form → OriginList → MachineFile → List Command → Option ℕ → Option ℕ →
+    List Line → FrameInForce → List ℕ
+cause_text form origins machine commands told fixture lines frame =
     report_text form (refusal_lines machine commands told fixture)
     ++ (quoted_if form (told_number commands told) lines
-    ++ (coordinates_text form frame (told_way commands told) ++ ending form 304))
+    ++ (coordinates_text form origins frame (told_way commands told) ++ ending form 304))
 
 -- the obstacle of command `k` at a setting
-abbrev pub refusal_text : Form → Bool → Setting → MachineFile → List Command → ℕ →
+abbrev pub refusal_text : Form → OriginList → Bool → Setting → MachineFile → List Command → ℕ →
     List Line → FrameInForce → List ℕ
-refusal_text form named s machine commands k lines frame =
-    heading form true named s
-    ++ cause_text form machine commands
+refusal_text form origins named s machine commands k lines frame =
+    heading form origins true named s
+    ++ cause_text form origins machine commands
     (told_command (place_fault machine None (grid machine.step machine.start)) k)
     (met_at machine commands k) lines frame
 
 -- the obstacle of command `k`, and its coordinates in the program
-abbrev pub command_refusal : Form → MachineFile → List Command → History → ℕ → List ℕ
-command_refusal form machine commands h k =
+abbrev pub command_refusal : Form → OriginList → MachineFile → List Command → History → ℕ →
+    List ℕ
+command_refusal form origins machine commands h k =
     report_text form (scene_lines machine k None (scene_at machine commands k))
-    ++ coordinates_text form
+    ++ coordinates_text form origins
     (frame_in_force h.start h.changes (line_of (slice_get commands k)))
     (told_way commands (Some k))
 
 -- those of commands in order
-abbrev pub command_refusals : Form → MachineFile → List Command → History → List ℕ → List ℕ
-command_refusals form machine commands h ks =
-    flat_map (command_refusal form machine commands h) ks
+abbrev pub command_refusals : Form → OriginList → MachineFile → List Command → History →
+    List ℕ → List ℕ
+command_refusals form origins machine commands h ks =
+    flat_map (command_refusal form origins machine commands h) ks
 
 -- the verdict and the extents, the start if it is refused, and the refused commands
-abbrev pub all_refusals : Form → MachineFile → List Command → History → List ℕ → List ℕ
-all_refusals form machine commands h ks =
+abbrev pub all_refusals : Form → OriginList → MachineFile → List Command → History → List ℕ →
+    List ℕ
+all_refusals form origins machine commands h ks =
     report_text form
     (refusals_head machine commands
     (is_some (place_fault machine None (grid machine.step machine.start))) ks)
-    ++ command_refusals form machine commands h ks
+    ++ command_refusals form origins machine commands h ks
 
 -- all obstacles at a setting, where the program has these frames
-abbrev pub setting_refusals : Form → Bool → Bool → Setting → MachineFile → List Command → History →
-    List ℕ → List ℕ
-setting_refusals form first named s machine commands h ks =
-    heading form first named s ++ all_refusals form machine commands h ks
+abbrev pub setting_refusals : Form → OriginList → Bool → Bool → Setting → MachineFile →
+    List Command → History → List ℕ → List ℕ
+setting_refusals form origins first named s machine commands h ks =
+    heading form origins first named s ++ all_refusals form origins machine commands h ks
 
 -- the text for both settings, or once if they have the same commands
-abbrev pub refusals_text : Form → Bool → MachineFile → List Command → List Command → History →
-    History → List ℕ → List ℕ → List ℕ
-refusals_text form false machine off on off_h on_h off_ks on_ks =
-    setting_refusals form true false Off machine off off_h off_ks ++ ending form 304
-refusals_text form true machine off on off_h on_h off_ks on_ks =
-    setting_refusals form true true Off machine off off_h off_ks
-    ++ (setting_refusals form false true On machine on on_h on_ks ++ ending form 304)
+abbrev pub refusals_text : Form → OriginList → Bool → MachineFile → List Command → List Command →
+    History → History → List ℕ → List ℕ → List ℕ
+refusals_text form origins false machine off on off_h on_h off_ks on_ks =
+    setting_refusals form origins true false Off machine off off_h off_ks ++ ending form 304
+refusals_text form origins true machine off on off_h on_h off_ks on_ks =
+    setting_refusals form origins true true Off machine off off_h off_ks
+    ++ (setting_refusals form origins false true On machine on on_h on_ks ++ ending form 304)
 
 -- the line for a program that is refused
 abbrev pub refused_line : Form → List ℕ
@@ -201,17 +212,17 @@ refused_line Words = codes "The program is refused.\n"
 refused_line Json = codes ",\n{\"fact\":\"verdict\",\"fits\":false}"
 
 -- the rejection at a line, with the word that a fault names
-abbrev pub rejection_text : Form → Bool → Setting → ℕ → Fault → List Line → List ℕ
-rejection_text form named s number fault lines =
-    heading form true named s
+abbrev pub rejection_text : Form → OriginList → Bool → Setting → ℕ → Fault → List Line → List ℕ
+rejection_text form origins named s number fault lines =
+    heading form origins true named s
     ++ (refused_line form
     ++ (quoted form number lines
     ++ (named_line form number fault lines ++ ending form (fault_number fault))))
 
-abbrev pub fault_text : Form → Bool → Setting → ProgramFault → List Line → List ℕ
-fault_text form named s (programs.At number fault) lines =
-    rejection_text form named s number fault lines
-fault_text form named s programs.Memory lines = []
+abbrev pub fault_text : Form → OriginList → Bool → Setting → ProgramFault → List Line → List ℕ
+fault_text form origins named s (programs.At number fault) lines =
+    rejection_text form origins named s number fault lines
+fault_text form origins named s programs.Memory lines = []
 
 abbrev pub commands_of : Setting → List Command → List Command → List Command
 commands_of Off off on = off

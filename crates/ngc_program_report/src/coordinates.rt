@@ -13,6 +13,7 @@ use ngc_collision::Place;
 use ngc_commands::{Action, Command, Way};
 use ngc_fixed_length::Point3;
 use ngc_frames::{FrameInForce, collect_motion_fact, collect_motion_words, program_point};
+use ngc_origins::Origins;
 use ngc_report::Form;
 use ngc_text::{Chunk, Sink, WriteFault};
 
@@ -61,17 +62,18 @@ pub(crate) fn line_of(commands: &[Command], command: usize) -> u32
 fn collect_motion<W: Sink>(
     chunk: &mut Chunk,
     form: Form,
+    given: bool,
     frame: &FrameInForce,
     from: &Place,
     to: &Place,
     output: &mut W,
 ) -> Result<(), WriteFault>
     ensures text { Collects (W.written output.old) (W.written output.new) chunk.old chunk.new result
-        (motion_text form frame.now (place_of from.now) (place_of to.now)) }
+        (motion_text form given frame.now (place_of from.now) (place_of to.now)) }
     ensures counts { CountsFailure (W.failures output.old) (W.failures output.new) result }
 {
     match form {
-        Form::Words => collect_motion_words(chunk, frame, from, to, output),
+        Form::Words => collect_motion_words(chunk, given, frame, from, to, output),
         Form::Json => collect_motion_fact(chunk, frame, from, to, output),
     }
 }
@@ -82,12 +84,13 @@ fn collect_motion<W: Sink>(
 pub(crate) fn collect_coordinates<W: Sink>(
     chunk: &mut Chunk,
     form: Form,
+    origins: &Origins,
     frame: &FrameInForce,
     way: &Option<Way>,
     output: &mut W,
 ) -> Result<(), WriteFault>
     ensures text { Collects (W.written output.old) (W.written output.new) chunk.old chunk.new result
-        (coordinates_text form frame.now way.now) }
+        (coordinates_text form origins.now frame.now way.now) }
     ensures counts { CountsFailure (W.failures output.old) (W.failures output.new) result }
 {
     match way {
@@ -95,7 +98,8 @@ pub(crate) fn collect_coordinates<W: Sink>(
         Some(way) => {
             let from = program_point(&start_of(way), &frame.frame);
             let to = program_point(&way.end(), &frame.frame);
-            collect_motion(chunk, form, frame, &from, &to, output)
+            let given = origins.replaces(frame.frame.system());
+            collect_motion(chunk, form, given, frame, &from, &to, output)
         }
     }
 }
@@ -104,20 +108,21 @@ pub(crate) fn collect_coordinates<W: Sink>(
 /// are. Without a path, nothing is written.
 pub(crate) fn write_coordinates<W: Sink>(
     form: Form,
+    origins: &Origins,
     frame: &FrameInForce,
     way: &Option<Way>,
     output: &mut W,
 ) -> Result<(), WriteFault>
     ensures ok { OnOk result
         (Appends (W.written output.old) (W.written output.new)
-        (coordinates_text form frame.now way.now)) }
+        (coordinates_text form origins.now frame.now way.now)) }
     ensures fault { OnErr result
         (AppendsBeginning (W.written output.old) (W.written output.new)
-        (coordinates_text form frame.now way.now)) }
+        (coordinates_text form origins.now frame.now way.now)) }
     ensures counts { CountsFailure (W.failures output.old) (W.failures output.new) result }
 {
     let mut chunk = Chunk::new();
-    match collect_coordinates(&mut chunk, form, frame, way, output) {
+    match collect_coordinates(&mut chunk, form, origins, frame, way, output) {
         Ok(()) => chunk.write_out(output),
         Err(fault) => Err(fault),
     }

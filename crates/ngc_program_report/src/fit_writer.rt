@@ -23,6 +23,7 @@ use ngc_checker::Accepted;
 use ngc_commands::Command;
 use ngc_line_reader::Program;
 use ngc_machine_files::{Machine, Tools};
+use ngc_origins::Origins;
 use ngc_report::{Form, write_fit, write_warnings};
 use ngc_setup_sheet::{write_warning_facts, write_warnings as write_shop_warnings};
 use ngc_text::{Chunk, Sink, WriteFault, write_all};
@@ -95,6 +96,7 @@ fn write_remarks<A: Allocator, W: Sink>(
 // Writes what fits at a setting, the time there, and the warnings.
 fn write_setting<A: Allocator, W: Sink>(
     form: Form,
+    origins: &Origins,
     program: &Program<A>,
     first: bool,
     machine: &Machine<A>,
@@ -107,15 +109,15 @@ fn write_setting<A: Allocator, W: Sink>(
 ) -> Result<(), WriteFault>
     ensures ok { OnOk result
         (Appends (W.written output.old) (W.written output.new)
-        (setting_text form first named setting (file_of machine.now) commands.now
+        (setting_text form origins.now first named setting (file_of machine.now) commands.now
         (entries_at setting (said_of certificate.now)) time.now (text_in program.now).lines)) }
     ensures fault { OnErr result
         (AppendsBeginning (W.written output.old) (W.written output.new)
-        (setting_text form first named setting (file_of machine.now) commands.now
+        (setting_text form origins.now first named setting (file_of machine.now) commands.now
         (entries_at setting (said_of certificate.now)) time.now (text_in program.now).lines)) }
     ensures counts { CountsFailure (W.failures output.old) (W.failures output.new) result }
 {
-    write_heading(form, first, named, setting, output)?;
+    write_heading(form, origins, first, named, setting, output)?;
     write_fit(
         form,
         machine,
@@ -171,6 +173,7 @@ fn write_fit_end<A: Allocator, W: Sink>(
 // Writes what fits at both settings, which have the same commands.
 pub(crate) fn write_once<A: Allocator, W: Sink>(
     form: Form,
+    origins: &Origins,
     program: &Program<A>,
     accepted: &Accepted<A>,
     certificate: &Certificate<A>,
@@ -179,11 +182,13 @@ pub(crate) fn write_once<A: Allocator, W: Sink>(
 ) -> Result<(), WriteFault>
     ensures ok { OnOk result
         (Appends (W.written output.old) (W.written output.new)
-        (accepted_text form false accepted.now (said_of certificate.now) time.now time.now
+        (accepted_text form origins.now false accepted.now
+        (said_of certificate.now) time.now time.now
         (text_in program.now).lines)) }
     ensures fault { OnErr result
         (AppendsBeginning (W.written output.old) (W.written output.new)
-        (accepted_text form false accepted.now (said_of certificate.now) time.now time.now
+        (accepted_text form origins.now false accepted.now
+        (said_of certificate.now) time.now time.now
         (text_in program.now).lines)) }
     ensures counts { CountsFailure (W.failures output.old) (W.failures output.new) result }
 {
@@ -191,6 +196,7 @@ pub(crate) fn write_once<A: Allocator, W: Sink>(
     let off = accepted.commands(false);
     write_setting(
         form,
+        origins,
         program,
         true,
         machine,
@@ -207,6 +213,7 @@ pub(crate) fn write_once<A: Allocator, W: Sink>(
 // Writes what fits at each setting.
 pub(crate) fn write_both<A: Allocator, W: Sink>(
     form: Form,
+    origins: &Origins,
     program: &Program<A>,
     accepted: &Accepted<A>,
     certificate: &Certificate<A>,
@@ -216,11 +223,11 @@ pub(crate) fn write_both<A: Allocator, W: Sink>(
 ) -> Result<(), WriteFault>
     ensures ok { OnOk result
         (Appends (W.written output.old) (W.written output.new)
-        (accepted_text form true accepted.now (said_of certificate.now) off_time.now
+        (accepted_text form origins.now true accepted.now (said_of certificate.now) off_time.now
         on_time.now (text_in program.now).lines)) }
     ensures fault { OnErr result
         (AppendsBeginning (W.written output.old) (W.written output.new)
-        (accepted_text form true accepted.now (said_of certificate.now) off_time.now
+        (accepted_text form origins.now true accepted.now (said_of certificate.now) off_time.now
         on_time.now (text_in program.now).lines)) }
     ensures counts { CountsFailure (W.failures output.old) (W.failures output.new) result }
 {
@@ -228,6 +235,7 @@ pub(crate) fn write_both<A: Allocator, W: Sink>(
     let off = accepted.commands(false);
     write_setting(
         form,
+        origins,
         program,
         true,
         machine,
@@ -241,6 +249,7 @@ pub(crate) fn write_both<A: Allocator, W: Sink>(
     let on = accepted.commands(true);
     write_setting(
         form,
+        origins,
         program,
         false,
         machine,

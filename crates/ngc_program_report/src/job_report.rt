@@ -27,6 +27,7 @@ use ngc_commands::Command;
 use ngc_frames::{FrameHistory, FrameInForce, OutOfMemory, frame_history};
 use ngc_job::Job;
 use ngc_line_reader::Program;
+use ngc_origins::Origins;
 use ngc_report::Form;
 use ngc_text::{Sink, WriteFault};
 use std::alloc::Allocator;
@@ -42,12 +43,13 @@ pub fn report_fit<A: Allocator + Copy, W: Sink>(
     job: Job<A>,
     certificate: &Certificate<A>,
     form: Form,
+    origins: &Origins,
     output: &mut W,
 ) -> Result<(), ReportFault>
     requires off { IsValid job.machine job.off (said_of certificate.now).off }
     requires on { IsValid job.machine (commands_in true job) (said_of certificate.now).on }
     ensures tells { Tells
-        (IsFitText job (said_of certificate.now) form (text_in program.now).lines)
+        (IsFitText job (said_of certificate.now) form origins.now (text_in program.now).lines)
         (W.written output.old) (W.written output.new) result }
     ensures counts { FailsByWriting result (W.failures output.old) (W.failures output.new) }
 {
@@ -55,12 +57,21 @@ pub fn report_fit<A: Allocator + Copy, W: Sink>(
     let accepted = accept(job, certificate);
     let (off_time, accepted) = time_of(alloc, accepted, false)?;
     if !apart {
-        write_once(form, program, &accepted, certificate, &off_time, output)?;
+        write_once(
+            form,
+            origins,
+            program,
+            &accepted,
+            certificate,
+            &off_time,
+            output,
+        )?;
         return Ok(());
     }
     let (on_time, accepted) = time_of(alloc, accepted, true)?;
     write_both(
         form,
+        origins,
         program,
         &accepted,
         certificate,
@@ -107,18 +118,22 @@ fn report_first<A: Allocator, W: Sink>(
     command: u32,
     frame: &FrameInForce,
     form: Form,
+    origins: &Origins,
     output: &mut W,
 ) -> Result<(), WriteFault>
     ensures ok { OnOk result
         (Appends (W.written output.old) (W.written output.new)
-        (first_text job.now form setting command (text_in program.now).lines frame.now)) }
+        (first_text job.now form origins.now setting command
+        (text_in program.now).lines frame.now)) }
     ensures fault { OnErr result
         (AppendsBeginning (W.written output.old) (W.written output.new)
-        (first_text job.now form setting command (text_in program.now).lines frame.now)) }
+        (first_text job.now form origins.now setting command
+        (text_in program.now).lines frame.now)) }
     ensures counts { CountsFailure (W.failures output.old) (W.failures output.new) result }
 {
     write_refused(
         form,
+        origins,
         program,
         job.machine(),
         job.has_deleted_lines(),
@@ -198,11 +213,11 @@ fn report_all<A: Allocator + Copy, W: Sink>(
         (Err (MakeFault.NotCleared setting command)) }
     ensures tells { Tells
         (IsRefusalsText job.now request.cuts setting command request.form
-        (text_in program.now).lines)
+        request.origins (text_in program.now).lines)
         (W.written output.old) (W.written output.new) result }
     ensures counts { FailsByWriting result (W.failures output.old) (W.failures output.new) }
 {
-    let (form, cuts) = (request.form, request.cuts);
+    let (form, cuts, origins) = (request.form, request.cuts, &request.origins);
     let machine = job.machine();
     let off = job.commands(false);
     let off_indices = match off_uncleared(alloc, job, setting, command, cuts) {
@@ -215,7 +230,7 @@ fn report_all<A: Allocator + Copy, W: Sink>(
     };
     if !job.has_deleted_lines() {
         let indices = off_indices.as_slice();
-        write_all_once(form, machine, off, indices, &off_history, output)?;
+        write_all_once(form, origins, machine, off, indices, &off_history, output)?;
         return Ok(());
     }
     let on_indices = match on_uncleared(alloc, job, setting, command, cuts) {
@@ -228,6 +243,7 @@ fn report_all<A: Allocator + Copy, W: Sink>(
     };
     write_all_both(
         form,
+        origins,
         machine,
         off,
         off_indices.as_slice(),
@@ -268,6 +284,15 @@ pub fn report_refusal<A: Allocator + Copy, W: Sink>(
         Ok(frame) => frame,
         Err(_) => return Err(ReportFault::Memory),
     };
-    report_first(program, job, setting, command, &frame, request.form, output)?;
+    report_first(
+        program,
+        job,
+        setting,
+        command,
+        &frame,
+        request.form,
+        &request.origins,
+        output,
+    )?;
     Ok(())
 }

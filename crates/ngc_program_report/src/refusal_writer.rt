@@ -27,6 +27,7 @@ use ngc_commands::{Command, Way};
 use ngc_frames::{FrameHistory, FrameInForce, FrameWalk};
 use ngc_line_reader::Program;
 use ngc_machine_files::Machine;
+use ngc_origins::Origins;
 use ngc_report::{
     Form, Standing, collect_refusals_head, collect_refused_command, write_line, write_named,
     write_refusal,
@@ -82,25 +83,27 @@ fn write_told_line<A: Allocator, W: Sink>(
 // Writes the program coordinates of the reported command, and the end.
 fn write_way_end<W: Sink>(
     form: Form,
+    origins: &Origins,
     frame: &FrameInForce,
     way: &Option<Way>,
     output: &mut W,
 ) -> Result<(), WriteFault>
     ensures ok { OnOk result
         (Appends (W.written output.old) (W.written output.new)
-        (coordinates_text form frame.now way.now ++ ending form 304)) }
+        (coordinates_text form origins.now frame.now way.now ++ ending form 304)) }
     ensures fault { OnErr result
         (AppendsBeginning (W.written output.old) (W.written output.new)
-        (coordinates_text form frame.now way.now ++ ending form 304)) }
+        (coordinates_text form origins.now frame.now way.now ++ ending form 304)) }
     ensures counts { CountsFailure (W.failures output.old) (W.failures output.new) result }
 {
-    write_coordinates(form, frame, way, output)?;
+    write_coordinates(form, origins, frame, way, output)?;
     write_ending(form, 304, output)
 }
 
 // Writes the program line of the reported command, its program coordinates, and the end.
 fn write_cause_end<A: Allocator, W: Sink>(
     form: Form,
+    origins: &Origins,
     program: &Program<A>,
     number: Option<u32>,
     frame: &FrameInForce,
@@ -110,20 +113,21 @@ fn write_cause_end<A: Allocator, W: Sink>(
     ensures ok { OnOk result
         (Appends (W.written output.old) (W.written output.new)
         (quoted_if form number (text_in program.now).lines
-        ++ (coordinates_text form frame.now way.now ++ ending form 304))) }
+        ++ (coordinates_text form origins.now frame.now way.now ++ ending form 304))) }
     ensures fault { OnErr result
         (AppendsBeginning (W.written output.old) (W.written output.new)
         (quoted_if form number (text_in program.now).lines
-        ++ (coordinates_text form frame.now way.now ++ ending form 304))) }
+        ++ (coordinates_text form origins.now frame.now way.now ++ ending form 304))) }
     ensures counts { CountsFailure (W.failures output.old) (W.failures output.new) result }
 {
     write_told_line(form, program, number, output)?;
-    write_way_end(form, frame, way, output)
+    write_way_end(form, origins, frame, way, output)
 }
 
 // Writes the obstacle of a command, and its program line.
 fn write_cause<A: Allocator, W: Sink>(
     form: Form,
+    origins: &Origins,
     program: &Program<A>,
     machine: &Machine<A>,
     commands: &[Command],
@@ -134,23 +138,24 @@ fn write_cause<A: Allocator, W: Sink>(
 ) -> Result<(), WriteFault>
     ensures ok { OnOk result
         (Appends (W.written output.old) (W.written output.new)
-        (cause_text form (file_of machine.now) commands.now told fixture
+        (cause_text form origins.now (file_of machine.now) commands.now told fixture
         (text_in program.now).lines frame.now)) }
     ensures fault { OnErr result
         (AppendsBeginning (W.written output.old) (W.written output.new)
-        (cause_text form (file_of machine.now) commands.now told fixture
+        (cause_text form origins.now (file_of machine.now) commands.now told fixture
         (text_in program.now).lines frame.now)) }
     ensures counts { CountsFailure (W.failures output.old) (W.failures output.new) result }
 {
     write_refusal(form, machine, commands, told, fixture, output)?;
     let number = told_number(commands, told);
     let way = told_way(commands, told);
-    write_cause_end(form, program, number, frame, &way, output)
+    write_cause_end(form, origins, program, number, frame, &way, output)
 }
 
 // Writes the obstacle of a command at a setting.
 pub(crate) fn write_refused<A: Allocator, W: Sink>(
     form: Form,
+    origins: &Origins,
     program: &Program<A>,
     machine: &Machine<A>,
     named: bool,
@@ -162,19 +167,19 @@ pub(crate) fn write_refused<A: Allocator, W: Sink>(
 ) -> Result<(), WriteFault>
     ensures ok { OnOk result
         (Appends (W.written output.old) (W.written output.new)
-        (refusal_text form named setting (file_of machine.now) commands.now command
+        (refusal_text form origins.now named setting (file_of machine.now) commands.now command
         (text_in program.now).lines frame.now)) }
     ensures fault { OnErr result
         (AppendsBeginning (W.written output.old) (W.written output.new)
-        (refusal_text form named setting (file_of machine.now) commands.now command
+        (refusal_text form origins.now named setting (file_of machine.now) commands.now command
         (text_in program.now).lines frame.now)) }
     ensures counts { CountsFailure (W.failures output.old) (W.failures output.new) result }
 {
-    write_heading(form, true, named, setting, output)?;
+    write_heading(form, origins, true, named, setting, output)?;
     let told = told_command(machine, command);
     let fixture = met_at(machine, commands, command as usize);
     write_cause(
-        form, program, machine, commands, told, fixture, frame, output,
+        form, origins, program, machine, commands, told, fixture, frame, output,
     )
 }
 
@@ -191,6 +196,7 @@ pub(crate) fn is_start_refused<A: Allocator>(machine: &Machine<A>) -> bool
 fn collect_refusal<A: Allocator, W: Sink>(
     chunk: &mut Chunk,
     form: Form,
+    origins: &Origins,
     machine: &Machine<A>,
     commands: &[Command],
     command: usize,
@@ -202,7 +208,7 @@ fn collect_refusal<A: Allocator, W: Sink>(
     requires standing { StandsBehind (file_of machine.now) commands.now standing.old }
     requires walk { WalksOver history.now.start history.now.changes.items walk.old }
     ensures text { Collects (W.written output.old) (W.written output.new) chunk.old chunk.new result
-        (command_refusal form (file_of machine.now) commands.now
+        (command_refusal form origins.now (file_of machine.now) commands.now
         (history_of history.now.start history.now.changes.items) command) }
     ensures standing { StandsBehind (file_of machine.now) commands.now standing.new }
     ensures walk { WalksOver history.now.start history.now.changes.items walk.new }
@@ -214,13 +220,14 @@ fn collect_refusal<A: Allocator, W: Sink>(
     }
     let frame = walk.in_force(history, line_of(commands, command));
     let way = told_way(commands, Some(command));
-    collect_coordinates(chunk, form, &frame, &way, output)
+    collect_coordinates(chunk, form, origins, &frame, &way, output)
 }
 
 // Adds the refused commands in order.
 fn collect_refusals<A: Allocator, W: Sink>(
     chunk: &mut Chunk,
     form: Form,
+    origins: &Origins,
     machine: &Machine<A>,
     commands: &[Command],
     indices: &[u32],
@@ -228,7 +235,7 @@ fn collect_refusals<A: Allocator, W: Sink>(
     output: &mut W,
 ) -> Result<(), WriteFault>
     ensures text { Collects (W.written output.old) (W.written output.new) chunk.old chunk.new result
-        (command_refusals form (file_of machine.now) commands.now
+        (command_refusals form origins.now (file_of machine.now) commands.now
         (history_of history.now.start history.now.changes.items) indices.now) }
     ensures counts { CountsFailure (W.failures output.old) (W.failures output.new) result }
 {
@@ -238,6 +245,7 @@ fn collect_refusals<A: Allocator, W: Sink>(
         match collect_refusal(
             chunk,
             form,
+            origins,
             machine,
             commands,
             *index as usize,
@@ -257,6 +265,7 @@ fn collect_refusals<A: Allocator, W: Sink>(
 fn collect_all<A: Allocator, W: Sink>(
     chunk: &mut Chunk,
     form: Form,
+    origins: &Origins,
     machine: &Machine<A>,
     commands: &[Command],
     indices: &[u32],
@@ -264,7 +273,7 @@ fn collect_all<A: Allocator, W: Sink>(
     output: &mut W,
 ) -> Result<(), WriteFault>
     ensures text { Collects (W.written output.old) (W.written output.new) chunk.old chunk.new result
-        (all_refusals form (file_of machine.now) commands.now
+        (all_refusals form origins.now (file_of machine.now) commands.now
         (history_of history.now.start history.now.changes.items) indices.now) }
     ensures counts { CountsFailure (W.failures output.old) (W.failures output.new) result }
 {
@@ -273,11 +282,14 @@ fn collect_all<A: Allocator, W: Sink>(
         Ok(()) => {}
         Err(fault) => return Err(fault),
     }
-    collect_refusals(chunk, form, machine, commands, indices, history, output)
+    collect_refusals(
+        chunk, form, origins, machine, commands, indices, history, output,
+    )
 }
 
 fn write_obstacles<A: Allocator, W: Sink>(
     form: Form,
+    origins: &Origins,
     machine: &Machine<A>,
     commands: &[Command],
     indices: &[u32],
@@ -286,17 +298,17 @@ fn write_obstacles<A: Allocator, W: Sink>(
 ) -> Result<(), WriteFault>
     ensures ok { OnOk result
         (Appends (W.written output.old) (W.written output.new)
-        (all_refusals form (file_of machine.now) commands.now
+        (all_refusals form origins.now (file_of machine.now) commands.now
         (history_of history.now.start history.now.changes.items) indices.now)) }
     ensures fault { OnErr result
         (AppendsBeginning (W.written output.old) (W.written output.new)
-        (all_refusals form (file_of machine.now) commands.now
+        (all_refusals form origins.now (file_of machine.now) commands.now
         (history_of history.now.start history.now.changes.items) indices.now)) }
     ensures counts { CountsFailure (W.failures output.old) (W.failures output.new) result }
 {
     let mut chunk = Chunk::new();
     match collect_all(
-        &mut chunk, form, machine, commands, indices, history, output,
+        &mut chunk, form, origins, machine, commands, indices, history, output,
     ) {
         Ok(()) => chunk.write_out(output),
         Err(fault) => Err(fault),
@@ -306,6 +318,7 @@ fn write_obstacles<A: Allocator, W: Sink>(
 // Writes all obstacles at a setting.
 fn write_setting_refusals<A: Allocator, W: Sink>(
     form: Form,
+    origins: &Origins,
     first: bool,
     named: bool,
     setting: Setting,
@@ -317,21 +330,22 @@ fn write_setting_refusals<A: Allocator, W: Sink>(
 ) -> Result<(), WriteFault>
     ensures ok { OnOk result
         (Appends (W.written output.old) (W.written output.new)
-        (setting_refusals form first named setting (file_of machine.now) commands.now
+        (setting_refusals form origins.now first named setting (file_of machine.now) commands.now
         (history_of history.now.start history.now.changes.items) indices.now)) }
     ensures fault { OnErr result
         (AppendsBeginning (W.written output.old) (W.written output.new)
-        (setting_refusals form first named setting (file_of machine.now) commands.now
+        (setting_refusals form origins.now first named setting (file_of machine.now) commands.now
         (history_of history.now.start history.now.changes.items) indices.now)) }
     ensures counts { CountsFailure (W.failures output.old) (W.failures output.new) result }
 {
-    write_heading(form, first, named, setting, output)?;
-    write_obstacles(form, machine, commands, indices, history, output)
+    write_heading(form, origins, first, named, setting, output)?;
+    write_obstacles(form, origins, machine, commands, indices, history, output)
 }
 
 /// Writes all obstacles at both settings, which have the same commands.
 pub(crate) fn write_all_once<A: Allocator, W: Sink>(
     form: Form,
+    origins: &Origins,
     machine: &Machine<A>,
     commands: &[Command],
     indices: &[u32],
@@ -340,18 +354,19 @@ pub(crate) fn write_all_once<A: Allocator, W: Sink>(
 ) -> Result<(), WriteFault>
     ensures ok { OnOk result
         (Appends (W.written output.old) (W.written output.new)
-        (refusals_text form false (file_of machine.now) commands.now commands.now
+        (refusals_text form origins.now false (file_of machine.now) commands.now commands.now
         (history_of history.now.start history.now.changes.items)
         (history_of history.now.start history.now.changes.items) indices.now indices.now)) }
     ensures fault { OnErr result
         (AppendsBeginning (W.written output.old) (W.written output.new)
-        (refusals_text form false (file_of machine.now) commands.now commands.now
+        (refusals_text form origins.now false (file_of machine.now) commands.now commands.now
         (history_of history.now.start history.now.changes.items)
         (history_of history.now.start history.now.changes.items) indices.now indices.now)) }
     ensures counts { CountsFailure (W.failures output.old) (W.failures output.new) result }
 {
     write_setting_refusals(
         form,
+        origins,
         true,
         false,
         Setting::Off,
@@ -367,6 +382,7 @@ pub(crate) fn write_all_once<A: Allocator, W: Sink>(
 /// Writes all obstacles at each setting.
 pub(crate) fn write_all_both<A: Allocator, W: Sink>(
     form: Form,
+    origins: &Origins,
     machine: &Machine<A>,
     off: &[Command],
     off_indices: &[u32],
@@ -378,13 +394,13 @@ pub(crate) fn write_all_both<A: Allocator, W: Sink>(
 ) -> Result<(), WriteFault>
     ensures ok { OnOk result
         (Appends (W.written output.old) (W.written output.new)
-        (refusals_text form true (file_of machine.now) off.now on.now
+        (refusals_text form origins.now true (file_of machine.now) off.now on.now
         (history_of off_history.now.start off_history.now.changes.items)
         (history_of on_history.now.start on_history.now.changes.items) off_indices.now
         on_indices.now)) }
     ensures fault { OnErr result
         (AppendsBeginning (W.written output.old) (W.written output.new)
-        (refusals_text form true (file_of machine.now) off.now on.now
+        (refusals_text form origins.now true (file_of machine.now) off.now on.now
         (history_of off_history.now.start off_history.now.changes.items)
         (history_of on_history.now.start on_history.now.changes.items) off_indices.now
         on_indices.now)) }
@@ -392,6 +408,7 @@ pub(crate) fn write_all_both<A: Allocator, W: Sink>(
 {
     write_setting_refusals(
         form,
+        origins,
         true,
         true,
         Setting::Off,
@@ -403,6 +420,7 @@ pub(crate) fn write_all_both<A: Allocator, W: Sink>(
     )?;
     write_setting_refusals(
         form,
+        origins,
         false,
         true,
         Setting::On,
@@ -450,6 +468,7 @@ fn write_rejection_end<A: Allocator, W: Sink>(
 /// its number, and the word that the fault names.
 pub fn write_rejection<A: Allocator, W: Sink>(
     form: Form,
+    origins: &Origins,
     program: &Program<A>,
     named: bool,
     setting: Setting,
@@ -459,13 +478,15 @@ pub fn write_rejection<A: Allocator, W: Sink>(
 ) -> Result<(), WriteFault>
     ensures ok { OnOk result
         (Appends (W.written output.old) (W.written output.new)
-        (rejection_text form named setting number fault.now (text_in program.now).lines)) }
+        (rejection_text form origins.now named setting number fault.now
+        (text_in program.now).lines)) }
     ensures fault { OnErr result
         (AppendsBeginning (W.written output.old) (W.written output.new)
-        (rejection_text form named setting number fault.now (text_in program.now).lines)) }
+        (rejection_text form origins.now named setting number fault.now
+        (text_in program.now).lines)) }
     ensures counts { CountsFailure (W.failures output.old) (W.failures output.new) result }
 {
-    write_heading(form, true, named, setting, output)?;
+    write_heading(form, origins, true, named, setting, output)?;
     write_all(output, refused_line(form))?;
     write_line(form, program, number, output)?;
     write_rejection_end(form, program, number, fault, output)

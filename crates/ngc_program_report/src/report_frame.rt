@@ -1,13 +1,15 @@
 //! The text before and after the reports of programs.
 ghost use Rattle.std.specs.Prelude.{◌≡◌, ◌+◌, ◌≤◌, ◌++◌, length, OnOk, OnErr};
 ghost use Rattle.std.specs.Io.KnownBytes.{Appends};
-ghost use Rattle.ngc_text.specs.Collected.{HasLineRoom};
+ghost use Rattle.ngc_text.specs.Collected.{CHUNK_SIZE, HasLineRoom};
 ghost use Rattle.ngc_text.specs.Failures.{CountsFailure};
 ghost use Rattle.ngc_text.specs.Written.{AppendsBeginning};
 ghost use Rattle.ngc_report.specs.Forms.{closing, opening};
-ghost use Rattle.ngc_program_report.specs.Texts.{ending, heading, hint, setting_line};
+ghost use Rattle.ngc_program_report.specs.Texts.{ending, heading, hint, origins_text};
+ghost use Rattle.ngc_program_report.specs.Texts.{setting_line};
 
 use ngc_certificate::Setting;
+use ngc_origins::{Origins, add_origin_facts, add_origin_words};
 use ngc_report::Form;
 use ngc_text::{Chunk, Sink, WriteFault};
 
@@ -45,13 +47,25 @@ pub(crate) fn closing(form: Form) -> &'static [u8]
     }
 }
 
+fn add_origins(chunk: &mut Chunk, form: Form, origins: &Origins)
+    requires { length chunk.old + 2250 ≤ CHUNK_SIZE }
+    ensures text { chunk.new ≡ chunk.old ++ origins_text form origins.now }
+    ensures short { length chunk.new ≤ length chunk.old + 2250 }
+{
+    match form {
+        Form::Words => add_origin_words(chunk, origins),
+        Form::Json => add_origin_facts(chunk, origins),
+    }
+}
+
 // Returns the text before the first setting of a report, or before the other.
-fn heading_of(form: Form, first: bool, named: bool, setting: Setting) -> Chunk
-    ensures { result ≡ heading form first named setting }
+fn heading_of(form: Form, origins: &Origins, first: bool, named: bool, setting: Setting) -> Chunk
+    ensures { result ≡ heading form origins.now first named setting }
 {
     let mut chunk = Chunk::new();
     if first {
         chunk.add_text(opening(form));
+        add_origins(&mut chunk, form, origins);
     }
     if named {
         chunk.add_text(setting_line(form, setting));
@@ -61,19 +75,21 @@ fn heading_of(form: Form, first: bool, named: bool, setting: Setting) -> Chunk
 
 pub(crate) fn write_heading<W: Sink>(
     form: Form,
+    origins: &Origins,
     first: bool,
     named: bool,
     setting: Setting,
     output: &mut W,
 ) -> Result<(), WriteFault>
     ensures ok { OnOk result
-        (Appends (W.written output.old) (W.written output.new) (heading form first named setting)) }
+        (Appends (W.written output.old) (W.written output.new) (heading form origins.now
+        first named setting)) }
     ensures fault { OnErr result
         (AppendsBeginning (W.written output.old) (W.written output.new)
-        (heading form first named setting)) }
+        (heading form origins.now first named setting)) }
     ensures counts { CountsFailure (W.failures output.old) (W.failures output.new) result }
 {
-    heading_of(form, first, named, setting).write_out(output)
+    heading_of(form, origins, first, named, setting).write_out(output)
 }
 
 fn add_hint_words(chunk: &mut Chunk, number: u16)

@@ -1,5 +1,6 @@
 ghost use Rattle.std.specs.Prelude.{◌≤◌};
 
+use ngc_origins::Origins;
 use ngc_report::Form;
 
 /// The options of a report.
@@ -11,5 +12,7 @@ pub struct ReportRequest {
     pub all: bool,
     /// The form in which the report is written.
     pub form: Form,
+    /// The origins that replace those of the machine file, which the report names.
+    pub origins: Origins,
     ghost some_cuts: { 1 ≤ cuts },
 }

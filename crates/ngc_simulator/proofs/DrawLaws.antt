@@ -41,7 +41,7 @@ use Rattle.ngc_simulator.specs.Drawing.{look_of, setting_of}
 use Rattle.ngc_inputs.specs.Faults.{of_picture}
 use Rattle.ngc_simulator.specs.Lists.{IsMeaning, IsRefused}
 use Rattle.ngc_inputs.specs.Setups.{FileBytes, KeepsFiles, KeepsNamed}
-use Rattle.ngc_inputs.specs.Shops.{GivesShop}
+use Rattle.ngc_inputs.specs.Shops.{GivesPlaced}
 use Rattle.ngc_inputs.specs.Unread.{Input, shop_inputs}
 use Rattle.ngc_inputs.specs.declared.fault.AnswerFault.{AnswerFault}
 use Rattle.ngc_inputs.specs.declared.fault.AnswerFault.TheVariants as answers
@@ -49,7 +49,7 @@ use Rattle.ngc_inputs.specs.declared.setup.Shop.{Shop}
 use Rattle.ngc_inputs.proofs.JobLaws.{FailsSo, keeps_same}
 use Rattle.ngc_simulator.proofs.ListLaws.{Means}
 use Rattle.ngc_simulator.proofs.RunLaws.{on_two_files}
-use Rattle.ngc_inputs.proofs.SetupLaws.{on_setup}
+use Rattle.ngc_inputs.proofs.SetupLaws.{on_placed}
 
 is_meaning : (setup : Setup) (bytes : List ℕ) (block_delete : Bool) (text : ProgramText) (says : Result (List Command) ProgramFault)
     → program_of bytes ≡ Ok text → HaveReadings text.lines → Means text setup block_delete says → IsMeaning setup bytes block_delete says
@@ -211,13 +211,13 @@ From bytes options view old new outcome setup text named =
 pub plain_files : (bytes after : FileBytes) (options : DrawOptions) (view : View) (shop : Shop) (old new : Option (List ℕ))
     (outcome : Result (Unit {0}) AnswerFault) (P : List ℕ → Type 0)
     → option_map (λ n. n.now) options.certificate ≡ None
-    → GivesShop bytes (Some options.machine.now) (Some options.tools.now) (Ok shop) → KeepsFiles bytes after
+    → GivesPlaced bytes (Some options.machine.now) (Some options.tools.now) options.origins (Ok shop) → KeepsFiles bytes after
     → IfSome (after (option_map (λ n. n.now) options.program)) P
     → ((a : List ℕ) → P a → DrawsProgram (setup_of shop.machine shop.tools) a options.delete (look_of options view) old new outcome)
     → DrawsFrom bytes options view old new outcome
 unfolding From
 plain_files bytes after options view shop old new outcome P is_none said keeps p on =
-    on_setup bytes (Some options.machine.now) (Some options.tools.now) (setup_of shop.machine shop.tools)
+    on_placed bytes (Some options.machine.now) (Some options.tools.now) options.origins (setup_of shop.machine shop.tools)
     (λ setup. IfSome (bytes (option_map (λ n. n.now) options.program))
     (λ text. From bytes options view old new outcome setup text (option_map (λ n. n.now) options.certificate)))
     said.0 said.1
@@ -235,13 +235,13 @@ plain_files bytes after options view shop old new outcome P is_none said keeps p
 pub given_files : (bytes after later : FileBytes) (options : DrawOptions) (name : List ℕ) (view : View) (shop : Shop) (old new : Option (List ℕ))
     (outcome : Result (Unit {0}) AnswerFault) (P Q : List ℕ → Type 0)
     → option_map (λ n. n.now) options.certificate ≡ Some name
-    → GivesShop bytes (Some options.machine.now) (Some options.tools.now) (Ok shop) → KeepsFiles bytes after → KeepsNamed after later
+    → GivesPlaced bytes (Some options.machine.now) (Some options.tools.now) options.origins (Ok shop) → KeepsFiles bytes after → KeepsNamed after later
     → IfSome (after (option_map (λ n. n.now) options.program)) P → IfSome (later (Some name)) Q
     → ((a b : List ℕ) → P a → Q b → DrawsGiven (setup_of shop.machine shop.tools) a b options.delete (look_of options view) old new outcome)
     → DrawsFrom bytes options view old new outcome
 unfolding From
 given_files bytes after later options name view shop old new outcome P Q is_some said keeps named p q on =
-    on_setup bytes (Some options.machine.now) (Some options.tools.now) (setup_of shop.machine shop.tools)
+    on_placed bytes (Some options.machine.now) (Some options.tools.now) options.origins (setup_of shop.machine shop.tools)
     (λ setup. IfSome (bytes (option_map (λ n. n.now) options.program))
     (λ text. From bytes options view old new outcome setup text (option_map (λ n. n.now) options.certificate)))
     said.0 said.1

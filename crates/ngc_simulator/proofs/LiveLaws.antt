@@ -19,13 +19,13 @@ use Rattle.ngc_inputs.specs.Faults.{FailsWith, OfLiving, of_live, of_run}
 use Rattle.ngc_inputs.specs.Judging.{IsVerdict, Verdict}
 use Rattle.ngc_simulator.specs.Lives.{Lives, LivesAt}
 use Rattle.ngc_inputs.specs.Setups.{FileBytes, KeepsFiles, KeepsNamed}
-use Rattle.ngc_inputs.specs.Shops.{GivesShop}
+use Rattle.ngc_inputs.specs.Shops.{GivesPlaced}
 use Rattle.ngc_inputs.specs.declared.fault.AnswerFault.{AnswerFault}
 use Rattle.ngc_inputs.specs.declared.fault.AnswerFault.TheVariants as answers
 use Rattle.ngc_inputs.specs.declared.setup.Shop.{Shop}
 use Rattle.ngc_inputs.proofs.JobLaws.{keeps_same}
 use Rattle.ngc_simulator.proofs.RunLaws.{accepted_job, on_two_files}
-use Rattle.ngc_inputs.proofs.SetupLaws.{on_setup}
+use Rattle.ngc_inputs.proofs.SetupLaws.{on_placed}
 
 -- ---- of the verdict on two files
 
@@ -93,13 +93,13 @@ output_failed (live.Write e) old new rises = rises
 
 pub lived_files : (bytes after later : FileBytes) (options : LiveOptions) (form : LiveForm) (shop : Shop) (old new : Option (List ℕ))
     (outcome : Result (Unit {0}) AnswerFault) (P Q : List ℕ → Type 0)
-    → GivesShop bytes (Some options.machine.now) (Some options.tools.now) (Ok shop) → KeepsFiles bytes after → KeepsNamed after later
+    → GivesPlaced bytes (Some options.machine.now) (Some options.tools.now) options.origins (Ok shop) → KeepsFiles bytes after → KeepsNamed after later
     → IfSome (after (Some options.program.now)) P → IfSome (later (Some options.certificate.now)) Q
     → ((a b : List ℕ) → P a → Q b →
     (rest : Option (List ℕ)) × Lives form options.feed_ring (setup_of shop.machine shop.tools) a b options.delete (bytes None) rest old new outcome)
     → LivesOnFiles bytes options form old new outcome
 lived_files bytes after later options form shop old new outcome P Q said keeps named p q on =
-    on_setup bytes (Some options.machine.now) (Some options.tools.now) (setup_of shop.machine shop.tools)
+    on_placed bytes (Some options.machine.now) (Some options.tools.now) options.origins (setup_of shop.machine shop.tools)
     (λ setup. IfSome (bytes (Some options.program.now))
     (λ a. IfSome (bytes (Some options.certificate.now))
     (λ b. (rest : Option (List ℕ)) × Lives form options.feed_ring setup a b options.delete (bytes None) rest old new outcome)))

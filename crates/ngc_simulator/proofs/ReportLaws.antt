@@ -35,7 +35,7 @@ use Rattle.ngc_program_report.specs.Texts.{commands_of, fault_text, fits_text, i
 use Rattle.ngc_program_report.specs.declared.request.ReportRequest.{ReportRequest}
 use Rattle.ngc_certificate.specs.Uncleared.{AreUncleared}
 use Rattle.ngc_inputs.specs.Setups.{FileBytes, KeepsFiles}
-use Rattle.ngc_inputs.specs.Shops.{GivesShop}
+use Rattle.ngc_inputs.specs.Shops.{GivesPlaced}
 use Rattle.ngc_program_report.specs.declared.report_fault.ReportFault.{ReportFault}
 use Rattle.ngc_program_report.specs.declared.report_fault.ReportFault.TheVariants as faults
 use Rattle.ngc_program_report.specs.JobReports.{FailsByWriting}
@@ -44,7 +44,7 @@ use Rattle.ngc_inputs.specs.declared.fault.AnswerFault.{AnswerFault}
 use Rattle.ngc_inputs.specs.declared.fault.AnswerFault.TheVariants as answers
 use Rattle.ngc_inputs.specs.declared.setup.Shop.{Shop}
 use Rattle.ngc_inputs.proofs.JobLaws.{HasNoJob, IsJobFor, keeps_same, made_for_file, means_job, refused_program}
-use Rattle.ngc_inputs.proofs.SetupLaws.{of_file, on_setup}
+use Rattle.ngc_inputs.proofs.SetupLaws.{of_file, on_placed}
 
 -- ---- a job of which a certificate is made
 
@@ -59,7 +59,7 @@ module _ (setup : Setup) (bytes : List ℕ) (request : ReportRequest) (text : Pr
     the_setup : MachineFile → List Tool → Setup
     the_setup m tools = record { machine = m; tools = tools }
 
-  fit_report : (c : CertificateData) (t : List ℕ) → IsMadeOf j request.cuts c → IsFitText j c request.form text.lines t → IsFitReport setup bytes request t
+  fit_report : (c : CertificateData) (t : List ℕ) → IsMadeOf j request.cuts c → IsFitText j c request.form request.origins text.lines t → IsFitReport setup bytes request t
   fit_report c t made is = record {
     certificate = c;
     made = made_for_file setup bytes request.cuts text j c is_text have is_job made;
@@ -68,17 +68,17 @@ module _ (setup : Setup) (bytes : List ℕ) (request : ReportRequest) (text : Pr
     on_time = is.on_time;
     on_lasts = subst (λ (m : MachineFile). LastsFor m (commands_in true j) is.on_time) the_job.machine is.on_lasts;
     tells = is.tells
-        ∙ ap (λ (d : Bool). fits_text request.form d (setup_in j) j.off (commands_in true j) c is.off_time is.on_time text.lines) the_job.apart
-        ∙ ap (λ (s : Setup). fits_text request.form (has_deleted (program_said text have.readings).lines) s j.off (commands_in true j) c is.off_time is.on_time text.lines)
+        ∙ ap (λ (d : Bool). fits_text request.form request.origins d (setup_in j) j.off (commands_in true j) c is.off_time is.on_time text.lines) the_job.apart
+        ∙ ap (λ (s : Setup). fits_text request.form request.origins (has_deleted (program_said text have.readings).lines) s j.off (commands_in true j) c is.off_time is.on_time text.lines)
         same_setup;
   }
 
-  pub told_fit : (c : CertificateData) (old new : Option (List ℕ)) → IsMadeOf j request.cuts c → Tells (IsFitText j c request.form text.lines) old new (Ok tt) →
+  pub told_fit : (c : CertificateData) (old new : Option (List ℕ)) → IsMadeOf j request.cuts c → Tells (IsFitText j c request.form request.origins text.lines) old new (Ok tt) →
       Reports setup bytes request old new (Ok tt)
   told_fit c old new made tells = (tells.0, fit_report c tells.0 made tells.1, tells.2)
 
   pub fit_stopped : (c : CertificateData) (old new : Option (List ℕ)) (fault : ReportFault) → IsMadeOf j request.cuts c
-      → Tells (IsFitText j c request.form text.lines) old new (Err fault) → Reports setup bytes request old new (Err (of_report fault))
+      → Tells (IsFitText j c request.form request.origins text.lines) old new (Err fault) → Reports setup bytes request old new (Err (of_report fault))
   fit_stopped c old new faults.Memory made tells = tells
   fit_stopped c old new (faults.Write fault) made tells = (tells.0, inl (fit_report c tells.0 made tells.1), tells.2)
 
@@ -93,7 +93,7 @@ module _ (setup : Setup) (bytes : List ℕ) (request : ReportRequest) (text : Pr
   refused_made s k is =
       subst (λ (m : MachineFile). IsMade m request.cuts j.off (commands_in true j) (Err (NotCleared s k))) the_job.machine is
 
-  first_report : (s : Setting) (k : ℕ) (t : List ℕ) → IsUnmade j request.cuts (NotCleared s k) → IsFirstText j request.form s k text.lines t
+  first_report : (s : Setting) (k : ℕ) (t : List ℕ) → IsUnmade j request.cuts (NotCleared s k) → IsFirstText j request.form request.origins s k text.lines t
       → IsFirstReport setup bytes request s k t
   first_report s k t unmade is = record {
     off = j.off;
@@ -107,13 +107,13 @@ module _ (setup : Setup) (bytes : List ℕ) (request : ReportRequest) (text : Pr
         ∙ ap (λ (cs : List Command). frame_in_force (start_frame setup) (frame_changes setup (with_readings text.lines have.readings) (is_on s))
         (line_of (slice_get cs k))) (at_setting s);
     tells = is.tells
-        ∙ ap (λ (cs : List Command). refusal_text request.form (is_some j.on) s j.machine cs k text.lines is.frame) (at_setting s)
-        ∙ ap (λ (d : Bool). refusal_text request.form d s j.machine (commands_of s j.off (commands_in true j)) k text.lines is.frame) the_job.apart
-        ∙ ap (λ (m : MachineFile). refusal_text request.form (has_deleted (program_said text have.readings).lines) s m
+        ∙ ap (λ (cs : List Command). refusal_text request.form request.origins (is_some j.on) s j.machine cs k text.lines is.frame) (at_setting s)
+        ∙ ap (λ (d : Bool). refusal_text request.form request.origins d s j.machine (commands_of s j.off (commands_in true j)) k text.lines is.frame) the_job.apart
+        ∙ ap (λ (m : MachineFile). refusal_text request.form request.origins (has_deleted (program_said text have.readings).lines) s m
         (commands_of s j.off (commands_in true j)) k text.lines is.frame) the_job.machine;
   }
 
-  all_report : (s : Setting) (k : ℕ) (t : List ℕ) → IsUnmade j request.cuts (NotCleared s k) → IsRefusalsText j request.cuts s k request.form text.lines t
+  all_report : (s : Setting) (k : ℕ) (t : List ℕ) → IsUnmade j request.cuts (NotCleared s k) → IsRefusalsText j request.cuts s k request.form request.origins text.lines t
       → IsAllReport setup bytes request s k t
   all_report s k t unmade is = record {
     off = j.off;
@@ -132,8 +132,8 @@ module _ (setup : Setup) (bytes : List ℕ) (request : ReportRequest) (text : Pr
     on_executed = λ told. is.on_executed (subst IsTrue (sym the_job.apart) told) have.readings have.are
         ∙ ap (λ (of : Setup). frames_of of (with_readings text.lines have.readings) On) same_setup;
     tells = is.tells
-        ∙ ap (λ (d : Bool). refusals_text request.form d j.machine j.off (commands_in true j) is.off_frames is.on_frames is.off_ks is.on_ks) the_job.apart
-        ∙ ap (λ (m : MachineFile). refusals_text request.form (has_deleted (program_said text have.readings).lines) m j.off (commands_in true j)
+        ∙ ap (λ (d : Bool). refusals_text request.form request.origins d j.machine j.off (commands_in true j) is.off_frames is.on_frames is.off_ks is.on_ks) the_job.apart
+        ∙ ap (λ (m : MachineFile). refusals_text request.form request.origins (has_deleted (program_said text have.readings).lines) m j.off (commands_in true j)
         is.off_frames is.on_frames is.off_ks is.on_ks) the_job.machine;
   }
 
@@ -175,20 +175,20 @@ module _ (setup : Setup) (bytes : List ℕ) (request : ReportRequest) (text : Pr
     (is_text : program_of bytes ≡ Ok text)
     (why : WhyNotMade setup bytes request.cuts (answers.Refused s fault)) where
   abbrev whole_rejection : List ℕ
-  whole_rejection = fault_text request.form (has_deleted why.0.lines) s fault why.1.text.lines
+  whole_rejection = fault_text request.form request.origins (has_deleted why.0.lines) s fault why.1.text.lines
 
   rejection : IsRejectionReport setup bytes request s fault whole_rejection
   rejection = record { program = why.0; is_program = why.1; refused = why.2; tells = refl }
 
   rejection_is : (found : Bool) (e : Fault) → fault ≡ programs.At number e → Finds text found →
-      rejection_text request.form found s number e text.lines ≡ whole_rejection
+      rejection_text request.form request.origins found s number e text.lines ≡ whole_rejection
   rejection_is found e is is_found =
-      ap (λ d. rejection_text request.form d s number e text.lines) (of_program bytes text why.0 (λ p. found ≡ has_deleted p.lines) is_text why.1 is_found)
-      ∙ ap (λ (t : ProgramText). rejection_text request.form (has_deleted why.0.lines) s number e t.lines) (same_text bytes text why.0 is_text why.1)
-      ∙ ap (λ f. fault_text request.form (has_deleted why.0.lines) s f why.1.text.lines) (sym is)
+      ap (λ d. rejection_text request.form request.origins d s number e text.lines) (of_program bytes text why.0 (λ p. found ≡ has_deleted p.lines) is_text why.1 is_found)
+      ∙ ap (λ (t : ProgramText). rejection_text request.form request.origins (has_deleted why.0.lines) s number e t.lines) (same_text bytes text why.0 is_text why.1)
+      ∙ ap (λ f. fault_text request.form request.origins (has_deleted why.0.lines) s f why.1.text.lines) (sym is)
 
   pub told_rejection : (found : Bool) (e : Fault) (old new : Option (List ℕ)) → fault ≡ programs.At number e → Finds text found
-      → Appends old new (rejection_text request.form found s number e text.lines) →
+      → Appends old new (rejection_text request.form request.origins found s number e text.lines) →
       Reports setup bytes request old new (Err (answers.Refused s (programs.At number e)))
   told_rejection found e old new is is_found wrote = (
     whole_rejection,
@@ -197,7 +197,7 @@ module _ (setup : Setup) (bytes : List ℕ) (request : ReportRequest) (text : Pr
   )
 
   pub rejection_stopped : (found : Bool) (e : Fault) (old new : Option (List ℕ)) (stopped : WriteFault) → fault ≡ programs.At number e → Finds text found
-      → AppendsBeginning old new (rejection_text request.form found s number e text.lines) → Reports setup bytes request old new (Err (answers.Write stopped))
+      → AppendsBeginning old new (rejection_text request.form request.origins found s number e text.lines) → Reports setup bytes request old new (Err (answers.Write stopped))
   rejection_stopped found e old new stopped is is_found wrote =
       (whole_rejection, inr (inr (s, fault, rejection)), subst (AppendsBeginning old new) (rejection_is found e is is_found) wrote)
 
@@ -233,11 +233,11 @@ asked options shop request source old new outcome is reports =
 
 pub reported_files : (bytes after : FileBytes) (options : ReportOptions) (shop : Shop) (source : Option (List ℕ)) (old new : Option (List ℕ))
     (outcome : Result (Unit {0}) AnswerFault)
-    → GivesShop bytes (Some options.machine.now) (Some options.tools.now) (Ok shop) → KeepsFiles bytes after
+    → GivesPlaced bytes (Some options.machine.now) (Some options.tools.now) options.origins (Ok shop) → KeepsFiles bytes after
     → source ≡ after (option_map (λ n. n.now) options.program)
     → IfSome source (λ text. Reports (setup_of shop.machine shop.tools) text (request_of options) old new outcome) → ReportsOn bytes options old new outcome
 reported_files bytes after options shop source old new outcome said keeps is reports =
-    on_setup bytes (Some options.machine.now) (Some options.tools.now) (setup_of shop.machine shop.tools)
+    on_placed bytes (Some options.machine.now) (Some options.tools.now) options.origins (setup_of shop.machine shop.tools)
     (λ setup. IfSome (bytes (option_map (λ n. n.now) options.program)) (λ text. Reports setup text (request_of options) old new outcome))
     said.0 said.1 (of_file _ source (λ text. Reports (setup_of shop.machine shop.tools) text (request_of options) old new outcome)
     (is ∙ keeps (option_map (λ n. n.now) options.program)) reports)

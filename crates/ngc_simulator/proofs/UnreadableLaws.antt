@@ -15,13 +15,13 @@ use Rattle.ngc_simulator.specs.Answers.{ReportComes, ReportsOn, UnreadableOn, fo
 use Rattle.ngc_inputs.specs.Faults.{OfCertifying, OfTelling}
 use Rattle.ngc_simulator.specs.Reporting.{Reports}
 use Rattle.ngc_inputs.specs.Setups.{FileBytes, KeepsFiles}
-use Rattle.ngc_inputs.specs.Shops.{GivesShop}
+use Rattle.ngc_inputs.specs.Shops.{GivesPlaced}
 use Rattle.ngc_simulator.specs.Unreadable.{TellsUnreadable, is_of_text, unreadable_text}
 use Rattle.ngc_inputs.specs.declared.fault.AnswerFault.{AnswerFault}
 use Rattle.ngc_inputs.specs.declared.fault.AnswerFault.TheVariants as answers
 use Rattle.ngc_inputs.specs.declared.setup.Shop.{Shop}
 use Rattle.ngc_inputs.proofs.JobLaws.{if_known}
-use Rattle.ngc_inputs.proofs.SetupLaws.{carried, of_file, on_setup}
+use Rattle.ngc_inputs.proofs.SetupLaws.{carried, of_file, on_placed}
 
 -- ---- of bytes that stayed as they were
 
@@ -63,7 +63,7 @@ told_begun form name known items slice old new fault stopped same read named of_
 -- ---- on the files that the command line names
 
 module _ (bytes after : FileBytes) (options : ReportOptions) (shop : Shop) (source old : Option (List ℕ))
-    (said : GivesShop bytes (Some options.machine.now) (Some options.tools.now) (Ok shop)) (keeps : KeepsFiles bytes after)
+    (said : GivesPlaced bytes (Some options.machine.now) (Some options.tools.now) options.origins (Ok shop)) (keeps : KeepsFiles bytes after)
     (is_source : source ≡ after (option_map (λ n. n.now) options.program)) where
   abbrev Known : (List ℕ → Type 0) → Type 0
   Known P = IfSome (bytes (option_map (λ n. n.now) options.program)) P
@@ -76,7 +76,7 @@ module _ (bytes after : FileBytes) (options : ReportOptions) (shop : Shop) (sour
 
   reports_on : (new : Option (List ℕ)) (outcome : Result (Unit {0}) AnswerFault) → Known (Reported new outcome) → ReportsOn bytes options old new outcome
   reports_on new outcome reports =
-      on_setup bytes (Some options.machine.now) (Some options.tools.now) (setup_of shop.machine shop.tools)
+      on_placed bytes (Some options.machine.now) (Some options.tools.now) options.origins (setup_of shop.machine shop.tools)
       (λ setup. Known (λ text. Reports setup text (request_of options) old new outcome)) said.0 said.1 reports
 
   abbrev Tells : Option (List ℕ) → AnswerFault → List ℕ → Type 0
@@ -84,7 +84,7 @@ module _ (bytes after : FileBytes) (options : ReportOptions) (shop : Shop) (sour
 
   unreadable_on : (new : Option (List ℕ)) (answer : AnswerFault) → Known (Tells new answer) → UnreadableOn bytes options old new answer
   unreadable_on new answer tells =
-      on_setup bytes (Some options.machine.now) (Some options.tools.now) (setup_of shop.machine shop.tools)
+      on_placed bytes (Some options.machine.now) (Some options.tools.now) options.origins (setup_of shop.machine shop.tools)
       (λ setup. Known (Tells new answer)) said.0 said.1 tells
 
   -- where nothing is written besides the report
@@ -129,7 +129,7 @@ module _ (bytes after : FileBytes) (options : ReportOptions) (shop : Shop) (sour
   pub faults_comes : (new : Option (List ℕ)) (fault : AnswerFault) → options.all ≡ true → IfSome source (ToldAll new fault) → ReportComes bytes options old new (Err fault)
   faults_comes new fault all tells = inr (inr (inr (
     all,
-    on_setup bytes (Some options.machine.now) (Some options.tools.now) (setup_of shop.machine shop.tools)
+    on_placed bytes (Some options.machine.now) (Some options.tools.now) options.origins (setup_of shop.machine shop.tools)
         (λ setup. Known (λ text. TellsFaults setup (form_asked options.json) text old new fault)) said.0 said.1
         (known (ToldAll new fault) tells),
   )))

@@ -47,7 +47,7 @@ use Rattle.ngc_run_log.specs.declared.live_form.LiveForm.{LiveForm}
 use Rattle.ngc_simulator.specs.Lives.{Lives, live_named}
 use Rattle.ngc_simulator.specs.Running.{Runs, RunsThrough}
 use Rattle.ngc_canonical.specs.State.{Setup}
-use Rattle.ngc_inputs.specs.Setups.{FileBytes, OnSetup}
+use Rattle.ngc_inputs.specs.Setups.{FileBytes, OnPlaced, OnSetup}
 use Rattle.ngc_inputs.specs.Shops.{RefusesShop}
 use Rattle.ngc_simulator.specs.Mistaken.{TellsRefusal}
 use Rattle.ngc_program_report.specs.Times.{time_line}
@@ -64,22 +64,24 @@ use Rattle.ngc_inputs.specs.Unread.{FailsByInput}
 abbrev pub ListsOn : FileBytes → ListOptions → Option (List ℕ) → Option (List ℕ) →
     Result (Unit {0}) AnswerFault → Type 0
 ListsOn bytes options old new outcome =
-    OnSetup bytes (option_map (λ name. name.now) options.machine)
-    (option_map (λ name. name.now) options.tools) (λ setup.
+    OnPlaced bytes (option_map (λ name. name.now) options.machine)
+    (option_map (λ name. name.now) options.tools) options.origins (λ setup.
     IfSome (bytes (option_map (λ name. name.now) options.program))
     (λ text. Lists setup text options.delete old new outcome))
 
 abbrev pub CertifiesOn : FileBytes → CertifyOptions → Option (List ℕ) → Option (List ℕ) →
     Result (Unit {0}) AnswerFault → Type 0
 CertifiesOn bytes options old new outcome =
-    OnSetup bytes (Some options.machine.now) (Some options.tools.now) (λ setup.
+    OnPlaced bytes (Some options.machine.now) (Some options.tools.now) options.origins
+    (λ setup.
     IfSome (bytes (option_map (λ name. name.now) options.program))
     (λ text. Certifies setup text options.cuts options.format old new outcome))
 
 abbrev pub ChecksOn : FileBytes → CheckOptions → Option (List ℕ) → Option (List ℕ) →
     Result (Unit {0}) AnswerFault → Type 0
 ChecksOn bytes options old new outcome =
-    OnSetup bytes (Some options.machine.now) (Some options.tools.now) (λ setup.
+    OnPlaced bytes (Some options.machine.now) (Some options.tools.now) options.origins
+    (λ setup.
     IfSome (bytes (option_map (λ name. name.now) options.program)) (λ text.
     IfSome (bytes (Some options.certificate.now))
     (λ certificate. Checks setup text certificate old new outcome)))
@@ -87,7 +89,8 @@ ChecksOn bytes options old new outcome =
 abbrev pub RunsOn : FileBytes → RunOptions → Writing → Option (List ℕ) → Option (List ℕ) →
     Result Report AnswerFault → Type 0
 RunsOn bytes options writing old new outcome =
-    OnSetup bytes (Some options.machine.now) (Some options.tools.now) (λ setup.
+    OnPlaced bytes (Some options.machine.now) (Some options.tools.now) options.origins
+    (λ setup.
     IfSome (bytes (option_map (λ name. name.now) options.program)) (λ text.
     IfSome (bytes (Some options.certificate.now)) (λ certificate.
     IfSome (bytes (Some options.events.now))
@@ -97,7 +100,8 @@ RunsOn bytes options writing old new outcome =
 abbrev pub RunsThroughOn : FileBytes → RunThroughOptions → Writing → Option (List ℕ) →
     Option (List ℕ) → Result Report AnswerFault → Type 0
 RunsThroughOn bytes options writing old new outcome =
-    OnSetup bytes (Some options.machine.now) (Some options.tools.now) (λ setup.
+    OnPlaced bytes (Some options.machine.now) (Some options.tools.now) options.origins
+    (λ setup.
     IfSome (bytes (option_map (λ name. name.now) options.program)) (λ text.
     IfSome (bytes (Some options.certificate.now))
     (λ certificate. RunsThrough writing setup text certificate options.delete old
@@ -107,7 +111,8 @@ RunsThroughOn bytes options writing old new outcome =
 abbrev pub DrawsFrom : FileBytes → DrawOptions → View → Option (List ℕ) → Option (List ℕ) →
     Result (Unit {0}) AnswerFault → Type 0
 DrawsFrom bytes options view old new outcome =
-    OnSetup bytes (Some options.machine.now) (Some options.tools.now) (λ setup.
+    OnPlaced bytes (Some options.machine.now) (Some options.tools.now) options.origins
+    (λ setup.
     IfSome (bytes (option_map (λ name. name.now) options.program)) (λ text.
     MatchOption (option_map (λ name. name.now) options.certificate)
     (DrawsProgram setup text options.delete (look_of options view) old new outcome) (λ certificate.
@@ -131,13 +136,15 @@ request_of options = record {
   cuts = options.cuts;
   all = options.all;
   form = form_asked options.json;
+  origins = options.origins;
   some_cuts = options.some_cuts;
 }
 
 abbrev pub ReportsOn : FileBytes → ReportOptions → Option (List ℕ) → Option (List ℕ) →
     Result (Unit {0}) AnswerFault → Type 0
 ReportsOn bytes options old new outcome =
-    OnSetup bytes (Some options.machine.now) (Some options.tools.now) (λ setup.
+    OnPlaced bytes (Some options.machine.now) (Some options.tools.now) options.origins
+    (λ setup.
     IfSome (bytes (option_map (λ name. name.now) options.program))
     (λ text. Reports setup text (request_of options) old new outcome))
 
@@ -217,7 +224,8 @@ ShowComes bytes options old new outcome =
 abbrev pub UnreadableOn : FileBytes → ReportOptions → Option (List ℕ) → Option (List ℕ) →
     AnswerFault → Type 0
 UnreadableOn bytes options old new fault =
-    OnSetup bytes (Some options.machine.now) (Some options.tools.now) (λ setup.
+    OnPlaced bytes (Some options.machine.now) (Some options.tools.now) options.origins
+    (λ setup.
     IfSome (bytes (option_map (λ name. name.now) options.program)) (λ text.
     TellsUnreadable (form_asked options.json)
     (option_map (λ name. name.now) options.program) text old new fault))
@@ -226,7 +234,8 @@ UnreadableOn bytes options old new fault =
 abbrev pub FaultsOn : FileBytes → ReportOptions → Option (List ℕ) → Option (List ℕ) →
     AnswerFault → Type 0
 FaultsOn bytes options old new fault = (options.all ≡ true) ×
-    OnSetup bytes (Some options.machine.now) (Some options.tools.now) (λ setup.
+    OnPlaced bytes (Some options.machine.now) (Some options.tools.now) options.origins
+    (λ setup.
     IfSome (bytes (option_map (λ name. name.now) options.program)) (λ text.
     TellsFaults setup (form_asked options.json) text old new fault))
 
@@ -253,8 +262,9 @@ pub record IsTimeOf (setup : Setup) (report : Report) (time : RunTime) : Type 0 
   pub ticks_per_second : time.ticks_per_second ≡ setup.machine.ticks_per_second
 
 abbrev pub IsTimeOn : FileBytes → RunThroughOptions → Report → RunTime → Type 0
-IsTimeOn bytes options report time = OnSetup bytes (Some options.machine.now)
-    (Some options.tools.now) (λ setup. IsTimeOf setup report time)
+IsTimeOn bytes options report time = OnPlaced bytes (Some options.machine.now)
+    (Some options.tools.now) options.origins
+    (λ setup. IsTimeOf setup report time)
 
 -- the program reports the time of a run to the end; a form that isn't known is rejected before a
 -- file is read
@@ -280,7 +290,8 @@ live_asked options =
 abbrev pub LivesOnFiles : FileBytes → LiveOptions → LiveForm → Option (List ℕ) →
     Option (List ℕ) → Result (Unit {0}) AnswerFault → Type 0
 LivesOnFiles bytes options form old new outcome =
-    OnSetup bytes (Some options.machine.now) (Some options.tools.now) (λ setup.
+    OnPlaced bytes (Some options.machine.now) (Some options.tools.now) options.origins
+    (λ setup.
     IfSome (bytes (Some options.program.now)) (λ text.
     IfSome (bytes (Some options.certificate.now))
     (λ certificate. (rest : Option (List ℕ)) ×

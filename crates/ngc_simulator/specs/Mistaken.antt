@@ -15,7 +15,8 @@ use Rattle.ngc_inputs.specs.declared.fault.AnswerFault.TheVariants as answers
 use Rattle.ngc_inputs.specs.declared.setup.Shop.{Shop}
 use Rattle.ngc_program_report.specs.Texts.{ending}
 use Rattle.ngc_inputs.specs.Setups.{FileBytes}
-use Rattle.ngc_inputs.specs.Shops.{GivesShop, RefusesShop}
+use Rattle.ngc_inputs.specs.Shops.{GivesPlaced, GivesShop, RefusesShop}
+use Rattle.ngc_origins.specs.Texts.{OriginList}
 
 -- a document has the fault's number alone
 abbrev pub fault_document : ℕ → List ℕ
@@ -57,6 +58,14 @@ abbrev pub GivesTold : Form → FileBytes → Option (List ℕ) → Option (List
 GivesTold form bytes machine tools old new (Ok shop) =
     GivesShop bytes machine tools (Ok shop) × (new ≡ old)
 GivesTold form bytes machine tools old new (Err fault) =
+    TellsRefusal form bytes machine tools old new fault
+
+-- the same with these origins in place of the machine's
+abbrev pub GivesPlacedTold : Form → FileBytes → Option (List ℕ) → Option (List ℕ) → OriginList →
+    Option (List ℕ) → Option (List ℕ) → Result Shop AnswerFault → Type 0
+GivesPlacedTold form bytes machine tools origins old new (Ok shop) =
+    GivesPlaced bytes machine tools origins (Ok shop) × (new ≡ old)
+GivesPlacedTold form bytes machine tools origins old new (Err fault) =
     TellsRefusal form bytes machine tools old new fault
 
 -- the result of writing one file's mistake, where the file may not be readable again

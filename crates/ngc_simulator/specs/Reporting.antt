@@ -37,7 +37,7 @@ pub record IsFitReport (setup : Setup) (bytes : List ℕ) (request : ReportReque
   pub off_lasts : LastsFor setup.machine made.off off_time
   pub on_time : ProgramTimeData
   pub on_lasts : LastsFor setup.machine made.on on_time
-  pub tells : text ≡ fits_text request.form
+  pub tells : text ≡ fits_text request.form request.origins
       (has_deleted made.means.program.lines) setup made.off made.on certificate off_time on_time
       made.means.is_program.text.lines
 
@@ -53,7 +53,8 @@ pub record IsFirstReport (setup : Setup) (bytes : List ℕ) (request : ReportReq
   pub executed : frame ≡ frame_in_force (start_frame setup)
       (frame_changes setup means.program.lines (is_on s))
       (line_of (slice_get (commands_of s off on) k))
-  pub tells : text ≡ refusal_text request.form (has_deleted means.program.lines) s setup.machine
+  pub tells : text ≡ refusal_text request.form request.origins
+      (has_deleted means.program.lines) s setup.machine
       (commands_of s off on) k means.is_program.text.lines frame
 
 -- the frames of a program at a setting
@@ -81,7 +82,7 @@ pub record IsAllReport (setup : Setup) (bytes : List ℕ) (request : ReportReque
   pub on_frames : History
   pub on_executed : IsTrue (has_deleted means.program.lines) →
       on_frames ≡ frames_of setup means.program.lines On
-  pub tells : text ≡ refusals_text request.form
+  pub tells : text ≡ refusals_text request.form request.origins
       (has_deleted means.program.lines) setup.machine off on off_frames on_frames off_ks on_ks
 
 abbrev pub IsReportOf : Bool → Setup → List ℕ → ReportRequest → Setting → ℕ → List ℕ → Type 0
@@ -97,7 +98,7 @@ pub record IsRejectionReport (setup : Setup) (bytes : List ℕ) (request : Repor
   pub program : ProgramLines
   pub is_program : IsProgram bytes program
   pub refused : IsRefusedAt setup program s fault
-  pub tells : text ≡ fault_text request.form
+  pub tells : text ≡ fault_text request.form request.origins
       (has_deleted program.lines) s fault is_program.text.lines
 
 -- one of them

@@ -14,7 +14,7 @@ use ngc_canonical::ProgramFault;
 use ngc_certificate::{MakeFault, join, make, make_alike};
 use ngc_certificate_text::Certificate;
 use ngc_command_line::{CertifyOptions, Format};
-use ngc_inputs::{AnswerFault, Files, open_file, read_shop};
+use ngc_inputs::{AnswerFault, Files, open_file, read_placed};
 use ngc_job::{Job, JobFault};
 use ngc_line_reader::Program;
 use ngc_machine_files::{Machine, Tools};
@@ -133,7 +133,13 @@ pub(crate) fn certify_files<F: Files, W: Sink>(
         (certify_inputs options.now) (F.failures files.old) (F.failures files.new) result }
     ensures sink { FailsByOutput result (W.failures output.old) (W.failures output.new) }
 {
-    let shop = read_shop(alloc, Some(options.machine), Some(options.tools), files)?;
+    let shop = read_placed(
+        alloc,
+        Some(options.machine),
+        Some(options.tools),
+        &options.origins,
+        files,
+    )?;
     let mut source = open_file(options.program, files)?;
     certify(
         alloc,

@@ -11,7 +11,7 @@ ghost use Rattle.ngc_inputs.specs.Unread.{FailsByInput, SourceFails};
 
 use crate::done::Done;
 use ngc_command_line::CheckOptions;
-use ngc_inputs::{AnswerFault, Files, judge, open_file, read_program, read_shop};
+use ngc_inputs::{AnswerFault, Files, judge, open_file, read_placed, read_program};
 use ngc_line_reader::Program;
 use ngc_machine_files::{Machine, Tools};
 use ngc_text::{Sink, Source, write_all};
@@ -62,7 +62,13 @@ pub(crate) fn check_files<F: Files, W: Sink>(
         (check_inputs options.now) (F.failures files.old) (F.failures files.new) result }
     ensures sink { FailsByOutput result (W.failures output.old) (W.failures output.new) }
 {
-    let shop = read_shop(alloc, Some(options.machine), Some(options.tools), files)?;
+    let shop = read_placed(
+        alloc,
+        Some(options.machine),
+        Some(options.tools),
+        &options.origins,
+        files,
+    )?;
     let program = read_program(alloc, options.program, files)?;
     let mut certificate = open_file(Some(options.certificate), files)?;
     check_program(

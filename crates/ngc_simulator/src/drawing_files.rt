@@ -9,7 +9,7 @@ use crate::done::Done;
 use crate::drawing::{draw_certified, draw_program, view_of};
 use ngc_command_line::DrawOptions;
 use ngc_drawing::{Look, View};
-use ngc_inputs::{AnswerFault, Files, read_certificate, read_program, read_shop};
+use ngc_inputs::{AnswerFault, Files, read_certificate, read_placed, read_program};
 use ngc_text::Sink;
 use std::alloc::Global;
 
@@ -28,7 +28,13 @@ fn draw_plain<F: Files, W: Sink>(
         (draw_inputs options.now (Some view)) (F.failures files.old) (F.failures files.new) result }
     ensures sink { FailsByOutput result (W.failures output.old) (W.failures output.new) }
 {
-    let shop = read_shop(alloc, Some(options.machine), Some(options.tools), files)?;
+    let shop = read_placed(
+        alloc,
+        Some(options.machine),
+        Some(options.tools),
+        &options.origins,
+        files,
+    )?;
     let program = read_program(alloc, options.program, files)?;
     draw_program(
         alloc,
@@ -62,7 +68,13 @@ fn draw_with<F: Files, W: Sink>(
         (draw_inputs options.now (Some view)) (F.failures files.old) (F.failures files.new) result }
     ensures sink { FailsByOutput result (W.failures output.old) (W.failures output.new) }
 {
-    let shop = read_shop(alloc, Some(options.machine), Some(options.tools), files)?;
+    let shop = read_placed(
+        alloc,
+        Some(options.machine),
+        Some(options.tools),
+        &options.origins,
+        files,
+    )?;
     let program = read_program(alloc, options.program, files)?;
     let certificate = read_certificate(alloc, certificate, files)?;
     draw_certified(

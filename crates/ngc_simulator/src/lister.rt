@@ -10,7 +10,7 @@ ghost use Rattle.ngc_inputs.specs.Unread.{FailsByInput, SourceFails};
 use crate::done::Done;
 use ngc_canonical::interpret;
 use ngc_command_line::ListOptions;
-use ngc_inputs::{AnswerFault, Files, open_file, read_shop};
+use ngc_inputs::{AnswerFault, Files, open_file, read_placed};
 use ngc_line_reader::Program;
 use ngc_listing::write_list;
 use ngc_machine_files::{Machine, Tools};
@@ -58,7 +58,13 @@ pub(crate) fn list_files<F: Files, W: Sink>(
         (list_inputs options.now) (F.failures files.old) (F.failures files.new) result }
     ensures sink { FailsByOutput result (W.failures output.old) (W.failures output.new) }
 {
-    let shop = read_shop(alloc, options.machine, options.tools, files)?;
+    let shop = read_placed(
+        alloc,
+        options.machine,
+        options.tools,
+        &options.origins,
+        files,
+    )?;
     let mut source = open_file(options.program, files)?;
     list(
         alloc,

@@ -10,7 +10,7 @@ ghost use Rattle.ngc_inputs.specs.Unread.{FailsByInput, SourceFails};
 
 use crate::done::Done;
 use ngc_command_line::LiveOptions;
-use ngc_inputs::{AnswerFault, Files, Verdict, judge_file, open_file, read_program, read_shop};
+use ngc_inputs::{AnswerFault, Files, Verdict, judge_file, open_file, read_placed, read_program};
 use ngc_run_log::{LiveForm, LiveRun, feed_from};
 use ngc_text::{InputFault, Sink, Source};
 use std::alloc::{Allocator, Global};
@@ -83,7 +83,13 @@ fn live_files<F: Files, W: Sink>(
         (live_inputs options.now (Some form)) (F.failures files.old) (F.failures files.new) result }
     ensures sink { FailsByOutput result (W.failures output.old) (W.failures output.new) }
 {
-    let shop = read_shop(alloc, Some(options.machine), Some(options.tools), files)?;
+    let shop = read_placed(
+        alloc,
+        Some(options.machine),
+        Some(options.tools),
+        &options.origins,
+        files,
+    )?;
     let program = read_program(alloc, Some(options.program), files)?;
     let verdict = judge_file(alloc, &program, &shop, options.certificate, files)?;
     let mut events = open_file(None, files)?;

@@ -9,13 +9,15 @@ ghost use Rattle.ngc_machine_files.specs.declared.fault.FileFault.TheVariants.{M
 ghost use Rattle.ngc_report.specs.declared.form.Form.TheVariants.{Words};
 ghost use Rattle.ngc_setup_sheet.specs.Mistakes.{machine_mistake_text, tools_mistake_text};
 ghost use Rattle.ngc_inputs.specs.Faults.{FailsByOutput};
-ghost use Rattle.ngc_simulator.specs.Mistaken.{GivesTold, OfText, TellsMistake, fault_document};
+ghost use Rattle.ngc_simulator.specs.Mistaken.{GivesPlacedTold, GivesTold, OfText, TellsMistake};
+ghost use Rattle.ngc_simulator.specs.Mistaken.{fault_document};
 ghost use Rattle.ngc_inputs.specs.Setups.{KeepsFiles};
 ghost use Rattle.ngc_inputs.specs.Unread.{FailsByInput, OfMachine, OfTools, SourceFails};
 ghost use Rattle.ngc_inputs.specs.Unread.{setup_input, shop_inputs, unread_by};
 
 use ngc_inputs::{AnswerFault, Files, Shop, bytes_of, read_shop};
 use ngc_machine_files::FileFault;
+use ngc_origins::Origins;
 use ngc_program_report::{opening, write_ending};
 use ngc_report::Form;
 use ngc_setup_sheet::{write_machine_mistake, write_tools_mistake};
@@ -181,5 +183,32 @@ pub(crate) fn read_shop_telling<F: Files, W: Sink>(
             Err(AnswerFault::Tools(fault))
         }
         (Err(fault), _) => Err(fault),
+    }
+}
+
+/// Returns the machine, with these origins in place of its own, and its tools, or the fault for
+/// which there are none, as `read_shop_telling` does.
+pub(crate) fn read_placed_telling<F: Files, W: Sink>(
+    alloc: Global,
+    form: Form,
+    machine: &str,
+    tools: Option<&str>,
+    origins: &Origins,
+    files: &mut F,
+    output: &mut W,
+) -> Result<Shop, AnswerFault>
+    ensures said { GivesPlacedTold form (F.bytes files.old) (Some machine.now)
+        (option_map (λ n. n.now) tools.entry) origins.now (W.written output.old)
+        (W.written output.new) result }
+    ensures keeps { KeepsFiles (F.bytes files.old) (F.bytes files.new) }
+    // The first file that isn't read can't be opened, its source fails, or it is too long.
+    ensures unread { FailsByInput (SourceFails F.R.remaining F.R.failures) (F.bytes files.old)
+        (shop_inputs (Some machine.now) (option_map (λ n. n.now) tools.entry))
+        (F.failures files.old) (F.failures files.new) result }
+    ensures sink { FailsByOutput result (W.failures output.old) (W.failures output.new) }
+{
+    match read_shop_telling(alloc, form, machine, tools, files, output) {
+        Ok(shop) => Ok(shop.with_origins(origins)),
+        Err(fault) => Err(fault),
     }
 }

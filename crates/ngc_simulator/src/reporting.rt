@@ -45,7 +45,16 @@ fn report_rejection<A: Allocator, W: Sink>(
         ProgramFault::Memory => return AnswerFault::Make(MakeFault::Memory),
     };
     let named = has_deleted_lines(program);
-    match write_rejection(request.form, program, named, setting, line, &cause, output) {
+    match write_rejection(
+        request.form,
+        &request.origins,
+        program,
+        named,
+        setting,
+        line,
+        &cause,
+        output,
+    ) {
         Ok(()) => AnswerFault::Refused { setting, fault },
         Err(fault) => AnswerFault::Write(fault),
     }
@@ -83,7 +92,15 @@ pub fn report_program<A: Allocator + Copy, R: Source, W: Sink>(
     };
     match made_for(alloc, &job, request.cuts) {
         Ok(certificate) => {
-            report_fit(alloc, &program, job, &certificate, request.form, output)?;
+            report_fit(
+                alloc,
+                &program,
+                job,
+                &certificate,
+                request.form,
+                &request.origins,
+                output,
+            )?;
             Ok(())
         }
         Err(MakeFault::NotCleared { setting, command }) => {

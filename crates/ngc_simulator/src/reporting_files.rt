@@ -6,7 +6,7 @@ ghost use Rattle.ngc_inputs.specs.Unread.{FailsByInput, SourceFails};
 
 use crate::done::Done;
 use crate::faults_files::tell_faults;
-use crate::mistaken_files::read_shop_telling;
+use crate::mistaken_files::read_placed_telling;
 use crate::reporting::report_program;
 use crate::unread_files::tell_unreadable;
 use ngc_command_line::ReportOptions;
@@ -29,6 +29,7 @@ fn request_of(options: &ReportOptions<'_>) -> ReportRequest
         cuts: options.cuts,
         all: options.all,
         form: form_asked(options.json),
+        origins: options.origins,
     }
 }
 
@@ -49,9 +50,11 @@ pub(crate) fn report_files<F: Files, W: Sink>(
     ensures sink { FailsByOutput result (W.failures output.old) (W.failures output.new) }
 {
     let request = request_of(options);
+    let form = request.form;
     let (machine, tools) = (options.machine, Some(options.tools));
-    let shop = read_shop_telling(alloc, request.form, machine, tools, files, output)?;
-    tell_faults(alloc, options, request.form, &shop, files, output)?;
+    let origins = &options.origins;
+    let shop = read_placed_telling(alloc, form, machine, tools, origins, files, output)?;
+    tell_faults(alloc, options, form, &shop, files, output)?;
     let mut source = open_file(options.program, files)?;
     let fault = match report_program(
         alloc,
@@ -71,7 +74,7 @@ pub(crate) fn report_files<F: Files, W: Sink>(
     };
     match fault {
         AnswerFault::Read(fault) => {
-            let told = tell_unreadable(alloc, request.form, name, fault, files, output);
+            let told = tell_unreadable(alloc, form, name, fault, files, output);
             Err(told)
         }
         _ => Err(fault),

@@ -14,7 +14,7 @@ use crate::writing::{Writing, writing_of};
 use ngc_checker::Accepted;
 use ngc_command_line::RunOptions;
 use ngc_events::{EventLine, read_events};
-use ngc_inputs::{AnswerFault, Files, Verdict, bytes_of, judge_file, read_program, read_shop};
+use ngc_inputs::{AnswerFault, Files, Verdict, bytes_of, judge_file, read_placed, read_program};
 use ngc_run_log::{Report, RunFault, run, write_pulses, write_samples, write_timed_log};
 use ngc_text::Sink;
 use std::alloc::{Allocator, Global};
@@ -92,7 +92,13 @@ fn run_files<F: Files, W: Sink>(
         (run_inputs options.now (Some writing)) (F.failures files.old) (F.failures files.new) result }
     ensures sink { FailsByOutput result (W.failures output.old) (W.failures output.new) }
 {
-    let shop = read_shop(alloc, Some(options.machine), Some(options.tools), files)?;
+    let shop = read_placed(
+        alloc,
+        Some(options.machine),
+        Some(options.tools),
+        &options.origins,
+        files,
+    )?;
     let program = read_program(alloc, options.program, files)?;
     let verdict = judge_file(alloc, &program, &shop, options.certificate, files)?;
     let events = bytes_of(alloc, options.events, files)?;

@@ -13,7 +13,7 @@ use crate::done::Done;
 use crate::writing::{Writing, writing_of};
 use ngc_checker::Accepted;
 use ngc_command_line::RunThroughOptions;
-use ngc_inputs::{AnswerFault, Files, Verdict, judge_file, read_program, read_shop};
+use ngc_inputs::{AnswerFault, Files, Verdict, judge_file, read_placed, read_program};
 use ngc_program_report::RunTime;
 use ngc_run_log::{
     Report, RunFault, run_through, write_pulses_through, write_samples_through,
@@ -82,7 +82,13 @@ fn run_through_files<F: Files, W: Sink>(
         (run_through_inputs options.now (Some writing)) (F.failures files.old) (F.failures files.new) result }
     ensures sink { FailsByOutput result (W.failures output.old) (W.failures output.new) }
 {
-    let shop = read_shop(alloc, Some(options.machine), Some(options.tools), files)?;
+    let shop = read_placed(
+        alloc,
+        Some(options.machine),
+        Some(options.tools),
+        &options.origins,
+        files,
+    )?;
     let program = read_program(alloc, options.program, files)?;
     let verdict = judge_file(alloc, &program, &shop, options.certificate, files)?;
     let report = run_program_through(alloc, verdict, options.delete, writing, output)?;

@@ -10,5 +10,5 @@ unfolding coordinates_text
 returns-in-None-clause-text g c = (
   [],
   appends_none _,
-  ap (λ (w : Option Way). c.args.chunk.now ++ coordinates_text c.args.form c.args.frame.now w) c.in-None.is ∙ append-nil c.args.chunk.now,
+  ap (λ (w : Option Way). c.args.chunk.now ++ coordinates_text c.args.form c.args.origins.now c.args.frame.now w) c.in-None.is ∙ append-nil c.args.chunk.now,
 )

@@ -26,11 +26,11 @@ returns-in_err-write_all_once-clause-tells g c =
     let begins = subst (λ (l : List ℕ). IsStartClear j.machine → OffBegins (is_some j.on) c.args.setting c.args.command l)
     (sym c.as_slice-indices.ensures.value) c.in-Ok.ensures.begins in
     turned _ (faults.Write c.in_err-write_all_once.field-0.0)
-    (λ r. Tells (IsRefusalsText j cuts c.args.setting c.args.command c.args.request.form lines) (g.W.Sink.written c.args.output.now)
+    (λ r. Tells (IsRefusalsText j cuts c.args.setting c.args.command c.args.request.form c.args.request.origins lines) (g.W.Sink.written c.args.output.now)
     (g.W.Sink.written c.write_all_once.new.output) r)
     c.from_residual.ensures.1 (
-      refusals_text c.args.request.form false file off off h h ks ks,
-      all_text j cuts c.args.setting c.args.command c.args.request.form lines false file off off h h ks ks (sym none) c.machine-machine.ensures.value
+      refusals_text c.args.request.form c.args.request.origins false file off off h h ks ks,
+      all_text j cuts c.args.setting c.args.command c.args.request.form c.args.request.origins lines false file off off h h ks ks (sym none) c.machine-machine.ensures.value
           c.commands-off.ensures (c.commands-off.ensures ∙ sym (alike j.off j.on none)) are begins (are_alike j cuts ks none are)
           (λ start. once_begins (is_some j.on) c.args.setting c.args.command ks none (begins start)) c.in-Ok-history_at.ensures
           (λ some. absurd (cc (sym none ∙ some))),
@@ -50,8 +50,8 @@ returns-then-not-has_deleted_lines-clause-tells g c =
     let are = subst (λ (l : List ℕ). AreUncleared j.machine cuts j.off l) (sym c.as_slice-indices.ensures.value) c.in-Ok.ensures.are in
     let begins = subst (λ (l : List ℕ). IsStartClear j.machine → OffBegins (is_some j.on) c.args.setting c.args.command l)
     (sym c.as_slice-indices.ensures.value) c.in-Ok.ensures.begins in (
-      refusals_text c.args.request.form false file off off h h ks ks,
-      all_text j cuts c.args.setting c.args.command c.args.request.form lines false file off off h h ks ks (sym none) c.machine-machine.ensures.value
+      refusals_text c.args.request.form c.args.request.origins false file off off h h ks ks,
+      all_text j cuts c.args.setting c.args.command c.args.request.form c.args.request.origins lines false file off off h h ks ks (sym none) c.machine-machine.ensures.value
           c.commands-off.ensures (c.commands-off.ensures ∙ sym (alike j.off j.on none)) are begins (are_alike j cuts ks none are)
           (λ start. once_begins (is_some j.on) c.args.setting c.args.command ks none (begins start)) c.in-Ok-history_at.ensures
           (λ some. absurd (cc (sym none ∙ some))),
@@ -79,11 +79,11 @@ returns-in_err-write_all_both-clause-tells g c =
     let on_begins = subst (λ (l : List ℕ). IsStartClear j.machine → OnBegins c.args.setting c.args.command l) (sym c.as_slice-2.ensures.value)
     c.in-Ok-on_uncleared.ensures.begins in
     turned _ (faults.Write c.in_err-write_all_both.field-0.0)
-    (λ r. Tells (IsRefusalsText j cuts c.args.setting c.args.command c.args.request.form lines) (g.W.Sink.written c.args.output.now)
+    (λ r. Tells (IsRefusalsText j cuts c.args.setting c.args.command c.args.request.form c.args.request.origins lines) (g.W.Sink.written c.args.output.now)
     (g.W.Sink.written c.write_all_both.new.output) r)
     c.from_residual-in_err-write_all_both.ensures.1 (
-      refusals_text c.args.request.form true file off on off_h on_h off_ks on_ks,
-      all_text j cuts c.args.setting c.args.command c.args.request.form lines true file off on off_h on_h off_ks on_ks some c.machine-machine.ensures.value
+      refusals_text c.args.request.form c.args.request.origins true file off on off_h on_h off_ks on_ks,
+      all_text j cuts c.args.setting c.args.command c.args.request.form c.args.request.origins lines true file off on off_h on_h off_ks on_ks some c.machine-machine.ensures.value
           c.commands-off.ensures c.commands.ensures off_are off_begins on_are on_begins c.in-Ok-history_at.ensures
           (λ told. c.in-Ok-history_at-2.ensures),
       c.in_err-write_all_both.ensures.fault,
@@ -109,8 +109,8 @@ returns-clause-tells g c =
     c.in-Ok-on_uncleared.ensures.are in
     let on_begins = subst (λ (l : List ℕ). IsStartClear j.machine → OnBegins c.args.setting c.args.command l) (sym c.as_slice-2.ensures.value)
     c.in-Ok-on_uncleared.ensures.begins in (
-      refusals_text c.args.request.form true file off on off_h on_h off_ks on_ks,
-      all_text j cuts c.args.setting c.args.command c.args.request.form lines true file off on off_h on_h off_ks on_ks some c.machine-machine.ensures.value
+      refusals_text c.args.request.form c.args.request.origins true file off on off_h on_h off_ks on_ks,
+      all_text j cuts c.args.setting c.args.command c.args.request.form c.args.request.origins lines true file off on off_h on_h off_ks on_ks some c.machine-machine.ensures.value
           c.commands-off.ensures c.commands.ensures off_are off_begins on_are on_begins c.in-Ok-history_at.ensures
           (λ told. c.in-Ok-history_at-2.ensures),
       c.in_ok-write_all_both.ensures.ok,

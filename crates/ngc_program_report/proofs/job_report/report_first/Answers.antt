@@ -12,11 +12,11 @@ returns-clause-ok g c =
     let lines = (text_in c.args.program.now).lines in
     let file = file_of c.machine.result.now in
     let named = c.has_deleted_lines.result in
-    let same = first_as j c.args.form c.args.setting c.args.command lines c.args.frame.now named file c.is_on.result c.commands.result.now
+    let same = first_as j c.args.form c.args.origins.now c.args.setting c.args.command lines c.args.frame.now named file c.is_on.result c.commands.result.now
     c.has_deleted_lines.ensures c.machine.ensures.value c.is_on.ensures c.commands.ensures in
     ok_weaker c.write_refused.result _ _
-    (λ wrote. appends_as _ _ (refusal_text c.args.form named c.args.setting file c.commands.result.now c.args.command lines c.args.frame.now)
-    (first_text j c.args.form c.args.setting c.args.command lines c.args.frame.now) same wrote)
+    (λ wrote. appends_as _ _ (refusal_text c.args.form c.args.origins.now named c.args.setting file c.commands.result.now c.args.command lines c.args.frame.now)
+    (first_text j c.args.form c.args.origins.now c.args.setting c.args.command lines c.args.frame.now) same wrote)
     c.write_refused.ensures.ok
 
 pub returns-clause-fault : goal.returns-clause-fault
@@ -25,9 +25,9 @@ returns-clause-fault g c =
     let lines = (text_in c.args.program.now).lines in
     let file = file_of c.machine.result.now in
     let named = c.has_deleted_lines.result in
-    let same = first_as j c.args.form c.args.setting c.args.command lines c.args.frame.now named file c.is_on.result c.commands.result.now
+    let same = first_as j c.args.form c.args.origins.now c.args.setting c.args.command lines c.args.frame.now named file c.is_on.result c.commands.result.now
     c.has_deleted_lines.ensures c.machine.ensures.value c.is_on.ensures c.commands.ensures in
     err_weaker c.write_refused.result _ _
-    (λ wrote. begins_as _ _ (refusal_text c.args.form named c.args.setting file c.commands.result.now c.args.command lines c.args.frame.now)
-    (first_text j c.args.form c.args.setting c.args.command lines c.args.frame.now) same wrote)
+    (λ wrote. begins_as _ _ (refusal_text c.args.form c.args.origins.now named c.args.setting file c.commands.result.now c.args.command lines c.args.frame.now)
+    (first_text j c.args.form c.args.origins.now c.args.setting c.args.command lines c.args.frame.now) same wrote)
     c.write_refused.ensures.fault

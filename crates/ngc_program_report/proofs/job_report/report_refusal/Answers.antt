@@ -17,7 +17,7 @@ returns-in_err-report_first-clause-tells g c =
     c.from_residual.ensures.1
     (subst (λ (all : Bool). Tells (IsRefusalText all j c.args.request c.args.setting c.args.command lines) old new (Err (faults.Write fault)))
     (sym c.if-request.false) (
-      first_text j c.args.request.form c.args.setting c.args.command lines c.in-Ok.frame,
+      first_text j c.args.request.form c.args.request.origins c.args.setting c.args.command lines c.in-Ok.frame,
       record { frame = c.in-Ok.frame; executed = c.in-Ok.ensures; tells = refl },
       c.in_err-report_first.ensures.fault,
     ))

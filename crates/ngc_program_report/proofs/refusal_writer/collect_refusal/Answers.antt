@@ -19,7 +19,7 @@ returns-in-Err-clause-text g c =
     let h = c.args.history.now in
     first_stopped (g.W.Sink.written c.args.output.now) (g.W.Sink.written c.collect_refused_command.new.sink) c.args.chunk.now
     (report_text c.args.form (scene_lines m k None (scene_at m cs k)))
-    (coordinates_text c.args.form (frame_in_force h.start h.changes.items (line_of (slice_get cs k))) (told_way cs (Some k)))
+    (coordinates_text c.args.form c.args.origins.now (frame_in_force h.start h.changes.items (line_of (slice_get cs k))) (told_way cs (Some k)))
     c.in-Err.ensures.told
 
 pub returns-clause-text : goal.returns-clause-text
@@ -28,11 +28,11 @@ returns-clause-text g c =
     let cs = c.args.commands.now in
     let k = c.args.command in
     let h = c.args.history.now in
-    let is = ap₂ (λ (f : FrameInForce) (w : Option Way). coordinates_text c.args.form f w)
+    let is = ap₂ (λ (f : FrameInForce) (w : Option Way). coordinates_text c.args.form c.args.origins.now f w)
     (c.in_force-frame.ensures.frame ∙ ap (λ (n : ℕ). frame_in_force h.start h.changes.items n) c.line_of.ensures) c.told_way-way.ensures in
     both c.collect_coordinates.result (g.W.Sink.written c.args.output.now) (g.W.Sink.written c.collect_refused_command.new.sink)
     (g.W.Sink.written c.collect_coordinates.new.output) c.args.chunk.now c.collect_refused_command.new.chunk c.collect_coordinates.new.chunk
     (report_text c.args.form (scene_lines m k None (scene_at m cs k)))
-    (coordinates_text c.args.form (frame_in_force h.start h.changes.items (line_of (slice_get cs k))) (told_way cs (Some k)))
+    (coordinates_text c.args.form c.args.origins.now (frame_in_force h.start h.changes.items (line_of (slice_get cs k))) (told_way cs (Some k)))
     c.in-Ok.ensures.told
     (collects_as _ _ _ _ _ _ _ is c.collect_coordinates.ensures.text)

@@ -11,7 +11,7 @@ use Rattle.ngc_program_report.proofs.refusal_writer.collect_refusals.Given as go
 abbrev pub invariant-loop-index : goal.invariant-loop-index
 invariant-loop-index g l = record {
   front : WritesFront (g.W.Sink.written l.initial.output) (g.W.Sink.written l.output)
-      (l.initial.chunk ++ flat_map (command_refusal l.form (file_of l.machine) l.commands (history_of l.history.start l.history.changes.items))
+      (l.initial.chunk ++ flat_map (command_refusal l.form l.origins (file_of l.machine) l.commands (history_of l.history.start l.history.changes.items))
       (take l.index-index l.indices)) l.chunk;
   standing : StandsBehind (file_of l.machine) l.commands l.standing;
   walk : WalksOver l.history.start l.history.changes.items l.walk;

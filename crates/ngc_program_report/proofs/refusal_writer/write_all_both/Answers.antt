@@ -22,9 +22,9 @@ returns-clause-ok g c = ok_weaker c.write_ending.result _ _
 pub returns-clause-fault : goal.returns-clause-fault
 returns-clause-fault g c =
     let file = file_of c.args.machine.now in
-    let off = setting_refusals c.args.form true true Off file c.args.off.now
+    let off = setting_refusals c.args.form c.args.origins.now true true Off file c.args.off.now
     (history_of c.args.off_history.now.start c.args.off_history.now.changes.items) c.args.off_indices.now in
-    let on = setting_refusals c.args.form false true On file c.args.on.now
+    let on = setting_refusals c.args.form c.args.origins.now false true On file c.args.on.now
     (history_of c.args.on_history.now.start c.args.on_history.now.changes.items) c.args.on_indices.now in
     err_weaker c.write_ending.result _ _
     (λ wrote. begins_last _ _ _ off (on ++ ending c.args.form 304) c.in_ok-write_setting_refusals.ensures.ok

@@ -16,7 +16,7 @@ returns-clause-ok g c =
 
 pub returns-clause-fault : goal.returns-clause-fault
 returns-clause-fault g c =
-    let told = setting_refusals c.args.form true false Off (file_of c.args.machine.now) c.args.commands.now
+    let told = setting_refusals c.args.form c.args.origins.now true false Off (file_of c.args.machine.now) c.args.commands.now
     (history_of c.args.history.now.start c.args.history.now.changes.items) c.args.indices.now in
     err_weaker c.write_ending.result _ _
     (λ wrote. begins_last _ _ _ told (ending c.args.form 304) c.in_ok-write_setting_refusals.ensures.ok wrote) c.write_ending.ensures.fault

@@ -14,7 +14,7 @@ returns-in_err-write_heading-clause-fault g c = on_err _ _ (begins_first _ _ _ _
 pub returns-clause-ok : goal.returns-clause-ok
 returns-clause-ok g c =
     let cause : Option ℕ → Option ℕ →
-    List ℕ = λ told fixture. cause_text c.args.form (file_of c.args.machine.now) c.args.commands.now told fixture (text_in c.args.program.now).lines c.args.frame.now in
+    List ℕ = λ told fixture. cause_text c.args.form c.args.origins.now (file_of c.args.machine.now) c.args.commands.now told fixture (text_in c.args.program.now).lines c.args.frame.now in
     let is = ap (λ told. cause told c.met_at-fixture.result) c.told_command-told.ensures
     ∙ ap (cause (told_command (place_fault (file_of c.args.machine.now) None (grid (file_of c.args.machine.now).step (file_of c.args.machine.now).start))
     c.args.command)) c.met_at-fixture.ensures in
@@ -23,7 +23,7 @@ returns-clause-ok g c =
 pub returns-clause-fault : goal.returns-clause-fault
 returns-clause-fault g c =
     let cause : Option ℕ → Option ℕ →
-    List ℕ = λ told fixture. cause_text c.args.form (file_of c.args.machine.now) c.args.commands.now told fixture (text_in c.args.program.now).lines c.args.frame.now in
+    List ℕ = λ told fixture. cause_text c.args.form c.args.origins.now (file_of c.args.machine.now) c.args.commands.now told fixture (text_in c.args.program.now).lines c.args.frame.now in
     let is = ap (λ told. cause told c.met_at-fixture.result) c.told_command-told.ensures
     ∙ ap (cause (told_command (place_fault (file_of c.args.machine.now) None (grid (file_of c.args.machine.now).step (file_of c.args.machine.now).start))
     c.args.command)) c.met_at-fixture.ensures in

@@ -14,7 +14,7 @@ returns-clause-ok g c =
 
 pub returns-clause-fault : goal.returns-clause-fault
 returns-clause-fault g c =
-    let told = all_refusals c.args.form (file_of c.args.machine.now) c.args.commands.now
+    let told = all_refusals c.args.form c.args.origins.now (file_of c.args.machine.now) c.args.commands.now
     (history_of c.args.history.now.start c.args.history.now.changes.items) c.args.indices.now in
     err_weaker c.write_obstacles.result _ _ (λ wrote. begins_last _ _ _ _ told c.in_ok-write_heading.ensures.ok wrote)
     c.write_obstacles.ensures.fault

@@ -5,7 +5,7 @@ use Rattle.ngc_inputs.proofs.JobLaws.{keeps_same}
 use Rattle.ngc_simulator.specs.Answers.{program_input, CertifyComes, certify_inputs}
 use Rattle.ngc_inputs.specs.Unread.{OfProgram, SourceFails, shop_inputs, unread_by}
 use Rattle.ngc_inputs.specs.declared.fault.AnswerFault.TheVariants as answers
-use Rattle.ngc_inputs.proofs.UnreadLaws.{certify_told, shop_read, told_before, unopened, unread_told}
+use Rattle.ngc_inputs.proofs.UnreadLaws.{certify_told, placed_read, told_before, unopened, unread_told}
 use Rattle.std.specs.Prelude.{option_map}
 use Rattle.ngc_simulator.proofs.certifier.certify_files.Goals as goal
 
@@ -23,9 +23,9 @@ returns-in_err-source-clause-comes g c =
 
 pub returns-clause-comes : goal.returns-clause-comes
 returns-clause-comes g c =
-    certified_files (g.F.Files.bytes c.args.files.now) (g.F.Files.bytes c.read_shop.new.files) c.args.options.now c.in_ok-shop.shop _
+    certified_files (g.F.Files.bytes c.args.files.now) (g.F.Files.bytes c.read_placed.new.files) c.args.options.now c.in_ok-shop.shop _
     (g.W.Sink.written c.args.output.now) (g.W.Sink.written c.certify.new.output) (Ok tt)
-    c.in_ok-shop.ensures.said c.read_shop.ensures.keeps c.in_ok-source.ensures.bytes c.in_ok-certify.ensures.certifies
+    c.in_ok-shop.ensures.said c.read_placed.ensures.keeps c.in_ok-source.ensures.bytes c.in_ok-certify.ensures.certifies
 
 pub returns-in_err-certify-clause-comes : goal.returns-in_err-certify-clause-comes
 returns-in_err-certify-clause-comes g c =
@@ -34,9 +34,9 @@ returns-in_err-certify-clause-comes g c =
     c.from_residual-in_err-certify.ensures.1
     (inr (
       c.in_err-certify.ensures.faults,
-      certified_files (g.F.Files.bytes c.args.files.now) (g.F.Files.bytes c.read_shop.new.files) c.args.options.now c.in_ok-shop.shop _
+      certified_files (g.F.Files.bytes c.args.files.now) (g.F.Files.bytes c.read_placed.new.files) c.args.options.now c.in_ok-shop.shop _
           (g.W.Sink.written c.args.output.now) (g.W.Sink.written c.certify.new.output) (Err c.in_err-certify.field-0.0)
-          c.in_ok-shop.ensures.said c.read_shop.ensures.keeps c.in_ok-source.ensures.bytes c.in_err-certify.ensures.certifies,
+          c.in_ok-shop.ensures.said c.read_placed.ensures.keeps c.in_ok-source.ensures.bytes c.in_err-certify.ensures.certifies,
     ))
 
 pub returns-in_err-shop-clause-unread : goal.returns-in_err-shop-clause-unread
@@ -54,8 +54,8 @@ returns-in_err-source-clause-unread g c =
     (unopened (SourceFails g.F.R.Source.remaining g.F.R.Source.failures) (g.F.Files.bytes c.args.files.now)
     (shop_inputs (Some c.args.options.now.machine.now) (Some c.args.options.now.tools.now)) OfProgram
     (option_map (λ n. n.now) c.args.options.now.program) [] _ _ _ c.in_err-source.field-0.0 c.in_err-source.ensures.fault
-    (shop_read (g.F.Files.bytes c.args.files.now) (Some c.args.options.now.machine.now)
-    (Some c.args.options.now.tools.now) c.in_ok-shop.shop c.in_ok-shop.ensures.said) c.in_ok-shop.ensures.unread c.in_err-source.ensures.counts)
+    (placed_read (g.F.Files.bytes c.args.files.now) (Some c.args.options.now.machine.now)
+    (Some c.args.options.now.tools.now) c.args.options.now.origins c.in_ok-shop.shop c.in_ok-shop.ensures.said) c.in_ok-shop.ensures.unread c.in_err-source.ensures.counts)
 
 pub returns-in_err-certify-clause-unread : goal.returns-in_err-certify-clause-unread
 returns-in_err-certify-clause-unread g c =
@@ -64,11 +64,11 @@ returns-in_err-certify-clause-unread g c =
     (certify_told (SourceFails g.F.R.Source.remaining g.F.R.Source.failures) (g.F.Files.bytes c.args.files.now)
     (shop_inputs (Some c.args.options.now.machine.now) (Some c.args.options.now.tools.now))
     (option_map (λ n. n.now) c.args.options.now.program) _ _ c.in_err-certify.field-0.0 c.in_err-certify.ensures.faults
-    (shop_read (g.F.Files.bytes c.args.files.now) (Some c.args.options.now.machine.now)
-    (Some c.args.options.now.tools.now) c.in_ok-shop.shop c.in_ok-shop.ensures.said) (c.in_ok-source.ensures.counts ∙ c.in_ok-shop.ensures.unread)
+    (placed_read (g.F.Files.bytes c.args.files.now) (Some c.args.options.now.machine.now)
+    (Some c.args.options.now.tools.now) c.args.options.now.origins c.in_ok-shop.shop c.in_ok-shop.ensures.said) (c.in_ok-source.ensures.counts ∙ c.in_ok-shop.ensures.unread)
     (λ is. record {
       opened = c.in_ok-source.source;
       left = c.certify.new.source;
-      gave = c.in_ok-source.ensures.bytes ∙ c.read_shop.ensures.keeps (option_map (λ n. n.now) c.args.options.now.program);
+      gave = c.in_ok-source.ensures.bytes ∙ c.read_placed.ensures.keeps (option_map (λ n. n.now) c.args.options.now.program);
       fails = c.in_err-certify.ensures.source (ap Err is);
     }))

@@ -8,7 +8,7 @@ use Rattle.ngc_simulator.proofs.DrawLaws.{plain_files}
 use Rattle.ngc_simulator.proofs.FileLaws.{or_of_reading}
 use Rattle.ngc_program_report.proofs.WrittenLaws.{turned}
 use Rattle.ngc_inputs.proofs.JobLaws.{keeps_same}
-use Rattle.ngc_inputs.proofs.UnreadLaws.{draw_told, shop_read, told_before, told_behind, unread_told}
+use Rattle.ngc_inputs.proofs.UnreadLaws.{draw_told, placed_read, told_before, told_behind, unread_told}
 use Rattle.ngc_simulator.proofs.drawing_files.draw_plain.Goals as goal
 
 pub returns-in_err-shop-clause-comes : goal.returns-in_err-shop-clause-comes
@@ -24,16 +24,16 @@ returns-in_err-program-clause-comes g c =
     (g.W.Sink.written c.args.output.now)) c.from_residual-in_err-program.ensures.1
     (inr (
       tt,
-      plain_files (g.F.Files.bytes c.args.files.now) (g.F.Files.bytes c.read_shop.new.files) c.args.options.now c.args.view c.in_ok-shop.shop _ _ (Err fault) _
-          (ap (option_map (λ n. n.now)) c.requires) c.in_ok-shop.ensures.said c.read_shop.ensures.keeps c.in_err-program.ensures.text
+      plain_files (g.F.Files.bytes c.args.files.now) (g.F.Files.bytes c.read_placed.new.files) c.args.options.now c.args.view c.in_ok-shop.shop _ _ (Err fault) _
+          (ap (option_map (λ n. n.now)) c.requires) c.in_ok-shop.ensures.said c.read_placed.ensures.keeps c.in_err-program.ensures.text
           (λ a fault_is. (fault_is, keeps_same _)),
     ))
 
 pub returns-clause-comes : goal.returns-clause-comes
 returns-clause-comes g c =
-    plain_files (g.F.Files.bytes c.args.files.now) (g.F.Files.bytes c.read_shop.new.files) c.args.options.now c.args.view c.in_ok-shop.shop
+    plain_files (g.F.Files.bytes c.args.files.now) (g.F.Files.bytes c.read_placed.new.files) c.args.options.now c.args.view c.in_ok-shop.shop
     (g.W.Sink.written c.args.output.now) (g.W.Sink.written c.draw_program.new.output) (Ok tt) _
-    (ap (option_map (λ n. n.now)) c.requires) c.in_ok-shop.ensures.said c.read_shop.ensures.keeps c.in_ok-program.ensures.text
+    (ap (option_map (λ n. n.now)) c.requires) c.in_ok-shop.ensures.said c.read_placed.ensures.keeps c.in_ok-program.ensures.text
     (λ a is_text. c.in_ok-draw_program.ensures.draws a is_text c.in_ok-program.ensures.readings)
 
 pub returns-in_err-draw_program-clause-comes : goal.returns-in_err-draw_program-clause-comes
@@ -43,9 +43,9 @@ returns-in_err-draw_program-clause-comes g c =
     (g.W.Sink.written c.draw_program.new.output)) c.from_residual-in_err-draw_program.ensures.1
     (inr (
       or_of_reading OfDrawing fault c.in_err-draw_program.ensures.faults,
-      plain_files (g.F.Files.bytes c.args.files.now) (g.F.Files.bytes c.read_shop.new.files) c.args.options.now c.args.view c.in_ok-shop.shop
+      plain_files (g.F.Files.bytes c.args.files.now) (g.F.Files.bytes c.read_placed.new.files) c.args.options.now c.args.view c.in_ok-shop.shop
           (g.W.Sink.written c.args.output.now) (g.W.Sink.written c.draw_program.new.output) (Err fault) _
-          (ap (option_map (λ n. n.now)) c.requires) c.in_ok-shop.ensures.said c.read_shop.ensures.keeps c.in_ok-program.ensures.text
+          (ap (option_map (λ n. n.now)) c.requires) c.in_ok-shop.ensures.said c.read_placed.ensures.keeps c.in_ok-program.ensures.text
           (λ a is_text. c.in_err-draw_program.ensures.draws a is_text c.in_ok-program.ensures.readings),
     ))
 
@@ -62,12 +62,12 @@ pub returns-in_err-program-clause-unread : goal.returns-in_err-program-clause-un
 returns-in_err-program-clause-unread g c =
     unread_told (SourceFails g.F.R.Source.remaining g.F.R.Source.failures) (g.F.Files.bytes c.args.files.now)
     (draw_inputs c.args.options.now (Some c.args.view)) _ _ _ (answers.Read c.in_err-program.field-0.0) c.from_residual-in_err-program.ensures.1
-    (told_behind (SourceFails g.F.R.Source.remaining g.F.R.Source.failures) (g.F.Files.bytes c.args.files.now) (g.F.Files.bytes c.read_shop.new.files)
+    (told_behind (SourceFails g.F.R.Source.remaining g.F.R.Source.failures) (g.F.Files.bytes c.args.files.now) (g.F.Files.bytes c.read_placed.new.files)
     (shop_inputs (Some c.args.options.now.machine.now) (Some c.args.options.now.tools.now)) OfProgram (option_map (λ n. n.now) c.args.options.now.program)
     (certificate_inputs (option_map (λ n. n.now) c.args.options.now.certificate)) _ _ _ (program_unread c.in_err-program.field-0.0)
-    (shop_read (g.F.Files.bytes c.args.files.now) (Some c.args.options.now.machine.now)
-    (Some c.args.options.now.tools.now) c.in_ok-shop.shop c.in_ok-shop.ensures.said)
-    (c.read_shop.ensures.keeps (option_map (λ n. n.now) c.args.options.now.program)) c.in_ok-shop.ensures.unread c.in_err-program.ensures.unread)
+    (placed_read (g.F.Files.bytes c.args.files.now) (Some c.args.options.now.machine.now)
+    (Some c.args.options.now.tools.now) c.args.options.now.origins c.in_ok-shop.shop c.in_ok-shop.ensures.said)
+    (c.read_placed.ensures.keeps (option_map (λ n. n.now) c.args.options.now.program)) c.in_ok-shop.ensures.unread c.in_err-program.ensures.unread)
 
 pub returns-in_err-draw_program-clause-unread : goal.returns-in_err-draw_program-clause-unread
 returns-in_err-draw_program-clause-unread g c =

@@ -12,7 +12,7 @@ use Rattle.ngc_simulator.proofs.FileLaws.{all_known, or_of_reading}
 use Rattle.ngc_program_report.proofs.WrittenLaws.{turned}
 use Rattle.ngc_inputs.proofs.JobLaws.{keeps_same}
 use Rattle.ngc_simulator.proofs.RunLaws.{no_certificate}
-use Rattle.ngc_inputs.proofs.UnreadLaws.{Told, all_read, draw_told, is_read, shop_read, told_before, told_behind, unread_told}
+use Rattle.ngc_inputs.proofs.UnreadLaws.{Told, all_read, draw_told, is_read, placed_read, told_before, told_behind, unread_told}
 use Rattle.ngc_simulator.proofs.drawing_files.draw_with.Goals as goal
 
 pub returns-in_err-shop-clause-comes : goal.returns-in_err-shop-clause-comes
@@ -28,9 +28,9 @@ returns-in_err-program-clause-comes g c =
     (g.W.Sink.written c.args.output.now)) c.from_residual-in_err-program.ensures.1
     (inr (
       tt,
-      given_files (g.F.Files.bytes c.args.files.now) (g.F.Files.bytes c.read_shop.new.files)
-          (g.F.Files.bytes c.read_shop.new.files) c.args.options.now c.args.certificate.now c.args.view c.in_ok-shop.shop _ _ (Err fault) _ (λ b. Unit {0})
-          c.requires c.in_ok-shop.ensures.said c.read_shop.ensures.keeps (λ name. refl)
+      given_files (g.F.Files.bytes c.args.files.now) (g.F.Files.bytes c.read_placed.new.files)
+          (g.F.Files.bytes c.read_placed.new.files) c.args.options.now c.args.certificate.now c.args.view c.in_ok-shop.shop _ _ (Err fault) _ (λ b. Unit {0})
+          c.requires c.in_ok-shop.ensures.said c.read_placed.ensures.keeps (λ name. refl)
           c.in_err-program.ensures.text (all_known _ _ (λ b. tt))
           (λ a b fault_is q. (fault_is, keeps_same _)),
     ))
@@ -42,19 +42,19 @@ returns-in_err-certificate-clause-comes g c =
     (g.W.Sink.written c.args.output.now)) c.from_residual-in_err-certificate.ensures.1
     (inr (
       tt,
-      given_files (g.F.Files.bytes c.args.files.now) (g.F.Files.bytes c.read_shop.new.files)
+      given_files (g.F.Files.bytes c.args.files.now) (g.F.Files.bytes c.read_placed.new.files)
           (g.F.Files.bytes c.read_program.new.files) c.args.options.now c.args.certificate.now c.args.view c.in_ok-shop.shop _ _ (Err fault) (λ a. Unit {0}) _
-          c.requires c.in_ok-shop.ensures.said c.read_shop.ensures.keeps c.read_program.ensures.named
+          c.requires c.in_ok-shop.ensures.said c.read_placed.ensures.keeps c.read_program.ensures.named
           (all_known _ _ (λ a. tt)) c.in_err-certificate.ensures.said
           (λ a b p says. (no_certificate Global.the_row.Denot said_of b c.in_err-certificate.field-0.0 says, keeps_same _)),
     ))
 
 pub returns-clause-comes : goal.returns-clause-comes
 returns-clause-comes g c =
-    given_files (g.F.Files.bytes c.args.files.now) (g.F.Files.bytes c.read_shop.new.files)
+    given_files (g.F.Files.bytes c.args.files.now) (g.F.Files.bytes c.read_placed.new.files)
     (g.F.Files.bytes c.read_program.new.files) c.args.options.now c.args.certificate.now c.args.view c.in_ok-shop.shop (g.W.Sink.written c.args.output.now)
     (g.W.Sink.written c.draw_certified.new.output) (Ok tt) _ _
-    c.requires c.in_ok-shop.ensures.said c.read_shop.ensures.keeps c.read_program.ensures.named
+    c.requires c.in_ok-shop.ensures.said c.read_placed.ensures.keeps c.read_program.ensures.named
     c.in_ok-program.ensures.text c.in_ok-certificate.ensures.said
     (λ a b is_text said. c.in_ok-draw_certified.ensures.draws a b is_text c.in_ok-program.ensures.readings said)
 
@@ -65,10 +65,10 @@ returns-in_err-draw_certified-clause-comes g c =
     (g.W.Sink.written c.draw_certified.new.output)) c.from_residual-in_err-draw_certified.ensures.1
     (inr (
       or_of_reading OfDrawing fault c.in_err-draw_certified.ensures.faults,
-      given_files (g.F.Files.bytes c.args.files.now) (g.F.Files.bytes c.read_shop.new.files)
+      given_files (g.F.Files.bytes c.args.files.now) (g.F.Files.bytes c.read_placed.new.files)
           (g.F.Files.bytes c.read_program.new.files) c.args.options.now c.args.certificate.now c.args.view c.in_ok-shop.shop
           (g.W.Sink.written c.args.output.now) (g.W.Sink.written c.draw_certified.new.output) (Err fault) _ _
-          c.requires c.in_ok-shop.ensures.said c.read_shop.ensures.keeps c.read_program.ensures.named
+          c.requires c.in_ok-shop.ensures.said c.read_placed.ensures.keeps c.read_program.ensures.named
           c.in_ok-program.ensures.text c.in_ok-certificate.ensures.said
           (λ a b is_text said. c.in_err-draw_certified.ensures.draws a b is_text c.in_ok-program.ensures.readings said),
     ))
@@ -86,12 +86,12 @@ pub returns-in_err-program-clause-unread : goal.returns-in_err-program-clause-un
 returns-in_err-program-clause-unread g c =
     unread_told (SourceFails g.F.R.Source.remaining g.F.R.Source.failures) (g.F.Files.bytes c.args.files.now)
     (draw_inputs c.args.options.now (Some c.args.view)) _ _ _ (answers.Read c.in_err-program.field-0.0) c.from_residual-in_err-program.ensures.1
-    (told_behind (SourceFails g.F.R.Source.remaining g.F.R.Source.failures) (g.F.Files.bytes c.args.files.now) (g.F.Files.bytes c.read_shop.new.files)
+    (told_behind (SourceFails g.F.R.Source.remaining g.F.R.Source.failures) (g.F.Files.bytes c.args.files.now) (g.F.Files.bytes c.read_placed.new.files)
     (shop_inputs (Some c.args.options.now.machine.now) (Some c.args.options.now.tools.now)) OfProgram (option_map (λ n. n.now) c.args.options.now.program)
     (certificate_inputs (option_map (λ n. n.now) c.args.options.now.certificate)) _ _ _ (program_unread c.in_err-program.field-0.0)
-    (shop_read (g.F.Files.bytes c.args.files.now) (Some c.args.options.now.machine.now)
-    (Some c.args.options.now.tools.now) c.in_ok-shop.shop c.in_ok-shop.ensures.said)
-    (c.read_shop.ensures.keeps (option_map (λ n. n.now) c.args.options.now.program)) c.in_ok-shop.ensures.unread c.in_err-program.ensures.unread)
+    (placed_read (g.F.Files.bytes c.args.files.now) (Some c.args.options.now.machine.now)
+    (Some c.args.options.now.tools.now) c.args.options.now.origins c.in_ok-shop.shop c.in_ok-shop.ensures.said)
+    (c.read_placed.ensures.keeps (option_map (λ n. n.now) c.args.options.now.program)) c.in_ok-shop.ensures.unread c.in_err-program.ensures.unread)
 
 pub returns-in_err-certificate-clause-unread : goal.returns-in_err-certificate-clause-unread
 returns-in_err-certificate-clause-unread g c =
@@ -107,14 +107,14 @@ returns-in_err-certificate-clause-unread g c =
     ∷ []) OfCertificate (Some c.args.certificate.now) ([]) _ _ _ (certificate_unread c.in_err-certificate.field-0.0)
     (all_read (g.F.Files.bytes c.args.files.now) (shop_inputs (Some c.args.options.now.machine.now) (Some c.args.options.now.tools.now))
     (program_input (option_map (λ n. n.now) c.args.options.now.program) ∷ [])
-    (shop_read (g.F.Files.bytes c.args.files.now) (Some c.args.options.now.machine.now)
-    (Some c.args.options.now.tools.now) c.in_ok-shop.shop c.in_ok-shop.ensures.said) (
+    (placed_read (g.F.Files.bytes c.args.files.now) (Some c.args.options.now.machine.now)
+    (Some c.args.options.now.tools.now) c.args.options.now.origins c.in_ok-shop.shop c.in_ok-shop.ensures.said) (
       is_read program_of _ (g.F.Files.bytes c.args.files.now (option_map (λ n. n.now) c.args.options.now.program))
-          (g.F.Files.bytes c.read_shop.new.files (option_map (λ n. n.now) c.args.options.now.program))
-          (c.read_shop.ensures.keeps (option_map (λ n. n.now) c.args.options.now.program)) c.in_ok-program.ensures.text,
+          (g.F.Files.bytes c.read_placed.new.files (option_map (λ n. n.now) c.args.options.now.program))
+          (c.read_placed.ensures.keeps (option_map (λ n. n.now) c.args.options.now.program)) c.in_ok-program.ensures.text,
       tt,
     ))
-    (c.read_program.ensures.named c.args.certificate.now ∙ c.read_shop.ensures.keeps (Some c.args.certificate.now))
+    (c.read_program.ensures.named c.args.certificate.now ∙ c.read_placed.ensures.keeps (Some c.args.certificate.now))
     (c.in_ok-program.ensures.unread ∙ c.in_ok-shop.ensures.unread) c.in_err-certificate.ensures.unread))
 
 pub returns-in_err-draw_certified-clause-unread : goal.returns-in_err-draw_certified-clause-unread

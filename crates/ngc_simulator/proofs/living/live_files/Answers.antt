@@ -8,7 +8,7 @@ use Rattle.ngc_simulator.proofs.LiveLaws.{from_input, lived_files}
 use Rattle.ngc_inputs.specs.Faults.{OfLiving}
 use Rattle.ngc_simulator.specs.Answers.{LiveComes, certificate_input, live_inputs, program_input}
 use Rattle.ngc_inputs.specs.Unread.{OfCertificate, OfProgram, OfSource, SourceFails, certificate_unread, program_unread, shop_inputs, unread_by}
-use Rattle.ngc_inputs.proofs.UnreadLaws.{all_read, is_read, live_told, shop_read, told_before, told_behind, unopened, unread_told}
+use Rattle.ngc_inputs.proofs.UnreadLaws.{all_read, is_read, live_told, placed_read, told_before, told_behind, unopened, unread_told}
 use Rattle.ngc_line_reader.specs.ProgramText.{program_of}
 use Rattle.ngc_line_reader.specs.ProgramView.{text_in}
 use Rattle.ngc_inputs.proofs.JudgingLaws.{judged_is_read, verdict_on}
@@ -26,8 +26,8 @@ returns-in_err-program-clause-comes g c =
     c.from_residual-in_err-program.ensures.1
     (inr (
       tt,
-      lived_files (g.F.Files.bytes c.args.files.now) (g.F.Files.bytes c.read_shop.new.files) (g.F.Files.bytes c.read_shop.new.files) c.args.options.now c.args.form c.in_ok-shop.shop _ _ (Err fault) _ (λ b. Unit {0})
-          c.in_ok-shop.ensures.said c.read_shop.ensures.keeps (λ name. refl)
+      lived_files (g.F.Files.bytes c.args.files.now) (g.F.Files.bytes c.read_placed.new.files) (g.F.Files.bytes c.read_placed.new.files) c.args.options.now c.args.form c.in_ok-shop.shop _ _ (Err fault) _ (λ b. Unit {0})
+          c.in_ok-shop.ensures.said c.read_placed.ensures.keeps (λ name. refl)
           c.in_err-program.ensures.text (all_known _ _ (λ b. tt))
           (λ a b fault_is q. (None, (fault_is, keeps_same _))),
     ))
@@ -39,8 +39,8 @@ returns-in_err-verdict-clause-comes g c =
     c.from_residual-in_err-verdict.ensures.1
     (inr (
       tt,
-      lived_files (g.F.Files.bytes c.args.files.now) (g.F.Files.bytes c.read_shop.new.files) (g.F.Files.bytes c.read_program.new.files) c.args.options.now c.args.form c.in_ok-shop.shop _ _ (Err fault) (λ a. Unit {0}) _
-          c.in_ok-shop.ensures.said c.read_shop.ensures.keeps c.read_program.ensures.named
+      lived_files (g.F.Files.bytes c.args.files.now) (g.F.Files.bytes c.read_placed.new.files) (g.F.Files.bytes c.read_program.new.files) c.args.options.now c.args.form c.in_ok-shop.shop _ _ (Err fault) (λ a. Unit {0}) _
+          c.in_ok-shop.ensures.said c.read_placed.ensures.keeps c.read_program.ensures.named
           (all_known _ _ (λ a. tt))
           (c.in_err-verdict.ensures.judges c.in_ok-program.ensures.readings.readings c.in_ok-program.ensures.readings.are)
           (λ a b p none. (None, (none, keeps_same _))),
@@ -54,10 +54,10 @@ returns-in_err-events-clause-comes g c =
 
 pub returns-clause-comes : goal.returns-clause-comes
 returns-clause-comes g c =
-    lived_files (g.F.Files.bytes c.args.files.now) (g.F.Files.bytes c.read_shop.new.files) (g.F.Files.bytes c.read_program.new.files) c.args.options.now c.args.form c.in_ok-shop.shop (g.W.Sink.written c.args.output.now) (g.W.Sink.written c.run_live.new.output) (Ok tt) _ _
-    c.in_ok-shop.ensures.said c.read_shop.ensures.keeps c.read_program.ensures.named c.in_ok-program.ensures.text (c.in_ok-verdict.ensures.judges c.in_ok-program.ensures.readings.readings c.in_ok-program.ensures.readings.are)
+    lived_files (g.F.Files.bytes c.args.files.now) (g.F.Files.bytes c.read_placed.new.files) (g.F.Files.bytes c.read_program.new.files) c.args.options.now c.args.form c.in_ok-shop.shop (g.W.Sink.written c.args.output.now) (g.W.Sink.written c.run_live.new.output) (Ok tt) _ _
+    c.in_ok-shop.ensures.said c.read_placed.ensures.keeps c.read_program.ensures.named c.in_ok-program.ensures.text (c.in_ok-verdict.ensures.judges c.in_ok-program.ensures.readings.readings c.in_ok-program.ensures.readings.are)
     (λ a b is_text judges.
-    from_input c.args.form c.args.options.now.feed_ring (setup_of c.in_ok-shop.shop.machine c.in_ok-shop.shop.tools) a b c.args.options.now.delete _ _ _ _ _ (Ok tt) (c.in_ok-events.ensures.bytes ∙ c.judge_file.ensures.keeps None ∙ c.read_program.ensures.keeps refl None ∙ c.read_shop.ensures.keeps None)
+    from_input c.args.form c.args.options.now.feed_ring (setup_of c.in_ok-shop.shop.machine c.in_ok-shop.shop.tools) a b c.args.options.now.delete _ _ _ _ _ (Ok tt) (c.in_ok-events.ensures.bytes ∙ c.judge_file.ensures.keeps None ∙ c.read_program.ensures.keeps refl None ∙ c.read_placed.ensures.keeps None)
     (c.in_ok-run_live.ensures.lives (setup_of c.in_ok-shop.shop.machine c.in_ok-shop.shop.tools) a b
     (verdict_on (setup_of c.in_ok-shop.shop.machine c.in_ok-shop.shop.tools) a b (text_in c.in_ok-program.program) c.in_ok-verdict.verdict
     is_text c.in_ok-program.ensures.readings judges)))
@@ -69,10 +69,10 @@ returns-in_err-run_live-clause-comes g c =
     c.from_residual-in_err-run_live.ensures.1
     (inr (
       or_of_reading OfLiving fault c.in_err-run_live.ensures.faults,
-      lived_files (g.F.Files.bytes c.args.files.now) (g.F.Files.bytes c.read_shop.new.files) (g.F.Files.bytes c.read_program.new.files) c.args.options.now c.args.form c.in_ok-shop.shop (g.W.Sink.written c.args.output.now) (g.W.Sink.written c.run_live.new.output) (Err fault) _ _
-          c.in_ok-shop.ensures.said c.read_shop.ensures.keeps c.read_program.ensures.named c.in_ok-program.ensures.text (c.in_ok-verdict.ensures.judges c.in_ok-program.ensures.readings.readings c.in_ok-program.ensures.readings.are)
+      lived_files (g.F.Files.bytes c.args.files.now) (g.F.Files.bytes c.read_placed.new.files) (g.F.Files.bytes c.read_program.new.files) c.args.options.now c.args.form c.in_ok-shop.shop (g.W.Sink.written c.args.output.now) (g.W.Sink.written c.run_live.new.output) (Err fault) _ _
+          c.in_ok-shop.ensures.said c.read_placed.ensures.keeps c.read_program.ensures.named c.in_ok-program.ensures.text (c.in_ok-verdict.ensures.judges c.in_ok-program.ensures.readings.readings c.in_ok-program.ensures.readings.are)
           (λ a b is_text judges.
-          from_input c.args.form c.args.options.now.feed_ring (setup_of c.in_ok-shop.shop.machine c.in_ok-shop.shop.tools) a b c.args.options.now.delete _ _ _ _ _ (Err fault) (c.in_ok-events.ensures.bytes ∙ c.judge_file.ensures.keeps None ∙ c.read_program.ensures.keeps refl None ∙ c.read_shop.ensures.keeps None)
+          from_input c.args.form c.args.options.now.feed_ring (setup_of c.in_ok-shop.shop.machine c.in_ok-shop.shop.tools) a b c.args.options.now.delete _ _ _ _ _ (Err fault) (c.in_ok-events.ensures.bytes ∙ c.judge_file.ensures.keeps None ∙ c.read_program.ensures.keeps refl None ∙ c.read_placed.ensures.keeps None)
           (c.in_err-run_live.ensures.lives (setup_of c.in_ok-shop.shop.machine c.in_ok-shop.shop.tools) a b
           (verdict_on (setup_of c.in_ok-shop.shop.machine c.in_ok-shop.shop.tools) a b (text_in c.in_ok-program.program) c.in_ok-verdict.verdict
           is_text c.in_ok-program.ensures.readings judges))),
@@ -88,11 +88,11 @@ returns-in_err-shop-clause-unread g c =
 pub returns-in_err-program-clause-unread : goal.returns-in_err-program-clause-unread
 returns-in_err-program-clause-unread g c =
     unread_told (SourceFails g.F.R.Source.remaining g.F.R.Source.failures) (g.F.Files.bytes c.args.files.now) (live_inputs c.args.options.now (Some c.args.form)) _ _ _ (answers.Read c.in_err-program.field-0.0) c.from_residual-in_err-program.ensures.1
-    (told_behind (SourceFails g.F.R.Source.remaining g.F.R.Source.failures) (g.F.Files.bytes c.args.files.now) (g.F.Files.bytes c.read_shop.new.files) (shop_inputs (Some c.args.options.now.machine.now) (Some c.args.options.now.tools.now)) OfProgram (Some c.args.options.now.program.now)
+    (told_behind (SourceFails g.F.R.Source.remaining g.F.R.Source.failures) (g.F.Files.bytes c.args.files.now) (g.F.Files.bytes c.read_placed.new.files) (shop_inputs (Some c.args.options.now.machine.now) (Some c.args.options.now.tools.now)) OfProgram (Some c.args.options.now.program.now)
     (certificate_input c.args.options.now.certificate.now ∷ record { kind = OfSource; name = None } ∷ []) _ _ _
-    (program_unread c.in_err-program.field-0.0) (shop_read (g.F.Files.bytes c.args.files.now) (Some c.args.options.now.machine.now)
-    (Some c.args.options.now.tools.now) c.in_ok-shop.shop c.in_ok-shop.ensures.said)
-    (c.read_shop.ensures.keeps (Some c.args.options.now.program.now)) c.in_ok-shop.ensures.unread c.in_err-program.ensures.unread)
+    (program_unread c.in_err-program.field-0.0) (placed_read (g.F.Files.bytes c.args.files.now) (Some c.args.options.now.machine.now)
+    (Some c.args.options.now.tools.now) c.args.options.now.origins c.in_ok-shop.shop c.in_ok-shop.ensures.said)
+    (c.read_placed.ensures.keeps (Some c.args.options.now.program.now)) c.in_ok-shop.ensures.unread c.in_err-program.ensures.unread)
 
 pub returns-in_err-verdict-clause-unread : goal.returns-in_err-verdict-clause-unread
 returns-in_err-verdict-clause-unread g c =
@@ -100,14 +100,14 @@ returns-in_err-verdict-clause-unread g c =
     (told_behind (SourceFails g.F.R.Source.remaining g.F.R.Source.failures) (g.F.Files.bytes c.args.files.now) (g.F.Files.bytes c.read_program.new.files) ((shop_inputs (Some c.args.options.now.machine.now) (Some c.args.options.now.tools.now)) ++ program_input (Some c.args.options.now.program.now) ∷ []) OfCertificate (Some c.args.options.now.certificate.now) (record { kind = OfSource; name = None } ∷ []) _ _ _
     (certificate_unread c.in_err-verdict.field-0.0) (all_read (g.F.Files.bytes c.args.files.now) (shop_inputs (Some c.args.options.now.machine.now) (Some c.args.options.now.tools.now))
     (program_input (Some c.args.options.now.program.now) ∷ [])
-    (shop_read (g.F.Files.bytes c.args.files.now) (Some c.args.options.now.machine.now)
-    (Some c.args.options.now.tools.now) c.in_ok-shop.shop c.in_ok-shop.ensures.said) (
+    (placed_read (g.F.Files.bytes c.args.files.now) (Some c.args.options.now.machine.now)
+    (Some c.args.options.now.tools.now) c.args.options.now.origins c.in_ok-shop.shop c.in_ok-shop.ensures.said) (
       is_read program_of _ ((g.F.Files.bytes c.args.files.now) (Some c.args.options.now.program.now))
-          ((g.F.Files.bytes c.read_shop.new.files) (Some c.args.options.now.program.now))
-          (c.read_shop.ensures.keeps (Some c.args.options.now.program.now)) c.in_ok-program.ensures.text,
+          ((g.F.Files.bytes c.read_placed.new.files) (Some c.args.options.now.program.now))
+          (c.read_placed.ensures.keeps (Some c.args.options.now.program.now)) c.in_ok-program.ensures.text,
       tt,
     ))
-    (c.read_program.ensures.named c.args.options.now.certificate.now ∙ c.read_shop.ensures.keeps (Some c.args.options.now.certificate.now))
+    (c.read_program.ensures.named c.args.options.now.certificate.now ∙ c.read_placed.ensures.keeps (Some c.args.options.now.certificate.now))
     (c.in_ok-program.ensures.unread ∙ c.in_ok-shop.ensures.unread) c.in_err-verdict.ensures.unread)
 
 pub returns-in_err-events-clause-unread : goal.returns-in_err-events-clause-unread
@@ -119,16 +119,16 @@ returns-in_err-events-clause-unread g c =
     ((shop_inputs (Some c.args.options.now.machine.now) (Some c.args.options.now.tools.now)) ++ program_input (Some c.args.options.now.program.now) ∷ []) (certificate_input c.args.options.now.certificate.now ∷ [])
     (all_read (g.F.Files.bytes c.args.files.now) (shop_inputs (Some c.args.options.now.machine.now) (Some c.args.options.now.tools.now))
     (program_input (Some c.args.options.now.program.now) ∷ [])
-    (shop_read (g.F.Files.bytes c.args.files.now) (Some c.args.options.now.machine.now)
-    (Some c.args.options.now.tools.now) c.in_ok-shop.shop c.in_ok-shop.ensures.said) (
+    (placed_read (g.F.Files.bytes c.args.files.now) (Some c.args.options.now.machine.now)
+    (Some c.args.options.now.tools.now) c.args.options.now.origins c.in_ok-shop.shop c.in_ok-shop.ensures.said) (
       is_read program_of _ ((g.F.Files.bytes c.args.files.now) (Some c.args.options.now.program.now))
-          ((g.F.Files.bytes c.read_shop.new.files) (Some c.args.options.now.program.now))
-          (c.read_shop.ensures.keeps (Some c.args.options.now.program.now)) c.in_ok-program.ensures.text,
+          ((g.F.Files.bytes c.read_placed.new.files) (Some c.args.options.now.program.now))
+          (c.read_placed.ensures.keeps (Some c.args.options.now.program.now)) c.in_ok-program.ensures.text,
       tt,
     )) (
       judged_is_read _ _ c.in_ok-verdict.verdict ((g.F.Files.bytes c.args.files.now) (Some c.args.options.now.certificate.now))
           ((g.F.Files.bytes c.read_program.new.files) (Some c.args.options.now.certificate.now))
-          (c.read_program.ensures.named c.args.options.now.certificate.now ∙ c.read_shop.ensures.keeps (Some c.args.options.now.certificate.now))
+          (c.read_program.ensures.named c.args.options.now.certificate.now ∙ c.read_placed.ensures.keeps (Some c.args.options.now.certificate.now))
           (c.in_ok-verdict.ensures.judges c.in_ok-program.ensures.readings.readings c.in_ok-program.ensures.readings.are),
       tt,
     ))
@@ -142,16 +142,16 @@ returns-in_err-run_live-clause-unread g c =
     ((shop_inputs (Some c.args.options.now.machine.now) (Some c.args.options.now.tools.now)) ++ program_input (Some c.args.options.now.program.now) ∷ []) (certificate_input c.args.options.now.certificate.now ∷ [])
     (all_read (g.F.Files.bytes c.args.files.now) (shop_inputs (Some c.args.options.now.machine.now) (Some c.args.options.now.tools.now))
     (program_input (Some c.args.options.now.program.now) ∷ [])
-    (shop_read (g.F.Files.bytes c.args.files.now) (Some c.args.options.now.machine.now)
-    (Some c.args.options.now.tools.now) c.in_ok-shop.shop c.in_ok-shop.ensures.said) (
+    (placed_read (g.F.Files.bytes c.args.files.now) (Some c.args.options.now.machine.now)
+    (Some c.args.options.now.tools.now) c.args.options.now.origins c.in_ok-shop.shop c.in_ok-shop.ensures.said) (
       is_read program_of _ ((g.F.Files.bytes c.args.files.now) (Some c.args.options.now.program.now))
-          ((g.F.Files.bytes c.read_shop.new.files) (Some c.args.options.now.program.now))
-          (c.read_shop.ensures.keeps (Some c.args.options.now.program.now)) c.in_ok-program.ensures.text,
+          ((g.F.Files.bytes c.read_placed.new.files) (Some c.args.options.now.program.now))
+          (c.read_placed.ensures.keeps (Some c.args.options.now.program.now)) c.in_ok-program.ensures.text,
       tt,
     )) (
       judged_is_read _ _ c.in_ok-verdict.verdict ((g.F.Files.bytes c.args.files.now) (Some c.args.options.now.certificate.now))
           ((g.F.Files.bytes c.read_program.new.files) (Some c.args.options.now.certificate.now))
-          (c.read_program.ensures.named c.args.options.now.certificate.now ∙ c.read_shop.ensures.keeps (Some c.args.options.now.certificate.now))
+          (c.read_program.ensures.named c.args.options.now.certificate.now ∙ c.read_placed.ensures.keeps (Some c.args.options.now.certificate.now))
           (c.in_ok-verdict.ensures.judges c.in_ok-program.ensures.readings.readings c.in_ok-program.ensures.readings.are),
       tt,
     ))
@@ -159,6 +159,6 @@ returns-in_err-run_live-clause-unread g c =
     (λ is. record {
       opened = c.in_ok-events.events;
       left = c.run_live.new.source;
-      gave = (c.in_ok-events.ensures.bytes ∙ c.judge_file.ensures.keeps None ∙ c.read_program.ensures.keeps refl None ∙ c.read_shop.ensures.keeps None);
+      gave = (c.in_ok-events.ensures.bytes ∙ c.judge_file.ensures.keeps None ∙ c.read_program.ensures.keeps refl None ∙ c.read_placed.ensures.keeps None);
       fails = c.in_err-run_live.ensures.source (ap Err is);
     }))

@@ -12,7 +12,7 @@ use Rattle.ngc_simulator.specs.Reporting.{Reports}
 use Rattle.ngc_inputs.specs.Unread.{OfProgram, SourceFails, shop_inputs, unread_by}
 use Rattle.ngc_inputs.specs.declared.fault.AnswerFault.{AnswerFault}
 use Rattle.ngc_inputs.specs.declared.fault.AnswerFault.TheVariants as answers
-use Rattle.ngc_inputs.proofs.UnreadLaws.{certify_told, program_again, shop_read, told_before, told_behind, unopened, unread_told}
+use Rattle.ngc_inputs.proofs.UnreadLaws.{certify_told, program_again, placed_read, told_before, told_behind, unopened, unread_told}
 use Rattle.ngc_simulator.proofs.UnreadableLaws.{TellsKnown, faults_comes, reported_comes, told_comes}
 use Rattle.std.specs.Prelude.{IsSome, option_map}
 use Rattle.ngc_simulator.proofs.reporting_files.report_files.Goals as goal
@@ -21,9 +21,9 @@ pub returns-in_err-shop-clause-comes : goal.returns-in_err-shop-clause-comes
 returns-in_err-shop-clause-comes g c =
     turned _ c.in_err-shop.field-0.0
     (ReportComes (g.F.Files.bytes c.args.files.now) c.args.options.now (g.W.Sink.written c.args.output.now)
-    (g.W.Sink.written c.read_shop_telling.new.output)) c.from_residual.ensures.1
+    (g.W.Sink.written c.read_placed_telling.new.output)) c.from_residual.ensures.1
     (inl (subst (λ (f : Form). TellsRefusal f (g.F.Files.bytes c.args.files.now) (Some c.args.options.now.machine.now) (Some c.args.options.now.tools.now)
-    (g.W.Sink.written c.args.output.now) (g.W.Sink.written c.read_shop_telling.new.output) c.in_err-shop.field-0.0)
+    (g.W.Sink.written c.args.output.now) (g.W.Sink.written c.read_placed_telling.new.output) c.in_err-shop.field-0.0)
     (ap (λ r. r.form) c.request_of-request.ensures) c.in_err-shop.ensures.said))
 
 pub returns-in_err-tell_faults-clause-comes : goal.returns-in_err-tell_faults-clause-comes
@@ -33,11 +33,11 @@ returns-in_err-tell_faults-clause-comes g c =
     turned _ fault (ReportComes (g.F.Files.bytes c.args.files.now) c.args.options.now (g.W.Sink.written c.args.output.now) new)
     c.from_residual-in_err-tell_faults.ensures.1
     (subst (λ (o : Option (List ℕ)). ReportComes (g.F.Files.bytes c.args.files.now) c.args.options.now o new (Err fault)) c.in_ok-shop.ensures.said.1
-    (faults_comes (g.F.Files.bytes c.args.files.now) (g.F.Files.bytes c.read_shop_telling.new.files) c.args.options.now c.in_ok-shop.shop
-    (g.F.Files.bytes c.read_shop_telling.new.files (option_map (λ n. n.now) c.args.options.now.program)) (g.W.Sink.written c.read_shop_telling.new.output)
-    c.in_ok-shop.ensures.said.0 c.read_shop_telling.ensures.keeps refl new fault c.in_err-tell_faults.ensures.all
-    (subst (λ (f : Form). IfSome (g.F.Files.bytes c.read_shop_telling.new.files (option_map (λ n. n.now) c.args.options.now.program))
-    (λ text. TellsFaults (setup_of c.in_ok-shop.shop.machine c.in_ok-shop.shop.tools) f text (g.W.Sink.written c.read_shop_telling.new.output) new fault))
+    (faults_comes (g.F.Files.bytes c.args.files.now) (g.F.Files.bytes c.read_placed_telling.new.files) c.args.options.now c.in_ok-shop.shop
+    (g.F.Files.bytes c.read_placed_telling.new.files (option_map (λ n. n.now) c.args.options.now.program)) (g.W.Sink.written c.read_placed_telling.new.output)
+    c.in_ok-shop.ensures.said.0 c.read_placed_telling.ensures.keeps refl new fault c.in_err-tell_faults.ensures.all
+    (subst (λ (f : Form). IfSome (g.F.Files.bytes c.read_placed_telling.new.files (option_map (λ n. n.now) c.args.options.now.program))
+    (λ text. TellsFaults (setup_of c.in_ok-shop.shop.machine c.in_ok-shop.shop.tools) f text (g.W.Sink.written c.read_placed_telling.new.output) new fault))
     (ap (λ r. r.form) c.request_of-request.ensures) c.in_err-tell_faults.ensures.told)))
 
 pub returns-in_err-source-clause-comes : goal.returns-in_err-source-clause-comes
@@ -53,7 +53,7 @@ returns-in-Ok-clause-comes g c =
     subst (λ (o : Option (List ℕ)). ReportsOn (g.F.Files.bytes c.args.files.now) c.args.options.now o new (Ok tt)) (c.in_ok-tell_faults.ensures.silent ∙ c.in_ok-shop.ensures.said.1)
     (reported_files (g.F.Files.bytes c.args.files.now) (g.F.Files.bytes c.tell_faults.new.files) c.args.options.now c.in_ok-shop.shop _
     (g.W.Sink.written c.tell_faults.new.output) new (Ok tt)
-    c.in_ok-shop.ensures.said.0 (λ n. c.tell_faults.ensures.keeps n ∙ c.read_shop_telling.ensures.keeps n) c.in_ok-source.ensures.bytes
+    c.in_ok-shop.ensures.said.0 (λ n. c.tell_faults.ensures.keeps n ∙ c.read_placed_telling.ensures.keeps n) c.in_ok-source.ensures.bytes
     (asked c.args.options.now c.in_ok-shop.shop c.request_of-request.result _ _ _ (Ok tt) c.request_of-request.ensures c.in-Ok.ensures.reports))
 
 pub returns-in-None-clause-comes : goal.returns-in-None-clause-comes
@@ -63,7 +63,7 @@ returns-in-None-clause-comes g c =
     subst (λ (o : Option (List ℕ)). ReportComes (g.F.Files.bytes c.args.files.now) c.args.options.now o new (Err fault)) (c.in_ok-tell_faults.ensures.silent ∙ c.in_ok-shop.ensures.said.1)
     (reported_comes (g.F.Files.bytes c.args.files.now) (g.F.Files.bytes c.tell_faults.new.files) c.args.options.now c.in_ok-shop.shop _
     (g.W.Sink.written c.tell_faults.new.output)
-    c.in_ok-shop.ensures.said.0 (λ n. c.tell_faults.ensures.keeps n ∙ c.read_shop_telling.ensures.keeps n) c.in_ok-source.ensures.bytes new fault c.in-Err.ensures.faults
+    c.in_ok-shop.ensures.said.0 (λ n. c.tell_faults.ensures.keeps n ∙ c.read_placed_telling.ensures.keeps n) c.in_ok-source.ensures.bytes new fault c.in-Err.ensures.faults
     (asked c.args.options.now c.in_ok-shop.shop c.request_of-request.result _ _ _ (Err fault) c.request_of-request.ensures c.in-Err.ensures.reports))
 
 pub returns-clause-comes : goal.returns-clause-comes
@@ -73,7 +73,7 @@ returns-clause-comes g c =
     subst (λ (o : Option (List ℕ)). ReportComes (g.F.Files.bytes c.args.files.now) c.args.options.now o new (Err fault)) (c.in_ok-tell_faults.ensures.silent ∙ c.in_ok-shop.ensures.said.1)
     (reported_comes (g.F.Files.bytes c.args.files.now) (g.F.Files.bytes c.tell_faults.new.files) c.args.options.now c.in_ok-shop.shop _
     (g.W.Sink.written c.tell_faults.new.output)
-    c.in_ok-shop.ensures.said.0 (λ n. c.tell_faults.ensures.keeps n ∙ c.read_shop_telling.ensures.keeps n) c.in_ok-source.ensures.bytes new fault c.in-Err.ensures.faults
+    c.in_ok-shop.ensures.said.0 (λ n. c.tell_faults.ensures.keeps n ∙ c.read_placed_telling.ensures.keeps n) c.in_ok-source.ensures.bytes new fault c.in-Err.ensures.faults
     (asked c.args.options.now c.in_ok-shop.shop c.request_of-request.result _ _ _ (Err fault) c.request_of-request.ensures c.in-Err.ensures.reports))
 
 pub returns-in-Read-clause-comes : goal.returns-in-Read-clause-comes
@@ -88,7 +88,7 @@ returns-in-Read-clause-comes g c =
     subst (λ (o : Option (List ℕ)). ReportComes (g.F.Files.bytes c.args.files.now) c.args.options.now o new (Err answer)) (c.in_ok-tell_faults.ensures.silent ∙ c.in_ok-shop.ensures.said.1)
     (told_comes (g.F.Files.bytes c.args.files.now) (g.F.Files.bytes c.tell_faults.new.files) c.args.options.now shop
     (g.F.R.Source.remaining c.in_ok-source.source)
-    (g.W.Sink.written c.tell_faults.new.output) c.in_ok-shop.ensures.said.0 (λ n. c.tell_faults.ensures.keeps n ∙ c.read_shop_telling.ensures.keeps n) c.in_ok-source.ensures.bytes
+    (g.W.Sink.written c.tell_faults.new.output) c.in_ok-shop.ensures.said.0 (λ n. c.tell_faults.ensures.keeps n ∙ c.read_placed_telling.ensures.keeps n) c.in_ok-source.ensures.bytes
     (g.F.Files.bytes c.open_file.new.files) name mid new c.in-Read.fault answer c.tell_unreadable-told.ensures.faults
     (ap (option_map (λ n. n.now)) c.in-Some.is) (c.in_ok-source.ensures.keeps (subst IsSome (sym c.in-Some.is) refl))
     (subst (λ (f : AnswerFault). IfSome (g.F.R.Source.remaining c.in_ok-source.source)
@@ -111,12 +111,12 @@ returns-in_err-tell_faults-clause-unread g c =
     let program = option_map (λ n. n.now) c.args.options.now.program in
     unread_told (SourceFails g.F.R.Source.remaining g.F.R.Source.failures) (g.F.Files.bytes c.args.files.now) (report_inputs c.args.options.now) _ _ _
     c.in_err-tell_faults.field-0.0 c.from_residual-in_err-tell_faults.ensures.1
-    (told_behind (SourceFails g.F.R.Source.remaining g.F.R.Source.failures) (g.F.Files.bytes c.args.files.now) (g.F.Files.bytes c.read_shop_telling.new.files)
+    (told_behind (SourceFails g.F.R.Source.remaining g.F.R.Source.failures) (g.F.Files.bytes c.args.files.now) (g.F.Files.bytes c.read_placed_telling.new.files)
     (shop_inputs (Some c.args.options.now.machine.now) (Some c.args.options.now.tools.now)) OfProgram program [] _ _ _
     (unread_by c.in_err-tell_faults.field-0.0)
-    (shop_read (g.F.Files.bytes c.args.files.now) (Some c.args.options.now.machine.now)
-    (Some c.args.options.now.tools.now) c.in_ok-shop.shop c.in_ok-shop.ensures.said.0)
-    (c.read_shop_telling.ensures.keeps program) c.in_ok-shop.ensures.unread c.in_err-tell_faults.ensures.unread)
+    (placed_read (g.F.Files.bytes c.args.files.now) (Some c.args.options.now.machine.now)
+    (Some c.args.options.now.tools.now) c.args.options.now.origins c.in_ok-shop.shop c.in_ok-shop.ensures.said.0)
+    (c.read_placed_telling.ensures.keeps program) c.in_ok-shop.ensures.unread c.in_err-tell_faults.ensures.unread)
 
 pub returns-in_err-source-clause-unread : goal.returns-in_err-source-clause-unread
 returns-in_err-source-clause-unread g c =
@@ -125,20 +125,20 @@ returns-in_err-source-clause-unread g c =
     (unopened (SourceFails g.F.R.Source.remaining g.F.R.Source.failures) (g.F.Files.bytes c.args.files.now)
     (shop_inputs (Some c.args.options.now.machine.now) (Some c.args.options.now.tools.now)) OfProgram
     (option_map (λ n. n.now) c.args.options.now.program) [] _ _ _ c.in_err-source.field-0.0 c.in_err-source.ensures.fault
-    (shop_read (g.F.Files.bytes c.args.files.now) (Some c.args.options.now.machine.now)
-    (Some c.args.options.now.tools.now) c.in_ok-shop.shop c.in_ok-shop.ensures.said.0) (c.in_ok-tell_faults.ensures.unread ∙ c.in_ok-shop.ensures.unread) c.in_err-source.ensures.counts)
+    (placed_read (g.F.Files.bytes c.args.files.now) (Some c.args.options.now.machine.now)
+    (Some c.args.options.now.tools.now) c.args.options.now.origins c.in_ok-shop.shop c.in_ok-shop.ensures.said.0) (c.in_ok-tell_faults.ensures.unread ∙ c.in_ok-shop.ensures.unread) c.in_err-source.ensures.counts)
 
 pub returns-in-None-clause-unread : goal.returns-in-None-clause-unread
 returns-in-None-clause-unread g c =
     certify_told (SourceFails g.F.R.Source.remaining g.F.R.Source.failures) (g.F.Files.bytes c.args.files.now)
     (shop_inputs (Some c.args.options.now.machine.now) (Some c.args.options.now.tools.now))
     (option_map (λ n. n.now) c.args.options.now.program) _ _ c.in-Err.fault c.in-Err.ensures.faults
-    (shop_read (g.F.Files.bytes c.args.files.now) (Some c.args.options.now.machine.now)
-    (Some c.args.options.now.tools.now) c.in_ok-shop.shop c.in_ok-shop.ensures.said.0) (c.in_ok-source.ensures.counts ∙ (c.in_ok-tell_faults.ensures.unread ∙ c.in_ok-shop.ensures.unread))
+    (placed_read (g.F.Files.bytes c.args.files.now) (Some c.args.options.now.machine.now)
+    (Some c.args.options.now.tools.now) c.args.options.now.origins c.in_ok-shop.shop c.in_ok-shop.ensures.said.0) (c.in_ok-source.ensures.counts ∙ (c.in_ok-tell_faults.ensures.unread ∙ c.in_ok-shop.ensures.unread))
     (λ is. record {
       opened = c.in_ok-source.source;
       left = c.report_program.new.source;
-      gave = c.in_ok-source.ensures.bytes ∙ (λ (n : Option (List ℕ)). c.tell_faults.ensures.keeps n ∙ c.read_shop_telling.ensures.keeps n) (option_map (λ n. n.now) c.args.options.now.program);
+      gave = c.in_ok-source.ensures.bytes ∙ (λ (n : Option (List ℕ)). c.tell_faults.ensures.keeps n ∙ c.read_placed_telling.ensures.keeps n) (option_map (λ n. n.now) c.args.options.now.program);
       fails = c.in-Err.ensures.source (ap Err is);
     })
 
@@ -147,12 +147,12 @@ returns-clause-unread g c =
     certify_told (SourceFails g.F.R.Source.remaining g.F.R.Source.failures) (g.F.Files.bytes c.args.files.now)
     (shop_inputs (Some c.args.options.now.machine.now) (Some c.args.options.now.tools.now))
     (option_map (λ n. n.now) c.args.options.now.program) _ _ c.in-Err.fault c.in-Err.ensures.faults
-    (shop_read (g.F.Files.bytes c.args.files.now) (Some c.args.options.now.machine.now)
-    (Some c.args.options.now.tools.now) c.in_ok-shop.shop c.in_ok-shop.ensures.said.0) (c.in_ok-source.ensures.counts ∙ (c.in_ok-tell_faults.ensures.unread ∙ c.in_ok-shop.ensures.unread))
+    (placed_read (g.F.Files.bytes c.args.files.now) (Some c.args.options.now.machine.now)
+    (Some c.args.options.now.tools.now) c.args.options.now.origins c.in_ok-shop.shop c.in_ok-shop.ensures.said.0) (c.in_ok-source.ensures.counts ∙ (c.in_ok-tell_faults.ensures.unread ∙ c.in_ok-shop.ensures.unread))
     (λ is. record {
       opened = c.in_ok-source.source;
       left = c.report_program.new.source;
-      gave = c.in_ok-source.ensures.bytes ∙ (λ (n : Option (List ℕ)). c.tell_faults.ensures.keeps n ∙ c.read_shop_telling.ensures.keeps n) (option_map (λ n. n.now) c.args.options.now.program);
+      gave = c.in_ok-source.ensures.bytes ∙ (λ (n : Option (List ℕ)). c.tell_faults.ensures.keeps n ∙ c.read_placed_telling.ensures.keeps n) (option_map (λ n. n.now) c.args.options.now.program);
       fails = c.in-Err.ensures.source (ap Err is);
     })
 
@@ -164,9 +164,9 @@ returns-in-Read-clause-unread g c =
     program_again (SourceFails g.F.R.Source.remaining g.F.R.Source.failures) (g.F.Files.bytes c.args.files.now) (g.F.Files.bytes c.open_file.new.files)
     (shop_inputs (Some c.args.options.now.machine.now) (Some c.args.options.now.tools.now))
     (option_map (λ n. n.now) c.args.options.now.program) name _ _ _ c.tell_unreadable-told.result named
-    (shop_read (g.F.Files.bytes c.args.files.now) (Some c.args.options.now.machine.now)
-    (Some c.args.options.now.tools.now) c.in_ok-shop.shop c.in_ok-shop.ensures.said.0)
-    (keeps_later (Some name) ∙ (λ (n : Option (List ℕ)). c.tell_faults.ensures.keeps n ∙ c.read_shop_telling.ensures.keeps n) (Some name)) (c.in_ok-source.ensures.counts ∙ (c.in_ok-tell_faults.ensures.unread ∙ c.in_ok-shop.ensures.unread))
+    (placed_read (g.F.Files.bytes c.args.files.now) (Some c.args.options.now.machine.now)
+    (Some c.args.options.now.tools.now) c.args.options.now.origins c.in_ok-shop.shop c.in_ok-shop.ensures.said.0)
+    (keeps_later (Some name) ∙ (λ (n : Option (List ℕ)). c.tell_faults.ensures.keeps n ∙ c.read_placed_telling.ensures.keeps n) (Some name)) (c.in_ok-source.ensures.counts ∙ (c.in_ok-tell_faults.ensures.unread ∙ c.in_ok-shop.ensures.unread))
     (c.tell_unreadable-told.ensures.unread (λ is. record {
       opened = c.in_ok-source.source;
       left = c.report_program.new.source;
