@@ -36,8 +36,8 @@ use Rattle.ngc_run_log.specs.declared.live_fault.LiveFault.{LiveFault}
 use Rattle.ngc_run_log.specs.declared.live_fault.LiveFault.TheVariants as live
 use Rattle.ngc_run_log.specs.declared.report.RunFault.{RunFault}
 use Rattle.ngc_run_log.specs.declared.report.RunFault.TheVariants as runs
-use Rattle.ngc_program_report.specs.declared.report_fault.ReportFault.{ReportFault}
-use Rattle.ngc_program_report.specs.declared.report_fault.ReportFault.TheVariants as reports
+use Rattle.ngc_report.specs.declared.report_fault.ReportFault.{ReportFault}
+use Rattle.ngc_report.specs.declared.report_fault.ReportFault.TheVariants as reports
 use Rattle.ngc_inputs.specs.declared.fault.AnswerFault.{AnswerFault}
 use Rattle.ngc_inputs.specs.declared.fault.AnswerFault.TheVariants as answers
 

@@ -13,7 +13,7 @@ use ngc_drawing::DrawFault;
 use ngc_events::EventsFault;
 use ngc_line_reader::ReadFault;
 use ngc_machine_files::FileFault;
-use ngc_program_report::ReportFault;
+use ngc_report::ReportFault;
 use ngc_run_log::{LiveFault, RunFault};
 use ngc_text::{InputFault, WriteFault};
 use thiserror::Error;

@@ -1,5 +1,5 @@
 -- A text that is written in pieces, from the text of each piece.
-use Rattle.std.proofs.Common.{◌≡◌, ℕ, List, ◌++◌, Option, Result, Ok, Err, OnOk, OnErr, IsErrAnd, ap, subst, sym, ◌∙◌}
+use Rattle.std.proofs.Common.{◌≡◌, ℕ, List, ◌++◌, Option, Result, Ok, Err, OnOk, OnErr, ap, subst, sym, ◌∙◌}
 use Rattle.std.proofs.lemmas.List.{append_assoc}
 use Rattle.std.specs.Io.KnownBytes.{Appends}
 use Rattle.ngc_text.proofs.Appended.{appends_both}
@@ -32,8 +32,3 @@ on_err (Err e) P p = p
 pub err_weaker : (r : Result (Unit {0}) WriteFault) (P Q : Type 0) → (P → Q) → OnErr r P → OnErr r Q
 err_weaker (Ok u) P Q on p = tt
 err_weaker (Err e) P Q on p = on p
-
--- what holds for an error holds for the result to which it was converted
-pub turned : {T E : Type 0} (r : Result T E) (e : E) (P : Result T E → Type 0) → IsErrAnd r (λ a. a ≡ e) → P (Err e) → P r
-turned (Ok value) e P is p = absurd is
-turned (Err a) e P is p = subst (λ x. P (Err x)) (sym is) p

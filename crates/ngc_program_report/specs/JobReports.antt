@@ -27,8 +27,8 @@ use Rattle.ngc_certificate.specs.Valid.{IsValid}
 use Rattle.ngc_job.specs.Job.{JobData, commands_in}
 use Rattle.ngc_report.specs.Reports.{fit_lines, is_line_inside}
 use Rattle.ngc_report.specs.declared.form.Form.{Form}
-use Rattle.ngc_program_report.specs.declared.report_fault.ReportFault.{ReportFault}
-use Rattle.ngc_program_report.specs.declared.report_fault.ReportFault.TheVariants as faults
+use Rattle.ngc_report.specs.declared.report_fault.ReportFault.{ReportFault}
+use Rattle.ngc_report.specs.declared.report_fault.ReportFault.TheVariants as faults
 use Rattle.ngc_program_report.specs.declared.request.ReportRequest.{ReportRequest}
 use Rattle.ngc_program_report.specs.Coordinates.{History, history_of, line_of}
 use Rattle.ngc_program_report.specs.Texts.{LastsFor, fits_text, is_on, refusal_text, refusals_text}

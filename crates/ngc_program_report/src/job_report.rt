@@ -18,7 +18,6 @@ ghost use Rattle.ngc_program_report.specs.JobReports.{first_text};
 use crate::coordinates::line_of;
 use crate::fit_writer::{is_on, write_both, write_once};
 use crate::refusal_writer::{is_start_refused, write_all_both, write_all_once, write_refused};
-use crate::report_fault::ReportFault;
 use crate::request::ReportRequest;
 use crate::timing::{accept, time_of};
 use ngc_certificate::{MakeFault, MemoryFault, Setting, uncleared, uncleared_from};
@@ -28,7 +27,7 @@ use ngc_frames::{FrameHistory, FrameInForce, OutOfMemory, frame_history};
 use ngc_job::Job;
 use ngc_line_reader::Program;
 use ngc_origins::Origins;
-use ngc_report::Form;
+use ngc_report::{Form, ReportFault};
 use ngc_text::{Sink, WriteFault};
 use std::alloc::Allocator;
 

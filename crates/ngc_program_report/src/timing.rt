@@ -8,11 +8,11 @@ ghost use Rattle.ngc_job.specs.Job.{commands_in};
 ghost use Rattle.ngc_program_report.specs.Texts.{LastsFor};
 
 use crate::program_time::ProgramTime;
-use crate::report_fault::ReportFault;
 use crate::run_time::RunTime;
 use ngc_certificate_text::Certificate;
 use ngc_checker::{Accepted, check_job};
 use ngc_job::Job;
+use ngc_report::ReportFault;
 use ngc_run_log::time_through;
 use std::alloc::Allocator;
 

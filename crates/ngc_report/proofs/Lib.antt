@@ -1,3 +1,5 @@
+-- What holds of a converted error.
+pub mod Converted
 -- Tests of whole numbers.
 pub mod Tests
 -- How far a command must move to be clear of an obstacle.

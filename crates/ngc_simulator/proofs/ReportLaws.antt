@@ -36,8 +36,8 @@ use Rattle.ngc_program_report.specs.declared.request.ReportRequest.{ReportReques
 use Rattle.ngc_certificate.specs.Uncleared.{AreUncleared}
 use Rattle.ngc_inputs.specs.Setups.{FileBytes, KeepsFiles}
 use Rattle.ngc_inputs.specs.Shops.{GivesPlaced}
-use Rattle.ngc_program_report.specs.declared.report_fault.ReportFault.{ReportFault}
-use Rattle.ngc_program_report.specs.declared.report_fault.ReportFault.TheVariants as faults
+use Rattle.ngc_report.specs.declared.report_fault.ReportFault.{ReportFault}
+use Rattle.ngc_report.specs.declared.report_fault.ReportFault.TheVariants as faults
 use Rattle.ngc_program_report.specs.JobReports.{FailsByWriting}
 use Rattle.ngc_inputs.specs.Faults.{FailsWith, OfCertifying, of_report}
 use Rattle.ngc_inputs.specs.declared.fault.AnswerFault.{AnswerFault}

@@ -1,7 +1,7 @@
 use Rattle.std.specs.Prelude.{option_map}
 use Rattle.ngc_machine_files.specs.Machine.{file_of}
 use Rattle.ngc_inputs.specs.Unread.{OfMachine, OfTools, SourceFails, setup_input, shop_inputs, unread_by}
-use Rattle.ngc_program_report.proofs.WrittenLaws.{turned}
+use Rattle.ngc_report.proofs.Converted.{turned}
 use Rattle.ngc_inputs.proofs.SetupLaws.{refused_machine, refused_tools}
 use Rattle.ngc_inputs.proofs.UnreadLaws.{machine_read, told_before, tools_told, unread_told}
 use Rattle.ngc_inputs.specs.Shops.{GivesShop}

@@ -7,9 +7,9 @@ use Rattle.ngc_machine_files.specs.Machine.{file_of}
 use Rattle.ngc_program_report.specs.Coordinates.{history_of}
 use Rattle.ngc_program_report.specs.JobReports.{IsRefusalsText, IsStartClear, OffBegins, OnBegins, Tells}
 use Rattle.ngc_program_report.specs.Texts.{refusals_text}
-use Rattle.ngc_program_report.specs.declared.report_fault.ReportFault.TheVariants as faults
+use Rattle.ngc_report.specs.declared.report_fault.ReportFault.TheVariants as faults
 use Rattle.ngc_program_report.proofs.JobTexts.{alike, all_text, are_alike, once_begins}
-use Rattle.ngc_program_report.proofs.WrittenLaws.{turned}
+use Rattle.ngc_report.proofs.Converted.{turned}
 use Rattle.ngc_program_report.proofs.job_report.report_all.Goals as goal
 
 pub returns-in_err-write_all_once-clause-tells : goal.returns-in_err-write_all_once-clause-tells

@@ -3,9 +3,9 @@ use Rattle.std.specs.Prelude.{is_some}
 use Rattle.ngc_certificate_text.specs.Contents.{said_of}
 use Rattle.ngc_line_reader.specs.ProgramView.{text_in}
 use Rattle.ngc_program_report.specs.JobReports.{IsFitText, Tells}
-use Rattle.ngc_program_report.specs.declared.report_fault.ReportFault.TheVariants as faults
+use Rattle.ngc_report.specs.declared.report_fault.ReportFault.TheVariants as faults
 use Rattle.ngc_program_report.proofs.JobTexts.{fit_text, lasts_alike, lasts_off, lasts_on}
-use Rattle.ngc_program_report.proofs.WrittenLaws.{turned}
+use Rattle.ngc_report.proofs.Converted.{turned}
 use Rattle.ngc_program_report.proofs.job_report.report_fit.Goals as goal
 
 pub returns-then-not-apart-clause-tells : goal.returns-then-not-apart-clause-tells

@@ -1,8 +1,8 @@
 use Rattle.std.proofs.Common.{Bool, Err, refl, subst, sym}
 use Rattle.ngc_line_reader.specs.ProgramView.{text_in}
 use Rattle.ngc_program_report.specs.JobReports.{IsRefusalText, Tells, first_text}
-use Rattle.ngc_program_report.specs.declared.report_fault.ReportFault.TheVariants as faults
-use Rattle.ngc_program_report.proofs.WrittenLaws.{turned}
+use Rattle.ngc_report.specs.declared.report_fault.ReportFault.TheVariants as faults
+use Rattle.ngc_report.proofs.Converted.{turned}
 use Rattle.ngc_program_report.proofs.job_report.report_refusal.Goals as goal
 
 pub returns-in_err-report_first-clause-tells : goal.returns-in_err-report_first-clause-tells

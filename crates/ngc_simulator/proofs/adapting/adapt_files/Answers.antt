@@ -1,5 +1,5 @@
 use Rattle.std.proofs.Common.{Ok, Err, inr, ◌∙◌}
-use Rattle.ngc_program_report.proofs.WrittenLaws.{turned}
+use Rattle.ngc_report.proofs.Converted.{turned}
 use Rattle.ngc_adapt_program.specs.Programs.{program_written}
 use Rattle.ngc_simulator.specs.Answers.{AdaptComes, adapt_inputs}
 use Rattle.ngc_inputs.specs.Unread.{SourceFails}

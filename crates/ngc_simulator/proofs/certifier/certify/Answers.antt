@@ -4,7 +4,7 @@ use Rattle.ngc_certificate_text.specs.Contents.{form_of}
 use Rattle.ngc_line_reader.specs.ProgramView.{text_in}
 use Rattle.ngc_inputs.specs.Jobs.{Certifies}
 use Rattle.ngc_inputs.specs.declared.fault.AnswerFault.TheVariants as answers
-use Rattle.ngc_program_report.proofs.WrittenLaws.{turned}
+use Rattle.ngc_report.proofs.Converted.{turned}
 use Rattle.ngc_inputs.proofs.JobLaws.{if_known, certified, certifying_stopped, form_for_file, nothing_certified, told_for_file, unmade_for_file}
 use Rattle.ngc_simulator.proofs.certifier.certify.Goals as goal
 

@@ -1,6 +1,6 @@
 use Rattle.std.proofs.Common.{[], ◌∷◌, ◌++◌, Some, Ok, Err, ap, refl, ◌∙◌, inl, inr}
 use Rattle.ngc_simulator.proofs.FileLaws.{checked_files, unread_files}
-use Rattle.ngc_program_report.proofs.WrittenLaws.{turned}
+use Rattle.ngc_report.proofs.Converted.{turned}
 use Rattle.ngc_inputs.proofs.JobLaws.{if_known, keeps_same}
 use Rattle.ngc_simulator.specs.Answers.{certificate_input, program_input, CheckComes, check_inputs}
 use Rattle.ngc_inputs.specs.Faults.{OfChecking}

@@ -3,7 +3,7 @@ use Rattle.ngc_canonical.specs.Interpreter.{setup_of}
 use Rattle.ngc_line_reader.specs.ProgramView.{text_in}
 use Rattle.ngc_inputs.specs.Jobs.{Checks}
 use Rattle.ngc_inputs.specs.declared.fault.AnswerFault.TheVariants as answers
-use Rattle.ngc_program_report.proofs.WrittenLaws.{turned}
+use Rattle.ngc_report.proofs.Converted.{turned}
 use Rattle.ngc_inputs.proofs.JobLaws.{accepted, accepting_stopped, if_known}
 use Rattle.ngc_inputs.proofs.JudgingLaws.{accepted_text_of, first_told, none_told, verdict_on}
 use Rattle.ngc_simulator.proofs.checking.check_program.Goals as goal

@@ -7,7 +7,7 @@ use Rattle.ngc_simulator.specs.Drawing.{DrawsGiven, IsGivenRefusal, fault_at, re
 use Rattle.ngc_inputs.specs.Faults.{of_picture}
 use Rattle.ngc_inputs.specs.declared.fault.AnswerFault.TheVariants as answers
 use Rattle.ngc_simulator.proofs.DrawLaws.{drawing_stopped, drawn, given_fault, given_stopped, no_memory, refused_program}
-use Rattle.ngc_program_report.proofs.WrittenLaws.{turned}
+use Rattle.ngc_report.proofs.Converted.{turned}
 use Rattle.ngc_inputs.proofs.JobLaws.{keeps_same}
 use Rattle.ngc_simulator.proofs.drawing.draw_certified.Goals as goal
 

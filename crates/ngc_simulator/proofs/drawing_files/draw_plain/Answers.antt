@@ -6,7 +6,7 @@ use Rattle.ngc_inputs.specs.Faults.{OfDrawing}
 use Rattle.ngc_inputs.specs.Unread.{OfProgram, SourceFails, program_unread, shop_inputs, unread_by}
 use Rattle.ngc_simulator.proofs.DrawLaws.{plain_files}
 use Rattle.ngc_simulator.proofs.FileLaws.{or_of_reading}
-use Rattle.ngc_program_report.proofs.WrittenLaws.{turned}
+use Rattle.ngc_report.proofs.Converted.{turned}
 use Rattle.ngc_inputs.proofs.JobLaws.{keeps_same}
 use Rattle.ngc_inputs.proofs.UnreadLaws.{draw_told, placed_read, told_before, told_behind, unread_told}
 use Rattle.ngc_simulator.proofs.drawing_files.draw_plain.Goals as goal

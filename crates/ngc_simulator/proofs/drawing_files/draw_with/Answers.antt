@@ -9,7 +9,7 @@ use Rattle.ngc_inputs.specs.Faults.{OfDrawing}
 use Rattle.ngc_inputs.specs.Unread.{Input, OfCertificate, OfProgram, SourceFails, certificate_unread, program_unread, shop_inputs, unread_by}
 use Rattle.ngc_simulator.proofs.DrawLaws.{given_files, with_certificate}
 use Rattle.ngc_simulator.proofs.FileLaws.{all_known, or_of_reading}
-use Rattle.ngc_program_report.proofs.WrittenLaws.{turned}
+use Rattle.ngc_report.proofs.Converted.{turned}
 use Rattle.ngc_inputs.proofs.JobLaws.{keeps_same}
 use Rattle.ngc_simulator.proofs.RunLaws.{no_certificate}
 use Rattle.ngc_inputs.proofs.UnreadLaws.{Told, all_read, draw_told, is_read, placed_read, told_before, told_behind, unread_told}

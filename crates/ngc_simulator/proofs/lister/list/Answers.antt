@@ -2,7 +2,7 @@ use Rattle.std.proofs.Common.{IfSome}
 use Rattle.ngc_canonical.specs.Interpreter.{setup_of}
 use Rattle.ngc_simulator.specs.Lists.{Lists}
 use Rattle.ngc_inputs.specs.declared.fault.AnswerFault.TheVariants as answers
-use Rattle.ngc_program_report.proofs.WrittenLaws.{turned}
+use Rattle.ngc_report.proofs.Converted.{turned}
 use Rattle.ngc_simulator.proofs.ListLaws.{write_stopped}
 use Rattle.ngc_simulator.proofs.lister.list.Goals as goal
 

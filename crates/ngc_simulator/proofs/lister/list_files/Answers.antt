@@ -1,6 +1,6 @@
 use Rattle.std.proofs.Common.{[], ◌∷◌, Ok, Err, ap, ◌∙◌, inl, inr}
 use Rattle.ngc_simulator.proofs.FileLaws.{listed}
-use Rattle.ngc_program_report.proofs.WrittenLaws.{turned}
+use Rattle.ngc_report.proofs.Converted.{turned}
 use Rattle.ngc_inputs.proofs.JobLaws.{keeps_same}
 use Rattle.ngc_simulator.specs.Answers.{program_input, ListComes, list_inputs}
 use Rattle.ngc_inputs.specs.Unread.{OfProgram, SourceFails, shop_inputs, unread_by}

@@ -4,7 +4,7 @@ use Rattle.ngc_text.specs.declared.input_fault.InputFault.TheVariants as inputs
 use Rattle.ngc_inputs.specs.Faults.{FailsByOutput, OfLiving, of_live, of_run}
 use Rattle.ngc_simulator.specs.Lives.{Lives}
 use Rattle.ngc_inputs.specs.declared.fault.AnswerFault.TheVariants as answers
-use Rattle.ngc_program_report.proofs.WrittenLaws.{turned}
+use Rattle.ngc_report.proofs.Converted.{turned}
 use Rattle.ngc_simulator.proofs.LiveLaws.{device_failed, live_failed, live_refused, live_unmade, lived, of_living, output_failed}
 use Rattle.ngc_simulator.proofs.living.run_live.Goals as goal
 

@@ -1,6 +1,6 @@
 use Rattle.std.proofs.Common.{rules, ℕ, List, Some, Ok, Err, Bor, ap}
 use Rattle.std.specs.Prelude.{option_map}
-use Rattle.ngc_program_report.proofs.WrittenLaws.{turned}
+use Rattle.ngc_report.proofs.Converted.{turned}
 use Rattle.ngc_simulator.specs.Answers.{MachineComes}
 use Rattle.ngc_simulator.proofs.AdaptLaws.{made_of}
 use Rattle.ngc_simulator.proofs.MakingLaws.{make_failed}

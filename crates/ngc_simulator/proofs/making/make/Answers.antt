@@ -3,7 +3,7 @@ use Rattle.std.specs.Prelude.{option_map}
 use Rattle.ngc_machine_maker.specs.File.{file_text}
 use Rattle.ngc_machine_maker.specs.declared.numbers.MachineNumbers.{MachineNumbers}
 use Rattle.ngc_machine_maker.specs.declared.refusal.FigureRefusal.{FigureRefusal}
-use Rattle.ngc_program_report.proofs.WrittenLaws.{turned}
+use Rattle.ngc_report.proofs.Converted.{turned}
 use Rattle.ngc_text.specs.Written.{AppendsBeginning}
 use Rattle.std.specs.Io.KnownBytes.{Appends}
 use Rattle.ngc_simulator.specs.Making.{Makes, WritesNumbers}

@@ -5,7 +5,7 @@ use Rattle.ngc_line_reader.specs.ProgramView.{text_in}
 use Rattle.ngc_inputs.specs.Faults.{FailsByOutput, OfCertifying, of_report}
 use Rattle.ngc_inputs.specs.Jobs.{IsUnmade}
 use Rattle.ngc_simulator.specs.Reporting.{Reports}
-use Rattle.ngc_program_report.proofs.WrittenLaws.{turned}
+use Rattle.ngc_report.proofs.Converted.{turned}
 use Rattle.ngc_inputs.proofs.JobLaws.{if_known}
 use Rattle.ngc_simulator.proofs.ReportLaws.{fit_stopped, refusal_stopped, rejected, report_faults, report_sink, told_fit, told_refusal}
 use Rattle.ngc_simulator.proofs.reporting.report_program.Goals as goal

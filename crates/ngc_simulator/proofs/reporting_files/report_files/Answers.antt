@@ -2,7 +2,7 @@ use Rattle.std.proofs.Common.{ℕ, List, [], ◌∷◌, Option, Some, Ok, Err, I
 use Rattle.ngc_canonical.specs.Interpreter.{setup_of}
 use Rattle.ngc_report.specs.declared.form.Form.{Form}
 use Rattle.std.specs.Io.KnownBytes.{Keeps}
-use Rattle.ngc_program_report.proofs.WrittenLaws.{turned}
+use Rattle.ngc_report.proofs.Converted.{turned}
 use Rattle.ngc_inputs.proofs.JobLaws.{keeps_same}
 use Rattle.ngc_simulator.proofs.ReportLaws.{asked, reported_files}
 use Rattle.ngc_simulator.specs.Answers.{ReportComes, ReportsOn, program_input, request_of, report_inputs}

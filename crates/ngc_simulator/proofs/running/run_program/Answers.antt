@@ -2,7 +2,7 @@ use Rattle.std.proofs.Common.{Ok, Err}
 use Rattle.ngc_inputs.specs.Faults.{of_run}
 use Rattle.ngc_simulator.specs.Running.{Runs}
 use Rattle.ngc_inputs.specs.declared.fault.AnswerFault.TheVariants as answers
-use Rattle.ngc_program_report.proofs.WrittenLaws.{turned}
+use Rattle.ngc_report.proofs.Converted.{turned}
 use Rattle.ngc_simulator.proofs.RunLaws.{events_refused, run_failed, run_refused, ran_over}
 use Rattle.ngc_simulator.proofs.running.run_program.Goals as goal
 

@@ -13,7 +13,7 @@ use Rattle.ngc_simulator.specs.Showing.{Shows, shown_text}
 use Rattle.ngc_inputs.specs.declared.fault.AnswerFault.{AnswerFault}
 use Rattle.ngc_inputs.specs.declared.fault.AnswerFault.TheVariants as answers
 use Rattle.ngc_inputs.specs.declared.setup.Shop.{Shop}
-use Rattle.ngc_program_report.proofs.WrittenLaws.{turned}
+use Rattle.ngc_report.proofs.Converted.{turned}
 use Rattle.ngc_inputs.proofs.SetupLaws.{on_setup}
 use Rattle.ngc_simulator.proofs.showing.show_files.Goals as goal
 

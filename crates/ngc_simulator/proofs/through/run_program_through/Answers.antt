@@ -2,7 +2,7 @@ use Rattle.std.proofs.Common.{Ok, Err}
 use Rattle.ngc_inputs.specs.Faults.{of_run}
 use Rattle.ngc_simulator.specs.Running.{RunsThrough}
 use Rattle.ngc_inputs.specs.declared.fault.AnswerFault.TheVariants as answers
-use Rattle.ngc_program_report.proofs.WrittenLaws.{turned}
+use Rattle.ngc_report.proofs.Converted.{turned}
 use Rattle.ngc_simulator.proofs.RunLaws.{through_failed, through_refused, went_through}
 use Rattle.ngc_simulator.proofs.through.run_program_through.Goals as goal
 

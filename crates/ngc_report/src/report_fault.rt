@@ -1,5 +1,5 @@
 ghost use Rattle.std.specs.Prelude.{◌≡◌};
-ghost use Rattle.ngc_program_report.specs.declared.report_fault.ReportFault.TheVariants.{Write};
+ghost use Rattle.ngc_report.specs.declared.report_fault.ReportFault.TheVariants.{Write};
 
 use ngc_text::WriteFault;
 use thiserror::Error;
