@@ -34,8 +34,8 @@ use Rattle.ngc_machine_files.specs.declared.fault.FileFault.{FileFault}
 use Rattle.ngc_machine_files.specs.declared.fault.FileFault.TheVariants as files
 use Rattle.ngc_run_log.specs.declared.live_fault.LiveFault.{LiveFault}
 use Rattle.ngc_run_log.specs.declared.live_fault.LiveFault.TheVariants as live
-use Rattle.ngc_run_log.specs.declared.report.RunFault.{RunFault}
-use Rattle.ngc_run_log.specs.declared.report.RunFault.TheVariants as runs
+use Rattle.ngc_run_through.specs.declared.report.RunFault.{RunFault}
+use Rattle.ngc_run_through.specs.declared.report.RunFault.TheVariants as runs
 use Rattle.ngc_report.specs.declared.report_fault.ReportFault.{ReportFault}
 use Rattle.ngc_report.specs.declared.report_fault.ReportFault.TheVariants as reports
 use Rattle.ngc_inputs.specs.declared.fault.AnswerFault.{AnswerFault}

@@ -14,7 +14,8 @@ use ngc_events::EventsFault;
 use ngc_line_reader::ReadFault;
 use ngc_machine_files::FileFault;
 use ngc_report::ReportFault;
-use ngc_run_log::{LiveFault, RunFault};
+use ngc_run_log::LiveFault;
+use ngc_run_through::RunFault;
 use ngc_text::{InputFault, WriteFault};
 use thiserror::Error;
 

@@ -19,7 +19,7 @@ use Rattle.ngc_certificate_text.specs.Certificate.{CertificateData, Entry}
 use Rattle.ngc_certificate.specs.PieceFault.{place_fault}
 use Rattle.ngc_checker.specs.Accepted.{AcceptedData}
 use Rattle.ngc_machine_model.specs.Headline.{job_of}
-use Rattle.ngc_run_log.specs.Parts.{IsTimedThrough}
+use Rattle.ngc_run_through.specs.Parts.{IsTimedThrough}
 use Rattle.ngc_frames.specs.InForce.{frame_in_force}
 use Rattle.ngc_frames.specs.declared.in_force.FrameInForce.{FrameInForce}
 use Rattle.ngc_report.specs.Forms.{closing, opening, report_text}

@@ -13,7 +13,7 @@ use ngc_certificate_text::Certificate;
 use ngc_checker::{Accepted, check_job};
 use ngc_job::Job;
 use ngc_report::ReportFault;
-use ngc_run_log::time_through;
+use ngc_run_through::time_through;
 use std::alloc::Allocator;
 
 /// Accepts a job with a certificate that is valid for it.

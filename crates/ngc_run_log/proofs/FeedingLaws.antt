@@ -18,13 +18,13 @@ use Rattle.ngc_machine_model.specs.Step.{LoadCommand, MayTake, Outcome, Step}
 use Rattle.ngc_machine_model.specs.Run.{Run}
 use Rattle.ngc_machine_model.specs.Progress.{GoesOn, is_tick}
 use Rattle.ngc_machine_model.specs.Stretch.{last_state, Stretch}
-use Rattle.ngc_run_log.specs.declared.recorder.Recorder.{Recorder}
+use Rattle.ngc_run_through.specs.declared.recorder.Recorder.{Recorder}
 use Rattle.ngc_run_log.specs.Feeding.{AreBegun, AreGiven, IsFed, IsFedShort, IsLoaded, loads_first}
-use Rattle.ngc_run_log.specs.Policy.{can_load}
-use Rattle.ngc_run_log.specs.Recording.{HasFew, IsCutShort, IsRecorded, Records}
-use Rattle.ngc_run_log.specs.Tracing.{trace_text}
+use Rattle.ngc_run_through.specs.Policy.{can_load}
+use Rattle.ngc_run_through.specs.Recording.{HasFew, IsCutShort, IsRecorded, Records}
+use Rattle.ngc_run_through.specs.Tracing.{trace_text}
 use Rattle.ngc_run_log.proofs.Turns.{turns_left}
-use Rattle.ngc_run_log.proofs.Joined.{begun_behind, few_recorded, none_recorded, one_step, records_joined, same_lengths, stretches_joined}
+use Rattle.ngc_run_through.proofs.Joined.{begun_behind, few_recorded, none_recorded, one_step, records_joined, same_lengths, stretches_joined}
 
 match_map : {P Q R S : Type 0} (b : Bool) → (P → R) → (Q → S) → MatchBool b P Q → MatchBool b R S
 match_map true f g p = f p

@@ -25,26 +25,27 @@ use Rattle.ngc_pulses.specs.Sampling.{SampleState, SampleTick, after_samples, fi
 use Rattle.ngc_pulses.proofs.Sampled.{after_samples-append, after_settled, samples_text-append, whole_settled}
 use Rattle.ngc_run_log.specs.declared.live_form.LiveForm.{LiveForm}
 use Rattle.ngc_run_log.specs.declared.live_form.LiveForm.TheVariants as live
-use Rattle.ngc_run_log.specs.declared.recorder.Recorder.{Recorder}
-use Rattle.ngc_run_log.specs.declared.report.Report.{Report}
-use Rattle.ngc_run_log.specs.declared.switches.Switches.{Switches}
-use Rattle.ngc_run_log.specs.declared.trace.Trace.{Trace}
-use Rattle.ngc_run_log.specs.Forms.{text_as}
-use Rattle.ngc_run_log.specs.declared.text_state.TextState.{TextState}
-use Rattle.ngc_run_log.specs.declared.text_state.TextState.TheVariants as texts
-use Rattle.ngc_run_log.specs.Living.{form_of, paused_at, trace_from, first_paused, paused, LiveData, IsReady, HasRun, IsLive, IsBrokenLive}
-use Rattle.ngc_run_log.specs.Log.{log, text_of}
-use Rattle.ngc_run_log.specs.Times.{ticks_after, timed_log}
-use Rattle.ngc_run_log.proofs.Timed.{ticks_after-append, timed_log-append}
+use Rattle.ngc_run_through.specs.declared.recorder.Recorder.{Recorder}
+use Rattle.ngc_run_through.specs.declared.report.Report.{Report}
+use Rattle.ngc_run_through.specs.declared.switches.Switches.{Switches}
+use Rattle.ngc_run_through.specs.declared.trace.Trace.{Trace}
+use Rattle.ngc_run_through.specs.Forms.{text_as}
+use Rattle.ngc_run_through.specs.declared.text_state.TextState.{TextState}
+use Rattle.ngc_run_through.specs.declared.text_state.TextState.TheVariants as texts
+use Rattle.ngc_run_through.specs.Pauses.{paused_at, trace_from}
+use Rattle.ngc_run_log.specs.Living.{form_of, first_paused, paused, LiveData, IsReady, HasRun, IsLive, IsBrokenLive}
+use Rattle.ngc_run_through.specs.Log.{log, text_of}
+use Rattle.ngc_run_through.specs.Times.{ticks_after, timed_log}
+use Rattle.ngc_run_through.proofs.Timed.{ticks_after-append, timed_log-append}
 use Rattle.ngc_run_log.specs.Feeding.{AreBegun, AreGiven, IsFed, IsFedShort}
-use Rattle.ngc_run_log.specs.Recording.{HasFew}
-use Rattle.ngc_run_log.specs.Runs.{IsRun}
-use Rattle.ngc_run_log.specs.Switching.{AreSwitches}
-use Rattle.ngc_run_log.specs.Tracing.{last_text, opening_text, sample_in, samples_in, ticks_of, trace_after, trace_of, whole_text}
-use Rattle.ngc_run_log.proofs.Comes.{all_begun, all_written, in_time_of, opens_of, safe_of, some_begun}
-use Rattle.ngc_run_log.proofs.Forms.{are_switches, IsTraceOf, text_of_run}
+use Rattle.ngc_run_through.specs.Recording.{HasFew}
+use Rattle.ngc_run_through.specs.Runs.{IsRun}
+use Rattle.ngc_run_through.specs.Switching.{AreSwitches}
+use Rattle.ngc_run_through.specs.Tracing.{last_text, opening_text, sample_in, samples_in, ticks_of, trace_after, trace_of, whole_text}
+use Rattle.ngc_run_through.proofs.Comes.{all_begun, all_written, in_time_of, opens_of, safe_of, some_begun}
+use Rattle.ngc_run_through.proofs.Forms.{are_switches, IsTraceOf, text_of_run}
 use Rattle.ngc_run_log.proofs.FeedingLaws.{begun_joined, begun_all, given_joined}
-use Rattle.ngc_run_log.proofs.Joined.{stretches_joined}
+use Rattle.ngc_run_through.proofs.Joined.{stretches_joined}
 
 -- ---- the trace that continues
 

@@ -9,7 +9,7 @@ use Rattle.ngc_events.specs.Arriving.{Arriving, Begins, HaveArrived, TakesOne}
 use Rattle.ngc_events.proofs.ArrivalLaws.{arrived_begins, longer_begins, stopped_begins}
 use Rattle.ngc_machine_model.specs.State.{Job, State}
 use Rattle.ngc_machine_model.specs.Run.{events_of}
-use Rattle.ngc_run_log.specs.declared.recorder.Recorder.{Recorder}
+use Rattle.ngc_run_through.specs.declared.recorder.Recorder.{Recorder}
 use Rattle.ngc_run_log.specs.declared.live_fault.LiveFault.{LiveFault}
 use Rattle.ngc_run_log.specs.declared.live_form.LiveForm.{LiveForm}
 use Rattle.ngc_run_log.specs.Living.{CutsPiece, Feeds, GivesFront, GivesPiece, HasRun, LiveData, Reaches, live_result}

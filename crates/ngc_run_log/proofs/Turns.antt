@@ -9,10 +9,10 @@ use Rattle.ngc_machine_model.specs.State.{Job, State}
 use Rattle.ngc_machine_model.specs.Step.{Outcome, Step}
 use Rattle.ngc_machine_model.specs.Run.{events_of}
 use Rattle.ngc_machine_model.specs.Progress.{GoesOn}
-use Rattle.ngc_run_log.specs.declared.recorder.Recorder.{Recorder}
-use Rattle.ngc_run_log.specs.Tracing.{trace_text}
-use Rattle.ngc_run_log.specs.Recording.{HasFew, Records, IsRecorded, IsCutShort}
-use Rattle.ngc_run_log.proofs.Joined.{recorded_both, cut_after, one_recorded, one_cut, few_more}
+use Rattle.ngc_run_through.specs.declared.recorder.Recorder.{Recorder}
+use Rattle.ngc_run_through.specs.Tracing.{trace_text}
+use Rattle.ngc_run_through.specs.Recording.{HasFew, Records, IsRecorded, IsCutShort}
+use Rattle.ngc_run_through.proofs.Joined.{recorded_both, cut_after, one_recorded, one_cut, few_more}
 
 -- ---- one more event of a line
 

@@ -8,10 +8,10 @@ use Rattle.ngc_machine_model.specs.State.{Job, State}
 use Rattle.ngc_machine_model.specs.Step.{Outcome}
 use Rattle.ngc_machine_model.specs.Progress.{is_tick}
 use Rattle.ngc_machine_model.specs.Stretch.{Stretch}
-use Rattle.ngc_run_log.specs.declared.recorder.Recorder.{Recorder}
-use Rattle.ngc_run_log.specs.Policy.{can_load}
-use Rattle.ngc_run_log.specs.Recording.{Records}
-use Rattle.ngc_run_log.specs.Tracing.{trace_text}
+use Rattle.ngc_run_through.specs.declared.recorder.Recorder.{Recorder}
+use Rattle.ngc_run_through.specs.Policy.{can_load}
+use Rattle.ngc_run_through.specs.Recording.{Records}
+use Rattle.ngc_run_through.specs.Tracing.{trace_text}
 
 -- A load comes before an event that is sent: the ring is fed, the event is a tick, and the ring has
 -- space for a command that isn't loaded yet.

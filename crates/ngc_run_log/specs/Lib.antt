@@ -1,14 +1,3 @@
-pub mod Log
-pub mod Times
-pub mod Switching
-pub mod Tracing
-pub mod Recording
-pub mod Runs
-pub mod Policy
-pub mod Through
-pub mod Forms
 pub mod LiveFaults
 pub mod Feeding
 pub mod Living
-pub mod Stretches
-pub mod Parts

@@ -22,20 +22,17 @@ use Rattle.ngc_run_log.specs.declared.live_fault.LiveFault.{LiveFault}
 use Rattle.ngc_run_log.specs.declared.live_fault.LiveFault.TheVariants.{Events, Read, Write}
 use Rattle.ngc_run_log.specs.declared.live_form.LiveForm.{LiveForm}
 use Rattle.ngc_run_log.specs.declared.live_form.LiveForm.TheVariants as live
-use Rattle.ngc_run_log.specs.declared.recorder.Recorder.{Recorder}
-use Rattle.ngc_run_log.specs.declared.switches.Switches.{Switches}
-use Rattle.ngc_run_log.specs.declared.text_state.TextState.{TextState}
-use Rattle.ngc_run_log.specs.declared.text_state.TextState.TheVariants as texts
-use Rattle.ngc_run_log.specs.declared.trace.Form.{Form}
-use Rattle.ngc_run_log.specs.declared.trace.Form.TheVariants as forms
-use Rattle.ngc_run_log.specs.declared.trace.Trace.{Trace}
-use Rattle.ngc_run_log.specs.declared.trace.Trace.TheVariants.{Log, Times, Pulses, Samples, Untold}
-use Rattle.ngc_run_log.specs.Forms.{text_as}
+use Rattle.ngc_run_through.specs.declared.recorder.Recorder.{Recorder}
+use Rattle.ngc_run_through.specs.declared.text_state.TextState.{TextState}
+use Rattle.ngc_run_through.specs.declared.text_state.TextState.TheVariants as texts
+use Rattle.ngc_run_through.specs.declared.trace.Form.{Form}
+use Rattle.ngc_run_through.specs.declared.trace.Form.TheVariants as forms
+use Rattle.ngc_run_through.specs.Forms.{text_as}
 use Rattle.ngc_run_log.specs.Feeding.{AreBegun, AreGiven, IsFed, IsFedShort}
-use Rattle.ngc_run_log.specs.Runs.{IsRun}
-use Rattle.ngc_run_log.specs.Switching.{AreSwitches}
-use Rattle.ngc_run_log.specs.Times.{ticks_after}
-use Rattle.ngc_run_log.specs.Tracing.{samples_in}
+use Rattle.ngc_run_through.specs.Runs.{IsRun}
+use Rattle.ngc_run_through.specs.Switching.{AreSwitches}
+use Rattle.ngc_run_through.specs.Times.{ticks_after}
+use Rattle.ngc_run_through.specs.Tracing.{samples_in}
 
 -- the form in which the run is written
 abbrev pub form_of : LiveForm → Form
@@ -44,20 +41,6 @@ form_of live.Times = forms.Times
 form_of (live.Samples inverted) = forms.Samples inverted
 
 -- ---- the text between two pieces
-
--- the text state that is kept of a trace once all its text is written
-abbrev pub paused_at : Trace → TextState
-paused_at Log = texts.Log
-paused_at (Times ticks) = texts.Times ticks
-paused_at (Pulses d) = texts.Log
-paused_at (Samples d s) = texts.Samples (settled d)
-paused_at Untold = texts.Log
-
--- and the trace that continues from there
-abbrev pub trace_from : TextState → Switches → Trace
-trace_from texts.Log s = Log
-trace_from (texts.Times ticks) s = Times ticks
-trace_from (texts.Samples d) s = Samples (settled d) s
 
 -- the text state before the first event, and after outcomes
 abbrev pub first_paused : LiveForm → StepPos → TextState

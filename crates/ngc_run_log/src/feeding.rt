@@ -4,13 +4,13 @@ ghost use Rattle.ngc_events.specs.declared.event.Event.TheVariants.{Tick};
 ghost use Rattle.ngc_machine_model.specs.Progress.{is_tick};
 ghost use Rattle.ngc_text.specs.Failures.{CountsFailure};
 ghost use Rattle.ngc_run_log.specs.Feeding.{IsFed, IsFedShort, IsLoaded};
-ghost use Rattle.ngc_run_log.specs.Policy.{can_load};
-ghost use Rattle.ngc_run_log.specs.Recording.{HasFew};
+ghost use Rattle.ngc_run_through.specs.Policy.{can_load};
+ghost use Rattle.ngc_run_through.specs.Recording.{HasFew};
 
-use crate::recorder::Recorder;
 use crate::runner::run_line;
 use ngc_controller::Controller;
 use ngc_events::{Event, EventLine};
+use ngc_run_through::Recorder;
 use ngc_step_kernel::ArcPath;
 use ngc_text::{Sink, WriteFault};
 use std::alloc::Allocator;

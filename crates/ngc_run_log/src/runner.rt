@@ -4,19 +4,16 @@ ghost use Rattle.ngc_machine_model.specs.Headline.{job_of, RunsInTime, RunsSafel
 ghost use Rattle.ngc_machine_model.specs.State.{opening};
 ghost use Rattle.ngc_checker.specs.Accepted.{commands_at};
 ghost use Rattle.ngc_text.specs.Failures.{CountsFailure};
-ghost use Rattle.ngc_run_log.specs.Forms.{ComesAs, IsTracedRun, IsUntracedRun, PulsesCome};
-ghost use Rattle.ngc_run_log.specs.Forms.{SamplesCome, TimesCome};
-ghost use Rattle.ngc_run_log.specs.Recording.{HasFew, IsCutShort, IsRecorded};
-ghost use Rattle.ngc_run_log.specs.Runs.{ComesTo, FailsByWriting};
-ghost use Rattle.ngc_run_log.specs.Tracing.{ticks_of};
+ghost use Rattle.ngc_run_through.specs.Forms.{ComesAs, IsTracedRun, IsUntracedRun, PulsesCome};
+ghost use Rattle.ngc_run_through.specs.Forms.{SamplesCome, TimesCome};
+ghost use Rattle.ngc_run_through.specs.Recording.{HasFew, IsCutShort, IsRecorded};
+ghost use Rattle.ngc_run_through.specs.Runs.{ComesTo, FailsByWriting};
+ghost use Rattle.ngc_run_through.specs.Tracing.{ticks_of};
 
-use crate::recorder::Recorder;
-use crate::report::{Report, RunFault};
-use crate::switches::{Switches, switches_for};
-use crate::trace::{Form, Trace};
 use ngc_checker::Accepted;
 use ngc_controller::Controller;
 use ngc_events::{Event, EventLine};
+use ngc_run_through::{Form, Recorder, Report, RunFault, Switches, Trace, switches_for};
 use ngc_step_kernel::ArcPath;
 use ngc_text::{Sink, WriteFault};
 use std::alloc::Allocator;

@@ -11,8 +11,8 @@ use Rattle.ngc_text.specs.declared.input_fault.InputFault.TheVariants as inputs
 use Rattle.ngc_run_log.specs.declared.live_fault.LiveFault.{LiveFault}
 use Rattle.ngc_run_log.specs.declared.live_fault.LiveFault.TheVariants as live
 use Rattle.ngc_run_log.specs.declared.live_form.LiveForm.{LiveForm}
-use Rattle.ngc_run_log.specs.declared.report.RunFault.{RunFault}
-use Rattle.ngc_run_log.specs.declared.report.RunFault.TheVariants as runs
+use Rattle.ngc_run_through.specs.declared.report.RunFault.{RunFault}
+use Rattle.ngc_run_through.specs.declared.report.RunFault.TheVariants as runs
 use Rattle.ngc_run_log.specs.Living.{FailsByReading, FailsLive, LiveData, LivesOn}
 use Rattle.ngc_simulator.specs.Answers.{LivesOnFiles}
 use Rattle.ngc_inputs.specs.Faults.{FailsWith, OfLiving, of_live, of_run}

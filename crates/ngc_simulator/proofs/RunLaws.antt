@@ -21,9 +21,9 @@ use Rattle.ngc_events.specs.declared.fault.EventsFault.{EventsFault}
 use Rattle.ngc_events.specs.declared.fault.EventsFault.TheVariants as texts
 use Rattle.ngc_machine_model.specs.Headline.{job_of}
 use Rattle.ngc_simulator.specs.declared.writing.Writing.{Writing}
-use Rattle.ngc_run_log.specs.declared.report.Report.{Report}
-use Rattle.ngc_run_log.specs.declared.report.RunFault.{RunFault}
-use Rattle.ngc_run_log.specs.declared.report.RunFault.TheVariants as runs
+use Rattle.ngc_run_through.specs.declared.report.Report.{Report}
+use Rattle.ngc_run_through.specs.declared.report.RunFault.{RunFault}
+use Rattle.ngc_run_through.specs.declared.report.RunFault.TheVariants as runs
 use Rattle.ngc_inputs.specs.Faults.{of_run}
 use Rattle.ngc_simulator.specs.Answers.{IsTimeOf, IsTimeOn, RunsOn, RunsThroughOn}
 use Rattle.ngc_inputs.specs.Jobs.{IsNoCertificate}

@@ -21,7 +21,7 @@ use Rattle.ngc_fault_texts.specs.Told.{Tells as TellsFault}
 use Rattle.ngc_fault_texts.specs.declared.telling.ExplainFault.TheVariants.{Unknown, Write}
 use Rattle.ngc_text.specs.Failures.{Rises}
 use Rattle.ngc_text.specs.Written.{AppendsBeginning}
-use Rattle.ngc_run_log.specs.declared.report.Report.{Report}
+use Rattle.ngc_run_through.specs.declared.report.Report.{Report}
 use Rattle.ngc_inputs.specs.declared.fault.AnswerFault.{AnswerFault}
 use Rattle.ngc_inputs.specs.declared.fault.AnswerFault.TheVariants as answers
 use Rattle.ngc_simulator.specs.declared.done.Done.{Done}

@@ -16,13 +16,13 @@ use Rattle.ngc_events.specs.declared.fault.EventsFault.{EventsFault}
 use Rattle.ngc_events.specs.declared.fault.EventsFault.TheVariants as texts
 use Rattle.ngc_machine_model.specs.State.{Job}
 use Rattle.ngc_machine_model.specs.Headline.{job_of}
-use Rattle.ngc_run_log.specs.declared.report.Report.{Report}
-use Rattle.ngc_run_log.specs.declared.report.RunFault.{RunFault}
-use Rattle.ngc_run_log.specs.declared.report.RunFault.TheVariants as runs
-use Rattle.ngc_run_log.specs.Forms.{PulsesCome, PulsesGoThrough, SamplesCome, SamplesGoThrough}
-use Rattle.ngc_run_log.specs.Forms.{TimesCome, TimesGoThrough}
-use Rattle.ngc_run_log.specs.Runs.{ComesTo}
-use Rattle.ngc_run_log.specs.Through.{GoesThrough}
+use Rattle.ngc_run_through.specs.declared.report.Report.{Report}
+use Rattle.ngc_run_through.specs.declared.report.RunFault.{RunFault}
+use Rattle.ngc_run_through.specs.declared.report.RunFault.TheVariants as runs
+use Rattle.ngc_run_through.specs.Forms.{PulsesCome, PulsesGoThrough, SamplesCome, SamplesGoThrough}
+use Rattle.ngc_run_through.specs.Forms.{TimesCome, TimesGoThrough}
+use Rattle.ngc_run_through.specs.Runs.{ComesTo}
+use Rattle.ngc_run_through.specs.Through.{GoesThrough}
 use Rattle.ngc_inputs.specs.declared.fault.AnswerFault.{AnswerFault}
 use Rattle.ngc_inputs.specs.declared.fault.AnswerFault.TheVariants as answers
 use Rattle.ngc_simulator.specs.declared.writing.Writing.{Writing}

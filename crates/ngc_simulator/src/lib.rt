@@ -51,8 +51,10 @@ pub use ngc_machine_files::{FileFault, Fixture, Machine, Tool, Tools, built_in_m
 pub use ngc_program_report::{ReportRequest, RunTime};
 pub use ngc_report::Form;
 pub use ngc_run_log::{
-    LiveFault, LiveForm, LiveRun, Report, RunFault, feed_from, run, run_through, write_pulses,
-    write_pulses_through, write_samples, write_samples_through, write_timed_log,
+    LiveFault, LiveForm, LiveRun, feed_from, run, write_pulses, write_samples, write_timed_log,
+};
+pub use ngc_run_through::{
+    Report, RunFault, run_through, write_pulses_through, write_samples_through,
     write_timed_log_through,
 };
 pub use ngc_setup_sheet::write_sheet;

@@ -2,7 +2,7 @@ ghost use Rattle.std.specs.Prelude.{ℕ, List, IfErr};
 ghost use Rattle.ngc_canonical.specs.State.{Setup};
 ghost use Rattle.ngc_machine_model.specs.Headline.{job_of};
 ghost use Rattle.ngc_checker.specs.Accepted.{commands_at};
-ghost use Rattle.ngc_run_log.specs.Runs.{FailsByWriting};
+ghost use Rattle.ngc_run_through.specs.Runs.{FailsByWriting};
 ghost use Rattle.ngc_simulator.specs.Answers.{RunComes, run_inputs, run_writing};
 ghost use Rattle.ngc_inputs.specs.Faults.{FailsByOutput, OfRunning};
 ghost use Rattle.ngc_inputs.specs.Judging.{IsVerdict};
@@ -15,7 +15,8 @@ use ngc_checker::Accepted;
 use ngc_command_line::RunOptions;
 use ngc_events::{EventLine, read_events};
 use ngc_inputs::{AnswerFault, Files, Verdict, bytes_of, judge_file, read_placed, read_program};
-use ngc_run_log::{Report, RunFault, run, write_pulses, write_samples, write_timed_log};
+use ngc_run_log::{run, write_pulses, write_samples, write_timed_log};
+use ngc_run_through::{Report, RunFault};
 use ngc_text::Sink;
 use std::alloc::{Allocator, Global};
 

@@ -2,7 +2,7 @@ ghost use Rattle.std.specs.Prelude.{IfErr, List, ℕ};
 ghost use Rattle.ngc_canonical.specs.State.{Setup};
 ghost use Rattle.ngc_machine_model.specs.Headline.{job_of};
 ghost use Rattle.ngc_checker.specs.Accepted.{commands_at};
-ghost use Rattle.ngc_run_log.specs.Runs.{FailsByWriting};
+ghost use Rattle.ngc_run_through.specs.Runs.{FailsByWriting};
 ghost use Rattle.ngc_simulator.specs.Answers.{RunThroughComes, run_through_inputs, run_through_writing};
 ghost use Rattle.ngc_inputs.specs.Faults.{FailsByOutput, OfRunning};
 ghost use Rattle.ngc_inputs.specs.Judging.{IsVerdict};
@@ -15,7 +15,7 @@ use ngc_checker::Accepted;
 use ngc_command_line::RunThroughOptions;
 use ngc_inputs::{AnswerFault, Files, Verdict, judge_file, read_placed, read_program};
 use ngc_program_report::RunTime;
-use ngc_run_log::{
+use ngc_run_through::{
     Report, RunFault, run_through, write_pulses_through, write_samples_through,
     write_timed_log_through,
 };

@@ -2,7 +2,7 @@
 use Rattle.std.proofs.Common.{◌≡◌, ◌+◌, ◌*◌, ℕ, replicate, true}
 use Rattle.ngc_events.specs.declared.event.Event.TheVariants.{Tick}
 use Rattle.ngc_run_log.specs.Feeding.{IsFed}
-use Rattle.ngc_run_log.specs.Recording.{HasFew}
+use Rattle.ngc_run_through.specs.Recording.{HasFew}
 use Rattle.ngc_run_log.proofs.feeding.feed_ticks.Given as goal
 
 abbrev pub invariant-loop-tick : goal.invariant-loop-tick

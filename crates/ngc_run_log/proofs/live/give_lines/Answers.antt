@@ -1,7 +1,7 @@
 use Rattle.std.proofs.Common.{◌++◌, ◌+◌, ◌-◌, ◌*◌, ◌^◌, Ok, Err, arith, refl, rules}
 use Rattle.std.specs.Prelude.{length}
 use Rattle.ngc_run_log.proofs.PieceLaws.{front_cut, front_gives, front_more, front_none}
-use Rattle.ngc_run_log.proofs.Untouched.{at_most_more}
+use Rattle.ngc_run_through.proofs.Untouched.{at_most_more}
 use Rattle.ngc_run_log.proofs.live.give_lines.Goals as goal
 
 pub lines-init : goal.lines-init

@@ -3,7 +3,7 @@ use Rattle.std.proofs.Common.{◌≡◌, ◌+◌, ◌-◌, ◌*◌, ◌^◌, ◌
 use Rattle.ngc_events.specs.declared.event.EventLine.{EventLine}
 use Rattle.ngc_events.specs.Arriving.{HaveArrived, filled}
 use Rattle.ngc_run_log.specs.Living.{GivesFront}
-use Rattle.ngc_run_log.specs.Recording.{HasFew}
+use Rattle.ngc_run_through.specs.Recording.{HasFew}
 use Rattle.ngc_run_log.proofs.live.give_lines.Given as goal
 
 abbrev pub invariant-lines : goal.invariant-lines

@@ -1,5 +1,5 @@
 use Rattle.std.proofs.Common.{◌≡◌, ◌-◌, ◌≤◌, replicate}
-use Rattle.ngc_run_log.specs.Recording.{IsRecorded}
+use Rattle.ngc_run_through.specs.Recording.{IsRecorded}
 use Rattle.ngc_run_log.proofs.runner.run_line.Given as goal
 
 abbrev pub invariant-turns : goal.invariant-turns

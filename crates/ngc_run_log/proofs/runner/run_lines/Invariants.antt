@@ -1,6 +1,6 @@
 use Rattle.std.proofs.Common.{◌≡◌, ◌*◌, ◌^◌, take}
 use Rattle.ngc_machine_model.specs.Run.{events_of}
-use Rattle.ngc_run_log.specs.Recording.{HasFew, IsRecorded}
+use Rattle.ngc_run_through.specs.Recording.{HasFew, IsRecorded}
 use Rattle.ngc_run_log.proofs.runner.run_lines.Given as goal
 
 abbrev pub invariant-loop-line : goal.invariant-loop-line

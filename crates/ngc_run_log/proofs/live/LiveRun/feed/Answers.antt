@@ -1,6 +1,6 @@
 use Rattle.std.proofs.Common.{◌++◌, ap, refl, subst, sym, ◌∙◌}
 use Rattle.ngc_run_log.specs.Living.{IsLive, LiveData}
-use Rattle.ngc_run_log.specs.Tracing.{opening_text}
+use Rattle.ngc_run_through.specs.Tracing.{opening_text}
 use Rattle.ngc_run_log.proofs.LiveLaws.{broken_behind, broken_within, has_run}
 use Rattle.ngc_run_log.proofs.PieceLaws.{fed_all, reaches_begins}
 use Rattle.ngc_run_log.proofs.live.LiveRun.feed.Goals as goal

@@ -1,5 +1,5 @@
 use Rattle.std.proofs.Common.{refl, subst}
-use Rattle.ngc_run_log.specs.Switching.{AreSwitches}
+use Rattle.ngc_run_through.specs.Switching.{AreSwitches}
 use Rattle.ngc_run_log.proofs.LiveLaws.{nothing_fed}
 use Rattle.ngc_run_log.proofs.live.LiveRun.new.Goals as goal
 

@@ -1,8 +1,0 @@
-use Rattle.std.proofs.Common.{◌+◌, ap, refl}
-use Rattle.ngc_run_log.proofs.Quiet.{quiet_recorded}
-use Rattle.ngc_run_log.proofs.recorder.Recorder.rest.Goals as goal
-
-pub returns : goal.returns
-returns c = λ written.
-    let report = c.args.self.now.report in
-    quiet_recorded c.args.count c.args.self.now _ written (ap (λ n. record report { ticks = report.ticks + n }) c.from.ensures) c.rest.ensures refl

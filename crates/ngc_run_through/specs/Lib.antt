@@ -1,0 +1,12 @@
+pub mod Log
+pub mod Times
+pub mod Switching
+pub mod Tracing
+pub mod Pauses
+pub mod Recording
+pub mod Runs
+pub mod Policy
+pub mod Through
+pub mod Forms
+pub mod Stretches
+pub mod Parts

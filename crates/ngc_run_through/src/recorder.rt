@@ -1,0 +1,133 @@
+//! The record of a run in progress.
+ghost use Rattle.std.specs.Prelude.{◌≡◌, ◌+◌, ◌^◌, ◌++◌, ℕ, List, [], ◌∷◌, replicate, Option, None};
+ghost use Rattle.std.specs.Prelude.{Ok, IfOk, OnOk, OnErr};
+ghost use Rattle.std.specs.Io.KnownBytes.{Appends};
+ghost use Rattle.ngc_events.specs.declared.event.Event.TheVariants.{Tick};
+ghost use Rattle.ngc_events.specs.declared.reply.Reply.TheVariants.{Ticked};
+ghost use Rattle.ngc_text.specs.Failures.{CountsFailure};
+ghost use Rattle.ngc_text.specs.Written.{AppendsBeginning};
+ghost use Rattle.ngc_run_through.specs.Pauses.{paused_at};
+ghost use Rattle.ngc_run_through.specs.Recording.{HasFew, Records};
+ghost use Rattle.ngc_run_through.specs.Tracing.{last_text, opening_text, trace_text};
+
+use crate::report::Report;
+use crate::text_state::TextState;
+use crate::trace::Trace;
+use ngc_events::{Event, EventFault, Reply};
+use ngc_fixed_length::StepPos;
+use ngc_text::{Chunk, Sink, WriteFault};
+
+/// The report so far, and the text that isn't written yet.
+#[derive(Drop)]
+pub struct Recorder<'s> {
+    /// The report of the events so far.
+    pub report: Report,
+    /// The state of the text.
+    pub trace: Trace<'s>,
+    /// The text that isn't written yet.
+    pub chunk: Chunk,
+}
+
+impl<'s> Recorder<'s> {
+    /// Returns a recorder without events, for a machine at a position in steps.
+    pub fn new(trace: Trace<'s>, position: StepPos) -> Recorder<'s>
+        ensures report { result.report
+            ≡ record { ticks = 0; path_steps = 0; refused = 0; position = position } }
+        ensures trace { result.trace ≡ trace.entry }
+        ensures chunk { result.chunk ≡ opening_text trace.entry }
+    {
+        let mut chunk = Chunk::new();
+        trace.open(&mut chunk);
+        Recorder {
+            report: Report {
+                ticks: 0,
+                path_steps: 0,
+                refused: 0,
+                position,
+            },
+            trace,
+            chunk,
+        }
+    }
+
+    /// Counts an event and records its outcome.
+    pub fn add<W: Sink>(
+        &mut self,
+        event: Event,
+        outcome: &Result<Reply, EventFault>,
+        sink: &mut W,
+    ) -> Result<(), WriteFault>
+        requires { HasFew (2 ^ 126) self.old }
+        ensures records { OnOk result
+            (Records (event ∷ []) (outcome.now ∷ []) self.old self.new (W.written sink.old)
+            (W.written sink.new)) }
+        ensures fault { OnErr result
+            (AppendsBeginning (W.written sink.old) (W.written sink.new)
+            (self.old.chunk ++ trace_text self.old.trace (outcome.now ∷ []))) }
+        ensures failures { CountsFailure (W.failures sink.old) (W.failures sink.new) result }
+    {
+        self.report.count(event, outcome);
+        // Most ticks write nothing.
+        if let Ok(
+            Reply::Ticked {
+                position: None,
+                ending: None,
+            },
+        ) = outcome
+        {
+            self.trace.rest(1);
+            return Ok(());
+        }
+        self.trace.tell(outcome, &mut self.chunk, sink)
+    }
+
+    /// Counts ticks without an output.
+    pub fn rest(&mut self, count: u64)
+        requires { HasFew (2 ^ 125 + 2 ^ 102) self.old }
+        ensures { (written : Option (List ℕ)) →
+            Records (replicate count Tick) (replicate count (Ok (Ticked None None))) self.old
+            self.new written written }
+    {
+        self.report.ticks += u128::from(count);
+        self.trace.rest(count);
+    }
+
+    /// Returns the number of ticks so far.
+    pub fn ticks(&self) -> u128
+        ensures { result ≡ self.now.report.ticks }
+    {
+        self.report.ticks
+    }
+
+    /// Returns what is kept of the text once all of it is written.
+    pub fn paused(&self) -> TextState
+        ensures { result ≡ paused_at self.now.trace }
+    {
+        self.trace.paused()
+    }
+
+    /// Writes the rest of the text and returns the report.
+    pub fn finish<W: Sink>(self, sink: &mut W) -> Result<Report, WriteFault>
+        requires { HasFew (2 ^ 126) self }
+        ensures report { IfOk result (λ report. report ≡ self.entry.report) }
+        ensures ok { OnOk result
+            (Appends (W.written sink.old) (W.written sink.new)
+            (self.entry.chunk ++ last_text self.entry.trace)) }
+        ensures fault { OnErr result
+            (AppendsBeginning (W.written sink.old) (W.written sink.new)
+            (self.entry.chunk ++ last_text self.entry.trace)) }
+        ensures failures { CountsFailure (W.failures sink.old) (W.failures sink.new) result }
+    {
+        let report = self.report;
+        let mut trace = self.trace;
+        let mut chunk = self.chunk;
+        match trace.close(&mut chunk, sink) {
+            Ok(()) => {}
+            Err(fault) => return Err(fault),
+        }
+        match chunk.write_out(sink) {
+            Ok(()) => Ok(report),
+            Err(fault) => Err(fault),
+        }
+    }
+}
