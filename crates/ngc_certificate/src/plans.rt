@@ -60,6 +60,9 @@ pub fn make_plans<A: Allocator + Copy>(
         AreEntries (both_planned machine.now.step off.now on.now p).off) }
     ensures on_are { IfOk result (λ p.
         AreEntries (both_planned machine.now.step off.now on.now p).on) }
+    ensures undivided { clears_undivided (file_of machine.now) off.now ≡ true →
+        clears_undivided (file_of machine.now) on.now ≡ true →
+        MatchResult result (λ p. Unit {0}) (λ e. e ≡ MakeFault.Memory) }
 {
     if !is_clear_at(machine, &None, &machine.start) {
         return Err(MakeFault::NotCleared {
@@ -99,6 +102,8 @@ pub fn make_plans_alike<A: Allocator + Copy>(
         AreEntries (both_planned machine.now.step commands.now commands.now p).off) }
     ensures on_are { IfOk result (λ p.
         AreEntries (both_planned machine.now.step commands.now commands.now p).on) }
+    ensures undivided { clears_undivided (file_of machine.now) commands.now ≡ true →
+        MatchResult result (λ p. Unit {0}) (λ e. e ≡ MakeFault.Memory) }
 {
     if !is_clear_at(machine, &None, &machine.start) {
         return Err(MakeFault::NotCleared {
