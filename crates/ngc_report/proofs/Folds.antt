@@ -6,6 +6,9 @@ use Rattle.std.proofs.lemmas.List.Concat.{flat_map-cons}
 use Rattle.std.proofs.lemmas.List.Sums.{fold-append}
 use Rattle.ngc_machine_files.specs.declared.machine.Fixture.{Fixture}
 use Rattle.ngc_collision.specs.Body.{Solid}
+use Rattle.ngc_fixed_length.specs.declared.points.GridBox.{GridBox}
+use Rattle.ngc_certificate_text.specs.declared.piece.Piece.{Piece}
+use Rattle.ngc_report.specs.Extents.{joint_box}
 use Rattle.ngc_report.specs.Gaps.{gap}
 use Rattle.ngc_report.specs.Nearing.{nearer, distances}
 use Rattle.ngc_report.specs.declared.nearest.Nearest.{Nearest}
@@ -38,3 +41,16 @@ pub flat_mapped : {X Y : Type 0} (f : Y → List Nearest) (h : X → Y) (xs : Li
 flat_mapped f h [] = refl
 flat_mapped f h (x ∷ xs) =
     flat_map-cons f (h x) (map h xs) ∙ ap (λ l. f (h x) ++ l) (flat_mapped f h xs) ∙ sym (flat_map-cons (λ y. f (h y)) x xs)
+
+-- ---- the boxes of pieces
+
+pub next_box : (bounds : GridBox) (pieces : List Piece) (k : ℕ) (p : Piece) → k < length pieces → p ≡ get_or pieces k p →
+    fold joint_box (joint_box bounds p.bounds) (map (λ (q : Piece). q.bounds) (drop (k + 1) pieces))
+    ≡ fold joint_box bounds (map (λ (q : Piece). q.bounds) (drop k pieces))
+next_box bounds pieces k p inside found =
+    ap (λ (x : Piece). fold joint_box (joint_box bounds x.bounds) (map (λ (q : Piece). q.bounds) (drop (k + 1) pieces))) found
+    ∙ ap (λ (l : List Piece). fold joint_box bounds (map (λ (q : Piece). q.bounds) l)) (sym (drop_more pieces k p inside))
+
+pub no_box : (bounds : GridBox) (pieces : List Piece) (k : ℕ) → length pieces ≤ k →
+    fold joint_box bounds (map (λ (q : Piece). q.bounds) (drop k pieces)) ≡ bounds
+no_box bounds pieces k behind = at_drop_all (λ (l : List Piece). fold joint_box bounds (map (λ (q : Piece). q.bounds) l)) pieces k behind

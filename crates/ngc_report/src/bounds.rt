@@ -1,17 +1,19 @@
 //! The extent of a program.
-ghost use Rattle.std.specs.Prelude.{◌≡◌, ◌∷◌, ◌+ℤ◌, ◌-ℤ◌, [], fold, map, pos};
+ghost use Rattle.std.specs.Prelude.{◌≡◌, ◌<◌, ◌∷◌, ◌+ℤ◌, ◌-ℤ◌, [], fold, length, map, pos};
+ghost use Rattle.ngc_certificate_text.specs.Certificate.{entry_at};
 ghost use Rattle.std.specs.Int.{int_min, int_max};
 ghost use Rattle.ngc_commands.specs.Movement.{ways_of};
 ghost use Rattle.ngc_fixed_length.specs.Length.{IsStep};
 ghost use Rattle.ngc_machine_files.specs.Machine.{file_of};
 ghost use Rattle.ngc_fixed_length.specs.Boxes.{common_box, lesser_corner, greater_corner};
-ghost use Rattle.ngc_report.specs.Extents.{joint_box, reach, extent, extent_in_travel, fit_extent};
+ghost use Rattle.ngc_report.specs.Extents.{boxes_of, joint_box, reach, extent, extent_in_travel};
+ghost use Rattle.ngc_report.specs.Extents.{fit_extent};
 ghost use Rattle.ngc_report.specs.Extents.{next_corner, previous_corner, shrunk, cut_reach};
 ghost use Rattle.ngc_report.specs.Extents.{reach_in_pieces};
 
 use crate::travel::travel_box;
 use ngc_arc_geometry::{Arc, GridArc};
-use ngc_certificate_text::{Motions, Piece};
+use ngc_certificate_text::MotionList;
 use ngc_commands::{Action, Command, Way};
 use ngc_fixed_length::{GridBox, Nm, StepPos};
 use ngc_machine_files::Machine;
@@ -149,12 +151,14 @@ pub(crate) fn extent_in_travel<A: Allocator>(machine: &Machine<A>, commands: &[C
     common_box(&extent(machine, commands), &travel_box(machine))
 }
 
-fn with_pieces(bounds: GridBox, pieces: &[Piece]) -> GridBox
-    ensures { result ≡ fold joint_box bounds (map (λ p. p.bounds) pieces.now) }
+// Returns the least box that holds a box and those of the pieces of motion `i`.
+fn with_pieces<M: MotionList>(bounds: GridBox, motions: &M, i: usize) -> GridBox
+    requires { i < length (M.entries motions.now) }
+    ensures { result ≡ fold joint_box bounds (boxes_of (entry_at (M.entries motions.now) i)) }
 {
     let mut joint = bounds;
-    for piece in pieces {
-        joint = joint_box(&joint, &piece.bounds);
+    for k in 0..motions.piece_count(i) {
+        joint = joint_box(&joint, &motions.piece(i, k).bounds);
     }
     joint
 }
@@ -164,12 +168,12 @@ fn with_pieces(bounds: GridBox, pieces: &[Piece]) -> GridBox
 ///
 /// If the motions are those of a certificate, each position of the program lies in this box. It is
 /// smaller than `extent` if an arc is cut.
-pub fn fit_extent<A: Allocator, B: Allocator>(machine: &Machine<A>, motions: &Motions<B>) -> GridBox
-    ensures { result ≡ fit_extent (file_of machine.now) motions.now }
+pub fn fit_extent<A: Allocator, M: MotionList>(machine: &Machine<A>, motions: &M) -> GridBox
+    ensures { result ≡ fit_extent (file_of machine.now) (M.entries motions.now) }
 {
     let mut bounds = GridBox::only(machine.start.to_grid(machine.step));
-    for i in 0..motions.len() {
-        bounds = with_pieces(bounds, motions.pieces(i));
+    for i in 0..motions.count() {
+        bounds = with_pieces(bounds, motions, i);
     }
     bounds
 }

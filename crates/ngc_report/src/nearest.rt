@@ -1,13 +1,14 @@
 //! The distances between the bodies of tools and fixtures.
 ghost use Rattle.std.specs.Prelude.{◌≡◌, ◌<◌, ◌≤◌, ◌^◌, unsigned_abs, length, fold, flat_map, take};
 ghost use Rattle.std.specs.Prelude.{drop};
+ghost use Rattle.ngc_certificate_text.specs.Certificate.{entry_at};
 ghost use Rattle.ngc_collision.specs.Inside.{solid_of};
 ghost use Rattle.ngc_machine_files.specs.Machine.{file_of};
-ghost use Rattle.ngc_report.specs.Nearing.{is_nearer, nearer, distances, around, over_pieces};
+ghost use Rattle.ngc_report.specs.Nearing.{is_nearer, nearer, distances, around, over_motion};
 ghost use Rattle.ngc_report.specs.Nearing.{fixture_name, nearest_name};
 
 use crate::gaps::gap;
-use ngc_certificate_text::{Motions, Piece};
+use ngc_certificate_text::MotionList;
 use ngc_collision::Solid;
 use ngc_fixed_length::GridBox;
 use ngc_machine_files::{Machine, Name, Tool};
@@ -70,17 +71,21 @@ fn nearest_around<A: Allocator>(
     nearest
 }
 
-fn nearest_over<A: Allocator>(
+/// Returns the nearest of the nearest so far and every fixture, over the pieces of motion `i`.
+fn nearest_over<A: Allocator, M: MotionList>(
     machine: &Machine<A>,
     tool: &Option<Tool>,
-    pieces: &[Piece],
+    motions: &M,
+    i: usize,
     best: Option<Nearest>,
 ) -> Option<Nearest>
-    ensures { result ≡ fold nearer best (over_pieces (file_of machine.now) tool.now pieces.now) }
+    requires { i < length (M.entries motions.now) }
+    ensures { result ≡ fold nearer best (over_motion (file_of machine.now) tool.now
+        (entry_at (M.entries motions.now) i)) }
 {
     let mut nearest = best;
-    for piece in pieces {
-        nearest = nearest_around(machine, *tool, &piece.bounds, nearest);
+    for k in 0..motions.piece_count(i) {
+        nearest = nearest_around(machine, *tool, &motions.piece(i, k).bounds, nearest);
     }
     nearest
 }
@@ -112,20 +117,20 @@ impl Nearest {
     /// lowest number. It is `None` without fixtures or without motions.
     ///
     /// `end` is at most the number of motions.
-    pub fn over<A: Allocator, B: Allocator>(
+    pub fn over<A: Allocator, M: MotionList>(
         machine: &Machine<A>,
         tool: &Option<Tool>,
-        motions: &Motions<B>,
+        motions: &M,
         first: usize,
         end: usize,
     ) -> Option<Nearest>
-        requires { end ≤ length motions.now }
+        requires { end ≤ length (M.entries motions.now) }
         ensures { result ≡ nearest (file_of machine.now) tool.now
-            (drop first (take end motions.now)) }
+            (drop first (take end (M.entries motions.now))) }
     {
         let mut nearest = None;
         for i in first..end {
-            nearest = nearest_over(machine, tool, motions.pieces(i), nearest);
+            nearest = nearest_over(machine, tool, motions, i, nearest);
         }
         nearest
     }

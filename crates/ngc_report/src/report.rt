@@ -25,7 +25,7 @@ use crate::travel::{AxisRoom, Room};
 use crate::uses::{ToolUse, ToolUses};
 use crate::warnings::{Concern, warning_about};
 use crate::words::add_line;
-use ngc_certificate_text::Motions;
+use ngc_certificate_text::MotionList;
 use ngc_commands::Command;
 use ngc_fixed_length::{GridBox, Nm, nanometres_at};
 use ngc_machine_files::Machine;
@@ -115,22 +115,22 @@ fn near_line<A: Allocator>(machine: &Machine<A>, nearest: &Option<Nearest>) -> L
     Line::Near(*nearest, nearest_name(machine, nearest))
 }
 
-fn tell_uses<A: Allocator, B: Allocator, W: Sink>(
+fn tell_uses<A: Allocator, M: MotionList, W: Sink>(
     chunk: &mut Chunk,
     form: Form,
     machine: &Machine<A>,
     commands: &[Command],
-    motions: &Motions<B>,
+    motions: &M,
     sink: &mut W,
 ) -> Result<(), WriteFault>
     ensures told { Tells form (W.written sink.old) (W.written sink.new) chunk.old chunk.new result
-        (use_lines (file_of machine.now) (tool_uses commands.now) motions.now) }
+        (use_lines (file_of machine.now) (tool_uses commands.now) (M.entries motions.now)) }
     ensures counts { CountsFailure (W.failures sink.old) (W.failures sink.new) result }
 {
     let mut uses = ToolUses::new(commands);
     let mut first = 0;
     while let Some(one) = uses.next_use() {
-        let end = first + motions_up_to(&one, motions.len() - first);
+        let end = first + motions_up_to(&one, motions.count() - first);
         let nearest = Nearest::over(machine, &one.tool, motions, first, end);
         let lines = [Line::Use(one), near_line(machine, &nearest)];
         match tell_all(chunk, form, &lines, sink) {
@@ -149,16 +149,16 @@ pub(crate) fn fit_line<A: Allocator>(machine: &Machine<A>, commands: &[Command])
     Line::Fits(warning_about(machine, Concern::NoTool, commands))
 }
 
-fn tell_fit<A: Allocator, B: Allocator, W: Sink>(
+fn tell_fit<A: Allocator, M: MotionList, W: Sink>(
     chunk: &mut Chunk,
     form: Form,
     machine: &Machine<A>,
     commands: &[Command],
-    motions: &Motions<B>,
+    motions: &M,
     sink: &mut W,
 ) -> Result<(), WriteFault>
     ensures told { Tells form (W.written sink.old) (W.written sink.new) chunk.old chunk.new result
-        (fit_lines (file_of machine.now) commands.now motions.now) }
+        (fit_lines (file_of machine.now) commands.now (M.entries motions.now)) }
     ensures counts { CountsFailure (W.failures sink.old) (W.failures sink.new) result }
 {
     match tell_all(chunk, form, &[fit_line(machine, commands)], sink) {
@@ -281,19 +281,21 @@ fn tell_refusal<A: Allocator, W: Sink>(
 /// each axis with the margins there, and the uses of tools, each with its nearest fixture.
 ///
 /// After a fault (902, only if the sink failed) a prefix of the text is written.
-pub fn write_fit<A: Allocator, B: Allocator, W: Sink>(
+pub fn write_fit<A: Allocator, M: MotionList, W: Sink>(
     form: Form,
     machine: &Machine<A>,
     commands: &[Command],
-    motions: &Motions<B>,
+    motions: &M,
     sink: &mut W,
 ) -> Result<(), WriteFault>
     ensures ok { OnOk result
         (Appends (W.written sink.old) (W.written sink.new)
-        (report_text form (fit_lines (file_of machine.now) commands.now motions.now))) }
+        (report_text form (fit_lines (file_of machine.now) commands.now
+        (M.entries motions.now)))) }
     ensures fault { OnErr result
         (AppendsBeginning (W.written sink.old) (W.written sink.new)
-        (report_text form (fit_lines (file_of machine.now) commands.now motions.now))) }
+        (report_text form (fit_lines (file_of machine.now) commands.now
+        (M.entries motions.now)))) }
     ensures counts { CountsFailure (W.failures sink.old) (W.failures sink.new) result }
 {
     let mut chunk = Chunk::new();

@@ -5,4 +5,4 @@ use Rattle.ngc_report.specs.Extents.{joint_box, boxes_of, fit_extent}
 use Rattle.ngc_report.proofs.bounds.fit_extent.Given as goal
 
 abbrev pub invariant-loop-i : goal.invariant-loop-i
-invariant-loop-i g l = fold joint_box l.bounds (flat_map boxes_of (drop l.i l.motions)) ≡ fit_extent (file_of l.machine) l.motions
+invariant-loop-i g l = fold joint_box l.bounds (flat_map boxes_of (drop l.i (g.M.MotionList.entries l.motions))) ≡ fit_extent (file_of l.machine) (g.M.MotionList.entries l.motions)

@@ -11,8 +11,8 @@ pub returns-in-Err-clause-told : goal.returns-in-Err-clause-told
 returns-in-Err-clause-told g c =
     let m = file_of c.args.machine.now in
     let head : List Line = fit_line m c.args.commands.now ∷ [] in
-    let sides : List Line = alongs m (fit_extent m c.args.motions.now) in
-    let rest : List Line = use_lines m (tool_uses c.args.commands.now) c.args.motions.now in
+    let sides : List Line = alongs m (fit_extent m (g.M.MotionList.entries c.args.motions.now)) in
+    let rest : List Line = use_lines m (tool_uses c.args.commands.now) (g.M.MotionList.entries c.args.motions.now) in
     first_stopped c.args.form (g.W.Sink.written c.args.sink.now) (g.W.Sink.written c.tell_all.new.sink) c.args.chunk.now head
     (sides ++ rest) (rw c.fit_line.ensures at c.in-Err.ensures.told)
 
@@ -20,8 +20,8 @@ pub returns-in-Err-tell_all-clause-told : goal.returns-in-Err-tell_all-clause-to
 returns-in-Err-tell_all-clause-told g c =
     let m = file_of c.args.machine.now in
     let head : List Line = fit_line m c.args.commands.now ∷ [] in
-    let sides : List Line = alongs m (fit_extent m c.args.motions.now) in
-    let rest : List Line = use_lines m (tool_uses c.args.commands.now) c.args.motions.now in
+    let sides : List Line = alongs m (fit_extent m (g.M.MotionList.entries c.args.motions.now)) in
+    let rest : List Line = use_lines m (tool_uses c.args.commands.now) (g.M.MotionList.entries c.args.motions.now) in
     second_stopped c.args.form (g.W.Sink.written c.args.sink.now) (g.W.Sink.written c.tell_all.new.sink)
     (g.W.Sink.written c.tell_all-2.new.sink) c.args.chunk.now c.tell_all.new.chunk head sides rest
     (rw c.fit_line.ensures at c.in-Ok.ensures.told) (rw (c.alongs.ensures, c.fit_extent.ensures) at c.in-Err-tell_all.ensures.told)
@@ -30,8 +30,8 @@ pub returns-clause-told : goal.returns-clause-told
 returns-clause-told g c =
     let m = file_of c.args.machine.now in
     let head : List Line = fit_line m c.args.commands.now ∷ [] in
-    let sides : List Line = alongs m (fit_extent m c.args.motions.now) in
-    let rest : List Line = use_lines m (tool_uses c.args.commands.now) c.args.motions.now in
+    let sides : List Line = alongs m (fit_extent m (g.M.MotionList.entries c.args.motions.now)) in
+    let rest : List Line = use_lines m (tool_uses c.args.commands.now) (g.M.MotionList.entries c.args.motions.now) in
     all_three c.args.form c.tell_uses.result (g.W.Sink.written c.args.sink.now) (g.W.Sink.written c.tell_all.new.sink) (g.W.Sink.written c.tell_all-2.new.sink)
     (g.W.Sink.written c.tell_uses.new.sink)
     c.args.chunk.now c.tell_all.new.chunk c.tell_all-2.new.chunk c.tell_uses.new.chunk head sides rest

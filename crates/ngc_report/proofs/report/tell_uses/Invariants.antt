@@ -8,8 +8,8 @@ use Rattle.ngc_report.proofs.report.tell_uses.Given as goal
 abbrev pub invariant-loop-one : goal.invariant-loop-one
 invariant-loop-one g l = record {
   ahead : Ahead l.form (g.W.Sink.written l.initial.sink) (g.W.Sink.written l.sink) l.initial.chunk l.chunk
-      (use_lines (file_of l.machine) (uses_left l.uses) (drop l.first l.motions)) (use_lines (file_of l.machine) (tool_uses l.commands) l.motions);
-  inside : l.first ≤ length l.motions;
+      (use_lines (file_of l.machine) (uses_left l.uses) (drop l.first (g.M.MotionList.entries l.motions))) (use_lines (file_of l.machine) (tool_uses l.commands) (g.M.MotionList.entries l.motions));
+  inside : l.first ≤ length (g.M.MotionList.entries l.motions);
   failures : g.W.Sink.failures l.sink ≡ g.W.Sink.failures l.initial.sink;
 }
 

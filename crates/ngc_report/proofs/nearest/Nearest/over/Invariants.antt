@@ -6,5 +6,5 @@ use Rattle.ngc_report.proofs.nearest.Nearest.over.Given as goal
 
 abbrev pub invariant-loop-i : goal.invariant-loop-i
 invariant-loop-i g l =
-    fold nearer l.nearest (flat_map (over_motion (file_of l.machine) l.tool) (drop l.i (take l.end l.motions)))
-    ≡ nearest (file_of l.machine) l.tool (drop l.first (take l.end l.motions))
+    fold nearer l.nearest (flat_map (over_motion (file_of l.machine) l.tool) (drop l.i (take l.end (g.M.MotionList.entries l.motions))))
+    ≡ nearest (file_of l.machine) l.tool (drop l.first (take l.end (g.M.MotionList.entries l.motions)))
