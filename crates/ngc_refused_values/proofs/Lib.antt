@@ -1,0 +1,2 @@
+-- The last word so far, one line further.
+pub mod Further

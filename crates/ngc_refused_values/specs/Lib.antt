@@ -1,0 +1,3 @@
+pub mod LastWords
+pub mod Values
+pub mod Texts
