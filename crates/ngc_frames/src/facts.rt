@@ -24,8 +24,9 @@ fn add_nanometres(chunk: &mut Chunk, nanometres: i64)
     chunk.add_number(nanometres);
 }
 
+/// Adds a position as an array of three numbers, in nanometres.
 #[tactic(auto, unfolding(crate::specs::Facts::triple))]
-fn add_triple(chunk: &mut Chunk, place: &Place)
+pub fn add_triple(chunk: &mut Chunk, place: &Place)
     requires { length chunk.old + 124 ≤ CHUNK_SIZE }
     ensures text { chunk.new ≡ chunk.old ++ triple (place_of place.now) }
     ensures short { length chunk.new ≤ length chunk.old + 124 }

@@ -31,7 +31,8 @@ pub enum FramePart {
     Unit,
 }
 
-pub(crate) fn index_of(system: System) -> usize
+/// Returns the position of a coordinate system among the nine, from 0.
+pub fn index_of(system: System) -> usize
     ensures value { result ≡ index system }
     ensures nine { result < 9 }
 {

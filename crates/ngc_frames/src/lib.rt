@@ -13,10 +13,10 @@ mod walk;
 mod words;
 
 pub use change::FrameChange;
-pub use facts::collect_motion_fact;
-pub use frame::{Frame, FramePart, is_same_part};
+pub use facts::{add_triple, collect_motion_fact};
+pub use frame::{Frame, FramePart, index_of, is_same_part};
 pub use history::{FrameHistory, OutOfMemory, frame_history};
 pub use in_force::{FrameInForce, frame_at, frame_in_force, line_that_set};
 pub use place::program_point;
 pub use walk::FrameWalk;
-pub use words::collect_motion_words;
+pub use words::{add_place, collect_motion_words, system_name};

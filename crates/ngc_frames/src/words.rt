@@ -17,8 +17,9 @@ use ngc_collision::Place;
 use ngc_fixed_length::{System, Units};
 use ngc_text::{Chunk, Sink, WriteFault};
 
+/// Returns the code that selects a coordinate system.
 #[tactic(auto, unfolding(crate::specs::Words::system_text))]
-pub(crate) fn system_name(system: System) -> &'static [u8]
+pub fn system_name(system: System) -> &'static [u8]
     ensures text { result.now ≡ system_text system }
     ensures short { length result.now ≤ 5 }
 {
@@ -43,8 +44,9 @@ fn add_coordinate(chunk: &mut Chunk, coordinate: i64)
     chunk.add_millimetres(i128::from(coordinate));
 }
 
+/// Adds a position in millimetres, with its axes.
 #[tactic(auto, unfolding(crate::specs::Words::place_text))]
-fn add_place(chunk: &mut Chunk, place: &Place)
+pub fn add_place(chunk: &mut Chunk, place: &Place)
     requires { length chunk.old + 163 ≤ CHUNK_SIZE }
     ensures text { chunk.new ≡ chunk.old ++ place_text (place_of place.now) }
     ensures short { length chunk.new ≤ length chunk.old + 163 }

@@ -1,0 +1,2 @@
+-- The warnings of commands, one command further.
+pub mod Ahead
