@@ -13,12 +13,14 @@ use Rattle.ngc_line_reader.specs.Grammar.{Reading}
 use Rattle.ngc_line_reader.specs.ProgramText.{AreReadings}
 use Rattle.ngc_machine_files.specs.declared.tools.Tool.{Tool}
 use Rattle.ngc_commands.specs.declared.command.Command.{Command}
+use Rattle.ngc_certificate.specs.declared.plan.Plan.{Plan}
+use Rattle.ngc_certificate.specs.Planned.{planned}
 use Rattle.ngc_certificate.specs.Uncleared.{AreUncleared}
 use Rattle.ngc_certificate_text.specs.declared.piece.Setting.{Setting}
 use Rattle.ngc_certificate_text.specs.declared.piece.Setting.TheVariants.{Off, On}
 use Rattle.ngc_line_reader.specs.Program.{Line}
 use Rattle.ngc_machine_files.specs.Machine.{MachineFile}
-use Rattle.ngc_certificate_text.specs.Certificate.{CertificateData}
+use Rattle.ngc_certificate_text.specs.Certificate.{CertificateData, Entry}
 use Rattle.ngc_checker.specs.Accepted.{AcceptedData, commands_at}
 use Rattle.ngc_checker.specs.Held.{accepted_of}
 use Rattle.ngc_job.specs.Job.{JobData, commands_in, on_or}
@@ -62,6 +64,30 @@ fit_text j c form origins apart a off_time on_time lines is_apart is off_lasts o
   on_lasts = on_lasts;
   tells = ap (λ (x : AcceptedData). accepted_text form origins apart x c off_time on_time lines) is ∙ accepted_as j c form origins apart off_time on_time lines is_apart;
 }
+
+-- the same for the motions of one setting, where both settings have the same commands
+pub fit_once : (j : JobData) (c : CertificateData) (form : Form) (origins : OriginList) (a : AcceptedData) (entries : List Entry) (time : ProgramTimeData) (lines : List Line)
+    → is_some j.on ≡ false → a ≡ accepted_of j → entries ≡ c.off → LastsFor j.machine j.off time
+    → IsFitText j c form origins lines (accepted_text form origins false a (record { off = entries; on = entries }) time time lines)
+fit_once j c form origins a entries time lines none is are lasts =
+    subst (IsFitText j c form origins lines)
+    (sym (ap (λ (l : List Entry). accepted_text form origins false a (record { off = l; on = l }) time time lines) are))
+    (fit_text j c form origins false a time time lines (sym none) is lasts (lasts_alike j time none lasts))
+
+-- and for those of each setting
+pub fit_both : (j : JobData) (c : CertificateData) (form : Form) (origins : OriginList) (a : AcceptedData) (off on : List Entry) (off_time on_time : ProgramTimeData)
+    (lines : List Line) → true ≡ is_some j.on → a ≡ accepted_of j → off ≡ c.off → on ≡ c.on → LastsFor j.machine j.off off_time
+    → LastsFor j.machine (commands_in true j) on_time
+    → IsFitText j c form origins lines (accepted_text form origins true a (record { off = off; on = on }) off_time on_time lines)
+fit_both j c form origins a off on off_time on_time lines some is off_are on_are off_lasts on_lasts =
+    subst (IsFitText j c form origins lines)
+    (sym (ap₂ (λ (x y : List Entry). accepted_text form origins true a (record { off = x; on = y }) off_time on_time lines) off_are on_are))
+    (fit_text j c form origins true a off_time on_time lines some is off_lasts on_lasts)
+
+-- the motions of a plan for the accepted program are those for the job
+pub planned_as : {A : Type 0} (j : JobData) (a : AcceptedData) (b : Bool) (plan : Plan A) → a ≡ accepted_of j →
+    planned a.machine.step (commands_at b a) plan ≡ planned j.machine.step (commands_at b (accepted_of j)) plan
+planned_as j a b plan is = ap (λ (x : AcceptedData). planned x.machine.step (commands_at b x) plan) is
 
 -- ---- obstacles
 

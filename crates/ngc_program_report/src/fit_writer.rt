@@ -2,8 +2,6 @@
 ghost use Rattle.std.specs.Prelude.{◌≡◌, ◌++◌, OnOk, OnErr, true, false};
 ghost use Rattle.std.specs.Io.KnownBytes.{Appends};
 ghost use Rattle.ngc_canonical.specs.Interpreter.{setup_of};
-ghost use Rattle.ngc_certificate_text.specs.Certificate.{entries_at};
-ghost use Rattle.ngc_certificate_text.specs.Contents.{said_of};
 ghost use Rattle.ngc_text.specs.Failures.{CountsFailure};
 ghost use Rattle.ngc_text.specs.Written.{AppendsBeginning};
 ghost use Rattle.ngc_machine_files.specs.Machine.{file_of};
@@ -18,7 +16,7 @@ use crate::report_time::add_takes_line;
 use crate::run_time::RunTime;
 use crate::use_times::write_use_times;
 use ngc_certificate::Setting;
-use ngc_certificate_text::Certificate;
+use ngc_certificate_text::MotionList;
 use ngc_checker::Accepted;
 use ngc_commands::Command;
 use ngc_line_reader::Program;
@@ -94,7 +92,7 @@ fn write_remarks<A: Allocator, W: Sink>(
 }
 
 // Writes what fits at a setting, the time there, and the warnings.
-fn write_setting<A: Allocator, W: Sink>(
+fn write_setting<A: Allocator, M: MotionList, W: Sink>(
     form: Form,
     origins: &Origins,
     program: &Program<A>,
@@ -103,28 +101,22 @@ fn write_setting<A: Allocator, W: Sink>(
     named: bool,
     setting: Setting,
     commands: &[Command],
-    certificate: &Certificate<A>,
+    motions: &M,
     time: &ProgramTime<A>,
     output: &mut W,
 ) -> Result<(), WriteFault>
     ensures ok { OnOk result
         (Appends (W.written output.old) (W.written output.new)
         (setting_text form origins.now first named setting (file_of machine.now) commands.now
-        (entries_at setting (said_of certificate.now)) time.now (text_in program.now).lines)) }
+        (M.entries motions.now) time.now (text_in program.now).lines)) }
     ensures fault { OnErr result
         (AppendsBeginning (W.written output.old) (W.written output.new)
         (setting_text form origins.now first named setting (file_of machine.now) commands.now
-        (entries_at setting (said_of certificate.now)) time.now (text_in program.now).lines)) }
+        (M.entries motions.now) time.now (text_in program.now).lines)) }
     ensures counts { CountsFailure (W.failures output.old) (W.failures output.new) result }
 {
     write_heading(form, origins, first, named, setting, output)?;
-    write_fit(
-        form,
-        machine,
-        commands,
-        certificate.motions(setting),
-        output,
-    )?;
+    write_fit(form, machine, commands, motions, output)?;
     write_duration(form, commands, time, output)?;
     write_remarks(form, program, setting, machine, commands, output)
 }
@@ -171,24 +163,24 @@ fn write_fit_end<A: Allocator, W: Sink>(
 }
 
 // Writes what fits at both settings, which have the same commands.
-pub(crate) fn write_once<A: Allocator, W: Sink>(
+pub(crate) fn write_once<A: Allocator, M: MotionList, W: Sink>(
     form: Form,
     origins: &Origins,
     program: &Program<A>,
     accepted: &Accepted<A>,
-    certificate: &Certificate<A>,
+    motions: &M,
     time: &ProgramTime<A>,
     output: &mut W,
 ) -> Result<(), WriteFault>
     ensures ok { OnOk result
         (Appends (W.written output.old) (W.written output.new)
         (accepted_text form origins.now false accepted.now
-        (said_of certificate.now) time.now time.now
+        (record { off = M.entries motions.now; on = M.entries motions.now }) time.now time.now
         (text_in program.now).lines)) }
     ensures fault { OnErr result
         (AppendsBeginning (W.written output.old) (W.written output.new)
         (accepted_text form origins.now false accepted.now
-        (said_of certificate.now) time.now time.now
+        (record { off = M.entries motions.now; on = M.entries motions.now }) time.now time.now
         (text_in program.now).lines)) }
     ensures counts { CountsFailure (W.failures output.old) (W.failures output.new) result }
 {
@@ -203,7 +195,7 @@ pub(crate) fn write_once<A: Allocator, W: Sink>(
         false,
         Setting::Off,
         off,
-        certificate,
+        motions,
         time,
         output,
     )?;
@@ -211,23 +203,26 @@ pub(crate) fn write_once<A: Allocator, W: Sink>(
 }
 
 // Writes what fits at each setting.
-pub(crate) fn write_both<A: Allocator, W: Sink>(
+pub(crate) fn write_both<A: Allocator, M: MotionList, W: Sink>(
     form: Form,
     origins: &Origins,
     program: &Program<A>,
     accepted: &Accepted<A>,
-    certificate: &Certificate<A>,
+    off_motions: &M,
+    on_motions: &M,
     off_time: &ProgramTime<A>,
     on_time: &ProgramTime<A>,
     output: &mut W,
 ) -> Result<(), WriteFault>
     ensures ok { OnOk result
         (Appends (W.written output.old) (W.written output.new)
-        (accepted_text form origins.now true accepted.now (said_of certificate.now) off_time.now
+        (accepted_text form origins.now true accepted.now
+        (record { off = M.entries off_motions.now; on = M.entries on_motions.now }) off_time.now
         on_time.now (text_in program.now).lines)) }
     ensures fault { OnErr result
         (AppendsBeginning (W.written output.old) (W.written output.new)
-        (accepted_text form origins.now true accepted.now (said_of certificate.now) off_time.now
+        (accepted_text form origins.now true accepted.now
+        (record { off = M.entries off_motions.now; on = M.entries on_motions.now }) off_time.now
         on_time.now (text_in program.now).lines)) }
     ensures counts { CountsFailure (W.failures output.old) (W.failures output.new) result }
 {
@@ -242,7 +237,7 @@ pub(crate) fn write_both<A: Allocator, W: Sink>(
         true,
         Setting::Off,
         off,
-        certificate,
+        off_motions,
         off_time,
         output,
     )?;
@@ -256,7 +251,7 @@ pub(crate) fn write_both<A: Allocator, W: Sink>(
         true,
         Setting::On,
         on,
-        certificate,
+        on_motions,
         on_time,
         output,
     )?;

@@ -4,7 +4,11 @@ ghost use Rattle.std.specs.Io.KnownBytes.{Appends};
 ghost use Rattle.ngc_certificate.specs.Made.{IsMade};
 ghost use Rattle.ngc_certificate.specs.Uncleared.{AreUncleared};
 ghost use Rattle.ngc_certificate.specs.Valid.{IsValid};
-ghost use Rattle.ngc_certificate_text.specs.Contents.{said_of};
+ghost use Rattle.ngc_certificate.specs.Planned.{planned};
+ghost use Rattle.ngc_certificate.specs.PlannedBy.{planned_by};
+ghost use Rattle.ngc_certificate.specs.Plans.{both_planned, plan_at};
+ghost use Rattle.ngc_certificate_text.specs.Certificate.{AreEntries};
+ghost use Rattle.ngc_checker.specs.Accepted.{commands_at};
 ghost use Rattle.ngc_job.specs.Job.{commands_in};
 ghost use Rattle.ngc_text.specs.Failures.{CountsFailure};
 ghost use Rattle.ngc_text.specs.Written.{AppendsBeginning};
@@ -14,14 +18,17 @@ ghost use Rattle.ngc_program_report.specs.JobReports.{FailsByWriting, IsFitText,
 ghost use Rattle.ngc_program_report.specs.JobReports.{IsHistoryAt, IsRefusalText, IsRefusalsText};
 ghost use Rattle.ngc_program_report.specs.JobReports.{IsStartClear, OffBegins, OnBegins, Tells};
 ghost use Rattle.ngc_program_report.specs.JobReports.{first_text};
+ghost use Rattle.ngc_program_report.specs.Texts.{is_on};
 
 use crate::coordinates::line_of;
 use crate::fit_writer::{is_on, write_both, write_once};
 use crate::refusal_writer::{is_start_refused, write_all_both, write_all_once, write_refused};
 use crate::request::ReportRequest;
 use crate::timing::{accept, time_of};
-use ngc_certificate::{MakeFault, MemoryFault, Setting, uncleared, uncleared_from};
-use ngc_certificate_text::Certificate;
+use ngc_certificate::{
+    MakeFault, MemoryFault, PlannedMotions, Plans, Setting, uncleared, uncleared_from,
+};
+use ngc_checker::Accepted;
 use ngc_commands::Command;
 use ngc_frames::{FrameHistory, FrameInForce, OutOfMemory, frame_history};
 use ngc_job::Job;
@@ -31,8 +38,26 @@ use ngc_report::{Form, ReportFault};
 use ngc_text::{Sink, WriteFault};
 use std::alloc::Allocator;
 
-/// Writes the report of a job with a certificate: its extent and margins, the use of each tool, the
-/// time, and the warnings about its commands and the words of the program.
+// Returns the motions of an accepted program at a setting, from its plans.
+fn motions_at<'a, A: Allocator>(
+    accepted: &'a Accepted<A>,
+    plans: &'a Plans<A>,
+    setting: Setting,
+) -> PlannedMotions<'a, A>
+    requires are { AreEntries (planned accepted.now.machine.step
+        (commands_at (is_on setting) accepted.now) (plan_at setting plans.now)) }
+    ensures { planned_by result ≡ planned accepted.now.machine.step
+        (commands_at (is_on setting) accepted.now) (plan_at setting plans.now) }
+{
+    let commands = accepted.commands(is_on(setting));
+    plans
+        .plan(setting)
+        .motions(commands, accepted.machine().step)
+}
+
+/// Writes the report of a job with plans of its motions: its extent and margins, the use of each
+/// tool, the time, and the warnings about its commands and the words of the program. The plans are
+/// those of the job's commands, and their motions are valid for it.
 ///
 /// Nothing is written before the time is computed, and nothing if memory runs out (900). If a write
 /// fails (902), a prefix is written.
@@ -40,43 +65,40 @@ pub fn report_fit<A: Allocator + Copy, W: Sink>(
     alloc: A,
     program: &Program<A>,
     job: Job<A>,
-    certificate: &Certificate<A>,
+    plans: &Plans<A>,
     form: Form,
     origins: &Origins,
     output: &mut W,
 ) -> Result<(), ReportFault>
-    requires off { IsValid job.machine job.off (said_of certificate.now).off }
-    requires on { IsValid job.machine (commands_in true job) (said_of certificate.now).on }
+    requires off_are { AreEntries
+        (both_planned job.machine.step job.off (commands_in true job) plans.now).off }
+    requires on_are { AreEntries
+        (both_planned job.machine.step job.off (commands_in true job) plans.now).on }
+    requires off { IsValid job.machine job.off
+        (both_planned job.machine.step job.off (commands_in true job) plans.now).off }
+    requires on { IsValid job.machine (commands_in true job)
+        (both_planned job.machine.step job.off (commands_in true job) plans.now).on }
     ensures tells { Tells
-        (IsFitText job (said_of certificate.now) form origins.now (text_in program.now).lines)
+        (IsFitText job (both_planned job.machine.step job.off (commands_in true job) plans.now)
+        form origins.now (text_in program.now).lines)
         (W.written output.old) (W.written output.new) result }
     ensures counts { FailsByWriting result (W.failures output.old) (W.failures output.new) }
 {
     let apart = job.has_deleted_lines();
-    let accepted = accept(job, certificate);
+    let accepted = accept(job, plans);
     let (off_time, accepted) = time_of(alloc, accepted, false)?;
     if !apart {
+        let motions = motions_at(&accepted, plans, Setting::Off);
         write_once(
-            form,
-            origins,
-            program,
-            &accepted,
-            certificate,
-            &off_time,
-            output,
+            form, origins, program, &accepted, &motions, &off_time, output,
         )?;
         return Ok(());
     }
     let (on_time, accepted) = time_of(alloc, accepted, true)?;
+    let off = motions_at(&accepted, plans, Setting::Off);
+    let on = motions_at(&accepted, plans, Setting::On);
     write_both(
-        form,
-        origins,
-        program,
-        &accepted,
-        certificate,
-        &off_time,
-        &on_time,
-        output,
+        form, origins, program, &accepted, &off, &on, &off_time, &on_time, output,
     )?;
     Ok(())
 }

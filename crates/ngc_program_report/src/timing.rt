@@ -1,7 +1,8 @@
 //! The time of a program on a machine.
 ghost use Rattle.std.specs.Prelude.{◌≡◌, IfErr, IfOk, true};
 ghost use Rattle.ngc_certificate.specs.Valid.{IsValid};
-ghost use Rattle.ngc_certificate_text.specs.Contents.{said_of};
+ghost use Rattle.ngc_certificate.specs.Plans.{both_planned};
+ghost use Rattle.ngc_certificate_text.specs.Certificate.{AreEntries};
 ghost use Rattle.ngc_checker.specs.Accepted.{commands_at};
 ghost use Rattle.ngc_checker.specs.Held.{accepted_of};
 ghost use Rattle.ngc_job.specs.Job.{commands_in};
@@ -9,20 +10,26 @@ ghost use Rattle.ngc_program_report.specs.Texts.{LastsFor};
 
 use crate::program_time::ProgramTime;
 use crate::run_time::RunTime;
-use ngc_certificate_text::Certificate;
-use ngc_checker::{Accepted, check_job};
+use ngc_certificate::Plans;
+use ngc_checker::{Accepted, check_plans};
 use ngc_job::Job;
 use ngc_report::ReportFault;
 use ngc_run_through::time_through;
 use std::alloc::Allocator;
 
-/// Accepts a job with a certificate that is valid for it.
-pub(crate) fn accept<A: Allocator>(job: Job<A>, certificate: &Certificate<A>) -> Accepted<A>
-    requires off { IsValid job.machine job.off (said_of certificate.now).off }
-    requires on { IsValid job.machine (commands_in true job) (said_of certificate.now).on }
+/// Accepts a job with plans whose motions are valid for it.
+pub(crate) fn accept<A: Allocator>(job: Job<A>, plans: &Plans<A>) -> Accepted<A>
+    requires off_are { AreEntries
+        (both_planned job.machine.step job.off (commands_in true job) plans.now).off }
+    requires on_are { AreEntries
+        (both_planned job.machine.step job.off (commands_in true job) plans.now).on }
+    requires off { IsValid job.machine job.off
+        (both_planned job.machine.step job.off (commands_in true job) plans.now).off }
+    requires on { IsValid job.machine (commands_in true job)
+        (both_planned job.machine.step job.off (commands_in true job) plans.now).on }
     ensures { result ≡ accepted_of job }
 {
-    match check_job(job, certificate) {
+    match check_plans(job, plans) {
         Ok(accepted) => accepted,
         Err(_) => unreachable!(),
     }

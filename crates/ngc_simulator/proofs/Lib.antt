@@ -12,6 +12,8 @@ pub mod MakingLaws
 pub mod RunLaws
 -- The result of a run whose events arrive from a source, from the results of its parts.
 pub mod LiveLaws
+-- The result of certifying a program, from what is written of its plans.
+pub mod CertifyLaws
 -- The result of drawing a program, from the results of its parts.
 pub mod DrawLaws
 -- The result of reporting whether a program fits, from the results of its parts.

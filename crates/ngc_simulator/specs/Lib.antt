@@ -12,4 +12,5 @@ pub mod Making
 pub mod Mistaken
 pub mod Status
 pub mod Adapting
+pub mod Certifying
 pub mod Answers

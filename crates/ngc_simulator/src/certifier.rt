@@ -1,19 +1,23 @@
-ghost use Rattle.std.specs.Prelude.{◌≡◌, ◌≤◌, IfErr, IfOk, IfSome, Ok, Err, MatchResult};
+ghost use Rattle.std.specs.Prelude.{◌≡◌, ◌≤◌, IfErr, IfOk, IfSome, Ok, Err, MatchResult, true};
 ghost use Rattle.ngc_canonical.specs.Interpreter.{setup_of};
-ghost use Rattle.ngc_certificate_text.specs.Contents.{form_of, said_of};
-ghost use Rattle.ngc_certificate_text.specs.Joined.{Parted};
+ghost use Rattle.ngc_certificate.specs.Common.{IsJoinedOf};
+ghost use Rattle.ngc_certificate.specs.Plans.{both_planned};
+ghost use Rattle.ngc_certificate_text.specs.Certificate.{AreEntries};
 ghost use Rattle.ngc_text.specs.Failures.{Rises};
 ghost use Rattle.ngc_line_reader.specs.declared.program.fault.ReadFault.TheVariants.{Device};
 ghost use Rattle.ngc_simulator.specs.Answers.{CertifyComes, certify_inputs};
 ghost use Rattle.ngc_inputs.specs.Faults.{FailsByOutput, OfCertifying};
-ghost use Rattle.ngc_inputs.specs.Jobs.{Certifies, IsFormFor, IsMadeOf, IsUnmade, refused_at};
+ghost use Rattle.ngc_inputs.specs.Jobs.{Certifies, IsMadeOf, IsUnmade, IsWrittenAs, refused_at};
 ghost use Rattle.ngc_inputs.specs.Unread.{FailsByInput, SourceFails};
+ghost use Rattle.ngc_job.specs.Job.{commands_in};
+ghost use Rattle.ngc_simulator.specs.Certifying.{WritesForm};
 
 use crate::done::Done;
 use ngc_canonical::ProgramFault;
-use ngc_certificate::{MakeFault, join, make, make_alike};
-use ngc_certificate_text::Certificate;
+use ngc_certificate::{MakeFault, Plans, Setting, common_motions, make_plans, make_plans_alike};
+use ngc_certificate_text::{MotionList, first_joined, write_joined, write_parted};
 use ngc_command_line::{CertifyOptions, Format};
+use ngc_commands::Command;
 use ngc_inputs::{AnswerFault, Files, open_file, read_placed};
 use ngc_job::{Job, JobFault};
 use ngc_line_reader::Program;
@@ -35,52 +39,87 @@ pub(crate) fn refused(refusal: JobFault) -> AnswerFault
     }
 }
 
-/// Returns the certificate that is made for a job. If no line begins with `/`, one certificate
-/// serves both settings of block delete.
-pub(crate) fn made_for<A: Allocator + Copy>(
+/// Returns the plans of the motions of a job: those of the certificate that is made for it. If no
+/// line begins with `/`, one plan serves both settings of block delete.
+pub(crate) fn plans_for<A: Allocator + Copy>(
     alloc: A,
     job: &Job<A>,
     cuts: u16,
-) -> Result<Certificate<A>, MakeFault>
+) -> Result<Plans<A>, MakeFault>
     requires { 1 ≤ cuts }
-    ensures made { MatchResult result (λ c. IsMadeOf job.now cuts (said_of c))
+    ensures made { MatchResult result
+        (λ p. IsMadeOf job.now cuts
+        (both_planned job.now.machine.step job.now.off (commands_in true job.now) p))
         (IsUnmade job.now cuts) }
-    ensures form { IfOk result (λ c. form_of c ≡ Parted (said_of c)) }
+    ensures off_are { IfOk result (λ p. AreEntries
+        (both_planned job.now.machine.step job.now.off (commands_in true job.now) p).off) }
+    ensures on_are { IfOk result (λ p. AreEntries
+        (both_planned job.now.machine.step job.now.off (commands_in true job.now) p).on) }
 {
+    let (off, machine) = (job.commands(false), job.machine());
     if job.has_deleted_lines() {
-        make(
-            alloc,
-            job.commands(false),
-            job.commands(true),
-            job.machine(),
-            cuts,
-        )
+        make_plans(alloc, off, job.commands(true), machine, cuts)
     } else {
-        make_alike(alloc, job.commands(false), job.machine(), cuts)
+        make_plans_alike(alloc, off, machine, cuts)
     }
 }
 
-// Returns the certificate that is made for a job, in a format.
-fn certificate_for<A: Allocator + Copy>(
+// Writes motions as a certificate of version 2, joined where the settings begin alike. If memory
+// runs out (900), nothing is written; if a write fails (902), a prefix is written.
+fn write_alike<A: Allocator, M: MotionList, W: Sink>(
+    alloc: A,
+    off: &[Command],
+    on: &[Command],
+    off_motions: &M,
+    on_motions: &M,
+    output: &mut W,
+) -> Result<(), AnswerFault>
+    ensures writes { WritesForm (IsJoinedOf off.now on.now
+        (record { off = M.entries off_motions.now; on = M.entries on_motions.now }))
+        (W.written output.old) (W.written output.new) result }
+    ensures sink { FailsByOutput result (W.failures output.old) (W.failures output.new) }
+    ensures faults { IfErr result OfCertifying }
+{
+    let both = common_motions(off, on, off_motions, on_motions);
+    let order = match first_joined(alloc, both, off_motions, on_motions) {
+        Ok(order) => order,
+        Err(_) => return Err(AnswerFault::Make(MakeFault::Memory)),
+    };
+    match write_joined(order.as_slice(), off_motions, on_motions, output) {
+        Ok(()) => Ok(()),
+        Err(fault) => Err(AnswerFault::Write(fault)),
+    }
+}
+
+// Writes the motions of a job's plans as a certificate, in a format.
+fn write_plans<A: Allocator + Copy, W: Sink>(
     alloc: A,
     job: &Job<A>,
-    cuts: u16,
+    plans: &Plans<A>,
     format: Format,
-) -> Result<Certificate<A>, MakeFault>
-    requires { 1 ≤ cuts }
-    ensures { MatchResult result (λ c. IsFormFor job.now cuts format (form_of c))
-        (IsUnmade job.now cuts) }
+    output: &mut W,
+) -> Result<(), AnswerFault>
+    requires off_are { AreEntries
+        (both_planned job.now.machine.step job.now.off (commands_in true job.now) plans.now).off }
+    requires on_are { AreEntries
+        (both_planned job.now.machine.step job.now.off (commands_in true job.now) plans.now).on }
+    ensures writes { WritesForm (IsWrittenAs format job.now.off (commands_in true job.now)
+        (both_planned job.now.machine.step job.now.off (commands_in true job.now) plans.now))
+        (W.written output.old) (W.written output.new) result }
+    ensures sink { FailsByOutput result (W.failures output.old) (W.failures output.new) }
+    ensures faults { IfErr result OfCertifying }
 {
-    let certificate = match made_for(alloc, job, cuts) {
-        Ok(certificate) => certificate,
-        Err(fault) => return Err(fault),
-    };
-    if let Format::One = format {
-        return Ok(certificate);
-    }
-    match join(alloc, certificate, job.commands(false), job.commands(true)) {
-        Ok(joined) => Ok(joined),
-        Err(_) => Err(MakeFault::Memory),
+    let machine = job.machine();
+    let off = job.commands(false);
+    let on = job.commands(true);
+    let off_motions = plans.plan(Setting::Off).motions(off, machine.step);
+    let on_motions = plans.plan(Setting::On).motions(on, machine.step);
+    match format {
+        Format::One => match write_parted(&off_motions, &on_motions, output) {
+            Ok(()) => Ok(()),
+            Err(fault) => Err(AnswerFault::Write(fault)),
+        },
+        Format::Two => write_alike(alloc, off, on, &off_motions, &on_motions, output),
     }
 }
 
@@ -114,9 +153,8 @@ pub fn certify<A: Allocator + Copy, R: Source, W: Sink>(
         Ok(job) => job,
         Err(refusal) => return Err(refused(refusal)),
     };
-    let certificate = certificate_for(alloc, &job, cuts, format)?;
-    certificate.write(output)?;
-    Ok(())
+    let plans = plans_for(alloc, &job, cuts)?;
+    write_plans(alloc, &job, &plans, format, output)
 }
 
 // Writes the certificate of a program.

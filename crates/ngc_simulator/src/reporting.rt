@@ -10,7 +10,7 @@ ghost use Rattle.ngc_inputs.specs.Faults.{FailsByOutput, FailsWith, OfCertifying
 ghost use Rattle.ngc_inputs.specs.Jobs.{WhyNotMade};
 ghost use Rattle.ngc_simulator.specs.Reporting.{Reports};
 
-use crate::certifier::made_for;
+use crate::certifier::plans_for;
 use ngc_canonical::{ProgramFault, has_deleted_lines};
 use ngc_certificate::{MakeFault, Setting};
 use ngc_inputs::AnswerFault;
@@ -90,13 +90,13 @@ pub fn report_program<A: Allocator + Copy, R: Source, W: Sink>(
             return Err(report_rejection(&program, setting, fault, request, output));
         }
     };
-    match made_for(alloc, &job, request.cuts) {
-        Ok(certificate) => {
+    match plans_for(alloc, &job, request.cuts) {
+        Ok(plans) => {
             report_fit(
                 alloc,
                 &program,
                 job,
-                &certificate,
+                &plans,
                 request.form,
                 &request.origins,
                 output,

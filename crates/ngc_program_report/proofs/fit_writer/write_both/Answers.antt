@@ -1,6 +1,4 @@
 use Rattle.std.proofs.Common.{true, false}
-use Rattle.ngc_certificate_text.specs.Certificate.{entries_at}
-use Rattle.ngc_certificate_text.specs.Contents.{said_of}
 use Rattle.ngc_certificate_text.specs.declared.piece.Setting.TheVariants.{Off, On}
 use Rattle.ngc_text.proofs.Appended.{appends_both}
 use Rattle.ngc_line_reader.specs.ProgramView.{text_in}
@@ -12,17 +10,17 @@ use Rattle.ngc_program_report.proofs.fit_writer.write_both.Goals as goal
 
 pub returns-in_err-write_setting-clause-fault : goal.returns-in_err-write_setting-clause-fault
 returns-in_err-write_setting-clause-fault g c =
-    let off = setting_as c.args.form c.args.origins.now true true Off (entries_at Off (said_of c.args.certificate.now)) c.args.off_time.now (text_in c.args.program.now).lines
+    let off = setting_as c.args.form c.args.origins.now true true Off (g.M.MotionList.entries c.args.off_motions.now) c.args.off_time.now (text_in c.args.program.now).lines
     (file_of c.machine-machine.result.now) c.args.accepted.now.machine c.commands-off.result.now c.args.accepted.now.off
     c.machine-machine.ensures.value c.commands-off.ensures in
     on_err _ _ (begins_first _ _ _ _ (begins_as _ _ _ _ off c.in_err-write_setting.ensures.fault))
 
 pub returns-in_err-write_setting-2-clause-fault : goal.returns-in_err-write_setting-2-clause-fault
 returns-in_err-write_setting-2-clause-fault g c =
-    let off = setting_as c.args.form c.args.origins.now true true Off (entries_at Off (said_of c.args.certificate.now)) c.args.off_time.now (text_in c.args.program.now).lines
+    let off = setting_as c.args.form c.args.origins.now true true Off (g.M.MotionList.entries c.args.off_motions.now) c.args.off_time.now (text_in c.args.program.now).lines
     (file_of c.machine-machine.result.now) c.args.accepted.now.machine c.commands-off.result.now c.args.accepted.now.off
     c.machine-machine.ensures.value c.commands-off.ensures in
-    let on = setting_as c.args.form c.args.origins.now false true On (entries_at On (said_of c.args.certificate.now)) c.args.on_time.now (text_in c.args.program.now).lines
+    let on = setting_as c.args.form c.args.origins.now false true On (g.M.MotionList.entries c.args.on_motions.now) c.args.on_time.now (text_in c.args.program.now).lines
     (file_of c.machine-machine.result.now) c.args.accepted.now.machine c.commands-on.result.now c.args.accepted.now.on
     c.machine-machine.ensures.value c.commands-on.ensures in
     on_err _ _ (begins_last _ _ _ _ _ (appends_as _ _ _ _ off c.in_ok-write_setting.ensures.ok)
@@ -30,10 +28,10 @@ returns-in_err-write_setting-2-clause-fault g c =
 
 pub returns-clause-ok : goal.returns-clause-ok
 returns-clause-ok g c =
-    let off = setting_as c.args.form c.args.origins.now true true Off (entries_at Off (said_of c.args.certificate.now)) c.args.off_time.now (text_in c.args.program.now).lines
+    let off = setting_as c.args.form c.args.origins.now true true Off (g.M.MotionList.entries c.args.off_motions.now) c.args.off_time.now (text_in c.args.program.now).lines
     (file_of c.machine-machine.result.now) c.args.accepted.now.machine c.commands-off.result.now c.args.accepted.now.off
     c.machine-machine.ensures.value c.commands-off.ensures in
-    let on = setting_as c.args.form c.args.origins.now false true On (entries_at On (said_of c.args.certificate.now)) c.args.on_time.now (text_in c.args.program.now).lines
+    let on = setting_as c.args.form c.args.origins.now false true On (g.M.MotionList.entries c.args.on_motions.now) c.args.on_time.now (text_in c.args.program.now).lines
     (file_of c.machine-machine.result.now) c.args.accepted.now.machine c.commands-on.result.now c.args.accepted.now.on
     c.machine-machine.ensures.value c.commands-on.ensures in
     let shop = shop_as c.args.form (file_of c.machine-machine.result.now) c.args.accepted.now.machine
@@ -45,10 +43,10 @@ returns-clause-ok g c =
 
 pub returns-clause-fault : goal.returns-clause-fault
 returns-clause-fault g c =
-    let off = setting_as c.args.form c.args.origins.now true true Off (entries_at Off (said_of c.args.certificate.now)) c.args.off_time.now (text_in c.args.program.now).lines
+    let off = setting_as c.args.form c.args.origins.now true true Off (g.M.MotionList.entries c.args.off_motions.now) c.args.off_time.now (text_in c.args.program.now).lines
     (file_of c.machine-machine.result.now) c.args.accepted.now.machine c.commands-off.result.now c.args.accepted.now.off
     c.machine-machine.ensures.value c.commands-off.ensures in
-    let on = setting_as c.args.form c.args.origins.now false true On (entries_at On (said_of c.args.certificate.now)) c.args.on_time.now (text_in c.args.program.now).lines
+    let on = setting_as c.args.form c.args.origins.now false true On (g.M.MotionList.entries c.args.on_motions.now) c.args.on_time.now (text_in c.args.program.now).lines
     (file_of c.machine-machine.result.now) c.args.accepted.now.machine c.commands-on.result.now c.args.accepted.now.on
     c.machine-machine.ensures.value c.commands-on.ensures in
     let shop = shop_as c.args.form (file_of c.machine-machine.result.now) c.args.accepted.now.machine

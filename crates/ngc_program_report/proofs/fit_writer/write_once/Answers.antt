@@ -1,6 +1,4 @@
 use Rattle.std.proofs.Common.{true, false}
-use Rattle.ngc_certificate_text.specs.Certificate.{entries_at}
-use Rattle.ngc_certificate_text.specs.Contents.{said_of}
 use Rattle.ngc_certificate_text.specs.declared.piece.Setting.TheVariants.{Off}
 use Rattle.ngc_text.proofs.Appended.{appends_both}
 use Rattle.ngc_line_reader.specs.ProgramView.{text_in}
@@ -12,14 +10,14 @@ use Rattle.ngc_program_report.proofs.fit_writer.write_once.Goals as goal
 
 pub returns-in_err-write_setting-clause-fault : goal.returns-in_err-write_setting-clause-fault
 returns-in_err-write_setting-clause-fault g c =
-    let off = setting_as c.args.form c.args.origins.now true false Off (entries_at Off (said_of c.args.certificate.now)) c.args.time.now (text_in c.args.program.now).lines
+    let off = setting_as c.args.form c.args.origins.now true false Off (g.M.MotionList.entries c.args.motions.now) c.args.time.now (text_in c.args.program.now).lines
     (file_of c.machine-machine.result.now) c.args.accepted.now.machine c.commands-off.result.now c.args.accepted.now.off
     c.machine-machine.ensures.value c.commands-off.ensures in
     on_err _ _ (begins_first _ _ _ _ (begins_as _ _ _ _ off c.in_err-write_setting.ensures.fault))
 
 pub returns-clause-ok : goal.returns-clause-ok
 returns-clause-ok g c =
-    let off = setting_as c.args.form c.args.origins.now true false Off (entries_at Off (said_of c.args.certificate.now)) c.args.time.now (text_in c.args.program.now).lines
+    let off = setting_as c.args.form c.args.origins.now true false Off (g.M.MotionList.entries c.args.motions.now) c.args.time.now (text_in c.args.program.now).lines
     (file_of c.machine-machine.result.now) c.args.accepted.now.machine c.commands-off.result.now c.args.accepted.now.off
     c.machine-machine.ensures.value c.commands-off.ensures in
     let shop = shop_as c.args.form (file_of c.machine-machine.result.now) c.args.accepted.now.machine
@@ -30,7 +28,7 @@ returns-clause-ok g c =
 
 pub returns-clause-fault : goal.returns-clause-fault
 returns-clause-fault g c =
-    let off = setting_as c.args.form c.args.origins.now true false Off (entries_at Off (said_of c.args.certificate.now)) c.args.time.now (text_in c.args.program.now).lines
+    let off = setting_as c.args.form c.args.origins.now true false Off (g.M.MotionList.entries c.args.motions.now) c.args.time.now (text_in c.args.program.now).lines
     (file_of c.machine-machine.result.now) c.args.accepted.now.machine c.commands-off.result.now c.args.accepted.now.off
     c.machine-machine.ensures.value c.commands-off.ensures in
     let shop = shop_as c.args.form (file_of c.machine-machine.result.now) c.args.accepted.now.machine

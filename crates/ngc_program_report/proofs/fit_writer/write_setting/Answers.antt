@@ -1,9 +1,5 @@
-use Rattle.std.proofs.Common.{ap}
 use Rattle.ngc_text.proofs.Appended.{appends_both, begins_after}
-use Rattle.ngc_machine_files.specs.Machine.{file_of}
-use Rattle.ngc_report.specs.Reports.{fit_lines}
-use Rattle.ngc_report.specs.Forms.{report_text}
-use Rattle.ngc_program_report.proofs.WrittenLaws.{appends_as, begins_as, begins_first, begins_last, err_weaker, ok_weaker, on_err}
+use Rattle.ngc_program_report.proofs.WrittenLaws.{begins_first, begins_last, err_weaker, ok_weaker, on_err}
 use Rattle.ngc_program_report.proofs.fit_writer.write_setting.Goals as goal
 
 pub returns-in_err-write_heading-clause-fault : goal.returns-in_err-write_heading-clause-fault
@@ -12,23 +8,18 @@ returns-in_err-write_heading-clause-fault g c = on_err _ _ (begins_first _ _ _ _
 pub returns-in_err-write_fit-clause-fault : goal.returns-in_err-write_fit-clause-fault
 returns-in_err-write_fit-clause-fault g c =
     on_err _ _ (begins_after _ _ _ _ _ _ c.in_ok-write_heading.ensures.ok
-    (begins_as _ _ _ _ (ap (λ motions. report_text c.args.form (fit_lines (file_of c.args.machine.now) c.args.commands.now motions)) c.motions.ensures)
-    c.in_err-write_fit.ensures.fault))
+    c.in_err-write_fit.ensures.fault)
 
 pub returns-in_err-write_duration-clause-fault : goal.returns-in_err-write_duration-clause-fault
 returns-in_err-write_duration-clause-fault g c =
     let head = c.in_ok-write_heading.ensures.ok in
-    let fits = appends_as _ _ _ _
-    (ap (λ motions. report_text c.args.form (fit_lines (file_of c.args.machine.now) c.args.commands.now motions)) c.motions.ensures)
-    c.in_ok-write_fit.ensures.ok in
+    let fits = c.in_ok-write_fit.ensures.ok in
     on_err _ _ (begins_last _ _ _ _ _ head (begins_last _ _ _ _ _ fits (begins_first _ _ _ _ c.in_err-write_duration.ensures.fault)))
 
 pub returns-clause-ok : goal.returns-clause-ok
 returns-clause-ok g c =
     let head = c.in_ok-write_heading.ensures.ok in
-    let fits = appends_as _ _ _ _
-    (ap (λ motions. report_text c.args.form (fit_lines (file_of c.args.machine.now) c.args.commands.now motions)) c.motions.ensures)
-    c.in_ok-write_fit.ensures.ok in
+    let fits = c.in_ok-write_fit.ensures.ok in
     ok_weaker c.write_remarks.result _ _
     (λ wrote. appends_both _ _ _ _ _ head (appends_both _ _ _ _ _ fits (appends_both _ _ _ _ _ c.in_ok-write_duration.ensures.ok wrote)))
     c.write_remarks.ensures.ok
@@ -36,9 +27,7 @@ returns-clause-ok g c =
 pub returns-clause-fault : goal.returns-clause-fault
 returns-clause-fault g c =
     let head = c.in_ok-write_heading.ensures.ok in
-    let fits = appends_as _ _ _ _
-    (ap (λ motions. report_text c.args.form (fit_lines (file_of c.args.machine.now) c.args.commands.now motions)) c.motions.ensures)
-    c.in_ok-write_fit.ensures.ok in
+    let fits = c.in_ok-write_fit.ensures.ok in
     err_weaker c.write_remarks.result _ _
     (λ wrote. begins_last _ _ _ _ _ head (begins_last _ _ _ _ _ fits (begins_last _ _ _ _ _ c.in_ok-write_duration.ensures.ok wrote)))
     c.write_remarks.ensures.fault

@@ -1,61 +1,98 @@
-use Rattle.std.proofs.Common.{◌≡◌, true, false, sym, ◌∙◌}
+use Rattle.std.proofs.Common.{◌≡◌, true, false, sym, subst, ◌∙◌}
 use Rattle.std.specs.Prelude.{is_some}
-use Rattle.ngc_certificate_text.specs.Contents.{said_of}
+use Rattle.ngc_certificate.specs.PlannedBy.{planned_by}
+use Rattle.ngc_certificate.specs.Plans.{both_planned, plan_at}
+use Rattle.ngc_certificate_text.specs.Certificate.{AreEntries}
+use Rattle.ngc_certificate_text.specs.declared.piece.Setting.TheVariants.{Off, On}
+use Rattle.ngc_job.specs.Job.{commands_in}
 use Rattle.ngc_line_reader.specs.ProgramView.{text_in}
 use Rattle.ngc_program_report.specs.JobReports.{IsFitText, Tells}
 use Rattle.ngc_report.specs.declared.report_fault.ReportFault.TheVariants as faults
-use Rattle.ngc_program_report.proofs.JobTexts.{fit_text, lasts_alike, lasts_off, lasts_on}
+use Rattle.ngc_program_report.proofs.JobTexts.{fit_both, fit_once, lasts_off, lasts_on, planned_as}
 use Rattle.ngc_report.proofs.Converted.{turned}
 use Rattle.ngc_program_report.proofs.job_report.report_fit.Goals as goal
+
+pub motions_at-motions-requires : goal.motions_at-motions-requires
+motions_at-motions-requires g c =
+    record { are = subst AreEntries (sym (planned_as c.args.job c.in_ok-off_time.accepted false (plan_at Off c.args.plans.now)
+    (c.in_ok-off_time.ensures.back ∙ c.accept-accepted.ensures))) c.requires.off_are }
+
+pub motions_at-off-requires : goal.motions_at-off-requires
+motions_at-off-requires g c =
+    record { are = subst AreEntries (sym (planned_as c.args.job c.in_ok-on_time.accepted false (plan_at Off c.args.plans.now)
+    (c.in_ok-on_time.ensures.back ∙ c.in_ok-off_time.ensures.back ∙ c.accept-accepted.ensures))) c.requires.off_are }
+
+pub motions_at-on-requires : goal.motions_at-on-requires
+motions_at-on-requires g c =
+    record { are = subst AreEntries (sym (planned_as c.args.job c.in_ok-on_time.accepted true (plan_at On c.args.plans.now)
+    (c.in_ok-on_time.ensures.back ∙ c.in_ok-off_time.ensures.back ∙ c.accept-accepted.ensures))) c.requires.on_are }
 
 pub returns-then-not-apart-clause-tells : goal.returns-then-not-apart-clause-tells
 returns-then-not-apart-clause-tells g c =
     let j = c.args.job in
+    let said = both_planned j.machine.step j.off (commands_in true j) c.args.plans.now in
     let none : is_some j.on ≡ false = sym c.has_deleted_lines-apart.ensures ∙ c.if-not-apart.true in
-    let lasts = lasts_off c.accept-accepted.result j c.in_ok-off_time.off_time c.accept-accepted.ensures c.in_ok-off_time.ensures.lasts in (
+    let is = c.in_ok-off_time.ensures.back ∙ c.accept-accepted.ensures in (
       _,
-      fit_text j (said_of c.args.certificate.now) c.args.form c.args.origins.now false c.in_ok-off_time.accepted c.in_ok-off_time.off_time c.in_ok-off_time.off_time (text_in c.args.program.now).lines (sym none) (c.in_ok-off_time.ensures.back ∙ c.accept-accepted.ensures) lasts
-          (lasts_alike j c.in_ok-off_time.off_time none lasts),
+      fit_once j said c.args.form c.args.origins.now c.in_ok-off_time.accepted (planned_by c.motions_at-motions.result) c.in_ok-off_time.off_time
+          (text_in c.args.program.now).lines none is
+          (c.motions_at-motions.ensures ∙ planned_as j c.in_ok-off_time.accepted false (plan_at Off c.args.plans.now) is)
+          (lasts_off c.accept-accepted.result j c.in_ok-off_time.off_time c.accept-accepted.ensures c.in_ok-off_time.ensures.lasts),
       c.in_ok-write_once.ensures.ok,
     )
 
 pub returns-in_err-write_once-clause-tells : goal.returns-in_err-write_once-clause-tells
 returns-in_err-write_once-clause-tells g c =
     let j = c.args.job in
+    let said = both_planned j.machine.step j.off (commands_in true j) c.args.plans.now in
     let none : is_some j.on ≡ false = sym c.has_deleted_lines-apart.ensures ∙ c.if-not-apart.true in
-    let lasts = lasts_off c.accept-accepted.result j c.in_ok-off_time.off_time c.accept-accepted.ensures c.in_ok-off_time.ensures.lasts in
+    let is = c.in_ok-off_time.ensures.back ∙ c.accept-accepted.ensures in
     turned _ (faults.Write c.in_err-write_once.field-0.0)
-    (λ r. Tells (IsFitText j (said_of c.args.certificate.now) c.args.form c.args.origins.now (text_in c.args.program.now).lines) (g.W.Sink.written c.args.output.now)
+    (λ r. Tells (IsFitText j said c.args.form c.args.origins.now (text_in c.args.program.now).lines) (g.W.Sink.written c.args.output.now)
     (g.W.Sink.written c.write_once.new.output) r)
     c.from_residual-in_err-write_once.ensures.1 (
       _,
-      fit_text j (said_of c.args.certificate.now) c.args.form c.args.origins.now false c.in_ok-off_time.accepted c.in_ok-off_time.off_time c.in_ok-off_time.off_time (text_in c.args.program.now).lines (sym none) (c.in_ok-off_time.ensures.back ∙ c.accept-accepted.ensures) lasts
-          (lasts_alike j c.in_ok-off_time.off_time none lasts),
+      fit_once j said c.args.form c.args.origins.now c.in_ok-off_time.accepted (planned_by c.motions_at-motions.result) c.in_ok-off_time.off_time
+          (text_in c.args.program.now).lines none is
+          (c.motions_at-motions.ensures ∙ planned_as j c.in_ok-off_time.accepted false (plan_at Off c.args.plans.now) is)
+          (lasts_off c.accept-accepted.result j c.in_ok-off_time.off_time c.accept-accepted.ensures c.in_ok-off_time.ensures.lasts),
       c.in_err-write_once.ensures.fault,
     )
 
 pub returns-clause-tells : goal.returns-clause-tells
 returns-clause-tells g c =
     let j = c.args.job in
+    let said = both_planned j.machine.step j.off (commands_in true j) c.args.plans.now in
     let some : true ≡ is_some j.on = sym c.if-not-apart.false ∙ c.has_deleted_lines-apart.ensures in
-    let is = c.in_ok-off_time.ensures.back ∙ c.accept-accepted.ensures in (
+    let before = c.in_ok-off_time.ensures.back ∙ c.accept-accepted.ensures in
+    let is = c.in_ok-on_time.ensures.back ∙ before in (
       _,
-      fit_text j (said_of c.args.certificate.now) c.args.form c.args.origins.now true c.in_ok-on_time.accepted c.in_ok-off_time.off_time c.in_ok-on_time.on_time (text_in c.args.program.now).lines some (c.in_ok-on_time.ensures.back ∙ is)
-          (lasts_off c.accept-accepted.result j c.in_ok-off_time.off_time c.accept-accepted.ensures c.in_ok-off_time.ensures.lasts) (lasts_on c.in_ok-off_time.accepted j c.in_ok-on_time.on_time is c.in_ok-on_time.ensures.lasts),
+      fit_both j said c.args.form c.args.origins.now c.in_ok-on_time.accepted (planned_by c.motions_at-off.result) (planned_by c.motions_at-on.result)
+          c.in_ok-off_time.off_time c.in_ok-on_time.on_time (text_in c.args.program.now).lines some is
+          (c.motions_at-off.ensures ∙ planned_as j c.in_ok-on_time.accepted false (plan_at Off c.args.plans.now) is)
+          (c.motions_at-on.ensures ∙ planned_as j c.in_ok-on_time.accepted true (plan_at On c.args.plans.now) is)
+          (lasts_off c.accept-accepted.result j c.in_ok-off_time.off_time c.accept-accepted.ensures c.in_ok-off_time.ensures.lasts)
+          (lasts_on c.in_ok-off_time.accepted j c.in_ok-on_time.on_time before c.in_ok-on_time.ensures.lasts),
       c.in_ok-write_both.ensures.ok,
     )
 
 pub returns-in_err-write_both-clause-tells : goal.returns-in_err-write_both-clause-tells
 returns-in_err-write_both-clause-tells g c =
     let j = c.args.job in
+    let said = both_planned j.machine.step j.off (commands_in true j) c.args.plans.now in
     let some : true ≡ is_some j.on = sym c.if-not-apart.false ∙ c.has_deleted_lines-apart.ensures in
-    let is = c.in_ok-off_time.ensures.back ∙ c.accept-accepted.ensures in
+    let before = c.in_ok-off_time.ensures.back ∙ c.accept-accepted.ensures in
+    let is = c.in_ok-on_time.ensures.back ∙ before in
     turned _ (faults.Write c.in_err-write_both.field-0.0)
-    (λ r. Tells (IsFitText j (said_of c.args.certificate.now) c.args.form c.args.origins.now (text_in c.args.program.now).lines) (g.W.Sink.written c.args.output.now)
+    (λ r. Tells (IsFitText j said c.args.form c.args.origins.now (text_in c.args.program.now).lines) (g.W.Sink.written c.args.output.now)
     (g.W.Sink.written c.write_both.new.output) r)
     c.from_residual-in_err-write_both.ensures.1 (
       _,
-      fit_text j (said_of c.args.certificate.now) c.args.form c.args.origins.now true c.in_ok-on_time.accepted c.in_ok-off_time.off_time c.in_ok-on_time.on_time (text_in c.args.program.now).lines some (c.in_ok-on_time.ensures.back ∙ is)
-          (lasts_off c.accept-accepted.result j c.in_ok-off_time.off_time c.accept-accepted.ensures c.in_ok-off_time.ensures.lasts) (lasts_on c.in_ok-off_time.accepted j c.in_ok-on_time.on_time is c.in_ok-on_time.ensures.lasts),
+      fit_both j said c.args.form c.args.origins.now c.in_ok-on_time.accepted (planned_by c.motions_at-off.result) (planned_by c.motions_at-on.result)
+          c.in_ok-off_time.off_time c.in_ok-on_time.on_time (text_in c.args.program.now).lines some is
+          (c.motions_at-off.ensures ∙ planned_as j c.in_ok-on_time.accepted false (plan_at Off c.args.plans.now) is)
+          (c.motions_at-on.ensures ∙ planned_as j c.in_ok-on_time.accepted true (plan_at On c.args.plans.now) is)
+          (lasts_off c.accept-accepted.result j c.in_ok-off_time.off_time c.accept-accepted.ensures c.in_ok-off_time.ensures.lasts)
+          (lasts_on c.in_ok-off_time.accepted j c.in_ok-on_time.on_time before c.in_ok-on_time.ensures.lasts),
       c.in_err-write_both.ensures.fault,
     )

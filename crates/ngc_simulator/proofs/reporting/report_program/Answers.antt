@@ -1,6 +1,7 @@
-use Rattle.std.proofs.Common.{IfErr, IfSome, subst}
+use Rattle.std.proofs.Common.{IfErr, IfSome, subst, true}
 use Rattle.ngc_canonical.specs.Interpreter.{setup_of}
-use Rattle.ngc_certificate_text.specs.Contents.{said_of}
+use Rattle.ngc_certificate.specs.Plans.{both_planned}
+use Rattle.ngc_job.specs.Job.{commands_in}
 use Rattle.ngc_line_reader.specs.ProgramView.{text_in}
 use Rattle.ngc_inputs.specs.Faults.{FailsByOutput, OfCertifying, of_report}
 use Rattle.ngc_inputs.specs.Jobs.{IsUnmade}
@@ -18,34 +19,34 @@ returns-in-Err-clause-reports g c =
     c.report_rejection.result _ _ is_text c.in_ok-program.ensures.readings c.in-Err.ensures c.report_rejection.ensures.memory
     (c.report_rejection.ensures.reports setup bytes is_text)) c.in_ok-program.ensures.text
 
-pub returns-in_err-report_fit-in-Ok-made_for-clause-reports : goal.returns-in_err-report_fit-in-Ok-made_for-clause-reports
-returns-in_err-report_fit-in-Ok-made_for-clause-reports g c =
+pub returns-in_err-report_fit-in-Ok-plans_for-clause-reports : goal.returns-in_err-report_fit-in-Ok-plans_for-clause-reports
+returns-in_err-report_fit-in-Ok-plans_for-clause-reports g c =
     let setup = setup_of c.args.machine c.args.tools in
-    let fault = c.in_err-report_fit-in-Ok-made_for.field-0.0 in
+    let fault = c.in_err-report_fit-in-Ok-plans_for.field-0.0 in
     turned _ (of_report fault) (λ r. IfSome (g.R.Source.remaining c.args.source.now)
     (λ bytes. Reports setup bytes c.args.request (g.W.Sink.written c.args.output.now) (g.W.Sink.written c.report_fit.new.output) r))
-    c.from_residual-in_err-report_fit-in-Ok-made_for.ensures.1
+    c.from_residual-in_err-report_fit-in-Ok-plans_for.ensures.1
     (if_known _ _ _ (λ bytes is_text. fit_stopped setup bytes c.args.request (text_in c.in_ok-program.program) c.in-Ok.job is_text
-    c.in_ok-program.ensures.readings c.in-Ok.ensures (said_of c.in-Ok-made_for.certificate) _ _ fault c.in-Ok-made_for.ensures.made
-    c.in_err-report_fit-in-Ok-made_for.ensures.tells) c.in_ok-program.ensures.text)
+    c.in_ok-program.ensures.readings c.in-Ok.ensures (both_planned c.in-Ok.job.machine.step c.in-Ok.job.off (commands_in true c.in-Ok.job) c.in-Ok-plans_for.plans) _ _ fault c.in-Ok-plans_for.ensures.made
+    c.in_err-report_fit-in-Ok-plans_for.ensures.tells) c.in_ok-program.ensures.text)
 
-pub returns-in_err-report_fit-in-Ok-made_for-clause-sink : goal.returns-in_err-report_fit-in-Ok-made_for-clause-sink
-returns-in_err-report_fit-in-Ok-made_for-clause-sink g c =
-    let fault = c.in_err-report_fit-in-Ok-made_for.field-0.0 in
+pub returns-in_err-report_fit-in-Ok-plans_for-clause-sink : goal.returns-in_err-report_fit-in-Ok-plans_for-clause-sink
+returns-in_err-report_fit-in-Ok-plans_for-clause-sink g c =
+    let fault = c.in_err-report_fit-in-Ok-plans_for.field-0.0 in
     turned _ (of_report fault) (λ r. FailsByOutput r (g.W.Sink.failures c.args.output.now) (g.W.Sink.failures c.report_fit.new.output))
-    c.from_residual-in_err-report_fit-in-Ok-made_for.ensures.1 (report_sink fault _ _ c.in_err-report_fit-in-Ok-made_for.ensures.counts)
+    c.from_residual-in_err-report_fit-in-Ok-plans_for.ensures.1 (report_sink fault _ _ c.in_err-report_fit-in-Ok-plans_for.ensures.counts)
 
-pub returns-in_err-report_fit-in-Ok-made_for-clause-faults : goal.returns-in_err-report_fit-in-Ok-made_for-clause-faults
-returns-in_err-report_fit-in-Ok-made_for-clause-faults g c =
-    let fault = c.in_err-report_fit-in-Ok-made_for.field-0.0 in
-    turned _ (of_report fault) (λ r. IfErr r OfCertifying) c.from_residual-in_err-report_fit-in-Ok-made_for.ensures.1 (report_faults fault)
+pub returns-in_err-report_fit-in-Ok-plans_for-clause-faults : goal.returns-in_err-report_fit-in-Ok-plans_for-clause-faults
+returns-in_err-report_fit-in-Ok-plans_for-clause-faults g c =
+    let fault = c.in_err-report_fit-in-Ok-plans_for.field-0.0 in
+    turned _ (of_report fault) (λ r. IfErr r OfCertifying) c.from_residual-in_err-report_fit-in-Ok-plans_for.ensures.1 (report_faults fault)
 
-pub returns-in-Ok-made_for-clause-reports : goal.returns-in-Ok-made_for-clause-reports
-returns-in-Ok-made_for-clause-reports g c =
+pub returns-in-Ok-plans_for-clause-reports : goal.returns-in-Ok-plans_for-clause-reports
+returns-in-Ok-plans_for-clause-reports g c =
     let setup = setup_of c.args.machine c.args.tools in
     if_known _ _ _ (λ bytes is_text. told_fit setup bytes c.args.request (text_in c.in_ok-program.program) c.in-Ok.job is_text
-    c.in_ok-program.ensures.readings c.in-Ok.ensures (said_of c.in-Ok-made_for.certificate) _ _ c.in-Ok-made_for.ensures.made
-    c.in_ok-report_fit-in-Ok-made_for.ensures.tells) c.in_ok-program.ensures.text
+    c.in_ok-program.ensures.readings c.in-Ok.ensures (both_planned c.in-Ok.job.machine.step c.in-Ok.job.off (commands_in true c.in-Ok.job) c.in-Ok-plans_for.plans) _ _ c.in-Ok-plans_for.ensures.made
+    c.in_ok-report_fit-in-Ok-plans_for.ensures.tells) c.in_ok-program.ensures.text
 
 pub returns-in_err-report_refusal-in-Err-NotCleared-clause-reports : goal.returns-in_err-report_refusal-in-Err-NotCleared-clause-reports
 returns-in_err-report_refusal-in-Err-NotCleared-clause-reports g c =

@@ -1,0 +1,98 @@
+-- The result of certifying a program, from what is written of its plans.
+use Rattle.std.proofs.Common.{◌≡◌, ℕ, List, Option, true, Ok, Err, refl, ap₂, subst, sym, ◌∙◌}
+use Rattle.std.specs.Prelude.{Result}
+use Rattle.std.specs.Io.KnownBytes.{Appends}
+use Rattle.ngc_text.specs.Written.{AppendsBeginning}
+use Rattle.ngc_text.specs.declared.writing.WriteFault.{WriteFault}
+use Rattle.ngc_line_reader.specs.ProgramText.{ProgramText, program_of, HaveReadings}
+use Rattle.ngc_canonical.specs.State.{Setup}
+use Rattle.ngc_commands.specs.declared.command.Command.{Command}
+use Rattle.ngc_certificate_text.specs.Certificate.{Entry, CertificateData}
+use Rattle.ngc_certificate_text.specs.Joined.{Item, Parted, Joined, IsJoined}
+use Rattle.ngc_certificate_text.specs.JoinedFirst.{joined_first}
+use Rattle.ngc_certificate_text.specs.Spelling.{joined_spelling, parted_spelling}
+use Rattle.ngc_certificate.specs.Common.{IsCommonBeginning, IsJoinedOf}
+use Rattle.ngc_certificate.specs.declared.fault.MakeFault.TheVariants.{Memory}
+use Rattle.ngc_job.specs.Job.{JobData, commands_in}
+use Rattle.ngc_command_line.specs.declared.options.Format.{Format}
+use Rattle.ngc_command_line.specs.declared.options.Format.TheVariants.{One, Two}
+use Rattle.ngc_inputs.specs.declared.fault.AnswerFault.{AnswerFault}
+use Rattle.ngc_inputs.specs.declared.fault.AnswerFault.TheVariants as answers
+use Rattle.ngc_inputs.specs.Jobs.{Certifies, IsMadeOf, IsWrittenAs}
+use Rattle.ngc_inputs.proofs.JobLaws.{IsJobFor, form_for_file}
+use Rattle.ngc_simulator.specs.Certifying.{WritesForm}
+
+abbrev data_of : List Entry → List Entry → CertificateData
+data_of off on = record { off = off; on = on }
+
+-- ---- version 1
+
+pub parted_written : (format : Format) (off on : List Command) (off_entries on_entries own_off own_on : List Entry) (old new : Option (List ℕ)) → format ≡ One →
+    off_entries ≡ own_off → on_entries ≡ own_on → Appends old new (parted_spelling (data_of off_entries on_entries)) →
+    WritesForm (IsWrittenAs format off on (data_of own_off own_on)) old new (Ok tt)
+parted_written format off on off_entries on_entries own_off own_on old new is off_are on_are wrote =
+    subst (λ (f : Format). WritesForm (IsWrittenAs f off on (data_of own_off own_on)) old new (Ok tt)) (sym is)
+    (Parted (data_of own_off own_on), refl, subst (λ (c : CertificateData). Appends old new (parted_spelling c)) (ap₂ data_of off_are on_are) wrote)
+
+pub parted_stopped : (format : Format) (off on : List Command) (off_entries on_entries own_off own_on : List Entry) (old new : Option (List ℕ))
+    (fault : WriteFault) → format ≡ One →
+    off_entries ≡ own_off → on_entries ≡ own_on → AppendsBeginning old new (parted_spelling (data_of off_entries on_entries)) →
+    WritesForm (IsWrittenAs format off on (data_of own_off own_on)) old new (Err (answers.Write fault))
+parted_stopped format off on off_entries on_entries own_off own_on old new fault is off_are on_are wrote =
+    subst (λ (f : Format). WritesForm (IsWrittenAs f off on (data_of own_off own_on)) old new (Err (answers.Write fault))) (sym is)
+    (Parted (data_of own_off own_on), refl, subst (λ (c : CertificateData). AppendsBeginning old new (parted_spelling c)) (ap₂ data_of off_are on_are) wrote)
+
+-- ---- version 2
+
+abbrev joined_of : (off on : List Command) (off_entries on_entries : List Entry) (n : ℕ) → IsCommonBeginning off on (data_of off_entries on_entries) n →
+    IsJoined (joined_first n off_entries on_entries) → IsJoinedOf off on (data_of off_entries on_entries) (Joined (joined_first n off_entries on_entries))
+joined_of off on off_entries on_entries n common joined = record { common = n; is_common = common; is = refl; entries = joined }
+
+pub joined_written : (off on : List Command) (off_entries on_entries : List Entry) (n : ℕ) (items : List Item) (old new : Option (List ℕ)) →
+    IsCommonBeginning off on (data_of off_entries on_entries) n → IsJoined (joined_first n off_entries on_entries) →
+    items ≡ joined_first n off_entries on_entries → Appends old new (joined_spelling items) →
+    WritesForm (IsJoinedOf off on (data_of off_entries on_entries)) old new (Ok tt)
+joined_written off on off_entries on_entries n items old new common joined are wrote = (
+  Joined (joined_first n off_entries on_entries),
+  joined_of off on off_entries on_entries n common joined,
+  subst (λ (l : List Item). Appends old new (joined_spelling l)) are wrote,
+)
+
+pub joined_stopped : (off on : List Command) (off_entries on_entries : List Entry) (n : ℕ) (items : List Item) (old new : Option (List ℕ)) (fault : WriteFault) →
+    IsCommonBeginning off on (data_of off_entries on_entries) n → IsJoined (joined_first n off_entries on_entries) →
+    items ≡ joined_first n off_entries on_entries → AppendsBeginning old new (joined_spelling items) →
+    WritesForm (IsJoinedOf off on (data_of off_entries on_entries)) old new (Err (answers.Write fault))
+joined_stopped off on off_entries on_entries n items old new fault common joined are wrote = (
+  Joined (joined_first n off_entries on_entries),
+  joined_of off on off_entries on_entries n common joined,
+  subst (λ (l : List Item). AppendsBeginning old new (joined_spelling l)) are wrote,
+)
+
+-- the same for equal commands and motions
+pub joined_as : (format : Format) (off on own_off own_on : List Command) (off_entries on_entries off_own on_own : List Entry) (old new : Option (List ℕ))
+    (result : Result (Unit {0}) AnswerFault) → format ≡ Two → off ≡ own_off → on ≡ own_on → off_entries ≡ off_own → on_entries ≡ on_own →
+    WritesForm (IsJoinedOf off on (data_of off_entries on_entries)) old new result →
+    WritesForm (IsWrittenAs format own_off own_on (data_of off_own on_own)) old new result
+joined_as format off on own_off own_on off_entries on_entries off_own on_own old new result is is_off is_on off_are on_are written =
+    subst (λ (f : Format). WritesForm (IsWrittenAs f own_off own_on (data_of off_own on_own)) old new result) (sym is)
+    (subst (λ (c : CertificateData). WritesForm (IsJoinedOf own_off own_on c) old new result) (ap₂ data_of off_are on_are)
+    (subst (λ (l : List Command). WritesForm (IsJoinedOf own_off l (data_of off_entries on_entries)) old new result) is_on
+    (subst (λ (l : List Command). WritesForm (IsJoinedOf l on (data_of off_entries on_entries)) old new result) is_off written)))
+
+-- ---- a file
+
+pub plans_written : (setup : Setup) (bytes : List ℕ) (cuts : ℕ) (format : Format) (text : ProgramText) (j : JobData) (c : CertificateData)
+    (old new : Option (List ℕ)) (result : Result (Unit {0}) AnswerFault) → program_of bytes ≡ Ok text → HaveReadings text.lines → IsJobFor text setup j →
+    IsMadeOf j cuts c → WritesForm (IsWrittenAs format j.off (commands_in true j) c) old new result → Certifies setup bytes cuts format old new result
+plans_written setup bytes cuts format text j c old new (Ok u) is_text have is_job made written = (
+  written.0,
+  form_for_file setup bytes cuts format text j written.0 is_text have is_job (record { certificate = c; made = made; written = written.1 }),
+  written.2,
+)
+plans_written setup bytes cuts format text j c old new (Err (answers.Make Memory)) is_text have is_job made written = (tt, written)
+plans_written setup bytes cuts format text j c old new (Err (answers.Write fault)) is_text have is_job made written = (
+  written.0,
+  form_for_file setup bytes cuts format text j written.0 is_text have is_job (record { certificate = c; made = made; written = written.1 }),
+  written.2,
+)
+plans_written setup bytes cuts format text j c old new (Err _) is_text have is_job made written = absurd written
