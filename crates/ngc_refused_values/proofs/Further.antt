@@ -1,7 +1,6 @@
 -- The last word so far, one line further.
-use Rattle.std.proofs.Common.{◌≡◌, ℕ, zero, suc, ◌+◌, ◌==◌, ◌≤◌, List, [], ◌∷◌, drop, length, Option, Some, None, Bool, true, false, ap, sym, ◌∙◌, refl, arith}
+use Rattle.std.proofs.Common.{◌≡◌, ℕ, zero, suc, ◌+◌, ◌==◌, List, [], ◌∷◌, drop, Option, Some, None, Bool, true, false, ap, sym, ◌∙◌, refl, arith}
 use Rattle.std.proofs.lemmas.Bool.{eq-eqb, ne_eqb}
-use Rattle.std.proofs.Math.ListN.{drop_of_length-le}
 use Rattle.std.specs.List.{slice_get}
 use Rattle.std.specs.Option.{option_map, option_or}
 use Rattle.ngc_line_reader.specs.Program.{Line}
@@ -41,16 +40,9 @@ in_turn : (a b c : Option LastWord) → option_or (option_or a b) c ≡ option_o
 in_turn None b c = refl
 in_turn (Some s) b c = refl
 
-none_before : (a : Option LastWord) → option_or a None ≡ a
-none_before None = refl
-none_before (Some s) = refl
-
 -- the last word among the remaining lines, or else the one so far, is that of all lines
 abbrev pub SoFar : Kind → Bool → ℕ → List Line → List Line → Option LastWord → Type 0
 SoFar kind deletes number lines rest last = option_or (last_word kind deletes number rest) last ≡ last_word kind deletes number lines
-
-pub at_start : (kind : Kind) (deletes : Bool) (number : ℕ) (lines : List Line) → SoFar kind deletes number lines lines None
-at_start kind deletes number lines = none_before (last_word kind deletes number lines)
 
 module _ (kind : Kind) (deletes : Bool) (number : ℕ) (lines : List Line) (i n : ℕ) (bytes : List ℕ) (last : Option LastWord) where
   pub further : At lines i n bytes → SoFar kind deletes number lines (drop i lines) last → (n ≡ number → ⊥)
@@ -69,9 +61,3 @@ module _ (kind : Kind) (deletes : Bool) (number : ℕ) (lines : List Line) (i n 
       let told : option_or (word_read kind deletes n (line_read bytes)) last ≡ option_or (last_word kind deletes number (drop i lines)) last =
       rw (here.behind, yes, here.number_is, here.bytes_are) refl in
       told ∙ far
-
-pub no_more : (kind : Kind) (deletes : Bool) (number : ℕ) (lines : List Line) (i : ℕ) (last : Option LastWord)
-    → SoFar kind deletes number lines (drop i lines) last → length lines ≤ i → last ≡ last_word kind deletes number lines
-no_more kind deletes number lines i last far past =
-    let none : drop i lines ≡ [] = drop_of_length-le lines past in
-    sym (ap (λ ls. option_or (last_word kind deletes number ls) last) none) ∙ far
