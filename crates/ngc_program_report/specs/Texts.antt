@@ -22,6 +22,7 @@ use Rattle.ngc_machine_model.specs.Headline.{job_of}
 use Rattle.ngc_run_through.specs.Parts.{IsTimedThrough}
 use Rattle.ngc_frames.specs.InForce.{frame_in_force}
 use Rattle.ngc_frames.specs.declared.in_force.FrameInForce.{FrameInForce}
+use Rattle.ngc_refused_values.specs.Texts.{value_line}
 use Rattle.ngc_report.specs.Forms.{closing, opening, report_text}
 use Rattle.ngc_report.specs.Marks.{named_line}
 use Rattle.ngc_report.specs.Quotes.{quoted}
@@ -211,13 +212,14 @@ abbrev pub refused_line : Form → List ℕ
 refused_line Words = codes "The program is refused.\n"
 refused_line Json = codes ",\n{\"fact\":\"verdict\",\"fits\":false}"
 
--- the rejection at a line, with the word that a fault names
+-- the rejection at a line, with the word that a fault names, and the values of 221 and 222
 abbrev pub rejection_text : Form → OriginList → Bool → Setting → ℕ → Fault → List Line → List ℕ
 rejection_text form origins named s number fault lines =
     heading form origins true named s
     ++ (refused_line form
     ++ (quoted form number lines
-    ++ (named_line form number fault lines ++ ending form (fault_number fault))))
+    ++ (named_line form number fault lines
+    ++ (value_line form (is_on s) number fault lines ++ ending form (fault_number fault)))))
 
 abbrev pub fault_text : Form → OriginList → Bool → Setting → ProgramFault → List Line → List ℕ
 fault_text form origins named s (programs.At number fault) lines =

@@ -10,15 +10,17 @@ ghost use Rattle.ngc_fixed_length.specs.Grid.{grid};
 ghost use Rattle.ngc_line_reader.specs.ProgramView.{text_in};
 ghost use Rattle.ngc_machine_files.specs.Machine.{file_of};
 ghost use Rattle.ngc_frames.specs.Walks.{WalksOver};
+ghost use Rattle.ngc_refused_values.specs.Texts.{value_line};
 ghost use Rattle.ngc_report.specs.Marks.{named_line};
 ghost use Rattle.ngc_report.specs.Scenes.{StandsBehind};
 ghost use Rattle.ngc_program_report.specs.Coordinates.{coordinates_text, history_of};
 ghost use Rattle.ngc_program_report.specs.Texts.{all_refusals, cause_text, command_refusal};
-ghost use Rattle.ngc_program_report.specs.Texts.{command_refusals, ending, quoted_if, refusal_text};
+ghost use Rattle.ngc_program_report.specs.Texts.{command_refusals, ending, is_on, quoted_if, refusal_text};
 ghost use Rattle.ngc_program_report.specs.Texts.{refusals_text, refused_line, rejection_text};
 ghost use Rattle.ngc_program_report.specs.Texts.{setting_refusals, told_command, told_number};
 
 use crate::coordinates::{collect_coordinates, line_of, told_way, write_coordinates};
+use crate::fit_writer::is_on;
 use crate::met::met_at;
 use crate::report_frame::{write_ending, write_heading};
 use ngc_canonical::Fault;
@@ -28,6 +30,7 @@ use ngc_frames::{FrameHistory, FrameInForce, FrameWalk};
 use ngc_line_reader::Program;
 use ngc_machine_files::Machine;
 use ngc_origins::Origins;
+use ngc_refused_values::write_values;
 use ngc_report::{
     Form, Standing, collect_refusals_head, collect_refused_command, write_line, write_named,
     write_refusal,
@@ -442,10 +445,11 @@ pub(crate) fn refused_line(form: Form) -> &'static [u8]
     }
 }
 
-// Writes what a fault names in its line, and the end.
+// Writes what a fault names in its line, its values, and the end.
 fn write_rejection_end<A: Allocator, W: Sink>(
     form: Form,
     program: &Program<A>,
+    setting: Setting,
     number: u32,
     fault: &Fault,
     output: &mut W,
@@ -453,19 +457,22 @@ fn write_rejection_end<A: Allocator, W: Sink>(
     ensures ok { OnOk result
         (Appends (W.written output.old) (W.written output.new)
         (named_line form number fault.now (text_in program.now).lines
-        ++ ending form (fault_number fault.now))) }
+        ++ (value_line form (is_on setting) number fault.now (text_in program.now).lines
+        ++ ending form (fault_number fault.now)))) }
     ensures fault { OnErr result
         (AppendsBeginning (W.written output.old) (W.written output.new)
         (named_line form number fault.now (text_in program.now).lines
-        ++ ending form (fault_number fault.now))) }
+        ++ (value_line form (is_on setting) number fault.now (text_in program.now).lines
+        ++ ending form (fault_number fault.now)))) }
     ensures counts { CountsFailure (W.failures output.old) (W.failures output.new) result }
 {
     write_named(form, program, number, fault, output)?;
+    write_values(form, is_on(setting), program, number, fault, output)?;
     write_ending(form, fault.number(), output)
 }
 
 /// Writes the report of a program that is refused at a setting of block delete: the faulty line, by
-/// its number, and the word that the fault names.
+/// its number, the word that the fault names, and the values of 221 and 222.
 pub fn write_rejection<A: Allocator, W: Sink>(
     form: Form,
     origins: &Origins,
@@ -489,5 +496,5 @@ pub fn write_rejection<A: Allocator, W: Sink>(
     write_heading(form, origins, true, named, setting, output)?;
     write_all(output, refused_line(form))?;
     write_line(form, program, number, output)?;
-    write_rejection_end(form, program, number, fault, output)
+    write_rejection_end(form, program, setting, number, fault, output)
 }
