@@ -14,18 +14,24 @@ use Rattle.ngc_program_report.proofs.job_report.report_fit.Goals as goal
 
 pub motions_at-motions-requires : goal.motions_at-motions-requires
 motions_at-motions-requires g c =
-    record { are = subst AreEntries (sym (planned_as c.args.job c.in_ok-off_time.accepted false (plan_at Off c.args.plans.now)
-    (c.in_ok-off_time.ensures.back ∙ c.accept-accepted.ensures))) c.requires.off_are }
+    record {
+      are = subst AreEntries (sym (planned_as c.args.job c.in_ok-off_time.accepted false (plan_at Off c.args.plans.now)
+          (c.in_ok-off_time.ensures.back ∙ c.accept-accepted.ensures))) c.requires.off_are;
+    }
 
 pub motions_at-off-requires : goal.motions_at-off-requires
 motions_at-off-requires g c =
-    record { are = subst AreEntries (sym (planned_as c.args.job c.in_ok-on_time.accepted false (plan_at Off c.args.plans.now)
-    (c.in_ok-on_time.ensures.back ∙ c.in_ok-off_time.ensures.back ∙ c.accept-accepted.ensures))) c.requires.off_are }
+    record {
+      are = subst AreEntries (sym (planned_as c.args.job c.in_ok-on_time.accepted false (plan_at Off c.args.plans.now)
+          (c.in_ok-on_time.ensures.back ∙ c.in_ok-off_time.ensures.back ∙ c.accept-accepted.ensures))) c.requires.off_are;
+    }
 
 pub motions_at-on-requires : goal.motions_at-on-requires
 motions_at-on-requires g c =
-    record { are = subst AreEntries (sym (planned_as c.args.job c.in_ok-on_time.accepted true (plan_at On c.args.plans.now)
-    (c.in_ok-on_time.ensures.back ∙ c.in_ok-off_time.ensures.back ∙ c.accept-accepted.ensures))) c.requires.on_are }
+    record {
+      are = subst AreEntries (sym (planned_as c.args.job c.in_ok-on_time.accepted true (plan_at On c.args.plans.now)
+          (c.in_ok-on_time.ensures.back ∙ c.in_ok-off_time.ensures.back ∙ c.accept-accepted.ensures))) c.requires.on_are;
+    }
 
 pub returns-then-not-apart-clause-tells : goal.returns-then-not-apart-clause-tells
 returns-then-not-apart-clause-tells g c =
