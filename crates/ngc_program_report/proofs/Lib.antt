@@ -8,6 +8,8 @@ pub mod UseTimeLaws
 pub mod FitLaws
 -- The texts of a job, from those of the accepted program.
 pub mod JobTexts
+-- Want of memory, before anything is written.
+pub mod MemoryLaws
 -- The fixture that a command meets, if none is met at the start.
 pub mod MetLaws
 -- What the refusal of a command by the checker implies for the settings.

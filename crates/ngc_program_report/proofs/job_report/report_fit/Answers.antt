@@ -6,9 +6,10 @@ use Rattle.ngc_certificate_text.specs.Certificate.{AreEntries}
 use Rattle.ngc_certificate_text.specs.declared.piece.Setting.TheVariants.{Off, On}
 use Rattle.ngc_job.specs.Job.{commands_in}
 use Rattle.ngc_line_reader.specs.ProgramView.{text_in}
-use Rattle.ngc_program_report.specs.JobReports.{IsFitText, Tells}
+use Rattle.ngc_program_report.specs.JobReports.{FailsByWriting, IsFitText, Tells}
 use Rattle.ngc_report.specs.declared.report_fault.ReportFault.TheVariants as faults
 use Rattle.ngc_program_report.proofs.JobTexts.{fit_both, fit_once, lasts_off, lasts_on, planned_as}
+use Rattle.ngc_program_report.proofs.MemoryLaws.{memory_tells}
 use Rattle.ngc_report.proofs.Converted.{turned}
 use Rattle.ngc_program_report.proofs.job_report.report_fit.Goals as goal
 
@@ -102,3 +103,16 @@ returns-in_err-write_both-clause-tells g c =
           (lasts_on c.in_ok-off_time.accepted j c.in_ok-on_time.on_time before c.in_ok-on_time.ensures.lasts),
       c.in_err-write_both.ensures.fault,
     )
+
+pub returns-in_err-on_time-clause-tells : goal.returns-in_err-on_time-clause-tells
+returns-in_err-on_time-clause-tells g c =
+    let j = c.args.job in
+    let said = both_planned j.machine.step j.off (commands_in true j) c.args.plans.now in
+    memory_tells (IsFitText j said c.args.form c.args.origins.now (text_in c.args.program.now).lines) (g.W.Sink.written c.args.output.now) _
+    c.in_err-on_time.field-0.0 c.from_residual-in_err-on_time.ensures.1 c.in_err-on_time.ensures.memory
+
+pub returns-in_err-write_both-clause-counts : goal.returns-in_err-write_both-clause-counts
+returns-in_err-write_both-clause-counts g c =
+    turned _ (faults.Write c.in_err-write_both.field-0.0)
+    (λ r. FailsByWriting r (g.W.Sink.failures c.args.output.now) (g.W.Sink.failures c.write_both.new.output))
+    c.from_residual-in_err-write_both.ensures.1 c.in_err-write_both.ensures.counts
