@@ -428,6 +428,7 @@ front_good modes words rules.PlainComment = refl
 front_good modes words rules.BlockDelete = refl
 front_good modes words rules.LongComment = refl
 front_good modes words rules.IdleLine = refl
+front_good modes words rules.Homing = refl
 front_good modes words rules.SignedParameter = refl
 
 front_by_good : (modes : Modes) (words : List Word) (r : Option Rule) → prefix_len is_of_number (front_by modes words r) ≡ 0
@@ -479,6 +480,7 @@ replacement_good modes words x rules.PlainComment h = refl
 replacement_good modes words x rules.BlockDelete h = refl
 replacement_good modes words x rules.LongComment h = refl
 replacement_good modes words x rules.IdleLine h = refl
+replacement_good modes words x rules.Homing h = refl
 replacement_good modes words x rules.SignedParameter h = signed_good x h
 
 by_rule_good : (modes : Modes) (words : List Word) (x : List ℕ) (r : Option Rule) → begins_well x ≡ true → prefix_len is_of_number (by_rule modes words x r) ≡ 0
@@ -541,6 +543,7 @@ front_fits modes words rules.PlainComment s good h = absurd (omega arith)
 front_fits modes words rules.BlockDelete s good h = absurd (omega arith)
 front_fits modes words rules.LongComment s good h = absurd (omega arith)
 front_fits modes words rules.IdleLine s good h = absurd (omega arith)
+front_fits modes words rules.Homing s good h = absurd (omega arith)
 front_fits modes words rules.SignedParameter s good h = absurd (omega arith)
 
 front_by_fits : (modes : Modes) (words : List Word) (r : Option Rule) (s : List ℕ) → (is_some r ≡ true → prefix_len is_of_number s ≡ 0) → 0 < length (front_by modes words r)
@@ -623,6 +626,7 @@ replacement_fits modes words b v rules.ProgramNumber s good word whole same h = 
 replacement_fits modes words b v rules.BlockDelete s good word whole same h = absurd (omega arith)
 replacement_fits modes words b v rules.LongComment s good word whole same h = absurd (omega arith)
 replacement_fits modes words b v rules.IdleLine s good word whole same h = absurd (omega arith)
+replacement_fits modes words b v rules.Homing s good word whole same h = absurd (omega arith)
 replacement_fits modes words b v rules.SignedParameter s good word whole same h = with_sign b v s word good same
 replacement_fits modes words b v rules.PlainComment s good word whole same h = absurd (omega arith)
 

@@ -11,3 +11,5 @@ pub mod Reports
 pub mod Rules
 pub mod Sources
 pub mod Text
+pub mod Openings
+pub mod Signs

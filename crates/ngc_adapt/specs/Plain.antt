@@ -1,6 +1,7 @@
 -- A line whose words can be read: block delete without a level, a first comment that our language
--- can read, and none that makes the line too long. Our own.
-use Rattle.std.specs.Prelude.{ℕ, ◌+◌, ◌&&◌, not, nat_lt, Bool, true, false, List, [], ◌∷◌, ◌++◌}
+-- can read, no sign inside a bracket or after = but in front of digits, and no comment that makes the
+-- line too long. Our own.
+use Rattle.std.specs.Prelude.{ℕ, ◌+◌, ◌==◌, ◌&&◌, ◌||◌, not, nat_lt, Bool, true, false, List, [], ◌∷◌, ◌++◌}
 use Rattle.std.specs.Prelude.{length, take, drop, fold, slice_index, if◌then◌else◌}
 use Rattle.std.specs.Char.{is_ascii_digit}
 use Rattle.std.specs.List.{list_all, prefix_len}
@@ -12,6 +13,7 @@ use Rattle.ngc_adapt.specs.Comments.{code_length, code_of, comment_of, has_odd_c
 use Rattle.ngc_adapt.specs.Facts.{level_of, levels_after}
 use Rattle.ngc_adapt.specs.Items.{is_in_comment}
 use Rattle.ngc_adapt.specs.Numbers.{is_blank, begins}
+use Rattle.ngc_adapt.specs.Signs.{has_inner_sign, with_signs}
 use Rattle.ngc_adapt.specs.Sources.{lines_of, body_of}
 
 -- ---- the level of block delete
@@ -76,13 +78,22 @@ is_idle line = list_all is_blank (without_comment line)
 abbrev pub with_comment_read : Levels → List ℕ → List ℕ
 with_comment_read levels line = with_plain_comment (without_level levels line)
 
+-- and with brackets round signs
+abbrev pub with_signs_read : Levels → List ℕ → List ℕ
+with_signs_read levels line = with_signs (with_comment_read levels line)
+
 unfoldable pub plain_line : Levels → List ℕ → List ℕ
-plain_line levels line = without_long_comment (with_comment_read levels line)
+plain_line levels line = without_long_comment (with_signs_read levels line)
 
 -- a line that is plain as it is
 abbrev pub is_plain : Levels → List ℕ → Bool
 is_plain levels line =
-    not (has_idle_level levels line) && (not (has_odd_comment line) && not (has_long_comment line))
+    not (has_idle_level levels line)
+    && (not (has_odd_comment line) && (not (has_inner_sign line) && not (has_long_comment line)))
+
+-- ( ; # [: a line with none of them has no comment, and no sign inside a bracket or after =
+abbrev pub is_special : ℕ → Bool
+is_special b = (b == 40) || ((b == 59) || ((b == 35) || (b == 91)))
 
 abbrev pub rule_if : Bool → Rule → List Rule
 rule_if holds rule = if holds then rule ∷ [] else []
@@ -90,6 +101,7 @@ rule_if holds rule = if holds then rule ∷ [] else []
 -- the rules that make a line plain
 unfoldable pub plain_rules : Levels → List ℕ → List Rule
 plain_rules levels line =
-    (rule_if (has_idle_level levels line) rules.BlockDelete
+    ((rule_if (has_idle_level levels line) rules.BlockDelete
     ++ rule_if (has_odd_comment (without_level levels line)) rules.PlainComment)
-    ++ rule_if (has_long_comment (with_comment_read levels line)) rules.LongComment
+    ++ rule_if (has_inner_sign (with_comment_read levels line)) rules.SignedParameter)
+    ++ rule_if (has_long_comment (with_signs_read levels line)) rules.LongComment

@@ -14,6 +14,7 @@ use Rattle.ngc_adapt.specs.declared.rule.Motion.{Motion}
 use Rattle.ngc_adapt.specs.declared.rule.Motion.TheVariants as motions
 use Rattle.ngc_adapt.specs.declared.refusal.WordRefusal.{WordRefusal}
 use Rattle.ngc_adapt.specs.declared.refusal.WordRefusal.TheVariants as refusals
+use Rattle.ngc_adapt.specs.Comments.{code_of}
 use Rattle.ngc_adapt.specs.Numbers.{has_byte}
 use Rattle.ngc_adapt.specs.Rules.{is_one_of, is_own, is_known, is_fanuc, has, has_unknown, rule_of}
 use Rattle.ngc_adapt.specs.Rules.{motion_after}
@@ -107,9 +108,15 @@ unfoldable pub refusal_for : Modes → List Word → Word → Option WordRefusal
 refusal_for modes words w =
     if is_some (rule_of modes words w.letter w.number) then None else word_refusal modes words w
 
+-- @ and ^ are the letters of polar words; here in front of the first comment
+abbrev pub has_polar : List ℕ → Bool
+has_polar line = has_byte 64 (code_of line) || has_byte 94 (code_of line)
+
 -- a line that can't be read; a name in angle brackets is a parameter's
 abbrev pub unread_refusal : List ℕ → WordRefusal
-unread_refusal line = if has_byte 60 line then refusals.NamedParameter else refusals.Unread
+unread_refusal line =
+    if has_byte 60 line then refusals.NamedParameter else (
+    if has_polar line then refusals.Polar else refusals.Unread)
 
 -- the refusals of a line
 abbrev pub refusals_by : Modes → List ℕ → Option (List Word) → List WordRefusal

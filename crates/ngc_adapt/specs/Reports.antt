@@ -14,10 +14,12 @@ use Rattle.ngc_adapt.specs.declared.report.TheConstants as constants
 use Rattle.ngc_adapt.specs.Numbers.{is_blank}
 use Rattle.ngc_adapt.specs.Items.{items_of, words_of}
 use Rattle.ngc_adapt.specs.Rules.{rule_name, front, replacement, is_first_traverse}
-use Rattle.ngc_adapt.specs.Comments.{has_odd_comment, comment_of, plain}
+use Rattle.ngc_adapt.specs.Comments.{has_odd_comment, code_of, comment_of, plain}
+use Rattle.ngc_adapt.specs.Comments.{with_plain_comment}
 use Rattle.ngc_adapt.specs.declared.facts.Levels.{Levels}
 use Rattle.ngc_adapt.specs.Plain.{after_comment, has_idle_level, has_long_comment}
-use Rattle.ngc_adapt.specs.Plain.{slash_length, with_comment_read, without_level}
+use Rattle.ngc_adapt.specs.Plain.{slash_length, without_level}
+use Rattle.ngc_adapt.specs.Signs.{has_inner_sign, signs_after, with_signs}
 use Rattle.ngc_adapt.specs.Refusals.{refusal_name, sentence, refusals_by}
 use Rattle.ngc_adapt.specs.Lines.{item_rule, is_axis_item, traverse}
 use Rattle.ngc_adapt.specs.Changes.{change_at}
@@ -32,6 +34,7 @@ class_of rules.ToolInSpindle = codes "told"
 class_of rules.Dropped = codes "told"
 class_of rules.ProgramEnd = codes "told"
 class_of rules.BlockDelete = codes "told"
+class_of rules.Homing = codes "told"
 class_of _ = codes "exact"
 
 -- a text without the blanks at its end
@@ -90,17 +93,33 @@ long_report number written line =
     (after_comment (comment_of line))
     else []
 
+-- the change of signs inside brackets or after =
+abbrev pub sign_report : ℕ → ℕ → List ℕ → List ℕ
+sign_report number written line =
+    if has_inner_sign line
+    then change_text (change_at number written rules.SignedParameter) (code_of line)
+    (signs_after 0 (code_of line))
+    else []
+
+-- the changes of a line with a comment that our language can read
+abbrev pub code_report : ℕ → ℕ → List ℕ → List ℕ
+code_report number written line =
+    sign_report number written line ++ long_report number written (with_signs line)
+
+-- the changes of a line without an idle level of block delete
+abbrev pub leveled_report : ℕ → ℕ → List ℕ → List ℕ
+leveled_report number written line =
+    comment_report number written line ++ code_report number written (with_plain_comment line)
+
 -- the changes that make a line plain
 unfoldable pub plain_report : ℕ → ℕ → Levels → List ℕ → List ℕ
 plain_report number written levels line =
     level_report number written levels line
-    ++ (comment_report number written (without_level levels line)
-    ++ long_report number written (with_comment_read levels line))
+    ++ leveled_report number written (without_level levels line)
 
--- a line with nothing but blanks and a comment, which is left out
-abbrev pub idle_report : ℕ → ℕ → List ℕ → List ℕ
-idle_report number written line =
-    change_text (change_at number written rules.IdleLine) line []
+-- a line that a rule leaves out
+abbrev pub left_out_report : ℕ → ℕ → Rule → List ℕ → List ℕ
+left_out_report number written rule line = change_text (change_at number written rule) line []
 
 -- the changes of items, from left to right
 abbrev pub items_report : ℕ → ℕ → Bool → Modes → List Word → List (List ℕ) → List ℕ
@@ -159,6 +178,7 @@ rank rules.PlainComment = 27
 rank rules.BlockDelete = 28
 rank rules.LongComment = 29
 rank rules.IdleLine = 30
+rank rules.Homing = 31
 
 abbrev pub is_by : Rule → Change → Bool
 is_by rule c = rank c.rule == rank rule

@@ -703,6 +703,7 @@ rule_name rules.PlainComment = codes_of "plain_comment"
 rule_name rules.BlockDelete = codes_of "block_delete"
 rule_name rules.LongComment = codes_of "long_comment"
 rule_name rules.IdleLine = codes_of "idle_line"
+rule_name rules.Homing = codes_of "homing"
 
 -- a number, or 0 where it isn't known
 abbrev pub number_text : Option ℕ → List ℕ

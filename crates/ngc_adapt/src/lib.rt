@@ -11,12 +11,14 @@ mod item;
 pub mod laws;
 mod line;
 mod number;
+mod opening;
 mod options;
 mod plain;
 mod refusal;
 mod replacement;
 mod report;
 mod rule;
+mod sign;
 mod source;
 mod text;
 
@@ -33,10 +35,11 @@ pub use number::{
     LONGEST_NUMBER, Number, begins, byte_count, in_one_piece, is_blank, make_number, split_whole,
     without_blanks,
 };
+pub use opening::{after_percent, has_number_alone, is_homing_line};
 pub use options::{MOST_DROPPED, Options};
 pub use plain::{MOST_PLAIN_RULES, add_plain_line, is_idle, is_plain, plain_rules};
 pub use refusal::WordRefusal;
-pub use report::{add_counts, add_idle_report, add_plain_report};
+pub use report::{add_counts, add_left_out_report, add_plain_report};
 pub use rule::{Cycle, Modes, Motion, Plane, Rule, is_one_of};
 pub use source::{body_length, split_line};
 pub use text::{TextChanges, text_of};

@@ -230,7 +230,7 @@ fn lead_length(value: &[u8]) -> usize
 
 // Returns how many bytes a bracket has, to its end or to that of the line.
 #[tactic(auto, using(crate::proofs::BracketLaws::bracket_step, crate::proofs::BracketLaws::bracket_end))]
-fn bracket_length(text: &[u8]) -> usize
+pub(crate) fn bracket_length(text: &[u8]) -> usize
     ensures count { result ≡ numbers.bracket_length 0 text.now }
     ensures within { result ≤ length text.now }
 {

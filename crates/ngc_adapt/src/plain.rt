@@ -1,6 +1,6 @@
 //! Lines whose words can be read.
 ghost use Rattle.std.specs.Prelude.{◌≡◌, ◌≤◌, ◌+◌, ◌++◌, IfOk, length, take};
-ghost use Rattle.std.specs.List.{list_all};
+ghost use Rattle.std.specs.List.{list_all, list_any};
 ghost use Rattle.ngc_adapt.specs.Numbers.{is_blank as blank};
 ghost use Rattle.ngc_adapt.specs.Plain as spec;
 
@@ -11,6 +11,7 @@ use crate::facts::Levels;
 use crate::item::comment_length;
 use crate::number::{begins, blank_length, is_blank};
 use crate::rule::Rule;
+use crate::sign::{add_with_signs, has_inner_sign};
 use arrayvec::ArrayVec;
 use std::alloc::{AllocError, Allocator};
 
@@ -18,7 +19,7 @@ use std::alloc::{AllocError, Allocator};
 const LONGEST_LINE: usize = 256;
 
 /// The greatest number of rules that make a line plain.
-pub const MOST_PLAIN_RULES: usize = 3;
+pub const MOST_PLAIN_RULES: usize = 4;
 
 fn is_one(levels: Levels) -> bool
     ensures { result ≡ spec.is_one levels }
@@ -136,17 +137,37 @@ pub fn is_idle(line: &[u8]) -> bool
     are_blanks(code_of(line)) && are_blanks(after_comment(comment_of(line)))
 }
 
+fn is_special(byte: u8) -> bool
+    ensures { result ≡ spec.is_special byte }
+{
+    byte == b'(' || byte == b';' || byte == b'#' || byte == b'['
+}
+
+fn has_special(line: &[u8]) -> bool
+    ensures { result ≡ list_any spec.is_special line.now }
+{
+    line.iter().any(|b| is_special(*b))
+}
+
 /// Returns whether a line is plain as it is: it has no level of block delete without effect, its
-/// first comment is one that our language can read, and no comment makes it too long.
+/// first comment is one that our language can read, no sign inside a bracket or after `=` is in front
+/// of a parameter or a bracket, and no comment makes it too long.
 pub fn is_plain(levels: Levels, line: &[u8]) -> bool
     ensures { result ≡ spec.is_plain levels line.now }
 {
-    !has_idle_level(levels, line) && !has_odd_comment(line) && !has_long_comment(line)
+    if has_idle_level(levels, line) {
+        return false;
+    }
+    // Most lines have none of these bytes.
+    if !has_special(line) {
+        return true;
+    }
+    !has_odd_comment(line) && !has_inner_sign(line) && !has_long_comment(line)
 }
 
 // Adds a rule if it applies.
 fn add_rule(holds: bool, rule: Rule, rules: &mut ArrayVec<Rule, MOST_PLAIN_RULES>)
-    requires { length rules.old.items ≤ 2 }
+    requires { length rules.old.items ≤ 3 }
     ensures items { rules.new.items ≡ rules.old.items ++ spec.rule_if holds rule }
     ensures few { length rules.new.items ≤ length rules.old.items + 1 }
 {
@@ -168,6 +189,8 @@ pub fn plain_rules<A: Allocator + Copy>(
     add_without_level(levels, line, &mut leveled)?;
     let mut read = Vec::new(alloc);
     add_with_plain_comment(leveled.as_slice(), &mut read)?;
+    let mut signed = Vec::new(alloc);
+    add_with_signs(alloc, read.as_slice(), &mut signed)?;
     let mut rules = ArrayVec::new();
     add_rule(has_idle_level(levels, line), Rule::BlockDelete, &mut rules);
     add_rule(
@@ -176,7 +199,12 @@ pub fn plain_rules<A: Allocator + Copy>(
         &mut rules,
     );
     add_rule(
-        has_long_comment(read.as_slice()),
+        has_inner_sign(read.as_slice()),
+        Rule::SignedParameter,
+        &mut rules,
+    );
+    add_rule(
+        has_long_comment(signed.as_slice()),
         Rule::LongComment,
         &mut rules,
     );
@@ -185,9 +213,10 @@ pub fn plain_rules<A: Allocator + Copy>(
 
 /// Adds a line to `out` in a form whose words can be read. It has no level of block delete, where
 /// `levels` has only one. Its first comment is one that our language can read: parentheses inside
-/// become brackets, and a closing one is added. A comment that makes the line longer than 256
-/// characters is left out. A line that is plain is copied byte for byte. Call it on each line of a
-/// program before its facts and before `adapt_line`.
+/// become brackets, and a closing one is added. Inside a bracket and after `=`, a sign in front of a
+/// parameter or a bracket gets 0 in front and brackets round it: `[0-#1]`. A comment that makes the
+/// line longer than 256 characters is left out. A line that is plain is copied byte for byte. Call it
+/// on each line of a program before its facts and before `adapt_line`.
 ///
 /// After an error, which means that memory was refused, `out` has any prefix of it.
 #[tactic(auto, unfolding(crate::specs::Plain::plain_line), using(crate::proofs::PlainLaws::plain_same))]
@@ -207,5 +236,7 @@ pub fn add_plain_line<A: Allocator + Copy>(
     add_without_level(levels, line, &mut leveled)?;
     let mut read = Vec::new(alloc);
     add_with_plain_comment(leveled.as_slice(), &mut read)?;
-    add_without_long_comment(read.as_slice(), out)
+    let mut signed = Vec::new(alloc);
+    add_with_signs(alloc, read.as_slice(), &mut signed)?;
+    add_without_long_comment(signed.as_slice(), out)
 }

@@ -3,6 +3,7 @@ ghost use Rattle.ngc_adapt.specs.Refusals as spec;
 ghost use Rattle.ngc_adapt.specs.declared.refusal.WordRefusal.TheVariants as refusals;
 
 use crate::code;
+use crate::comment::code_of;
 use crate::item::{Letter, Word};
 use crate::number::{Number, has_byte};
 use crate::rule::{Modes, Motion, has, has_offset_number, is_known, is_one_of, is_own};
@@ -202,12 +203,22 @@ fn family_refusal(code: Option<u16>) -> Option<WordRefusal>
     }
 }
 
+// Returns whether a line has `@` or `^`, the letters of polar words, in front of its first comment.
+fn has_polar(line: &[u8]) -> bool
+    ensures { result ≡ spec.has_polar line.now }
+{
+    let code = code_of(line);
+    has_byte(b'@', code) || has_byte(b'^', code)
+}
+
 /// Returns the refusals of a line that can't be read.
 pub(crate) fn unread_refusal(line: &[u8]) -> WordRefusal
     ensures { result ≡ spec.unread_refusal line.now }
 {
     if has_byte(b'<', line) {
         WordRefusal::NamedParameter
+    } else if has_polar(line) {
+        WordRefusal::Polar
     } else {
         WordRefusal::Unread
     }

@@ -8,7 +8,7 @@ ghost use Rattle.ngc_adapt.specs.Comments.{plain};
 ghost use Rattle.ngc_adapt.specs.Reports as spec;
 
 use crate::change::Change;
-use crate::comment::{add_plain, add_with_plain_comment, comment_of, has_odd_comment};
+use crate::comment::{add_plain, add_with_plain_comment, code_of, comment_of, has_odd_comment};
 use crate::facts::Levels;
 use crate::item::Word;
 use crate::number::{is_blank, without_first};
@@ -18,11 +18,12 @@ use crate::plain::{
 use crate::refusal::WordRefusal;
 use crate::replacement::{add_front, add_replacement};
 use crate::rule::{Modes, Rule};
+use crate::sign::{add_signed_code, add_with_signs, has_inner_sign};
 use itoa::Buffer;
 use std::alloc::{AllocError, Allocator};
 
 /// Every rule, in the order of the counts.
-pub const EVERY_RULE: [Rule; 31] = [
+pub const EVERY_RULE: [Rule; 32] = [
     Rule::BlendTolerance,
     Rule::ZeroOffset,
     Rule::CycleEnd,
@@ -54,6 +55,7 @@ pub const EVERY_RULE: [Rule; 31] = [
     Rule::BlockDelete,
     Rule::LongComment,
     Rule::IdleLine,
+    Rule::Homing,
 ];
 
 impl Rule {
@@ -71,7 +73,8 @@ impl Rule {
             | Rule::ToolInSpindle
             | Rule::Dropped
             | Rule::ProgramEnd
-            | Rule::BlockDelete => "told",
+            | Rule::BlockDelete
+            | Rule::Homing => "told",
             _ => "exact",
         }
     }
@@ -112,6 +115,7 @@ impl Rule {
             Rule::BlockDelete => 28,
             Rule::LongComment => 29,
             Rule::IdleLine => 30,
+            Rule::Homing => 31,
         }
     }
 }
@@ -299,6 +303,62 @@ fn add_long_report<A: Allocator>(
     Ok(())
 }
 
+// Adds a line for the change of signs inside brackets or after =.
+fn add_sign_report<A: Allocator + Copy>(
+    alloc: A,
+    number: usize,
+    written: usize,
+    line: &[u8],
+    report: &mut Vec<u8, A>,
+) -> Result<(), AllocError>
+    ensures { IfOk result (λ _. report.new.items ≡ report.old.items
+        ++ spec.sign_report number written line.now) }
+{
+    if !has_inner_sign(line) {
+        return Ok(());
+    }
+    let mut code = Vec::new(alloc);
+    add_signed_code(alloc, line, &mut code)?;
+    let change = Change::at(number, written, Rule::SignedParameter);
+    add_change(&change, code_of(line), code.as_slice(), report)
+}
+
+// Adds a line for each change of a line with a comment that our language can read.
+fn add_code_report<A: Allocator + Copy>(
+    alloc: A,
+    number: usize,
+    written: usize,
+    line: &[u8],
+    report: &mut Vec<u8, A>,
+) -> Result<(), AllocError>
+    ensures { IfOk result (λ _. report.new.items ≡ report.old.items
+        ++ spec.code_report number written line.now) }
+{
+    let mut signed = Vec::new(alloc);
+    add_with_signs(alloc, line, &mut signed)?;
+    add_sign_report(alloc, number, written, line, report)?;
+    add_long_report(number, written, signed.as_slice(), report)?;
+    Ok(())
+}
+
+// Adds a line for each change of a line without an idle level of block delete.
+fn add_leveled_report<A: Allocator + Copy>(
+    alloc: A,
+    number: usize,
+    written: usize,
+    line: &[u8],
+    report: &mut Vec<u8, A>,
+) -> Result<(), AllocError>
+    ensures { IfOk result (λ _. report.new.items ≡ report.old.items
+        ++ spec.leveled_report number written line.now) }
+{
+    let mut read = Vec::new(alloc);
+    add_with_plain_comment(line, &mut read)?;
+    add_comment_report(number, written, line, report)?;
+    add_code_report(alloc, number, written, read.as_slice(), report)?;
+    Ok(())
+}
+
 /// Adds a line for each change that makes a line plain: `number` is its line in the source and
 /// `written` its line in the output, both from 1. An error means that memory was refused.
 #[tactic(auto, unfolding(crate::specs::Reports::plain_report))]
@@ -315,27 +375,24 @@ pub fn add_plain_report<A: Allocator + Copy>(
 {
     let mut leveled = Vec::new(alloc);
     add_without_level(levels, line, &mut leveled)?;
-    let mut read = Vec::new(alloc);
-    add_with_plain_comment(leveled.as_slice(), &mut read)?;
     add_level_report(number, written, levels, line, report)?;
-    add_comment_report(number, written, leveled.as_slice(), report)?;
-    add_long_report(number, written, read.as_slice(), report)?;
+    add_leveled_report(alloc, number, written, leveled.as_slice(), report)?;
     Ok(())
 }
 
-/// Adds a line for a line that is left out, with nothing but blanks and a comment: `number` is its
-/// line in the source and `written` the line after the output before it, both from 1. An error
-/// means that memory was refused.
-pub fn add_idle_report<A: Allocator>(
+/// Adds a line for a line that a rule leaves out: `number` is its line in the source and `written`
+/// the line after the output before it, both from 1. An error means that memory was refused.
+pub fn add_left_out_report<A: Allocator>(
     number: usize,
     written: usize,
+    rule: Rule,
     line: &[u8],
     report: &mut Vec<u8, A>,
 ) -> Result<(), AllocError>
     ensures { IfOk result (λ _. report.new.items ≡ report.old.items
-        ++ spec.idle_report number written line.now) }
+        ++ spec.left_out_report number written rule line.now) }
 {
-    let change = Change::at(number, written, Rule::IdleLine);
+    let change = Change::at(number, written, rule);
     add_change(&change, line, b"", report)
 }
 

@@ -80,6 +80,8 @@ pub enum Rule {
     LongComment,
     /// A line with nothing but blanks and a comment, in a program of more than 100,000 lines.
     IdleLine,
+    /// `$H` of grbl, alone on its line, before any motion: the axes don't go home.
+    Homing,
 }
 
 impl Rule {
@@ -121,6 +123,7 @@ impl Rule {
             Rule::BlockDelete => "block_delete",
             Rule::LongComment => "long_comment",
             Rule::IdleLine => "idle_line",
+            Rule::Homing => "homing",
         }
     }
 }
@@ -714,7 +717,7 @@ impl Modes {
     ghost use Rattle.ngc_adapt.specs.Rules.{p_rule, q_rule, e_rule, k_rule, number_rule, rule_of};
     ghost use Rattle.ngc_adapt.specs.Rules.{start_modes, modes_either, is_first_traverse};
     ghost use Rattle.ngc_adapt.specs.Rules.{motion_before, has_look_ahead, own_rule};
-    ghost use Rattle.ngc_adapt.specs.Rules.{tolerance_rule};
+    ghost use Rattle.ngc_adapt.specs.Rules.{tolerance_rule, is_unnamed};
 
     /// Returns the modes at the start of a program: the plane XY, G54, and no motion mode except in
     /// Grbl, which starts with G0. No tool is known to be mounted.
@@ -850,6 +853,14 @@ impl Modes {
         self.motion.is_unnamed()
             && has_axes(words)
             && !(has_motion(words) || self.has_unknown(words) || has(&code::FOR_ONE_LINE, words))
+    }
+
+    /// Returns whether grbl's G0 is in force from the start: no line has named a motion or moved
+    /// without a code.
+    pub fn has_unnamed_motion(&self) -> bool
+        ensures { result ≡ is_unnamed self.now.motion }
+    {
+        self.motion.is_unnamed()
     }
 
     // Returns the motion in force before a line, under its name.

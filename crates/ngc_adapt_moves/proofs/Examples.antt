@@ -436,10 +436,6 @@ lines_of_three_turns : lines_for (in_linuxcnc (Some units.Millimetres) feeding) 
 unfolding lines_for items_of item_of
 lines_of_three_turns = refl
 
-refused_part_of_a_circle : refusals_for (in_linuxcnc (Some units.Millimetres) feeding) (codes "G2 X11 I5 Z0 P3") ≡ refusals.TurnsNotKnown ∷ []
-unfolding refusals_for items_of item_of
-refused_part_of_a_circle = refl
-
 -- ---- local offsets
 
 -- at X 1 and Z 3

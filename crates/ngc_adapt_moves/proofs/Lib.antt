@@ -6,5 +6,7 @@ pub mod WordLaws
 pub mod LineLaws
 -- Examples of values, places and lines, by computing the definitions.
 pub mod Examples
+-- Angles by their binary digits.
+pub mod AngleLaws
 -- The lines of several turns.
 pub mod TurnLaws

@@ -1,3 +1,4 @@
+pub mod Angles
 pub mod Arcs
 pub mod Axes
 pub mod Homing

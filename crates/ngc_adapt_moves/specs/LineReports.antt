@@ -1,6 +1,6 @@
 -- The report of a line: each change with the old text and the new text, and each reason why the
 -- line is left.
-use Rattle.std.specs.Prelude.{ℕ, ℤ, Bool, List, [], ◌∷◌, ◌++◌, codes, decimal, Option, Some, None}
+use Rattle.std.specs.Prelude.{ℕ, ℤ, ◌==◌, Bool, List, [], ◌∷◌, ◌++◌, codes, decimal, Option, Some, None}
 use Rattle.std.specs.Prelude.{if◌then◌else◌}
 use Rattle.ngc_adapt_moves.specs.declared.axis.Axis.{Axis}
 use Rattle.ngc_adapt_moves.specs.declared.axis.Axis.TheVariants as axes
@@ -13,7 +13,10 @@ use Rattle.ngc_adapt_moves.specs.declared.rule.Rule.{Rule}
 use Rattle.ngc_adapt_moves.specs.declared.rule.Rule.TheVariants as rules
 use Rattle.ngc_adapt_moves.specs.declared.rule.MoveRefusal.{MoveRefusal}
 use Rattle.ngc_adapt_moves.specs.declared.rule.MoveRefusal.TheVariants as refusals
+use Rattle.ngc_adapt_moves.specs.declared.turns.Turns.{Turns}
+use Rattle.ngc_adapt_moves.specs.declared.turns.Turns.TheVariants as turns
 use Rattle.ngc_adapt_moves.specs.declared.word.Word.{Word}
+use Rattle.ngc_adapt_moves.specs.Angles.{whole_turn}
 use Rattle.ngc_adapt_moves.specs.Lines.{rewritten}
 use Rattle.ngc_adapt_moves.specs.Plans.{plan_of, is_homed, is_named, is_circled, is_first, is_origin}
 use Rattle.ngc_adapt_moves.specs.Plans.{is_local, is_one_turn, is_several, is_stopped_later, local_refusal}
@@ -57,12 +60,19 @@ moved_if (balances.Moved moved) number written_number plan line =
     ++ (rewritten (codes " / ") plan line ++ (shift_text moved.shift ++ codes "\n")))))
 moved_if _ number written_number plan line = []
 
+-- the bound of the heights: half a millionth, or a millionth where the last turn is part of a circle
+unfoldable pub heights_text : Turns → List ℕ
+heights_text (turns.Several t) =
+    if t.last == whole_turn then codes " (heights within 0.0000005)\n"
+    else codes " (heights within 0.000001)\n"
+heights_text _ = codes "\n"
+
 -- an arc of several turns: what the line was, what is written, and the bound of the heights
 abbrev pub several_if : Bool → ℕ → ℕ → Plan → List ℕ → List ℕ
 several_if holds number written_number plan line =
     if holds
     then place_text number written_number ++ (rule_text rules.SeveralTurns ++ (line ++ (codes " -> "
-    ++ (rewritten (codes " / ") plan line ++ codes " (heights within 0.0000005)\n"))))
+    ++ (rewritten (codes " / ") plan line ++ heights_text plan.turns))))
     else []
 
 -- the changes of an arc, a stop and a local offset

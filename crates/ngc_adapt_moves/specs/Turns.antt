@@ -17,6 +17,7 @@ use Rattle.ngc_adapt_moves.specs.declared.axis.Axis.{Axis}
 use Rattle.ngc_adapt_moves.specs.declared.axis.Axis.TheVariants as axes
 use Rattle.ngc_adapt_moves.specs.declared.axis.Place.{Place}
 use Rattle.ngc_adapt_moves.specs.declared.places.ArcDistance.{ArcDistance}
+use Rattle.ngc_adapt_moves.specs.declared.places.Motion.{Motion}
 use Rattle.ngc_adapt_moves.specs.declared.places.ArcDistance.TheVariants as arcs
 use Rattle.ngc_adapt_moves.specs.declared.places.Places.{Places}
 use Rattle.ngc_adapt_moves.specs.declared.radii.Balance.{Balance}
@@ -30,6 +31,7 @@ use Rattle.ngc_adapt_moves.specs.declared.turns.Turns.{Turns}
 use Rattle.ngc_adapt_moves.specs.declared.turns.Turns.TheVariants as turns
 use Rattle.ngc_adapt_moves.specs.declared.word.Word.{Word}
 use Rattle.ngc_adapt_moves.specs.declared.code.TheConstants as codes
+use Rattle.ngc_adapt_moves.specs.Angles.{arc_angle, whole_turn}
 use Rattle.ngc_adapt_moves.specs.Arcs.{first_axis, is_arc, second_axis}
 use Rattle.ngc_adapt_moves.specs.LineWords.{has, has_m, has_p, names, p_value}
 use Rattle.ngc_adapt_moves.specs.Places.{hole_axis, start_along, sum}
@@ -79,19 +81,25 @@ is_plain after balance words =
 abbrev pub is_nought : ℤ → Bool
 is_nought value = unsigned_abs value == 0
 
--- the height doesn't change, or the arc is a full circle
+-- the last turn counts as a whole one: the height doesn't change, or the arc is a full circle
 abbrev pub is_shared : Sweep → ℤ → Bool
 is_shared s rise = is_nought rise || (is_nought s.end_u && is_nought s.end_v)
+
+-- the angle of the last turn, if it isn't nought
+abbrev pub last_turn : Motion → Sweep → ℤ → Option ℕ
+last_turn motion s rise =
+    if is_shared s rise then Some whole_turn else arc_angle motion s
 
 -- the height at the start of an arc, if a word of the line changes it
 abbrev pub height_from : Option ℤ → List Word → Axis → Option ℤ
 height_from height words axis = if names axis words then height else None
 
-abbrev pub turning_of : Plane → Places → Places → Sweep → ℤ → ℤ → ℤ → ℕ → List Word → Turning
-turning_of plane places after s start_u start_v rise further words =
+abbrev pub turning_of : Plane → Places → Places → Sweep → ℤ → ℤ → ℤ → ℕ → ℕ → List Word → Turning
+turning_of plane places after s start_u start_v rise further last words =
     record {
       motion = after.motion;
       further = further;
+      last = last;
       start = in_plane plane (Some start_u) (Some start_v);
       end = in_plane plane (sum (Some start_u) (Some s.end_u)) (sum (Some start_v) (Some s.end_v));
       offsets = in_plane plane (Some s.centre_u) (Some s.centre_v);
@@ -103,12 +111,17 @@ turning_of plane places after s start_u start_v rise further words =
 abbrev pub not_known : Turns
 not_known = turns.Left refusals.TurnsNotKnown
 
+abbrev pub several_by_last : Plane → Places → Places → Sweep → ℤ → ℤ → ℤ → ℕ → Option ℕ → List Word
+    → Turns
+several_by_last plane places after s start_u start_v rise further (Some last) words =
+    turns.Several (turning_of plane places after s start_u start_v rise further last words)
+several_by_last plane places after s start_u start_v rise further None words = not_known
+
 abbrev pub several_with : Plane → Places → Places → Option Sweep → Option ℤ → Option ℤ → Option ℤ
     → ℕ → List Word → Turns
 several_with plane places after (Some s) (Some start_u) (Some start_v) (Some rise) further words =
-    if is_shared s rise
-    then turns.Several (turning_of plane places after s start_u start_v rise further words)
-    else not_known
+    several_by_last plane places after s start_u start_v rise further
+    (last_turn after.motion s rise) words
 several_with plane places after _ _ _ _ further words = not_known
 
 abbrev pub several_in : Plane → Places → Places → Centre → ℕ → List Word → Turns
@@ -145,14 +158,21 @@ turns_of places after centre balance words =
 
 -- ---- heights
 
--- part of a height, after some of all turns: to the nearest millionth
+-- part of a height, after a part of an angle: to the nearest millionth
 abbrev pub part_of : ℤ → ℕ → ℕ → Option ℤ
-part_of rise made count =
-    known (limited (signed (int_lt rise (pos 0)) (nearest_size (unsigned_abs rise * made) count)))
+part_of rise made whole =
+    known (limited (signed (int_lt rise (pos 0)) (nearest_size (unsigned_abs rise * made) whole)))
+
+-- the angle of all turns, of which the last may be shorter, and that after some of them
+abbrev pub whole_angle : Turning → ℕ
+whole_angle t = t.further * whole_turn + t.last
+
+abbrev pub angle_after : Turning → ℕ → ℕ
+angle_after t made = if nat_le made t.further then made * whole_turn else whole_angle t
 
 -- the height after some turns
 abbrev pub height_after : Turning → ℕ → Option ℤ
-height_after t made = sum t.from (part_of t.rise made (t.further + 1))
+height_after t made = sum t.from (part_of t.rise (angle_after t made) (whole_angle t))
 
 -- ---- what is written
 

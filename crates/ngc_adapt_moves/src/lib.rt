@@ -1,6 +1,7 @@
 //! Lines of part programs rewritten where that takes the place of the tool or further lines.
 #![tactic(auto)]
 
+mod angle;
 mod arc;
 mod axis;
 mod code;

@@ -10,6 +10,7 @@ use crate::plan::Plan;
 use crate::radii::Balance;
 use crate::rule::{MoveRefusal, Rule};
 use crate::text::{add_value, offset_letter};
+use crate::turns::Turns;
 use itoa::Buffer;
 use ngc_fixed_length::Value;
 use std::alloc::{AllocError, Allocator};
@@ -143,6 +144,27 @@ fn add_moved<A: Allocator>(
     Ok(())
 }
 
+// Returns the bound of the heights of several turns.
+#[tactic(auto, unfolding(crate::specs::LineReports::heights_text))]
+fn heights_text(turns: &Turns) -> &'static [u8]
+    ensures { result.now ≡ report_of.heights_text turns.now }
+{
+    match turns {
+        Turns::Several(turning) if turning.last.is_whole() => b" (heights within 0.0000005)\n",
+        Turns::Several(_) => b" (heights within 0.000001)\n",
+        Turns::Other | Turns::One | Turns::Left(_) => b"\n",
+    }
+}
+
+// Adds the bound of the heights of several turns.
+fn add_heights<A: Allocator>(turns: &Turns, report: &mut Vec<u8, A>) -> Result<(), AllocError>
+    ensures { IfOk result
+        (λ _. report.new.items ≡ report.old.items ++ report_of.heights_text turns.now) }
+{
+    report.extend_from_slice(heights_text(turns))?;
+    Ok(())
+}
+
 // Adds the change of a line that is an arc of several turns.
 fn add_several<A: Allocator>(
     number: usize,
@@ -160,7 +182,7 @@ fn add_several<A: Allocator>(
         report.extend_from_slice(line)?;
         report.extend_from_slice(b" -> ")?;
         add_rewritten(b" / ", plan, line, report)?;
-        report.extend_from_slice(b" (heights within 0.0000005)\n")?;
+        add_heights(&plan.turns, report)?;
     }
     Ok(())
 }

@@ -189,7 +189,7 @@ impl MoveRefusal {
                 "the radii at start and end of the arc differ by too much: post with more decimals"
             }
             MoveRefusal::TurnsNotKnown => {
-                "turns of an arc need G90, G94, a known position, no stop, and a full circle if the height changes: write a line for each turn"
+                "turns of an arc need G90, G94, a known position and no stop: write a line for each turn"
             }
             MoveRefusal::LocalNotKnown => {
                 "G52 needs G90, a known position, no G92 before it and no other code that takes its words: set an origin by G10 L2"

@@ -1,8 +1,10 @@
 //! Several turns of an arc.
 ghost use Rattle.std.specs.Prelude.{◌≡◌, ◌*◌, ◌+◌, ◌-◌, ◌<◌, ◌≤◌, ◌^◌, ◌++◌, unsigned_abs, IfOk};
 ghost use Rattle.ngc_fixed_length.specs.Rounding.{nearest_size};
+ghost use Rattle.ngc_adapt_moves.specs.Angles.{whole_turn};
 ghost use Rattle.ngc_adapt_moves.specs.Turns as spec;
 
+use crate::angle::{Angle, arc_angle};
 use crate::arc::{Centre, first_axis, is_arc, second_axis};
 use crate::axis::{Axis, Place};
 use crate::code;
@@ -23,6 +25,8 @@ pub struct Turning {
     pub motion: Motion,
     /// How many turns follow the first.
     pub further: u16,
+    /// The angle of the last turn, which counts as a whole one if the height doesn't change.
+    pub last: Angle,
     /// The axis words of a full circle, in the plane.
     pub start: Place,
     /// Those of the last turn.
@@ -119,11 +123,23 @@ fn is_nought(value: Value) -> bool
     value.millionths().unsigned_abs() == 0
 }
 
-// Returns whether all turns share the height evenly: it doesn't change, or the arc is a full circle.
+// Returns whether the last turn counts as a whole one: the height doesn't change, or the arc is a
+// full circle.
 fn is_shared(sweep: &Sweep, rise: Value) -> bool
     ensures { result ≡ spec.is_shared sweep.now rise }
 {
     is_nought(rise) || (is_nought(sweep.end_u) && is_nought(sweep.end_v))
+}
+
+// Returns the angle of the last turn, unless it is nought.
+fn last_turn(motion: Motion, sweep: &Sweep, rise: Value) -> Option<Angle>
+    ensures { result ≡ spec.last_turn motion sweep.now rise }
+{
+    if is_shared(sweep, rise) {
+        Some(Angle::whole())
+    } else {
+        arc_angle(motion, sweep)
+    }
 }
 
 fn height_from(height: Option<Value>, words: &[Word], axis: Axis) -> Option<Value>
@@ -141,15 +157,17 @@ fn turning_of(
     start_v: Value,
     rise: Value,
     further: u16,
+    last: Angle,
     words: &[Word],
 ) -> Turning
     ensures { result ≡ spec.turning_of plane places.now after.now sweep.now start_u start_v rise
-        further words.now }
+        further last words.now }
 {
     let hole = hole_axis(plane);
     Turning {
         motion: after.motion,
         further,
+        last,
         start: place_in(plane, Some(start_u), Some(start_v)),
         end: place_in(
             plane,
@@ -185,12 +203,11 @@ fn several_with(
 {
     match (sweep, start_u, start_v, rise) {
         (Some(sweep), Some(start_u), Some(start_v), Some(rise)) => {
-            if is_shared(&sweep, rise) {
-                Turns::Several(turning_of(
-                    plane, places, after, &sweep, start_u, start_v, rise, further, words,
-                ))
-            } else {
-                not_known()
+            match last_turn(after.motion, &sweep, rise) {
+                Some(last) => Turns::Several(turning_of(
+                    plane, places, after, &sweep, start_u, start_v, rise, further, last, words,
+                )),
+                None => not_known(),
             }
         }
         _ => not_known(),
@@ -300,26 +317,62 @@ pub(crate) fn turns_of(
 }
 
 // Returns the size of a part of a height, to the nearest millionth.
-fn part_size(rise: Value, made: u32, count: u32) -> u128
-    requires { 0 < count }
-    ensures value { result ≡ nearest_size (unsigned_abs rise * made) count }
+fn part_size(rise: Value, made: u64, whole: u64) -> u128
+    requires some { 0 < whole }
+    requires made { made ≤ 2 ^ 56 }
+    requires whole { whole ≤ 2 ^ 56 }
+    ensures value { result ≡ nearest_size (unsigned_abs rise * made) whole }
     ensures small { result < 2 ^ 126 }
 {
     let product = u128::from(rise.millionths().unsigned_abs()) * u128::from(made);
-    let divisor = u128::from(count);
+    let divisor = u128::from(whole);
     (2 * product + divisor) / (2 * divisor)
 }
 
-fn part_of(rise: Value, made: u32, count: u32) -> Option<Value>
-    requires { 0 < count }
-    ensures { result ≡ spec.part_of rise made count }
+// Returns a part of a height, after a part of an angle.
+fn part_of(rise: Value, made: u64, whole: u64) -> Option<Value>
+    requires some { 0 < whole }
+    requires made { made ≤ 2 ^ 56 }
+    requires whole { whole ≤ 2 ^ 56 }
+    ensures { result ≡ spec.part_of rise made whole }
 {
-    let size = part_size(rise, made, count);
+    let size = part_size(rise, made, whole);
     known(Value::from_millionths(signed_size(rise.millionths() < 0, size)))
 }
 
+// Returns the angle of whole turns.
+fn whole_turns(count: u32) -> u64
+    requires { count ≤ 65535 }
+    ensures value { result ≡ count * whole_turn }
+    ensures bound { result ≤ 65535 * 1099511627776 }
+{
+    u64::from(count) * Angle::whole().units()
+}
+
 impl Turning {
-    ghost use Rattle.ngc_adapt_moves.specs.Turns.{height_after, goal_at, turn_line};
+    ghost use Rattle.ngc_adapt_moves.specs.Turns.{whole_angle, angle_after, height_after};
+    ghost use Rattle.ngc_adapt_moves.specs.Turns.{goal_at, turn_line};
+
+    // Returns the angle of all turns, in units of 2^-40 of a turn.
+    fn whole_angle(&self) -> u64
+        ensures value { result ≡ whole_angle self.now }
+        ensures some { 0 < result }
+        ensures bound { result ≤ 2 ^ 56 }
+    {
+        whole_turns(u32::from(self.further)) + self.last.units()
+    }
+
+    // Returns the angle after a number of turns.
+    fn angle_after(&self, made: u32) -> u64
+        ensures value { result ≡ angle_after self.now made }
+        ensures bound { result ≤ 2 ^ 56 }
+    {
+        if made <= u32::from(self.further) {
+            whole_turns(made)
+        } else {
+            self.whole_angle()
+        }
+    }
 
     /// Returns the height after a number of turns.
     pub(crate) fn height_after(&self, made: u32) -> Option<Value>
@@ -327,7 +380,7 @@ impl Turning {
     {
         sum(
             self.from,
-            part_of(self.rise, made, u32::from(self.further) + 1),
+            part_of(self.rise, self.angle_after(made), self.whole_angle()),
         )
     }
 

@@ -10,6 +10,7 @@ use Rattle.ngc_adapt.specs.Plain.{is_plain, plain_line as plain_body}
 use Rattle.ngc_adapt.proofs.PlainLaws.{plain_same}
 use Rattle.ngc_adapt.specs.Sources.{lines_of, body_of, body_length, end_of}
 use Rattle.ngc_adapt.specs.Text.{text_of}
+use Rattle.ngc_adapt.specs.Openings.{after_percent}
 use Rattle.ngc_adapt.proofs.LineLaws.{same_line}
 use Rattle.ngc_adapt.proofs.SourceLaws.{whole}
 use Rattle.ngc_adapt_moves.specs.declared.rule.Rule.{Rule as MovesRule}
@@ -18,7 +19,7 @@ use Rattle.ngc_adapt_moves.specs.Lines.{rules_for, written as moves_written}
 use Rattle.ngc_adapt_moves.proofs.LineLaws.{unchanged_is_copied}
 use Rattle.ngc_adapt_program.specs.declared.program.Progress.{Progress}
 use Rattle.ngc_adapt_program.specs.Laws.{is_kept, are_kept, KeptIsCopied}
-use Rattle.ngc_adapt_program.specs.Programs.{start, plain_text, read_of, read_line, leaves_out, progress_after, progress_after_read, read_written, tool_left, tool_line, tool_before, has_refused_words, moved, body_written, line_written, feed_if, lines_written, program_written, is_executed, mounts_tool}
+use Rattle.ngc_adapt_program.specs.Programs.{start, plain_text, read_of, read_line, leaves_out, opens_number, opening_text, after_opening, opened, line_of, progress_after, progress_after_read, read_written, tool_left, tool_line, tool_before, has_refused_words, moved, body_written, line_written, feed_if, lines_written, program_written, is_executed, mounts_tool}
 
 no_rules : (rules : List Rule) → (length rules == 0) ≡ true → rules ≡ []
 no_rules [] h = refl
@@ -86,15 +87,19 @@ read_line_kept p line none h =
     ∙ ap (λ (t : List ℕ). t ++ end_of line) (kept_body p (body_of line) h)
     ∙ take-append-drop (body_length line) line
 
-stays_in : (out : Bool) (x y : List ℕ) → not out ≡ true → (if out then x else y) ≡ y
-stays_in true x y h = absurd cc
-stays_in false x y h = refl
+neither : (a b : Bool) → not (a || b) ≡ true → (a ≡ false) × (b ≡ false)
+neither true b h = absurd cc
+neither false true h = absurd cc
+neither false false h = (refl, refl)
 
 kept_line : (p : Progress) (line : List ℕ) → p.tool ≡ None → is_kept p (body_of line) ≡ true → line_written p line ≡ line
 unfolding line_written
 kept_line p line none h =
-    let parts = both (not (leaves_out p (body_of line))) (p.ended || (is_plain p.levels (body_of line) && quiet p (body_of line))) h in
-    stays_in (leaves_out p (body_of line)) [] (read_written p line) parts.0 ∙ read_line_kept p line none parts.1
+    let parts = both (not (leaves_out p (body_of line) || opens_number p (body_of line))) (p.ended || (is_plain p.levels (body_of line) && quiet p (body_of line))) h in
+    let none_of = neither (leaves_out p (body_of line)) (opens_number p (body_of line)) parts.0 in
+    ap (λ (b : Bool). if b then [] else opening_text p line ++ read_written (opened p line) (line_of p line)) none_of.0
+    ∙ ap (λ (b : Bool). (if b then codes "%\n" else []) ++ read_written (if b then after_opening p else p) (if b then after_percent line else line)) none_of.1
+    ∙ read_line_kept p line none parts.1
 
 tool_after : (ended : Bool) (x y : Progress) → x.tool ≡ None → y.tool ≡ None → (if ended then x else y).tool ≡ None
 tool_after true x y h k = h
@@ -106,7 +111,10 @@ none_after_read p line none = tool_after p.ended _ _ none (none_left (is_execute
 
 none_after : (p : Progress) (line : List ℕ) → p.tool ≡ None → (progress_after p line).tool ≡ None
 unfolding progress_after
-none_after p line none = tool_after (leaves_out p (body_of line)) p (progress_after_read p line) none (none_after_read p line none)
+none_after p line none =
+    let after = tool_after (opens_number p (body_of line)) (after_opening p) p none none in
+    tool_after (leaves_out p (body_of line)) p (progress_after_read (opened p line) (line_of p line)) none
+    (none_after_read (opened p line) (line_of p line) after)
 
 no_ending : (marked closed ended lacks : Bool) → not (if marked then not closed else not ended) ≡ true
     → feed_if ((if marked then not closed else not ended) && lacks) ++ (if marked then (if closed then [] else codes "%\n") else (if ended then [] else codes "M2\n")) ≡ []

@@ -14,3 +14,5 @@ mod ReadLaws
 mod KeptLaws
 -- Lines that are plain.
 pub mod PlainLaws
+-- The line of a percent sign with the number of the program after it.
+mod Openings

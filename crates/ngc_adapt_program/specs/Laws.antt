@@ -8,12 +8,12 @@ use Rattle.ngc_adapt_moves.specs.Lines.{rules_for}
 use Rattle.ngc_adapt_program.specs.declared.program.Progress.{Progress}
 use Rattle.ngc_adapt_program.specs.declared.request.Request.{Request}
 use Rattle.ngc_adapt_program.specs.Programs.{start, plain_text, leaves_out, progress_after, has_ending}
-use Rattle.ngc_adapt_program.specs.Programs.{program_written}
+use Rattle.ngc_adapt_program.specs.Programs.{program_written, opens_number}
 
 -- a line that no rule changes, or that comes after the end
 abbrev pub is_kept : Progress → List ℕ → Bool
 is_kept p body =
-    not (leaves_out p body)
+    not (leaves_out p body || opens_number p body)
     && (p.ended
     || (is_plain p.levels body
     && ((length (rules_of p.modes body) == 0)

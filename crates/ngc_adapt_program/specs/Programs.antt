@@ -8,6 +8,7 @@ use Rattle.ngc_adapt.specs.declared.item.Word.{Word}
 use Rattle.ngc_adapt.specs.declared.item.Letter.{Letter}
 use Rattle.ngc_adapt.specs.declared.item.Letter.TheVariants as letters
 use Rattle.ngc_adapt.specs.declared.change.Change.{Change}
+use Rattle.ngc_adapt.specs.declared.rule.Rule.{Rule}
 use Rattle.ngc_adapt.specs.declared.rule.Rule.TheVariants as rules
 use Rattle.ngc_adapt.specs.declared.facts.Levels.{Levels}
 use Rattle.ngc_adapt.specs.Facts.{facts_of}
@@ -16,8 +17,9 @@ use Rattle.ngc_adapt.specs.Lines.{written, rules_of, next_modes, is_end, refusal
 use Rattle.ngc_adapt.specs.Numbers.{is_blank, byte_count}
 use Rattle.ngc_adapt.specs.Changes.{change_at}
 use Rattle.ngc_adapt.specs.Plain.{is_idle, levels_of, plain_line as plain_body, plain_rules}
-use Rattle.ngc_adapt.specs.Reports.{line_report, plain_report, idle_report, counts_text}
-use Rattle.ngc_adapt.specs.Rules.{start_modes}
+use Rattle.ngc_adapt.specs.Openings.{after_percent, has_number_alone, is_homing_line}
+use Rattle.ngc_adapt.specs.Reports.{line_report, plain_report, left_out_report, counts_text}
+use Rattle.ngc_adapt.specs.Rules.{start_modes, is_unnamed}
 use Rattle.ngc_adapt.specs.Sources.{lines_of, body_of, end_of, ends}
 use Rattle.ngc_adapt.specs.Text.{text_of}
 use Rattle.ngc_adapt_moves.specs.declared.places.Places.{Places}
@@ -177,9 +179,52 @@ read_of p body = if p.ended then body else plain_body p.levels body
 abbrev pub read_line : Progress → List ℕ → List ℕ
 read_line p line = read_of p (body_of line)
 
+-- grbl's homing cycle, before a line that names a motion or moves without a code
+abbrev pub homes : Progress → List ℕ → Bool
+homes p body = not p.ended && (is_unnamed p.modes.motion && is_homing_line body)
+
 -- a long text has no lines with nothing but blanks and a comment
+abbrev pub is_left_idle : Progress → List ℕ → Bool
+is_left_idle p body = p.is_long && (not p.ended && is_idle body)
+
+-- a line that isn't written
 abbrev pub leaves_out : Progress → List ℕ → Bool
-leaves_out p body = p.is_long && (not p.ended && is_idle body)
+leaves_out p body = homes p body || is_left_idle p body
+
+-- the rule by which it isn't
+abbrev pub left_out_rule : Progress → List ℕ → Rule
+left_out_rule p body = if homes p body then rules.Homing else rules.IdleLine
+
+-- the percent sign that begins a text, with the number of the program after it
+abbrev pub opens_number : Progress → List ℕ → Bool
+opens_number p body = not p.ended && (not p.begun && has_number_alone p.modes body)
+
+-- the line of the percent sign
+abbrev pub opening_text : Progress → List ℕ → List ℕ
+opening_text p line = if opens_number p (body_of line) then codes "%\n" else []
+
+-- the state after that line
+abbrev pub after_opening : Progress → Progress
+after_opening p =
+    record {
+      modes = p.modes;
+      places = p.places;
+      levels = p.levels;
+      is_long = p.is_long;
+      begun = true;
+      marked = true;
+      closed = p.closed;
+      ended = p.ended;
+      tool = p.tool;
+      lacks_feed = p.lacks_feed;
+    }
+
+abbrev pub opened : Progress → List ℕ → Progress
+opened p line = if opens_number p (body_of line) then after_opening p else p
+
+-- what follows it, as a line of its own
+abbrev pub line_of : Progress → List ℕ → List ℕ
+line_of p line = if opens_number p (body_of line) then after_percent line else line
 
 unfoldable pub progress_after_read : Progress → List ℕ → Progress
 progress_after_read p line = progress_after_body p (read_line p line) (not (ends 10 line))
@@ -187,7 +232,8 @@ progress_after_read p line = progress_after_body p (read_line p line) (not (ends
 -- a line that is left out doesn't change the state
 unfoldable pub progress_after : Progress → List ℕ → Progress
 progress_after p line =
-    if leaves_out p (body_of line) then p else progress_after_read p line
+    if leaves_out p (body_of line) then p
+    else progress_after_read (opened p line) (line_of p line)
 
 -- ---- the rewritten text
 
@@ -208,7 +254,9 @@ read_written p line =
     ++ (body_written p (read_line p line) ++ end_of line)
 
 unfoldable pub line_written : Progress → List ℕ → List ℕ
-line_written p line = if leaves_out p (body_of line) then [] else read_written p line
+line_written p line =
+    if leaves_out p (body_of line) then []
+    else opening_text p line ++ read_written (opened p line) (line_of p line)
 
 abbrev pub feed_if : Bool → List ℕ
 feed_if lacks_feed = if lacks_feed then codes "\n" else []
@@ -248,7 +296,8 @@ read_left p line = is_left p (read_line p line)
 
 -- something on a line of the source is refused
 unfoldable pub source_left : Progress → List ℕ → Bool
-source_left p line = if leaves_out p (body_of line) then false else read_left p line
+source_left p line =
+    if leaves_out p (body_of line) then false else read_left (opened p line) (line_of p line)
 
 abbrev pub lines_left : Progress → List (List ℕ) → Bool
 lines_left p [] = false
@@ -301,10 +350,22 @@ unfoldable pub read_report : ℕ → ℕ → Progress → List ℕ → List ℕ
 read_report number before p line =
     parts_report number before p (body_of line) (read_line p line)
 
+-- line N (M): opening_percent exact: WAS -> % / REST
+unfoldable pub opening_change : ℕ → ℕ → List ℕ → List ℕ
+opening_change number line body =
+    place_text number line ++ (codes "opening_percent exact: " ++ (body ++ (codes " -> % / "
+    ++ (after_percent body ++ codes "\n"))))
+
+abbrev pub opening_report : ℕ → ℕ → Progress → List ℕ → List ℕ
+opening_report number before p line =
+    if opens_number p (body_of line) then opening_change number (before + 1) (body_of line) else []
+
 unfoldable pub source_report : ℕ → ℕ → Progress → List ℕ → List ℕ
 source_report number before p line =
-    if leaves_out p (body_of line) then idle_report number (before + 1) (body_of line)
-    else read_report number before p line
+    if leaves_out p (body_of line)
+    then left_out_report number (before + 1) (left_out_rule p (body_of line)) (body_of line)
+    else opening_report number before p line
+    ++ read_report number (before + feeds (opening_text p line)) (opened p line) (line_of p line)
 
 abbrev pub ending_rule : Bool → List ℕ
 ending_rule marked = if marked then codes "closing_percent exact" else codes "program_end told"
@@ -343,8 +404,9 @@ read_changes number before p line =
 
 unfoldable pub source_changes : ℕ → ℕ → Progress → List ℕ → List Change
 source_changes number before p line =
-    if leaves_out p (body_of line) then map (change_at number (before + 1)) (rules.IdleLine ∷ [])
-    else read_changes number before p line
+    if leaves_out p (body_of line)
+    then map (change_at number (before + 1)) (left_out_rule p (body_of line) ∷ [])
+    else read_changes number (before + feeds (opening_text p line)) (opened p line) (line_of p line)
 
 abbrev pub lines_changes : ℕ → ℕ → Progress → List (List ℕ) → List Change
 lines_changes number before p [] = []

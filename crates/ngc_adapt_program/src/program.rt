@@ -1,14 +1,14 @@
 ghost use Rattle.std.specs.Prelude.{◌≡◌, ◌+◌, ◌≤◌, ◌++◌, ◌||◌, [], length, map, IfOk, true, false};
-ghost use Rattle.std.specs.Prelude.{nat_lt, ◌<◌, ◌^◌, ◌∷◌, drop, if◌then◌else◌};
+ghost use Rattle.std.specs.Prelude.{nat_lt, ◌<◌, ◌^◌, ◌∷◌, drop, if◌then◌else◌, codes};
 ghost use Rattle.std.specs.List.{list_all, flat_map};
 ghost use Rattle.ngc_adapt.specs.Numbers.{is_blank as blank};
 ghost use Rattle.ngc_adapt.specs.Sources.{body_of, ends, lines_of};
 ghost use Rattle.ngc_adapt.specs.Lines.{written, rules_of, next_modes, is_end, refusals_of};
 ghost use Rattle.ngc_adapt.specs.Changes.{change_at};
-ghost use Rattle.ngc_adapt.specs.declared.rule.Rule.TheVariants as rules;
-ghost use Rattle.ngc_adapt.specs.Reports.{line_report, idle_report};
+ghost use Rattle.ngc_adapt.specs.Reports.{line_report, left_out_report};
 ghost use Rattle.ngc_adapt_moves.specs.Lines.{written as moves_written, refusals_for, places_after};
 ghost use Rattle.ngc_adapt_moves.specs.LineReports.{line_report as moves_report};
+ghost use Rattle.ngc_adapt.specs.Openings as openings;
 ghost use Rattle.ngc_adapt_program.specs.Programs as spec;
 ghost use Rattle.ngc_adapt_program.specs.ToolNumbers.{tools_named};
 
@@ -18,9 +18,10 @@ use crate::tools::{add_tools_report, tools_named};
 use arrayvec::ArrayVec;
 use itoa::Buffer;
 use ngc_adapt::{
-    Change, Facts, Levels, MOST_WORDS, Modes, Rule, Word, adapt_line, add_counts, add_idle_report,
-    add_plain_line, add_plain_report, body_length, byte_count, is_blank, is_idle, is_plain,
-    plain_rules, split_line, text_of,
+    Change, Facts, Levels, MOST_WORDS, Modes, Rule, Word, adapt_line, add_counts,
+    add_left_out_report, add_plain_line, add_plain_report, after_percent, body_length, byte_count,
+    has_number_alone, is_blank, is_homing_line, is_idle, is_plain, plain_rules, split_line,
+    text_of,
 };
 use ngc_adapt_moves::{Places, rewrite_line};
 use std::alloc::{AllocError, Allocator};
@@ -79,10 +80,12 @@ fn is_all_blank_or_percent(body: &[u8]) -> bool
     body.iter().all(|b| is_blank_or_percent(*b))
 }
 
+#[tactic(auto, using(crate::proofs::Openings::swapped))]
 fn is_percent_line(body: &[u8]) -> bool
     ensures { result ≡ spec.is_percent_line body.now }
 {
-    byte_count(b'%', body) == 1 && is_all_blank_or_percent(body)
+    // Nearly every line fails the first test at its first byte.
+    is_all_blank_or_percent(body) && byte_count(b'%', body) == 1
 }
 
 fn is_blank_line(body: &[u8]) -> bool
@@ -150,7 +153,8 @@ fn tool_left(body: &[u8], tool: Option<u16>) -> Option<u16>
 
 impl Progress {
     ghost use Rattle.ngc_adapt_program.specs.Programs.{start, leaves_out, after_ended, tool_before};
-    ghost use Rattle.ngc_adapt_program.specs.Programs.{has_ending};
+    ghost use Rattle.ngc_adapt_program.specs.Programs.{has_ending, homes, is_left_idle};
+    ghost use Rattle.ngc_adapt_program.specs.Programs.{left_out_rule, opens_number};
 
     /// Returns the state at the start of a text, which is `plain` with plain lines.
     pub fn start(request: &Request, text: &[u8], plain: &[u8]) -> Progress
@@ -170,12 +174,55 @@ impl Progress {
         }
     }
 
-    // Returns whether a line is left out: the text is long, and the line has nothing but blanks and
-    // a comment.
+    // Returns whether a line is grbl's homing cycle, before any motion.
+    fn homes(&self, body: &[u8]) -> bool
+        ensures { result ≡ homes self.now body.now }
+    {
+        !self.ended && self.modes.has_unnamed_motion() && is_homing_line(body)
+    }
+
+    // Returns whether a line has nothing but blanks and a comment, in a long text.
+    fn is_left_idle(&self, body: &[u8]) -> bool
+        ensures { result ≡ is_left_idle self.now body.now }
+    {
+        self.is_long && !self.ended && is_idle(body)
+    }
+
+    // Returns whether a line is left out.
     fn leaves_out(&self, body: &[u8]) -> bool
         ensures { result ≡ leaves_out self.now body.now }
     {
-        self.is_long && !self.ended && is_idle(body)
+        self.homes(body) || self.is_left_idle(body)
+    }
+
+    // Returns the rule by which a line is left out.
+    fn left_out_rule(&self, body: &[u8]) -> Rule
+        ensures { result ≡ left_out_rule self.now body.now }
+    {
+        if self.homes(body) {
+            Rule::Homing
+        } else {
+            Rule::IdleLine
+        }
+    }
+
+    // Returns whether a line is the percent sign that begins the text, with the number of the
+    // program after it.
+    fn opens_number(&self, body: &[u8]) -> bool
+        ensures { result ≡ opens_number self.now body.now }
+    {
+        !self.ended && !self.begun && has_number_alone(&self.modes, body)
+    }
+
+    // Returns the state after that percent sign.
+    fn after_opening(&self) -> Progress
+        ensures { result ≡ spec.after_opening self.now }
+    {
+        Progress {
+            begun: true,
+            marked: true,
+            ..*self
+        }
     }
 
     // Returns the state after a line that follows the end.
@@ -292,6 +339,26 @@ fn add_tool_report<A: Allocator>(
     }
 }
 
+// Adds the change of a percent sign with the number of the program after it.
+#[tactic(auto, unfolding(crate::specs::Programs::opening_change))]
+fn add_opening_report<A: Allocator>(
+    number: usize,
+    line: usize,
+    body: &[u8],
+    report: &mut Vec<u8, A>,
+) -> Result<(), AllocError>
+    ensures { IfOk result (λ _. report.new.items ≡ report.old.items
+        ++ spec.opening_change number line body.now) }
+{
+    add_place(number, line, report)?;
+    report.extend_from_slice(b"opening_percent exact: ")?;
+    report.extend_from_slice(body)?;
+    report.extend_from_slice(b" -> % / ")?;
+    report.extend_from_slice(after_percent(body))?;
+    report.extend_from_slice(b"\n")?;
+    Ok(())
+}
+
 // Adds a change by each of the rules.
 fn add_changes<A: Allocator>(
     number: usize,
@@ -380,19 +447,36 @@ impl<A: Allocator + Copy> Writing<A> {
         Ok(())
     }
 
-    // Adds the change of a line that is left out, and its report.
-    fn add_idle(&mut self, number: usize, body: &[u8]) -> Result<(), AllocError>
+    // Adds the change of a line that is left out by a rule, and its report.
+    fn add_left_out(&mut self, number: usize, rule: Rule, body: &[u8]) -> Result<(), AllocError>
         requires { self.old.before ≡ feeds self.old.text.items }
         ensures report { IfOk result (λ _. self.new.report.items ≡ self.old.report.items
-            ++ idle_report number (self.old.before + 1) body.now) }
+            ++ left_out_report number (self.old.before + 1) rule body.now) }
         ensures changes { IfOk result (λ _. self.new.changes.items ≡ self.old.changes.items
-            ++ map (change_at number (self.old.before + 1)) (rules.IdleLine ∷ [])) }
+            ++ map (change_at number (self.old.before + 1)) (rule ∷ [])) }
         ensures same { (self.new.text ≡ self.old.text) × (self.new.is_left ≡ self.old.is_left)
             × (self.new.before ≡ self.old.before) }
     {
         let written = self.before + 1;
-        add_idle_report(number, written, body, &mut self.report)?;
-        add_changes(number, written, &[Rule::IdleLine], &mut self.changes)?;
+        add_left_out_report(number, written, rule, body, &mut self.report)?;
+        add_changes(number, written, &[rule], &mut self.changes)?;
+        Ok(())
+    }
+
+    // Adds the line of a percent sign that the source has in front of the number of the program.
+    fn add_opening(&mut self, number: usize, body: &[u8]) -> Result<(), AllocError>
+        requires { self.old.before ≡ feeds self.old.text.items }
+        ensures text { IfOk result
+            (λ _. self.new.text.items ≡ self.old.text.items ++ codes "%\n") }
+        ensures report { IfOk result (λ _. self.new.report.items ≡ self.old.report.items
+            ++ spec.opening_change number (self.old.before + 1) body.now) }
+        ensures changes { IfOk result (λ _. self.new.changes ≡ self.old.changes) }
+        ensures left { self.new.is_left ≡ self.old.is_left }
+        ensures before { IfOk result (λ _. self.new.before ≡ self.old.before + 1) }
+    {
+        add_opening_report(number, self.before + 1, body, &mut self.report)?;
+        self.text.extend_from_slice(b"%\n")?;
+        self.before += 1;
         Ok(())
     }
 
@@ -696,6 +780,37 @@ fn add_counted<A: Allocator + Copy>(
     Ok(after)
 }
 
+// Adds the percent sign that begins the text as a line of its own, and what follows it as another.
+fn add_opened<A: Allocator + Copy>(
+    alloc: A,
+    number: usize,
+    progress: &Progress,
+    line: &[u8],
+    out: &mut Writing<A>,
+) -> Result<Progress, AllocError>
+    requires { out.old.before ≡ spec.feeds out.old.text.items }
+    ensures text { IfOk result (λ _. out.new.text.items ≡ out.old.text.items ++ (codes "%\n"
+        ++ spec.read_written (spec.after_opening progress.now) (openings.after_percent line.now))) }
+    ensures report { IfOk result (λ _. out.new.report.items ≡ out.old.report.items
+        ++ (spec.opening_change number (out.old.before + 1) (body_of line.now)
+        ++ spec.read_report number (out.old.before + 1) (spec.after_opening progress.now)
+        (openings.after_percent line.now))) }
+    ensures changes { IfOk result (λ _. out.new.changes.items ≡ out.old.changes.items
+        ++ spec.read_changes number (out.old.before + 1) (spec.after_opening progress.now)
+        (openings.after_percent line.now)) }
+    ensures left { IfOk result (λ _. out.new.is_left ≡ (out.old.is_left
+        || spec.read_left (spec.after_opening progress.now) (openings.after_percent line.now))) }
+    ensures before { IfOk result (λ _. out.new.before ≡ out.old.before + (1
+        + spec.feeds (spec.read_written (spec.after_opening progress.now) (openings.after_percent line.now)))) }
+    ensures progress { IfOk result (λ p. p
+        ≡ spec.progress_after_read (spec.after_opening progress.now) (openings.after_percent line.now)) }
+{
+    out.add_opening(number, line.split_at(body_length(line)).0)?;
+    let opened = progress.after_opening();
+    let after = add_counted(alloc, number, &opened, after_percent(line), out)?;
+    Ok(after)
+}
+
 // Adds a line as it is rewritten, its changes and their report, and returns the state after it.
 #[tactic(auto, unfolding(crate::specs::Programs::line_written, crate::specs::Programs::source_report, crate::specs::Programs::source_changes, crate::specs::Programs::source_left, crate::specs::Programs::progress_after))]
 fn add_line<A: Allocator + Copy>(
@@ -720,8 +835,12 @@ fn add_line<A: Allocator + Copy>(
 {
     let body = line.split_at(body_length(line)).0;
     if progress.leaves_out(body) {
-        out.add_idle(number, body)?;
+        out.add_left_out(number, progress.left_out_rule(body), body)?;
         return Ok(*progress);
+    }
+    if progress.opens_number(body) {
+        let after = add_opened(alloc, number, progress, line, out)?;
+        return Ok(after);
     }
     let after = add_counted(alloc, number, progress, line, out)?;
     Ok(after)
