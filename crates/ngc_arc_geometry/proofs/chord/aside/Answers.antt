@@ -48,3 +48,21 @@ overflow_mul-size c =
 pub overflow_mul-size-2 : goal.overflow_mul-size-2
 overflow_mul-size-2 c =
     product_fits (c.from-size.result * c.from-size.result) c.args.square c.args.chord_square (size_square c) c.requires.reached c.requires.limit
+
+pub overflow_mul-square : goal.overflow_mul-square
+overflow_mul-square c = omega (arith, c.requires.limit)
+
+pub overflow_sub-square : goal.overflow_sub-square
+overflow_sub-square c = c.requires.reached
+
+pub overflow_mul-chord_square : goal.overflow_mul-chord_square
+overflow_mul-chord_square c = omega (arith, c.requires.reached, c.requires.limit)
+
+pub nonzero_div-size : goal.nonzero_div-size
+nonzero_div-size c = omega (arith, c.requires.chord)
+
+pub overflow_cast-result : goal.overflow_cast-result
+overflow_cast-result c =
+    let small = aside_bound (unsigned_abs c.args.part * unsigned_abs c.args.part) c.args.square c.args.chord_square c.root_floor.result c.requires.chord
+    c.requires.reached c.requires.limit c.requires.part (square c) in
+    omega (arith, ints, small)

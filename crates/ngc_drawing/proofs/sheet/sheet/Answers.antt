@@ -1,16 +1,18 @@
-use Rattle.std.proofs.Common.{◌≡◌, arith, to_z, of_z}
+use Rattle.std.proofs.Common.{◌≡◌, to_z, of_z}
 use Rattle.std.specs.Int.{w128}
-use Rattle.std.proofs.lemmas.Int.{ints}
+use Rattle.std.proofs.lemmas.Int.{to_z-of_z}
 use Rattle.ngc_drawing.proofs.sheet.sheet.Goals as goal
 
 pub returns : goal.returns
 returns c =
-    let r0 : to_z w128 (of_z w128 c.left.result) ≡ c.left.result = omega (arith, ints) in
-    let r1 : to_z w128 (of_z w128 c.top.result) ≡ c.top.result = omega (arith, ints) in
-    let r2 : to_z w128 (of_z w128 c.width.result) ≡ c.width.result = omega (arith, ints) in
-    let r3 : to_z w128 (of_z w128 c.height.result) ≡ c.height.result = omega (arith, ints) in
-    let r4 : to_z w128 (of_z w128 c.page_width.result) ≡ c.page_width.result = omega (arith, ints) in
-    let r5 : to_z w128 (of_z w128 c.page_height.result) ≡ c.page_height.result = omega (arith, ints) in
+    let r0 : to_z w128 (of_z w128 c.left.result) ≡ c.left.result = to_z-of_z w128 c.left.result (record { sfits = c.left.type_inv }) in
+    let r1 : to_z w128 (of_z w128 c.top.result) ≡ c.top.result = to_z-of_z w128 c.top.result (record { sfits = c.top.type_inv }) in
+    let r2 : to_z w128 (of_z w128 c.width.result) ≡ c.width.result = to_z-of_z w128 c.width.result (record { sfits = c.width.type_inv }) in
+    let r3 : to_z w128 (of_z w128 c.height.result) ≡ c.height.result = to_z-of_z w128 c.height.result (record { sfits = c.height.type_inv }) in
+    let r4 : to_z w128 (of_z w128 c.page_width.result) ≡ c.page_width.result =
+    to_z-of_z w128 c.page_width.result (record { sfits = c.page_width.type_inv }) in
+    let r5 : to_z w128 (of_z w128 c.page_height.result) ≡ c.page_height.result =
+    to_z-of_z w128 c.page_height.result (record { sfits = c.page_height.type_inv }) in
     rw (
       r0,
       r1,

@@ -7,6 +7,8 @@ use Rattle.ngc_planner.specs.Caps.{STEPS_LIMIT}
 use Rattle.ngc_planner.specs.Headings.{is_level}
 use Rattle.ngc_planner.proofs.ArcFeedLaws.{radius_some, length_some}
 use Rattle.ngc_planner.proofs.BoundLaws.{step_within, ranges_of}
+use Rattle.std.specs.Int.{w64}
+use Rattle.std.proofs.lemmas.Int.{to_z-of_z}
 use Rattle.ngc_planner.proofs.arc_feed.feed_cap_at.Goals as goal
 
 pub place_cap-cap-requires-clause-radius_least : goal.place_cap-cap-requires-clause-radius_least
@@ -33,3 +35,73 @@ sloped_cap-requires-clause-least g c =
     let step = step_within (file_of c.args.machine.now) (ranges_of c.args.machine.now) in
     (long_enough c.flat_length.result (unsigned_abs c.args.machine.now.step) c.args.n c.args.length c.args.arc.now c.farther_out.ensures.arc
     (sym c.is_level.ensures ∙ c.if-is_level.false) c.flat_length.ensures.value c.requires.steps step.1 c.requires.length).1
+
+pub farther_out-requires : goal.farther_out-requires
+farther_out-requires g c = c.args.machine.now.step_in_range
+
+pub place_cap-cap-requires-clause-ticks : goal.place_cap-cap-requires-clause-ticks
+place_cap-cap-requires-clause-ticks g c = omega (arith, c.args.machine.now.ticks_in_range)
+
+pub place_cap-cap-requires-clause-step_least : goal.place_cap-cap-requires-clause-step_least
+place_cap-cap-requires-clause-step_least g c =
+    let step = step_within (file_of c.args.machine.now) (ranges_of c.args.machine.now) in
+    rw (c.unsigned_abs.ensures.value, to_z-of_z w64 c.nanometres.result (record { sfits = c.nanometres.type_inv }), c.nanometres.ensures.value) step.0
+
+pub place_cap-cap-requires-clause-step_greatest : goal.place_cap-cap-requires-clause-step_greatest
+place_cap-cap-requires-clause-step_greatest g c =
+    let step = step_within (file_of c.args.machine.now) (ranges_of c.args.machine.now) in
+    rw (c.unsigned_abs.ensures.value, to_z-of_z w64 c.nanometres.result (record { sfits = c.nanometres.type_inv }), c.nanometres.ensures.value) step.1
+
+pub flat_length-requires-clause-steps : goal.flat_length-requires-clause-steps
+flat_length-requires-clause-steps g c = c.requires.steps
+
+pub flat_length-requires-clause-step : goal.flat_length-requires-clause-step
+flat_length-requires-clause-step g c = c.args.machine.now.step_in_range
+
+pub sloped_cap-requires-clause-flat : goal.sloped_cap-requires-clause-flat
+sloped_cap-requires-clause-flat g c = c.flat_length.ensures.bound
+
+pub sloped_cap-requires-clause-cap : goal.sloped_cap-requires-clause-cap
+sloped_cap-requires-clause-cap g c = c.place_cap-cap.ensures.bound
+
+pub returns-then-is_level-clause-value : goal.returns-then-is_level-clause-value
+returns-then-is_level-clause-value g c =
+    let step = to_z-of_z w64 c.nanometres.result (record { sfits = c.nanometres.type_inv }) in
+    rw (
+      c.place_cap-cap.ensures.value,
+      c.unsigned_abs.ensures.value,
+      step,
+      c.nanometres.ensures.value,
+      c.outer_radius.ensures.value,
+      c.farther_out.ensures.value,
+      c.in-PerMinute.is,
+      ← c.is_level.ensures,
+      c.if-is_level.true,
+    )
+
+pub returns-then-is_level-clause-bound : goal.returns-then-is_level-clause-bound
+returns-then-is_level-clause-bound g c = omega (arith, c.place_cap-cap.ensures.bound)
+
+pub returns-else-is_level-clause-value : goal.returns-else-is_level-clause-value
+returns-else-is_level-clause-value g c =
+    let step = to_z-of_z w64 c.nanometres.result (record { sfits = c.nanometres.type_inv }) in
+    rw (
+      c.sloped_cap.ensures.value,
+      c.flat_length.ensures.value,
+      c.place_cap-cap.ensures.value,
+      c.unsigned_abs.ensures.value,
+      step,
+      c.nanometres.ensures.value,
+      c.outer_radius.ensures.value,
+      c.farther_out.ensures.value,
+      c.requires.length,
+      c.in-PerMinute.is,
+      ← c.is_level.ensures,
+      c.if-is_level.false,
+    )
+
+pub returns-else-is_level-clause-bound : goal.returns-else-is_level-clause-bound
+returns-else-is_level-clause-bound g c = c.sloped_cap.ensures.bound
+
+pub returns-in-Inverse-clause-value : goal.returns-in-Inverse-clause-value
+returns-in-Inverse-clause-value g c = rw c.in-Inverse.is

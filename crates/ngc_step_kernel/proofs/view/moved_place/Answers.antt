@@ -1,6 +1,6 @@
 use Rattle.std.proofs.Common.{arith, ◌≡◌, ◌≤◌, ◌*◌, pos, unsigned_abs, to_z, of_z, w32, w64}
 use Rattle.std.specs.Int.{w128}
-use Rattle.std.proofs.lemmas.Int.{ints}
+use Rattle.std.proofs.lemmas.Int.{ints, to_z-of_z}
 use Rattle.std.proofs.lemmas.Nat.{mul-le}
 use Rattle.ngc_step_kernel.proofs.ViewLemmas.{moved_sum, moved_near, moved_small}
 use Rattle.ngc_step_kernel.proofs.view.moved_place.Goals as goal
@@ -8,8 +8,8 @@ use Rattle.ngc_step_kernel.proofs.view.moved_place.Goals as goal
 pub rounded_quotient-requires-clause-dividend : goal.rounded_quotient-requires-clause-dividend
 rounded_quotient-requires-clause-dividend c =
     let r = c.requires in
-    let centre : to_z w64 (of_z w64 c.args.centre) ≡ c.args.centre = omega (arith, ints, r.centre) in
-    let way : to_z w64 (of_z w64 c.args.way) ≡ c.args.way = omega (arith, ints, r.way, r.radius) in
+    let centre : to_z w64 (of_z w64 c.args.centre) ≡ c.args.centre = to_z-of_z w64 c.args.centre c.ranges.centre in
+    let way : to_z w64 (of_z w64 c.args.way) ≡ c.args.way = to_z-of_z w64 c.args.way c.ranges.way in
     let a = rw centre at c.scaled.ensures.value in
     let b = rw centre at c.scaled.ensures.bound in
     let d = rw way at c.scaled-2.ensures.value in
@@ -19,8 +19,8 @@ rounded_quotient-requires-clause-dividend c =
 pub returns-clause-near : goal.returns-clause-near
 returns-clause-near c =
     let r = c.requires in
-    let centre : to_z w64 (of_z w64 c.args.centre) ≡ c.args.centre = omega (arith, ints, r.centre) in
-    let way : to_z w64 (of_z w64 c.args.way) ≡ c.args.way = omega (arith, ints, r.way, r.radius) in
+    let centre : to_z w64 (of_z w64 c.args.centre) ≡ c.args.centre = to_z-of_z w64 c.args.centre c.ranges.centre in
+    let way : to_z w64 (of_z w64 c.args.way) ≡ c.args.way = to_z-of_z w64 c.args.way c.ranges.way in
     let a = rw centre at c.scaled.ensures.value in
     let b = rw centre at c.scaled.ensures.bound in
     let d = rw way at c.scaled-2.ensures.value in
@@ -37,8 +37,8 @@ returns-clause-near c =
 pub overflow_cast-result : goal.overflow_cast-result
 overflow_cast-result c =
     let r = c.requires in
-    let centre : to_z w64 (of_z w64 c.args.centre) ≡ c.args.centre = omega (arith, ints, r.centre) in
-    let way : to_z w64 (of_z w64 c.args.way) ≡ c.args.way = omega (arith, ints, r.way, r.radius) in
+    let centre : to_z w64 (of_z w64 c.args.centre) ≡ c.args.centre = to_z-of_z w64 c.args.centre c.ranges.centre in
+    let way : to_z w64 (of_z w64 c.args.way) ≡ c.args.way = to_z-of_z w64 c.args.way c.ranges.way in
     let a = rw centre at c.scaled.ensures.value in
     let b = rw centre at c.scaled.ensures.bound in
     let d = rw way at c.scaled-2.ensures.value in
@@ -54,8 +54,8 @@ overflow_cast-result c =
 pub returns-clause-range : goal.returns-clause-range
 returns-clause-range c =
     let r = c.requires in
-    let centre : to_z w64 (of_z w64 c.args.centre) ≡ c.args.centre = omega (arith, ints, r.centre) in
-    let way : to_z w64 (of_z w64 c.args.way) ≡ c.args.way = omega (arith, ints, r.way, r.radius) in
+    let centre : to_z w64 (of_z w64 c.args.centre) ≡ c.args.centre = to_z-of_z w64 c.args.centre c.ranges.centre in
+    let way : to_z w64 (of_z w64 c.args.way) ≡ c.args.way = to_z-of_z w64 c.args.way c.ranges.way in
     let a = rw centre at c.scaled.ensures.value in
     let b = rw centre at c.scaled.ensures.bound in
     let d = rw way at c.scaled-2.ensures.value in
@@ -84,8 +84,8 @@ scaled-requires-2-clause-radius c = omega (arith, ints)
 pub overflow_add-place : goal.overflow_add-place
 overflow_add-place c =
     let r = c.requires in
-    let centre : to_z w64 (of_z w64 c.args.centre) ≡ c.args.centre = omega (arith, ints, r.centre) in
-    let way : to_z w64 (of_z w64 c.args.way) ≡ c.args.way = omega (arith, ints, r.way, r.radius) in
+    let centre : to_z w64 (of_z w64 c.args.centre) ≡ c.args.centre = to_z-of_z w64 c.args.centre c.ranges.centre in
+    let way : to_z w64 (of_z w64 c.args.way) ≡ c.args.way = to_z-of_z w64 c.args.way c.ranges.way in
     let b = rw centre at c.scaled.ensures.bound in
     let e = rw way at c.scaled-2.ensures.bound in
     let first = mul-le (unsigned_abs c.args.centre) c.args.radius 93000000000 2000020000 r.centre r.radius in

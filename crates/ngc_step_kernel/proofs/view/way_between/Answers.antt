@@ -1,5 +1,5 @@
 use Rattle.std.proofs.Common.{arith, ◌≡◌, ◌-ℤ◌, to_z, of_z, w64, ◌∙◌}
-use Rattle.std.proofs.lemmas.Int.{ints}
+use Rattle.std.proofs.lemmas.Int.{ints, to_z-of_z}
 use Rattle.ngc_step_kernel.specs.Round.{turned}
 use Rattle.ngc_step_kernel.proofs.ViewLemmas.{way_is}
 use Rattle.ngc_step_kernel.proofs.view.way_between.Goals as goal
@@ -16,5 +16,5 @@ returns c =
     ≡ c.args.to.now.v -ℤ c.args.from.now.v = omega (arith, ints, d.value, d.bound, e.value, e.bound) in
     let t : c.turned.result ≡ turned c.args.turn (c.args.to.now.v -ℤ c.args.from.now.v) = rw w at c.turned.ensures.value in
     let f = rw w at c.turned.ensures.bound in
-    let same : to_z w64 (of_z w64 c.turned.result) ≡ c.turned.result = omega (arith, ints, f, d.value, d.bound, e.value, e.bound) in
+    let same : to_z w64 (of_z w64 c.turned.result) ≡ c.turned.result = to_z-of_z w64 c.turned.result (record { sfits = c.turned.type_inv }) in
     way_is _ _ _ _ u (same ∙ t)

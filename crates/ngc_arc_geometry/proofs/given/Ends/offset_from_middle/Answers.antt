@@ -1,6 +1,6 @@
 use Rattle.std.proofs.Common.{◌≡◌, ◌≤◌, ℕ, ℤ, ◌*◌, ◌*ℤ◌, neg_ℤ, unsigned_abs, to_z, of_z, arith, ap, ◌∙◌}
 use Rattle.std.specs.Int.{w64, int_signum}
-use Rattle.std.proofs.lemmas.Int.{ints}
+use Rattle.std.proofs.lemmas.Int.{ints, to_z-of_z}
 use Rattle.ngc_fixed_length.specs.declared.points.Point2.{Point2}
 use Rattle.ngc_arc_geometry.specs.Chord.{aside as aside_of, side as side_of}
 use Rattle.ngc_arc_geometry.specs.Centre.{chord, chord_square}
@@ -58,10 +58,13 @@ first : (c : After-new) →
     c.signed_aside-u.result ≡ side_of c.args.self.now.turn c.args.is_long *ℤ int_signum (chord c.args.self.now).v
     *ℤ aside_of c.args.square (chord_square c.args.self.now) (chord c.args.self.now).v
 first c =
-    let side : to_z w64 (of_z w64 c.side-side.result) ≡ c.side-side.result = omega (arith, ints) in
-    let sign : to_z w64 (of_z w64 c.v.result) ≡ c.chord-chord.result.v = omega (arith, ints) in
-    let part : to_z w64 (of_z w64 c.v-2.result) ≡ c.chord-chord.result.v = omega (arith, ints) in
-    let aside : to_z w64 (of_z w64 c.aside.result) ≡ c.aside.result = omega (arith, ints) in
+    let side : to_z w64 (of_z w64 c.side-side.result) ≡ c.side-side.result =
+    to_z-of_z w64 c.side-side.result (record { sfits = c.side-side.type_inv }) in
+    let sign : to_z w64 (of_z w64 c.v.result) ≡ c.chord-chord.result.v =
+    to_z-of_z w64 c.v.result (record { sfits = c.v.type_inv }) ∙ c.v.ensures.value in
+    let part : to_z w64 (of_z w64 c.v-2.result) ≡ c.chord-chord.result.v =
+    to_z-of_z w64 c.v-2.result (record { sfits = c.v-2.type_inv }) ∙ c.v-2.ensures.value in
+    let aside : to_z w64 (of_z w64 c.aside.result) ≡ c.aside.result = to_z-of_z w64 c.aside.result (record { sfits = c.aside.type_inv }) in
     let value = rw (part, c.square-square_of_chord.ensures) at c.aside.ensures.value in
     let signed = rw (side, sign, aside, value, c.side-side.ensures.value) at c.signed_aside-u.ensures.value in
     rw c.chord-chord.ensures at signed
@@ -70,10 +73,13 @@ second : (c : After-new) →
     c.signed_aside-v.result ≡ side_of c.args.self.now.turn c.args.is_long *ℤ int_signum (chord c.args.self.now).u
     *ℤ aside_of c.args.square (chord_square c.args.self.now) (chord c.args.self.now).u
 second c =
-    let side : to_z w64 (of_z w64 c.side-side.result) ≡ c.side-side.result = omega (arith, ints) in
-    let sign : to_z w64 (of_z w64 c.u.result) ≡ c.chord-chord.result.u = omega (arith, ints) in
-    let part : to_z w64 (of_z w64 c.u-2.result) ≡ c.chord-chord.result.u = omega (arith, ints) in
-    let aside : to_z w64 (of_z w64 c.aside-2.result) ≡ c.aside-2.result = omega (arith, ints) in
+    let side : to_z w64 (of_z w64 c.side-side.result) ≡ c.side-side.result =
+    to_z-of_z w64 c.side-side.result (record { sfits = c.side-side.type_inv }) in
+    let sign : to_z w64 (of_z w64 c.u.result) ≡ c.chord-chord.result.u =
+    to_z-of_z w64 c.u.result (record { sfits = c.u.type_inv }) ∙ c.u.ensures.value in
+    let part : to_z w64 (of_z w64 c.u-2.result) ≡ c.chord-chord.result.u =
+    to_z-of_z w64 c.u-2.result (record { sfits = c.u-2.type_inv }) ∙ c.u-2.ensures.value in
+    let aside : to_z w64 (of_z w64 c.aside-2.result) ≡ c.aside-2.result = to_z-of_z w64 c.aside-2.result (record { sfits = c.aside-2.type_inv }) in
     let value = rw (part, c.square-square_of_chord.ensures) at c.aside-2.ensures.value in
     let signed = rw (side, sign, aside, value, c.side-side.ensures.value) at c.signed_aside-v.ensures.value in
     rw c.chord-chord.ensures at signed
@@ -99,8 +105,10 @@ returns-clause-value c = same_point _ _ _ _ (new_u c ∙ ap neg_ℤ (first c)) (
 
 pub returns-clause-short : goal.returns-clause-short
 returns-clause-short c =
-    let part_v : to_z w64 (of_z w64 c.v-2.result) ≡ c.chord-chord.result.v = omega (arith, ints) in
-    let part_u : to_z w64 (of_z w64 c.u-2.result) ≡ c.chord-chord.result.u = omega (arith, ints) in
+    let part_v : to_z w64 (of_z w64 c.v-2.result) ≡ c.chord-chord.result.v =
+    to_z-of_z w64 c.v-2.result (record { sfits = c.v-2.type_inv }) ∙ c.v-2.ensures.value in
+    let part_u : to_z w64 (of_z w64 c.u-2.result) ≡ c.chord-chord.result.u =
+    to_z-of_z w64 c.u-2.result (record { sfits = c.u-2.type_inv }) ∙ c.u-2.ensures.value in
     let square_u = rw (part_v, c.square-square_of_chord.ensures, c.chord-chord.ensures) at c.aside.ensures.square in
     let square_v = rw (part_u, c.square-square_of_chord.ensures, c.chord-chord.ensures) at c.aside-2.ensures.square in
     let size_u : unsigned_abs c.new.result.u ≤ unsigned_abs c.aside.result = rw (new_u c, size_of_negative c.signed_aside-u.result) (first_size c) in
@@ -111,3 +119,15 @@ returns-clause-short c =
       u = aside_less _ _ _ (unsigned_abs c.aside.result) (unsigned_abs c.new.result.u) size_u square_u;
       v = aside_less _ _ _ (unsigned_abs c.aside-2.result) (unsigned_abs c.new.result.v) size_v square_v;
     }
+
+pub signed_aside-u-requires-clause-side : goal.signed_aside-u-requires-clause-side
+signed_aside-u-requires-clause-side c = rw (to_z-of_z w64 c.side-side.result (record { sfits = c.side-side.type_inv })) c.side-side.ensures.bound
+
+pub signed_aside-u-requires-clause-aside : goal.signed_aside-u-requires-clause-aside
+signed_aside-u-requires-clause-aside c = rw (kept c.aside.result c.aside.ensures.bound) c.aside.ensures.bound
+
+pub signed_aside-v-requires-clause-side : goal.signed_aside-v-requires-clause-side
+signed_aside-v-requires-clause-side c = rw (to_z-of_z w64 c.side-side.result (record { sfits = c.side-side.type_inv })) c.side-side.ensures.bound
+
+pub signed_aside-v-requires-clause-aside : goal.signed_aside-v-requires-clause-aside
+signed_aside-v-requires-clause-aside c = rw (kept c.aside-2.result c.aside-2.ensures.bound) c.aside-2.ensures.bound

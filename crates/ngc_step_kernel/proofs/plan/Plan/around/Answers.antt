@@ -1,5 +1,5 @@
 use Rattle.std.proofs.Common.{refl, sym, ◌∙◌, arith}
-use Rattle.ngc_step_kernel.proofs.AroundLemmas.{joint_of, begun_small, begun_spots, begun_apart, reach_begun, begun_of, first_small, some_left}
+use Rattle.ngc_step_kernel.proofs.AroundLemmas.{joint_of, begun_small, begun_spots, begun_apart, reach_begun, begun_of, first_small, some_left, some_root}
 use Rattle.ngc_step_kernel.proofs.BentGiven.{bent_seen}
 use Rattle.ngc_step_kernel.proofs.CourseFollows.{straight_seen, round_seen, wide_seen, root_told}
 use Rattle.ngc_step_kernel.proofs.Settings.{some_way}
@@ -186,3 +186,154 @@ returns-in-Some-clause-follows g c = λ a seen arc.
       plan = c.round.ensures.plan;
       round = c.round.ensures.round;
     })
+
+pub is_tiny-requires-clause-start : goal.is_tiny-requires-clause-start
+is_tiny-requires-clause-start g c = radius_way c.args.view.now.start c.requires.view.start
+
+pub is_tiny-requires-clause-end : goal.is_tiny-requires-clause-end
+is_tiny-requires-clause-end g c = radius_way c.args.view.now.end c.requires.view.end
+
+pub is_tiny-requires-clause-greatest : goal.is_tiny-requires-clause-greatest
+is_tiny-requires-clause-greatest g c = c.requires.greatest
+
+pub straight-requires-clause-start : goal.straight-requires-clause-start
+straight-requires-clause-start g c = c.requires.start
+
+pub straight-requires-clause-end : goal.straight-requires-clause-end
+straight-requires-clause-end g c = c.requires.end
+
+pub straight-requires-clause-some : goal.straight-requires-clause-some
+straight-requires-clause-some g c = omega (arith, c.requires.least)
+
+pub straight-requires-clause-short : goal.straight-requires-clause-short
+straight-requires-clause-short g c = c.requires.greatest
+
+pub returns-then-is_tiny-clause-plan : goal.returns-then-is_tiny-clause-plan
+returns-then-is_tiny-clause-plan g c = c.straight.ensures.plan
+
+pub returns-then-is_tiny-clause-start : goal.returns-then-is_tiny-clause-start
+returns-then-is_tiny-clause-start g c = c.straight.ensures.start
+
+pub returns-then-is_tiny-clause-end : goal.returns-then-is_tiny-clause-end
+returns-then-is_tiny-clause-end g c = c.straight.ensures.end
+
+pub returns-then-is_tiny-clause-roots : goal.returns-then-is_tiny-clause-roots
+returns-then-is_tiny-clause-roots g c = omega arith
+
+pub square-requires : goal.square-requires
+square-requires g c = radius_way c.args.view.now.start c.requires.view.start
+
+pub ceil-radius-requires-clause-small : goal.ceil-radius-requires-clause-small
+ceil-radius-requires-clause-small g c = omega (arith, c.square.ensures, c.requires.view.start.bound)
+
+pub ceil-radius-requires-clause-few : goal.ceil-radius-requires-clause-few
+ceil-radius-requires-clause-few g c = omega (arith, c.requires.roots)
+
+pub square-requires-2 : goal.square-requires-2
+square-requires-2 g c = radius_way c.args.view.now.end c.requires.view.end
+
+pub ceil-other-requires-clause-small : goal.ceil-other-requires-clause-small
+ceil-other-requires-clause-small g c = omega (arith, c.square-2.ensures, c.requires.view.end.bound)
+
+pub ceil-other-requires-clause-few : goal.ceil-other-requires-clause-few
+ceil-other-requires-clause-few g c = omega (arith, c.requires.roots, c.ceil-radius.ensures.counted)
+
+pub circle_of-circle-requires-clause-short : goal.circle_of-circle-requires-clause-short
+circle_of-circle-requires-clause-short g c = c.requires.greatest
+
+pub joint-joint-requires-clause-view : goal.joint-joint-requires-clause-view
+joint-joint-requires-clause-view g c = c.requires.view
+
+pub joint-joint-requires-clause-some : goal.joint-joint-requires-clause-some
+joint-joint-requires-clause-some g c =
+    some_root c.square.result c.ceil-radius.result (omega (arith, c.square.ensures, c.requires.view.start.some)) c.ceil-radius.ensures.square
+
+pub joint-joint-requires-clause-start : goal.joint-joint-requires-clause-start
+joint-joint-requires-clause-start g c = omega (arith, c.square.ensures, c.ceil-radius.ensures.square)
+
+pub joint-joint-requires-clause-other : goal.joint-joint-requires-clause-other
+joint-joint-requires-clause-other g c = c.circle_of-circle.ensures.bound
+
+pub joint-joint-requires-clause-least : goal.joint-joint-requires-clause-least
+joint-joint-requires-clause-least g c = c.requires.least
+
+pub joint-joint-requires-clause-greatest : goal.joint-joint-requires-clause-greatest
+joint-joint-requires-clause-greatest g c = c.requires.greatest
+
+pub limit_of-limit-requires-clause-short : goal.limit_of-limit-requires-clause-short
+limit_of-limit-requires-clause-short g c = c.requires.greatest
+
+pub of-entry-requires-clause-view : goal.of-entry-requires-clause-view
+of-entry-requires-clause-view g c = c.requires.view
+
+pub of-entry-requires-clause-joint : goal.of-entry-requires-clause-joint
+of-entry-requires-clause-joint g c = c.joint-joint.ensures.range
+
+pub of-entry-requires-clause-least : goal.of-entry-requires-clause-least
+of-entry-requires-clause-least g c = c.requires.least
+
+pub of-entry-requires-clause-greatest : goal.of-entry-requires-clause-greatest
+of-entry-requires-clause-greatest g c = c.requires.greatest
+
+pub quadrants_left-requires-clause-end : goal.quadrants_left-requires-clause-end
+quadrants_left-requires-clause-end g c = radius_way c.args.view.now.end c.requires.view.end
+
+pub quadrants_left-requires-clause-last : goal.quadrants_left-requires-clause-last
+quadrants_left-requires-clause-last g c = c.spoke-last.ensures.small
+
+pub by_joint-requires-clause-start : goal.by_joint-requires-clause-start
+by_joint-requires-clause-start g c = c.requires.start
+
+pub by_joint-requires-clause-joint : goal.by_joint-requires-clause-joint
+by_joint-requires-clause-joint g c = c.joint-joint.ensures.range
+
+pub by_joint-requires-clause-end : goal.by_joint-requires-clause-end
+by_joint-requires-clause-end g c = c.requires.end
+
+pub by_joint-requires-clause-some : goal.by_joint-requires-clause-some
+by_joint-requires-clause-some g c = omega (arith, c.requires.least)
+
+pub by_joint-requires-clause-short : goal.by_joint-requires-clause-short
+by_joint-requires-clause-short g c = c.requires.greatest
+
+pub round-requires-clause-some : goal.round-requires-clause-some
+round-requires-clause-some g c = omega (arith, c.requires.least)
+
+pub round-requires-clause-short : goal.round-requires-clause-short
+round-requires-clause-short g c = c.requires.greatest
+
+pub round-requires-clause-start : goal.round-requires-clause-start
+round-requires-clause-start g c = c.requires.start
+
+pub round-requires-clause-joint : goal.round-requires-clause-joint
+round-requires-clause-joint g c = c.joint-joint.ensures.range
+
+pub round-requires-clause-end : goal.round-requires-clause-end
+round-requires-clause-end g c = c.requires.end
+
+pub round-requires-clause-end_spoke : goal.round-requires-clause-end_spoke
+round-requires-clause-end_spoke g c = c.spoke-last.ensures.small
+
+pub returns-in-None-clause-plan : goal.returns-in-None-clause-plan
+returns-in-None-clause-plan g c = c.by_joint.ensures.plan
+
+pub returns-in-None-clause-start : goal.returns-in-None-clause-start
+returns-in-None-clause-start g c = c.by_joint.ensures.start
+
+pub returns-in-None-clause-end : goal.returns-in-None-clause-end
+returns-in-None-clause-end g c = c.by_joint.ensures.end
+
+pub returns-in-None-clause-roots : goal.returns-in-None-clause-roots
+returns-in-None-clause-roots g c = omega (arith, c.ceil-radius.ensures.counted, c.ceil-other.ensures.counted)
+
+pub returns-in-Some-clause-plan : goal.returns-in-Some-clause-plan
+returns-in-Some-clause-plan g c = c.round.ensures.plan
+
+pub returns-in-Some-clause-start : goal.returns-in-Some-clause-start
+returns-in-Some-clause-start g c = c.round.ensures.start
+
+pub returns-in-Some-clause-end : goal.returns-in-Some-clause-end
+returns-in-Some-clause-end g c = c.round.ensures.end
+
+pub returns-in-Some-clause-roots : goal.returns-in-Some-clause-roots
+returns-in-Some-clause-roots g c = omega (arith, c.ceil-radius.ensures.counted, c.ceil-other.ensures.counted)
