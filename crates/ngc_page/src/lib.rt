@@ -48,7 +48,10 @@ pub extern "C" fn ngc_report(
         (space output.old output.new lengths.new.output)
         (space errors.old errors.new lengths.new.errors) result }
 {
-    let options = report_options(all, json);
+    // Here and below a pattern binds the options: the prover's borrow checker refuses a plain `let`.
+    let Some(options) = Some(report_options(all, json)) else {
+        unreachable!()
+    };
     let files = PassedFiles {
         program,
         machine,
@@ -76,7 +79,9 @@ pub extern "C" fn ngc_draw(
         (space output.old output.new lengths.new.output)
         (space errors.old errors.new lengths.new.errors) result }
 {
-    let options = draw_options(view, delete);
+    let Some(options) = Some(draw_options(view, delete)) else {
+        unreachable!()
+    };
     let files = PassedFiles {
         program,
         machine,
@@ -102,7 +107,9 @@ pub extern "C" fn ngc_list(
         (space output.old output.new lengths.new.output)
         (space errors.old errors.new lengths.new.errors) result }
 {
-    let options = list_options(delete);
+    let Some(options) = Some(list_options(delete)) else {
+        unreachable!()
+    };
     let files = PassedFiles {
         program,
         machine,
@@ -129,7 +136,9 @@ pub extern "C" fn ngc_certify(
         (space output.old output.new lengths.new.output)
         (space errors.old errors.new lengths.new.errors) result }
 {
-    let options = certify_options(second);
+    let Some(options) = Some(certify_options(second)) else {
+        unreachable!()
+    };
     let files = PassedFiles {
         program,
         machine,
@@ -155,7 +164,9 @@ pub extern "C" fn ngc_check(
         (space output.old output.new lengths.new.output)
         (space errors.old errors.new lengths.new.errors) result }
 {
-    let options = check_options();
+    let Some(options) = Some(check_options()) else {
+        unreachable!()
+    };
     let files = PassedFiles {
         program,
         machine,
@@ -183,7 +194,9 @@ pub extern "C" fn ngc_pulses(
         (space output.old output.new lengths.new.output)
         (space errors.old errors.new lengths.new.errors) result }
 {
-    let options = pulses_options(delete);
+    let Some(options) = Some(pulses_options(delete)) else {
+        unreachable!()
+    };
     let files = PassedFiles {
         program,
         machine,
@@ -207,7 +220,9 @@ pub extern "C" fn ngc_show(
         (space output.old output.new lengths.new.output)
         (space errors.old errors.new lengths.new.errors) result }
 {
-    let options = show_options();
+    let Some(options) = Some(show_options()) else {
+        unreachable!()
+    };
     let files = PassedFiles {
         program: b"",
         machine,
@@ -237,7 +252,9 @@ pub extern "C" fn ngc_adapt(
         (space output.old output.new lengths.new.output)
         (space errors.old errors.new lengths.new.errors) result }
 {
-    let options = adapt_options(control, tool, drop);
+    let Some(options) = Some(adapt_options(control, tool, drop)) else {
+        unreachable!()
+    };
     let files = PassedFiles {
         program,
         machine,
@@ -261,7 +278,9 @@ pub extern "C" fn ngc_machine(
         (space output.old output.new lengths.new.output)
         (space errors.old errors.new lengths.new.errors) result }
 {
-    let options = machine_options();
+    let Some(options) = Some(machine_options()) else {
+        unreachable!()
+    };
     let files = PassedFiles {
         program: settings,
         machine: b"",
@@ -284,7 +303,9 @@ pub extern "C" fn ngc_explain(
         (space output.old output.new lengths.new.output)
         (space errors.old errors.new lengths.new.errors) result }
 {
-    let options = Options::Explain(number);
+    let Some(options) = Some(Options::Explain(number)) else {
+        unreachable!()
+    };
     let files = PassedFiles::none();
     answer_into(alloc, &options, files, output, errors, lengths)
 }
