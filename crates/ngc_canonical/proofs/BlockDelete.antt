@@ -14,7 +14,7 @@ use Rattle.ngc_canonical.proofs.Lines.{NextLine, next_line}
 
 -- ---- the law
 
-all_stay_off : (lines : List NumberedLine) → remaining false lines ≡ lines
+pub all_stay_off : (lines : List NumberedLine) → remaining false lines ≡ lines
 all_stay_off [] = refl
 all_stay_off (line ∷ lines) = ap (λ (rest : List NumberedLine). line ∷ rest) (all_stay_off lines)
 
@@ -27,7 +27,7 @@ one_more_stays line lines false e none rest =
     ap (λ (x : Bool). if x then behind else line ∷ behind) e ∙ ap (λ (l : List NumberedLine). line ∷ l)
     (rest (sym (ap (λ (x : Bool). x || has_deleted lines) e) ∙ none))
 
-all_stay : (lines : List NumberedLine) → has_deleted lines ≡ false → remaining true lines ≡ lines
+pub all_stay : (lines : List NumberedLine) → has_deleted lines ≡ false → remaining true lines ≡ lines
 all_stay [] none = refl
 all_stay (line ∷ lines) none = one_more_stays line lines line.reading.deleted refl none (all_stay lines)
 

@@ -132,6 +132,10 @@ program_said text rs =
       mark = mark_of text.marked (length text.lines);
     }
 
+-- after the last line of a text
+abbrev pub past_text : ProgramText → State → Result State ProgramFault
+past_text text s = past_last (mark_of text.marked (length text.lines)) (length text.lines) s
+
 -- ---- the results that a call may have
 
 abbrev pub Fails : {Y : Type 0} → ProgramFault → Result Y ProgramFault → Type 0

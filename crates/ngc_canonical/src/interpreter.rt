@@ -136,8 +136,8 @@ impl<A: Allocator> Interpreter<A> {
         self.go(Way::Line { start, end: *end }, Pace::Rapid)
     }
 
-    /// Returns the commands.
-    pub(crate) fn into_commands(self) -> Vec<Command, A>
+    /// Returns the commands that were executed so far.
+    pub fn into_commands(self) -> Vec<Command, A>
         ensures { result.items ≡ (state_of self).commands }
     {
         let Interpreter { commands, .. } = self;

@@ -11,7 +11,7 @@ ghost use Rattle.ngc_machine_files.specs.Machine.{file_of};
 ghost use Rattle.ngc_parameters.specs.Stored.{changes_of};
 ghost use Rattle.ngc_canonical.specs.Meaning.{effects_of as effects_in, execute as executed};
 ghost use Rattle.ngc_canonical.specs.Meaning.{execute_words as words_executed};
-ghost use Rattle.ngc_canonical.specs.Meaning.{with_settings, past_last, commands_of};
+ghost use Rattle.ngc_canonical.specs.Meaning.{with_settings, past_last, past_text, commands_of};
 ghost use Rattle.ngc_canonical.specs.Meaning.{GivesMeaning, GivesEffects, meaning, program_said};
 ghost use Rattle.ngc_canonical.specs.Meaning.{mark_of as marked_at};
 ghost use Rattle.ngc_canonical.specs.Interpreter.{setup_of, state_of, Becomes};
@@ -181,13 +181,9 @@ impl<A: Allocator + Copy> Interpreter<A> {
         }
     }
 
-    /// Ends a program after its last line: a marked file ends at its second `%`, whose line is
-    /// `mark`.
-    pub(crate) fn finish(
-        mut self,
-        mark: Option<u32>,
-        count: u32,
-    ) -> Result<Vec<Command, A>, ProgramFault>
+    // Ends a program after its last line: a marked file ends at its second `%`, whose line is
+    // `mark`.
+    fn end_at(mut self, mark: Option<u32>, count: u32) -> Result<Vec<Command, A>, ProgramFault>
         ensures { GivesMeaning (λ v. v.items) result
             (commands_of (past_last mark count (state_of self))) }
     {
@@ -203,6 +199,15 @@ impl<A: Allocator + Copy> Interpreter<A> {
             Err(LineRefusal::Breaks(fault)) => Err(ProgramFault::At { line, fault }),
             Err(LineRefusal::Memory) => Err(ProgramFault::Memory),
         }
+    }
+
+    /// Ends a program after its last line, and returns its commands: a marked file ends at its
+    /// second `%`, as by M2. Any other file needs M2 or M30 (120 otherwise, with the last line).
+    pub fn finish(self, program: &Program<A>) -> Result<Vec<Command, A>, ProgramFault>
+        ensures { GivesMeaning (λ v. v.items) result
+            (commands_of (past_text (text_in program.now) (state_of self))) }
+    {
+        self.end_at(mark_of(program), program.len() as u32)
     }
 }
 
@@ -259,5 +264,5 @@ pub fn interpret<A: Allocator + Copy>(
             return Ok(interpreter.into_commands());
         }
     }
-    interpreter.finish(mark_of(program), program.len() as u32)
+    interpreter.finish(program)
 }

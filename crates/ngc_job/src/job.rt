@@ -1,4 +1,4 @@
-ghost use Rattle.std.specs.Prelude.{◌≡◌, List, is_some};
+ghost use Rattle.std.specs.Prelude.{◌≡◌, List, is_some, option_map};
 ghost use Rattle.ngc_line_reader.specs.Grammar.{Reading};
 ghost use Rattle.ngc_line_reader.specs.ProgramText.{AreReadings};
 ghost use Rattle.ngc_line_reader.specs.ProgramView.{text_in};
@@ -106,6 +106,35 @@ impl<A: Allocator> Job<A> {
             off,
             on,
         })
+    }
+
+    /// Returns the job of commands that were made for this machine with these tools: those with
+    /// block delete off, and those with block delete on if a line begins with `/`.
+    pub fn from_commands(
+        machine: Machine<A>,
+        tools: Tools<A>,
+        off: Vec<Command, A>,
+        on: Option<Vec<Command, A>>,
+    ) -> Job<A>
+        requires { IsJob (record {
+          machine = file_of machine;
+          tools = tools_of tools;
+          off = off.items;
+          on = option_map (λ v. v.items) on;
+        }) }
+        ensures { result ≡ record {
+          machine = file_of machine;
+          tools = tools_of tools;
+          off = off.items;
+          on = option_map (λ v. v.items) on;
+        } }
+    {
+        Job {
+            machine,
+            tools,
+            off,
+            on,
+        }
     }
 
     /// Returns the commands at a setting of block delete, in order of execution.

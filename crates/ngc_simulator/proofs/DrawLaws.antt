@@ -15,6 +15,9 @@ use Rattle.ngc_canonical.specs.declared.fault.ProgramFault.{ProgramFault}
 use Rattle.ngc_canonical.specs.Interpreter.{setup_of}
 use Rattle.ngc_canonical.specs.State.{Setup}
 use Rattle.ngc_canonical.specs.Meaning.{meaning, program_said, with_readings}
+use Rattle.ngc_frames.specs.Changes.{frame_changes, start_frame}
+use Rattle.ngc_frames.specs.declared.change.FrameChange.{FrameChange}
+use Rattle.ngc_frames.specs.declared.frame.Frame.{Frame}
 use Rattle.ngc_certificate_text.specs.Certificate.{CertificateData, Entry, entries_at}
 use Rattle.ngc_certificate_text.specs.Said.{certificate_said}
 use Rattle.ngc_certificate_text.specs.declared.piece.Setting.{Setting}
@@ -35,7 +38,7 @@ use Rattle.ngc_drawing.specs.declared.origin.WorkOrigin.{WorkOrigin}
 use Rattle.ngc_drawing.specs.declared.refusal.RefusedMotion.{RefusedMotion}
 use Rattle.ngc_drawing.specs.declared.view.View.{View}
 use Rattle.ngc_simulator.specs.Answers.{DrawsFrom, certificate_input, certificate_inputs, draw_inputs, program_input}
-use Rattle.ngc_simulator.specs.Drawing.{Draws, DrawsGiven, DrawsProgram, IsFirstRefused, IsGivenRefusal, IsPicture, fault_at, refusal_answer, work_origin}
+use Rattle.ngc_simulator.specs.Drawing.{Draws, DrawsGiven, DrawsProgram, IsFirstRefused, IsGivenRefusal, IsPicture, fault_at, origin_shown, refusal_answer, work_origin}
 use Rattle.ngc_program_report.specs.Met.{met_at}
 use Rattle.ngc_simulator.specs.Drawing.{look_of, setting_of}
 use Rattle.ngc_inputs.specs.Faults.{of_picture}
@@ -80,39 +83,49 @@ abbrev pub IsInForce : Setup → ProgramText → Bool → List Command → Optio
 IsInForce setup text block_delete commands refusal w = (rs : List Reading) → AreReadings text.lines rs →
     w ≡ work_origin setup (with_readings text.lines rs) block_delete commands refusal
 
+-- the frames that were collected show it
+pub in_force : (setup : Setup) (text : ProgramText) (block_delete : Bool) (start : Frame) (changes : List FrameChange) (commands : List Command)
+    (refusal : Option RefusedMotion) (w : WorkOrigin) → start ≡ start_frame setup
+    → ((rs : List Reading) → AreReadings text.lines rs → changes ≡ frame_changes setup (with_readings text.lines rs) block_delete)
+    → w ≡ origin_shown start changes commands refusal → IsInForce setup text block_delete commands refusal w
+in_force setup text block_delete start changes commands refusal w is_start are is = λ rs readings.
+    is
+    ∙ ap (λ (f : Frame). origin_shown f changes commands refusal) is_start
+    ∙ ap (λ (cs : List FrameChange). origin_shown (start_frame setup) cs commands refusal) (are rs readings)
+
 picture : (setup : Setup) (bytes : List ℕ) (block_delete : Bool) (look : Look) (entries : List Entry) (IsShown : List Command → Option RefusedMotion → Type 0)
-    (text : ProgramText) (commands given seen shown : List Command) (found : List Entry) (refusal : Option RefusedMotion) (w : WorkOrigin)
-    → given ≡ commands → seen ≡ commands → shown ≡ commands → found ≡ entries → program_of bytes ≡ Ok text → HaveReadings text.lines →
+    (text : ProgramText) (commands given : List Command) (found : List Entry) (refusal : Option RefusedMotion) (w : WorkOrigin)
+    → given ≡ commands → found ≡ entries → program_of bytes ≡ Ok text → HaveReadings text.lines →
     Means text setup block_delete (Ok commands) → IsShown given refusal
-    → IsInForce setup text block_delete seen refusal w
-    → IsPicture setup bytes block_delete look entries IsShown (picture_text look setup.machine shown found refusal w)
+    → IsInForce setup text block_delete given refusal w
+    → IsPicture setup bytes block_delete look entries IsShown (picture_text look setup.machine given found refusal w)
 unfolding is_meaning
-picture setup bytes block_delete look entries IsShown text commands given seen shown found refusal w same same_seen same_shown same_found is_text have means shows
+picture setup bytes block_delete look entries IsShown text commands given found refusal w same same_found is_text have means shows
     force = record {
       commands = commands;
       meaning = is_meaning setup bytes block_delete text (Ok commands) is_text have means;
       refusal = refusal;
       shows = subst (λ cs. IsShown cs refusal) same shows;
       draws =
-          ap (λ cs. picture_text look setup.machine cs found refusal w) same_shown
+          ap (λ cs. picture_text look setup.machine cs found refusal w) same
           ∙ ap (λ es. picture_text look setup.machine commands es refusal w) same_found
           ∙ ap (λ (o : WorkOrigin). picture_text look setup.machine commands entries refusal o)
           (force have.readings have.are
-          ∙ ap (λ cs. work_origin setup (with_readings text.lines have.readings) block_delete cs refusal) same_seen);
+          ∙ ap (λ cs. work_origin setup (with_readings text.lines have.readings) block_delete cs refusal) same);
     }
 
 -- the picture of commands that were handed on as a slice
 pub drawn : (setup : Setup) (bytes : List ℕ) (block_delete : Bool) (look : Look) (entries : List Entry) (IsShown : List Command → Option RefusedMotion → Type 0)
     (old new : Option (List ℕ))
-    (text : ProgramText) (commands given seen shown : List Command) (found : List Entry) (refusal : Option RefusedMotion) (w : WorkOrigin)
-    → given ≡ commands → seen ≡ commands → shown ≡ commands → found ≡ entries → program_of bytes ≡ Ok text → HaveReadings text.lines →
+    (text : ProgramText) (commands given : List Command) (found : List Entry) (refusal : Option RefusedMotion) (w : WorkOrigin)
+    → given ≡ commands → found ≡ entries → program_of bytes ≡ Ok text → HaveReadings text.lines →
     Means text setup block_delete (Ok commands) → IsShown given refusal
-    → IsInForce setup text block_delete seen refusal w
-    → Appends old new (picture_text look setup.machine shown found refusal w) → Draws setup bytes block_delete look entries IsShown old new (Ok tt)
-drawn setup bytes block_delete look entries IsShown old new text commands given seen shown found refusal w same same_seen same_shown same_found is_text have means
+    → IsInForce setup text block_delete given refusal w
+    → Appends old new (picture_text look setup.machine given found refusal w) → Draws setup bytes block_delete look entries IsShown old new (Ok tt)
+drawn setup bytes block_delete look entries IsShown old new text commands given found refusal w same same_found is_text have means
     shows force wrote = (
-      picture_text look setup.machine shown found refusal w,
-      picture setup bytes block_delete look entries IsShown text commands given seen shown found refusal w same same_seen same_shown same_found is_text have means
+      picture_text look setup.machine given found refusal w,
+      picture setup bytes block_delete look entries IsShown text commands given found refusal w same same_found is_text have means
           shows force,
       wrote,
     )
@@ -120,18 +133,18 @@ drawn setup bytes block_delete look entries IsShown old new text commands given 
 -- and a prefix of it, or nothing where memory ran out
 pub drawing_stopped : (setup : Setup) (bytes : List ℕ) (block_delete : Bool) (look : Look) (entries : List Entry)
     (IsShown : List Command → Option RefusedMotion → Type 0) (old new : Option (List ℕ))
-    (text : ProgramText) (commands given seen shown : List Command) (found : List Entry) (refusal : Option RefusedMotion) (w : WorkOrigin) (fault : DrawFault)
-    → given ≡ commands → seen ≡ commands → shown ≡ commands → found ≡ entries → program_of bytes ≡ Ok text → HaveReadings text.lines →
+    (text : ProgramText) (commands given : List Command) (found : List Entry) (refusal : Option RefusedMotion) (w : WorkOrigin) (fault : DrawFault)
+    → given ≡ commands → found ≡ entries → program_of bytes ≡ Ok text → HaveReadings text.lines →
     Means text setup block_delete (Ok commands) → IsShown given refusal
-    → IsInForce setup text block_delete seen refusal w
-    → AppendsBeginning old new (picture_text look setup.machine shown found refusal w) → (fault ≡ Memory → Keeps old new)
+    → IsInForce setup text block_delete given refusal w
+    → AppendsBeginning old new (picture_text look setup.machine given found refusal w) → (fault ≡ Memory → Keeps old new)
     → Draws setup bytes block_delete look entries IsShown old new (Err (of_picture fault))
-drawing_stopped setup bytes block_delete look entries IsShown old new text commands given seen shown found refusal w Memory same same_seen same_shown same_found
+drawing_stopped setup bytes block_delete look entries IsShown old new text commands given found refusal w Memory same same_found
     is_text have means shows force wrote keeps = keeps refl
-drawing_stopped setup bytes block_delete look entries IsShown old new text commands given seen shown found refusal w Write same same_seen same_shown same_found
+drawing_stopped setup bytes block_delete look entries IsShown old new text commands given found refusal w Write same same_found
     is_text have means shows force wrote keeps = (
-      picture_text look setup.machine shown found refusal w,
-      picture setup bytes block_delete look entries IsShown text commands given seen shown found refusal w same same_seen same_shown same_found is_text have means
+      picture_text look setup.machine given found refusal w,
+      picture setup bytes block_delete look entries IsShown text commands given found refusal w same same_found is_text have means
           shows force,
       wrote,
     )

@@ -14,6 +14,7 @@ use Rattle.ngc_offsets.specs.Frames.{index}
 use Rattle.ngc_frames.specs.Changes.{frame_changes, start_frame}
 use Rattle.ngc_frames.specs.Frame.{selected_origin}
 use Rattle.ngc_frames.specs.InForce.{frame_in_force}
+use Rattle.ngc_frames.specs.declared.change.FrameChange.{FrameChange}
 use Rattle.ngc_frames.specs.declared.frame.Frame.{Frame}
 use Rattle.ngc_certificate_text.specs.declared.piece.Setting.{Setting}
 use Rattle.ngc_certificate_text.specs.declared.piece.Setting.TheVariants.{Off, On}
@@ -120,11 +121,14 @@ shown_line commands None = 4294967295
 shown_line commands (Some r) = line_or_last (slice_get commands r.command)
 
 -- that in force at the refused motion, or at the end of the program
+abbrev pub origin_shown : Frame → List FrameChange → List Command → Option RefusedMotion → WorkOrigin
+origin_shown start changes commands refusal =
+    work_of (frame_in_force start changes (shown_line commands refusal)).frame
+
 abbrev pub work_origin : Setup → List NumberedLine → Bool → List Command → Option RefusedMotion →
     WorkOrigin
 work_origin setup lines block_delete commands refusal =
-    work_of (frame_in_force (start_frame setup) (frame_changes setup lines block_delete)
-    (shown_line commands refusal)).frame
+    origin_shown (start_frame setup) (frame_changes setup lines block_delete) commands refusal
 
 -- ---- the picture
 

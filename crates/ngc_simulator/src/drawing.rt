@@ -11,22 +11,18 @@ ghost use Rattle.ngc_machine_files.specs.Machine.{file_of};
 ghost use Rattle.ngc_inputs.specs.Faults.{FailsByOutput, OfDrawing};
 ghost use Rattle.ngc_simulator.specs.Drawing.{DrawsGiven, DrawsProgram, IsFirstRefused, IsMadeRefusal};
 ghost use Rattle.ngc_simulator.specs.Drawing.{drawn_refusal, fault_at, line_or_last, shown_line};
-ghost use Rattle.ngc_simulator.specs.Drawing.{work_of, work_origin};
-ghost use Rattle.ngc_canonical.specs.Meaning.{with_readings};
-ghost use Rattle.ngc_line_reader.specs.Grammar.{Reading};
-ghost use Rattle.ngc_line_reader.specs.ProgramText.{AreReadings};
+ghost use Rattle.ngc_simulator.specs.Drawing.{origin_shown, work_of};
 ghost use Rattle.ngc_offsets.specs.Frames.{index};
 ghost use Rattle.ngc_program_report.specs.Met.{met_at};
 ghost use Rattle.ngc_simulator.specs.Drawing.{refusal_answer, setting_of, view_named};
 
-use ngc_canonical::interpret;
 use ngc_certificate::{PieceFault, Setting, place_fault, uncleared};
 use ngc_certificate_text::{Certificate, Motions};
 use ngc_checker::{CheckFault, setting_fault};
 use ngc_commands::Command;
 use ngc_drawing::{DrawFault, Look, RefusedMotion, View, WorkOrigin, write_svg};
 use ngc_fixed_length::System;
-use ngc_frames::{Frame, frame_history};
+use ngc_frames::{Frame, FrameHistory, interpret_with_frames};
 use ngc_inputs::AnswerFault;
 use ngc_line_reader::Program;
 use ngc_machine_files::{Machine, Tools};
@@ -208,29 +204,17 @@ fn shown_line(commands: &[Command], refusal: &Option<RefusedMotion>) -> u32
     }
 }
 
-// Returns the work origin in force at the refused motion, or at the end of the program. It executes
-// the program once more.
-fn work_origin<A: Allocator + Copy>(
-    alloc: A,
-    program: &Program<A>,
-    machine: &Machine<A>,
-    tools: &Tools<A>,
-    block_delete: bool,
+// Returns the work origin in force at the refused motion, or at the end of the program.
+fn work_origin<A: Allocator>(
+    frames: &FrameHistory<A>,
     commands: &[Command],
     refusal: &Option<RefusedMotion>,
-) -> Result<WorkOrigin, DrawFault>
-    // For all readings of the lines. Each line has exactly one.
-    ensures { MatchResult result (λ w. (rs : List Reading) →
-        AreReadings (text_in program.now).lines rs →
-        w ≡ work_origin (setup_of machine.now tools.now)
-        (with_readings (text_in program.now).lines rs) block_delete commands.now refusal.now)
-        (λ fault. fault ≡ DrawFault.Memory) }
+) -> WorkOrigin
+    ensures { result ≡ origin_shown frames.now.start frames.now.changes.items commands.now
+        refusal.now }
 {
-    let Ok(history) = frame_history(alloc, program, machine, tools, block_delete) else {
-        return Err(DrawFault::Memory);
-    };
-    let in_force = history.in_force(shown_line(commands, refusal));
-    Ok(work_of(&in_force.frame))
+    let in_force = frames.in_force(shown_line(commands, refusal));
+    work_of(&in_force.frame)
 }
 
 /// Draws a program on a machine, at a setting of block delete, with the motion that no certificate
@@ -252,23 +236,16 @@ pub fn draw_program<A: Allocator + Copy, W: Sink>(
     ensures sink { FailsByOutput result (W.failures output.old) (W.failures output.new) }
     ensures faults { IfErr result OfDrawing }
 {
-    let commands = interpret(alloc, program, machine, tools, block_delete)?;
-    let refusal = made_refusal(alloc, commands.as_slice(), machine)?;
-    let work = work_origin(
-        alloc,
-        program,
-        machine,
-        tools,
-        block_delete,
-        commands.as_slice(),
-        &refusal,
-    )?;
+    let framed = interpret_with_frames(alloc, program, machine, tools, block_delete)?;
+    let commands = framed.commands.as_slice();
+    let refusal = made_refusal(alloc, commands, machine)?;
+    let work = work_origin(&framed.frames, commands, &refusal);
     let none = Motions::new(alloc);
     write_svg(
         alloc,
         &look,
         machine,
-        commands.as_slice(),
+        commands,
         &none,
         &refusal,
         &work,
@@ -299,23 +276,16 @@ pub fn draw_certified<A: Allocator + Copy, W: Sink>(
     ensures sink { FailsByOutput result (W.failures output.old) (W.failures output.new) }
     ensures faults { IfErr result OfDrawing }
 {
-    let commands = interpret(alloc, program, machine, tools, block_delete)?;
-    let refusal = checked_refusal(machine, block_delete, commands.as_slice(), certificate)?;
-    let work = work_origin(
-        alloc,
-        program,
-        machine,
-        tools,
-        block_delete,
-        commands.as_slice(),
-        &refusal,
-    )?;
+    let framed = interpret_with_frames(alloc, program, machine, tools, block_delete)?;
+    let commands = framed.commands.as_slice();
+    let refusal = checked_refusal(machine, block_delete, commands, certificate)?;
+    let work = work_origin(&framed.frames, commands, &refusal);
     let motions = certificate.motions(setting_of(block_delete));
     write_svg(
         alloc,
         &look,
         machine,
-        commands.as_slice(),
+        commands,
         motions,
         &refusal,
         &work,

@@ -1,9 +1,9 @@
-use Rattle.std.proofs.Common.{◌≡◌, ◌≤◌, ap, ap₂, sym, subst, ◌∙◌, Ok, Result, List, length, arith}
+use Rattle.std.proofs.Common.{◌≡◌, ◌≤◌, ap, sym, subst, ◌∙◌, Ok, Result, List, length, arith}
 use Rattle.ngc_line_reader.specs.ProgramView.{text_in}
 use Rattle.ngc_machine_files.specs.Machine.{file_of}
 use Rattle.ngc_commands.specs.declared.command.Command.{Command}
 use Rattle.ngc_canonical.specs.declared.fault.ProgramFault.{ProgramFault}
-use Rattle.ngc_canonical.specs.Meaning.{meaning, program_said, past_last, commands_of, GivesMeaning}
+use Rattle.ngc_canonical.specs.Meaning.{meaning, program_said, past_text, commands_of, GivesMeaning}
 use Rattle.ngc_canonical.specs.Interpreter.{setup_of, state_of}
 use Rattle.ngc_canonical.proofs.EndingLines.{line_ended, line_has_end, line_on, finished_ended, finished_has_end}
 use Rattle.ngc_canonical.proofs.JoinedLines.{went_on, handed_out, finished_joined, finished_radii, finished_few}
@@ -62,11 +62,10 @@ returns-clause-commands g c = λ rs are.
     let lines = (text_in c.args.program.now).lines in
     let past : length lines ≤ c.loop-index.index = omega (arith, c.loop-index-test.false, c.len-index-end.ensures.value) in
     let same : meaning (program_said (text_in c.args.program.now) rs) (setup_of c.args.machine.now c.args.tools.now) c.args.block_delete
-    ≡ commands_of (past_last c.mark_of.result c.len.result (state_of c.loop-index.interpreter)) =
+    ≡ commands_of (past_text (text_in c.args.program.now) (state_of c.loop-index.interpreter)) =
     ap commands_of
     (c.loop-index.invariant.leads rs are
-    ∙ left_none (setup_of c.args.machine.now c.args.tools.now) _ c.args.block_delete lines rs c.loop-index.index _ past
-    ∙ ap₂ (λ m n. past_last m n (state_of c.loop-index.interpreter)) (sym c.mark_of.ensures) (sym c.len.ensures.value)) in
+    ∙ left_none (setup_of c.args.machine.now c.args.tools.now) _ c.args.block_delete lines rs c.loop-index.index _ past) in
     let P : Result (List Command) ProgramFault → Type 0 = λ says. GivesMeaning (λ v. v.items) c.finish.result says in
     subst P (sym same) c.finish.ensures
 
@@ -99,17 +98,17 @@ returns-then-interpreter-clause-count g c =
 
 pub returns-clause-joined : goal.returns-clause-joined
 returns-clause-joined g c =
-    finished_joined (file_of c.args.machine.now).start c.mark_of.result c.len.result (state_of c.loop-index.interpreter)
+    finished_joined (file_of c.args.machine.now).start _ _ (state_of c.loop-index.interpreter)
     (λ v. v.items) c.finish.result c.loop-index.invariant.holds c.finish.ensures
 
 pub returns-clause-radii : goal.returns-clause-radii
 returns-clause-radii g c =
-    finished_radii (file_of c.args.machine.now).start c.mark_of.result c.len.result (state_of c.loop-index.interpreter)
+    finished_radii (file_of c.args.machine.now).start _ _ (state_of c.loop-index.interpreter)
     (λ v. v.items) c.finish.result c.loop-index.invariant.holds c.finish.ensures
 
 pub returns-clause-count : goal.returns-clause-count
 returns-clause-count g c =
-    finished_few (file_of c.args.machine.now).start c.mark_of.result c.len.result (state_of c.loop-index.interpreter)
+    finished_few (file_of c.args.machine.now).start _ _ (state_of c.loop-index.interpreter)
     (λ v. v.items) c.finish.result c.loop-index.invariant.holds c.finish.ensures
 
 pub returns-then-interpreter-clause-ended : goal.returns-then-interpreter-clause-ended
@@ -123,7 +122,7 @@ returns-then-interpreter-clause-ended g c =
 
 pub returns-clause-ended : goal.returns-clause-ended
 returns-clause-ended g c =
-    finished_ended c.mark_of.result c.len.result (state_of c.loop-index.interpreter)
+    finished_ended _ _ (state_of c.loop-index.interpreter)
     (λ v. v.items) c.finish.result c.loop-index.invariant.no_end c.finish.ensures
 
 pub returns-then-interpreter-clause-has_end : goal.returns-then-interpreter-clause-has_end
@@ -137,5 +136,5 @@ returns-then-interpreter-clause-has_end g c =
 
 pub returns-clause-has_end : goal.returns-clause-has_end
 returns-clause-has_end g c =
-    finished_has_end c.mark_of.result c.len.result (state_of c.loop-index.interpreter)
+    finished_has_end _ _ (state_of c.loop-index.interpreter)
     (λ v. v.items) c.finish.result c.loop-index.invariant.no_end c.finish.ensures

@@ -6,21 +6,21 @@ use Rattle.ngc_line_reader.specs.ProgramView.{text_in}
 use Rattle.ngc_simulator.specs.Drawing.{DrawsGiven, IsGivenRefusal, fault_at, refusal_answer, setting_of}
 use Rattle.ngc_inputs.specs.Faults.{of_picture}
 use Rattle.ngc_inputs.specs.declared.fault.AnswerFault.TheVariants as answers
-use Rattle.ngc_simulator.proofs.DrawLaws.{drawing_stopped, drawn, given_fault, given_stopped, no_memory, refused_program}
+use Rattle.ngc_simulator.proofs.DrawLaws.{drawing_stopped, drawn, in_force, given_fault, given_stopped, no_memory, refused_program}
 use Rattle.ngc_report.proofs.Converted.{turned}
 use Rattle.ngc_inputs.proofs.JobLaws.{keeps_same}
 use Rattle.ngc_simulator.proofs.drawing.draw_certified.Goals as goal
 
-pub returns-in_err-commands-clause-draws : goal.returns-in_err-commands-clause-draws
-returns-in_err-commands-clause-draws g c = λ bytes text is_text have said.
-    turned _ (answers.Program c.in_err-commands.field-0.0)
+pub returns-in_err-framed-clause-draws : goal.returns-in_err-framed-clause-draws
+returns-in_err-framed-clause-draws g c = λ bytes text is_text have said.
+    turned _ (answers.Program c.in_err-framed.field-0.0)
     (DrawsGiven (setup_of c.args.machine.now c.args.tools.now) bytes text c.args.block_delete c.args.look (g.W.Sink.written c.args.output.now)
     (g.W.Sink.written c.args.output.now)) c.from_residual.ensures.1 (
       said_of c.args.certificate.now,
       said,
       (
         refused_program (setup_of c.args.machine.now c.args.tools.now) bytes c.args.block_delete
-            (text_in c.args.program.now) c.in_err-commands.field-0.0 is_text have c.in_err-commands.ensures.commands,
+            (text_in c.args.program.now) c.in_err-framed.field-0.0 is_text have c.in_err-framed.ensures.commands,
         keeps_same _,
       ),
     )
@@ -31,20 +31,8 @@ returns-in_err-refusal-clause-draws g c = λ bytes text is_text have said.
     (DrawsGiven (setup_of c.args.machine.now c.args.tools.now) bytes text c.args.block_delete c.args.look (g.W.Sink.written c.args.output.now)
     (g.W.Sink.written c.args.output.now)) c.from_residual-in_err-refusal.ensures.1
     (given_fault (setup_of c.args.machine.now c.args.tools.now) bytes text c.args.block_delete c.args.look _
-    (text_in c.args.program.now) c.in_ok-commands.commands.items c.as_slice.result.now (said_of c.args.certificate.now) c.in_err-refusal.field-0.0
-    c.as_slice.ensures.value is_text have c.in_ok-commands.ensures.commands said c.in_err-refusal.ensures)
-
-pub returns-in_err-work-clause-draws : goal.returns-in_err-work-clause-draws
-returns-in_err-work-clause-draws g c = λ bytes text is_text have said.
-    turned _ (of_picture c.in_err-work.field-0.0)
-    (DrawsGiven (setup_of c.args.machine.now c.args.tools.now) bytes text c.args.block_delete c.args.look (g.W.Sink.written c.args.output.now)
-    (g.W.Sink.written c.args.output.now)) c.from_residual-in_err-work.ensures.1
-    (given_stopped (setup_of c.args.machine.now c.args.tools.now) bytes text c.args.block_delete c.args.look _ _ (said_of c.args.certificate.now)
-    c.in_err-work.field-0.0 said
-    (no_memory (setup_of c.args.machine.now c.args.tools.now) bytes c.args.block_delete c.args.look
-    (entries_at (setting_of c.args.block_delete) (said_of c.args.certificate.now))
-    (IsGivenRefusal (setup_of c.args.machine.now c.args.tools.now).machine (setting_of c.args.block_delete) (said_of c.args.certificate.now)) _
-    c.in_err-work.field-0.0 c.in_err-work.ensures))
+    (text_in c.args.program.now) c.in_ok-framed.framed.commands.items c.as_slice-commands.result.now (said_of c.args.certificate.now) c.in_err-refusal.field-0.0
+    c.as_slice-commands.ensures.value is_text have c.in_ok-framed.ensures.commands said c.in_err-refusal.ensures)
 
 pub returns-in_err-write_svg-clause-draws : goal.returns-in_err-write_svg-clause-draws
 returns-in_err-write_svg-clause-draws g c = λ bytes text is_text have said.
@@ -55,13 +43,14 @@ returns-in_err-write_svg-clause-draws g c = λ bytes text is_text have said.
     (given_stopped setup bytes text c.args.block_delete c.args.look _ _ (said_of c.args.certificate.now) c.in_err-write_svg.field-0.0 said
     (drawing_stopped setup bytes c.args.block_delete c.args.look (entries_at (setting_of c.args.block_delete) (said_of c.args.certificate.now))
     (IsGivenRefusal setup.machine (setting_of c.args.block_delete) (said_of c.args.certificate.now)) _ _
-    (text_in c.args.program.now) c.in_ok-commands.commands.items c.as_slice.result.now c.as_slice-2.result.now c.as_slice-3.result.now c.motions-motions.result.now _ _
+    (text_in c.args.program.now) c.in_ok-framed.framed.commands.items c.as_slice-commands.result.now c.motions-motions.result.now _ _
     c.in_err-write_svg.field-0.0
-    c.as_slice.ensures.value c.as_slice-2.ensures.value c.as_slice-3.ensures.value
+    c.as_slice-commands.ensures.value
     (c.motions-motions.ensures ∙ ap (λ s. entries_at s (said_of c.args.certificate.now)) c.setting_of.ensures) is_text have
-    c.in_ok-commands.ensures.commands
-    (sym {b = refusal_answer (fault_at setup.machine (setting_of c.args.block_delete) c.as_slice.result.now (said_of c.args.certificate.now))}
-    c.in_ok-refusal.ensures) c.in_ok-work.ensures c.in_err-write_svg.ensures.fault (λ is. c.in_err-write_svg.ensures.memory (ap Err is))))
+    c.in_ok-framed.ensures.commands
+    (sym {b = refusal_answer (fault_at setup.machine (setting_of c.args.block_delete) c.as_slice-commands.result.now (said_of c.args.certificate.now))}
+    c.in_ok-refusal.ensures) (in_force setup (text_in c.args.program.now) c.args.block_delete c.in_ok-framed.framed.frames.start c.in_ok-framed.framed.frames.changes.items
+    c.as_slice-commands.result.now _ _ c.in_ok-framed.ensures.start c.in_ok-framed.ensures.changes c.work_origin-work.ensures) c.in_err-write_svg.ensures.fault (λ is. c.in_err-write_svg.ensures.memory (ap Err is))))
 
 pub returns-clause-draws : goal.returns-clause-draws
 returns-clause-draws g c = λ bytes text is_text have said.
@@ -70,10 +59,11 @@ returns-clause-draws g c = λ bytes text is_text have said.
       said,
       drawn setup bytes c.args.block_delete c.args.look (entries_at (setting_of c.args.block_delete) (said_of c.args.certificate.now))
           (IsGivenRefusal setup.machine (setting_of c.args.block_delete) (said_of c.args.certificate.now)) _ _
-          (text_in c.args.program.now) c.in_ok-commands.commands.items c.as_slice.result.now c.as_slice-2.result.now c.as_slice-3.result.now c.motions-motions.result.now _ _
-          c.as_slice.ensures.value c.as_slice-2.ensures.value c.as_slice-3.ensures.value
+          (text_in c.args.program.now) c.in_ok-framed.framed.commands.items c.as_slice-commands.result.now c.motions-motions.result.now _ _
+          c.as_slice-commands.ensures.value
           (c.motions-motions.ensures ∙ ap (λ s. entries_at s (said_of c.args.certificate.now)) c.setting_of.ensures) is_text have
-          c.in_ok-commands.ensures.commands
-          (sym {b = refusal_answer (fault_at setup.machine (setting_of c.args.block_delete) c.as_slice.result.now (said_of c.args.certificate.now))}
-          c.in_ok-refusal.ensures) c.in_ok-work.ensures c.in_ok-write_svg.ensures.ok,
+          c.in_ok-framed.ensures.commands
+          (sym {b = refusal_answer (fault_at setup.machine (setting_of c.args.block_delete) c.as_slice-commands.result.now (said_of c.args.certificate.now))}
+          c.in_ok-refusal.ensures) (in_force setup (text_in c.args.program.now) c.args.block_delete c.in_ok-framed.framed.frames.start c.in_ok-framed.framed.frames.changes.items
+    c.as_slice-commands.result.now _ _ c.in_ok-framed.ensures.start c.in_ok-framed.ensures.changes c.work_origin-work.ensures) c.in_ok-write_svg.ensures.ok,
     )

@@ -4,18 +4,18 @@ use Rattle.ngc_line_reader.specs.ProgramView.{text_in}
 use Rattle.ngc_simulator.specs.Drawing.{DrawsProgram, IsMadeRefusal}
 use Rattle.ngc_inputs.specs.Faults.{of_picture}
 use Rattle.ngc_inputs.specs.declared.fault.AnswerFault.TheVariants as answers
-use Rattle.ngc_simulator.proofs.DrawLaws.{drawing_stopped, drawn, no_memory, refused_program}
+use Rattle.ngc_simulator.proofs.DrawLaws.{drawing_stopped, drawn, in_force, no_memory, refused_program}
 use Rattle.ngc_report.proofs.Converted.{turned}
 use Rattle.ngc_inputs.proofs.JobLaws.{keeps_same}
 use Rattle.ngc_simulator.proofs.drawing.draw_program.Goals as goal
 
-pub returns-in_err-commands-clause-draws : goal.returns-in_err-commands-clause-draws
-returns-in_err-commands-clause-draws g c = λ bytes is_text have.
-    turned _ (answers.Program c.in_err-commands.field-0.0)
+pub returns-in_err-framed-clause-draws : goal.returns-in_err-framed-clause-draws
+returns-in_err-framed-clause-draws g c = λ bytes is_text have.
+    turned _ (answers.Program c.in_err-framed.field-0.0)
     (DrawsProgram (setup_of c.args.machine.now c.args.tools.now) bytes c.args.block_delete c.args.look (g.W.Sink.written c.args.output.now)
     (g.W.Sink.written c.args.output.now)) c.from_residual.ensures.1 (
       refused_program (setup_of c.args.machine.now c.args.tools.now) bytes c.args.block_delete
-          (text_in c.args.program.now) c.in_err-commands.field-0.0 is_text have c.in_err-commands.ensures.commands,
+          (text_in c.args.program.now) c.in_err-framed.field-0.0 is_text have c.in_err-framed.ensures.commands,
       keeps_same _,
     )
 
@@ -26,13 +26,6 @@ returns-in_err-refusal-clause-draws g c = λ bytes is_text have.
     (g.W.Sink.written c.args.output.now)) c.from_residual-in_err-refusal.ensures.1
     (no_memory (setup_of c.args.machine.now c.args.tools.now) bytes c.args.block_delete c.args.look [] _ _ c.in_err-refusal.field-0.0 c.in_err-refusal.ensures)
 
-pub returns-in_err-work-clause-draws : goal.returns-in_err-work-clause-draws
-returns-in_err-work-clause-draws g c = λ bytes is_text have.
-    turned _ (of_picture c.in_err-work.field-0.0)
-    (DrawsProgram (setup_of c.args.machine.now c.args.tools.now) bytes c.args.block_delete c.args.look (g.W.Sink.written c.args.output.now)
-    (g.W.Sink.written c.args.output.now)) c.from_residual-in_err-work.ensures.1
-    (no_memory (setup_of c.args.machine.now c.args.tools.now) bytes c.args.block_delete c.args.look [] _ _ c.in_err-work.field-0.0 c.in_err-work.ensures)
-
 pub returns-in_err-write_svg-clause-draws : goal.returns-in_err-write_svg-clause-draws
 returns-in_err-write_svg-clause-draws g c = λ bytes is_text have.
     let setup = setup_of c.args.machine.now c.args.tools.now in
@@ -40,15 +33,17 @@ returns-in_err-write_svg-clause-draws g c = λ bytes is_text have.
     (DrawsProgram (setup_of c.args.machine.now c.args.tools.now) bytes c.args.block_delete c.args.look (g.W.Sink.written c.args.output.now)
     (g.W.Sink.written c.write_svg.new.sink)) c.from_residual-in_err-write_svg.ensures.1
     (drawing_stopped setup bytes c.args.block_delete c.args.look [] (IsMadeRefusal setup.machine) _ _
-    (text_in c.args.program.now) c.in_ok-commands.commands.items c.as_slice.result.now c.as_slice-2.result.now c.as_slice-3.result.now c.new-none.result _ _
+    (text_in c.args.program.now) c.in_ok-framed.framed.commands.items c.as_slice-commands.result.now c.new-none.result _ _
     c.in_err-write_svg.field-0.0
-    c.as_slice.ensures.value c.as_slice-2.ensures.value c.as_slice-3.ensures.value c.new-none.ensures is_text have c.in_ok-commands.ensures.commands c.in_ok-refusal.ensures c.in_ok-work.ensures
+    c.as_slice-commands.ensures.value c.new-none.ensures is_text have c.in_ok-framed.ensures.commands c.in_ok-refusal.ensures (in_force setup (text_in c.args.program.now) c.args.block_delete c.in_ok-framed.framed.frames.start c.in_ok-framed.framed.frames.changes.items
+    c.as_slice-commands.result.now _ _ c.in_ok-framed.ensures.start c.in_ok-framed.ensures.changes c.work_origin-work.ensures)
     c.in_err-write_svg.ensures.fault (λ is. c.in_err-write_svg.ensures.memory (ap Err is)))
 
 pub returns-clause-draws : goal.returns-clause-draws
 returns-clause-draws g c = λ bytes is_text have.
     let setup = setup_of c.args.machine.now c.args.tools.now in
     drawn setup bytes c.args.block_delete c.args.look [] (IsMadeRefusal setup.machine) _ _
-    (text_in c.args.program.now) c.in_ok-commands.commands.items c.as_slice.result.now c.as_slice-2.result.now c.as_slice-3.result.now c.new-none.result _ _
-    c.as_slice.ensures.value c.as_slice-2.ensures.value c.as_slice-3.ensures.value c.new-none.ensures is_text have c.in_ok-commands.ensures.commands c.in_ok-refusal.ensures c.in_ok-work.ensures
+    (text_in c.args.program.now) c.in_ok-framed.framed.commands.items c.as_slice-commands.result.now c.new-none.result _ _
+    c.as_slice-commands.ensures.value c.new-none.ensures is_text have c.in_ok-framed.ensures.commands c.in_ok-refusal.ensures (in_force setup (text_in c.args.program.now) c.args.block_delete c.in_ok-framed.framed.frames.start c.in_ok-framed.framed.frames.changes.items
+    c.as_slice-commands.result.now _ _ c.in_ok-framed.ensures.start c.in_ok-framed.ensures.changes c.work_origin-work.ensures)
     c.in_ok-write_svg.ensures.ok
