@@ -148,8 +148,9 @@ pub fn interpret_with_frames<A: Allocator + Copy>(
             Err(fault) => return Err(fault),
         }
         let after = frame_of(&interpreter);
-        if add_change(&mut changes, program.number(index), &before, &after).is_err() {
-            return Err(ProgramFault::Memory);
+        match add_change(&mut changes, program.number(index), &before, &after) {
+            Ok(()) => {}
+            Err(_) => return Err(ProgramFault::Memory),
         }
         if interpreter.is_ended() {
             return Ok(FramedCommands {

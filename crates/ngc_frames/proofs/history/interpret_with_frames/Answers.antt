@@ -3,7 +3,7 @@ use Rattle.ngc_line_reader.specs.ProgramView.{text_in}
 use Rattle.ngc_machine_files.specs.Machine.{file_of}
 use Rattle.ngc_commands.specs.declared.command.Command.{Command}
 use Rattle.ngc_canonical.specs.declared.fault.ProgramFault.{ProgramFault}
-use Rattle.ngc_canonical.specs.Meaning.{meaning, program_said, past_text, commands_of, GivesMeaning}
+use Rattle.ngc_canonical.specs.Meaning.{meaning, program_said, past_text, commands_of, Fails}
 use Rattle.ngc_canonical.specs.Interpreter.{setup_of, state_of}
 use Rattle.ngc_canonical.proofs.EndingLines.{line_ended, line_has_end, line_on, finished_ended, finished_has_end}
 use Rattle.ngc_canonical.proofs.JoinedLines.{went_on, handed_out, finished_joined, finished_radii, finished_few}
@@ -47,7 +47,7 @@ returns-then-is_ended-clause-changes g c = λ rs are.
     (c.in-Ok-take_line.ensures here.line here.at) next.reads)
     (sym c.is_ended.ensures ∙ c.if-is_ended.true) c.frame_of-before.ensures c.frame_of-after.ensures
     (number_is lines c.loop-index.index c.number.result here.line here.at c.number.ensures)
-    c.add_change.ensures
+    c.in-Ok-add_change.ensures
     ∙ c.loop-index.invariant.changed rs are
 
 pub loop-index-preserved : goal.loop-index-preserved
@@ -81,12 +81,12 @@ loop-index-preserved g c = record {
       (c.in-Ok-take_line.ensures here.line here.at) next.reads)
       (sym c.is_ended.ensures ∙ c.if-is_ended.false) c.frame_of-before.ensures c.frame_of-after.ensures
       (number_is lines c.loop-index.index c.number.result here.line here.at c.number.ensures)
-      c.add_change.ensures
+      c.in-Ok-add_change.ensures
       ∙ c.loop-index.invariant.changed rs are;
 }
 
-pub returns-clause-commands : goal.returns-clause-commands
-returns-clause-commands g c = λ rs are.
+pub returns-in-Ok-finish-clause-commands : goal.returns-in-Ok-finish-clause-commands
+returns-in-Ok-finish-clause-commands g c = λ rs are.
     let lines = (text_in c.args.program.now).lines in
     let past : length lines ≤ c.loop-index.index = omega (arith, c.loop-index-test.false, c.len-index-end.ensures.value) in
     let same : meaning (program_said (text_in c.args.program.now) rs) (setup_of c.args.machine.now c.args.tools.now) c.args.block_delete
@@ -94,11 +94,22 @@ returns-clause-commands g c = λ rs are.
     ap commands_of
     (c.loop-index.invariant.leads rs are
     ∙ lines_of.left_none (setup_of c.args.machine.now c.args.tools.now) _ c.args.block_delete lines rs c.loop-index.index _ past) in
-    let P : Result (List Command) ProgramFault → Type 0 = λ says. GivesMeaning (λ v. v.items) c.finish.result says in
-    subst P (sym same) c.finish.ensures
+    same ∙ c.in-Ok-finish.ensures
 
-pub returns-clause-changes : goal.returns-clause-changes
-returns-clause-changes g c = λ rs are.
+pub returns-in-Err-finish-clause-commands : goal.returns-in-Err-finish-clause-commands
+returns-in-Err-finish-clause-commands g c = λ rs are.
+    let lines = (text_in c.args.program.now).lines in
+    let past : length lines ≤ c.loop-index.index = omega (arith, c.loop-index-test.false, c.len-index-end.ensures.value) in
+    let same : meaning (program_said (text_in c.args.program.now) rs) (setup_of c.args.machine.now c.args.tools.now) c.args.block_delete
+    ≡ commands_of (past_text (text_in c.args.program.now) (state_of c.loop-index.interpreter)) =
+    ap commands_of
+    (c.loop-index.invariant.leads rs are
+    ∙ lines_of.left_none (setup_of c.args.machine.now c.args.tools.now) _ c.args.block_delete lines rs c.loop-index.index _ past) in
+    let P : Result (List Command) ProgramFault → Type 0 = λ says. Fails c.in-Err-finish.fault says in
+    subst P (sym same) c.in-Err-finish.ensures
+
+pub returns-in-Ok-finish-clause-changes : goal.returns-in-Ok-finish-clause-changes
+returns-in-Ok-finish-clause-changes g c = λ rs are.
     let lines = (text_in c.args.program.now).lines in
     let past : length lines ≤ c.loop-index.index = omega (arith, c.loop-index-test.false, c.len-index-end.ensures.value) in
     none_left _ c.loop-index.changes.items _ (left_none (setup_of c.args.machine.now c.args.tools.now) c.args.block_delete lines rs c.loop-index.index (state_of c.loop-index.interpreter) past)
@@ -142,22 +153,22 @@ returns-then-is_ended-clause-has_end g c =
     line_has_end (setup_of c.args.machine.now c.args.tools.now) c.args.block_delete here.line.number taken.reading (state_of c.loop-index.interpreter)
     (state_of c.take_line.new.self) _ c.loop-index.invariant.running c.loop-index.invariant.no_end taken.becomes (sym c.is_ended.ensures ∙ c.if-is_ended.true) c.into_commands.ensures
 
-pub returns-in-Ok-clause-joined : goal.returns-in-Ok-clause-joined
-returns-in-Ok-clause-joined g c =
-    finished_joined (file_of c.args.machine.now).start _ _ (state_of c.loop-index.interpreter) (λ v. v.items) c.finish.result c.loop-index.invariant.holds c.finish.ensures
+pub returns-in-Ok-finish-clause-joined : goal.returns-in-Ok-finish-clause-joined
+returns-in-Ok-finish-clause-joined g c =
+    finished_joined (file_of c.args.machine.now).start _ _ (state_of c.loop-index.interpreter) (λ v. v.items) (Ok c.in-Ok-finish.commands) c.loop-index.invariant.holds c.in-Ok-finish.ensures
 
-pub returns-in-Ok-clause-radii : goal.returns-in-Ok-clause-radii
-returns-in-Ok-clause-radii g c =
-    finished_radii (file_of c.args.machine.now).start _ _ (state_of c.loop-index.interpreter) (λ v. v.items) c.finish.result c.loop-index.invariant.holds c.finish.ensures
+pub returns-in-Ok-finish-clause-radii : goal.returns-in-Ok-finish-clause-radii
+returns-in-Ok-finish-clause-radii g c =
+    finished_radii (file_of c.args.machine.now).start _ _ (state_of c.loop-index.interpreter) (λ v. v.items) (Ok c.in-Ok-finish.commands) c.loop-index.invariant.holds c.in-Ok-finish.ensures
 
-pub returns-in-Ok-clause-count : goal.returns-in-Ok-clause-count
-returns-in-Ok-clause-count g c =
-    finished_few (file_of c.args.machine.now).start _ _ (state_of c.loop-index.interpreter) (λ v. v.items) c.finish.result c.loop-index.invariant.holds c.finish.ensures
+pub returns-in-Ok-finish-clause-count : goal.returns-in-Ok-finish-clause-count
+returns-in-Ok-finish-clause-count g c =
+    finished_few (file_of c.args.machine.now).start _ _ (state_of c.loop-index.interpreter) (λ v. v.items) (Ok c.in-Ok-finish.commands) c.loop-index.invariant.holds c.in-Ok-finish.ensures
 
-pub returns-in-Ok-clause-ended : goal.returns-in-Ok-clause-ended
-returns-in-Ok-clause-ended g c =
-    finished_ended _ _ (state_of c.loop-index.interpreter) (λ v. v.items) c.finish.result c.loop-index.invariant.no_end c.finish.ensures
+pub returns-in-Ok-finish-clause-ended : goal.returns-in-Ok-finish-clause-ended
+returns-in-Ok-finish-clause-ended g c =
+    finished_ended _ _ (state_of c.loop-index.interpreter) (λ v. v.items) (Ok c.in-Ok-finish.commands) c.loop-index.invariant.no_end c.in-Ok-finish.ensures
 
-pub returns-in-Ok-clause-has_end : goal.returns-in-Ok-clause-has_end
-returns-in-Ok-clause-has_end g c =
-    finished_has_end _ _ (state_of c.loop-index.interpreter) (λ v. v.items) c.finish.result c.loop-index.invariant.no_end c.finish.ensures
+pub returns-in-Ok-finish-clause-has_end : goal.returns-in-Ok-finish-clause-has_end
+returns-in-Ok-finish-clause-has_end g c =
+    finished_has_end _ _ (state_of c.loop-index.interpreter) (λ v. v.items) (Ok c.in-Ok-finish.commands) c.loop-index.invariant.no_end c.in-Ok-finish.ensures
