@@ -1,3 +1,3 @@
 pub mod Origins
 pub mod Warnings
-pub mod Spelling
+pub mod Texts

@@ -10,7 +10,7 @@ use Rattle.ngc_machine_files.specs.declared.tools.Tool.{Tool}
 use Rattle.ngc_offsets.specs.Frames.{index}
 use Rattle.ngc_report.specs.declared.form.Form.{Form}
 use Rattle.ngc_origin_warnings.specs.Origins.{lowest, origin_of}
-use Rattle.ngc_origin_warnings.specs.Spelling.{spelled}
+use Rattle.ngc_origin_warnings.specs.Texts.{warning_text}
 use Rattle.ngc_origin_warnings.specs.declared.origin.Origin.{Origin}
 
 -- the line that the last warning of each coordinate system named
@@ -44,7 +44,7 @@ abbrev pub warnings_from : Form → MachineFile → ℤ → Frame → List Frame
     List (Option ℕ) → List Command → List ℕ
 warnings_from form m low start changes warned [] = []
 warnings_from form m low start changes warned (c ∷ cs) =
-    spelled form c.line (new_origin m low start changes warned c)
+    warning_text form c.line (new_origin m low start changes warned c)
     ++ warnings_from form m low start changes
     (with_warned warned (new_origin m low start changes warned c)) cs
 

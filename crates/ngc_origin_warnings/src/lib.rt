@@ -10,7 +10,7 @@
 #![tactic(auto)]
 
 mod origin;
-mod spelling;
+mod texts;
 mod warned;
 mod written;
 

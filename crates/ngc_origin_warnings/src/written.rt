@@ -6,12 +6,12 @@ ghost use Rattle.ngc_frames.specs.Walks.{WalksOver};
 ghost use Rattle.ngc_machine_files.specs.Machine.{file_of};
 ghost use Rattle.ngc_text.specs.Failures.{CountsFailure};
 ghost use Rattle.ngc_text.specs.Written.{AppendsBeginning};
-ghost use Rattle.ngc_origin_warnings.specs.Spelling.{spelled};
+ghost use Rattle.ngc_origin_warnings.specs.Texts.{warning_text};
 ghost use Rattle.ngc_origin_warnings.specs.Warnings.{new_origin, none_warned, origin_warnings};
 ghost use Rattle.ngc_origin_warnings.specs.Warnings.{warnings_from};
 
 use crate::origin::{Origin, lowest, origin_of};
-use crate::spelling::add_warning;
+use crate::texts::add_warning;
 use crate::warned::Warned;
 use ngc_commands::Command;
 use ngc_fixed_length::Nm;
@@ -47,7 +47,7 @@ fn collect_warning<W: Sink>(
     sink: &mut W,
 ) -> Result<(), WriteFault>
     ensures text { Collects (W.written sink.old) (W.written sink.new) chunk.old chunk.new result
-        (spelled form line origin.now) }
+        (warning_text form line origin.now) }
     ensures counts { CountsFailure (W.failures sink.old) (W.failures sink.new) result }
 {
     match chunk.make_room(sink) {

@@ -11,5 +11,5 @@ returns-clause-value g c =
     let y : to_z w64 (of_z w64 c.past-y.result) ≡ c.past-y.result = omega (arith, ints) in
     let z : to_z w64 (of_z w64 c.past-z.result) ≡ c.past-z.result = omega (arith, ints) in
     let low : to_z w64 (of_z w64 c.sum.result) ≡ c.sum.result = omega (arith, ints) in
-    rw (r, c.greater-2.ensures.value, x, yz, c.greater.ensures.value, y, z, c.past-x.ensures.value, c.past-y.ensures.value, c.past-z.ensures.value, low, c.sum.ensures.value)
-    (search rules)
+    rw (r, c.greater-2.ensures.value, x, yz, c.greater.ensures.value, y, z)
+    (rw (c.past-x.ensures.value, c.past-y.ensures.value, c.past-z.ensures.value, low, c.sum.ensures.value) (search rules))

@@ -4,7 +4,7 @@ use Rattle.ngc_machine_files.specs.Machine.{file_of}
 use Rattle.ngc_report.proofs.Ahead.{appends_none}
 use Rattle.ngc_text.specs.Collected.{WritesFront}
 use Rattle.ngc_text.specs.Failures.{CountsFailure}
-use Rattle.ngc_origin_warnings.specs.Spelling.{spelled}
+use Rattle.ngc_origin_warnings.specs.Texts.{warning_text}
 use Rattle.ngc_origin_warnings.specs.Warnings.{new_origin, none_warned, warnings_from, with_warned}
 use Rattle.ngc_origin_warnings.proofs.Ahead.{next_command, stopped, went}
 use Rattle.ngc_origin_warnings.proofs.written.collect_warnings.Goals as goal
@@ -16,7 +16,8 @@ loop-command-init g c =
       front = (
         [],
         appends_none _,
-        ap (λ (w : List (Option ℕ)). c.args.chunk.now ++ warnings_from c.args.form m c.args.lowest h.start h.changes.items w c.args.commands.now) (sym c.none-warned.ensures),
+        ap (λ (w : List (Option ℕ)). c.args.chunk.now ++ warnings_from c.args.form m c.args.lowest h.start h.changes.items w c.args.commands.now)
+            (sym c.none-warned.ensures),
       );
       walk = c.start-walk.ensures;
       failures = refl;
@@ -36,14 +37,16 @@ returns-in-Err-clause-text g c =
     let new = new_origin m low start changes warned command in
     stopped (g.W.Sink.written c.args.sink.now) (g.W.Sink.written c.loop-command.sink) (g.W.Sink.written c.collect_warning.new.sink)
     (c.args.chunk.now ++ warnings_from form m low start changes none_warned cs) c.loop-command.chunk
-    (warnings_from form m low start changes warned (drop i cs)) (spelled form command.line new) (spelled form command.line c.new_origin-origin.result)
+    (warnings_from form m low start changes warned (drop i cs)) (warning_text form command.line new)
+    (warning_text form command.line c.new_origin-origin.result)
     (warnings_from form m low start changes (with_warned warned new) (drop (i + 1) cs))
     (next_command form m low start changes warned cs i command c.loop-command-test.true c.command-item.is)
-    (ap (spelled form command.line) c.new_origin-origin.ensures.value) c.loop-command.invariant.front c.in-Err.ensures.text
+    (ap (warning_text form command.line) c.new_origin-origin.ensures.value) c.loop-command.invariant.front c.in-Err.ensures.text
 
 pub returns-in-Err-clause-counts : goal.returns-in-Err-clause-counts
 returns-in-Err-clause-counts g c =
-    subst (λ (n : ℕ). CountsFailure {A = Unit {0}} n (g.W.Sink.failures c.collect_warning.new.sink) (Err c.in-Err.fault)) c.loop-command.invariant.failures c.in-Err.ensures.counts
+    subst (λ (n : ℕ). CountsFailure {A = Unit {0}} n (g.W.Sink.failures c.collect_warning.new.sink) (Err c.in-Err.fault))
+    c.loop-command.invariant.failures c.in-Err.ensures.counts
 
 pub loop-command-preserved : goal.loop-command-preserved
 loop-command-preserved g c =
@@ -61,10 +64,11 @@ loop-command-preserved g c =
     let front =
     went (g.W.Sink.written c.args.sink.now) (g.W.Sink.written c.loop-command.sink) (g.W.Sink.written c.collect_warning.new.sink)
     whole c.loop-command.chunk c.collect_warning.new.chunk
-    (warnings_from form m low start changes warned (drop i cs)) (spelled form command.line new) (spelled form command.line c.new_origin-origin.result)
+    (warnings_from form m low start changes warned (drop i cs)) (warning_text form command.line new)
+    (warning_text form command.line c.new_origin-origin.result)
     (warnings_from form m low start changes (with_warned warned new) (drop (i + 1) cs))
     (next_command form m low start changes warned cs i command c.loop-command-test.true c.command-item.is)
-    (ap (spelled form command.line) c.new_origin-origin.ensures.value) c.loop-command.invariant.front c.in-Ok.ensures.text in
+    (ap (warning_text form command.line) c.new_origin-origin.ensures.value) c.loop-command.invariant.front c.in-Ok.ensures.text in
     record {
       front =
           subst (λ (w : List (Option ℕ)). WritesFront (g.W.Sink.written c.args.sink.now) (g.W.Sink.written c.collect_warning.new.sink) whole
@@ -82,7 +86,8 @@ returns-clause-text g c =
     let start = c.args.history.now.start in
     let changes = c.args.history.now.changes.items in
     let cs = c.args.commands.now in
-    let none = at_drop_all (warnings_from form m low start changes c.loop-command.warned.lines) cs c.loop-command.command-index c.loop-command-test.false in
+    let none = at_drop_all (warnings_from form m low start changes c.loop-command.warned.lines) cs c.loop-command.command-index
+    c.loop-command-test.false in
     subst (λ (l : List ℕ). WritesFront (g.W.Sink.written c.args.sink.now) (g.W.Sink.written c.loop-command.sink)
     (c.args.chunk.now ++ warnings_from form m low start changes none_warned cs) l)
     (ap (λ l. c.loop-command.chunk ++ l) none ∙ append-nil c.loop-command.chunk) c.loop-command.invariant.front

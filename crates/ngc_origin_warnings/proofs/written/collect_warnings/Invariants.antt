@@ -10,7 +10,8 @@ abbrev pub invariant-loop-command : goal.invariant-loop-command
 invariant-loop-command g l = record {
   front : WritesFront (g.W.Sink.written l.initial.sink) (g.W.Sink.written l.sink)
       (l.initial.chunk ++ warnings_from l.form (file_of l.machine) l.fn.lowest l.history.start l.history.changes.items none_warned l.commands)
-      (l.chunk ++ warnings_from l.form (file_of l.machine) l.fn.lowest l.history.start l.history.changes.items l.warned.lines (drop l.command-index l.commands));
+      (l.chunk ++ warnings_from l.form (file_of l.machine) l.fn.lowest l.history.start l.history.changes.items l.warned.lines
+      (drop l.command-index l.commands));
   walk : WalksOver l.history.start l.history.changes.items l.walk;
   failures : g.W.Sink.failures l.sink ≡ g.W.Sink.failures l.initial.sink;
 }

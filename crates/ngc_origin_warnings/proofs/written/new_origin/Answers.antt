@@ -9,4 +9,5 @@ pub returns-clause-value : goal.returns-clause-value
 returns-clause-value g c =
     c.if_new.ensures
     ∙ ap (if_new c.args.warned.now.lines)
-    (c.origin_of.ensures ∙ ap (λ (f : FrameInForce). origin_of (file_of c.args.machine.now) c.args.lowest f c.args.command.now.action) c.in_force-frame.ensures.frame)
+    (c.origin_of.ensures
+    ∙ ap (λ (f : FrameInForce). origin_of (file_of c.args.machine.now) c.args.lowest f c.args.command.now.action) c.in_force-frame.ensures.frame)

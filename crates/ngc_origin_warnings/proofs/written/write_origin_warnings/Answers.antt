@@ -37,5 +37,6 @@ returns-in-Err-clause-fault g c =
     let text = origin_warnings c.args.form m c.args.tools.now h.start h.changes.items c.args.commands.now in
     let is = ap (λ (low : ℤ). warnings_from c.args.form m low h.start h.changes.items none_warned c.args.commands.now) c.lowest-low.ensures in
     none_out (g.W.Sink.written c.args.sink.now) (g.W.Sink.written c.collect_warnings.new.sink) c.new-chunk.result text c.new-chunk.ensures
-    (subst (λ (l : List ℕ). AppendsBeginning (g.W.Sink.written c.args.sink.now) (g.W.Sink.written c.collect_warnings.new.sink) (c.new-chunk.result ++ l)) is
+    (subst (λ (l : List ℕ).
+    AppendsBeginning (g.W.Sink.written c.args.sink.now) (g.W.Sink.written c.collect_warnings.new.sink) (c.new-chunk.result ++ l)) is
     c.in-Err.ensures.text)

@@ -2,8 +2,8 @@ use Rattle.std.proofs.Common.{◌≡◌, arith, to_z, of_z}
 use Rattle.std.specs.Int.{w128}
 use Rattle.std.proofs.lemmas.Int.{ints}
 use Rattle.std.proofs.lemmas.List.{append_assoc}
-use Rattle.ngc_origin_warnings.specs.Spelling.{put_text}
-use Rattle.ngc_origin_warnings.proofs.spelling.add_put.Goals as goal
+use Rattle.ngc_origin_warnings.specs.Texts.{put_text}
+use Rattle.ngc_origin_warnings.proofs.texts.add_put.Goals as goal
 
 pub returns-clause-text : goal.returns-clause-text
 unfolding put_text

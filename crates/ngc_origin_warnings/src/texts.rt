@@ -1,9 +1,9 @@
 //! How an origin outside of the travel is warned of, in words and as a fact of a JSON document.
 ghost use Rattle.std.specs.Prelude.{◌≡◌, ◌+◌, ◌≤◌, ◌++◌, length};
 ghost use Rattle.ngc_text.specs.Collected.{CHUNK_SIZE, HasLineRoom};
-ghost use Rattle.ngc_origin_warnings.specs.Spelling.{kind_text, lacking_text, origin_fact};
-ghost use Rattle.ngc_origin_warnings.specs.Spelling.{origin_text, origin_words, place_fact};
-ghost use Rattle.ngc_origin_warnings.specs.Spelling.{put_text, spelled};
+ghost use Rattle.ngc_origin_warnings.specs.Texts.{kind_text, lacking_text, origin_fact};
+ghost use Rattle.ngc_origin_warnings.specs.Texts.{origin_text, origin_words, place_fact};
+ghost use Rattle.ngc_origin_warnings.specs.Texts.{put_text, warning_text};
 
 use crate::origin::Origin;
 use ngc_frames::{add_place, add_triple, system_name};
@@ -11,7 +11,7 @@ use ngc_report::Form;
 use ngc_text::Chunk;
 
 // Adds that a line puts an origin outside of the travel.
-#[tactic(auto, unfolding(crate::specs::Spelling::put_text))]
+#[tactic(auto, unfolding(crate::specs::Texts::put_text))]
 fn add_put(chunk: &mut Chunk, origin: &Origin)
     requires { length chunk.old + 360 ≤ CHUNK_SIZE }
     ensures text { chunk.new ≡ chunk.old ++ put_text origin.now }
@@ -29,7 +29,7 @@ fn add_put(chunk: &mut Chunk, origin: &Origin)
 }
 
 // Adds that the machine file has no such origin, and its zero is outside of the travel.
-#[tactic(auto, unfolding(crate::specs::Spelling::lacking_text))]
+#[tactic(auto, unfolding(crate::specs::Texts::lacking_text))]
 fn add_lacking(chunk: &mut Chunk, origin: &Origin)
     requires { length chunk.old + 360 ≤ CHUNK_SIZE }
     ensures text { chunk.new ≡ chunk.old ++ lacking_text origin.now }
@@ -64,7 +64,7 @@ fn add_words(chunk: &mut Chunk, line: u32, origin: &Origin)
     chunk.add_text(b".\n");
 }
 
-#[tactic(auto, unfolding(crate::specs::Spelling::kind_text))]
+#[tactic(auto, unfolding(crate::specs::Texts::kind_text))]
 fn kind_text(set_by: u32) -> &'static [u8]
     ensures text { result.now ≡ kind_text set_by }
     ensures short { length result.now ≤ 70 }
@@ -76,13 +76,13 @@ fn kind_text(set_by: u32) -> &'static [u8]
     }
 }
 
-#[tactic(auto, unfolding(crate::specs::Spelling::place_fact))]
+#[tactic(auto, unfolding(crate::specs::Texts::place_fact))]
 fn add_place_fact(chunk: &mut Chunk, origin: &Origin)
     requires { length chunk.old + 210 ≤ CHUNK_SIZE }
     ensures text { chunk.new ≡ chunk.old ++ place_fact origin.now }
     ensures short { length chunk.new ≤ length chunk.old + 210 }
 {
-    chunk.add_text(b"\",\"code\":\"");
+    chunk.add_text(b"\",\"system\":\"");
     chunk.add_text(system_name(origin.system));
     chunk.add_text(b"\",\"at\":");
     add_triple(chunk, &origin.at);
@@ -105,10 +105,10 @@ fn add_fact(chunk: &mut Chunk, line: u32, origin: &Origin)
 }
 
 /// Adds the warning of a line's motion from an origin, or nothing without one.
-#[tactic(auto, unfolding(crate::specs::Spelling::spelled))]
+#[tactic(auto, unfolding(crate::specs::Texts::warning_text))]
 pub(crate) fn add_warning(chunk: &mut Chunk, form: Form, line: u32, origin: &Option<Origin>)
     requires { HasLineRoom chunk.old }
-    ensures { chunk.new ≡ chunk.old ++ spelled form line origin.now }
+    ensures { chunk.new ≡ chunk.old ++ warning_text form line origin.now }
 {
     match (form, origin) {
         (_, None) => {}

@@ -1,5 +1,5 @@
 use Rattle.std.proofs.lemmas.List.{append_assoc}
-use Rattle.ngc_origin_warnings.proofs.spelling.add_fact.Goals as goal
+use Rattle.ngc_origin_warnings.proofs.texts.add_fact.Goals as goal
 
 pub returns : goal.returns
 returns c =

@@ -37,7 +37,7 @@ kind_text set_by =
     else codes "an origin beyond the travel"
 
 unfoldable pub place_fact : Origin → List ℕ
-place_fact o = codes "\",\"code\":\"" ++ system_text o.system ++ codes "\",\"at\":"
+place_fact o = codes "\",\"system\":\"" ++ system_text o.system ++ codes "\",\"at\":"
     ++ triple (place_of o.at) ++ codes ",\"beyond\":" ++ signed_decimal o.beyond
 
 abbrev pub origin_fact : ℕ → Origin → List ℕ
@@ -46,7 +46,7 @@ origin_fact line o =
     ++ codes ",\"set_by\":" ++ decimal o.line ++ codes ",\"line\":" ++ decimal line ++ codes "}"
 
 -- the warning of a line's motion from this origin, nothing without one
-unfoldable pub spelled : Form → ℕ → Option Origin → List ℕ
-spelled form line None = []
-spelled Words line (Some o) = origin_words line o
-spelled Json line (Some o) = origin_fact line o
+unfoldable pub warning_text : Form → ℕ → Option Origin → List ℕ
+warning_text form line None = []
+warning_text Words line (Some o) = origin_words line o
+warning_text Json line (Some o) = origin_fact line o
