@@ -1,5 +1,5 @@
 -- The text of an accepted program, from its machine, tools and commands.
-use Rattle.std.proofs.Common.{◌≡◌, List, ◌++◌, Bool, ap₂}
+use Rattle.std.proofs.Common.{◌≡◌, ◌∙◌, List, ◌++◌, Bool, ap, ap₂}
 use Rattle.ngc_origins.specs.Texts.{OriginList}
 use Rattle.ngc_commands.specs.declared.command.Command.{Command}
 use Rattle.ngc_certificate_text.specs.Certificate.{Entry}
@@ -9,14 +9,18 @@ use Rattle.ngc_machine_files.specs.Machine.{MachineFile}
 use Rattle.ngc_machine_files.specs.declared.tools.Tool.{Tool}
 use Rattle.ngc_report.specs.Forms.{closing}
 use Rattle.ngc_report.specs.declared.form.Form.{Form}
+use Rattle.ngc_program_report.specs.Coordinates.{History}
 use Rattle.ngc_program_report.specs.Texts.{setting_text, shop_text}
 use Rattle.ngc_program_report.specs.Times.{ProgramTimeData}
 
-pub setting_as : (form : Form) (origins : OriginList) (first named : Bool) (s : Setting) (entries : List Entry) (time : ProgramTimeData) (lines : List Line) (machine own : MachineFile)
-    (commands given : List Command) → machine ≡ own → commands ≡ given
-    → setting_text form origins first named s machine commands entries time lines ≡ setting_text form origins first named s own given entries time lines
-setting_as form origins first named s entries time lines machine own commands given is are =
-    ap₂ (λ (m : MachineFile) (cs : List Command). setting_text form origins first named s m cs entries time lines) is are
+pub setting_as : (form : Form) (origins : OriginList) (first named : Bool) (s : Setting) (entries : List Entry)
+    (time : ProgramTimeData) (h : History) (lines : List Line)
+    (machine own : MachineFile) (tools held : List Tool) (commands given : List Command) → machine ≡ own → tools ≡ held → commands ≡ given
+    → setting_text form origins first named s (record { machine = machine; tools = tools }) commands entries time h lines
+    ≡ setting_text form origins first named s (record { machine = own; tools = held }) given entries time h lines
+setting_as form origins first named s entries time h lines machine own tools held commands given is has are =
+    ap₂ (λ (m : MachineFile) (ts : List Tool). setting_text form origins first named s (record { machine = m; tools = ts }) commands entries time h lines) is has
+    ∙ ap (λ (cs : List Command). setting_text form origins first named s (record { machine = own; tools = held }) cs entries time h lines) are
 
 pub shop_as : (form : Form) (machine own : MachineFile) (tools given : List Tool) → machine ≡ own → tools ≡ given
     → shop_text form (record { machine = machine; tools = tools }) ++ closing form ≡ shop_text form (record { machine = own; tools = given }) ++ closing form

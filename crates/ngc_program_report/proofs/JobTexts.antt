@@ -1,17 +1,12 @@
 -- The texts of a job, from those of the accepted program.
-use Rattle.std.proofs.Common.{◌≡◌, ℕ, List, Option, Some, None, Result, Ok, Err, IfOk, IsTrue, Bool, false, ap, ap₂, refl, subst, sym, ◌∙◌}
+use Rattle.std.proofs.Common.{◌≡◌, ℕ, List, Option, Some, None, Bool, false, ap, ap₂, refl, subst, sym, ◌∙◌}
 use Rattle.std.specs.Prelude.{is_some, slice_get, true}
 use Rattle.ngc_origins.specs.Texts.{OriginList}
 use Rattle.ngc_canonical.specs.Meaning.{with_readings}
-use Rattle.ngc_canonical.specs.State.{Setup}
 use Rattle.ngc_frames.specs.Changes.{frame_changes, start_frame}
 use Rattle.ngc_frames.specs.InForce.{frame_in_force}
-use Rattle.ngc_frames.specs.declared.change.FrameChange.{FrameChange}
-use Rattle.ngc_frames.specs.declared.frame.Frame.{Frame}
+use Rattle.ngc_frames.specs.declared.history.FrameHistory.{FrameHistory}
 use Rattle.ngc_frames.specs.declared.in_force.FrameInForce.{FrameInForce}
-use Rattle.ngc_line_reader.specs.Grammar.{Reading}
-use Rattle.ngc_line_reader.specs.ProgramText.{AreReadings}
-use Rattle.ngc_machine_files.specs.declared.tools.Tool.{Tool}
 use Rattle.ngc_commands.specs.declared.command.Command.{Command}
 use Rattle.ngc_certificate.specs.declared.plan.Plan.{Plan}
 use Rattle.ngc_certificate.specs.Planned.{planned}
@@ -25,17 +20,20 @@ use Rattle.ngc_checker.specs.Accepted.{AcceptedData, commands_at}
 use Rattle.ngc_checker.specs.Held.{accepted_of}
 use Rattle.ngc_job.specs.Job.{JobData, commands_in, on_or}
 use Rattle.ngc_report.specs.declared.form.Form.{Form}
-use Rattle.ngc_program_report.specs.Coordinates.{History, history_of, line_of}
-use Rattle.ngc_program_report.specs.JobReports.{IsFitText, IsFrameAt, IsHistoryAt, IsRefusalsText, IsStartClear, OffBegins, OnBegins, first_text, setup_in}
+use Rattle.ngc_program_report.specs.Coordinates.{History, line_of}
+use Rattle.ngc_program_report.specs.Framed.{IsFramed, IsHistoryAt, frames_at, frames_or, history_in, setup_in}
+use Rattle.ngc_program_report.specs.JobReports.{IsFitText, IsFrameAt, IsRefusalsText, IsStartClear, OffBegins, OnBegins, first_text}
 use Rattle.ngc_program_report.specs.Texts.{LastsFor, accepted_text, fits_text, is_on, refusal_text, refusals_text}
 use Rattle.ngc_program_report.specs.Times.{ProgramTimeData}
+use Rattle.ngc_program_report.specs.declared.framed.FramedJob.{FramedJob}
 
 -- the report of the accepted program is the report of the job
-pub accepted_as : (j : JobData) (c : CertificateData) (form : Form) (origins : OriginList) (apart : Bool) (off_time on_time : ProgramTimeData) (lines : List Line) → apart ≡ is_some j.on
-    → accepted_text form origins apart (accepted_of j) c off_time on_time lines
-    ≡ fits_text form origins (is_some j.on) (setup_in j) j.off (commands_in true j) c off_time on_time lines
-accepted_as j c form origins apart off_time on_time lines is =
-    ap (λ (d : Bool). fits_text form origins d (setup_in j) j.off (commands_in true j) c off_time on_time lines) is
+pub accepted_as : (j : JobData) (c : CertificateData) (form : Form) (origins : OriginList) (apart : Bool)
+    (off_time on_time : ProgramTimeData) (off_h on_h : History) (lines : List Line) → apart ≡ is_some j.on
+    → accepted_text form origins apart (accepted_of j) c off_time on_time off_h on_h lines
+    ≡ fits_text form origins (is_some j.on) (setup_in j) j.off (commands_in true j) c off_time on_time off_h on_h lines
+accepted_as j c form origins apart off_time on_time off_h on_h lines is =
+    ap (λ (d : Bool). fits_text form origins d (setup_in j) j.off (commands_in true j) c off_time on_time off_h on_h lines) is
 
 -- if no line begins with `/`, both settings have the same commands
 pub alike : (off : List Command) (on : Option (List Command)) → is_some on ≡ false → on_or off on ≡ off
@@ -54,35 +52,51 @@ lasts_on a j time is lasts = subst (λ (x : AcceptedData). LastsFor x.machine (c
 pub lasts_alike : (j : JobData) (time : ProgramTimeData) → is_some j.on ≡ false → LastsFor j.machine j.off time → LastsFor j.machine (commands_in true j) time
 lasts_alike j time none lasts = subst (λ (cs : List Command). LastsFor j.machine cs time) (sym (alike j.off j.on none)) lasts
 
-pub fit_text : (j : JobData) (c : CertificateData) (form : Form) (origins : OriginList) (apart : Bool) (a : AcceptedData) (off_time on_time : ProgramTimeData) (lines : List Line) → apart ≡ is_some j.on
+pub fit_text : (j : JobData) (c : CertificateData) (form : Form) (origins : OriginList) (apart : Bool) (a : AcceptedData)
+    (off_time on_time : ProgramTimeData) (off_h on_h : History) (lines : List Line) → apart ≡ is_some j.on
     → a ≡ accepted_of j → LastsFor j.machine j.off off_time → LastsFor j.machine (commands_in true j) on_time
-    → IsFitText j c form origins lines (accepted_text form origins apart a c off_time on_time lines)
-fit_text j c form origins apart a off_time on_time lines is_apart is off_lasts on_lasts = record {
+    → IsHistoryAt j Off lines off_h → IsHistoryAt j On lines on_h
+    → IsFitText j c form origins lines (accepted_text form origins apart a c off_time on_time off_h on_h lines)
+fit_text j c form origins apart a off_time on_time off_h on_h lines is_apart is off_lasts on_lasts off_is on_is = record {
   off_time = off_time;
   off_lasts = off_lasts;
   on_time = on_time;
   on_lasts = on_lasts;
-  tells = ap (λ (x : AcceptedData). accepted_text form origins apart x c off_time on_time lines) is ∙ accepted_as j c form origins apart off_time on_time lines is_apart;
+  off_frames = off_h;
+  off_executed = off_is;
+  on_frames = on_h;
+  on_executed = on_is;
+  tells = ap (λ (x : AcceptedData). accepted_text form origins apart x c off_time on_time off_h on_h lines) is
+      ∙ accepted_as j c form origins apart off_time on_time off_h on_h lines is_apart;
 }
 
--- the same for the motions of one setting, where both settings have the same commands
-pub fit_once : (j : JobData) (c : CertificateData) (form : Form) (origins : OriginList) (a : AcceptedData) (entries : List Entry) (time : ProgramTimeData) (lines : List Line)
-    → is_some j.on ≡ false → a ≡ accepted_of j → entries ≡ c.off → LastsFor j.machine j.off time
-    → IsFitText j c form origins lines (accepted_text form origins false a (record { off = entries; on = entries }) time time lines)
-fit_once j c form origins a entries time lines none is are lasts =
-    subst (IsFitText j c form origins lines)
-    (sym (ap (λ (l : List Entry). accepted_text form origins false a (record { off = l; on = l }) time time lines) are))
-    (fit_text j c form origins false a time time lines (sym none) is lasts (lasts_alike j time none lasts))
+-- the same for the motions of one setting, where both settings have the same commands: the frames at `On` aren't reported
+pub fit_once : {A : Type 0} (f : FramedJob A) (c : CertificateData) (form : Form) (origins : OriginList) (a : AcceptedData) (entries : List Entry)
+    (time : ProgramTimeData) (lines : List Line)
+    → is_some f.job.on ≡ false → a ≡ accepted_of f.job → entries ≡ c.off → LastsFor f.job.machine f.job.off time → IsFramed f lines
+    → IsFitText f.job c form origins lines
+    (accepted_text form origins false a (record { off = entries; on = entries }) time time (history_in f.off) (history_in f.off) lines)
+fit_once f c form origins a entries time lines none is are lasts framed =
+    let h : History = history_in f.off in
+    subst (IsFitText f.job c form origins lines)
+    (sym (ap (λ (l : List Entry). accepted_text form origins false a (record { off = l; on = l }) time time h h lines) are))
+    (fit_text f.job c form origins false a time time h (history_in (frames_at On f)) lines (sym none) is lasts (lasts_alike f.job time none lasts)
+    (framed Off) (framed On))
 
 -- and for those of each setting
-pub fit_both : (j : JobData) (c : CertificateData) (form : Form) (origins : OriginList) (a : AcceptedData) (off on : List Entry) (off_time on_time : ProgramTimeData)
-    (lines : List Line) → true ≡ is_some j.on → a ≡ accepted_of j → off ≡ c.off → on ≡ c.on → LastsFor j.machine j.off off_time
-    → LastsFor j.machine (commands_in true j) on_time
-    → IsFitText j c form origins lines (accepted_text form origins true a (record { off = off; on = on }) off_time on_time lines)
-fit_both j c form origins a off on off_time on_time lines some is off_are on_are off_lasts on_lasts =
-    subst (IsFitText j c form origins lines)
-    (sym (ap₂ (λ (x y : List Entry). accepted_text form origins true a (record { off = x; on = y }) off_time on_time lines) off_are on_are))
-    (fit_text j c form origins true a off_time on_time lines some is off_lasts on_lasts)
+pub fit_both : {A : Type 0} (f : FramedJob A) (on_frames : FrameHistory A) (c : CertificateData) (form : Form) (origins : OriginList) (a : AcceptedData)
+    (off on : List Entry) (off_time on_time : ProgramTimeData) (lines : List Line)
+    → true ≡ is_some f.job.on → a ≡ accepted_of f.job → off ≡ c.off → on ≡ c.on → LastsFor f.job.machine f.job.off off_time
+    → LastsFor f.job.machine (commands_in true f.job) on_time → IsFramed f lines → on_frames ≡ frames_or f.off f.on
+    → IsFitText f.job c form origins lines
+    (accepted_text form origins true a (record { off = off; on = on }) off_time on_time (history_in f.off) (history_in on_frames) lines)
+fit_both f on_frames c form origins a off on off_time on_time lines some is off_are on_are off_lasts on_lasts framed same =
+    let off_h : History = history_in f.off in
+    let on_h : History = history_in on_frames in
+    subst (IsFitText f.job c form origins lines)
+    (sym (ap₂ (λ (x y : List Entry). accepted_text form origins true a (record { off = x; on = y }) off_time on_time off_h on_h lines) off_are on_are))
+    (fit_text f.job c form origins true a off_time on_time off_h on_h lines some is off_lasts on_lasts (framed Off)
+    (subst (IsHistoryAt f.job On lines) (sym (ap history_in same)) (framed On)))
 
 -- the motions of a plan for the accepted program are those for the job
 pub planned_as : {A : Type 0} (j : JobData) (a : AcceptedData) (b : Bool) (plan : Plan A) → a ≡ accepted_of j →
@@ -99,35 +113,17 @@ first_as j form origins s k lines frame named m b cs is_named is_machine is_set 
     ∙ ap (λ (x : MachineFile). refusal_text form origins (is_some j.on) s x cs k lines frame) is_machine
     ∙ ap (λ (l : List Command). refusal_text form origins (is_some j.on) s j.machine l k lines frame) (are ∙ ap (λ (x : Bool). commands_in x j) is_set)
 
--- what two facts imply of a value
-pub both_ok : {T E : Type 0} (r : Result T E) (P Q R : T → Type 0) → ((v : T) → P v → Q v → R v) → IfOk r P → IfOk r Q → IfOk r R
-both_ok (Ok v) P Q R on p q = on v p q
-both_ok (Err e) P Q R on p q = tt
-
--- the frames of a job's program, from their computed values
-pub history_as : (j : JobData) (s : Setting) (lines : List Line) (m : MachineFile) (tools : List Tool) (b : Bool) (start : Frame) (changes : List FrameChange)
-    → m ≡ j.machine → tools ≡ j.tools → b ≡ is_on s
-    → start ≡ start_frame (record { machine = m; tools = tools })
-    → ((rs : List Reading) → AreReadings lines rs → changes ≡ frame_changes (record { machine = m; tools = tools }) (with_readings lines rs) b)
-    → IsHistoryAt j s lines (history_of start changes)
-history_as j s lines m tools b start changes is_machine are_tools is_set is_start are_changes rs readings =
-    let setup : Setup = record { machine = m; tools = tools } in
-    let same : setup ≡ setup_in j = ap₂ (λ (x : MachineFile) (t : List Tool). record { machine = x; tools = t }) is_machine are_tools in
-    ap₂ (λ (f : Frame) (l : List FrameChange). history_of f l) (is_start ∙ ap (λ (x : Setup). start_frame x) same)
-    (are_changes rs readings
-    ∙ ap (λ (x : Setup). frame_changes x (with_readings lines rs) b) same
-    ∙ ap (λ (x : Bool). frame_changes (setup_in j) (with_readings lines rs) x) is_set)
-
 -- the frame of a command, from its computed value
-pub frame_as : (j : JobData) (s : Setting) (k : ℕ) (lines : List Line) (b : Bool) (cs : List Command) (n : ℕ)
-    (start : Frame) (changes : List FrameChange) (frame : FrameInForce)
-    → b ≡ is_on s → cs ≡ commands_in b j → n ≡ line_of (slice_get cs k) → IsHistoryAt j s lines (history_of start changes)
-    → frame ≡ frame_in_force start changes n → IsFrameAt j s k lines frame
-frame_as j s k lines b cs n start changes frame is_set are is_line history is rs readings =
+pub frame_as : {A : Type 0} (f : FramedJob A) (s : Setting) (k : ℕ) (b : Bool) (cs : List Command) (n : ℕ) (frames : FrameHistory A)
+    (frame : FrameInForce) (lines : List Line)
+    → b ≡ is_on s → cs ≡ commands_in b f.job → n ≡ line_of (slice_get cs k) → frames ≡ frames_at s f
+    → frame ≡ frame_in_force frames.start frames.changes.items n → IsFramed f lines → IsFrameAt f.job s k lines frame
+frame_as f s k b cs n frames frame lines is_set are is_line same is framed rs readings =
+    let j : JobData = f.job in
     let line : n ≡ line_of (slice_get (commands_in (is_on s) j) k) =
     is_line ∙ ap (λ (l : List Command). line_of (slice_get l k)) (are ∙ ap (λ (x : Bool). commands_in x j) is_set) in
     is
-    ∙ ap (λ (h : History). frame_in_force h.start h.changes n) (history rs readings)
+    ∙ ap (λ (h : History). frame_in_force h.start h.changes n) (ap history_in same ∙ framed s rs readings)
     ∙ ap (λ (x : ℕ). frame_in_force (start_frame (setup_in j)) (frame_changes (setup_in j) (with_readings lines rs) (is_on s)) x) line
 
 pub all_text : (j : JobData) (cuts : ℕ) (s : Setting) (k : ℕ) (form : Form) (origins : OriginList) (lines : List Line) (named : Bool) (m : MachineFile) (off on : List Command)
@@ -135,7 +131,7 @@ pub all_text : (j : JobData) (cuts : ℕ) (s : Setting) (k : ℕ) (form : Form) 
     → named ≡ is_some j.on → m ≡ j.machine → off ≡ j.off → on ≡ commands_in true j
     → AreUncleared j.machine cuts j.off off_ks → (IsStartClear j.machine → OffBegins (is_some j.on) s k off_ks)
     → AreUncleared j.machine cuts (commands_in true j) on_ks → (IsStartClear j.machine → OnBegins s k on_ks)
-    → IsHistoryAt j Off lines off_h → (IsTrue (is_some j.on) → IsHistoryAt j On lines on_h)
+    → IsHistoryAt j Off lines off_h → IsHistoryAt j On lines on_h
     → IsRefusalsText j cuts s k form origins lines (refusals_text form origins named m off on off_h on_h off_ks on_ks)
 all_text j cuts s k form origins lines named m off on off_h on_h off_ks on_ks is_named is_machine is_off is_on off_are off_begins on_are on_begins off_is on_is = record {
   off_ks = off_ks;

@@ -16,3 +16,5 @@ pub mod MetLaws
 pub mod NotMadeLaws
 -- If a certificate is valid, each box of each piece lies within the travel.
 pub mod InsideLaws
+-- The frames that are kept with a job are those of its program.
+pub mod FramedLaws

@@ -10,7 +10,6 @@ use Rattle.ngc_line_reader.specs.Grammar.{Reading}
 use Rattle.ngc_line_reader.specs.Program.{Line}
 use Rattle.ngc_line_reader.specs.ProgramText.{AreReadings}
 use Rattle.ngc_canonical.specs.Meaning.{with_readings}
-use Rattle.ngc_canonical.specs.State.{Setup}
 use Rattle.ngc_frames.specs.Changes.{frame_changes, start_frame}
 use Rattle.ngc_frames.specs.InForce.{frame_in_force}
 use Rattle.ngc_frames.specs.declared.in_force.FrameInForce.{FrameInForce}
@@ -30,13 +29,10 @@ use Rattle.ngc_report.specs.declared.form.Form.{Form}
 use Rattle.ngc_report.specs.declared.report_fault.ReportFault.{ReportFault}
 use Rattle.ngc_report.specs.declared.report_fault.ReportFault.TheVariants as faults
 use Rattle.ngc_program_report.specs.declared.request.ReportRequest.{ReportRequest}
-use Rattle.ngc_program_report.specs.Coordinates.{History, history_of, line_of}
+use Rattle.ngc_program_report.specs.Coordinates.{History, line_of}
+use Rattle.ngc_program_report.specs.Framed.{IsHistoryAt, setup_in}
 use Rattle.ngc_program_report.specs.Texts.{LastsFor, fits_text, is_on, refusal_text, refusals_text}
 use Rattle.ngc_program_report.specs.Times.{ProgramTimeData}
-
--- the machine and the tools of a job
-abbrev pub setup_in : JobData → Setup
-setup_in j = record { machine = j.machine; tools = j.tools }
 
 -- the report of a job with this certificate, for a program with these lines
 pub record IsFitText (j : JobData) (c : CertificateData) (form : Form) (origins : OriginList)
@@ -45,8 +41,12 @@ pub record IsFitText (j : JobData) (c : CertificateData) (form : Form) (origins 
   pub off_lasts : LastsFor j.machine j.off off_time
   pub on_time : ProgramTimeData
   pub on_lasts : LastsFor j.machine (commands_in true j) on_time
+  pub off_frames : History
+  pub off_executed : IsHistoryAt j Off lines off_frames
+  pub on_frames : History
+  pub on_executed : IsHistoryAt j On lines on_frames
   pub tells : text ≡ fits_text form origins (is_some j.on) (setup_in j) j.off (commands_in true j) c
-      off_time on_time lines
+      off_time on_time off_frames on_frames lines
 
 -- the report of a program with a valid certificate has no negative margin
 abbrev pub ValidStaysInside : Type 0
@@ -69,12 +69,6 @@ abbrev pub OnBegins : Setting → ℕ → List ℕ → Type 0
 OnBegins Off k ks = Unit {0}
 OnBegins On k ks = BeginsWith k ks
 
--- the frames of a job's program at a setting, whatever the readings of its lines are
-abbrev pub IsHistoryAt : JobData → Setting → List Line → History → Type 0
-IsHistoryAt j s lines h = (rs : List Reading) → AreReadings lines rs →
-    h ≡ history_of (start_frame (setup_in j))
-    (frame_changes (setup_in j) (with_readings lines rs) (is_on s))
-
 -- the report of all commands that aren't cleared, at either setting, if no certificate is made
 -- because of command `k` at a setting
 pub record IsRefusalsText (j : JobData) (cuts : ℕ) (s : Setting) (k : ℕ) (form : Form)
@@ -88,7 +82,7 @@ pub record IsRefusalsText (j : JobData) (cuts : ℕ) (s : Setting) (k : ℕ) (fo
   pub off_frames : History
   pub off_executed : IsHistoryAt j Off lines off_frames
   pub on_frames : History
-  pub on_executed : IsTrue (is_some j.on) → IsHistoryAt j On lines on_frames
+  pub on_executed : IsHistoryAt j On lines on_frames
   pub tells : text ≡ refusals_text form origins (is_some j.on) j.machine j.off
       (commands_in true j) off_frames on_frames off_ks on_ks
 

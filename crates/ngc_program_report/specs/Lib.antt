@@ -4,4 +4,5 @@ pub mod Met
 pub mod Coordinates
 pub mod Texts
 pub mod FaultTexts
+pub mod Framed
 pub mod JobReports

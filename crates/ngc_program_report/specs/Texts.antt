@@ -32,6 +32,7 @@ use Rattle.ngc_report.specs.Warnings.{warning_lines}
 use Rattle.ngc_report.specs.declared.form.Form.{Form}
 use Rattle.ngc_report.specs.declared.form.Form.TheVariants.{Words, Json}
 use Rattle.ngc_word_warnings.specs.Spelling.{word_warnings}
+use Rattle.ngc_origin_warnings.specs.Warnings.{origin_warnings}
 use Rattle.ngc_setup_sheet.specs.Sheets.{warning_facts, warnings_text}
 use Rattle.ngc_program_report.specs.declared.run_time.RunTime.{RunTime}
 use Rattle.ngc_program_report.specs.Coordinates.{History, coordinates_text, line_of, told_way}
@@ -91,19 +92,21 @@ abbrev pub is_on : Setting → Bool
 is_on Off = false
 is_on On = true
 
--- warnings at a setting: for the commands there, and for the words of the program's lines
-abbrev pub remarks : Form → Setting → MachineFile → List Command → List Line → List ℕ
-remarks form s machine commands lines =
-    report_text form (warning_lines machine commands)
-    ++ word_warnings form (is_on s) machine commands lines
+-- warnings at a setting: for the commands there, for the words of the program's lines, and for the
+-- origins from which it moves
+abbrev pub remarks : Form → Setting → Setup → History → List Command → List Line → List ℕ
+remarks form s setup h commands lines =
+    report_text form (warning_lines setup.machine commands)
+    ++ (word_warnings form (is_on s) setup.machine commands lines
+    ++ origin_warnings form setup.machine setup.tools h.start h.changes commands)
 
 -- what fits at a setting, the time there, and the warnings
-abbrev pub setting_text : Form → OriginList → Bool → Bool → Setting → MachineFile → List Command →
-    List Entry → ProgramTimeData → List Line → List ℕ
-setting_text form origins first named s machine commands motions time lines =
+abbrev pub setting_text : Form → OriginList → Bool → Bool → Setting → Setup → List Command →
+    List Entry → ProgramTimeData → History → List Line → List ℕ
+setting_text form origins first named s setup commands motions time h lines =
     heading form origins first named s
-    ++ (report_text form (fit_lines machine commands motions)
-    ++ (duration_text form commands time ++ remarks form s machine commands lines))
+    ++ (report_text form (fit_lines setup.machine commands motions)
+    ++ (duration_text form commands time ++ remarks form s setup h commands lines))
 
 -- the warnings about the machine and its tools
 abbrev pub shop_text : Form → Setup → List ℕ
@@ -113,20 +116,21 @@ shop_text Json setup = warning_facts setup.machine setup.tools
 -- the text for both settings, or once if they have the same commands; and the warnings about
 -- machine and tools
 abbrev pub fits_text : Form → OriginList → Bool → Setup → List Command → List Command →
-    CertificateData → ProgramTimeData → ProgramTimeData → List Line → List ℕ
-fits_text form origins false setup off on c off_time on_time lines =
-    setting_text form origins true false Off setup.machine off c.off off_time lines
+    CertificateData → ProgramTimeData → ProgramTimeData → History → History → List Line → List ℕ
+fits_text form origins false setup off on c off_time on_time off_h on_h lines =
+    setting_text form origins true false Off setup off c.off off_time off_h lines
     ++ (shop_text form setup ++ closing form)
-fits_text form origins true setup off on c off_time on_time lines =
-    setting_text form origins true true Off setup.machine off c.off off_time lines
-    ++ (setting_text form origins false true On setup.machine on c.on on_time lines
+fits_text form origins true setup off on c off_time on_time off_h on_h lines =
+    setting_text form origins true true Off setup off c.off off_time off_h lines
+    ++ (setting_text form origins false true On setup on c.on on_time on_h lines
     ++ (shop_text form setup ++ closing form))
 
 -- the text for an accepted program
 abbrev pub accepted_text : Form → OriginList → Bool → AcceptedData → CertificateData →
-    ProgramTimeData → ProgramTimeData → List Line → List ℕ
-accepted_text form origins named a c off_time on_time lines = fits_text form origins named
-    (record { machine = a.machine; tools = a.tools }) a.off a.on c off_time on_time lines
+    ProgramTimeData → ProgramTimeData → History → History → List Line → List ℕ
+accepted_text form origins named a c off_time on_time off_h on_h lines =
+    fits_text form origins named (record { machine = a.machine; tools = a.tools }) a.off a.on c
+    off_time on_time off_h on_h lines
 
 -- the number of the reported fault, which `ngc explain` explains
 abbrev pub hint : Form → ℕ → List ℕ

@@ -7,6 +7,7 @@ ghost use Rattle.ngc_text.specs.Written.{AppendsBeginning};
 ghost use Rattle.ngc_machine_files.specs.Machine.{file_of};
 ghost use Rattle.ngc_report.specs.Forms.{closing};
 ghost use Rattle.ngc_line_reader.specs.ProgramView.{text_in};
+ghost use Rattle.ngc_program_report.specs.Coordinates.{history_of};
 ghost use Rattle.ngc_program_report.specs.Texts.{accepted_text, duration_text, is_on, remarks};
 ghost use Rattle.ngc_program_report.specs.Texts.{setting_text, shop_text, takes_line};
 
@@ -19,8 +20,10 @@ use ngc_certificate::Setting;
 use ngc_certificate_text::MotionList;
 use ngc_checker::Accepted;
 use ngc_commands::Command;
+use ngc_frames::FrameHistory;
 use ngc_line_reader::Program;
 use ngc_machine_files::{Machine, Tools};
+use ngc_origin_warnings::write_origin_warnings;
 use ngc_origins::Origins;
 use ngc_report::{Form, write_fit, write_warnings};
 use ngc_setup_sheet::{write_warning_facts, write_warnings as write_shop_warnings};
@@ -76,19 +79,26 @@ fn write_remarks<A: Allocator, W: Sink>(
     program: &Program<A>,
     setting: Setting,
     machine: &Machine<A>,
+    tools: &Tools<A>,
+    history: &FrameHistory<A>,
     commands: &[Command],
     output: &mut W,
 ) -> Result<(), WriteFault>
     ensures ok { OnOk result
         (Appends (W.written output.old) (W.written output.new)
-        (remarks form setting (file_of machine.now) commands.now (text_in program.now).lines)) }
+        (remarks form setting (setup_of machine.now tools.now)
+        (history_of history.now.start history.now.changes.items) commands.now
+        (text_in program.now).lines)) }
     ensures fault { OnErr result
         (AppendsBeginning (W.written output.old) (W.written output.new)
-        (remarks form setting (file_of machine.now) commands.now (text_in program.now).lines)) }
+        (remarks form setting (setup_of machine.now tools.now)
+        (history_of history.now.start history.now.changes.items) commands.now
+        (text_in program.now).lines)) }
     ensures counts { CountsFailure (W.failures output.old) (W.failures output.new) result }
 {
     write_warnings(form, machine, commands, output)?;
-    write_word_warnings(form, is_on(setting), program, machine, commands, output)
+    write_word_warnings(form, is_on(setting), program, machine, commands, output)?;
+    write_origin_warnings(form, machine, tools.tools(), history, commands, output)
 }
 
 // Writes what fits at a setting, the time there, and the warnings.
@@ -98,27 +108,33 @@ fn write_setting<A: Allocator, M: MotionList, W: Sink>(
     program: &Program<A>,
     first: bool,
     machine: &Machine<A>,
+    tools: &Tools<A>,
     named: bool,
     setting: Setting,
     commands: &[Command],
     motions: &M,
     time: &ProgramTime<A>,
+    history: &FrameHistory<A>,
     output: &mut W,
 ) -> Result<(), WriteFault>
     ensures ok { OnOk result
         (Appends (W.written output.old) (W.written output.new)
-        (setting_text form origins.now first named setting (file_of machine.now) commands.now
-        (M.entries motions.now) time.now (text_in program.now).lines)) }
+        (setting_text form origins.now first named setting (setup_of machine.now tools.now)
+        commands.now (M.entries motions.now) time.now
+        (history_of history.now.start history.now.changes.items) (text_in program.now).lines)) }
     ensures fault { OnErr result
         (AppendsBeginning (W.written output.old) (W.written output.new)
-        (setting_text form origins.now first named setting (file_of machine.now) commands.now
-        (M.entries motions.now) time.now (text_in program.now).lines)) }
+        (setting_text form origins.now first named setting (setup_of machine.now tools.now)
+        commands.now (M.entries motions.now) time.now
+        (history_of history.now.start history.now.changes.items) (text_in program.now).lines)) }
     ensures counts { CountsFailure (W.failures output.old) (W.failures output.new) result }
 {
     write_heading(form, origins, first, named, setting, output)?;
     write_fit(form, machine, commands, motions, output)?;
     write_duration(form, commands, time, output)?;
-    write_remarks(form, program, setting, machine, commands, output)
+    write_remarks(
+        form, program, setting, machine, tools, history, commands, output,
+    )
 }
 
 // Writes the warnings about the machine and its tools.
@@ -170,17 +186,22 @@ pub(crate) fn write_once<A: Allocator, M: MotionList, W: Sink>(
     accepted: &Accepted<A>,
     motions: &M,
     time: &ProgramTime<A>,
+    history: &FrameHistory<A>,
     output: &mut W,
 ) -> Result<(), WriteFault>
     ensures ok { OnOk result
         (Appends (W.written output.old) (W.written output.new)
         (accepted_text form origins.now false accepted.now
         (record { off = M.entries motions.now; on = M.entries motions.now }) time.now time.now
+        (history_of history.now.start history.now.changes.items)
+        (history_of history.now.start history.now.changes.items)
         (text_in program.now).lines)) }
     ensures fault { OnErr result
         (AppendsBeginning (W.written output.old) (W.written output.new)
         (accepted_text form origins.now false accepted.now
         (record { off = M.entries motions.now; on = M.entries motions.now }) time.now time.now
+        (history_of history.now.start history.now.changes.items)
+        (history_of history.now.start history.now.changes.items)
         (text_in program.now).lines)) }
     ensures counts { CountsFailure (W.failures output.old) (W.failures output.new) result }
 {
@@ -192,11 +213,13 @@ pub(crate) fn write_once<A: Allocator, M: MotionList, W: Sink>(
         program,
         true,
         machine,
+        tools,
         false,
         Setting::Off,
         off,
         motions,
         time,
+        history,
         output,
     )?;
     write_fit_end(form, machine, tools, output)
@@ -212,18 +235,24 @@ pub(crate) fn write_both<A: Allocator, M: MotionList, W: Sink>(
     on_motions: &M,
     off_time: &ProgramTime<A>,
     on_time: &ProgramTime<A>,
+    off_history: &FrameHistory<A>,
+    on_history: &FrameHistory<A>,
     output: &mut W,
 ) -> Result<(), WriteFault>
     ensures ok { OnOk result
         (Appends (W.written output.old) (W.written output.new)
         (accepted_text form origins.now true accepted.now
         (record { off = M.entries off_motions.now; on = M.entries on_motions.now }) off_time.now
-        on_time.now (text_in program.now).lines)) }
+        on_time.now (history_of off_history.now.start off_history.now.changes.items)
+        (history_of on_history.now.start on_history.now.changes.items)
+        (text_in program.now).lines)) }
     ensures fault { OnErr result
         (AppendsBeginning (W.written output.old) (W.written output.new)
         (accepted_text form origins.now true accepted.now
         (record { off = M.entries off_motions.now; on = M.entries on_motions.now }) off_time.now
-        on_time.now (text_in program.now).lines)) }
+        on_time.now (history_of off_history.now.start off_history.now.changes.items)
+        (history_of on_history.now.start on_history.now.changes.items)
+        (text_in program.now).lines)) }
     ensures counts { CountsFailure (W.failures output.old) (W.failures output.new) result }
 {
     let (machine, tools) = (accepted.machine(), accepted.tools());
@@ -234,11 +263,13 @@ pub(crate) fn write_both<A: Allocator, M: MotionList, W: Sink>(
         program,
         true,
         machine,
+        tools,
         true,
         Setting::Off,
         off,
         off_motions,
         off_time,
+        off_history,
         output,
     )?;
     let on = accepted.commands(true);
@@ -248,11 +279,13 @@ pub(crate) fn write_both<A: Allocator, M: MotionList, W: Sink>(
         program,
         false,
         machine,
+        tools,
         true,
         Setting::On,
         on,
         on_motions,
         on_time,
+        on_history,
         output,
     )?;
     write_fit_end(form, machine, tools, output)

@@ -1,5 +1,5 @@
 //! The reports of jobs that fit, and of those that don't.
-ghost use Rattle.std.specs.Prelude.{◌≡◌, ◌≤◌, is_some, Err, IfOk, OnErr, OnOk, true};
+ghost use Rattle.std.specs.Prelude.{◌≡◌, ◌≤◌, List, is_some, Err, IfOk, OnErr, OnOk, true};
 ghost use Rattle.std.specs.Io.KnownBytes.{Appends};
 ghost use Rattle.ngc_certificate.specs.Made.{IsMade};
 ghost use Rattle.ngc_certificate.specs.Uncleared.{AreUncleared};
@@ -12,16 +12,18 @@ ghost use Rattle.ngc_checker.specs.Accepted.{commands_at};
 ghost use Rattle.ngc_job.specs.Job.{commands_in};
 ghost use Rattle.ngc_text.specs.Failures.{CountsFailure};
 ghost use Rattle.ngc_text.specs.Written.{AppendsBeginning};
+ghost use Rattle.ngc_line_reader.specs.Program.{Line};
 ghost use Rattle.ngc_line_reader.specs.ProgramView.{text_in};
-ghost use Rattle.ngc_program_report.specs.Coordinates.{history_of};
+ghost use Rattle.ngc_program_report.specs.Framed.{IsFramed};
 ghost use Rattle.ngc_program_report.specs.JobReports.{FailsByWriting, IsFitText, IsFrameAt};
-ghost use Rattle.ngc_program_report.specs.JobReports.{IsHistoryAt, IsRefusalText, IsRefusalsText};
+ghost use Rattle.ngc_program_report.specs.JobReports.{IsRefusalText, IsRefusalsText};
 ghost use Rattle.ngc_program_report.specs.JobReports.{IsStartClear, OffBegins, OnBegins, Tells};
 ghost use Rattle.ngc_program_report.specs.JobReports.{first_text};
 ghost use Rattle.ngc_program_report.specs.Texts.{is_on};
 
 use crate::coordinates::line_of;
 use crate::fit_writer::{is_on, write_both, write_once};
+use crate::framed::{FramedJob, frames_or};
 use crate::refusal_writer::{is_start_refused, write_all_both, write_all_once, write_refused};
 use crate::request::ReportRequest;
 use crate::timing::{accept, time_of};
@@ -30,7 +32,7 @@ use ngc_certificate::{
 };
 use ngc_checker::Accepted;
 use ngc_commands::Command;
-use ngc_frames::{FrameHistory, FrameInForce, OutOfMemory, frame_history};
+use ngc_frames::FrameInForce;
 use ngc_job::Job;
 use ngc_line_reader::Program;
 use ngc_origins::Origins;
@@ -56,79 +58,78 @@ fn motions_at<'a, A: Allocator>(
 }
 
 /// Writes the report of a job with plans of its motions: its extent and margins, the use of each
-/// tool, the time, and the warnings about its commands and the words of the program. The plans are
-/// those of the job's commands, and their motions are valid for it.
+/// tool, the time, and the warnings about its commands, the words of the program and the origins
+/// from which it moves. The plans are those of the job's commands, and their motions are valid for
+/// it. The frames are those of the program.
 ///
 /// Nothing is written before the time is computed, and nothing if memory runs out (900). If a write
 /// fails (902), a prefix is written.
 pub fn report_fit<A: Allocator + Copy, W: Sink>(
     alloc: A,
     program: &Program<A>,
-    job: Job<A>,
+    framed: FramedJob<A>,
     plans: &Plans<A>,
     form: Form,
     origins: &Origins,
     output: &mut W,
 ) -> Result<(), ReportFault>
     requires off_are { AreEntries
-        (both_planned job.machine.step job.off (commands_in true job) plans.now).off }
+        (both_planned framed.job.machine.step framed.job.off (commands_in true framed.job)
+        plans.now).off }
     requires on_are { AreEntries
-        (both_planned job.machine.step job.off (commands_in true job) plans.now).on }
-    requires off { IsValid job.machine job.off
-        (both_planned job.machine.step job.off (commands_in true job) plans.now).off }
-    requires on { IsValid job.machine (commands_in true job)
-        (both_planned job.machine.step job.off (commands_in true job) plans.now).on }
+        (both_planned framed.job.machine.step framed.job.off (commands_in true framed.job)
+        plans.now).on }
+    requires off { IsValid framed.job.machine framed.job.off
+        (both_planned framed.job.machine.step framed.job.off (commands_in true framed.job)
+        plans.now).off }
+    requires on { IsValid framed.job.machine (commands_in true framed.job)
+        (both_planned framed.job.machine.step framed.job.off (commands_in true framed.job)
+        plans.now).on }
+    requires frames { IsFramed framed (text_in program.now).lines }
     ensures tells { Tells
-        (IsFitText job (both_planned job.machine.step job.off (commands_in true job) plans.now)
-        form origins.now (text_in program.now).lines)
+        (IsFitText framed.job
+        (both_planned framed.job.machine.step framed.job.off (commands_in true framed.job)
+        plans.now) form origins.now (text_in program.now).lines)
         (W.written output.old) (W.written output.new) result }
     ensures counts { FailsByWriting result (W.failures output.old) (W.failures output.new) }
 {
+    let FramedJob { job, off, on } = framed;
     let apart = job.has_deleted_lines();
     let accepted = accept(job, plans);
     let (off_time, accepted) = time_of(alloc, accepted, false)?;
     if !apart {
         let motions = motions_at(&accepted, plans, Setting::Off);
         write_once(
-            form, origins, program, &accepted, &motions, &off_time, output,
+            form, origins, program, &accepted, &motions, &off_time, &off, output,
         )?;
         return Ok(());
     }
     let (on_time, accepted) = time_of(alloc, accepted, true)?;
-    let off = motions_at(&accepted, plans, Setting::Off);
-    let on = motions_at(&accepted, plans, Setting::On);
+    let off_motions = motions_at(&accepted, plans, Setting::Off);
+    let on_motions = motions_at(&accepted, plans, Setting::On);
     write_both(
-        form, origins, program, &accepted, &off, &on, &off_time, &on_time, output,
+        form,
+        origins,
+        program,
+        &accepted,
+        &off_motions,
+        &on_motions,
+        &off_time,
+        &on_time,
+        &off,
+        frames_or(&off, &on),
+        output,
     )?;
     Ok(())
 }
 
-// Returns the frames of the program at a setting.
-fn history_at<A: Allocator + Copy>(
-    alloc: A,
-    program: &Program<A>,
-    job: &Job<A>,
-    setting: Setting,
-) -> Result<FrameHistory<A>, OutOfMemory>
-    ensures { IfOk result (λ h. IsHistoryAt job.now setting (text_in program.now).lines
-        (history_of h.start h.changes.items)) }
-{
-    frame_history(alloc, program, job.machine(), job.tools(), is_on(setting))
-}
-
 // Returns the frame in which a command is executed at a setting.
-fn frame_at<A: Allocator + Copy>(
-    alloc: A,
-    program: &Program<A>,
-    job: &Job<A>,
-    setting: Setting,
-    command: u32,
-) -> Result<FrameInForce, OutOfMemory>
-    ensures { IfOk result (IsFrameAt job.now setting command (text_in program.now).lines) }
+fn frame_at<A: Allocator>(framed: &FramedJob<A>, setting: Setting, command: u32) -> FrameInForce
+    ensures { (lines : List Line) → IsFramed framed.now lines →
+        IsFrameAt framed.now.job setting command lines result }
 {
-    let history = history_at(alloc, program, job, setting)?;
-    let line = line_of(job.commands(is_on(setting)), command as usize);
-    Ok(history.in_force(line))
+    let line = line_of(framed.job.commands(is_on(setting)), command as usize);
+    framed.frames(setting).in_force(line)
 }
 
 // Writes the report of a command that isn't cleared at a setting.
@@ -223,43 +224,35 @@ fn on_uncleared<A: Allocator + Copy>(
 // Writes the report of all commands that aren't cleared, if no certificate is made because of one.
 fn report_all<A: Allocator + Copy, W: Sink>(
     alloc: A,
-    program: &Program<A>,
-    job: &Job<A>,
+    framed: &FramedJob<A>,
     setting: Setting,
     command: u32,
     request: ReportRequest,
     output: &mut W,
 ) -> Result<(), ReportFault>
-    requires { IsMade job.now.machine request.cuts job.now.off (commands_in true job.now)
-        (Err (MakeFault.NotCleared setting command)) }
-    ensures tells { Tells
-        (IsRefusalsText job.now request.cuts setting command request.form
-        request.origins (text_in program.now).lines)
+    requires { IsMade framed.now.job.machine request.cuts framed.now.job.off
+        (commands_in true framed.now.job) (Err (MakeFault.NotCleared setting command)) }
+    ensures tells { (lines : List Line) → IsFramed framed.now lines → Tells
+        (IsRefusalsText framed.now.job request.cuts setting command request.form
+        request.origins lines)
         (W.written output.old) (W.written output.new) result }
     ensures counts { FailsByWriting result (W.failures output.old) (W.failures output.new) }
 {
     let (form, cuts, origins) = (request.form, request.cuts, &request.origins);
+    let job = &framed.job;
     let machine = job.machine();
     let off = job.commands(false);
     let off_indices = match off_uncleared(alloc, job, setting, command, cuts) {
         Ok(indices) => indices,
         Err(_) => return Err(ReportFault::Memory),
     };
-    let off_history = match history_at(alloc, program, job, Setting::Off) {
-        Ok(history) => history,
-        Err(_) => return Err(ReportFault::Memory),
-    };
     if !job.has_deleted_lines() {
         let indices = off_indices.as_slice();
-        write_all_once(form, origins, machine, off, indices, &off_history, output)?;
+        write_all_once(form, origins, machine, off, indices, &framed.off, output)?;
         return Ok(());
     }
     let on_indices = match on_uncleared(alloc, job, setting, command, cuts) {
         Ok(indices) => indices,
-        Err(_) => return Err(ReportFault::Memory),
-    };
-    let on_history = match history_at(alloc, program, job, Setting::On) {
-        Ok(history) => history,
         Err(_) => return Err(ReportFault::Memory),
     };
     write_all_both(
@@ -268,10 +261,10 @@ fn report_all<A: Allocator + Copy, W: Sink>(
         machine,
         off,
         off_indices.as_slice(),
-        &off_history,
+        &framed.off,
         job.commands(true),
         on_indices.as_slice(),
-        &on_history,
+        framed.frames(Setting::On),
         output,
     )?;
     Ok(())
@@ -279,35 +272,35 @@ fn report_all<A: Allocator + Copy, W: Sink>(
 
 /// Writes the report of a job without a certificate, because a command, counted from 0, isn't
 /// cleared at a setting of block delete. It reports the obstacle of that command, or those of all
-/// commands that aren't cleared, and the coordinates of these commands in the program.
+/// commands that aren't cleared, and the coordinates of these commands in the program, whose frames
+/// are those of the job.
 ///
 /// If memory runs out (900), nothing is written. If a write fails (902), a prefix is written.
 pub fn report_refusal<A: Allocator + Copy, W: Sink>(
     alloc: A,
     program: &Program<A>,
-    job: &Job<A>,
+    framed: &FramedJob<A>,
     setting: Setting,
     command: u32,
     request: ReportRequest,
     output: &mut W,
 ) -> Result<(), ReportFault>
-    requires { IsMade job.now.machine request.cuts job.now.off (commands_in true job.now)
-        (Err (MakeFault.NotCleared setting command)) }
+    requires made { IsMade framed.now.job.machine request.cuts framed.now.job.off
+        (commands_in true framed.now.job) (Err (MakeFault.NotCleared setting command)) }
+    requires frames { IsFramed framed.now (text_in program.now).lines }
     ensures tells { Tells
-        (IsRefusalText request.all job.now request setting command (text_in program.now).lines)
+        (IsRefusalText request.all framed.now.job request setting command
+        (text_in program.now).lines)
         (W.written output.old) (W.written output.new) result }
     ensures counts { FailsByWriting result (W.failures output.old) (W.failures output.new) }
 {
     if request.all {
-        return report_all(alloc, program, job, setting, command, request, output);
+        return report_all(alloc, framed, setting, command, request, output);
     }
-    let frame = match frame_at(alloc, program, job, setting, command) {
-        Ok(frame) => frame,
-        Err(_) => return Err(ReportFault::Memory),
-    };
+    let frame = frame_at(framed, setting, command);
     report_first(
         program,
-        job,
+        &framed.job,
         setting,
         command,
         &frame,

@@ -5,6 +5,7 @@
 mod coordinates;
 mod fault_writer;
 mod fit_writer;
+mod framed;
 mod job_report;
 pub mod laws;
 mod met;
@@ -18,6 +19,7 @@ mod timing;
 mod use_times;
 
 pub use fault_writer::write_faults;
+pub use framed::{FramedJob, framed_job};
 pub use job_report::{report_fit, report_refusal};
 pub use met::met_at;
 pub use refusal_writer::write_rejection;

@@ -1,5 +1,5 @@
 -- The result of reporting whether a program fits, from the results of its parts.
-use Rattle.std.proofs.Common.{◌≡◌, ℕ, List, Option, Some, Bool, true, false, IsTrue, Result, Ok, Err, IfSome, ap, ap₂, inl, inr, refl, subst, sym}
+use Rattle.std.proofs.Common.{◌≡◌, ℕ, List, Option, Some, Bool, true, false, Result, Ok, Err, IfSome, ap, ap₂, inl, inr, refl, subst, sym}
 use Rattle.std.proofs.Common.{◌∙◌}
 use Rattle.std.specs.Prelude.{is_some, option_map, slice_get}
 use Rattle.ngc_frames.specs.Changes.{frame_changes, start_frame}
@@ -26,8 +26,9 @@ use Rattle.ngc_command_line.specs.declared.options.ReportOptions.{ReportOptions}
 use Rattle.ngc_machine_files.specs.Machine.{MachineFile}
 use Rattle.ngc_machine_files.specs.declared.tools.Tool.{Tool}
 use Rattle.ngc_simulator.specs.Answers.{ReportsOn, request_of}
-use Rattle.ngc_program_report.specs.JobReports.{IsFirstText, IsFitText, IsRefusalText, IsRefusalsText, IsStartClear, OffBegins, Tells, setup_in}
-use Rattle.ngc_program_report.specs.Coordinates.{line_of}
+use Rattle.ngc_program_report.specs.JobReports.{IsFirstText, IsFitText, IsRefusalText, IsRefusalsText, IsStartClear, OffBegins, Tells}
+use Rattle.ngc_program_report.specs.Coordinates.{History, line_of}
+use Rattle.ngc_program_report.specs.Framed.{IsHistoryAt, setup_in}
 use Rattle.ngc_inputs.specs.Jobs.{IsMadeOf, IsProgram, IsUnmade, WhyNotMade}
 use Rattle.ngc_simulator.specs.Reporting.{IsAllReport, IsFirstReport, IsFitReport, IsReportOf, IsRejectionReport, Reports, frames_of}
 use Rattle.ngc_program_report.specs.Texts.{LastsFor}
@@ -59,6 +60,9 @@ module _ (setup : Setup) (bytes : List ℕ) (request : ReportRequest) (text : Pr
     the_setup : MachineFile → List Tool → Setup
     the_setup m tools = record { machine = m; tools = tools }
 
+  frames_as : (s : Setting) (h : History) → IsHistoryAt j s text.lines h → h ≡ frames_of setup (program_said text have.readings).lines s
+  frames_as s h is = is have.readings have.are ∙ ap (λ (of : Setup). frames_of of (program_said text have.readings).lines s) same_setup
+
   fit_report : (c : CertificateData) (t : List ℕ) → IsMadeOf j request.cuts c → IsFitText j c request.form request.origins text.lines t → IsFitReport setup bytes request t
   fit_report c t made is = record {
     certificate = c;
@@ -68,9 +72,13 @@ module _ (setup : Setup) (bytes : List ℕ) (request : ReportRequest) (text : Pr
     on_time = is.on_time;
     on_lasts = subst (λ (m : MachineFile). LastsFor m (commands_in true j) is.on_time) the_job.machine is.on_lasts;
     tells = is.tells
-        ∙ ap (λ (d : Bool). fits_text request.form request.origins d (setup_in j) j.off (commands_in true j) c is.off_time is.on_time text.lines) the_job.apart
-        ∙ ap (λ (s : Setup). fits_text request.form request.origins (has_deleted (program_said text have.readings).lines) s j.off (commands_in true j) c is.off_time is.on_time text.lines)
-        same_setup;
+        ∙ ap (λ (d : Bool). fits_text request.form request.origins d (setup_in j) j.off (commands_in true j) c is.off_time is.on_time
+        is.off_frames is.on_frames text.lines) the_job.apart
+        ∙ ap (λ (s : Setup). fits_text request.form request.origins (has_deleted (program_said text have.readings).lines) s j.off (commands_in true j) c
+        is.off_time is.on_time is.off_frames is.on_frames text.lines) same_setup
+        ∙ ap₂ (λ (off_h on_h : History). fits_text request.form request.origins (has_deleted (program_said text have.readings).lines) setup j.off
+        (commands_in true j) c is.off_time is.on_time off_h on_h text.lines)
+        (frames_as Off is.off_frames is.off_executed) (frames_as On is.on_frames is.on_executed);
   }
 
   pub told_fit : (c : CertificateData) (old new : Option (List ℕ)) → IsMadeOf j request.cuts c → Tells (IsFitText j c request.form request.origins text.lines) old new (Ok tt) →
@@ -126,15 +134,13 @@ module _ (setup : Setup) (bytes : List ℕ) (request : ReportRequest) (text : Pr
     on_ks = is.on_ks;
     on_uncleared = subst (λ (m : MachineFile). AreUncleared m request.cuts (commands_in true j) is.on_ks) the_job.machine is.on_uncleared;
     on_begins = λ start. is.on_begins (subst IsStartClear (sym the_job.machine) start);
-    off_frames = is.off_frames;
-    off_executed = is.off_executed have.readings have.are ∙ ap (λ (of : Setup). frames_of of (with_readings text.lines have.readings) Off) same_setup;
-    on_frames = is.on_frames;
-    on_executed = λ told. is.on_executed (subst IsTrue (sym the_job.apart) told) have.readings have.are
-        ∙ ap (λ (of : Setup). frames_of of (with_readings text.lines have.readings) On) same_setup;
     tells = is.tells
         ∙ ap (λ (d : Bool). refusals_text request.form request.origins d j.machine j.off (commands_in true j) is.off_frames is.on_frames is.off_ks is.on_ks) the_job.apart
         ∙ ap (λ (m : MachineFile). refusals_text request.form request.origins (has_deleted (program_said text have.readings).lines) m j.off (commands_in true j)
-        is.off_frames is.on_frames is.off_ks is.on_ks) the_job.machine;
+        is.off_frames is.on_frames is.off_ks is.on_ks) the_job.machine
+        ∙ ap₂ (λ (off_h on_h : History). refusals_text request.form request.origins (has_deleted (program_said text have.readings).lines) setup.machine j.off
+        (commands_in true j) off_h on_h is.off_ks is.on_ks)
+        (frames_as Off is.off_frames is.off_executed) (frames_as On is.on_frames is.on_executed);
   }
 
   refusal_report : (all : Bool) (s : Setting) (k : ℕ) (t : List ℕ) → IsUnmade j request.cuts (NotCleared s k)

@@ -1,6 +1,6 @@
 -- The result of reporting whether a program fits. Our own.
 use Rattle.std.specs.Prelude.{◌≡◌, ◌⊎◌, ℕ, List, Option}
-use Rattle.std.specs.Prelude.{Result, Ok, Err, Bool, true, false, IsTrue, slice_get}
+use Rattle.std.specs.Prelude.{Result, Ok, Err, Bool, true, false, slice_get}
 use Rattle.std.specs.Io.KnownBytes.{Appends, Keeps}
 use Rattle.ngc_text.specs.Written.{AppendsBeginning}
 use Rattle.ngc_line_reader.specs.ProgramText.{program_of}
@@ -28,6 +28,10 @@ use Rattle.ngc_program_report.specs.Texts.{refusal_text, refusals_text}
 use Rattle.ngc_program_report.specs.Times.{ProgramTimeData}
 use Rattle.ngc_program_report.specs.declared.request.ReportRequest.{ReportRequest}
 
+-- the frames of a program at a setting
+abbrev pub frames_of : Setup → List NumberedLine → Setting → History
+frames_of setup lines s = history_of (start_frame setup) (frame_changes setup lines (is_on s))
+
 -- the report of a file's program for which a certificate is made
 pub record IsFitReport (setup : Setup) (bytes : List ℕ) (request : ReportRequest) (text : List ℕ) :
     Type 0 where
@@ -39,6 +43,7 @@ pub record IsFitReport (setup : Setup) (bytes : List ℕ) (request : ReportReque
   pub on_lasts : LastsFor setup.machine made.on on_time
   pub tells : text ≡ fits_text request.form request.origins
       (has_deleted made.means.program.lines) setup made.off made.on certificate off_time on_time
+      (frames_of setup made.means.program.lines Off) (frames_of setup made.means.program.lines On)
       made.means.is_program.text.lines
 
 -- the report of one of which command k isn't cleared at a setting
@@ -57,10 +62,6 @@ pub record IsFirstReport (setup : Setup) (bytes : List ℕ) (request : ReportReq
       (has_deleted means.program.lines) s setup.machine
       (commands_of s off on) k means.is_program.text.lines frame
 
--- the frames of a program at a setting
-abbrev pub frames_of : Setup → List NumberedLine → Setting → History
-frames_of setup lines s = history_of (start_frame setup) (frame_changes setup lines (is_on s))
-
 -- the report of all commands that aren't cleared, at either setting: at least command k of that
 -- setting, or the start point
 pub record IsAllReport (setup : Setup) (bytes : List ℕ) (request : ReportRequest) (s : Setting)
@@ -76,14 +77,10 @@ pub record IsAllReport (setup : Setup) (bytes : List ℕ) (request : ReportReque
   pub on_ks : List ℕ
   pub on_uncleared : AreUncleared setup.machine request.cuts on on_ks
   pub on_begins : IsStartClear setup.machine → OnBegins s k on_ks
-  -- the frames in which the commands are executed, at both settings
-  pub off_frames : History
-  pub off_executed : off_frames ≡ frames_of setup means.program.lines Off
-  pub on_frames : History
-  pub on_executed : IsTrue (has_deleted means.program.lines) →
-      on_frames ≡ frames_of setup means.program.lines On
   pub tells : text ≡ refusals_text request.form request.origins
-      (has_deleted means.program.lines) setup.machine off on off_frames on_frames off_ks on_ks
+      (has_deleted means.program.lines) setup.machine off on
+      (frames_of setup means.program.lines Off) (frames_of setup means.program.lines On)
+      off_ks on_ks
 
 abbrev pub IsReportOf : Bool → Setup → List ℕ → ReportRequest → Setting → ℕ → List ℕ → Type 0
 IsReportOf false setup bytes request s k text = IsFirstReport setup bytes request s k text

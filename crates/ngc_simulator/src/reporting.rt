@@ -14,10 +14,9 @@ use crate::certifier::plans_for;
 use ngc_canonical::{ProgramFault, has_deleted_lines};
 use ngc_certificate::{MakeFault, Setting};
 use ngc_inputs::AnswerFault;
-use ngc_job::Job;
 use ngc_line_reader::Program;
 use ngc_machine_files::{Machine, Tools};
-use ngc_program_report::{ReportRequest, report_fit, report_refusal, write_rejection};
+use ngc_program_report::{ReportRequest, framed_job, report_fit, report_refusal, write_rejection};
 use ngc_text::{Sink, Source};
 use std::alloc::Allocator;
 
@@ -83,19 +82,19 @@ pub fn report_program<A: Allocator + Copy, R: Source, W: Sink>(
     ensures faults { IfErr result OfCertifying }
 {
     let program = Program::read(alloc, source)?;
-    let job = match Job::new(alloc, &program, machine, tools) {
-        Ok(job) => job,
+    let framed = match framed_job(alloc, &program, machine, tools) {
+        Ok(framed) => framed,
         Err(refusal) => {
             let (setting, fault) = (refusal.setting, refusal.fault);
             return Err(report_rejection(&program, setting, fault, request, output));
         }
     };
-    match plans_for(alloc, &job, request.cuts) {
+    match plans_for(alloc, &framed.job, request.cuts) {
         Ok(plans) => {
             report_fit(
                 alloc,
                 &program,
-                job,
+                framed,
                 &plans,
                 request.form,
                 &request.origins,
@@ -104,7 +103,7 @@ pub fn report_program<A: Allocator + Copy, R: Source, W: Sink>(
             Ok(())
         }
         Err(MakeFault::NotCleared { setting, command }) => {
-            report_refusal(alloc, &program, &job, setting, command, request, output)?;
+            report_refusal(alloc, &program, &framed, setting, command, request, output)?;
             Err(AnswerFault::Make(MakeFault::NotCleared { setting, command }))
         }
         Err(MakeFault::Memory) => Err(AnswerFault::Make(MakeFault::Memory)),

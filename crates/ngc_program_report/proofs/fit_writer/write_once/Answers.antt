@@ -4,22 +4,25 @@ use Rattle.ngc_text.proofs.Appended.{appends_both}
 use Rattle.ngc_line_reader.specs.ProgramView.{text_in}
 use Rattle.ngc_machine_files.specs.Machine.{file_of}
 use Rattle.ngc_machine_files.specs.Tools.{tools_of}
+use Rattle.ngc_program_report.specs.Coordinates.{history_of}
 use Rattle.ngc_program_report.proofs.FitLaws.{setting_as, shop_as}
 use Rattle.ngc_program_report.proofs.WrittenLaws.{appends_as, begins_as, begins_first, begins_last, err_weaker, ok_weaker, on_err}
 use Rattle.ngc_program_report.proofs.fit_writer.write_once.Goals as goal
 
 pub returns-in_err-write_setting-clause-fault : goal.returns-in_err-write_setting-clause-fault
 returns-in_err-write_setting-clause-fault g c =
-    let off = setting_as c.args.form c.args.origins.now true false Off (g.M.MotionList.entries c.args.motions.now) c.args.time.now (text_in c.args.program.now).lines
-    (file_of c.machine-machine.result.now) c.args.accepted.now.machine c.commands-off.result.now c.args.accepted.now.off
-    c.machine-machine.ensures.value c.commands-off.ensures in
+    let off = setting_as c.args.form c.args.origins.now true false Off (g.M.MotionList.entries c.args.motions.now) c.args.time.now
+    (history_of c.args.history.now.start c.args.history.now.changes.items)
+    (text_in c.args.program.now).lines (file_of c.machine-machine.result.now) c.args.accepted.now.machine
+    (tools_of c.tools-tools.result.now) c.args.accepted.now.tools c.commands-off.result.now c.args.accepted.now.off c.machine-machine.ensures.value c.tools-tools.ensures c.commands-off.ensures in
     on_err _ _ (begins_first _ _ _ _ (begins_as _ _ _ _ off c.in_err-write_setting.ensures.fault))
 
 pub returns-clause-ok : goal.returns-clause-ok
 returns-clause-ok g c =
-    let off = setting_as c.args.form c.args.origins.now true false Off (g.M.MotionList.entries c.args.motions.now) c.args.time.now (text_in c.args.program.now).lines
-    (file_of c.machine-machine.result.now) c.args.accepted.now.machine c.commands-off.result.now c.args.accepted.now.off
-    c.machine-machine.ensures.value c.commands-off.ensures in
+    let off = setting_as c.args.form c.args.origins.now true false Off (g.M.MotionList.entries c.args.motions.now) c.args.time.now
+    (history_of c.args.history.now.start c.args.history.now.changes.items)
+    (text_in c.args.program.now).lines (file_of c.machine-machine.result.now) c.args.accepted.now.machine
+    (tools_of c.tools-tools.result.now) c.args.accepted.now.tools c.commands-off.result.now c.args.accepted.now.off c.machine-machine.ensures.value c.tools-tools.ensures c.commands-off.ensures in
     let shop = shop_as c.args.form (file_of c.machine-machine.result.now) c.args.accepted.now.machine
     (tools_of c.tools-tools.result.now) c.args.accepted.now.tools c.machine-machine.ensures.value c.tools-tools.ensures in
     ok_weaker c.write_fit_end.result _ _
@@ -28,9 +31,10 @@ returns-clause-ok g c =
 
 pub returns-clause-fault : goal.returns-clause-fault
 returns-clause-fault g c =
-    let off = setting_as c.args.form c.args.origins.now true false Off (g.M.MotionList.entries c.args.motions.now) c.args.time.now (text_in c.args.program.now).lines
-    (file_of c.machine-machine.result.now) c.args.accepted.now.machine c.commands-off.result.now c.args.accepted.now.off
-    c.machine-machine.ensures.value c.commands-off.ensures in
+    let off = setting_as c.args.form c.args.origins.now true false Off (g.M.MotionList.entries c.args.motions.now) c.args.time.now
+    (history_of c.args.history.now.start c.args.history.now.changes.items)
+    (text_in c.args.program.now).lines (file_of c.machine-machine.result.now) c.args.accepted.now.machine
+    (tools_of c.tools-tools.result.now) c.args.accepted.now.tools c.commands-off.result.now c.args.accepted.now.off c.machine-machine.ensures.value c.tools-tools.ensures c.commands-off.ensures in
     let shop = shop_as c.args.form (file_of c.machine-machine.result.now) c.args.accepted.now.machine
     (tools_of c.tools-tools.result.now) c.args.accepted.now.tools c.machine-machine.ensures.value c.tools-tools.ensures in
     err_weaker c.write_fit_end.result _ _

@@ -1,10 +1,10 @@
-use Rattle.std.proofs.Common.{◌≡◌, ℕ, List, true, false, subst, sym, ◌∙◌}
+use Rattle.std.proofs.Common.{◌≡◌, ℕ, List, true, false, ap, subst, sym, ◌∙◌}
 use Rattle.std.specs.Prelude.{is_some}
 use Rattle.ngc_certificate.specs.Uncleared.{AreUncleared}
 use Rattle.ngc_job.specs.Job.{commands_in}
-use Rattle.ngc_line_reader.specs.ProgramView.{text_in}
+use Rattle.ngc_certificate_text.specs.declared.piece.Setting.TheVariants.{Off, On}
 use Rattle.ngc_machine_files.specs.Machine.{file_of}
-use Rattle.ngc_program_report.specs.Coordinates.{history_of}
+use Rattle.ngc_program_report.specs.Framed.{IsHistoryAt, frames_at, history_in}
 use Rattle.ngc_program_report.specs.JobReports.{IsRefusalsText, IsStartClear, OffBegins, OnBegins, Tells}
 use Rattle.ngc_program_report.specs.Texts.{refusals_text}
 use Rattle.ngc_report.specs.declared.report_fault.ReportFault.TheVariants as faults
@@ -13,14 +13,15 @@ use Rattle.ngc_report.proofs.Converted.{turned}
 use Rattle.ngc_program_report.proofs.job_report.report_all.Goals as goal
 
 pub returns-in_err-write_all_once-clause-tells : goal.returns-in_err-write_all_once-clause-tells
-returns-in_err-write_all_once-clause-tells g c =
-    let j = c.args.job.now in
+returns-in_err-write_all_once-clause-tells g c = λ lines framed.
+    let f = c.args.framed.now in
+    let j = f.job in
     let cuts = c.args.request.cuts in
-    let lines = (text_in c.args.program.now).lines in
     let file = file_of c.machine-machine.result.now in
     let off = c.commands-off.result.now in
     let ks = c.as_slice-indices.result.now in
-    let h = history_of c.in-Ok-history_at.history.start c.in-Ok-history_at.history.changes.items in
+    let h = history_in f.off in
+    let on_h = history_in (frames_at On f) in
     let none : is_some j.on ≡ false = sym c.has_deleted_lines.ensures ∙ c.if-not-has_deleted_lines.true in
     let are = subst (λ (l : List ℕ). AreUncleared j.machine cuts j.off l) (sym c.as_slice-indices.ensures.value) c.in-Ok.ensures.are in
     let begins = subst (λ (l : List ℕ). IsStartClear j.machine → OffBegins (is_some j.on) c.args.setting c.args.command l)
@@ -29,47 +30,47 @@ returns-in_err-write_all_once-clause-tells g c =
     (λ r. Tells (IsRefusalsText j cuts c.args.setting c.args.command c.args.request.form c.args.request.origins lines) (g.W.Sink.written c.args.output.now)
     (g.W.Sink.written c.write_all_once.new.output) r)
     c.from_residual.ensures.1 (
-      refusals_text c.args.request.form c.args.request.origins false file off off h h ks ks,
-      all_text j cuts c.args.setting c.args.command c.args.request.form c.args.request.origins lines false file off off h h ks ks (sym none) c.machine-machine.ensures.value
+      refusals_text c.args.request.form c.args.request.origins false file off off h on_h ks ks,
+      all_text j cuts c.args.setting c.args.command c.args.request.form c.args.request.origins lines false file off off h on_h ks ks (sym none) c.machine-machine.ensures.value
           c.commands-off.ensures (c.commands-off.ensures ∙ sym (alike j.off j.on none)) are begins (are_alike j cuts ks none are)
-          (λ start. once_begins (is_some j.on) c.args.setting c.args.command ks none (begins start)) c.in-Ok-history_at.ensures
-          (λ some. absurd (cc (sym none ∙ some))),
+          (λ start. once_begins (is_some j.on) c.args.setting c.args.command ks none (begins start)) (framed Off) (framed On),
       c.in_err-write_all_once.ensures.fault,
     )
 
 pub returns-then-not-has_deleted_lines-clause-tells : goal.returns-then-not-has_deleted_lines-clause-tells
-returns-then-not-has_deleted_lines-clause-tells g c =
-    let j = c.args.job.now in
+returns-then-not-has_deleted_lines-clause-tells g c = λ lines framed.
+    let f = c.args.framed.now in
+    let j = f.job in
     let cuts = c.args.request.cuts in
-    let lines = (text_in c.args.program.now).lines in
     let file = file_of c.machine-machine.result.now in
     let off = c.commands-off.result.now in
     let ks = c.as_slice-indices.result.now in
-    let h = history_of c.in-Ok-history_at.history.start c.in-Ok-history_at.history.changes.items in
+    let h = history_in f.off in
+    let on_h = history_in (frames_at On f) in
     let none : is_some j.on ≡ false = sym c.has_deleted_lines.ensures ∙ c.if-not-has_deleted_lines.true in
     let are = subst (λ (l : List ℕ). AreUncleared j.machine cuts j.off l) (sym c.as_slice-indices.ensures.value) c.in-Ok.ensures.are in
     let begins = subst (λ (l : List ℕ). IsStartClear j.machine → OffBegins (is_some j.on) c.args.setting c.args.command l)
     (sym c.as_slice-indices.ensures.value) c.in-Ok.ensures.begins in (
-      refusals_text c.args.request.form c.args.request.origins false file off off h h ks ks,
-      all_text j cuts c.args.setting c.args.command c.args.request.form c.args.request.origins lines false file off off h h ks ks (sym none) c.machine-machine.ensures.value
+      refusals_text c.args.request.form c.args.request.origins false file off off h on_h ks ks,
+      all_text j cuts c.args.setting c.args.command c.args.request.form c.args.request.origins lines false file off off h on_h ks ks (sym none) c.machine-machine.ensures.value
           c.commands-off.ensures (c.commands-off.ensures ∙ sym (alike j.off j.on none)) are begins (are_alike j cuts ks none are)
-          (λ start. once_begins (is_some j.on) c.args.setting c.args.command ks none (begins start)) c.in-Ok-history_at.ensures
-          (λ some. absurd (cc (sym none ∙ some))),
+          (λ start. once_begins (is_some j.on) c.args.setting c.args.command ks none (begins start)) (framed Off) (framed On),
       c.in_ok-write_all_once.ensures.ok,
     )
 
 pub returns-in_err-write_all_both-clause-tells : goal.returns-in_err-write_all_both-clause-tells
-returns-in_err-write_all_both-clause-tells g c =
-    let j = c.args.job.now in
+returns-in_err-write_all_both-clause-tells g c = λ lines framed.
+    let f = c.args.framed.now in
+    let j = f.job in
     let cuts = c.args.request.cuts in
-    let lines = (text_in c.args.program.now).lines in
     let file = file_of c.machine-machine.result.now in
     let off = c.commands-off.result.now in
     let on = c.commands.result.now in
     let off_ks = c.as_slice.result.now in
     let on_ks = c.as_slice-2.result.now in
-    let off_h = history_of c.in-Ok-history_at.history.start c.in-Ok-history_at.history.changes.items in
-    let on_h = history_of c.in-Ok-history_at-2.history.start c.in-Ok-history_at-2.history.changes.items in
+    let off_h = history_in f.off in
+    let on_h = history_in c.frames.result.now in
+    let on_is = subst (IsHistoryAt j On lines) (sym (ap history_in c.frames.ensures)) (framed On) in
     let some : true ≡ is_some j.on = sym c.if-not-has_deleted_lines.false ∙ c.has_deleted_lines.ensures in
     let off_are = subst (λ (l : List ℕ). AreUncleared j.machine cuts j.off l) (sym c.as_slice.ensures.value) c.in-Ok.ensures.are in
     let off_begins = subst (λ (l : List ℕ). IsStartClear j.machine → OffBegins (is_some j.on) c.args.setting c.args.command l)
@@ -84,23 +85,23 @@ returns-in_err-write_all_both-clause-tells g c =
     c.from_residual-in_err-write_all_both.ensures.1 (
       refusals_text c.args.request.form c.args.request.origins true file off on off_h on_h off_ks on_ks,
       all_text j cuts c.args.setting c.args.command c.args.request.form c.args.request.origins lines true file off on off_h on_h off_ks on_ks some c.machine-machine.ensures.value
-          c.commands-off.ensures c.commands.ensures off_are off_begins on_are on_begins c.in-Ok-history_at.ensures
-          (λ told. c.in-Ok-history_at-2.ensures),
+          c.commands-off.ensures c.commands.ensures off_are off_begins on_are on_begins (framed Off) on_is,
       c.in_err-write_all_both.ensures.fault,
     )
 
 pub returns-clause-tells : goal.returns-clause-tells
-returns-clause-tells g c =
-    let j = c.args.job.now in
+returns-clause-tells g c = λ lines framed.
+    let f = c.args.framed.now in
+    let j = f.job in
     let cuts = c.args.request.cuts in
-    let lines = (text_in c.args.program.now).lines in
     let file = file_of c.machine-machine.result.now in
     let off = c.commands-off.result.now in
     let on = c.commands.result.now in
     let off_ks = c.as_slice.result.now in
     let on_ks = c.as_slice-2.result.now in
-    let off_h = history_of c.in-Ok-history_at.history.start c.in-Ok-history_at.history.changes.items in
-    let on_h = history_of c.in-Ok-history_at-2.history.start c.in-Ok-history_at-2.history.changes.items in
+    let off_h = history_in f.off in
+    let on_h = history_in c.frames.result.now in
+    let on_is = subst (IsHistoryAt j On lines) (sym (ap history_in c.frames.ensures)) (framed On) in
     let some : true ≡ is_some j.on = sym c.if-not-has_deleted_lines.false ∙ c.has_deleted_lines.ensures in
     let off_are = subst (λ (l : List ℕ). AreUncleared j.machine cuts j.off l) (sym c.as_slice.ensures.value) c.in-Ok.ensures.are in
     let off_begins = subst (λ (l : List ℕ). IsStartClear j.machine → OffBegins (is_some j.on) c.args.setting c.args.command l)
@@ -111,7 +112,6 @@ returns-clause-tells g c =
     c.in-Ok-on_uncleared.ensures.begins in (
       refusals_text c.args.request.form c.args.request.origins true file off on off_h on_h off_ks on_ks,
       all_text j cuts c.args.setting c.args.command c.args.request.form c.args.request.origins lines true file off on off_h on_h off_ks on_ks some c.machine-machine.ensures.value
-          c.commands-off.ensures c.commands.ensures off_are off_begins on_are on_begins c.in-Ok-history_at.ensures
-          (λ told. c.in-Ok-history_at-2.ensures),
+          c.commands-off.ensures c.commands.ensures off_are off_begins on_are on_begins (framed Off) on_is,
       c.in_ok-write_all_both.ensures.ok,
     )

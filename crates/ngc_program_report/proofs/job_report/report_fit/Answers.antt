@@ -16,41 +16,44 @@ use Rattle.ngc_program_report.proofs.job_report.report_fit.Goals as goal
 pub motions_at-motions-requires : goal.motions_at-motions-requires
 motions_at-motions-requires g c =
     record {
-      are = subst AreEntries (sym (planned_as c.args.job c.in_ok-off_time.accepted false (plan_at Off c.args.plans.now)
+      are = subst AreEntries (sym (planned_as c.args.framed.job c.in_ok-off_time.accepted false (plan_at Off c.args.plans.now)
           (c.in_ok-off_time.ensures.back ∙ c.accept-accepted.ensures))) c.requires.off_are;
     }
 
-pub motions_at-off-requires : goal.motions_at-off-requires
-motions_at-off-requires g c =
+pub motions_at-off_motions-requires : goal.motions_at-off_motions-requires
+motions_at-off_motions-requires g c =
     record {
-      are = subst AreEntries (sym (planned_as c.args.job c.in_ok-on_time.accepted false (plan_at Off c.args.plans.now)
+      are = subst AreEntries (sym (planned_as c.args.framed.job c.in_ok-on_time.accepted false (plan_at Off c.args.plans.now)
           (c.in_ok-on_time.ensures.back ∙ c.in_ok-off_time.ensures.back ∙ c.accept-accepted.ensures))) c.requires.off_are;
     }
 
-pub motions_at-on-requires : goal.motions_at-on-requires
-motions_at-on-requires g c =
+pub motions_at-on_motions-requires : goal.motions_at-on_motions-requires
+motions_at-on_motions-requires g c =
     record {
-      are = subst AreEntries (sym (planned_as c.args.job c.in_ok-on_time.accepted true (plan_at On c.args.plans.now)
+      are = subst AreEntries (sym (planned_as c.args.framed.job c.in_ok-on_time.accepted true (plan_at On c.args.plans.now)
           (c.in_ok-on_time.ensures.back ∙ c.in_ok-off_time.ensures.back ∙ c.accept-accepted.ensures))) c.requires.on_are;
     }
 
 pub returns-then-not-apart-clause-tells : goal.returns-then-not-apart-clause-tells
 returns-then-not-apart-clause-tells g c =
-    let j = c.args.job in
+    let f = c.args.framed in
+    let j = f.job in
     let said = both_planned j.machine.step j.off (commands_in true j) c.args.plans.now in
     let none : is_some j.on ≡ false = sym c.has_deleted_lines-apart.ensures ∙ c.if-not-apart.true in
     let is = c.in_ok-off_time.ensures.back ∙ c.accept-accepted.ensures in (
       _,
-      fit_once j said c.args.form c.args.origins.now c.in_ok-off_time.accepted (planned_by c.motions_at-motions.result) c.in_ok-off_time.off_time
+      fit_once f said c.args.form c.args.origins.now c.in_ok-off_time.accepted (planned_by c.motions_at-motions.result) c.in_ok-off_time.off_time
           (text_in c.args.program.now).lines none is
           (c.motions_at-motions.ensures ∙ planned_as j c.in_ok-off_time.accepted false (plan_at Off c.args.plans.now) is)
-          (lasts_off c.accept-accepted.result j c.in_ok-off_time.off_time c.accept-accepted.ensures c.in_ok-off_time.ensures.lasts),
+          (lasts_off c.accept-accepted.result j c.in_ok-off_time.off_time c.accept-accepted.ensures c.in_ok-off_time.ensures.lasts)
+          c.requires.frames,
       c.in_ok-write_once.ensures.ok,
     )
 
 pub returns-in_err-write_once-clause-tells : goal.returns-in_err-write_once-clause-tells
 returns-in_err-write_once-clause-tells g c =
-    let j = c.args.job in
+    let f = c.args.framed in
+    let j = f.job in
     let said = both_planned j.machine.step j.off (commands_in true j) c.args.plans.now in
     let none : is_some j.on ≡ false = sym c.has_deleted_lines-apart.ensures ∙ c.if-not-apart.true in
     let is = c.in_ok-off_time.ensures.back ∙ c.accept-accepted.ensures in
@@ -59,33 +62,38 @@ returns-in_err-write_once-clause-tells g c =
     (g.W.Sink.written c.write_once.new.output) r)
     c.from_residual-in_err-write_once.ensures.1 (
       _,
-      fit_once j said c.args.form c.args.origins.now c.in_ok-off_time.accepted (planned_by c.motions_at-motions.result) c.in_ok-off_time.off_time
+      fit_once f said c.args.form c.args.origins.now c.in_ok-off_time.accepted (planned_by c.motions_at-motions.result) c.in_ok-off_time.off_time
           (text_in c.args.program.now).lines none is
           (c.motions_at-motions.ensures ∙ planned_as j c.in_ok-off_time.accepted false (plan_at Off c.args.plans.now) is)
-          (lasts_off c.accept-accepted.result j c.in_ok-off_time.off_time c.accept-accepted.ensures c.in_ok-off_time.ensures.lasts),
+          (lasts_off c.accept-accepted.result j c.in_ok-off_time.off_time c.accept-accepted.ensures c.in_ok-off_time.ensures.lasts)
+          c.requires.frames,
       c.in_err-write_once.ensures.fault,
     )
 
 pub returns-clause-tells : goal.returns-clause-tells
 returns-clause-tells g c =
-    let j = c.args.job in
+    let f = c.args.framed in
+    let j = f.job in
     let said = both_planned j.machine.step j.off (commands_in true j) c.args.plans.now in
     let some : true ≡ is_some j.on = sym c.if-not-apart.false ∙ c.has_deleted_lines-apart.ensures in
     let before = c.in_ok-off_time.ensures.back ∙ c.accept-accepted.ensures in
     let is = c.in_ok-on_time.ensures.back ∙ before in (
       _,
-      fit_both j said c.args.form c.args.origins.now c.in_ok-on_time.accepted (planned_by c.motions_at-off.result) (planned_by c.motions_at-on.result)
-          c.in_ok-off_time.off_time c.in_ok-on_time.on_time (text_in c.args.program.now).lines some is
-          (c.motions_at-off.ensures ∙ planned_as j c.in_ok-on_time.accepted false (plan_at Off c.args.plans.now) is)
-          (c.motions_at-on.ensures ∙ planned_as j c.in_ok-on_time.accepted true (plan_at On c.args.plans.now) is)
+      fit_both f c.frames_or.result.now said c.args.form c.args.origins.now c.in_ok-on_time.accepted
+          (planned_by c.motions_at-off_motions.result) (planned_by c.motions_at-on_motions.result) c.in_ok-off_time.off_time c.in_ok-on_time.on_time
+          (text_in c.args.program.now).lines some is
+          (c.motions_at-off_motions.ensures ∙ planned_as j c.in_ok-on_time.accepted false (plan_at Off c.args.plans.now) is)
+          (c.motions_at-on_motions.ensures ∙ planned_as j c.in_ok-on_time.accepted true (plan_at On c.args.plans.now) is)
           (lasts_off c.accept-accepted.result j c.in_ok-off_time.off_time c.accept-accepted.ensures c.in_ok-off_time.ensures.lasts)
-          (lasts_on c.in_ok-off_time.accepted j c.in_ok-on_time.on_time before c.in_ok-on_time.ensures.lasts),
+          (lasts_on c.in_ok-off_time.accepted j c.in_ok-on_time.on_time before c.in_ok-on_time.ensures.lasts)
+          c.requires.frames c.frames_or.ensures,
       c.in_ok-write_both.ensures.ok,
     )
 
 pub returns-in_err-write_both-clause-tells : goal.returns-in_err-write_both-clause-tells
 returns-in_err-write_both-clause-tells g c =
-    let j = c.args.job in
+    let f = c.args.framed in
+    let j = f.job in
     let said = both_planned j.machine.step j.off (commands_in true j) c.args.plans.now in
     let some : true ≡ is_some j.on = sym c.if-not-apart.false ∙ c.has_deleted_lines-apart.ensures in
     let before = c.in_ok-off_time.ensures.back ∙ c.accept-accepted.ensures in
@@ -95,18 +103,20 @@ returns-in_err-write_both-clause-tells g c =
     (g.W.Sink.written c.write_both.new.output) r)
     c.from_residual-in_err-write_both.ensures.1 (
       _,
-      fit_both j said c.args.form c.args.origins.now c.in_ok-on_time.accepted (planned_by c.motions_at-off.result) (planned_by c.motions_at-on.result)
-          c.in_ok-off_time.off_time c.in_ok-on_time.on_time (text_in c.args.program.now).lines some is
-          (c.motions_at-off.ensures ∙ planned_as j c.in_ok-on_time.accepted false (plan_at Off c.args.plans.now) is)
-          (c.motions_at-on.ensures ∙ planned_as j c.in_ok-on_time.accepted true (plan_at On c.args.plans.now) is)
+      fit_both f c.frames_or.result.now said c.args.form c.args.origins.now c.in_ok-on_time.accepted
+          (planned_by c.motions_at-off_motions.result) (planned_by c.motions_at-on_motions.result) c.in_ok-off_time.off_time c.in_ok-on_time.on_time
+          (text_in c.args.program.now).lines some is
+          (c.motions_at-off_motions.ensures ∙ planned_as j c.in_ok-on_time.accepted false (plan_at Off c.args.plans.now) is)
+          (c.motions_at-on_motions.ensures ∙ planned_as j c.in_ok-on_time.accepted true (plan_at On c.args.plans.now) is)
           (lasts_off c.accept-accepted.result j c.in_ok-off_time.off_time c.accept-accepted.ensures c.in_ok-off_time.ensures.lasts)
-          (lasts_on c.in_ok-off_time.accepted j c.in_ok-on_time.on_time before c.in_ok-on_time.ensures.lasts),
+          (lasts_on c.in_ok-off_time.accepted j c.in_ok-on_time.on_time before c.in_ok-on_time.ensures.lasts)
+          c.requires.frames c.frames_or.ensures,
       c.in_err-write_both.ensures.fault,
     )
 
 pub returns-in_err-on_time-clause-tells : goal.returns-in_err-on_time-clause-tells
 returns-in_err-on_time-clause-tells g c =
-    let j = c.args.job in
+    let j = c.args.framed.job in
     let said = both_planned j.machine.step j.off (commands_in true j) c.args.plans.now in
     memory_tells (IsFitText j said c.args.form c.args.origins.now (text_in c.args.program.now).lines) (g.W.Sink.written c.args.output.now) _
     c.in_err-on_time.field-0.0 c.from_residual-in_err-on_time.ensures.1 c.in_err-on_time.ensures.memory

@@ -7,7 +7,7 @@ use Rattle.ngc_program_report.proofs.job_report.report_refusal.Goals as goal
 
 pub returns-in_err-report_first-clause-tells : goal.returns-in_err-report_first-clause-tells
 returns-in_err-report_first-clause-tells g c =
-    let j = c.args.job.now in
+    let j = c.args.framed.now.job in
     let lines = (text_in c.args.program.now).lines in
     let fault = c.in_err-report_first.field-0.0 in
     let old = g.W.Sink.written c.args.output.now in
@@ -17,14 +17,15 @@ returns-in_err-report_first-clause-tells g c =
     c.from_residual.ensures.1
     (subst (λ (all : Bool). Tells (IsRefusalText all j c.args.request c.args.setting c.args.command lines) old new (Err (faults.Write fault)))
     (sym c.if-request.false) (
-      first_text j c.args.request.form c.args.request.origins c.args.setting c.args.command lines c.in-Ok.frame,
-      record { frame = c.in-Ok.frame; executed = c.in-Ok.ensures; tells = refl },
+      first_text j c.args.request.form c.args.request.origins c.args.setting c.args.command lines c.frame_at-frame.result,
+      record { frame = c.frame_at-frame.result; executed = c.frame_at-frame.ensures lines c.requires.frames; tells = refl },
       c.in_err-report_first.ensures.fault,
     ))
 
 pub returns-then-request-clause-tells : goal.returns-then-request-clause-tells
 returns-then-request-clause-tells g c =
-    let j = c.args.job.now in
+    let j = c.args.framed.now.job in
     let lines = (text_in c.args.program.now).lines in
     subst (λ (all : Bool). Tells (IsRefusalText all j c.args.request c.args.setting c.args.command lines) (g.W.Sink.written c.args.output.now)
-    (g.W.Sink.written c.report_all.new.output) c.report_all.result) (sym c.if-request.true) c.report_all.ensures.tells
+    (g.W.Sink.written c.report_all.new.output) c.report_all.result) (sym c.if-request.true)
+    (c.report_all.ensures.tells lines c.requires.frames)

@@ -16,7 +16,7 @@ returns-in-Err-clause-reports g c =
     let setup = setup_of c.args.machine c.args.tools in
     let refusal = c.in-Err.refusal in
     if_known _ _ _ (λ bytes is_text. rejected setup bytes c.args.request (text_in c.in_ok-program.program) refusal.setting refusal.fault
-    c.report_rejection.result _ _ is_text c.in_ok-program.ensures.readings c.in-Err.ensures c.report_rejection.ensures.memory
+    c.report_rejection.result _ _ is_text c.in_ok-program.ensures.readings c.in-Err.ensures.job c.report_rejection.ensures.memory
     (c.report_rejection.ensures.reports setup bytes is_text)) c.in_ok-program.ensures.text
 
 pub returns-in_err-report_fit-in-Ok-plans_for-clause-reports : goal.returns-in_err-report_fit-in-Ok-plans_for-clause-reports
@@ -26,8 +26,10 @@ returns-in_err-report_fit-in-Ok-plans_for-clause-reports g c =
     turned _ (of_report fault) (λ r. IfSome (g.R.Source.remaining c.args.source.now)
     (λ bytes. Reports setup bytes c.args.request (g.W.Sink.written c.args.output.now) (g.W.Sink.written c.report_fit.new.output) r))
     c.from_residual-in_err-report_fit-in-Ok-plans_for.ensures.1
-    (if_known _ _ _ (λ bytes is_text. fit_stopped setup bytes c.args.request (text_in c.in_ok-program.program) c.in-Ok.job is_text
-    c.in_ok-program.ensures.readings c.in-Ok.ensures (both_planned c.in-Ok.job.machine.step c.in-Ok.job.off (commands_in true c.in-Ok.job) c.in-Ok-plans_for.plans) _ _ fault c.in-Ok-plans_for.ensures.made
+    (if_known _ _ _ (λ bytes is_text. fit_stopped setup bytes c.args.request (text_in c.in_ok-program.program) c.in-Ok.framed.job is_text
+    c.in_ok-program.ensures.readings c.in-Ok.ensures.job
+    (both_planned c.in-Ok.framed.job.machine.step c.in-Ok.framed.job.off (commands_in true c.in-Ok.framed.job) c.in-Ok-plans_for.plans) _ _
+    fault c.in-Ok-plans_for.ensures.made
     c.in_err-report_fit-in-Ok-plans_for.ensures.tells) c.in_ok-program.ensures.text)
 
 pub returns-in_err-report_fit-in-Ok-plans_for-clause-sink : goal.returns-in_err-report_fit-in-Ok-plans_for-clause-sink
@@ -44,8 +46,10 @@ returns-in_err-report_fit-in-Ok-plans_for-clause-faults g c =
 pub returns-in-Ok-plans_for-clause-reports : goal.returns-in-Ok-plans_for-clause-reports
 returns-in-Ok-plans_for-clause-reports g c =
     let setup = setup_of c.args.machine c.args.tools in
-    if_known _ _ _ (λ bytes is_text. told_fit setup bytes c.args.request (text_in c.in_ok-program.program) c.in-Ok.job is_text
-    c.in_ok-program.ensures.readings c.in-Ok.ensures (both_planned c.in-Ok.job.machine.step c.in-Ok.job.off (commands_in true c.in-Ok.job) c.in-Ok-plans_for.plans) _ _ c.in-Ok-plans_for.ensures.made
+    if_known _ _ _ (λ bytes is_text. told_fit setup bytes c.args.request (text_in c.in_ok-program.program) c.in-Ok.framed.job is_text
+    c.in_ok-program.ensures.readings c.in-Ok.ensures.job
+    (both_planned c.in-Ok.framed.job.machine.step c.in-Ok.framed.job.off (commands_in true c.in-Ok.framed.job) c.in-Ok-plans_for.plans) _ _
+    c.in-Ok-plans_for.ensures.made
     c.in_ok-report_fit-in-Ok-plans_for.ensures.tells) c.in_ok-program.ensures.text
 
 pub returns-in_err-report_refusal-in-Err-NotCleared-clause-reports : goal.returns-in_err-report_refusal-in-Err-NotCleared-clause-reports
@@ -53,19 +57,19 @@ returns-in_err-report_refusal-in-Err-NotCleared-clause-reports g c =
     let setup = setup_of c.args.machine c.args.tools in
     let fault = c.in_err-report_refusal-in-Err-NotCleared.field-0.0 in
     let refused = c.in-Err-NotCleared in
-    let unmade = subst (IsUnmade c.in-Ok.job c.args.request.cuts) refused.field-0-is refused.ensures.made in
+    let unmade = subst (IsUnmade c.in-Ok.framed.job c.args.request.cuts) refused.field-0-is refused.ensures.made in
     turned _ (of_report fault) (λ r. IfSome (g.R.Source.remaining c.args.source.now)
     (λ bytes. Reports setup bytes c.args.request (g.W.Sink.written c.args.output.now) (g.W.Sink.written c.report_refusal.new.output) r))
     c.from_residual-in_err-report_refusal-in-Err-NotCleared.ensures.1
-    (if_known _ _ _ (λ bytes is_text. refusal_stopped setup bytes c.args.request (text_in c.in_ok-program.program) c.in-Ok.job is_text
-    c.in_ok-program.ensures.readings c.in-Ok.ensures refused.setting refused.command _ _ fault unmade
+    (if_known _ _ _ (λ bytes is_text. refusal_stopped setup bytes c.args.request (text_in c.in_ok-program.program) c.in-Ok.framed.job is_text
+    c.in_ok-program.ensures.readings c.in-Ok.ensures.job refused.setting refused.command _ _ fault unmade
     c.in_err-report_refusal-in-Err-NotCleared.ensures.tells) c.in_ok-program.ensures.text)
 
 pub returns-in-Err-NotCleared-clause-reports : goal.returns-in-Err-NotCleared-clause-reports
 returns-in-Err-NotCleared-clause-reports g c =
     let setup = setup_of c.args.machine c.args.tools in
     let refused = c.in-Err-NotCleared in
-    let unmade = subst (IsUnmade c.in-Ok.job c.args.request.cuts) refused.field-0-is refused.ensures.made in
-    if_known _ _ _ (λ bytes is_text. told_refusal setup bytes c.args.request (text_in c.in_ok-program.program) c.in-Ok.job is_text
-    c.in_ok-program.ensures.readings c.in-Ok.ensures refused.setting refused.command _ _ unmade
+    let unmade = subst (IsUnmade c.in-Ok.framed.job c.args.request.cuts) refused.field-0-is refused.ensures.made in
+    if_known _ _ _ (λ bytes is_text. told_refusal setup bytes c.args.request (text_in c.in_ok-program.program) c.in-Ok.framed.job is_text
+    c.in_ok-program.ensures.readings c.in-Ok.ensures.job refused.setting refused.command _ _ unmade
     c.in_ok-report_refusal-in-Err-NotCleared.ensures.tells) c.in_ok-program.ensures.text
