@@ -1,5 +1,5 @@
 -- From line to line of a program.
-use Rattle.std.proofs.Common.{◌≡◌, ℕ, ◌+◌, ◌≤◌, List, [], ◌∷◌, ◌++◌, length, drop, Bool, true, false, Result, Ok, Err, refl, ap, ap₂, subst, sym, ◌∙◌}
+use Rattle.std.proofs.Common.{◌≡◌, ℕ, ◌+◌, ◌≤◌, List, [], ◌∷◌, ◌++◌, length, drop, Bool, true, false, Result, Ok, refl, ap, ap₂, sym, ◌∙◌}
 use Rattle.std.proofs.Math.ListN.{drop_of_length-le}
 use Rattle.std.proofs.lemmas.List.{append_assoc, append-nil}
 use Rattle.std.specs.Prelude.{◌&&◌}
@@ -8,10 +8,7 @@ use Rattle.ngc_line_reader.specs.Program.{Line}
 use Rattle.ngc_canonical.proofs.Lines.{NextLine}
 use Rattle.ngc_canonical.specs.Meaning.{NumberedLine, after_line, remaining, with_readings}
 use Rattle.ngc_canonical.specs.State.{Setup, State}
-use Rattle.ngc_canonical.specs.Interpreter.{BecomesAt}
-use Rattle.ngc_canonical.specs.declared.fault.Fault.{Fault}
 use Rattle.ngc_canonical.specs.declared.fault.ProgramFault.{ProgramFault}
-use Rattle.ngc_canonical.specs.declared.fault.ProgramFault.TheVariants.{At}
 use Rattle.ngc_frames.specs.Changes.{change_at, changes_from, frame_of, go_on, then_changes}
 use Rattle.ngc_frames.specs.declared.change.FrameChange.{FrameChange}
 use Rattle.ngc_frames.specs.declared.frame.Frame.{Frame}
@@ -44,12 +41,6 @@ module _ (setup : Setup) (block_delete : Bool) (lines : List Line) (rs : List Re
   left_step running next =
       ap (λ (l : List NumberedLine). changes_from setup (remaining block_delete l) s) next.behind
       ∙ step setup block_delete number next.reading (with_readings (drop (i + 1) lines) (drop (i + 1) rs)) s running
-
-  pub left_refused : (e : ProgramFault) → s.ended ≡ false → (next : NextLine lines rs i number bytes)
-      → after_line setup block_delete number next.reading s ≡ Err e → left setup block_delete lines rs i s ≡ []
-  left_refused e running next refused =
-      left_step running next
-      ∙ ap (λ (x : Result State ProgramFault). then_changes number s x (λ t. left setup block_delete lines rs (i + 1) t)) refused
 
   left_done : (t : State) (b : Bool) → s.ended ≡ false → (next : NextLine lines rs i number bytes)
       → after_line setup block_delete number next.reading s ≡ Ok t → t.ended ≡ b
@@ -98,16 +89,6 @@ module _ (setup : Setup) (block_delete : Bool) (lines : List Line) (rs : List Re
 -- no lines remain
 pub none_left : (rest old total : List FrameChange) → rest ≡ [] → old ++ rest ≡ total → old ≡ total
 none_left rest old total none leads = sym (append-nil old) ∙ ap (λ (l : List FrameChange). old ++ l) (sym none) ∙ leads
-
--- the line is refused
-pub is_refused : (setup : Setup) (block_delete : Bool) (lines : List Line) (rs : List Reading) (i number : ℕ) (bytes : List ℕ) (s t : State) (fault : ProgramFault) (n : ℕ)
-    (e : Fault) (old total : List FrameChange) → s.ended ≡ false → (next : NextLine lines rs i number bytes) → fault ≡ At n e
-    → BecomesAt (Err fault) t (after_line setup block_delete number next.reading s)
-    → old ++ left setup block_delete lines rs i s ≡ total → old ≡ total
-is_refused setup block_delete lines rs i number bytes s t fault n e old total running next is becomes leads =
-    let refused : after_line setup block_delete number next.reading s ≡ Err (At n e) =
-    subst (λ (f : ProgramFault). BecomesAt (Err f) t (after_line setup block_delete number next.reading s)) is becomes in
-    none_left (left setup block_delete lines rs i s) old total (left_refused setup block_delete lines rs i number bytes s (At n e) running next refused) leads
 
 no_lines : (lines : List Line) (rs : List Reading) → lines ≡ [] → with_readings lines rs ≡ []
 no_lines lines rs e = ap (λ (l : List Line). with_readings l rs) e

@@ -17,13 +17,7 @@ use ngc_canonical::{Interpreter, ProgramFault, Work};
 use ngc_commands::Command;
 use ngc_line_reader::Program;
 use ngc_machine_files::{Machine, Tools};
-use std::alloc::Allocator;
-use thiserror::Error;
-
-/// A lack of memory for the execution of the program or for the changes.
-#[derive(Clone, Copy, Debug, Error)]
-#[error("out of memory")]
-pub struct OutOfMemory;
+use std::alloc::{AllocError, Allocator};
 
 /// The frame in force at the start of a program, and each change of it, in the order of execution.
 #[derive(Drop)]
@@ -53,7 +47,7 @@ fn add_change<A: Allocator>(
     line: u32,
     old: &Frame,
     new: &Frame,
-) -> Result<(), OutOfMemory>
+) -> Result<(), AllocError>
     ensures { OnOk result (changes.new.items ≡ changes.old.items ++ change_at line old.now new.now) }
 {
     if is_same_frame(old, new) {
@@ -61,49 +55,8 @@ fn add_change<A: Allocator>(
     }
     match changes.push(FrameChange { line, frame: *new }) {
         Ok(()) => Ok(()),
-        Err(_) => Err(OutOfMemory),
+        Err(_) => Err(AllocError),
     }
-}
-
-/// Executes a program and returns the frame in force at its start, on a machine with its tools, at
-/// a setting of block delete. It also returns each executed line after which another frame is in
-/// force, up to the end or the first line that is refused.
-///
-/// It executes the program once.
-pub fn frame_history<A: Allocator + Copy>(
-    alloc: A,
-    program: &Program<A>,
-    machine: &Machine<A>,
-    tools: &Tools<A>,
-    block_delete: bool,
-) -> Result<FrameHistory<A>, OutOfMemory>
-    ensures start { IfOk result (λ h. h.start ≡ start_frame (setup_of machine.now tools.now)) }
-    // For all readings of the lines. Each line has exactly one.
-    ensures changes { IfOk result (λ h. (rs : List Reading) →
-        AreReadings (text_in program.now).lines rs →
-        h.changes.items ≡ frame_changes (setup_of machine.now tools.now)
-        (with_readings (text_in program.now).lines rs) block_delete) }
-{
-    let Ok(mut interpreter) = Interpreter::new(alloc, machine) else {
-        return Err(OutOfMemory);
-    };
-    let start = frame_of(&interpreter);
-    let mut changes = Vec::new(alloc);
-    let mut work = Work::new();
-    for index in 0..program.len() {
-        let before = frame_of(&interpreter);
-        match interpreter.take_line(machine, tools, program, index, &mut work, block_delete) {
-            Ok(()) => {}
-            Err(ProgramFault::At { .. }) => return Ok(FrameHistory { start, changes }),
-            Err(ProgramFault::Memory) => return Err(OutOfMemory),
-        }
-        let after = frame_of(&interpreter);
-        add_change(&mut changes, program.number(index), &before, &after)?;
-        if interpreter.is_ended() {
-            return Ok(FrameHistory { start, changes });
-        }
-    }
-    Ok(FrameHistory { start, changes })
 }
 
 /// Executes a program once, and returns its commands with the frame in force at its start and each

@@ -15,9 +15,7 @@ mod words;
 pub use change::FrameChange;
 pub use facts::{add_triple, collect_motion_fact};
 pub use frame::{Frame, FramePart, index_of, is_same_part};
-pub use history::{
-    FrameHistory, FramedCommands, OutOfMemory, frame_history, interpret_with_frames,
-};
+pub use history::{FrameHistory, FramedCommands, interpret_with_frames};
 pub use in_force::{FrameInForce, frame_at, frame_in_force, line_that_set};
 pub use place::program_point;
 pub use walk::FrameWalk;

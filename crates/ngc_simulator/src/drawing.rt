@@ -242,14 +242,7 @@ pub fn draw_program<A: Allocator + Copy, W: Sink>(
     let work = work_origin(&framed.frames, commands, &refusal);
     let none = Motions::new(alloc);
     write_svg(
-        alloc,
-        &look,
-        machine,
-        commands,
-        &none,
-        &refusal,
-        &work,
-        output,
+        alloc, &look, machine, commands, &none, &refusal, &work, output,
     )?;
     Ok(())
 }
@@ -282,14 +275,7 @@ pub fn draw_certified<A: Allocator + Copy, W: Sink>(
     let work = work_origin(&framed.frames, commands, &refusal);
     let motions = certificate.motions(setting_of(block_delete));
     write_svg(
-        alloc,
-        &look,
-        machine,
-        commands,
-        motions,
-        &refusal,
-        &work,
-        output,
+        alloc, &look, machine, commands, motions, &refusal, &work, output,
     )?;
     Ok(())
 }

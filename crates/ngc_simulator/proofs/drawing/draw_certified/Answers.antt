@@ -65,5 +65,5 @@ returns-clause-draws g c = λ bytes text is_text have said.
           c.in_ok-framed.ensures.commands
           (sym {b = refusal_answer (fault_at setup.machine (setting_of c.args.block_delete) c.as_slice-commands.result.now (said_of c.args.certificate.now))}
           c.in_ok-refusal.ensures) (in_force setup (text_in c.args.program.now) c.args.block_delete c.in_ok-framed.framed.frames.start c.in_ok-framed.framed.frames.changes.items
-    c.as_slice-commands.result.now _ _ c.in_ok-framed.ensures.start c.in_ok-framed.ensures.changes c.work_origin-work.ensures) c.in_ok-write_svg.ensures.ok,
+          c.as_slice-commands.result.now _ _ c.in_ok-framed.ensures.start c.in_ok-framed.ensures.changes c.work_origin-work.ensures) c.in_ok-write_svg.ensures.ok,
     )
