@@ -14,7 +14,9 @@ use Rattle.ngc_adapt_moves.specs.declared.axis.Place.{Place}
 use Rattle.ngc_adapt_moves.specs.declared.places.Motion.{Motion}
 use Rattle.ngc_adapt_moves.specs.declared.places.Motion.TheVariants as motions
 use Rattle.ngc_adapt_moves.specs.declared.places.ArcDistance.TheVariants as arcs
+use Rattle.ngc_adapt_moves.specs.declared.places.Drilling.TheVariants as drillings
 use Rattle.ngc_adapt_moves.specs.declared.places.Homes.{Homes}
+use Rattle.ngc_fixed_length.specs.declared.modes.RetractMode.TheVariants as retracts
 use Rattle.ngc_adapt_moves.specs.declared.places.Places.{Places}
 use Rattle.ngc_adapt_moves.specs.declared.rule.Rule.TheVariants as rules
 use Rattle.ngc_adapt_moves.specs.declared.rule.MoveRefusal.TheVariants as refusals
@@ -80,6 +82,8 @@ at motion distance place =
       feed_mode = Some feeds.PerMinute;
       place = place;
       local = no_offset;
+      retract = Some retracts.Series;
+      drilling = drillings.Off;
       motion_again = false;
     }
 
@@ -106,6 +110,8 @@ again b p =
       feed_mode = p.feed_mode;
       place = p.place;
       local = p.local;
+      retract = p.retract;
+      drilling = p.drilling;
       motion_again = b;
     }
 
@@ -122,6 +128,8 @@ with_local local p =
       feed_mode = p.feed_mode;
       place = p.place;
       local = local;
+      retract = p.retract;
+      drilling = p.drilling;
       motion_again = p.motion_again;
     }
 
@@ -138,6 +146,8 @@ without_homes p =
       feed_mode = p.feed_mode;
       place = p.place;
       local = p.local;
+      retract = p.retract;
+      drilling = p.drilling;
       motion_again = p.motion_again;
     }
 
@@ -154,6 +164,8 @@ from_origin p =
       feed_mode = p.feed_mode;
       place = p.place;
       local = p.local;
+      retract = p.retract;
+      drilling = p.drilling;
       motion_again = p.motion_again;
     }
 
@@ -382,6 +394,8 @@ in_linuxcnc u p =
       feed_mode = p.feed_mode;
       place = p.place;
       local = p.local;
+      retract = p.retract;
+      drilling = p.drilling;
       motion_again = p.motion_again;
     }
 

@@ -8,5 +8,7 @@ pub mod LineLaws
 pub mod Examples
 -- Angles by their binary digits.
 pub mod AngleLaws
+-- The lines of pecks.
+pub mod PeckLaws
 -- The lines of several turns.
 pub mod TurnLaws

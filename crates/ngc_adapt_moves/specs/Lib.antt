@@ -6,6 +6,7 @@ pub mod Laws
 pub mod LineReports
 pub mod LineWords
 pub mod Lines
+pub mod Pecks
 pub mod Places
 pub mod Plans
 pub mod Radii

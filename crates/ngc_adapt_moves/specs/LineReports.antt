@@ -20,7 +20,7 @@ use Rattle.ngc_adapt_moves.specs.Angles.{whole_turn}
 use Rattle.ngc_adapt_moves.specs.Lines.{rewritten}
 use Rattle.ngc_adapt_moves.specs.Plans.{plan_of, is_homed, is_named, is_circled, is_first, is_origin}
 use Rattle.ngc_adapt_moves.specs.Plans.{is_local, is_one_turn, is_several, is_stopped_later, local_refusal}
-use Rattle.ngc_adapt_moves.specs.Plans.{turns_refusal}
+use Rattle.ngc_adapt_moves.specs.Plans.{is_pecked, pecks_refusal, turns_refusal}
 use Rattle.ngc_adapt_moves.specs.Plans.{homing_refusal, naming_refusal, circle_refusal, centre_refusal}
 use Rattle.ngc_adapt_moves.specs.Plans.{feeding_refusal, balance_refusal}
 use Rattle.ngc_adapt_moves.specs.Reports.{rule_name, class_of, refusal_name, sentence}
@@ -83,7 +83,8 @@ further_changes number written_number plan line =
     ++ (change_if (is_one_turn plan.turns) number written_number rules.OneTurn plan line
     ++ (several_if (is_several plan.turns) number written_number plan line
     ++ (change_if (is_local plan.local) number written_number rules.LocalOffset plan line
-    ++ change_if plan.tool_first number written_number rules.ToolChangeFirst plan line))))
+    ++ (change_if plan.tool_first number written_number rules.ToolChangeFirst plan line
+    ++ change_if (is_pecked plan.pecks) number written_number rules.ChipBreaking plan line)))))
 
 unfoldable pub changes_text : ℕ → ℕ → Plan → List ℕ → List ℕ
 changes_text number written_number plan line =
@@ -109,7 +110,8 @@ unfoldable pub further_refusals : ℕ → Plan → List ℕ
 further_refusals number plan =
     refusal_if number (balance_refusal plan.balance)
     ++ (refusal_if number (turns_refusal plan.turns)
-    ++ refusal_if number (local_refusal plan.local))
+    ++ (refusal_if number (local_refusal plan.local)
+    ++ refusal_if number (pecks_refusal plan.pecks)))
 
 unfoldable pub refusals_text : ℕ → Plan → List ℕ
 refusals_text number plan =

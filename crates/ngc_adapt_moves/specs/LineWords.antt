@@ -153,6 +153,27 @@ first_p words = find (λ (w : Word). is_p w.letter) words
 abbrev pub p_value : List Word → Option ℤ
 p_value words = value_in (first_p words)
 
+abbrev pub is_q : Letter → Bool
+is_q letters.Q = true
+is_q _ = false
+
+abbrev pub has_q : List Word → Bool
+has_q words = list_any (λ (w : Word). is_q w.letter) words
+
+abbrev pub first_q : List Word → Option Word
+first_q words = find (λ (w : Word). is_q w.letter) words
+
+-- the number of the first Q, if it is known
+abbrev pub q_value : List Word → Option ℤ
+q_value words = value_in (first_q words)
+
+abbrev pub first_r : List Word → Option Word
+first_r words = find (λ (w : Word). is_r w.letter) words
+
+-- the number of the first R, if it is known
+abbrev pub r_value : List Word → Option ℤ
+r_value words = value_in (first_r words)
+
 abbrev pub is_known : Option ℕ → Bool
 is_known code =
     is_one_of codes.MOTION code || is_one_of codes.CYCLES code

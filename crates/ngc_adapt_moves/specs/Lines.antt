@@ -8,6 +8,7 @@ use Rattle.ngc_adapt_moves.specs.declared.axis.Axis.TheVariants as axes
 use Rattle.ngc_adapt_moves.specs.declared.axis.Place.{Place}
 use Rattle.ngc_adapt_moves.specs.declared.homing.Homing.{Homing}
 use Rattle.ngc_adapt_moves.specs.declared.homing.Homing.TheVariants as homings
+use Rattle.ngc_adapt_moves.specs.declared.places.Drilling.{Drilling}
 use Rattle.ngc_adapt_moves.specs.declared.places.Motion.{Motion}
 use Rattle.ngc_adapt_moves.specs.declared.places.Motion.TheVariants as motions
 use Rattle.ngc_adapt_moves.specs.declared.places.Places.{Places}
@@ -21,9 +22,10 @@ use Rattle.ngc_adapt_moves.specs.declared.own_line.OwnLine.{OwnLine}
 use Rattle.ngc_adapt_moves.specs.declared.own_line.OwnLine.TheVariants as own_lines
 use Rattle.ngc_adapt_moves.specs.LineWords.{has_motion, has_unknown, is_of_place}
 use Rattle.ngc_adapt_moves.specs.Places.{after_line, lost, modes_after}
-use Rattle.ngc_adapt_moves.specs.Plans.{added_text, before_count, change_of, circle_text, is_changed, is_first, is_homed, is_named}
+use Rattle.ngc_adapt_moves.specs.Plans.{added_text, before_count, change_of, circle_text, is_changed, is_first, is_homed, is_named, is_pecked}
 use Rattle.ngc_adapt_moves.specs.Plans.{line_count, naming_text, plan_of, refusals_of, rules_of}
 use Rattle.ngc_adapt_moves.specs.OwnLines.{own_words}
+use Rattle.ngc_adapt_moves.specs.Pecks.{drilling_after, pecks_written}
 use Rattle.ngc_adapt_moves.specs.Turns.{turns_written}
 use Rattle.ngc_adapt_moves.specs.Texts.{axis_letter, text_of, value_text}
 use Rattle.ngc_adapt_moves.specs.Words.{word_of, words_of}
@@ -115,7 +117,8 @@ rewritten separator plan line =
     ++ (main_written plan line
     ++ (after_written separator plan.homing (may_be_deleted line)
     ++ (turns_written (separator ++ slash (may_be_deleted line)) plan.turns
-    ++ stops_written separator plan line)))
+    ++ (pecks_written (separator ++ slash (may_be_deleted line)) plan.pecks
+    ++ stops_written separator plan line))))
     else line
 
 abbrev pub is_traverse : Motion → Bool
@@ -129,11 +132,11 @@ is_again places plan words deletable =
     if has_unknown words then places.motion_again else (
     if is_homed plan.homing
     then (deletable && places.motion_again) || not (is_traverse (modes_after places words).motion)
-    else plan.apart || (places.motion_again
+    else is_pecked plan.pecks || plan.apart || (places.motion_again
     && (deletable || not (has_motion words || is_named plan.naming))))
 
-abbrev pub with_again : Bool → Places → Places
-with_again again places =
+abbrev pub with_again : Bool → Drilling → Places → Places
+with_again again drilling places =
     record {
       dialect = places.dialect;
       homes = places.homes;
@@ -145,12 +148,15 @@ with_again again places =
       feed_mode = places.feed_mode;
       place = places.place;
       local = places.local;
+      retract = places.retract;
+      drilling = drilling;
       motion_again = again;
     }
 
 abbrev pub next_places : Places → Plan → List Word → Bool → Places
 next_places places plan words deletable =
-    with_again (is_again places plan words deletable) (after_line places words deletable)
+    with_again (is_again places plan words deletable)
+    (drilling_after places.drilling plan.pecks words deletable) (after_line places words deletable)
 
 abbrev pub not_read : List MoveRefusal
 not_read = refusals.NotRead ∷ []

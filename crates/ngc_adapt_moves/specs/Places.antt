@@ -12,10 +12,14 @@ use Rattle.ngc_fixed_length.specs.declared.modes.Distance.{Distance}
 use Rattle.ngc_fixed_length.specs.declared.modes.Distance.TheVariants as distances
 use Rattle.ngc_fixed_length.specs.declared.modes.FeedMode.{FeedMode}
 use Rattle.ngc_fixed_length.specs.declared.modes.FeedMode.TheVariants as feeds
+use Rattle.ngc_fixed_length.specs.declared.modes.RetractMode.{RetractMode}
+use Rattle.ngc_fixed_length.specs.declared.modes.RetractMode.TheVariants as retracts
 use Rattle.ngc_fixed_length.specs.Limits.{sum as sum_of}
 use Rattle.ngc_adapt_moves.specs.declared.axis.Axis.{Axis}
 use Rattle.ngc_adapt_moves.specs.declared.axis.Axis.TheVariants as axes
 use Rattle.ngc_adapt_moves.specs.declared.axis.Place.{Place}
+use Rattle.ngc_adapt_moves.specs.declared.places.Drilling.{Drilling}
+use Rattle.ngc_adapt_moves.specs.declared.places.Drilling.TheVariants as drillings
 use Rattle.ngc_adapt_moves.specs.declared.places.Motion.{Motion}
 use Rattle.ngc_adapt_moves.specs.declared.places.Motion.TheVariants as motions
 use Rattle.ngc_adapt_moves.specs.declared.places.ArcDistance.{ArcDistance}
@@ -68,6 +72,11 @@ abbrev pub feed_mode_after : Option FeedMode → List Word → Option FeedMode
 feed_mode_after before words =
     if has codes.INVERSE_TIME words then Some feeds.InverseTime else (
     if has codes.PER_MINUTE words then Some feeds.PerMinute else before)
+
+abbrev pub retract_after : Option RetractMode → List Word → Option RetractMode
+retract_after before words =
+    if has codes.SERIES_RETRACT words then Some retracts.Series else (
+    if has codes.HOLE_RETRACT words then Some retracts.Retract else before)
 
 abbrev pub are_inches : Option Units → Bool
 are_inches (Some units_of.Inches) = true
@@ -211,8 +220,15 @@ start dialect homes =
       feed_mode = Some feeds.PerMinute;
       place = nowhere;
       local = no_offset;
+      retract = Some retracts.Series;
+      drilling = drillings.Off;
       motion_again = false;
     }
+
+-- the hole that the next lines repeat, after a line of which nothing is known
+abbrev pub drilling_lost : Drilling → Drilling
+drilling_lost drillings.Off = drillings.Off
+drilling_lost _ = drillings.Lost
 
 -- after a line of which nothing is known
 abbrev pub lost : Places → Places
@@ -228,6 +244,8 @@ lost places =
       feed_mode = None;
       place = nowhere;
       local = nowhere;
+      retract = None;
+      drilling = drilling_lost places.drilling;
       motion_again = places.motion_again;
     }
 
@@ -245,6 +263,8 @@ modes_after places words =
       feed_mode = feed_mode_after places.feed_mode words;
       place = places.place;
       local = local_after places words;
+      retract = retract_after places.retract words;
+      drilling = places.drilling;
       motion_again = places.motion_again;
     }
 
@@ -277,6 +297,8 @@ modes_either places words =
       feed_mode = if has codes.FEED_MODE words then None else places.feed_mode;
       place = place_either places words;
       local = local_either places words;
+      retract = if has codes.RETRACT_MODE words then None else places.retract;
+      drilling = places.drilling;
       motion_again = places.motion_again;
     }
 
@@ -293,6 +315,8 @@ with_place place places =
       feed_mode = places.feed_mode;
       place = place;
       local = places.local;
+      retract = places.retract;
+      drilling = places.drilling;
       motion_again = places.motion_again;
     }
 

@@ -31,6 +31,9 @@ use Rattle.ngc_adapt_moves.specs.declared.rule.MoveRefusal.{MoveRefusal}
 use Rattle.ngc_adapt_moves.specs.declared.rule.MoveRefusal.TheVariants as refusals
 use Rattle.ngc_adapt_moves.specs.declared.local.Local.{Local}
 use Rattle.ngc_adapt_moves.specs.declared.local.Local.TheVariants as locals
+use Rattle.ngc_adapt_moves.specs.declared.pecks.Pecked.{Pecked}
+use Rattle.ngc_adapt_moves.specs.declared.pecks.Pecks.{Pecks}
+use Rattle.ngc_adapt_moves.specs.declared.pecks.Pecks.TheVariants as pecks
 use Rattle.ngc_adapt_moves.specs.declared.turns.Turning.{Turning}
 use Rattle.ngc_adapt_moves.specs.declared.turns.Turns.{Turns}
 use Rattle.ngc_adapt_moves.specs.declared.turns.Turns.TheVariants as turns
@@ -42,10 +45,11 @@ use Rattle.ngc_adapt_moves.specs.declared.word.Word.{Word}
 use Rattle.ngc_adapt_moves.specs.declared.code.TheConstants as codes
 use Rattle.ngc_adapt_moves.specs.Axes.{along}
 use Rattle.ngc_adapt_moves.specs.LineWords.{has, has_axes, has_feed, has_motion, has_place}
-use Rattle.ngc_adapt_moves.specs.LineWords.{has_unknown, is_axis, is_code, is_p}
+use Rattle.ngc_adapt_moves.specs.LineWords.{has_unknown, is_axis, is_code, is_p, is_q, is_r}
+use Rattle.ngc_adapt_moves.specs.Pecks.{further_pecks, leads_to_top, pecks_of}
 use Rattle.ngc_adapt_moves.specs.declared.own_line.OwnLine.TheVariants as own_lines
 use Rattle.ngc_adapt_moves.specs.OwnLines.{end_later, is_of, pause_later, tool_first}
-use Rattle.ngc_adapt_moves.specs.Places.{changes_units, feed_mode_after, modes_after}
+use Rattle.ngc_adapt_moves.specs.Places.{changes_units, feed_mode_after, is_z, modes_after}
 use Rattle.ngc_adapt_moves.specs.Homing.{homing_of, is_part_home}
 use Rattle.ngc_adapt_moves.specs.Arcs.{circle_of, centre_of}
 use Rattle.ngc_adapt_moves.specs.Radii.{balance_of}
@@ -96,12 +100,26 @@ feeding_of places words =
     && (has_feed words && (changes_units places.units words && not (has_unknown words)))
     then feeding_in places.units (feed_mode_after places.feed_mode words) else feedings.Other
 
+abbrev pub is_pecked : Pecks → Bool
+is_pecked (pecks.By pecked) = true
+is_pecked _ = false
+
+-- a line that drills with pecks has no other motion
+abbrev pub is_other : Pecks → Bool
+is_other pecks.Other = true
+is_other _ = false
+
+abbrev pub naming_if : Bool → Naming → Naming
+naming_if holds naming = if holds then naming else namings.Other
+
 -- the result of the rules for a line with these words
 abbrev pub plan_of : Places → List Word → Plan
 plan_of places words =
     record {
       homing = homing_of places words;
-      naming = naming_of places words;
+      naming =
+          naming_if (is_other (pecks_of places (modes_after places words) words))
+          (naming_of places words);
       circle = circle_of places (modes_after places words) words;
       centre = centre_of places (modes_after places words) words;
       has_arc_code = has codes.ARC_DISTANCE words;
@@ -116,6 +134,7 @@ plan_of places words =
           (balance_of places (modes_after places words)
           (centre_of places (modes_after places words) words) words) words;
       local = local_of places words;
+      pecks = pecks_of places (modes_after places words) words;
       tool_first = tool_first words;
       pause_later = pause_later words;
       end_later = end_later words;
@@ -172,7 +191,7 @@ is_changed plan =
     is_homed plan.homing || (is_named plan.naming || (is_circled plan.circle || (is_origin plan
     || (plan.apart || (is_first plan.feeding || (is_moved plan.balance
     || (is_stopped_later plan || (is_one_turn plan.turns || (is_several plan.turns || (is_local plan.local
-    || plan.tool_first))))))))))
+    || (plan.tool_first || is_pecked plan.pecks)))))))))))
 
 abbrev pub rule_if : Bool → Rule → List Rule
 rule_if holds rule = if holds then rule ∷ [] else []
@@ -180,7 +199,7 @@ rule_if holds rule = if holds then rule ∷ [] else []
 -- the rules that change the line
 abbrev pub rules_of : Plan → List Rule
 rules_of plan =
-    ((((((((((rule_if (is_homed plan.homing) rules.PartHome
+    (((((((((((rule_if (is_homed plan.homing) rules.PartHome
     ++ rule_if (is_named plan.naming) rules.MotionAgain)
     ++ rule_if (is_circled plan.circle) rules.FullCircle)
     ++ rule_if (is_origin plan) rules.ArcOrigin) ++ rule_if plan.apart rules.MotionApart)
@@ -190,7 +209,8 @@ rules_of plan =
     ++ rule_if (is_one_turn plan.turns) rules.OneTurn)
     ++ rule_if (is_several plan.turns) rules.SeveralTurns)
     ++ rule_if (is_local plan.local) rules.LocalOffset)
-    ++ rule_if plan.tool_first rules.ToolChangeFirst
+    ++ rule_if plan.tool_first rules.ToolChangeFirst)
+    ++ rule_if (is_pecked plan.pecks) rules.ChipBreaking
 
 abbrev pub homing_refusal : Homing → Option MoveRefusal
 homing_refusal (homings.Left refusal) = Some refusal
@@ -224,6 +244,10 @@ abbrev pub local_refusal : Local → Option MoveRefusal
 local_refusal (locals.Left refusal) = Some refusal
 local_refusal _ = None
 
+abbrev pub pecks_refusal : Pecks → Option MoveRefusal
+pecks_refusal (pecks.Left refusal) = Some refusal
+pecks_refusal _ = None
+
 abbrev pub refusal_if : Option MoveRefusal → List MoveRefusal
 refusal_if (Some refusal) = refusal ∷ []
 refusal_if None = []
@@ -231,10 +255,11 @@ refusal_if None = []
 -- why the line is left, if it is
 abbrev pub refusals_of : Plan → List MoveRefusal
 refusals_of plan =
-    ((((((refusal_if (homing_refusal plan.homing) ++ refusal_if (naming_refusal plan.naming))
+    (((((((refusal_if (homing_refusal plan.homing) ++ refusal_if (naming_refusal plan.naming))
     ++ refusal_if (circle_refusal plan.circle)) ++ refusal_if (centre_refusal plan.centre))
     ++ refusal_if (feeding_refusal plan.feeding)) ++ refusal_if (balance_refusal plan.balance))
-    ++ refusal_if (turns_refusal plan.turns)) ++ refusal_if (local_refusal plan.local)
+    ++ refusal_if (turns_refusal plan.turns)) ++ refusal_if (local_refusal plan.local))
+    ++ refusal_if (pecks_refusal plan.pecks)
 
 -- the code that names the motion again
 abbrev pub naming_text : Naming → Text
@@ -315,6 +340,24 @@ local_change (locals.Left refusal) w = None
 local_change (locals.By place) w =
     if is_code codes.LOCAL_OFFSET w then Some texts.AxisOffset else coordinate_text place w.letter
 
+-- the source's own line goes to R, or to X and Y
+abbrev pub axis_text : Pecked → Axis → Option Text
+axis_text p axis =
+    if is_z axis
+    then (if leads_to_top p then Some (texts.Coordinate axis p.hole.top) else Some texts.Nothing)
+    else (if leads_to_top p then Some texts.Nothing else None)
+
+abbrev pub pecked_text : Pecked → Letter → Option Text
+pecked_text p (letters.Axis axis) = axis_text p axis
+pecked_text p letter = if is_r letter || is_q letter then Some texts.Nothing else None
+
+-- G0 for G73, and neither R nor Q
+abbrev pub pecked_change : Pecks → Word → Option Text
+pecked_change (pecks.By p) w =
+    if is_code codes.CHIP_BREAKING w then Some (texts.Motion motions.Traverse)
+    else pecked_text p w.letter
+pecked_change _ w = None
+
 -- a word that is left out of the source's own line: G90.1 and G91.1, a motion code that takes no axis
 -- words, and a word that is written on a line before or after
 abbrev pub leaves_out : Plan → Word → Bool
@@ -330,7 +373,8 @@ leaves_out plan w =
 abbrev pub change_of : Plan → Word → Option Text
 change_of plan w =
     if leaves_out plan w then Some texts.Nothing
-    else option_or (option_or (turned_change plan.turns w) (local_change plan.local w))
+    else option_or (option_or (option_or (turned_change plan.turns w) (local_change plan.local w))
+    (pecked_change plan.pecks w))
     (homing_change plan.homing plan.balance plan.centre w)
 
 abbrev pub one_if : Bool → ℕ
@@ -349,4 +393,4 @@ homing_lines _ = 1
 abbrev pub line_count : Plan → ℕ
 line_count plan =
     before_count plan + homing_lines plan.homing + further_turns plan.turns
-    + one_if plan.pause_later + one_if plan.end_later
+    + further_pecks plan.pecks + one_if plan.pause_later + one_if plan.end_later

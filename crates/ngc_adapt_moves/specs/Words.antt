@@ -19,6 +19,7 @@ capital b =
     if b == 70 then letters.F else (
     if b == 76 then letters.L else (
     if b == 80 then letters.P else (
+    if b == 81 then letters.Q else (
     if b == 82 then letters.R else (
     if b == 83 then letters.S else (
     if b == 84 then letters.T else (
@@ -29,7 +30,7 @@ capital b =
     if b == 74 then letters.Offset axes.Y else (
     if b == 75 then letters.Offset axes.Z else (
     if (nat_le 65 b && nat_le b 67) || (b == 69 || (nat_le 85 b && nat_le b 87))
-    then letters.OtherAxis else letters.Other))))))))))))))
+    then letters.OtherAxis else letters.Other)))))))))))))))
 
 -- a letter, and what follows it
 abbrev pub read : List ℕ → Item → Option Word

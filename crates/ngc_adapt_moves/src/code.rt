@@ -1,15 +1,22 @@
 //! Codes by what they do, in tenths: 592 is G59.2.
 
+/// G0, a traverse.
 pub const TRAVERSE: [u16; 1] = [0];
 
+/// G1, a straight feed.
 pub const FEED: [u16; 1] = [10];
 
+/// G2, an arc clockwise.
 pub const CLOCKWISE: [u16; 1] = [20];
 
+/// G3, an arc counterclockwise.
 pub const COUNTERCLOCKWISE: [u16; 1] = [30];
 
 /// Canned cycles.
 pub const CYCLES: [u16; 12] = [730, 740, 760, 810, 820, 830, 840, 850, 860, 870, 880, 890];
+
+/// G73, which breaks the chips.
+pub const CHIP_BREAKING: [u16; 1] = [730];
 
 /// The end of a motion mode.
 pub const MOTION_END: [u16; 1] = [800];
@@ -20,18 +27,25 @@ pub const MOTION: [u16; 5] = [0, 10, 20, 30, 800];
 /// The motions of G0 to G3.
 pub const NAMED_MOTION: [u16; 4] = [0, 10, 20, 30];
 
+/// G17, the plane of X and Y.
 pub const PLANE_XY: [u16; 1] = [170];
 
+/// G18, the plane of Z and X.
 pub const PLANE_ZX: [u16; 1] = [180];
 
+/// G19, the plane of Y and Z.
 pub const PLANE_YZ: [u16; 1] = [190];
 
+/// G20, inches.
 pub const INCHES: [u16; 1] = [200];
 
+/// G21, millimetres.
 pub const MILLIMETRES: [u16; 1] = [210];
 
+/// G90, positions from the origin.
 pub const ABSOLUTE: [u16; 1] = [900];
 
+/// G91, positions from the current point.
 pub const INCREMENTAL: [u16; 1] = [910];
 
 /// Offsets of arcs from the origin.
@@ -40,11 +54,13 @@ pub const ARCS_FROM_ORIGIN: [u16; 1] = [901];
 /// Offsets of arcs from the current point.
 pub const ARCS_FROM_POINT: [u16; 1] = [911];
 
-/// The units, the distance mode, and that of arcs.
+/// The units, G20 and G21.
 pub const UNITS: [u16; 2] = [200, 210];
 
+/// The distance mode, G90 and G91.
 pub const DISTANCE: [u16; 2] = [900, 910];
 
+/// The distance mode of arcs, G90.1 and G91.1.
 pub const ARC_DISTANCE: [u16; 2] = [901, 911];
 
 /// Machine coordinates.
@@ -68,14 +84,25 @@ pub const SHARED_OFFSETS: [u16; 4] = [920, 921, 922, 923];
 /// Codes that take the axis words of their line: origins, homing, offsets of the axes.
 pub const TAKING_AXES: [u16; 5] = [100, 280, 300, 520, 920];
 
-/// The feed modes: G93, in which F is the inverse of a motion's time in minutes, and G94, units per
-/// minute.
+/// G93, in which F is the inverse of a motion's time in minutes.
 pub const INVERSE_TIME: [u16; 1] = [930];
 
+/// G94, in which F is in units per minute.
 pub const PER_MINUTE: [u16; 1] = [940];
 
+/// The feed modes, G93 and G94.
 pub const FEED_MODE: [u16; 2] = [930, 940];
 
+/// G98: a cycle clears to the height before its series.
+pub const SERIES_RETRACT: [u16; 1] = [980];
+
+/// G99: a cycle clears to R.
+pub const HOLE_RETRACT: [u16; 1] = [990];
+
+/// The retract mode of cycles.
+pub const RETRACT_MODE: [u16; 2] = [980, 990];
+
+/// G43 and G49, the offset of a tool's length and its end.
 pub const TOOL_LENGTH: [u16; 2] = [430, 490];
 
 /// Codes that change the coordinates of a point: G10, G52, G54 to G59.3, G92.1 to G92.3.

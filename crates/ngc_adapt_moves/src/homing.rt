@@ -91,7 +91,7 @@ fn targets(units: Units, home: [i64; 3], words: &[Word]) -> Place
     }
 }
 
-fn has_target(place: &Place, words: &[Word], axis: Axis) -> bool
+pub(crate) fn has_target(place: &Place, words: &[Word], axis: Axis) -> bool
     ensures { result ≡ spec.has_target place.now words.now axis }
 {
     !names(axis, words) || place.along(axis).is_some()

@@ -7,6 +7,7 @@ use crate::axis::{Axis, Place};
 use crate::homing::Homing;
 use crate::line_words::{has_motion, has_unknown, is_of_place};
 use crate::own_line::{OwnLine, add_own_words};
+use crate::pecks::{add_pecks, drilling_after};
 use crate::places::{Motion, Places};
 use crate::plan::Plan;
 use crate::text::{add_text, add_value, axis_letter};
@@ -225,6 +226,7 @@ pub(crate) fn add_rewritten<A: Allocator>(
         add_main(plan, line, out)?;
         add_after(separator, &plan.homing, may_be_deleted(line), out)?;
         add_turns(separator, slash(may_be_deleted(line)), &plan.turns, out)?;
+        add_pecks(separator, slash(may_be_deleted(line)), &plan.pecks, out)?;
         add_stops(separator, plan, line, out)?;
     } else {
         out.extend_from_slice(line)?;
@@ -248,7 +250,8 @@ fn is_again(places: &Places, plan: &Plan, modes: &Places, words: &[Word], deleta
     } else if plan.homing.is_homed() {
         (deletable && places.motion_again) || !is_traverse(modes.motion)
     } else {
-        plan.apart
+        plan.pecks.is_pecked()
+            || plan.apart
             || (places.motion_again
                 && (deletable || !(has_motion(words) || plan.naming.is_named())))
     }
@@ -267,5 +270,6 @@ pub(crate) fn next_places(
 {
     let mut after = places.after_line(modes, words, deletable);
     after.motion_again = is_again(places, plan, modes, words, deletable);
+    after.drilling = drilling_after(&places.drilling, &plan.pecks, words, deletable);
     after
 }

@@ -27,12 +27,14 @@ fn is_l(letter: Letter) -> bool
     matches!(letter, Letter::L)
 }
 
+/// Returns whether a letter is F.
 pub(crate) fn is_f(letter: Letter) -> bool
     ensures { result ≡ spec.is_f letter }
 {
     matches!(letter, Letter::F)
 }
 
+/// Returns whether a letter is P.
 pub(crate) fn is_p(letter: Letter) -> bool
     ensures { result ≡ spec.is_p letter }
 {
@@ -45,6 +47,7 @@ fn is_other_axis(letter: Letter) -> bool
     matches!(letter, Letter::OtherAxis)
 }
 
+/// Returns whether two axes are the same.
 pub(crate) fn is_same_axis(axis: Axis, other: Axis) -> bool
     ensures { result ≡ spec.is_same_axis axis other }
 {
@@ -55,6 +58,7 @@ pub(crate) fn is_same_axis(axis: Axis, other: Axis) -> bool
     }
 }
 
+/// Returns whether a letter is that of an axis.
 pub(crate) fn is_axis(axis: Axis, letter: Letter) -> bool
     ensures { result ≡ spec.is_axis axis letter }
 {
@@ -79,12 +83,14 @@ fn is_any_offset(letter: Letter) -> bool
     matches!(letter, Letter::Offset(_))
 }
 
-fn is_r(letter: Letter) -> bool
+/// Returns whether a letter is R.
+pub(crate) fn is_r(letter: Letter) -> bool
     ensures { result ≡ spec.is_r letter }
 {
     matches!(letter, Letter::R)
 }
 
+/// Returns whether a letter is S or T.
 pub(crate) fn is_speed_or_tool(letter: Letter) -> bool
     ensures { result ≡ spec.is_speed_or_tool letter }
 {
@@ -149,12 +155,14 @@ fn has_g(words: &[Word]) -> bool
     words.iter().any(|word| is_g(word.letter))
 }
 
+/// Returns whether a line has F.
 pub(crate) fn has_feed(words: &[Word]) -> bool
     ensures { result ≡ spec.has_feed words.now }
 {
     words.iter().any(|word| is_f(word.letter))
 }
 
+/// Returns whether a line has L.
 pub(crate) fn has_repeats(words: &[Word]) -> bool
     ensures { result ≡ spec.has_repeats words.now }
 {
@@ -192,6 +200,7 @@ pub(crate) fn has_all_axes(words: &[Word]) -> bool
     names(Axis::X, words) && names(Axis::Y, words) && names(Axis::Z, words)
 }
 
+/// Returns whether a line has X, Y, Z, I, J or K.
 pub(crate) fn has_place(words: &[Word]) -> bool
     ensures { result ≡ spec.has_place words.now }
 {
@@ -227,6 +236,46 @@ pub(crate) fn p_value(words: &[Word]) -> Option<Value>
     value_in(first_p(words))
 }
 
+/// Returns whether a letter is Q.
+pub(crate) fn is_q(letter: Letter) -> bool
+    ensures { result ≡ spec.is_q letter }
+{
+    matches!(letter, Letter::Q)
+}
+
+/// Returns whether a line has Q.
+pub(crate) fn has_q(words: &[Word]) -> bool
+    ensures { result ≡ spec.has_q words.now }
+{
+    words.iter().any(|word| is_q(word.letter))
+}
+
+fn first_q(words: &[Word]) -> Option<Word>
+    ensures { result ≡ spec.first_q words.now }
+{
+    words.iter().find(|word| is_q(word.letter)).copied()
+}
+
+/// Returns the number of the first Q, if it is known.
+pub(crate) fn q_value(words: &[Word]) -> Option<Value>
+    ensures { result ≡ spec.q_value words.now }
+{
+    value_in(first_q(words))
+}
+
+fn first_r(words: &[Word]) -> Option<Word>
+    ensures { result ≡ spec.first_r words.now }
+{
+    words.iter().find(|word| is_r(word.letter)).copied()
+}
+
+/// Returns the number of the first R, if it is known.
+pub(crate) fn r_value(words: &[Word]) -> Option<Value>
+    ensures { result ≡ spec.r_value words.now }
+{
+    value_in(first_r(words))
+}
+
 // Returns the first word of an axis.
 fn first_along(axis: Axis, words: &[Word]) -> Option<Word>
     ensures { result ≡ spec.first_along axis words.now }
@@ -251,6 +300,7 @@ pub(crate) fn has_offsets(words: &[Word]) -> bool
     words.iter().any(|word| is_any_offset(word.letter))
 }
 
+/// Returns whether a line has R.
 pub(crate) fn has_radius(words: &[Word]) -> bool
     ensures { result ≡ spec.has_radius words.now }
 {

@@ -12,7 +12,7 @@ use crate::line_words::{
 use crate::value::known;
 use crate::word::Word;
 use ngc_adapt::Dialect;
-use ngc_fixed_length::{Distance, FeedMode, Plane, Units, Value};
+use ngc_fixed_length::{Distance, FeedMode, Plane, RetractMode, Units, Value};
 
 /// The motion mode in force.
 #[derive(Clone, Copy, PartialEq, Eq)]
@@ -50,6 +50,44 @@ pub struct Homes {
     pub home30: [i64; 3],
 }
 
+/// The heights of a hole that G73 drills.
+#[derive(Clone, Copy)]
+pub struct Hole {
+    /// The height before its series of cycles.
+    pub series: Value,
+    /// R: from here on it pecks.
+    pub top: Value,
+    /// Z: the bottom.
+    pub bottom: Value,
+    /// Q: the depth of a peck.
+    pub step: Value,
+}
+
+/// The hole that a line with X and Y alone repeats.
+#[derive(Clone, Copy)]
+pub enum Drilling {
+    /// G73 isn't in force.
+    Off,
+    /// It may be in force, but its words or the height aren't known.
+    Lost,
+    /// This hole, after which the tool is at this height.
+    On(Hole, Value),
+}
+
+impl Drilling {
+    ghost use Rattle.ngc_adapt_moves.specs.Places.{drilling_lost};
+
+    /// Returns the hole after a line of which nothing is known.
+    pub(crate) fn lost(&self) -> Drilling
+        ensures { result ≡ drilling_lost self.now }
+    {
+        match self {
+            Drilling::Off => Drilling::Off,
+            Drilling::Lost | Drilling::On(_, _) => Drilling::Lost,
+        }
+    }
+}
+
 /// The state after the previous lines, as far as the rules use it. A mode that isn't known is
 /// `None`.
 #[derive(Clone, Copy)]
@@ -67,9 +105,25 @@ pub struct Places {
     pub place: Place,
     /// The local offset of G52, on each axis.
     pub local: Place,
+    /// The retract mode of cycles.
+    pub retract: Option<RetractMode>,
+    /// The hole that the next lines repeat.
+    pub drilling: Drilling,
     /// Whether the rewritten program leaves another motion mode than the source, so that the next
     /// line that moves must name its own.
     pub motion_again: bool,
+}
+
+fn retract_after(before: Option<RetractMode>, words: &[Word]) -> Option<RetractMode>
+    ensures { result ≡ spec.retract_after before words.now }
+{
+    if has(&code::SERIES_RETRACT, words) {
+        Some(RetractMode::Series)
+    } else if has(&code::HOLE_RETRACT, words) {
+        Some(RetractMode::Retract)
+    } else {
+        before
+    }
 }
 
 fn nowhere() -> Place
@@ -193,8 +247,8 @@ pub(crate) fn changes_units(units: Option<Units>, words: &[Word]) -> bool
         || (has(&code::MILLIMETRES, words) && !are_millimetres(units))
 }
 
-// Returns whether a line changes the coordinates of a point, or may move the tool elsewhere.
-fn loses_place(units: Option<Units>, words: &[Word]) -> bool
+/// Returns whether a line changes the coordinates of a point, or may move the tool elsewhere.
+pub(crate) fn loses_place(units: Option<Units>, words: &[Word]) -> bool
     ensures { result ≡ spec.loses_place units words.now }
 {
     changes_units(units, words)
@@ -435,6 +489,8 @@ impl Places {
             feed_mode: Some(FeedMode::PerMinute),
             place: nowhere(),
             local: no_offset(),
+            retract: Some(RetractMode::Series),
+            drilling: Drilling::Off,
             motion_again: false,
         }
     }
@@ -454,6 +510,8 @@ impl Places {
             feed_mode: None,
             place: nowhere(),
             local: nowhere(),
+            retract: None,
+            drilling: self.drilling.lost(),
             motion_again: self.motion_again,
         }
     }
@@ -473,6 +531,8 @@ impl Places {
             feed_mode: feed_mode_after(self.feed_mode, words),
             place: self.place,
             local: self.local_after(words),
+            retract: retract_after(self.retract, words),
+            drilling: self.drilling,
             motion_again: self.motion_again,
         }
     }
@@ -540,6 +600,12 @@ impl Places {
             },
             place: self.place_either(words),
             local: self.local_either(words),
+            retract: if has(&code::RETRACT_MODE, words) {
+                None
+            } else {
+                self.retract
+            },
+            drilling: self.drilling,
             motion_again: self.motion_again,
         }
     }

@@ -8,10 +8,11 @@ use crate::axis::{Axis, Place};
 use crate::code;
 use crate::homing::{Homing, homing_of, is_part_home};
 use crate::line_words::{
-    has, has_axes, has_feed, has_motion, has_place, has_unknown, is_axis, is_code, is_p,
+    has, has_axes, has_feed, has_motion, has_place, has_unknown, is_axis, is_code, is_p, is_q, is_r,
 };
 use crate::local::{Local, local_of};
 use crate::own_line::{OwnLine, end_later, pause_later, tool_first};
+use crate::pecks::{Pecked, Pecks, pecks_of};
 use crate::places::{Motion, Places, changes_units, feed_mode_after};
 use crate::radii::{Balance, balance_of};
 use crate::rule::{MoveRefusal, Rule};
@@ -23,7 +24,7 @@ use ngc_adapt::Dialect;
 use ngc_fixed_length::{FeedMode, Units, Value};
 
 /// The greatest number of rules that change a line, and of those for which it is left.
-pub const MOST_RULES: usize = 12;
+pub const MOST_RULES: usize = 13;
 
 /// The result for a line that may have to name its motion.
 #[derive(Clone, Copy)]
@@ -62,6 +63,7 @@ pub struct Plan {
     pub balance: Balance,
     pub turns: Turns,
     pub local: Local,
+    pub pecks: Pecks,
     /// Whether S, T and M6 are written on a line before.
     pub tool_first: bool,
     /// Whether M0, M1 or M60 is written on a line after.
@@ -145,6 +147,12 @@ fn is_linuxcnc(dialect: Dialect) -> bool
     matches!(dialect, Dialect::LinuxCnc)
 }
 
+fn naming_if(holds: bool, naming: Naming) -> Naming
+    ensures { result ≡ spec.naming_if holds naming }
+{
+    if holds { naming } else { Naming::Other }
+}
+
 /// Returns the result of the rules for a line with these words, which leave these modes.
 pub(crate) fn plan_of(places: &Places, after: &Places, words: &[Word]) -> Plan
     requires { after.now ≡ modes_after places.now words.now }
@@ -152,9 +160,10 @@ pub(crate) fn plan_of(places: &Places, after: &Places, words: &[Word]) -> Plan
 {
     let centre = centre_of(places, after, words);
     let balance = balance_of(places, after, &centre, words);
+    let pecks = pecks_of(places, after, words);
     Plan {
         homing: homing_of(places, words),
-        naming: naming_of(places, words),
+        naming: naming_if(pecks.is_other(), naming_of(places, words)),
         circle: circle_of(places, after, words),
         centre,
         has_arc_code: has(&code::ARC_DISTANCE, words),
@@ -163,6 +172,7 @@ pub(crate) fn plan_of(places: &Places, after: &Places, words: &[Word]) -> Plan
         balance,
         turns: turns_of(places, after, &centre, &balance, words),
         local: local_of(places, words),
+        pecks,
         tool_first: tool_first(words),
         pause_later: pause_later(words),
         end_later: end_later(words),
@@ -171,7 +181,7 @@ pub(crate) fn plan_of(places: &Places, after: &Places, words: &[Word]) -> Plan
 
 // Adds a rule if it applies.
 fn add_rule(holds: bool, rule: Rule, rules: &mut ArrayVec<Rule, MOST_RULES>)
-    requires { length rules.old.items ≤ 11 }
+    requires { length rules.old.items ≤ 12 }
     ensures items { rules.new.items ≡ rules.old.items ++ spec.rule_if holds rule }
     ensures few { length rules.new.items ≤ length rules.old.items + 1 }
 {
@@ -211,12 +221,14 @@ impl Homing {
         }
     }
 
+    /// Returns whether single axes go home.
     pub(crate) fn is_homed(&self) -> bool
         ensures { result ≡ is_homed self.now }
     {
         matches!(self, Homing::Direct(_) | Homing::Between(_))
     }
 
+    /// Returns why the line is left, if it is.
     pub(crate) fn refusal(&self) -> Option<MoveRefusal>
         ensures { result ≡ homing_refusal self.now }
     {
@@ -230,12 +242,14 @@ impl Homing {
 impl Naming {
     ghost use Rattle.ngc_adapt_moves.specs.Plans.{is_named, naming_refusal, naming_text};
 
+    /// Returns whether a motion is named again.
     pub(crate) fn is_named(&self) -> bool
         ensures { result ≡ is_named self.now }
     {
         matches!(self, Naming::By(_))
     }
 
+    /// Returns why the line is left, if it is.
     pub(crate) fn refusal(&self) -> Option<MoveRefusal>
         ensures { result ≡ naming_refusal self.now }
     {
@@ -259,12 +273,14 @@ impl Naming {
 impl Circle {
     ghost use Rattle.ngc_adapt_moves.specs.Plans.{is_circled, circle_refusal, circle_text};
 
+    /// Returns whether a full circle gets an axis word.
     pub(crate) fn is_circled(&self) -> bool
         ensures { result ≡ is_circled self.now }
     {
         matches!(self, Circle::From(_, _))
     }
 
+    /// Returns why the line is left, if it is.
     pub(crate) fn refusal(&self) -> Option<MoveRefusal>
         ensures { result ≡ circle_refusal self.now }
     {
@@ -288,12 +304,14 @@ impl Circle {
 impl Centre {
     ghost use Rattle.ngc_adapt_moves.specs.Plans.{is_centred, centre_refusal};
 
+    /// Returns whether offsets from the origin are changed.
     pub(crate) fn is_centred(&self) -> bool
         ensures { result ≡ is_centred self.now }
     {
         matches!(self, Centre::By(_))
     }
 
+    /// Returns why the line is left, if it is.
     pub(crate) fn refusal(&self) -> Option<MoveRefusal>
         ensures { result ≡ centre_refusal self.now }
     {
@@ -307,12 +325,14 @@ impl Centre {
 impl Feeding {
     ghost use Rattle.ngc_adapt_moves.specs.Plans.{is_first, feeding_refusal};
 
+    /// Returns whether F is written on a line before.
     pub(crate) fn is_first(&self) -> bool
         ensures { result ≡ is_first self.now }
     {
         matches!(self, Feeding::First)
     }
 
+    /// Returns why the line is left, if it is.
     pub(crate) fn refusal(&self) -> Option<MoveRefusal>
         ensures { result ≡ feeding_refusal self.now }
     {
@@ -326,12 +346,14 @@ impl Feeding {
 impl Balance {
     ghost use Rattle.ngc_adapt_moves.specs.Plans.{is_moved, balance_refusal, added_text};
 
+    /// Returns whether the centre of an arc is moved.
     pub(crate) fn is_moved(&self) -> bool
         ensures { result ≡ is_moved self.now }
     {
         matches!(self, Balance::Moved(_))
     }
 
+    /// Returns why the line is left, if it is.
     pub(crate) fn refusal(&self) -> Option<MoveRefusal>
         ensures { result ≡ balance_refusal self.now }
     {
@@ -355,12 +377,14 @@ impl Balance {
 impl Local {
     ghost use Rattle.ngc_adapt_moves.specs.Plans.{is_local, local_refusal, local_change};
 
+    /// Returns whether a local offset is written with G92.
     pub(crate) fn is_local(&self) -> bool
         ensures { result ≡ is_local self.now }
     {
         matches!(self, Local::By(_))
     }
 
+    /// Returns why the line is left, if it is.
     pub(crate) fn refusal(&self) -> Option<MoveRefusal>
         ensures { result ≡ local_refusal self.now }
     {
@@ -387,23 +411,109 @@ impl Local {
     }
 }
 
+impl Pecks {
+    ghost use Rattle.ngc_adapt_moves.specs.Pecks.{further_pecks};
+    ghost use Rattle.ngc_adapt_moves.specs.Plans.{is_other, is_pecked, pecks_refusal, pecked_change};
+
+    // Returns whether the line doesn't drill with pecks.
+    fn is_other(&self) -> bool
+        ensures { result ≡ is_other self.now }
+    {
+        matches!(self, Pecks::Other)
+    }
+
+    /// Returns whether the moves of a hole are written.
+    pub(crate) fn is_pecked(&self) -> bool
+        ensures { result ≡ is_pecked self.now }
+    {
+        matches!(self, Pecks::By(_))
+    }
+
+    /// Returns why the line is left, if it is.
+    pub(crate) fn refusal(&self) -> Option<MoveRefusal>
+        ensures { result ≡ pecks_refusal self.now }
+    {
+        match self {
+            Pecks::Left(refusal) => Some(*refusal),
+            Pecks::Other | Pecks::By(_) => None,
+        }
+    }
+
+    // Returns how many lines follow the source's own.
+    fn further_count(&self) -> usize
+        ensures value { result ≡ further_pecks self.now }
+        ensures few { result ≤ 131072 }
+    {
+        match self {
+            Pecks::By(pecked) => pecked.further_count(),
+            Pecks::Other | Pecks::Left(_) => 0,
+        }
+    }
+
+    // Returns what is written in place of a word of a hole.
+    fn change_of(&self, word: &Word) -> Option<Text>
+        ensures { result ≡ pecked_change self.now word.now }
+    {
+        match self {
+            Pecks::Other | Pecks::Left(_) => None,
+            Pecks::By(pecked) => {
+                if is_code(&code::CHIP_BREAKING, word) {
+                    Some(Text::Motion(Motion::Traverse))
+                } else {
+                    pecked_text(pecked, word.letter)
+                }
+            }
+        }
+    }
+}
+
+// Returns the change of a letter of a hole.
+fn pecked_text(pecked: &Pecked, letter: Letter) -> Option<Text>
+    ensures { result ≡ spec.pecked_text pecked.now letter }
+{
+    match letter {
+        Letter::Axis(axis) => axis_text(pecked, axis),
+        _ => {
+            if is_r(letter) || is_q(letter) {
+                Some(Text::Nothing)
+            } else {
+                None
+            }
+        }
+    }
+}
+
+// Returns the change of an axis word of a hole.
+fn axis_text(pecked: &Pecked, axis: Axis) -> Option<Text>
+    ensures { result ≡ spec.axis_text pecked.now axis }
+{
+    match (axis, pecked.leads_to_top()) {
+        (Axis::Z, true) => Some(Text::Coordinate(axis, pecked.hole.top)),
+        (Axis::Z, false) | (Axis::X | Axis::Y, true) => Some(Text::Nothing),
+        (Axis::X | Axis::Y, false) => None,
+    }
+}
+
 impl Turns {
     ghost use Rattle.ngc_adapt_moves.specs.Plans.{is_one_turn, is_several, turns_refusal};
     ghost use Rattle.ngc_adapt_moves.specs.Plans.{turned_change};
     ghost use Rattle.ngc_adapt_moves.specs.Turns.{further_turns};
 
+    /// Returns whether P is left out of an arc of one turn.
     pub(crate) fn is_one(&self) -> bool
         ensures { result ≡ is_one_turn self.now }
     {
         matches!(self, Turns::One)
     }
 
+    /// Returns whether each turn of an arc gets a line.
     pub(crate) fn is_several(&self) -> bool
         ensures { result ≡ is_several self.now }
     {
         matches!(self, Turns::Several(_))
     }
 
+    /// Returns why the line is left, if it is.
     pub(crate) fn refusal(&self) -> Option<MoveRefusal>
         ensures { result ≡ turns_refusal self.now }
     {
@@ -569,6 +679,7 @@ impl Plan {
             || self.turns.is_several()
             || self.local.is_local()
             || self.tool_first
+            || self.pecks.is_pecked()
     }
 
     /// Returns the rules that change the line.
@@ -588,6 +699,7 @@ impl Plan {
         add_rule(self.turns.is_several(), Rule::SeveralTurns, &mut rules);
         add_rule(self.local.is_local(), Rule::LocalOffset, &mut rules);
         add_rule(self.tool_first, Rule::ToolChangeFirst, &mut rules);
+        add_rule(self.pecks.is_pecked(), Rule::ChipBreaking, &mut rules);
         rules
     }
 
@@ -604,6 +716,7 @@ impl Plan {
         add_refusal(self.balance.refusal(), &mut refusals);
         add_refusal(self.turns.refusal(), &mut refusals);
         add_refusal(self.local.refusal(), &mut refusals);
+        add_refusal(self.pecks.refusal(), &mut refusals);
         refusals
     }
 
@@ -641,6 +754,7 @@ impl Plan {
         self.turns
             .change_of(word)
             .or(self.local.change_of(word))
+            .or(self.pecks.change_of(word))
             .or(self.homing_change(word))
     }
 
@@ -659,6 +773,7 @@ impl Plan {
         self.before_count()
             + self.homing.line_count()
             + self.turns.further_count()
+            + self.pecks.further_count()
             + one_if(self.pause_later)
             + one_if(self.end_later)
     }

@@ -237,6 +237,15 @@ fn add_further_changes<A: Allocator>(
         line,
         report,
     )?;
+    add_change_if(
+        plan.pecks.is_pecked(),
+        number,
+        written_number,
+        Rule::ChipBreaking,
+        plan,
+        line,
+        report,
+    )?;
     Ok(())
 }
 
@@ -357,6 +366,7 @@ fn add_further_refusals<A: Allocator>(
     add_refusal_if(number, plan.balance.refusal(), report)?;
     add_refusal_if(number, plan.turns.refusal(), report)?;
     add_refusal_if(number, plan.local.refusal(), report)?;
+    add_refusal_if(number, plan.pecks.refusal(), report)?;
     Ok(())
 }
 

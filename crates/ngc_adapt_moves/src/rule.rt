@@ -30,6 +30,8 @@ pub enum Rule {
     LocalOffset,
     /// S, T and M6 of a line with five M words, on a line before.
     ToolChangeFirst,
+    /// G73, which breaks the chips, written as its moves.
+    ChipBreaking,
 }
 
 impl Default for Rule {
@@ -60,6 +62,7 @@ impl Rule {
             Rule::SeveralTurns => "several_turns",
             Rule::LocalOffset => "local_offset",
             Rule::ToolChangeFirst => "tool_change_first",
+            Rule::ChipBreaking => "chip_breaking",
         }
     }
 
@@ -78,7 +81,8 @@ impl Rule {
             | Rule::StopLater
             | Rule::OneTurn
             | Rule::LocalOffset
-            | Rule::ToolChangeFirst => "exact",
+            | Rule::ToolChangeFirst
+            | Rule::ChipBreaking => "exact",
             Rule::MovedCentre | Rule::SeveralTurns => "bound",
         }
     }
@@ -115,6 +119,8 @@ pub enum MoveRefusal {
     TurnsNotKnown,
     /// G52 where the coordinates under its offset aren't known.
     LocalNotKnown,
+    /// A hole of G73 whose moves aren't known.
+    PecksNotKnown,
 }
 
 impl Default for MoveRefusal {
@@ -147,6 +153,7 @@ impl MoveRefusal {
             MoveRefusal::RadiiDiffer => "moved_centre",
             MoveRefusal::TurnsNotKnown => "several_turns",
             MoveRefusal::LocalNotKnown => "local_offset",
+            MoveRefusal::PecksNotKnown => "chip_breaking",
         }
     }
 
@@ -193,6 +200,9 @@ impl MoveRefusal {
             }
             MoveRefusal::LocalNotKnown => {
                 "G52 needs G90, a known position, no G92 before it and no other code that takes its words: set an origin by G10 L2"
+            }
+            MoveRefusal::PecksNotKnown => {
+                "G73 needs G17, G90, G94, a known height, Z, R and Q, and G80 before another cycle: write its moves"
             }
         }
     }

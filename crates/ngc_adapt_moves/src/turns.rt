@@ -88,13 +88,15 @@ fn is_point(distance: Option<ArcDistance>) -> bool
     matches!(distance, Some(ArcDistance::Point))
 }
 
+/// Returns whether G90 is in force.
 pub(crate) fn is_absolute(distance: Option<Distance>) -> bool
     ensures { result ≡ spec.is_absolute distance }
 {
     matches!(distance, Some(Distance::Absolute))
 }
 
-fn is_per_minute(feed_mode: Option<FeedMode>) -> bool
+/// Returns whether G94 is in force.
+pub(crate) fn is_per_minute(feed_mode: Option<FeedMode>) -> bool
     ensures { result ≡ spec.is_per_minute feed_mode }
 {
     matches!(feed_mode, Some(FeedMode::PerMinute))
@@ -404,7 +406,8 @@ impl Turning {
     }
 }
 
-fn coordinate_word(axis: Axis, value: Option<Value>) -> Text
+/// Returns the word of an axis, if its value is known.
+pub(crate) fn coordinate_word(axis: Axis, value: Option<Value>) -> Text
     ensures { result ≡ spec.coordinate_word axis value }
 {
     match value {
@@ -413,7 +416,11 @@ fn coordinate_word(axis: Axis, value: Option<Value>) -> Text
     }
 }
 
-fn add_coordinates<A: Allocator>(place: &Place, out: &mut Vec<u8, A>) -> Result<(), AllocError>
+/// Adds the axis words of a place.
+pub(crate) fn add_coordinates<A: Allocator>(
+    place: &Place,
+    out: &mut Vec<u8, A>,
+) -> Result<(), AllocError>
     ensures { IfOk result (λ _. out.new.items ≡ out.old.items ++ spec.coordinates place.now) }
 {
     add_text(coordinate_word(Axis::X, place.x), out)?;

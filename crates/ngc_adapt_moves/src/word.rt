@@ -22,6 +22,8 @@ pub enum Letter {
     L,
     /// A dwell, or the number of turns of an arc.
     P,
+    /// The depth of a peck.
+    Q,
     /// A radius, or the height to which a cycle goes back.
     R,
     /// A speed of the spindle.
@@ -68,6 +70,7 @@ fn capital(byte: u8) -> Letter
         b'F' => Letter::F,
         b'L' => Letter::L,
         b'P' => Letter::P,
+        b'Q' => Letter::Q,
         b'R' => Letter::R,
         b'S' => Letter::S,
         b'T' => Letter::T,

@@ -6,6 +6,7 @@ use Rattle.ngc_adapt.specs.Items.{items_of}
 use Rattle.ngc_adapt.specs.Sources.{lines_of}
 use Rattle.ngc_adapt.proofs.ItemLaws.{nothing}
 use Rattle.ngc_adapt.proofs.SourceLaws.{no_lines}
+use Rattle.ngc_adapt_program.specs.Programs.{opens_text}
 
 pub folded_items : (f : List ℕ → List ℕ → List ℕ) (tools rest : List ℕ) → length rest ≡ 0 → fold f tools (items_of rest) ≡ tools
 folded_items f tools rest h = ap (λ (xs : List (List ℕ)). fold f tools xs) (nothing rest h)
@@ -15,6 +16,9 @@ folded_lines f tools rest h = ap (λ (xs : List (List ℕ)). fold f tools xs) (n
 
 pub none_of_lines : (p : List ℕ → Bool) (rest : List ℕ) → length rest ≡ 0 → list_any p (lines_of rest) ≡ false
 none_of_lines p rest h = ap (λ (xs : List (List ℕ)). list_any p xs) (no_lines rest h)
+
+pub none_opened : (rest : List ℕ) → length rest ≡ 0 → opens_text (lines_of rest) ≡ false
+none_opened rest h = ap opens_text (no_lines rest h)
 
 pub none_mapped : (f : List ℕ → List ℕ) (rest : List ℕ) → length rest ≡ 0 → flat_map f (lines_of rest) ≡ []
 none_mapped f rest h = ap (flat_map f) (no_lines rest h)

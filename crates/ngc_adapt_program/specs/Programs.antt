@@ -1,8 +1,9 @@
 -- The rewritten text of a whole program for another control: its lines in order, each by the state
 -- after the previous lines. A line that mounts a tool and a line that ends the program are added
--- where they are needed. Lines after the end are copied. Our own.
+-- where they are needed. Of the lines after the end, those that our language can read are copied. Our
+-- own.
 use Rattle.std.specs.Prelude.{ℕ, ◌+◌, ◌==◌, ◌&&◌, ◌||◌, not, nat_lt, Bool, true, false, List, [], ◌∷◌, ◌++◌}
-use Rattle.std.specs.Prelude.{length, map, codes, decimal, count_by, Option, Some, None, if◌then◌else◌}
+use Rattle.std.specs.Prelude.{find, length, map, codes, decimal, count_by, Option, Some, None, if◌then◌else◌}
 use Rattle.std.specs.List.{list_all, list_any, flat_map}
 use Rattle.ngc_adapt.specs.declared.item.Word.{Word}
 use Rattle.ngc_adapt.specs.declared.item.Letter.{Letter}
@@ -16,7 +17,7 @@ use Rattle.ngc_adapt.specs.Items.{words_of}
 use Rattle.ngc_adapt.specs.Lines.{written, rules_of, next_modes, is_end, refusals_of}
 use Rattle.ngc_adapt.specs.Numbers.{is_blank, byte_count}
 use Rattle.ngc_adapt.specs.Changes.{change_at}
-use Rattle.ngc_adapt.specs.Plain.{is_idle, levels_of, plain_line as plain_body, plain_rules}
+use Rattle.ngc_adapt.specs.Plain.{is_idle, is_plain, levels_of, plain_line as plain_body, plain_rules}
 use Rattle.ngc_adapt.specs.Openings.{after_percent, has_number_alone, is_homing_line}
 use Rattle.ngc_adapt.specs.Reports.{line_report, plain_report, left_out_report, counts_text}
 use Rattle.ngc_adapt.specs.Rules.{start_modes, is_unnamed}
@@ -72,6 +73,55 @@ is_blank_or_percent b = is_blank b || b == 37
 abbrev pub is_percent_line : List ℕ → Bool
 is_percent_line body = (byte_count 37 body == 1) && list_all is_blank_or_percent body
 
+abbrev pub is_ink : ℕ → Bool
+is_ink b = not (is_blank b)
+
+abbrev pub is_percent : Option ℕ → Bool
+is_percent (Some b) = b == 37
+is_percent None = false
+
+-- the first byte of a line that isn't blank
+abbrev pub first_ink : List ℕ → Option ℕ
+first_ink body = find is_ink body
+
+-- a line whose first byte that isn't blank is a percent sign
+abbrev pub begins_percent : List ℕ → Bool
+begins_percent body = is_percent (first_ink body)
+
+-- only blanks and comments are in front of the first percent sign
+abbrev pub opens_text : List (List ℕ) → Bool
+opens_text [] = false
+opens_text (line ∷ rest) =
+    if is_idle (body_of line) then opens_text rest else begins_percent (body_of line)
+
+-- ---- lines that our language can't read
+
+-- letters that begin no word of our language
+abbrev pub is_foreign_letter : Letter → Bool
+is_foreign_letter letters.E = true
+is_foreign_letter letters.O = true
+is_foreign_letter letters.U = true
+is_foreign_letter letters.V = true
+is_foreign_letter letters.W = true
+is_foreign_letter _ = false
+
+abbrev pub is_line_number : Letter → Bool
+is_line_number letters.N = true
+is_line_number _ = false
+
+-- a word with one of these letters, or a line number that is too long
+abbrev pub is_foreign : Word → Bool
+is_foreign w = is_foreign_letter w.letter || (is_line_number w.letter && w.number.is_long)
+
+abbrev pub has_foreign : Option (List Word) → Bool
+has_foreign None = true
+has_foreign (Some words) = list_any is_foreign words
+
+-- a line that is too long, that isn't plain, or that has such a word or something else than words
+abbrev pub is_foreign_line : Levels → List ℕ → Bool
+is_foreign_line levels body =
+    nat_lt 256 (length body) || (not (is_plain levels body) || has_foreign (words_of body))
+
 -- ---- lines whose words can be read
 
 -- a line that is plain, with its line feed
@@ -103,6 +153,7 @@ start request text plain =
       levels = levels_of text;
       is_long = is_long text;
       begun = false;
+      before_percent = opens_text (lines_of plain);
       marked = false;
       closed = false;
       ended = false;
@@ -145,6 +196,7 @@ after_body p body lacks_feed =
       levels = p.levels;
       is_long = p.is_long;
       begun = p.begun || not (list_all is_blank body);
+      before_percent = p.before_percent && list_all is_blank body;
       marked = p.marked || (is_percent_line body && not p.begun);
       closed = p.closed || (is_percent_line body && p.begun);
       ended = ends_text p body;
@@ -161,6 +213,7 @@ after_ended p body lacks_feed =
       levels = p.levels;
       is_long = p.is_long;
       begun = p.begun;
+      before_percent = p.before_percent;
       marked = p.marked;
       closed = p.closed || is_percent_line body;
       ended = true;
@@ -187,9 +240,21 @@ homes p body = not p.ended && (is_unnamed p.modes.motion && is_homing_line body)
 abbrev pub is_left_idle : Progress → List ℕ → Bool
 is_left_idle p body = p.is_long && (not p.ended && is_idle body)
 
+-- a comment in front of the percent sign that begins the text
+abbrev pub is_before_percent : Progress → List ℕ → Bool
+is_before_percent p body =
+    p.before_percent && (not (list_all is_blank body) && not (begins_percent body))
+
+-- a line after the end that our language can't read. What follows the percent sign that closes the
+-- text isn't read at all.
+abbrev pub is_after_end : Progress → List ℕ → Bool
+is_after_end p body =
+    p.ended && (not p.closed && (not (is_percent_line body) && is_foreign_line p.levels body))
+
 -- a line that isn't written
 abbrev pub leaves_out : Progress → List ℕ → Bool
-leaves_out p body = homes p body || is_left_idle p body
+leaves_out p body =
+    homes p body || (is_left_idle p body || (is_before_percent p body || is_after_end p body))
 
 -- the rule by which it isn't
 abbrev pub left_out_rule : Progress → List ℕ → Rule
@@ -212,6 +277,7 @@ after_opening p =
       levels = p.levels;
       is_long = p.is_long;
       begun = true;
+      before_percent = p.before_percent;
       marked = true;
       closed = p.closed;
       ended = p.ended;
@@ -360,10 +426,20 @@ abbrev pub opening_report : ℕ → ℕ → Progress → List ℕ → List ℕ
 opening_report number before p line =
     if opens_number p (body_of line) then opening_change number (before + 1) (body_of line) else []
 
+-- line N (M): after_end exact: WAS -> nothing
+unfoldable pub after_end_report : ℕ → ℕ → List ℕ → List ℕ
+after_end_report number line body =
+    place_text number line ++ (codes "after_end exact: " ++ (body ++ codes " -> nothing\n"))
+
+-- the report of a line that is left out
+abbrev pub left_report : ℕ → ℕ → Progress → List ℕ → List ℕ
+left_report number line p body =
+    if is_after_end p body then after_end_report number line body
+    else left_out_report number line (left_out_rule p body) body
+
 unfoldable pub source_report : ℕ → ℕ → Progress → List ℕ → List ℕ
 source_report number before p line =
-    if leaves_out p (body_of line)
-    then left_out_report number (before + 1) (left_out_rule p (body_of line)) (body_of line)
+    if leaves_out p (body_of line) then left_report number (before + 1) p (body_of line)
     else opening_report number before p line
     ++ read_report number (before + feeds (opening_text p line)) (opened p line) (line_of p line)
 
@@ -402,10 +478,15 @@ unfoldable pub read_changes : ℕ → ℕ → Progress → List ℕ → List Cha
 read_changes number before p line =
     parts_changes number before p (body_of line) (read_line p line)
 
+-- the change of a line that is left out, if it is counted
+abbrev pub left_changes : ℕ → ℕ → Progress → List ℕ → List Change
+left_changes number line p body =
+    if is_after_end p body then []
+    else map (change_at number line) (left_out_rule p body ∷ [])
+
 unfoldable pub source_changes : ℕ → ℕ → Progress → List ℕ → List Change
 source_changes number before p line =
-    if leaves_out p (body_of line)
-    then map (change_at number (before + 1)) (left_out_rule p (body_of line) ∷ [])
+    if leaves_out p (body_of line) then left_changes number (before + 1) p (body_of line)
     else read_changes number (before + feeds (opening_text p line)) (opened p line) (line_of p line)
 
 abbrev pub lines_changes : ℕ → ℕ → Progress → List (List ℕ) → List Change

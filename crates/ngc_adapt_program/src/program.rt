@@ -1,6 +1,6 @@
 ghost use Rattle.std.specs.Prelude.{◌≡◌, ◌+◌, ◌≤◌, ◌++◌, ◌||◌, [], length, map, IfOk, true, false};
 ghost use Rattle.std.specs.Prelude.{nat_lt, ◌<◌, ◌^◌, ◌∷◌, drop, if◌then◌else◌, codes};
-ghost use Rattle.std.specs.List.{list_all, flat_map};
+ghost use Rattle.std.specs.List.{list_all, list_any, flat_map};
 ghost use Rattle.ngc_adapt.specs.Numbers.{is_blank as blank};
 ghost use Rattle.ngc_adapt.specs.Sources.{body_of, ends, lines_of};
 ghost use Rattle.ngc_adapt.specs.Lines.{written, rules_of, next_modes, is_end, refusals_of};
@@ -18,16 +18,19 @@ use crate::tools::{add_tools_report, tools_named};
 use arrayvec::ArrayVec;
 use itoa::Buffer;
 use ngc_adapt::{
-    Change, Facts, Levels, MOST_WORDS, Modes, Rule, Word, adapt_line, add_counts,
+    Change, Facts, Letter, Levels, MOST_WORDS, Modes, Rule, Word, adapt_line, add_counts,
     add_left_out_report, add_plain_line, add_plain_report, after_percent, body_length, byte_count,
-    has_number_alone, is_blank, is_homing_line, is_idle, is_plain, plain_rules, split_line,
-    text_of,
+    has_number_alone, is_blank, is_homing_line, is_idle, is_plain, plain_rules, read_words,
+    split_line, text_of,
 };
 use ngc_adapt_moves::{Places, rewrite_line};
 use std::alloc::{AllocError, Allocator};
 
 // The greatest number of lines of a program in our language.
 const MOST_LINES: usize = 100_000;
+
+// The greatest length of a line in our language.
+const LONGEST_LINE: usize = 256;
 
 /// The state after the previous lines.
 #[derive(Clone, Copy)]
@@ -42,6 +45,8 @@ pub struct Progress {
     pub is_long: bool,
     /// Whether one of the previous lines isn't blank.
     pub begun: bool,
+    /// Whether the next line that isn't blank or a comment is the percent sign that begins the text.
+    pub before_percent: bool,
     /// Whether the first line that isn't blank is a percent sign.
     pub marked: bool,
     /// Whether another percent sign followed.
@@ -130,6 +135,77 @@ fn is_long(text: &[u8]) -> bool
     feeds(text).saturating_add(unended) > MOST_LINES
 }
 
+fn is_ink(byte: u8) -> bool
+    ensures { result ≡ spec.is_ink byte }
+{
+    !is_blank(byte)
+}
+
+// Returns the first byte of a line that isn't blank.
+fn first_ink(body: &[u8]) -> Option<u8>
+    ensures { result ≡ spec.first_ink body.now }
+{
+    body.iter().find(|b| is_ink(**b)).copied()
+}
+
+// Returns whether the first byte of a line that isn't blank is a percent sign.
+fn begins_percent(body: &[u8]) -> bool
+    ensures { result ≡ spec.begins_percent body.now }
+{
+    match first_ink(body) {
+        Some(byte) => byte == b'%',
+        None => false,
+    }
+}
+
+// Returns whether only blanks and comments are in front of the first percent sign of a text.
+fn opens_text(text: &[u8]) -> bool
+    ensures { result ≡ spec.opens_text (lines_of text.now) }
+{
+    let mut rest = text;
+    while !rest.is_empty() {
+        let (line, others) = split_line(rest);
+        let body = line.split_at(body_length(line)).0;
+        if !is_idle(body) {
+            return begins_percent(body);
+        }
+        rest = others;
+    }
+    false
+}
+
+// Returns whether our language can't read a word: it has no such letter, or the line number is too
+// long.
+fn is_foreign(word: &Word) -> bool
+    ensures { result ≡ spec.is_foreign word.now }
+{
+    match word.letter {
+        Letter::E | Letter::O | Letter::U | Letter::V | Letter::W => true,
+        Letter::N => word.number.is_long,
+        _ => false,
+    }
+}
+
+// Returns whether our language can't read one of the words.
+fn has_foreign(words: &[Word]) -> bool
+    ensures { result ≡ list_any spec.is_foreign words.now }
+{
+    words.iter().any(is_foreign)
+}
+
+// Returns whether our language can't read a line.
+fn is_foreign_line(levels: Levels, body: &[u8]) -> bool
+    ensures { result ≡ spec.is_foreign_line levels body.now }
+{
+    if body.len() > LONGEST_LINE || !is_plain(levels, body) {
+        return true;
+    }
+    match read_words(body) {
+        Some(words) => has_foreign(words.as_slice()),
+        None => true,
+    }
+}
+
 // Returns the tool to mount in a text that mounts none. The text is read only where a tool is
 // requested.
 fn tool_to_mount(text: &[u8], tool: Option<u16>) -> Option<u16>
@@ -153,7 +229,8 @@ fn tool_left(body: &[u8], tool: Option<u16>) -> Option<u16>
 
 impl Progress {
     ghost use Rattle.ngc_adapt_program.specs.Programs.{start, leaves_out, after_ended, tool_before};
-    ghost use Rattle.ngc_adapt_program.specs.Programs.{has_ending, homes, is_left_idle};
+    ghost use Rattle.ngc_adapt_program.specs.Programs.{has_ending, homes, is_after_end};
+    ghost use Rattle.ngc_adapt_program.specs.Programs.{is_before_percent, is_left_idle};
     ghost use Rattle.ngc_adapt_program.specs.Programs.{left_out_rule, opens_number};
 
     /// Returns the state at the start of a text, which is `plain` with plain lines.
@@ -166,6 +243,7 @@ impl Progress {
             levels: Levels::of(text),
             is_long: is_long(text),
             begun: false,
+            before_percent: opens_text(plain),
             marked: false,
             closed: false,
             ended: false,
@@ -188,11 +266,28 @@ impl Progress {
         self.is_long && !self.ended && is_idle(body)
     }
 
+    // Returns whether a line is a comment in front of the percent sign that begins the text.
+    fn is_before_percent(&self, body: &[u8]) -> bool
+        ensures { result ≡ is_before_percent self.now body.now }
+    {
+        self.before_percent && !is_blank_line(body) && !begins_percent(body)
+    }
+
+    // Returns whether a line comes after the end, and our language can't read it.
+    fn is_after_end(&self, body: &[u8]) -> bool
+        ensures { result ≡ is_after_end self.now body.now }
+    {
+        self.ended && !self.closed && !is_percent_line(body) && is_foreign_line(self.levels, body)
+    }
+
     // Returns whether a line is left out.
     fn leaves_out(&self, body: &[u8]) -> bool
         ensures { result ≡ leaves_out self.now body.now }
     {
-        self.homes(body) || self.is_left_idle(body)
+        self.homes(body)
+            || self.is_left_idle(body)
+            || self.is_before_percent(body)
+            || self.is_after_end(body)
     }
 
     // Returns the rule by which a line is left out.
@@ -359,6 +454,24 @@ fn add_opening_report<A: Allocator>(
     Ok(())
 }
 
+// Adds the change of a line after the end that is left out.
+#[tactic(auto, unfolding(crate::specs::Programs::after_end_report))]
+fn add_after_end_report<A: Allocator>(
+    number: usize,
+    line: usize,
+    body: &[u8],
+    report: &mut Vec<u8, A>,
+) -> Result<(), AllocError>
+    ensures { IfOk result (λ _. report.new.items ≡ report.old.items
+        ++ spec.after_end_report number line body.now) }
+{
+    add_place(number, line, report)?;
+    report.extend_from_slice(b"after_end exact: ")?;
+    report.extend_from_slice(body)?;
+    report.extend_from_slice(b" -> nothing\n")?;
+    Ok(())
+}
+
 // Adds a change by each of the rules.
 fn add_changes<A: Allocator>(
     number: usize,
@@ -461,6 +574,28 @@ impl<A: Allocator + Copy> Writing<A> {
         add_left_out_report(number, written, rule, body, &mut self.report)?;
         add_changes(number, written, &[rule], &mut self.changes)?;
         Ok(())
+    }
+
+    // Adds the change of a line that is left out, and its report.
+    fn add_left(
+        &mut self,
+        number: usize,
+        progress: &Progress,
+        body: &[u8],
+    ) -> Result<(), AllocError>
+        requires { self.old.before ≡ feeds self.old.text.items }
+        ensures report { IfOk result (λ _. self.new.report.items ≡ self.old.report.items
+            ++ spec.left_report number (self.old.before + 1) progress.now body.now) }
+        ensures changes { IfOk result (λ _. self.new.changes.items ≡ self.old.changes.items
+            ++ spec.left_changes number (self.old.before + 1) progress.now body.now) }
+        ensures same { (self.new.text ≡ self.old.text) × (self.new.is_left ≡ self.old.is_left)
+            × (self.new.before ≡ self.old.before) }
+    {
+        if progress.is_after_end(body) {
+            add_after_end_report(number, self.before + 1, body, &mut self.report)?;
+            return Ok(());
+        }
+        self.add_left_out(number, progress.left_out_rule(body), body)
     }
 
     // Adds the line of a percent sign that the source has in front of the number of the program.
@@ -614,6 +749,7 @@ fn after_body(
         levels: progress.levels,
         is_long: progress.is_long,
         begun: progress.begun || !is_blank_line(body),
+        before_percent: progress.before_percent && is_blank_line(body),
         marked: progress.marked || (percent && !progress.begun),
         closed: progress.closed || (percent && progress.begun),
         ended: if percent {
@@ -835,7 +971,7 @@ fn add_line<A: Allocator + Copy>(
 {
     let body = line.split_at(body_length(line)).0;
     if progress.leaves_out(body) {
-        out.add_left_out(number, progress.left_out_rule(body), body)?;
+        out.add_left(number, progress, body)?;
         return Ok(*progress);
     }
     if progress.opens_number(body) {
@@ -972,8 +1108,9 @@ fn add_lines<A: Allocator + Copy>(
 /// Rewrites the file of a program for another control as a program in our language: its text, a
 /// report of each change and of each refusal, and the tools that it names.
 ///
-/// Lines after the end are copied, and so is a line to which no rule applies, byte for byte. If
-/// something is refused, the text isn't the program. An error means that memory was refused.
+/// A line to which no rule applies is copied byte for byte. So are the lines after the end, without
+/// those that our language can't read. If something is refused, the text isn't the program. An error
+/// means that memory was refused.
 #[tactic(auto, unfolding(crate::specs::Programs::program_written, crate::specs::Programs::program_report, crate::specs::Programs::program_left))]
 pub fn adapt_program<A: Allocator + Copy>(
     alloc: A,

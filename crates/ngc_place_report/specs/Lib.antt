@@ -1,0 +1,9 @@
+pub mod Systems
+pub mod Range
+pub mod Staying
+pub mod Findings
+pub mod Certified
+pub mod Nearest
+pub mod Words
+pub mod Facts
+pub mod Texts
