@@ -20,18 +20,18 @@ use Rattle.std.proofs.lemmas.Str.Parse.{digit_from_value}
 use Rattle.clap.specs.declared.builder.value_parser.ValueParser.TheVariants.{Unsigned}
 use Rattle.clap.proofs.ValueTestLemmas.{Accepts-accepts}
 use Rattle.ngc_command_line.specs.CommandLine.{MachineSource, FromGrbl, FromFigures, adapt_words, machine_words}
-use Rattle.ngc_command_line.specs.CommandLine.{certify_words, check_words, draw_words, format_text, help_words, list_words, live_words, ngc_app, report_words, run_name}
+use Rattle.ngc_command_line.specs.CommandLine.{certify_words, check_words, draw_words, format_text, help_words, list_words, live_words, ngc_app, place_words, report_words, run_name}
 use Rattle.ngc_command_line.specs.CommandLine.{run_words, show_words}
 use Rattle.ngc_command_line.specs.Meant.{AreCommands, AreCuts, AreCutsInRange, AreOptions, AsksForCertify, AsksForCheck, AsksForDraw, AsksForHelp, AsksForList}
 use Rattle.ngc_command_line.specs.Meant.{AsksForAdapt, AsksForLive, AsksForMachine, acceleration_in, feed_in, grbl_in, steps_in, travel_in}
 use Rattle.ngc_command_line.specs.Meant.{HaveOrigins, origins_in}
-use Rattle.ngc_command_line.specs.Meant.{AsksForReport, AsksForRun, AsksForShow, IsFormat, IsMask, IsTaken, IsTool, IsToolInRange, is_set}
+use Rattle.ngc_command_line.specs.Meant.{AsksForPlace, AsksForReport, AsksForRun, AsksForShow, IsFormat, IsMask, IsTaken, IsTool, IsToolInRange, is_set}
 use Rattle.ngc_command_line.specs.declared.options.Format.{Format}
 use Rattle.ngc_command_line.specs.declared.options.Format.TheVariants.{One, Two}
 use Rattle.ngc_command_line.specs.declared.options.Options.{Options}
 use Rattle.ngc_command_line.specs.declared.options.Options.TheVariants.{Adapt as ToAdapt, Machine as ToMachine}
 use Rattle.ngc_command_line.specs.declared.options.Options.TheVariants.{Certify as ToCertify, Check as ToCheck, Draw as ToDraw, Explain as ToExplain, Live as ToLive}
-use Rattle.ngc_command_line.specs.declared.options.Options.TheVariants.{Help as ToHelp, List as ToList, Report as ToReport, Run as ToRun}
+use Rattle.ngc_command_line.specs.declared.options.Options.TheVariants.{Help as ToHelp, List as ToList, Place as ToPlace, Report as ToReport, Run as ToRun}
 use Rattle.ngc_command_line.specs.declared.options.Options.TheVariants.{RunThrough as ToRunThrough, Show as ToShow, Version as ToVersion}
 use Rattle.ngc_command_line.specs.declared.options.Recording.{Recording}
 use Rattle.ngc_command_line.specs.declared.options.Recording.TheVariants.{Log, Pulses}
@@ -111,6 +111,8 @@ list_asked program machine tools delete (Some found) (ToShow show) finds are =
     other_letter (codes "list") (codes "show") (sym finds.0 ∙ are.0) (λ letters. omega (arith, letters))
 list_asked program machine tools delete (Some found) (ToReport report) finds are =
     other_name (codes "list") (codes "report") (sym finds.0 ∙ are.0) (λ lengths. omega (arith, lengths))
+list_asked program machine tools delete (Some found) (ToPlace place) finds are =
+    other_name (codes "list") (codes "place") (sym finds.0 ∙ are.0) (λ lengths. omega (arith, lengths))
 list_asked program machine tools delete (Some found) (ToAdapt adapt) finds are =
     other_letter (codes "list") (codes "adapt") (sym finds.0 ∙ are.0) (λ letters. omega (arith, letters))
 list_asked program machine tools delete (Some found) (ToMachine made) finds are =
@@ -183,6 +185,8 @@ check_asked machine tools certificate program (Some found) (ToShow show) finds a
     other_letter (codes "check") (codes "show") (sym finds.0 ∙ are.0) (λ letters. omega (arith, letters))
 check_asked machine tools certificate program (Some found) (ToReport report) finds are =
     other_name (codes "check") (codes "report") (sym finds.0 ∙ are.0) (λ lengths. omega (arith, lengths))
+check_asked machine tools certificate program (Some found) (ToPlace place) finds are =
+    other_letter (codes "check") (codes "place") (sym finds.0 ∙ are.0) (λ letters. omega (arith, letters))
 check_asked machine tools certificate program (Some found) (ToAdapt adapt) finds are =
     other_letter (codes "check") (codes "adapt") (sym finds.0 ∙ are.0) (λ letters. omega (arith, letters))
 check_asked machine tools certificate program (Some found) (ToMachine made) finds are =
@@ -317,6 +321,8 @@ run_asked recording machine tools certificate events program delete output (Some
 run_asked recording machine tools certificate events program delete output (Some found) (ToShow show) finds are =
     no_run (codes "show") recording (sym (are.0) ∙ finds.0) (λ three. omega (arith, three)) (λ six. omega (arith, six))
 run_asked recording machine tools certificate events program delete output (Some found) (ToReport report) finds are = report_is_no_run recording (sym are.0 ∙ finds.0)
+run_asked recording machine tools certificate events program delete output (Some found) (ToPlace place) finds are =
+    no_run (codes "place") recording (sym are.0 ∙ finds.0) (λ three. omega (arith, three)) (λ six. omega (arith, six))
 run_asked recording machine tools certificate events program delete output (Some found) (ToAdapt adapt) finds are =
     no_run (codes "adapt") recording (sym (are.0) ∙ finds.0) (λ three. omega (arith, three)) (λ six. omega (arith, six))
 run_asked recording machine tools certificate events program delete output (Some found) (ToMachine made) finds are =
@@ -402,6 +408,8 @@ live_asked machine tools certificate program delete output feed_ring (Some found
     other_letter (codes "live") (codes "show") (sym finds.0 ∙ are.0) (λ letters. omega (arith, letters))
 live_asked machine tools certificate program delete output feed_ring (Some found) (ToReport report) finds are =
     other_letter (codes "live") (codes "report") (sym finds.0 ∙ are.0) (λ letters. omega (arith, letters))
+live_asked machine tools certificate program delete output feed_ring (Some found) (ToPlace place) finds are =
+    other_name (codes "live") (codes "place") (sym finds.0 ∙ are.0) (λ lengths. omega (arith, lengths))
 live_asked machine tools certificate program delete output feed_ring (Some found) (ToAdapt adapt) finds are =
     other_letter (codes "live") (codes "adapt") (sym finds.0 ∙ are.0) (λ letters. omega (arith, letters))
 live_asked machine tools certificate program delete output feed_ring (Some found) (ToMachine made) finds are =
@@ -544,6 +552,8 @@ draw_asked machine tools certificate program view delete bodies whole (Some foun
     other_letter (codes "draw") (codes "show") (sym finds.0 ∙ are.0) (λ letters. omega (arith, letters))
 draw_asked machine tools certificate program view delete bodies whole (Some found) (ToReport report) finds are =
     other_name (codes "draw") (codes "report") (sym finds.0 ∙ are.0) (λ lengths. omega (arith, lengths))
+draw_asked machine tools certificate program view delete bodies whole (Some found) (ToPlace place) finds are =
+    other_name (codes "draw") (codes "place") (sym finds.0 ∙ are.0) (λ lengths. omega (arith, lengths))
 draw_asked machine tools certificate program view delete bodies whole (Some found) (ToAdapt adapt) finds are =
     other_letter (codes "draw") (codes "adapt") (sym finds.0 ∙ are.0) (λ letters. omega (arith, letters))
 draw_asked machine tools certificate program view delete bodies whole (Some found) (ToMachine made) finds are =
@@ -607,6 +617,8 @@ show_asked machine tools warnings (Some found) (ToDraw draw) finds are =
     other_letter (codes "show") (codes "draw") (sym finds.0 ∙ are.0) (λ letters. omega (arith, letters))
 show_asked machine tools warnings (Some found) (ToReport report) finds are =
     other_name (codes "show") (codes "report") (sym finds.0 ∙ are.0) (λ lengths. omega (arith, lengths))
+show_asked machine tools warnings (Some found) (ToPlace place) finds are =
+    other_name (codes "show") (codes "place") (sym finds.0 ∙ are.0) (λ lengths. omega (arith, lengths))
 show_asked machine tools warnings (Some found) (ToAdapt adapt) finds are =
     other_letter (codes "show") (codes "adapt") (sym finds.0 ∙ are.0) (λ letters. omega (arith, letters))
 show_asked machine tools warnings (Some found) (ToMachine made) finds are =
@@ -767,6 +779,8 @@ certify_asked machine tools program cuts format (Some found) (ToShow show) range
     other_letter (codes "certify") (codes "show") (sym finds.0 ∙ are.0) (λ letters. omega (arith, letters))
 certify_asked machine tools program cuts format (Some found) (ToReport report) range finds are =
     other_name (codes "certify") (codes "report") (sym finds.0 ∙ are.0) (λ lengths. omega (arith, lengths))
+certify_asked machine tools program cuts format (Some found) (ToPlace place) range finds are =
+    other_name (codes "certify") (codes "place") (sym finds.0 ∙ are.0) (λ lengths. omega (arith, lengths))
 certify_asked machine tools program cuts format (Some found) (ToAdapt adapt) range finds are =
     other_letter (codes "certify") (codes "adapt") (sym finds.0 ∙ are.0) (λ letters. omega (arith, letters))
 certify_asked machine tools program cuts format (Some found) (ToMachine made) range finds are =
@@ -868,6 +882,8 @@ report_asked machine tools program cuts all json (Some found) (ToReport report) 
       are.1.json ∙ finds.6,
       none_replaced found.1 report.origins are.1.origins finds.7,
     )
+report_asked machine tools program cuts all json (Some found) (ToPlace place) range finds are =
+    other_name (codes "report") (codes "place") (sym finds.0 ∙ are.0) (λ lengths. omega (arith, lengths))
 report_asked machine tools program cuts all json (Some found) (ToList list) range finds are =
     other_name (codes "report") (codes "list") (sym finds.0 ∙ are.0) (λ lengths. omega (arith, lengths))
 report_asked machine tools program cuts all json (Some found) (ToCertify certify) range finds are =
@@ -913,6 +929,128 @@ pub report_read : (words : List Text) (machine tools : Text) (program : Option T
 report_read words machine tools program cuts all json options range spelled are =
     let Are : List Text → Type 0 = λ ws. AreOptions (subcommand_of ngc_app ws) options in
     report_asked machine tools program cuts all json _ options range (report_finds machine tools program cuts all json) (subst Are spelled are)
+
+-- the values of `place` that were found are these
+abbrev FindsPlace : Text → Text → Option Text → Option Text → Option Text → Bool → Option (Text × List Row) → Type 0
+FindsPlace machine tools program system cuts json None = ⊥
+FindsPlace machine tools program system cuts json (Some found) = (found.0 ≡ codes "place") × (first_of (codes "machine") found.1 ≡ Some machine)
+    × (first_of (codes "tools") found.1 ≡ Some tools) × (first_of (codes "program") found.1 ≡ program) × (first_of (codes "system") found.1 ≡ system)
+    × (first_of (codes "cuts") found.1 ≡ cuts) × (is_set (codes "json") found.1 ≡ json)
+    × (all_of (codes "origin") found.1 ≡ None)
+
+place_finds : (machine tools : Text) (program system : Option Text) (cuts : Option ℕ) (json : Bool)
+    → FindsPlace machine tools program system (text_of cuts) json (subcommand_of ngc_app (place_words machine tools program system cuts json))
+unfolding clap_on_literals
+place_finds machine tools None None None false = (refl, refl, refl, refl, refl, refl, refl, refl)
+place_finds machine tools None None None true = (refl, refl, refl, refl, refl, refl, refl, refl)
+place_finds machine tools None None (Some cuts) false = (refl, refl, refl, refl, refl, refl, refl, refl)
+place_finds machine tools None None (Some cuts) true = (refl, refl, refl, refl, refl, refl, refl, refl)
+place_finds machine tools None (Some system) None false = (refl, refl, refl, refl, refl, refl, refl, refl)
+place_finds machine tools None (Some system) None true = (refl, refl, refl, refl, refl, refl, refl, refl)
+place_finds machine tools None (Some system) (Some cuts) false = (refl, refl, refl, refl, refl, refl, refl, refl)
+place_finds machine tools None (Some system) (Some cuts) true = (refl, refl, refl, refl, refl, refl, refl, refl)
+place_finds machine tools (Some program) None None false = (refl, refl, refl, refl, refl, refl, refl, refl)
+place_finds machine tools (Some program) None None true = (refl, refl, refl, refl, refl, refl, refl, refl)
+place_finds machine tools (Some program) None (Some cuts) false = (refl, refl, refl, refl, refl, refl, refl, refl)
+place_finds machine tools (Some program) None (Some cuts) true = (refl, refl, refl, refl, refl, refl, refl, refl)
+place_finds machine tools (Some program) (Some system) None false = (refl, refl, refl, refl, refl, refl, refl, refl)
+place_finds machine tools (Some program) (Some system) None true = (refl, refl, refl, refl, refl, refl, refl, refl)
+place_finds machine tools (Some program) (Some system) (Some cuts) false = (refl, refl, refl, refl, refl, refl, refl, refl)
+place_finds machine tools (Some program) (Some system) (Some cuts) true = (refl, refl, refl, refl, refl, refl, refl, refl)
+
+place_cuts_taken : (machine tools : Text) (program system : Option Text) (cuts : ℕ) (json : Bool) → value_kinds false (Unsigned 1 65535) (decimal cuts) ≡ []
+    → IsTaken (place_words machine tools program system (Some cuts) json)
+unfolding clap_on_literals
+place_cuts_taken machine tools None None cuts false takes = both (both (both (both (both takes refl) refl) refl) refl) refl
+place_cuts_taken machine tools None None cuts true takes = both (both (both (both (both takes refl) refl) refl) refl) refl
+place_cuts_taken machine tools None (Some system) cuts false takes = both (both (both (both (both takes refl) refl) refl) refl) refl
+place_cuts_taken machine tools None (Some system) cuts true takes = both (both (both (both (both takes refl) refl) refl) refl) refl
+place_cuts_taken machine tools (Some program) None cuts false takes = both (both (both (both (both takes refl) refl) refl) refl) refl
+place_cuts_taken machine tools (Some program) None cuts true takes = both (both (both (both (both takes refl) refl) refl) refl) refl
+place_cuts_taken machine tools (Some program) (Some system) cuts false takes = both (both (both (both (both takes refl) refl) refl) refl) refl
+place_cuts_taken machine tools (Some program) (Some system) cuts true takes = both (both (both (both (both takes refl) refl) refl) refl) refl
+
+place_spells : (machine tools : Text) (program system : Option Text) (cuts : Option ℕ) (json : Bool) → AreCutsInRange cuts →
+    IsTaken (place_words machine tools program system cuts json)
+unfolding clap_on_literals
+place_spells machine tools None None None false range = refl
+place_spells machine tools None None None true range = refl
+place_spells machine tools None (Some system) None false range = refl
+place_spells machine tools None (Some system) None true range = refl
+place_spells machine tools (Some program) None None false range = refl
+place_spells machine tools (Some program) None None true range = refl
+place_spells machine tools (Some program) (Some system) None false range = refl
+place_spells machine tools (Some program) (Some system) None true range = refl
+place_spells machine tools program system (Some cuts) json range =
+    let text = Accepts-accepts false (Unsigned 1 65535) (decimal cuts) (decimal_in_range cuts range.0 range.1) in
+    place_cuts_taken machine tools program system cuts json (passes (accepts false (Unsigned 1 65535) (decimal cuts)) _ text)
+
+place_asked : (machine tools : Text) (program system : Option Text) (cuts : Option ℕ) (json : Bool) (found : Option (Text × List Row)) (options : Options) →
+    AreCutsInRange cuts
+    → FindsPlace machine tools program system (text_of cuts) json found → AreOptions found options → AsksForPlace machine tools program system cuts json options
+place_asked machine tools program system cuts json None options range finds are = absurd finds
+place_asked machine tools program system cuts json (Some found) (ToPlace place) range finds are =
+    let read = subst (λ (text : Option Text). AreCuts text place.cuts) finds.5 are.1.cuts in (
+      same_text _ _ _ are.1.machine finds.1,
+      same_text _ _ _ are.1.tools finds.2,
+      are.1.program ∙ finds.3,
+      are.1.system ∙ finds.4,
+      cuts_read cuts place.cuts range read,
+      are.1.json ∙ finds.6,
+      none_replaced found.1 place.origins are.1.origins finds.7,
+    )
+place_asked machine tools program system cuts json (Some found) (ToList list) range finds are =
+    other_name (codes "place") (codes "list") (sym finds.0 ∙ are.0) (λ lengths. omega (arith, lengths))
+place_asked machine tools program system cuts json (Some found) (ToCertify certify) range finds are =
+    other_name (codes "place") (codes "certify") (sym finds.0 ∙ are.0) (λ lengths. omega (arith, lengths))
+place_asked machine tools program system cuts json (Some found) (ToCheck check) range finds are =
+    other_letter (codes "place") (codes "check") (sym finds.0 ∙ are.0) (λ letters. omega (arith, letters))
+place_asked machine tools program system cuts json (Some found) (ToLive live) range finds are =
+    other_name (codes "place") (codes "live") (sym finds.0 ∙ are.0) (λ lengths. omega (arith, lengths))
+place_asked machine tools program system cuts json (Some found) (ToDraw draw) range finds are =
+    other_name (codes "place") (codes "draw") (sym finds.0 ∙ are.0) (λ lengths. omega (arith, lengths))
+place_asked machine tools program system cuts json (Some found) (ToShow show) range finds are =
+    other_name (codes "place") (codes "show") (sym finds.0 ∙ are.0) (λ lengths. omega (arith, lengths))
+place_asked machine tools program system cuts json (Some found) (ToReport report) range finds are =
+    other_name (codes "place") (codes "report") (sym finds.0 ∙ are.0) (λ lengths. omega (arith, lengths))
+place_asked machine tools program system cuts json (Some found) (ToAdapt adapt) range finds are =
+    other_letter (codes "place") (codes "adapt") (sym finds.0 ∙ are.0) (λ letters. omega (arith, letters))
+place_asked machine tools program system cuts json (Some found) (ToMachine made) range finds are =
+    other_name (codes "place") (codes "machine") (sym finds.0 ∙ are.0) (λ lengths. omega (arith, lengths))
+place_asked machine tools program system cuts json (Some found) (ToExplain number) range finds are =
+    other_name (codes "place") (codes "explain") (sym finds.0 ∙ are.0) (λ lengths. omega (arith, lengths))
+place_asked machine tools program system cuts json (Some found) (ToHelp command) range finds are =
+    other_name (codes "place") (codes "help") (sym finds.0 ∙ are.0) (λ lengths. omega (arith, lengths))
+place_asked machine tools program system cuts json (Some found) (ToRun run) range finds are =
+    no_run (codes "place") run.recording (sym finds.0 ∙ are.0) (λ three. omega (arith, three)) (λ six. omega (arith, six))
+place_asked machine tools program system cuts json (Some found) (ToRunThrough run) range finds are =
+    no_run (codes "place") run.recording (sym finds.0 ∙ are.0) (λ three. omega (arith, three)) (λ six. omega (arith, six))
+place_asked machine tools program system cuts json (Some found) ToVersion range finds are =
+    other_name (codes "place") (codes "version") (sym finds.0 ∙ are) (λ lengths. omega (arith, lengths))
+
+pub place_taken : (words : List Text) (machine tools : Text) (program system : Option Text) (cuts : Option ℕ) (json : Bool) → AreCutsInRange cuts
+    → words ≡ place_words machine tools program system cuts json → IsTaken words
+place_taken words machine tools program system cuts json range spelled =
+    subst IsTaken (sym spelled) (place_spells machine tools program system cuts json range)
+
+place_have : (found : Option (Text × List Row)) (machine tools : Text) (program system cuts : Option Text) (json : Bool)
+    → FindsPlace machine tools program system cuts json found → HaveOrigins found
+place_have None machine tools program system cuts json finds = absurd finds
+place_have (Some found) machine tools program system cuts json finds = none_wrong found finds.7
+
+pub place_origins : (words : List Text) (machine tools : Text) (program system : Option Text) (cuts : Option ℕ) (json : Bool) → AreCutsInRange cuts
+    → words ≡ place_words machine tools program system cuts json → HaveOrigins (subcommand_of ngc_app words)
+place_origins words machine tools program system cuts json range spelled =
+    let Have : List Text → Type 0 = λ ws. HaveOrigins (subcommand_of ngc_app ws) in
+    subst Have (sym spelled) (place_have _ machine tools program system (text_of cuts) json (place_finds machine tools program system cuts json))
+
+pub place_read : (words : List Text) (machine tools : Text) (program system : Option Text) (cuts : Option ℕ) (json : Bool) (options : Options) →
+    AreCutsInRange cuts
+    → words ≡ place_words machine tools program system cuts json → AreOptions (subcommand_of ngc_app words) options
+    → AsksForPlace machine tools program system cuts json options
+place_read words machine tools program system cuts json options range spelled are =
+    let Are : List Text → Type 0 = λ ws. AreOptions (subcommand_of ngc_app ws) options in
+    place_asked machine tools program system cuts json _ options range (place_finds machine tools program system cuts json) (subst Are spelled are)
 
 -- the values of `adapt` that were found are these
 abbrev FindsAdapt : Text → Option Text → Option Text → Option Text → Option Text → Option (Text × List Row) → Type 0
@@ -1008,6 +1146,8 @@ adapt_asked from machine tool drop program (Some found) (ToShow show) range find
     other_letter (codes "adapt") (codes "show") (sym finds.0 ∙ are.0) (λ letters. omega (arith, letters))
 adapt_asked from machine tool drop program (Some found) (ToReport report) range finds are =
     other_letter (codes "adapt") (codes "report") (sym finds.0 ∙ are.0) (λ letters. omega (arith, letters))
+adapt_asked from machine tool drop program (Some found) (ToPlace place) range finds are =
+    other_letter (codes "adapt") (codes "place") (sym finds.0 ∙ are.0) (λ letters. omega (arith, letters))
 adapt_asked from machine tool drop program (Some found) (ToMachine made) range finds are =
     other_letter (codes "adapt") (codes "machine") (sym finds.0 ∙ are.0) (λ letters. omega (arith, letters))
 adapt_asked from machine tool drop program (Some found) (ToExplain number) range finds are =
@@ -1106,6 +1246,8 @@ machine_asked source corner ticks frame (Some found) (ToShow show) finds are =
     other_letter (codes "machine") (codes "show") (sym finds.0 ∙ are.0) (λ letters. omega (arith, letters))
 machine_asked source corner ticks frame (Some found) (ToReport report) finds are =
     other_letter (codes "machine") (codes "report") (sym finds.0 ∙ are.0) (λ letters. omega (arith, letters))
+machine_asked source corner ticks frame (Some found) (ToPlace place) finds are =
+    other_name (codes "machine") (codes "place") (sym finds.0 ∙ are.0) (λ lengths. omega (arith, lengths))
 machine_asked source corner ticks frame (Some found) (ToAdapt adapt) finds are =
     other_letter (codes "machine") (codes "adapt") (sym finds.0 ∙ are.0) (λ letters. omega (arith, letters))
 machine_asked source corner ticks frame (Some found) (ToExplain number) finds are =
@@ -1162,12 +1304,13 @@ help_spells (Some command) among = elim among [
   | inr (inr (inr (inr (inr (inr (inl same)))))) ↦ help_on command (codes "draw") same (refl, (refl, refl, refl))
   | inr (inr (inr (inr (inr (inr (inr (inl same))))))) ↦ help_on command (codes "show") same (refl, (refl, refl, refl))
   | inr (inr (inr (inr (inr (inr (inr (inr (inl same)))))))) ↦ help_on command (codes "report") same (refl, (refl, refl, refl))
-  | inr (inr (inr (inr (inr (inr (inr (inr (inr (inl same))))))))) ↦ help_on command (codes "adapt") same (refl, (refl, refl, refl))
-  | inr (inr (inr (inr (inr (inr (inr (inr (inr (inr (inl same)))))))))) ↦ help_on command (codes "machine") same (refl, (refl, refl, refl))
-  | inr (inr (inr (inr (inr (inr (inr (inr (inr (inr (inr (inl same))))))))))) ↦ help_on command (codes "explain") same (refl, (refl, refl, refl))
-  | inr (inr (inr (inr (inr (inr (inr (inr (inr (inr (inr (inr (inl same)))))))))))) ↦ help_on command (codes "help") same (refl, (refl, refl, refl))
-  | inr (inr (inr (inr (inr (inr (inr (inr (inr (inr (inr (inr (inr (inl same))))))))))))) ↦ help_on command (codes "version") same (refl, (refl, refl, refl))
-  | inr (inr (inr (inr (inr (inr (inr (inr (inr (inr (inr (inr (inr (inr none))))))))))))) ↦ absurd none
+  | inr (inr (inr (inr (inr (inr (inr (inr (inr (inl same))))))))) ↦ help_on command (codes "place") same (refl, (refl, refl, refl))
+  | inr (inr (inr (inr (inr (inr (inr (inr (inr (inr (inl same)))))))))) ↦ help_on command (codes "adapt") same (refl, (refl, refl, refl))
+  | inr (inr (inr (inr (inr (inr (inr (inr (inr (inr (inr (inl same))))))))))) ↦ help_on command (codes "machine") same (refl, (refl, refl, refl))
+  | inr (inr (inr (inr (inr (inr (inr (inr (inr (inr (inr (inr (inl same)))))))))))) ↦ help_on command (codes "explain") same (refl, (refl, refl, refl))
+  | inr (inr (inr (inr (inr (inr (inr (inr (inr (inr (inr (inr (inr (inl same))))))))))))) ↦ help_on command (codes "help") same (refl, (refl, refl, refl))
+  | inr (inr (inr (inr (inr (inr (inr (inr (inr (inr (inr (inr (inr (inr (inl same)))))))))))))) ↦ help_on command (codes "version") same (refl, (refl, refl, refl))
+  | inr (inr (inr (inr (inr (inr (inr (inr (inr (inr (inr (inr (inr (inr (inr none)))))))))))))) ↦ absurd none
 ]
 
 help_asked : (command : Option Text) (found : Option (Text × List Row)) (options : Options) → FindsHelp command found → AreOptions found options →
@@ -1188,6 +1331,8 @@ help_asked command (Some found) (ToDraw draw) finds are = other_letter (codes "h
 help_asked command (Some found) (ToShow show) finds are = other_letter (codes "help") (codes "show") (sym finds.0 ∙ are.0) (λ letters. omega (arith, letters))
 help_asked command (Some found) (ToReport report) finds are =
     other_name (codes "help") (codes "report") (sym finds.0 ∙ are.0) (λ lengths. omega (arith, lengths))
+help_asked command (Some found) (ToPlace place) finds are =
+    other_name (codes "help") (codes "place") (sym finds.0 ∙ are.0) (λ lengths. omega (arith, lengths))
 help_asked command (Some found) (ToAdapt adapt) finds are =
     other_letter (codes "help") (codes "adapt") (sym finds.0 ∙ are.0) (λ letters. omega (arith, letters))
 help_asked command (Some found) (ToMachine made) finds are =
@@ -1239,6 +1384,8 @@ version_asked (Some found) (ToLive live) finds are =
 version_asked (Some found) (ToDraw draw) finds are = other_name (codes "version") (codes "draw") (sym finds.0 ∙ are.0) (λ lengths. omega (arith, lengths))
 version_asked (Some found) (ToShow show) finds are = other_letter (codes "version") (codes "show") (sym finds.0 ∙ are.0) (λ letters. omega (arith, letters))
 version_asked (Some found) (ToReport report) finds are = other_name (codes "version") (codes "report") (sym finds.0 ∙ are.0) (λ lengths. omega (arith, lengths))
+version_asked (Some found) (ToPlace place) finds are =
+    other_name (codes "version") (codes "place") (sym finds.0 ∙ are.0) (λ lengths. omega (arith, lengths))
 version_asked (Some found) (ToAdapt adapt) finds are =
     other_letter (codes "version") (codes "adapt") (sym finds.0 ∙ are.0) (λ letters. omega (arith, letters))
 version_asked (Some found) (ToMachine made) finds are =

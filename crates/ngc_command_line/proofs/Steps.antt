@@ -97,6 +97,7 @@ shape_is_plain named.Live = refl
 shape_is_plain named.Draw = refl
 shape_is_plain named.Show = refl
 shape_is_plain named.Report = refl
+shape_is_plain named.Place = refl
 shape_is_plain named.Adapt = refl
 shape_is_plain named.Machine = refl
 shape_is_plain named.Explain = refl

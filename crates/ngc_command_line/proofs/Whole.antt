@@ -13,7 +13,7 @@ use Rattle.clap.specs.Walk.{answers_to, nothing_held, rows_after, stop_after}
 use Rattle.ngc_command_line.specs.CommandLine.{ngc_app}
 use Rattle.ngc_command_line.specs.CommandLine.{run_name}
 use Rattle.ngc_command_line.specs.Meant.{HasAdaptValues, HasCertifyValues, HasCheckValues, HasDrawValues, HasExplainValues, HasLiveValues}
-use Rattle.ngc_command_line.specs.Meant.{HasReportValues, HasRunValues, HasShowValues}
+use Rattle.ngc_command_line.specs.Meant.{HasPlaceValues, HasReportValues, HasRunValues, HasShowValues}
 use Rattle.ngc_command_line.specs.Meant.{IsTaken, IsWhole}
 use Rattle.ngc_command_line.specs.declared.options.Recording.{Recording}
 use Rattle.ngc_command_line.specs.declared.options.Recording.TheVariants.{Log, Pulses}
@@ -68,11 +68,14 @@ show_shape = slice_index_or (built ngc_app).subs 7 (new_shape [])
 abbrev report_shape : Shape
 report_shape = slice_index_or (built ngc_app).subs 8 (new_shape [])
 
+abbrev place_shape : Shape
+place_shape = slice_index_or (built ngc_app).subs 9 (new_shape [])
+
 abbrev adapt_shape : Shape
-adapt_shape = slice_index_or (built ngc_app).subs 9 (new_shape [])
+adapt_shape = slice_index_or (built ngc_app).subs 10 (new_shape [])
 
 abbrev explain_shape : Shape
-explain_shape = slice_index_or (built ngc_app).subs 11 (new_shape [])
+explain_shape = slice_index_or (built ngc_app).subs 12 (new_shape [])
 
 explain_sound : AreSound FitsNumber explain_shape.rules
 explain_sound =
@@ -272,6 +275,28 @@ report_values words none =
       found_fits (codes "cuts") (IsUnsignedIn 1 65535) rows filled,
     )
 
+place_sound : AreSound FitsCuts place_shape.rules
+place_sound =
+    let machine = set_is_sound FitsCuts _ refl refl refl (λ v none. no_cuts (codes "machine") v refl) in
+    let tools = set_is_sound FitsCuts _ refl refl refl (λ v none. no_cuts (codes "tools") v refl) in
+    let program = set_is_sound FitsCuts _ refl refl refl (λ v none. no_cuts (codes "program") v refl) in
+    let system = set_is_sound FitsCuts _ refl refl refl (λ v none. no_cuts (codes "system") v refl) in
+    let cuts = set_is_sound FitsCuts _ refl refl refl (λ v none same. cuts_fit v none) in
+    let json = flag_is_sound FitsCuts _ (codes "true") (codes "false") refl refl refl (λ v. no_cuts (codes "json") v refl) in
+    let origin = append_is_sound FitsCuts _ refl refl refl (λ v. no_cuts (codes "origin") v refl) in
+    (machine, (tools, (program, (system, (cuts, (json, (origin, (help_is_sound FitsCuts _ refl refl, tt))))))))
+
+place_values : (words : List Text) → level_fault place_shape [] nothing_held words false [] ≡ [] → HasPlaceValues (rows_after place_shape.rules [] words)
+place_values words none =
+    let rows = rows_after place_shape.rules [] words in
+    let (filled, required) = level_is_filled FitsCuts place_shape place_sound words none in
+    let (machine, others) = neither_true _ _ required in
+    let (tools, rest) = neither_true _ _ others in (
+      given_has_value FitsCuts (codes "machine") rows filled (is_true _ machine),
+      given_has_value FitsCuts (codes "tools") rows filled (is_true _ tools),
+      found_fits (codes "cuts") (IsUnsignedIn 1 65535) rows filled,
+    )
+
 no_tool : (id text : Text) → bytes_eq id (codes "tool") ≡ false → FitsTool id text
 no_tool = other_fits (codes "tool") (IsUnsignedIn 1 9999)
 
@@ -332,6 +357,7 @@ one_whole found one = elim one [
     draw = λ same. other_letter (codes "list") (codes "draw") same (λ letters. omega (arith, letters));
     show = λ same. other_letter (codes "list") (codes "show") same (λ letters. omega (arith, letters));
     report = λ same. other_name (codes "list") (codes "report") same (λ lengths. omega (arith, lengths));
+    place = λ same. other_name (codes "list") (codes "place") same (λ lengths. omega (arith, lengths));
     adapt = λ same. other_letter (codes "list") (codes "adapt") same (λ letters. omega (arith, letters));
     explain = λ same. other_name (codes "list") (codes "explain") same (λ lengths. omega (arith, lengths));
   })
@@ -344,6 +370,7 @@ one_whole found one = elim one [
     draw = λ same. other_name (codes "certify") (codes "draw") same (λ lengths. omega (arith, lengths));
     show = λ same. other_letter (codes "certify") (codes "show") same (λ letters. omega (arith, letters));
     report = λ same. other_name (codes "certify") (codes "report") same (λ lengths. omega (arith, lengths));
+    place = λ same. other_name (codes "certify") (codes "place") same (λ lengths. omega (arith, lengths));
     adapt = λ same. other_letter (codes "certify") (codes "adapt") same (λ letters. omega (arith, letters));
     explain = λ same. other_letter (codes "certify") (codes "explain") same (λ letters. omega (arith, letters));
   })
@@ -356,6 +383,7 @@ one_whole found one = elim one [
     draw = λ same. other_name (codes "check") (codes "draw") same (λ lengths. omega (arith, lengths));
     show = λ same. other_letter (codes "check") (codes "show") same (λ letters. omega (arith, letters));
     report = λ same. other_name (codes "check") (codes "report") same (λ lengths. omega (arith, lengths));
+    place = λ same. other_letter (codes "check") (codes "place") same (λ letters. omega (arith, letters));
     adapt = λ same. other_letter (codes "check") (codes "adapt") same (λ letters. omega (arith, letters));
     explain = λ same. other_name (codes "check") (codes "explain") same (λ lengths. omega (arith, lengths));
   })
@@ -368,6 +396,7 @@ one_whole found one = elim one [
     draw = λ same. other_name (codes "run") (codes "draw") same (λ lengths. omega (arith, lengths));
     show = λ same. other_letter (codes "run") (codes "show") same (λ letters. omega (arith, letters));
     report = λ same. other_name (codes "run") (codes "report") same (λ lengths. omega (arith, lengths));
+    place = λ same. other_name (codes "run") (codes "place") same (λ lengths. omega (arith, lengths));
     adapt = λ same. other_letter (codes "run") (codes "adapt") same (λ letters. omega (arith, letters));
     explain = λ same. other_name (codes "run") (codes "explain") same (λ lengths. omega (arith, lengths));
   })
@@ -380,6 +409,7 @@ one_whole found one = elim one [
     draw = λ same. other_name (codes "pulses") (codes "draw") same (λ lengths. omega (arith, lengths));
     show = λ same. other_letter (codes "pulses") (codes "show") same (λ letters. omega (arith, letters));
     report = λ same. other_letter (codes "pulses") (codes "report") same (λ letters. omega (arith, letters));
+    place = λ same. other_name (codes "pulses") (codes "place") same (λ lengths. omega (arith, lengths));
     adapt = λ same. other_letter (codes "pulses") (codes "adapt") same (λ letters. omega (arith, letters));
     explain = λ same. other_name (codes "pulses") (codes "explain") same (λ lengths. omega (arith, lengths));
   })
@@ -392,6 +422,7 @@ one_whole found one = elim one [
     draw = λ same. other_letter (codes "live") (codes "draw") same (λ letters. omega (arith, letters));
     show = λ same. other_letter (codes "live") (codes "show") same (λ letters. omega (arith, letters));
     report = λ same. other_letter (codes "live") (codes "report") same (λ letters. omega (arith, letters));
+    place = λ same. other_name (codes "live") (codes "place") same (λ lengths. omega (arith, lengths));
     adapt = λ same. other_letter (codes "live") (codes "adapt") same (λ letters. omega (arith, letters));
     explain = λ same. other_letter (codes "live") (codes "explain") same (λ letters. omega (arith, letters));
   })
@@ -404,6 +435,7 @@ one_whole found one = elim one [
     draw = λ same. draw_values draw.0 draw.2;
     show = λ same. other_letter (codes "draw") (codes "show") same (λ letters. omega (arith, letters));
     report = λ same. other_name (codes "draw") (codes "report") same (λ lengths. omega (arith, lengths));
+    place = λ same. other_name (codes "draw") (codes "place") same (λ lengths. omega (arith, lengths));
     adapt = λ same. other_letter (codes "draw") (codes "adapt") same (λ letters. omega (arith, letters));
     explain = λ same. other_name (codes "draw") (codes "explain") same (λ lengths. omega (arith, lengths));
   })
@@ -416,6 +448,7 @@ one_whole found one = elim one [
     draw = λ same. other_letter (codes "show") (codes "draw") same (λ letters. omega (arith, letters));
     show = λ same. show_values show.0 show.2;
     report = λ same. other_name (codes "show") (codes "report") same (λ lengths. omega (arith, lengths));
+    place = λ same. other_name (codes "show") (codes "place") same (λ lengths. omega (arith, lengths));
     adapt = λ same. other_letter (codes "show") (codes "adapt") same (λ letters. omega (arith, letters));
     explain = λ same. other_letter (codes "show") (codes "explain") same (λ letters. omega (arith, letters));
   })
@@ -428,11 +461,25 @@ one_whole found one = elim one [
     draw = λ same. other_name (codes "report") (codes "draw") same (λ lengths. omega (arith, lengths));
     show = λ same. other_name (codes "report") (codes "show") same (λ lengths. omega (arith, lengths));
     report = λ same. report_values report.0 report.2;
+    place = λ same. other_name (codes "report") (codes "place") same (λ lengths. omega (arith, lengths));
     adapt = λ same. other_letter (codes "report") (codes "adapt") same (λ letters. omega (arith, letters));
     explain = λ same. other_name (codes "report") (codes "explain") same (λ lengths. omega (arith, lengths));
   })
-  | inr (inr (inr (inr (inr (inr (inr (inr (inr (inl adapt))))))))) ↦ subst (λ (f : Text × List Row). IsWhole f.0 f.1) adapt.1 (record {
+  | inr (inr (inr (inr (inr (inr (inr (inr (inr (inl place))))))))) ↦ subst (λ (f : Text × List Row). IsWhole f.0 f.1) place.1 (record {
     named = inr (inr (inr (inr (inr (inr (inr (inr (inr (inl refl)))))))));
+    certify = λ same. other_name (codes "place") (codes "certify") same (λ lengths. omega (arith, lengths));
+    check = λ same. other_letter (codes "place") (codes "check") same (λ letters. omega (arith, letters));
+    run = λ recording same. no_run (codes "place") recording same (λ three. omega (arith, three)) (λ six. omega (arith, six));
+    live = λ same. other_name (codes "place") (codes "live") same (λ lengths. omega (arith, lengths));
+    draw = λ same. other_name (codes "place") (codes "draw") same (λ lengths. omega (arith, lengths));
+    show = λ same. other_name (codes "place") (codes "show") same (λ lengths. omega (arith, lengths));
+    report = λ same. other_name (codes "place") (codes "report") same (λ lengths. omega (arith, lengths));
+    place = λ same. place_values place.0 place.2;
+    adapt = λ same. other_letter (codes "place") (codes "adapt") same (λ letters. omega (arith, letters));
+    explain = λ same. other_name (codes "place") (codes "explain") same (λ lengths. omega (arith, lengths));
+  })
+  | inr (inr (inr (inr (inr (inr (inr (inr (inr (inr (inl adapt)))))))))) ↦ subst (λ (f : Text × List Row). IsWhole f.0 f.1) adapt.1 (record {
+    named = inr (inr (inr (inr (inr (inr (inr (inr (inr (inr (inl refl))))))))));
     certify = λ same. other_letter (codes "adapt") (codes "certify") same (λ letters. omega (arith, letters));
     check = λ same. other_letter (codes "adapt") (codes "check") same (λ letters. omega (arith, letters));
     run = λ recording same. no_run (codes "adapt") recording same (λ three. omega (arith, three)) (λ six. omega (arith, six));
@@ -440,11 +487,12 @@ one_whole found one = elim one [
     draw = λ same. other_letter (codes "adapt") (codes "draw") same (λ letters. omega (arith, letters));
     show = λ same. other_letter (codes "adapt") (codes "show") same (λ letters. omega (arith, letters));
     report = λ same. other_letter (codes "adapt") (codes "report") same (λ letters. omega (arith, letters));
+    place = λ same. other_letter (codes "adapt") (codes "place") same (λ letters. omega (arith, letters));
     adapt = λ same. adapt_values adapt.0 adapt.2;
     explain = λ same. other_letter (codes "adapt") (codes "explain") same (λ letters. omega (arith, letters));
   })
-  | inr (inr (inr (inr (inr (inr (inr (inr (inr (inr (inl machine)))))))))) ↦ subst (λ (f : Text × List Row). IsWhole f.0 f.1) machine.1 (record {
-    named = inr (inr (inr (inr (inr (inr (inr (inr (inr (inr (inl refl))))))))));
+  | inr (inr (inr (inr (inr (inr (inr (inr (inr (inr (inr (inl machine))))))))))) ↦ subst (λ (f : Text × List Row). IsWhole f.0 f.1) machine.1 (record {
+    named = inr (inr (inr (inr (inr (inr (inr (inr (inr (inr (inr (inl refl)))))))))));
     certify = λ same. other_letter (codes "machine") (codes "certify") same (λ letters. omega (arith, letters));
     check = λ same. other_letter (codes "machine") (codes "check") same (λ letters. omega (arith, letters));
     run = λ recording same. no_run (codes "machine") recording same (λ three. omega (arith, three)) (λ six. omega (arith, six));
@@ -452,11 +500,12 @@ one_whole found one = elim one [
     draw = λ same. other_letter (codes "machine") (codes "draw") same (λ letters. omega (arith, letters));
     show = λ same. other_letter (codes "machine") (codes "show") same (λ letters. omega (arith, letters));
     report = λ same. other_letter (codes "machine") (codes "report") same (λ letters. omega (arith, letters));
+    place = λ same. other_name (codes "machine") (codes "place") same (λ lengths. omega (arith, lengths));
     adapt = λ same. other_letter (codes "machine") (codes "adapt") same (λ letters. omega (arith, letters));
     explain = λ same. other_letter (codes "machine") (codes "explain") same (λ letters. omega (arith, letters));
   })
-  | inr (inr (inr (inr (inr (inr (inr (inr (inr (inr (inr (inl explain))))))))))) ↦ subst (λ (f : Text × List Row). IsWhole f.0 f.1) explain.1 (record {
-    named = inr (inr (inr (inr (inr (inr (inr (inr (inr (inr (inr (inl refl)))))))))));
+  | inr (inr (inr (inr (inr (inr (inr (inr (inr (inr (inr (inr (inl explain)))))))))))) ↦ subst (λ (f : Text × List Row). IsWhole f.0 f.1) explain.1 (record {
+    named = inr (inr (inr (inr (inr (inr (inr (inr (inr (inr (inr (inr (inl refl))))))))))));
     certify = λ same. other_letter (codes "explain") (codes "certify") same (λ letters. omega (arith, letters));
     check = λ same. other_name (codes "explain") (codes "check") same (λ lengths. omega (arith, lengths));
     run = λ recording same. no_run (codes "explain") recording same (λ three. omega (arith, three)) (λ six. omega (arith, six));
@@ -464,11 +513,12 @@ one_whole found one = elim one [
     draw = λ same. other_name (codes "explain") (codes "draw") same (λ lengths. omega (arith, lengths));
     show = λ same. other_letter (codes "explain") (codes "show") same (λ letters. omega (arith, letters));
     report = λ same. other_name (codes "explain") (codes "report") same (λ lengths. omega (arith, lengths));
+    place = λ same. other_name (codes "explain") (codes "place") same (λ lengths. omega (arith, lengths));
     adapt = λ same. other_letter (codes "explain") (codes "adapt") same (λ letters. omega (arith, letters));
     explain = λ same. explain_values explain.0 explain.2;
   })
-  | inr (inr (inr (inr (inr (inr (inr (inr (inr (inr (inr (inr (inl help)))))))))))) ↦ subst (λ (f : Text × List Row). IsWhole f.0 f.1) help.1 (record {
-    named = inr (inr (inr (inr (inr (inr (inr (inr (inr (inr (inr (inr (inl refl))))))))))));
+  | inr (inr (inr (inr (inr (inr (inr (inr (inr (inr (inr (inr (inr (inl help))))))))))))) ↦ subst (λ (f : Text × List Row). IsWhole f.0 f.1) help.1 (record {
+    named = inr (inr (inr (inr (inr (inr (inr (inr (inr (inr (inr (inr (inr (inl refl)))))))))))));
     certify = λ same. other_name (codes "help") (codes "certify") same (λ lengths. omega (arith, lengths));
     check = λ same. other_name (codes "help") (codes "check") same (λ lengths. omega (arith, lengths));
     run = λ recording same. no_run (codes "help") recording same (λ three. omega (arith, three)) (λ six. omega (arith, six));
@@ -476,11 +526,12 @@ one_whole found one = elim one [
     draw = λ same. other_letter (codes "help") (codes "draw") same (λ letters. omega (arith, letters));
     show = λ same. other_letter (codes "help") (codes "show") same (λ letters. omega (arith, letters));
     report = λ same. other_name (codes "help") (codes "report") same (λ lengths. omega (arith, lengths));
+    place = λ same. other_name (codes "help") (codes "place") same (λ lengths. omega (arith, lengths));
     adapt = λ same. other_letter (codes "help") (codes "adapt") same (λ letters. omega (arith, letters));
     explain = λ same. other_name (codes "help") (codes "explain") same (λ lengths. omega (arith, lengths));
   })
-  | inr (inr (inr (inr (inr (inr (inr (inr (inr (inr (inr (inr (inr (inl version))))))))))))) ↦ subst (λ (f : Text × List Row). IsWhole f.0 f.1) version.1 (record {
-    named = inr (inr (inr (inr (inr (inr (inr (inr (inr (inr (inr (inr (inr (inl refl)))))))))))));
+  | inr (inr (inr (inr (inr (inr (inr (inr (inr (inr (inr (inr (inr (inr (inl version)))))))))))))) ↦ subst (λ (f : Text × List Row). IsWhole f.0 f.1) version.1 (record {
+    named = inr (inr (inr (inr (inr (inr (inr (inr (inr (inr (inr (inr (inr (inr (inl refl))))))))))))));
     certify = λ same. other_letter (codes "version") (codes "certify") same (λ letters. omega (arith, letters));
     check = λ same. other_name (codes "version") (codes "check") same (λ lengths. omega (arith, lengths));
     run = λ recording same. no_run (codes "version") recording same (λ three. omega (arith, three)) (λ six. omega (arith, six));
@@ -488,10 +539,11 @@ one_whole found one = elim one [
     draw = λ same. other_name (codes "version") (codes "draw") same (λ lengths. omega (arith, lengths));
     show = λ same. other_letter (codes "version") (codes "show") same (λ letters. omega (arith, letters));
     report = λ same. other_name (codes "version") (codes "report") same (λ lengths. omega (arith, lengths));
+    place = λ same. other_name (codes "version") (codes "place") same (λ lengths. omega (arith, lengths));
     adapt = λ same. other_letter (codes "version") (codes "adapt") same (λ letters. omega (arith, letters));
     explain = λ same. other_letter (codes "version") (codes "explain") same (λ letters. omega (arith, letters));
   })
-  | inr (inr (inr (inr (inr (inr (inr (inr (inr (inr (inr (inr (inr (inr none))))))))))))) ↦ absurd none
+  | inr (inr (inr (inr (inr (inr (inr (inr (inr (inr (inr (inr (inr (inr (inr none)))))))))))))) ↦ absurd none
 ]
 
 -- the subcommand that taken words name

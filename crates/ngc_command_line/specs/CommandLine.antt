@@ -111,6 +111,14 @@ report_app = fold with_rule (new_app (codes "report"))
     ∷ file_option (codes "program") ∷ cuts_option ∷ flag (codes "all") ∷ flag (codes "json")
     ∷ origin_option ∷ [])
 
+-- `place --machine FILE --tools FILE [--program FILE] [--system SYSTEM] [--cuts N] [--json]
+-- [--origin SYSTEM=X,Y,Z]..`
+abbrev pub place_app : App
+place_app = fold with_rule (new_app (codes "place"))
+    (required_file (codes "machine") ∷ required_file (codes "tools")
+    ∷ file_option (codes "program") ∷ file_option (codes "system") ∷ cuts_option
+    ∷ flag (codes "json") ∷ origin_option ∷ [])
+
 -- `--tool N`, with a number from 1 to 9,999
 abbrev pub tool_option : Rule
 tool_option = record (file_option (codes "tool")) { parser = Some (Unsigned 1 9999) }
@@ -171,7 +179,7 @@ certifying_shapes = list_app.top ∷ certify_app.top ∷ check_app.top ∷ []
 
 abbrev pub running_shapes : List Shape
 running_shapes = run_app.top ∷ pulses_app.top ∷ live_app.top ∷ draw_app.top ∷ show_app.top
-    ∷ report_app.top ∷ adapt_app.top ∷ machine_app.top ∷ []
+    ∷ report_app.top ∷ place_app.top ∷ adapt_app.top ∷ machine_app.top ∷ []
 
 abbrev pub guide_shapes : List Shape
 guide_shapes = explain_app.top ∷ help_app.top ∷ (new_app (codes "version")).top ∷ []
@@ -246,6 +254,13 @@ report_words machine tools program cuts all json = codes "report"
     ∷ (codes "--machine=" ++ machine) ∷ (codes "--tools=" ++ tools)
     ∷ (file_words (codes "--program=") program ++ cuts_words cuts
     ++ flag_words (codes "--all") all ++ flag_words (codes "--json") json)
+
+-- the words of `ngc place` with these options, in one form
+abbrev pub place_words : Text → Text → Option Text → Option Text → Option ℕ → Bool → List Text
+place_words machine tools program system cuts json = codes "place"
+    ∷ (codes "--machine=" ++ machine) ∷ (codes "--tools=" ++ tools)
+    ∷ (file_words (codes "--program=") program ++ file_words (codes "--system=") system
+    ++ cuts_words cuts ++ flag_words (codes "--json") json)
 
 -- the one word `--tool=N`, where there is a number
 abbrev pub tool_words : Option ℕ → List Text

@@ -18,6 +18,7 @@ use Rattle.ngc_command_line.specs.declared.options.ListOptions.{ListOptions}
 use Rattle.ngc_command_line.specs.declared.options.LiveOptions.{LiveOptions}
 use Rattle.ngc_command_line.specs.declared.options.MachineOptions.{MachineOptions}
 use Rattle.ngc_command_line.specs.declared.options.Recording.{Recording}
+use Rattle.ngc_command_line.specs.declared.options.PlaceOptions.{PlaceOptions}
 use Rattle.ngc_command_line.specs.declared.options.ReportOptions.{ReportOptions}
 use Rattle.ngc_command_line.specs.declared.options.RunOptions.{RunOptions}
 use Rattle.ngc_command_line.specs.declared.options.ShowOptions.{ShowOptions}
@@ -34,7 +35,7 @@ use Rattle.ngc_command_line.specs.declared.options.Options.TheVariants.{Show as 
 use Rattle.ngc_command_line.specs.declared.options.Options.TheVariants.{Adapt as ToAdapt, Machine as ToMachine}
 use Rattle.ngc_command_line.specs.declared.options.Options.TheVariants.{Explain as ToExplain}
 use Rattle.ngc_command_line.specs.declared.options.Options.TheVariants.{Help as ToHelp}
-use Rattle.ngc_command_line.specs.declared.options.Options.TheVariants.{Report as ToReport}
+use Rattle.ngc_command_line.specs.declared.options.Options.TheVariants.{Place as ToPlace, Report as ToReport}
 use Rattle.ngc_command_line.specs.declared.options.Options.TheVariants.{Version as ToVersion}
 use Rattle.ngc_command_line.specs.declared.HelpFault.{HelpFault}
 use Rattle.ngc_command_line.specs.declared.HelpFault.TheVariants as help_faults
@@ -186,6 +187,16 @@ pub record AreReportOptions (rows : List Row) (options : ReportOptions) : Type 0
   pub json : options.json ≡ is_set (codes "json") rows
   pub origins : origins_in rows ≡ Ok options.origins
 
+-- each option of `place` by the first value that was found under its own name
+pub record ArePlaceOptions (rows : List Row) (options : PlaceOptions) : Type 0 where
+  pub machine : Some options.machine.now ≡ first_of (codes "machine") rows
+  pub tools : Some options.tools.now ≡ first_of (codes "tools") rows
+  pub program : option_map (λ name. name.now) options.program ≡ first_of (codes "program") rows
+  pub system : option_map (λ name. name.now) options.system ≡ first_of (codes "system") rows
+  pub cuts : AreCuts (first_of (codes "cuts") rows) options.cuts
+  pub json : options.json ≡ is_set (codes "json") rows
+  pub origins : origins_in rows ≡ Ok options.origins
+
 -- the number of a tool: none without a text, otherwise the number from 1 to 9,999 whose decimal the
 -- text is; a plus sign may precede it
 abbrev pub IsTool : Option Text → Option ℕ → Type 0
@@ -261,6 +272,11 @@ abbrev pub HasReportValues : List Row → Type 0
 HasReportValues rows = HasValue (codes "machine") rows × HasValue (codes "tools") rows
     × IfSome (first_of (codes "cuts") rows) (IsUnsignedIn 1 65535)
 
+-- the values that are found for `place` if the words are accepted
+abbrev pub HasPlaceValues : List Row → Type 0
+HasPlaceValues rows = HasValue (codes "machine") rows × HasValue (codes "tools") rows
+    × IfSome (first_of (codes "cuts") rows) (IsUnsignedIn 1 65535)
+
 -- the values that are found for `adapt` if the words are accepted
 abbrev pub HasAdaptValues : List Row → Type 0
 HasAdaptValues rows = HasValue (codes "from") rows
@@ -286,6 +302,7 @@ pub record IsWhole (name : Text) (rows : List Row) : Type 0 where
   pub draw : name ≡ codes "draw" → HasDrawValues rows
   pub show : name ≡ codes "show" → HasShowValues rows
   pub report : name ≡ codes "report" → HasReportValues rows
+  pub place : name ≡ codes "place" → HasPlaceValues rows
   pub adapt : name ≡ codes "adapt" → HasAdaptValues rows
   pub explain : name ≡ codes "explain" → HasExplainValues rows
 
@@ -304,6 +321,7 @@ AreOptions (Some found) (ToDraw draw) = (found.0 ≡ codes "draw") × AreDrawOpt
 AreOptions (Some found) (ToShow show) = (found.0 ≡ codes "show") × AreShowOptions found.1 show
 AreOptions (Some found) (ToReport report) =
     (found.0 ≡ codes "report") × AreReportOptions found.1 report
+AreOptions (Some found) (ToPlace place) = (found.0 ≡ codes "place") × ArePlaceOptions found.1 place
 AreOptions (Some found) (ToAdapt adapt) = (found.0 ≡ codes "adapt") × AreAdaptOptions found.1 adapt
 AreOptions (Some found) (ToMachine machine) =
     (found.0 ≡ codes "machine") × AreMachineOptions found.1 machine
@@ -395,6 +413,16 @@ AsksForReport machine tools program cuts all json (ToReport report) =
     × (report.cuts ≡ unwrap_or cuts 8) × (report.all ≡ all) × (report.json ≡ json)
     × (report.origins ≡ no_origins)
 AsksForReport machine tools program cuts all json other = ⊥
+
+-- `place` is requested, with these options, by default 8 cuts, and no origin is replaced
+abbrev pub AsksForPlace : Text → Text → Option Text → Option Text → Option ℕ → Bool → Options →
+    Type 0
+AsksForPlace machine tools program system cuts json (ToPlace place) =
+    (place.machine.now ≡ machine) × (place.tools.now ≡ tools)
+    × (option_map (λ name. name.now) place.program ≡ program)
+    × (option_map (λ name. name.now) place.system ≡ system)
+    × (place.cuts ≡ unwrap_or cuts 8) × (place.json ≡ json) × (place.origins ≡ no_origins)
+AsksForPlace machine tools program system cuts json other = ⊥
 
 -- `adapt` is requested, with these options
 abbrev pub AsksForAdapt : Text → Option Text → Option ℕ → Option Text → Option Text →

@@ -5,7 +5,7 @@ use Rattle.clap.specs.declared.builder.action.ArgAction.TheVariants.{Set, Append
 use Rattle.clap.specs.declared.builder.value_parser.ValueParser.TheVariants.{Unsigned}
 use Rattle.ngc_command_line.specs.CommandLine.{certify_app, check_app, draw_app, explain_app}
 use Rattle.ngc_command_line.specs.CommandLine.{adapt_app, help_app, list_app, live_app, machine_app}
-use Rattle.ngc_command_line.specs.CommandLine.{pulses_app, report_app, run_app, show_app}
+use Rattle.ngc_command_line.specs.CommandLine.{place_app, pulses_app, report_app, run_app, show_app}
 use Rattle.ngc_command_line.specs.declared.commands.Subcommand.{Subcommand}
 use Rattle.ngc_command_line.specs.declared.commands.Subcommand.TheVariants as named
 use Rattle.ngc_command_line.specs.declared.table.Argument.{Argument}
@@ -40,6 +40,7 @@ app_named named.Live = live_app
 app_named named.Draw = draw_app
 app_named named.Show = show_app
 app_named named.Report = report_app
+app_named named.Place = place_app
 app_named named.Adapt = adapt_app
 app_named named.Machine = machine_app
 app_named named.Explain = explain_app

@@ -15,6 +15,7 @@ use crate::guide::{HELP, VERSION};
 use crate::list::LIST;
 use crate::live::LIVE;
 use crate::machine::MACHINE;
+use crate::place::PLACE;
 use crate::report::REPORT;
 use crate::run::{PULSES, RUN};
 use crate::show::SHOW;
@@ -32,6 +33,7 @@ enum Subcommand {
     Draw,
     Show,
     Report,
+    Place,
     Adapt,
     Machine,
     Explain,
@@ -40,7 +42,7 @@ enum Subcommand {
 }
 
 // In the order of the help.
-const SUBCOMMANDS: [Subcommand; 14] = [
+const SUBCOMMANDS: [Subcommand; 15] = [
     Subcommand::List,
     Subcommand::Certify,
     Subcommand::Check,
@@ -50,6 +52,7 @@ const SUBCOMMANDS: [Subcommand; 14] = [
     Subcommand::Draw,
     Subcommand::Show,
     Subcommand::Report,
+    Subcommand::Place,
     Subcommand::Adapt,
     Subcommand::Machine,
     Subcommand::Explain,
@@ -72,6 +75,7 @@ fn row_named(subcommand: &Subcommand) -> &'static SubcommandRow<'static>
         Subcommand::Draw => &DRAW,
         Subcommand::Show => &SHOW,
         Subcommand::Report => &REPORT,
+        Subcommand::Place => &PLACE,
         Subcommand::Adapt => &ADAPT,
         Subcommand::Machine => &MACHINE,
         Subcommand::Explain => &EXPLAIN,

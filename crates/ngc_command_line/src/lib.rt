@@ -12,14 +12,14 @@ ghost use Rattle.ngc_command_line.specs.CommandLine.{certify_words, check_words,
 ghost use Rattle.ngc_command_line.specs.CommandLine.{help_words, list_words, show_words};
 ghost use Rattle.ngc_command_line.specs.CommandLine.{ngc_app, run_words};
 ghost use Rattle.ngc_command_line.specs.CommandLine.{MachineSource, adapt_words, machine_words};
-ghost use Rattle.ngc_command_line.specs.CommandLine.{live_words, report_words};
+ghost use Rattle.ngc_command_line.specs.CommandLine.{live_words, place_words, report_words};
 ghost use Rattle.ngc_command_line.specs.Meant.{AreCutsInRange, AreOptions, AsksForCertify};
 ghost use Rattle.ngc_command_line.specs.Meant.{AsksForCheck, AsksForDraw, AsksForList, AsksForRun};
 ghost use Rattle.ngc_command_line.specs.Meant.{AsksForLive, AsksForShow, AsksForHelp};
-ghost use Rattle.ngc_command_line.specs.Meant.{AreCommands, AsksForReport, help_fault_number};
+ghost use Rattle.ngc_command_line.specs.Meant.{AreCommands, AsksForPlace, AsksForReport};
 ghost use Rattle.ngc_command_line.specs.Meant.{AsksForAdapt, AsksForMachine, HaveOrigins, IsTaken};
 ghost use Rattle.ngc_command_line.specs.Meant.{IsToolInRange, IsWhole, origins_in};
-ghost use Rattle.ngc_command_line.specs.Meant.{usage_fault_number};
+ghost use Rattle.ngc_command_line.specs.Meant.{help_fault_number, usage_fault_number};
 
 mod adapt;
 mod arguments;
@@ -34,6 +34,7 @@ mod live;
 mod machine;
 mod options;
 mod origin;
+mod place;
 mod report;
 mod run;
 mod show;
@@ -54,9 +55,11 @@ use machine::machine_options;
 use ngc_origins::Origins;
 pub use options::{
     AdaptOptions, CertifyOptions, CheckOptions, DrawOptions, Format, ListOptions, LiveOptions,
-    MachineOptions, Options, Recording, ReportOptions, RunOptions, RunThroughOptions, ShowOptions,
+    MachineOptions, Options, PlaceOptions, Recording, ReportOptions, RunOptions, RunThroughOptions,
+    ShowOptions,
 };
 use origin::{origin_fault, origins_of};
+use place::place_options;
 use report::report_options;
 use run::run_options;
 use show::show_options;
@@ -138,6 +141,7 @@ fn options_of<'a>(name: &str, found: &ArgMatches<'a>, origins: Origins) -> Optio
         "draw" => Options::Draw(draw_options(found, origins)),
         "show" => Options::Show(show_options(found)),
         "report" => Options::Report(report_options(found, origins)),
+        "place" => Options::Place(place_options(found, origins)),
         "adapt" => Options::Adapt(adapt_options(found)),
         "machine" => Options::Machine(machine_options(found)),
         "explain" => Options::Explain(explained_number(found)),
@@ -223,6 +227,14 @@ pub fn read_options<'a>(alloc: Global, words: &'a [&'a str]) -> Result<Options<'
         → AreCutsInRange cuts
         → texts words.entry.now ≡ report_words machine tools program cuts all json
         → MatchResult result (AsksForReport machine tools program cuts all json)
+        (λ fault. fault ≡ UsageFault.Memory) }
+    // `place --machine=FILE --tools=FILE --program=FILE --system=SYSTEM --cuts=N --json` is read as
+    // it is written, where the last four may be left out.
+    ensures spelled_place { (machine tools : Text) (program system : Option Text)
+        (cuts : Option ℕ) (json : Bool)
+        → AreCutsInRange cuts
+        → texts words.entry.now ≡ place_words machine tools program system cuts json
+        → MatchResult result (AsksForPlace machine tools program system cuts json)
         (λ fault. fault ≡ UsageFault.Memory) }
     // `adapt --from=CONTROL --machine=FILE --tool=N --drop=CODES --program=FILE` is read as it is
     // written, where the last four may be left out.

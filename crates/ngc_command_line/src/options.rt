@@ -26,6 +26,8 @@ pub enum Options<'a> {
     Show(ShowOptions<'a>),
     /// `ngc report`: report whether a part program fits a machine, with its clearance and its time.
     Report(ReportOptions<'a>),
+    /// `ngc place`: find at which shifts of a work origin a part program fits a machine.
+    Place(PlaceOptions<'a>),
     /// `ngc adapt`: print a part program for another control as one for this control.
     Adapt(AdaptOptions<'a>),
     /// `ngc machine`: print a machine file from figures.
@@ -230,6 +232,28 @@ pub struct ReportOptions<'a> {
     /// Whether every command that no cut clears is reported, and not only the first one.
     pub all: bool,
     /// Whether the report is a JSON document in place of sentences.
+    pub json: bool,
+    /// The origins that replace those of the machine file.
+    pub origins: Origins,
+    ghost some_cuts: { 1 ≤ cuts },
+}
+
+/// The options of `ngc place`.
+#[derive(Clone, Copy)]
+pub struct PlaceOptions<'a> {
+    /// The machine file.
+    pub machine: &'a str,
+    /// The file of the tool table.
+    pub tools: &'a str,
+    /// The file of the part program. Without one it is read from standard input.
+    pub program: Option<&'a str>,
+    /// The name of the coordinate system whose origin is shifted: `54` to `59`, `59.1`, `59.2` or
+    /// `59.3`. Any other name is unknown. The default is `54`.
+    pub system: Option<&'a str>,
+    /// The greatest number of pieces into which a motion is cut, from 1 to 65,535. The default is
+    /// 8.
+    pub cuts: u16,
+    /// Whether the output is a JSON document in place of sentences.
     pub json: bool,
     /// The origins that replace those of the machine file.
     pub origins: Origins,

@@ -21,7 +21,7 @@ const ALL: Argument<'static> = Argument {
     help: "Where it doesn't fit, tell every command that\nis in the way, and not the first alone",
 };
 
-const JSON: Argument<'static> = Argument {
+pub(crate) const JSON: Argument<'static> = Argument {
     name: "json",
     is_named: true,
     is_required: false,

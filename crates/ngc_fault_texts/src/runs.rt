@@ -146,6 +146,15 @@ pub(crate) fn shell() -> &'static [Row]
             mend: "Without `--output` it is the first of them.",
         },
         Row {
+            number: 728,
+            rule: "`ngc place` has no coordinate system of this name: write `54` to `59`, `59.1`, `59.2` or `59.3`\n\
+             (our own).",
+            example: "command `ngc place --system G54` with a machine file and a tool table",
+            answer: "`ngc: fault 728`",
+            place: Some("3"),
+            mend: "Without `--system` it is `54`, for G54.",
+        },
+        Row {
             number: 900,
             rule: "There isn't enough memory for the files and the commands: give `ngc` more (our own).",
             example: "command `ngc list` in a shell after `ulimit -v 8000`, with a program of 100,000 lines",

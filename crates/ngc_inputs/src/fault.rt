@@ -82,6 +82,9 @@ pub enum AnswerFault {
     /// No form of a run's output has the name: 727.
     #[error("no form has this name")]
     UnknownForm,
+    /// No coordinate system has the name: 728.
+    #[error("no coordinate system has this name")]
+    UnknownSystem,
 }
 
 impl AnswerFault {
@@ -108,6 +111,7 @@ impl AnswerFault {
             AnswerFault::WrongCodes => 725,
             AnswerFault::NoFigures => 726,
             AnswerFault::UnknownForm => 727,
+            AnswerFault::UnknownSystem => 728,
         }
     }
 
@@ -131,7 +135,8 @@ impl AnswerFault {
             AnswerFault::UnknownControl
             | AnswerFault::WrongCodes
             | AnswerFault::NoFigures
-            | AnswerFault::UnknownForm => 3,
+            | AnswerFault::UnknownForm
+            | AnswerFault::UnknownSystem => 3,
         }
     }
 }

@@ -200,7 +200,8 @@ fn add_place(chunk: &mut Chunk, fault: &AnswerFault)
         | AnswerFault::UnknownControl
         | AnswerFault::WrongCodes
         | AnswerFault::NoFigures
-        | AnswerFault::UnknownForm => {}
+        | AnswerFault::UnknownForm
+        | AnswerFault::UnknownSystem => {}
     }
 }
 

@@ -1,5 +1,5 @@
 -- The result of certifying a program, from what is written of its plans.
-use Rattle.std.proofs.Common.{◌≡◌, ℕ, List, Option, true, Ok, Err, refl, ap₂, subst, sym, ◌∙◌}
+use Rattle.std.proofs.Common.{◌≡◌, ℕ, List, Option, true, Ok, Err, refl, ap₂, subst, sym}
 use Rattle.std.specs.Prelude.{Result}
 use Rattle.std.specs.Io.KnownBytes.{Appends}
 use Rattle.ngc_text.specs.Written.{AppendsBeginning}

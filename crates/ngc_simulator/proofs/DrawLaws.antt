@@ -1,5 +1,5 @@
 -- The result of drawing a program, from the results of its parts.
-use Rattle.std.proofs.Common.{◌≡◌, ℕ, ◌-◌, List, [], ◌∷◌, ◌++◌, Option, Some, None, Bool, Result, Ok, Err, IfSome, ap, refl, subst}
+use Rattle.std.proofs.Common.{◌≡◌, ℕ, List, [], ◌∷◌, ◌++◌, Option, Some, None, Bool, Result, Ok, Err, IfSome, ap, refl, subst}
 use Rattle.std.proofs.Common.{sym, ◌∙◌, true, false}
 use Rattle.std.specs.Option.{is_some}
 use Rattle.std.specs.Prelude.{MatchOption, option_map, slice_get}
@@ -20,10 +20,9 @@ use Rattle.ngc_frames.specs.declared.change.FrameChange.{FrameChange}
 use Rattle.ngc_frames.specs.declared.frame.Frame.{Frame}
 use Rattle.ngc_certificate_text.specs.Certificate.{CertificateData, Entry, entries_at}
 use Rattle.ngc_certificate_text.specs.Said.{certificate_said}
-use Rattle.ngc_certificate_text.specs.declared.piece.Setting.{Setting}
 use Rattle.ngc_certificate_text.specs.declared.piece.Setting.TheVariants.{Off}
 use Rattle.ngc_certificate.specs.Made.{from_start, join_settings}
-use Rattle.ngc_certificate.specs.PieceFault.{◌or◌, place_fault}
+use Rattle.ngc_certificate.specs.PieceFault.{place_fault}
 use Rattle.ngc_certificate.specs.Uncleared.{AreUncleared}
 use Rattle.ngc_certificate.proofs.SomeMade.{some_made}
 use Rattle.ngc_certificate.proofs.UnclearedLaws.{first_refused as law_refused, none_made}
@@ -39,7 +38,6 @@ use Rattle.ngc_drawing.specs.declared.refusal.RefusedMotion.{RefusedMotion}
 use Rattle.ngc_drawing.specs.declared.view.View.{View}
 use Rattle.ngc_simulator.specs.Answers.{DrawsFrom, certificate_input, certificate_inputs, draw_inputs, program_input}
 use Rattle.ngc_simulator.specs.Drawing.{Draws, DrawsGiven, DrawsProgram, IsFirstRefused, IsGivenRefusal, IsPicture, fault_at, origin_shown, refusal_answer, work_origin}
-use Rattle.ngc_program_report.specs.Met.{met_at}
 use Rattle.ngc_simulator.specs.Drawing.{look_of, setting_of}
 use Rattle.ngc_inputs.specs.Faults.{of_picture}
 use Rattle.ngc_simulator.specs.Lists.{IsMeaning, IsRefused}

@@ -1,17 +1,14 @@
 -- The result of writing all faults of a program.
-use Rattle.std.proofs.Common.{◌≡◌, ℕ, List, Option, None, Bool, true, Result, Ok, Err, inl, inr, refl, ap, subst, sym, ◌∙◌}
+use Rattle.std.proofs.Common.{◌≡◌, ℕ, List, Option, None, true, Result, Ok, Err, refl, ap, subst, sym, ◌∙◌}
 use Rattle.std.specs.Prelude.{IfErr}
-use Rattle.ngc_canonical.specs.State.{Setup}
 use Rattle.ngc_certificate_text.specs.declared.piece.Setting.{Setting}
 use Rattle.ngc_line_reader.specs.declared.program.fault.ReadFault.TheVariants.{Line, NoEnd, TooManyLines, Memory, Device}
-use Rattle.ngc_report.specs.declared.form.Form.{Form}
 use Rattle.ngc_all_faults.specs.declared.text_fault.TextFault.{TextFault}
 use Rattle.ngc_all_faults.specs.declared.text_fault.TextFault.TheVariants.{Unread, Refused}
 use Rattle.ngc_simulator.specs.AllFaults.{answer_of, is_of_text}
 use Rattle.ngc_inputs.specs.Setups.{FileBytes}
 use Rattle.ngc_inputs.specs.Unread.{FailsByInput, Input, unread_by}
 use Rattle.ngc_inputs.specs.declared.fault.AnswerFault.{AnswerFault}
-use Rattle.ngc_inputs.specs.declared.fault.AnswerFault.TheVariants as answers
 use Rattle.ngc_inputs.proofs.UnreadLaws.{Told}
 
 read_none : (s : Setting) (first : TextFault) → is_of_text first ≡ true → unread_by (answer_of s first) ≡ None

@@ -18,6 +18,8 @@ pub mod CertifyLaws
 pub mod DrawLaws
 -- The result of reporting whether a program fits, from the results of its parts.
 pub mod ReportLaws
+-- The result of finding at which shifts of an origin a program fits, from the results of its parts.
+pub mod PlaceLaws
 -- The result of reporting a program that can't be read, on the files that the command line names.
 pub mod UnreadableLaws
 -- The result of writing all faults of a program.

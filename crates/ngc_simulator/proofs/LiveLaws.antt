@@ -1,5 +1,5 @@
 -- The result of a run whose events arrive from a source, from the results of its parts.
-use Rattle.std.proofs.Common.{◌≡◌, ℕ, List, Option, Some, None, Bool, Result, Ok, Err, IfSome, refl, sym, subst, ◌∙◌}
+use Rattle.std.proofs.Common.{◌≡◌, ℕ, List, Option, Some, None, Bool, Result, Ok, Err, IfSome, sym, subst, ◌∙◌}
 use Rattle.ngc_canonical.specs.Interpreter.{setup_of}
 use Rattle.ngc_canonical.specs.State.{Setup}
 use Rattle.ngc_checker.specs.Accepted.{AcceptedData, Answers, commands_at}

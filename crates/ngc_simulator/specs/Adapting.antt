@@ -1,5 +1,5 @@
 -- The result of adapting a program for another control. Our own.
-use Rattle.std.specs.Prelude.{◌≡◌, ◌⊎◌, ℕ, Bool, true, false, List, ◌++◌, codes, Option, Some, None, replicate}
+use Rattle.std.specs.Prelude.{◌≡◌, ℕ, Bool, true, false, List, ◌++◌, codes, Option, Some, None, replicate}
 use Rattle.std.specs.Prelude.{[], ◌∷◌, is_some, option_map, Result, Ok, Err, if◌then◌else◌}
 use Rattle.std.specs.Io.KnownBytes.{Appends, Keeps}
 use Rattle.ngc_text.specs.Written.{AppendsBeginning}
@@ -13,7 +13,6 @@ use Rattle.ngc_command_line.specs.declared.options.AdaptOptions.{AdaptOptions}
 use Rattle.ngc_commands.specs.declared.command.Command.{Command}
 use Rattle.ngc_machine_files.specs.Machine.{MachineFile}
 use Rattle.ngc_machine_files.specs.ToolText.{tool_table}
-use Rattle.ngc_machine_files.specs.declared.fault.FileFault.{FileFault}
 use Rattle.ngc_simulator.specs.declared.done.Notes.{Notes}
 use Rattle.ngc_inputs.specs.declared.fault.AnswerFault.{AnswerFault}
 use Rattle.ngc_inputs.specs.declared.fault.AnswerFault.TheVariants as answers

@@ -10,6 +10,7 @@ use Rattle.ngc_command_line.specs.declared.options.CheckOptions.{CheckOptions}
 use Rattle.ngc_command_line.specs.declared.options.DrawOptions.{DrawOptions}
 use Rattle.ngc_command_line.specs.declared.options.LiveOptions.{LiveOptions}
 use Rattle.ngc_command_line.specs.declared.options.MachineOptions.{MachineOptions}
+use Rattle.ngc_command_line.specs.declared.options.PlaceOptions.{PlaceOptions}
 use Rattle.ngc_command_line.specs.declared.options.ReportOptions.{ReportOptions}
 use Rattle.ngc_command_line.specs.declared.options.RunOptions.{RunOptions}
 use Rattle.ngc_command_line.specs.declared.options.RunThroughOptions.{RunThroughOptions}
@@ -40,7 +41,11 @@ use Rattle.ngc_simulator.specs.Drawing.{DrawsGiven, DrawsProgram, look_of, view_
 use Rattle.ngc_simulator.specs.Showing.{Shows}
 use Rattle.ngc_report.specs.declared.form.Form.{Form}
 use Rattle.ngc_report.specs.declared.form.Form.TheVariants.{Words, Json}
+use Rattle.ngc_simulator.specs.Placing.{PlaceWritten}
 use Rattle.ngc_simulator.specs.Reporting.{Reports}
+use Rattle.ngc_simulator.specs.declared.place_request.PlaceRequest.{PlaceRequest}
+use Rattle.ngc_fixed_length.specs.declared.modes.System.{System}
+use Rattle.ngc_place_report.specs.Systems.{system_named}
 use Rattle.ngc_program_report.specs.declared.request.ReportRequest.{ReportRequest}
 use Rattle.ngc_inputs.specs.Jobs.{Certifies, Checks}
 use Rattle.ngc_run_log.specs.declared.live_form.LiveForm.{LiveForm}
@@ -256,6 +261,37 @@ ReportComes bytes options old new (Err fault) =
     TellsRefusal (form_asked options.json) bytes (Some options.machine.now)
     (Some options.tools.now) old new fault ⊎ ReportFails bytes options old new fault
 
+-- what is requested of `place`, where the system is known
+abbrev pub place_request : PlaceOptions → System → PlaceRequest
+place_request options system = record {
+  system = system;
+  cuts = options.cuts;
+  form = form_asked options.json;
+  some_cuts = options.some_cuts;
+}
+
+abbrev pub PlaceWrittenOn : FileBytes → PlaceOptions → System → Option (List ℕ) →
+    Option (List ℕ) → Result (Unit {0}) AnswerFault → Type 0
+PlaceWrittenOn bytes options system old new outcome =
+    OnPlaced bytes (Some options.machine.now) (Some options.tools.now) options.origins
+    (λ setup.
+    IfSome (bytes (option_map (λ name. name.now) options.program))
+    (λ text. PlaceWritten setup text (place_request options system) old new outcome))
+
+-- a system that isn't known is rejected before a file is read
+abbrev pub PlaceComes : FileBytes → PlaceOptions → Option System → Option (List ℕ) →
+    Option (List ℕ) → Result Done AnswerFault → Type 0
+PlaceComes bytes options None old new outcome =
+    (outcome ≡ Err answers.UnknownSystem) × Keeps old new
+PlaceComes bytes options (Some system) old new outcome =
+    Comes (TellsRefusal (form_asked options.json) bytes (Some options.machine.now)
+    (Some options.tools.now) old new) OfCertifying (PlaceWrittenOn bytes options system old new)
+    outcome
+
+-- the system that is named, G54 without a name
+abbrev pub system_asked : PlaceOptions → Option System
+system_asked options = system_named (option_map (λ name. name.now) options.system)
+
 -- the run's ticks, and the ticks per second of its machine
 pub record IsTimeOf (setup : Setup) (report : Report) (time : RunTime) : Type 0 where
   pub ticks : time.ticks ≡ report.ticks
@@ -392,6 +428,8 @@ ComesBy bytes (commands.Draw options) old new outcome =
     old new outcome
 ComesBy bytes (commands.Show options) old new outcome = ShowComes bytes options old new outcome
 ComesBy bytes (commands.Report options) old new outcome = ReportComes bytes options old new outcome
+ComesBy bytes (commands.Place options) old new outcome =
+    PlaceComes bytes options (system_asked options) old new outcome
 ComesBy bytes (commands.Adapt options) old new outcome = AdaptComes bytes options old new outcome
 ComesBy bytes (commands.Machine options) old new outcome =
     MachineComes bytes options old new outcome
@@ -470,6 +508,13 @@ report_inputs options =
     shop_inputs (Some options.machine.now) (Some options.tools.now)
     ++ program_input (option_map (λ name. name.now) options.program) ∷ []
 
+-- where the system is known
+abbrev pub place_inputs : PlaceOptions → Option System → List Input
+place_inputs options None = []
+place_inputs options (Some system) =
+    shop_inputs (Some options.machine.now) (Some options.tools.now)
+    ++ program_input (option_map (λ name. name.now) options.program) ∷ []
+
 -- a program for another control, by any bytes
 abbrev pub source_input : Option (List ℕ) → Input
 source_input name = record { kind = OfSource; name = name }
@@ -499,6 +544,7 @@ inputs_of (commands.Draw options) =
     draw_inputs options (view_named (option_map (λ name. name.now) options.view))
 inputs_of (commands.Show options) = show_inputs options
 inputs_of (commands.Report options) = report_inputs options
+inputs_of (commands.Place options) = place_inputs options (system_asked options)
 inputs_of (commands.Adapt options) = adapt_inputs options
 inputs_of (commands.Machine options) = machine_inputs options
 inputs_of (commands.Explain number) = []
@@ -540,6 +586,7 @@ IsQuiet (commands.Live options) = Unit {0}
 IsQuiet (commands.Draw options) = Unit {0}
 IsQuiet (commands.Show options) = Unit {0}
 IsQuiet (commands.Report options) = Unit {0}
+IsQuiet (commands.Place options) = Unit {0}
 IsQuiet (commands.Adapt options) = ⊥
 IsQuiet (commands.Machine options) = ⊥
 IsQuiet (commands.Explain number) = Unit {0}

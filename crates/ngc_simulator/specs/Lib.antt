@@ -13,4 +13,5 @@ pub mod Mistaken
 pub mod Status
 pub mod Adapting
 pub mod Certifying
+pub mod Placing
 pub mod Answers

@@ -14,6 +14,8 @@ mod lister;
 mod living;
 mod making;
 mod mistaken_files;
+mod place_request;
+mod placing;
 mod program;
 mod reporting;
 mod reporting_files;
@@ -38,8 +40,8 @@ pub use ngc_certificate_text::{Certificate, CertificateFault};
 pub use ngc_checker::{Accepted, CheckFault, check};
 pub use ngc_command_line::{
     AdaptOptions, CertifyOptions, CheckOptions, DrawOptions, Format, HelpFault, ListOptions,
-    LiveOptions, MachineOptions, Options, Recording, ReportOptions, RunOptions, RunThroughOptions,
-    ShowOptions, UsageFault, help_text, read_options,
+    LiveOptions, MachineOptions, Options, PlaceOptions, Recording, ReportOptions, RunOptions,
+    RunThroughOptions, ShowOptions, UsageFault, help_text, read_options,
 };
 pub use ngc_controller::{Controller, MemoryFault};
 pub use ngc_drawing::{DrawFault, RefusedMotion, View, WorkOrigin, write_svg};
@@ -59,6 +61,8 @@ pub use ngc_run_through::{
 };
 pub use ngc_setup_sheet::write_sheet;
 pub use ngc_step_kernel::{ArcKernel, ArcPath};
+pub use place_request::PlaceRequest;
+pub use placing::place_program;
 pub use program::answer;
 pub use reporting::report_program;
 pub use running::run_program;

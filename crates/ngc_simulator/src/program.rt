@@ -13,6 +13,7 @@ use crate::guide::{write_help, write_version};
 use crate::lister::list_files;
 use crate::living::live_asked;
 use crate::making::machine_files;
+use crate::placing::place_files;
 use crate::reporting_files::report_files;
 use crate::running::run_asked;
 use crate::showing::show_files;
@@ -46,6 +47,7 @@ fn run_command<F: Files, W: Sink>(
         Options::Draw(options) => draw_files(alloc, options, files, output),
         Options::Show(options) => show_files(alloc, options, files, output),
         Options::Report(options) => report_files(alloc, options, files, output),
+        Options::Place(options) => place_files(alloc, options, files, output),
         Options::Adapt(options) => adapt_files(alloc, options, files, output),
         Options::Machine(options) => machine_files(alloc, options, files, output),
         Options::Explain(number) => match explain(*number, output) {

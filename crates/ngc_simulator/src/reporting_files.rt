@@ -16,7 +16,8 @@ use ngc_report::Form;
 use ngc_text::Sink;
 use std::alloc::Global;
 
-fn form_asked(json: bool) -> Form
+/// Returns the form that is requested: a document or words.
+pub(crate) fn form_asked(json: bool) -> Form
     ensures { result ≡ form_asked json }
 {
     if json { Form::Json } else { Form::Words }

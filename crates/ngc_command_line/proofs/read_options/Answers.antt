@@ -5,9 +5,9 @@ use Rattle.ngc_command_line.specs.Meant.{AreOptions}
 use Rattle.ngc_command_line.proofs.Found.{found_from_parts}
 use Rattle.ngc_command_line.proofs.Simple.{ngc_is_free, ngc_is_simple, taken_is_memory}
 use Rattle.ngc_command_line.proofs.Spelled.{adapt_read, adapt_taken, certify_read, certify_taken, check_read, check_taken, draw_read, draw_taken, help_read, help_taken, list_read, machine_read, machine_taken}
-use Rattle.ngc_command_line.proofs.Spelled.{list_taken, live_read, live_taken, report_read, report_taken, run_read, run_taken, show_read, show_taken, version_read, version_taken}
+use Rattle.ngc_command_line.proofs.Spelled.{list_taken, live_read, live_taken, place_read, place_taken, report_read, report_taken, run_read, run_taken, show_read, show_taken, version_read, version_taken}
 use Rattle.ngc_command_line.proofs.Spelled.{adapt_origins, certify_origins, check_origins, draw_origins, help_origins, list_origins, live_origins}
-use Rattle.ngc_command_line.proofs.Spelled.{machine_origins, report_origins, run_origins, show_origins, version_origins, wrong_origins}
+use Rattle.ngc_command_line.proofs.Spelled.{machine_origins, place_origins, report_origins, run_origins, show_origins, version_origins, wrong_origins}
 use Rattle.ngc_command_line.proofs.Whole.{taken_is_whole}
 use Rattle.ngc_command_line.proofs.read_options.Goals as goal
 
@@ -67,6 +67,10 @@ pub returns-in-Ok-origins_of-clause-spelled_report : goal.returns-in-Ok-origins_
 returns-in-Ok-origins_of-clause-spelled_report c =
     λ machine tools program cuts all json range spelled. report_read _ machine tools program cuts all json _ range spelled (returns-in-Ok-origins_of-clause-options c)
 
+pub returns-in-Ok-origins_of-clause-spelled_place : goal.returns-in-Ok-origins_of-clause-spelled_place
+returns-in-Ok-origins_of-clause-spelled_place c =
+    λ machine tools program system cuts json range spelled. place_read _ machine tools program system cuts json _ range spelled (returns-in-Ok-origins_of-clause-options c)
+
 pub returns-in-Ok-origins_of-clause-spelled_adapt : goal.returns-in-Ok-origins_of-clause-spelled_adapt
 returns-in-Ok-origins_of-clause-spelled_adapt c =
     λ from machine tool drop program range spelled. adapt_read _ from machine tool drop program _ range spelled (returns-in-Ok-origins_of-clause-options c)
@@ -122,6 +126,11 @@ pub returns-in-Err-clause-spelled_report : goal.returns-in-Err-clause-spelled_re
 returns-in-Err-clause-spelled_report c = λ machine tools program cuts all json range spelled.
     c.usage_fault.ensures
     (taken_is_memory _ _ c.in-Err.error c.in-Ok.ensures (report_taken _ machine tools program cuts all json range spelled) c.in-Err.ensures.kinds)
+
+pub returns-in-Err-clause-spelled_place : goal.returns-in-Err-clause-spelled_place
+returns-in-Err-clause-spelled_place c = λ machine tools program system cuts json range spelled.
+    c.usage_fault.ensures
+    (taken_is_memory _ _ c.in-Err.error c.in-Ok.ensures (place_taken _ machine tools program system cuts json range spelled) c.in-Err.ensures.kinds)
 
 pub returns-in-Err-clause-spelled_adapt : goal.returns-in-Err-clause-spelled_adapt
 returns-in-Err-clause-spelled_adapt c = λ from machine tool drop program range spelled.
@@ -213,6 +222,14 @@ returns-in-Some-clause-spelled_report c =
     let matches = (c.in-Ok-try_get_matches_from.ensures.matches (ap is_simple built ∙ ngc_is_simple)).1 in
     let found = found_from_parts _ _ _ _ _ _ c.in-Some.ensures.name c.in-Some.ensures.rows (matches ∙ ap (λ (app : App). subcommand_of app words) built) in
     λ machine tools program cuts all json range spelled. wrong_origins _ _ _ _ found c.in-Err-origins_of.ensures (report_origins _ machine tools program cuts all json range spelled)
+
+pub returns-in-Some-clause-spelled_place : goal.returns-in-Some-clause-spelled_place
+returns-in-Some-clause-spelled_place c =
+    let built = c.in-Ok.ensures in
+    let words = texts c.args.words.now in
+    let matches = (c.in-Ok-try_get_matches_from.ensures.matches (ap is_simple built ∙ ngc_is_simple)).1 in
+    let found = found_from_parts _ _ _ _ _ _ c.in-Some.ensures.name c.in-Some.ensures.rows (matches ∙ ap (λ (app : App). subcommand_of app words) built) in
+    λ machine tools program system cuts json range spelled. wrong_origins _ _ _ _ found c.in-Err-origins_of.ensures (place_origins _ machine tools program system cuts json range spelled)
 
 pub returns-in-Some-clause-spelled_adapt : goal.returns-in-Some-clause-spelled_adapt
 returns-in-Some-clause-spelled_adapt c =

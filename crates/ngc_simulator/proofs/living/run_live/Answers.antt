@@ -1,4 +1,4 @@
-use Rattle.std.proofs.Common.{◌≡◌, ◌∙◌, Ok, Err, IfErr}
+use Rattle.std.proofs.Common.{◌≡◌, ◌∙◌, Err, IfErr}
 use Rattle.ngc_text.specs.Failures.{Rises}
 use Rattle.ngc_text.specs.declared.input_fault.InputFault.TheVariants as inputs
 use Rattle.ngc_inputs.specs.Faults.{FailsByOutput, OfLiving, of_live, of_run}

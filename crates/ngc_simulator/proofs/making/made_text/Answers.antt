@@ -1,7 +1,6 @@
-use Rattle.std.proofs.Common.{◌≡◌, ◌++◌, ◌∙◌, [], List, ℕ, IsOk, Ok, Result, rules, subst, sym}
-use Rattle.ngc_machine_files.specs.Machine.{MachineFile, file_of}
+use Rattle.std.proofs.Common.{◌≡◌, ◌++◌, ◌∙◌, [], List, ℕ, IsOk, Ok, rules, subst, sym}
+use Rattle.ngc_machine_files.specs.Machine.{file_of}
 use Rattle.ngc_machine_files.specs.MachineText.{machine_file}
-use Rattle.ngc_machine_files.specs.declared.fault.FileFault.{FileFault}
 use Rattle.ngc_setup_sheet.specs.Sheets.{warning_remarks}
 use Rattle.ngc_simulator.proofs.making.made_text.Goals as goal
 

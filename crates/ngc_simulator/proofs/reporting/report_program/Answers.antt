@@ -73,3 +73,14 @@ returns-in-Err-NotCleared-clause-reports g c =
     if_known _ _ _ (λ bytes is_text. told_refusal setup bytes c.args.request (text_in c.in_ok-program.program) c.in-Ok.framed.job is_text
     c.in_ok-program.ensures.readings c.in-Ok.ensures.job refused.setting refused.command _ _ unmade
     c.in_ok-report_refusal-in-Err-NotCleared.ensures.tells) c.in_ok-program.ensures.text
+
+pub returns-in_err-report_refusal-in-Err-NotCleared-clause-sink : goal.returns-in_err-report_refusal-in-Err-NotCleared-clause-sink
+returns-in_err-report_refusal-in-Err-NotCleared-clause-sink g c =
+    let fault = c.in_err-report_refusal-in-Err-NotCleared.field-0.0 in
+    turned _ (of_report fault) (λ r. FailsByOutput r (g.W.Sink.failures c.args.output.now) (g.W.Sink.failures c.report_refusal.new.output))
+    c.from_residual-in_err-report_refusal-in-Err-NotCleared.ensures.1 (report_sink fault _ _ c.in_err-report_refusal-in-Err-NotCleared.ensures.counts)
+
+pub returns-in_err-report_refusal-in-Err-NotCleared-clause-faults : goal.returns-in_err-report_refusal-in-Err-NotCleared-clause-faults
+returns-in_err-report_refusal-in-Err-NotCleared-clause-faults g c =
+    let fault = c.in_err-report_refusal-in-Err-NotCleared.field-0.0 in
+    turned _ (of_report fault) (λ r. IfErr r OfCertifying) c.from_residual-in_err-report_refusal-in-Err-NotCleared.ensures.1 (report_faults fault)

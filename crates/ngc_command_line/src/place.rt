@@ -1,0 +1,57 @@
+//! `ngc place`.
+
+ghost use Rattle.std.specs.Prelude.{◌≡◌, Ok};
+ghost use Rattle.clap.specs.Words.{found_of, rows_of};
+ghost use Rattle.ngc_command_line.specs.Meant.{ArePlaceOptions, HasPlaceValues, origins_in};
+
+use crate::arguments::{
+    CUTS, ORIGIN, PROGRAM, REQUIRED_MACHINE, REQUIRED_TOOLS, flag_is_set, help_end, required,
+};
+use crate::certify::cuts_of;
+use crate::options::PlaceOptions;
+use crate::report::JSON;
+use crate::table::{Argument, SubcommandRow, Takes};
+use clap::ArgMatches;
+use ngc_origins::Origins;
+
+const SYSTEM: Argument<'static> = Argument {
+    name: "system",
+    is_named: true,
+    is_required: false,
+    takes: Takes::Text("SYSTEM"),
+    help: "Coordinate system whose origin is shifted: 54 to 59,\n59.1, 59.2 or 59.3 [default: 54]",
+};
+
+pub(crate) static PLACE: SubcommandRow<'static> = SubcommandRow {
+    name: "place",
+    about: "Find where the origin of a coordinate system may lie for a part program to fit",
+    help_end: help_end!(
+        "  ngc place --program examples/slot.ngc \\
+    --machine examples/clamped_mill.toml --tools examples/tools.toml"
+    ),
+    arguments: &[
+        REQUIRED_MACHINE,
+        REQUIRED_TOOLS,
+        PROGRAM,
+        SYSTEM,
+        CUTS,
+        JSON,
+        ORIGIN,
+    ],
+};
+
+pub(crate) fn place_options<'a>(found: &ArgMatches<'a>, origins: Origins) -> PlaceOptions<'a>
+    requires values { HasPlaceValues (rows_of (found_of found.now)) }
+    requires origins { origins_in (rows_of (found_of found.now)) ≡ Ok origins }
+    ensures { ArePlaceOptions (rows_of (found_of found.now)) result }
+{
+    PlaceOptions {
+        machine: required(found, "machine"),
+        tools: required(found, "tools"),
+        program: found.get_str("program"),
+        system: found.get_str("system"),
+        cuts: cuts_of(found),
+        json: flag_is_set(found, "json"),
+        origins,
+    }
+}
