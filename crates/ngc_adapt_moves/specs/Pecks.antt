@@ -206,7 +206,7 @@ depth p peck =
 abbrev pub height_back : Pecked → ℕ → Option ℤ
 height_back p peck = sum (depth p peck) p.back
 
--- a feed down, and if another peck follows, the way back
+-- a feed down, and if another peck follows, the move back
 abbrev pub peck_line : List ℕ → Pecked → ℕ → List ℕ
 peck_line lead p peck =
     height_line lead motions.Feed (depth p peck)

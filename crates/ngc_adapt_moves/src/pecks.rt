@@ -431,7 +431,7 @@ impl Pecked {
         sum(self.depth(peck), self.back)
     }
 
-    // Adds the lines of a peck: a feed down, and if another peck follows, the way back.
+    // Adds the lines of a peck: a feed down, and if another peck follows, the move back.
     fn add_peck<A: Allocator>(
         &self,
         separator: &[u8],
