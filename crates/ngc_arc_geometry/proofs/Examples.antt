@@ -51,7 +51,9 @@ two_farther : centre_format Millimetres (half (pos 10002000)) (offsets (pos 5000
     ≡ Ok (arc_about (half (pos 10002000)) (place (pos 5000000) (pos 0)))
 two_farther = refl
 
-three_farther : centre_format Millimetres (half (pos 10003000)) (offsets (pos 5000000) (pos 0)) ≡ Err RadiiDiffer
+-- the radii are 5 mm and 5.003 mm
+three_farther : centre_format Millimetres (half (pos 10003000)) (offsets (pos 5000000) (pos 0)) ≡ Err (RadiiDiffer 5000000 5003000)
+unfolding whole_root
 three_farther = refl
 
 abbrev quarter : Ends

@@ -23,7 +23,7 @@ use Rattle.ngc_arc_geometry.specs.declared.fault.ArcFault.TheVariants.{RadiiDiff
 use Rattle.ngc_arc_geometry.specs.Faults.{◌>>=◌, ◌>>◌, refuse_if}
 use Rattle.ngc_arc_geometry.specs.Tolerance.{tolerance}
 use Rattle.ngc_arc_geometry.specs.Chord.{aside, side}
-use Rattle.ngc_arc_geometry.specs.Radii.{lo, hi, SQUARE_LIMIT, roots_within, with_equal_radii, HasRadiiInRange, HasEvenRadii}
+use Rattle.ngc_arc_geometry.specs.Radii.{lo, hi, SQUARE_LIMIT, roots_within, with_equal_radii, start_radius, end_radius, HasRadiiInRange, HasEvenRadii}
 use Rattle.ngc_arc_geometry.specs.Centre.{arc_about, offset_centre, centre_format, chord, chord_square, middle, aside_point, reach, radius_centre}
 use Rattle.ngc_arc_geometry.specs.Centre.{radius_format}
 use Rattle.ngc_arc_geometry.proofs.Squares.{square_sum}
@@ -71,10 +71,11 @@ tolerance_small Inches = lit≤ tt
 even_where_equal : (t : ℕ) (s a : ArcShape) → t ≤ 5080 → HasRadiiInRange s → with_equal_radii t s ≡ Ok a → HasEvenRadii a
 even_where_equal t s a small range h =
     let some_test = refuse_if (lo s == 0) RadiusOutOfRange in
-    let near_test = refuse_if (not (roots_within t (lo s) (hi s))) RadiiDiffer in
+    let differ = RadiiDiffer (start_radius s) (end_radius s) in
+    let near_test = refuse_if (not (roots_within t (lo s) (hi s))) differ in
     let both = first_of (some_test >> near_test) (Ok s) a h in
     let some = above_zero (lo s) (not_so (lo s == 0) RadiusOutOfRange (first_of some_test near_test tt both)) in
-    let near = so (roots_within t (lo s) (hi s)) (not_so (not (roots_within t (lo s) (hi s))) RadiiDiffer (last_of some_test near_test tt both)) in
+    let near = so (roots_within t (lo s) (hi s)) (not_so (not (roots_within t (lo s) (hi s))) differ (last_of some_test near_test tt both)) in
     let order : lo s ≤ hi s = omega arith in
     let radius = greater_bound t (lo s) (hi s) small order range near in
     let even = even_roots t (lo s) (hi s) order radius near in

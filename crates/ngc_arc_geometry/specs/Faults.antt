@@ -9,7 +9,7 @@ use Rattle.ngc_arc_geometry.specs.declared.fault.ArcFault.TheVariants.{EndIsStar
 abbrev pub number_of : ArcFault → ℕ
 number_of NoAxisWord = 241
 number_of NoOffset = 242
-number_of RadiiDiffer = 243
+number_of (RadiiDiffer at_start at_end) = 243
 number_of RadiusTooSmall = 244
 number_of EndIsStart = 245
 number_of RadiusOutOfRange = 246

@@ -37,11 +37,18 @@ abbrev pub roots_within : ℕ → ℕ → ℕ → Bool
 roots_within t lo hi =
     nat_le (lo + hi) (t * t) || nat_le ((lo + hi - t * t) * (lo + hi - t * t)) (4 * lo * hi)
 
+-- the radii at start and end, rounded down to whole nanometres
+abbrev pub start_radius : ArcShape → ℕ
+start_radius a = whole_root (squared_distance a.centre (start_of a))
+
+abbrev pub end_radius : ArcShape → ℕ
+end_radius a = whole_root (squared_distance a.centre (end_of a))
+
 -- the arc, if its radii are in range and differ by at most t
 abbrev pub with_equal_radii : ℕ → ArcShape → Result ArcShape ArcFault
 with_equal_radii t a =
     refuse_if (lo a == 0) RadiusOutOfRange >>
-    refuse_if (not (roots_within t (lo a) (hi a))) RadiiDiffer >>
+    refuse_if (not (roots_within t (lo a) (hi a))) (RadiiDiffer (start_radius a) (end_radius a)) >>
     Ok a
 
 -- the sum of the squared radii is at most twice the square of a radius a little over 2*10^9 nm

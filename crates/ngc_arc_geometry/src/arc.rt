@@ -2,7 +2,7 @@ ghost use Rattle.std.specs.Prelude.{◌≡◌, ◌*◌, ◌^◌, ◌<◌, ◌≤
 
 use crate::fault::ArcFault;
 use crate::given::{Ends, Offsets, tolerance};
-use crate::radii::SquaredRadii;
+use crate::radii::{SquaredRadii, radius};
 use crate::way::Vector2;
 use ngc_fixed_length::{Nm, Plane, Point2, Point3, Turn, Units, root_ceil, root_floor};
 use std::marker::Model;
@@ -113,16 +113,18 @@ impl Arc {
         requires radii { HasRadiiInRange (arc_about ends.now centre) }
         ensures { result ≡ with_equal_radii tolerance (arc_about ends.now centre) }
     {
-        let radii = SquaredRadii::about(
-            &Vector2::of(&centre),
-            &ends.start_in_plane(),
-            &ends.end_in_plane(),
-        );
+        let middle = Vector2::of(&centre);
+        let start = ends.start_in_plane();
+        let end = ends.end_in_plane();
+        let radii = SquaredRadii::about(&middle, &start, &end);
         if radii.lesser == 0 {
             return Err(ArcFault::RadiusOutOfRange);
         }
         if !radii.are_within(tolerance) {
-            return Err(ArcFault::RadiiDiffer);
+            return Err(ArcFault::RadiiDiffer {
+                at_start: radius(&middle, &start),
+                at_end: radius(&middle, &end),
+            });
         }
         Ok(Arc {
             plane: ends.plane,

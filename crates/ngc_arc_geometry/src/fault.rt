@@ -12,8 +12,9 @@ pub enum ArcFault {
     #[error("an arc needs an offset of its plane or a radius")]
     NoOffset,
     /// Fault 243: the radii at start and end differ by more than 2,000 nm, or 5,080 nm in inches.
+    /// They are in nanometres, rounded down.
     #[error("the radii at start and end differ")]
-    RadiiDiffer,
+    RadiiDiffer { at_start: u64, at_end: u64 },
     /// Fault 244: the radius does not reach the middle of the chord.
     #[error("the radius is too small for the way from start to end")]
     RadiusTooSmall,
@@ -35,7 +36,7 @@ impl ArcFault {
         match self {
             ArcFault::NoAxisWord => 241,
             ArcFault::NoOffset => 242,
-            ArcFault::RadiiDiffer => 243,
+            ArcFault::RadiiDiffer { .. } => 243,
             ArcFault::RadiusTooSmall => 244,
             ArcFault::EndIsStart => 245,
             ArcFault::RadiusOutOfRange => 246,

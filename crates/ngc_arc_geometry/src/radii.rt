@@ -1,7 +1,9 @@
 ghost use Rattle.std.specs.Prelude.{◌≡◌, ◌+◌, ◌*◌, ◌^◌, ◌≤◌, min, max, unsigned_abs};
+ghost use Rattle.ngc_fixed_length.specs.Roots.{whole_root};
+ghost use Rattle.ngc_arc_geometry.specs.Radii.{squared_distance};
 
 use crate::way::Vector2;
-use ngc_fixed_length::Point2;
+use ngc_fixed_length::{Point2, root_floor};
 
 /// The squared distances of an arc's ends from its centre, in square nanometres.
 #[derive(Clone, Copy)]
@@ -10,8 +12,18 @@ pub(crate) struct SquaredRadii {
     pub(crate) greater: u128,
 }
 
+/// Returns the distance of a point from a centre, in nanometres, rounded down.
+pub(crate) fn radius(centre: &Vector2, point: &Point2) -> u64
+    requires u { unsigned_abs centre.now.u ≤ 200000000000 }
+    requires v { unsigned_abs centre.now.v ≤ 200000000000 }
+    ensures { result ≡ whole_root (squared_distance centre.now point.now) }
+{
+    let way = centre.to(point);
+    root_floor(way.dot(&way).unsigned_abs())
+}
+
 impl SquaredRadii {
-    ghost use Rattle.ngc_arc_geometry.specs.Radii.{squared_distance, roots_within};
+    ghost use Rattle.ngc_arc_geometry.specs.Radii.{roots_within};
 
     /// Returns the squared radii of an arc from start to end about the centre.
     pub(crate) fn about(centre: &Vector2, start: &Point2, end: &Point2) -> SquaredRadii

@@ -43,7 +43,7 @@ use Rattle.ngc_commands.specs.Movement.{end_of as moved_to}
 use Rattle.ngc_canonical.specs.Steps.{faulted, refuse_if}
 use Rattle.ngc_canonical.specs.State.{Setup, State, emit, at_place, motion_in, go, traverse_to, unseries}
 use Rattle.ngc_canonical.specs.Spindle.{spindle_state, tell_speed, turn_of, mount, mount_found, change_tool, with_coolant}
-use Rattle.ngc_canonical.specs.Places.{axis_lengths, end_of, with_frames, set_origin, set_offset, tool_length, home_of, stands, go_home}
+use Rattle.ngc_canonical.specs.Places.{axis_lengths, end_of, with_frames, set_origin, set_offset, tool_length, set_length, home_of, stands, go_home}
 use Rattle.ngc_canonical.specs.Motions.{traverse, feed_in, straight}
 use Rattle.ngc_canonical.specs.Arcs.{has_plane_word, arc_of, arc}
 use Rattle.ngc_canonical.specs.Cycles.{kept_after, cycle_of, series_of, start_of, make_move, make_moves, all_moves, refusal, cycle}
@@ -127,13 +127,13 @@ tell_speed_open (Some turn) s h = passes (actions.Spindle (turning.Turning turn 
 mount_open : (tool : Option Tool) (s : State) → Open s → IfOk (mount tool s) Open
 mount_open tool s h = passes (actions.Mount tool) (record s { spindle = None }) h tt
 
-mount_found_open : (tool : Option Tool) (s : State) → Open s → IfOk (mount_found tool s) Open
-mount_found_open None s h = tt
-mount_found_open (Some tool) s h = mount_open (Some tool) s h
+mount_found_open : (n : ℕ) (tool : Option Tool) (s : State) → Open s → IfOk (mount_found n tool s) Open
+mount_found_open n None s h = tt
+mount_found_open n (Some tool) s h = mount_open (Some tool) s h
 
 change_tool_open : (tools : List Tool) (n : ℕ) (s : State) → Open s → IfOk (change_tool tools n s) Open
 change_tool_open tools zero s h = mount_open None s h
-change_tool_open tools (suc n) s h = mount_found_open (tool_at tools (suc n)) s h
+change_tool_open tools (suc n) s h = mount_found_open (suc n) (tool_at tools (suc n)) s h
 
 -- ---- points and frames
 
@@ -152,6 +152,11 @@ set_offset_open : (words : AxisWords) (s : State) → Open s → IfOk (set_offse
 set_offset_open words s h =
     after Open (axis_lengths s.modes.units words) (λ given. with_frames s (frame.set_axis s.frames s.place given))
     (λ given. with_frames_open s (frame.set_axis s.frames s.place given) h)
+
+set_length_open : (tools : List Tool) (number : Option ℕ) (s : State) → Open s → IfOk (set_length tools number s) Open
+set_length_open tools number s h =
+    after Open (tool_length tools number) (λ length. with_frames s (frame.set_length s.frames (Some length)))
+    (λ length. with_frames_open s (frame.set_length s.frames (Some length)) h)
 
 through_open : (through : Point3) (b : Bool) (s : State) → Open s →
     (let stay : Result State Fault = Ok s in IfOk (if b then traverse_to through s else stay) Open)
@@ -220,7 +225,7 @@ perform_open setup (acts.Coolant code) s passing h =
     passes (actions.Coolant (with_coolant code s.coolant)) (record s { coolant = with_coolant code s.coolant }) h tt
 perform_open setup (acts.Override on) s passing h = passes (actions.Override on) s h tt
 perform_open setup (acts.Dwell value) s passing h = passes (actions.Dwell (unsigned_abs value)) s h tt
-perform_open setup (acts.ToolLength number) s passing h = with_frames_open s (frame.set_length s.frames (tool_length setup.tools number)) h
+perform_open setup (acts.ToolLength number) s passing h = set_length_open setup.tools number s h
 perform_open setup (acts.GoHome home words) s passing h = go_home_open setup.machine home words s h
 perform_open setup (acts.SetOrigin system words) s passing h = set_origin_open system words s h
 perform_open setup (acts.SetOffset words) s passing h = set_offset_open words s h

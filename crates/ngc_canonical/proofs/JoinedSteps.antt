@@ -45,7 +45,7 @@ use Rattle.ngc_commands.specs.declared.movement.Way.TheVariants as ways
 use Rattle.ngc_canonical.specs.Steps.{faulted, refuse_if}
 use Rattle.ngc_canonical.specs.State.{Setup, State, emit, go, traverse_to, unseries}
 use Rattle.ngc_canonical.specs.Spindle.{spindle_state, tell_speed, turn_of, mount, mount_found, change_tool, with_coolant}
-use Rattle.ngc_canonical.specs.Places.{word_length, axis_lengths, end_of, with_frames, set_origin, set_offset, tool_length, home_of, stands, go_home}
+use Rattle.ngc_canonical.specs.Places.{word_length, axis_lengths, end_of, with_frames, set_origin, set_offset, tool_length, set_length, home_of, stands, go_home}
 use Rattle.ngc_canonical.specs.Motions.{traverse, feed_in, straight}
 use Rattle.ngc_canonical.specs.Arcs.{has_plane_word, along_u, along_v, ends_of, arc_by, arc_of, arc}
 use Rattle.ngc_canonical.specs.Cycles.{kept_after, cycle_of, series_of, start_of, make_move, make_moves, all_moves, refusal, cycle}
@@ -62,13 +62,13 @@ tell_speed_holds p (Some turn) s h = stays p (actions.Spindle (turning.Turning t
 mount_holds : (p : Point3) (tool : Option Tool) (s : State) → Holds p s → IfOk (mount tool s) (Holds p)
 mount_holds p tool s h = stays p (actions.Mount tool) (record s { spindle = None }) h tt
 
-mount_found_holds : (p : Point3) (tool : Option Tool) (s : State) → Holds p s → IfOk (mount_found tool s) (Holds p)
-mount_found_holds p None s h = tt
-mount_found_holds p (Some tool) s h = mount_holds p (Some tool) s h
+mount_found_holds : (p : Point3) (n : ℕ) (tool : Option Tool) (s : State) → Holds p s → IfOk (mount_found n tool s) (Holds p)
+mount_found_holds p n None s h = tt
+mount_found_holds p n (Some tool) s h = mount_holds p (Some tool) s h
 
 change_tool_holds : (p : Point3) (tools : List Tool) (n : ℕ) (s : State) → Holds p s → IfOk (change_tool tools n s) (Holds p)
 change_tool_holds p tools zero s h = mount_holds p None s h
-change_tool_holds p tools (suc n) s h = mount_found_holds p (tool_at tools (suc n)) s h
+change_tool_holds p tools (suc n) s h = mount_found_holds p (suc n) (tool_at tools (suc n)) s h
 
 -- ---- points and frames
 
@@ -87,6 +87,11 @@ set_offset_holds : (p : Point3) (words : AxisWords) (s : State) → Holds p s �
 set_offset_holds p words s h =
     after (Holds p) (axis_lengths s.modes.units words) (λ given. with_frames s (frame.set_axis s.frames s.place given))
     (λ given. with_frames_holds p s (frame.set_axis s.frames s.place given) h)
+
+set_length_holds : (p : Point3) (tools : List Tool) (number : Option ℕ) (s : State) → Holds p s → IfOk (set_length tools number s) (Holds p)
+set_length_holds p tools number s h =
+    after (Holds p) (tool_length tools number) (λ length. with_frames s (frame.set_length s.frames (Some length)))
+    (λ length. with_frames_holds p s (frame.set_length s.frames (Some length)) h)
 
 through_holds : (p through : Point3) (b : Bool) (s : State) → Holds p s →
     (let stay : Result State Fault = Ok s in IfOk (if b then traverse_to through s else stay) (Holds p))
@@ -197,7 +202,7 @@ perform_holds p setup (acts.Coolant code) s h =
     stays p (actions.Coolant (with_coolant code s.coolant)) (record s { coolant = with_coolant code s.coolant }) h tt
 perform_holds p setup (acts.Override on) s h = stays p (actions.Override on) s h tt
 perform_holds p setup (acts.Dwell value) s h = stays p (actions.Dwell (unsigned_abs value)) s h tt
-perform_holds p setup (acts.ToolLength number) s h = with_frames_holds p s (frame.set_length s.frames (tool_length setup.tools number)) h
+perform_holds p setup (acts.ToolLength number) s h = set_length_holds p setup.tools number s h
 perform_holds p setup (acts.GoHome home words) s h = go_home_holds p setup.machine home words s h
 perform_holds p setup (acts.SetOrigin system words) s h = set_origin_holds p system words s h
 perform_holds p setup (acts.SetOffset words) s h = set_offset_holds p words s h

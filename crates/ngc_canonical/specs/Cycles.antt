@@ -12,7 +12,6 @@ use Rattle.ngc_modal_state.specs.declared.code.CycleCode.TheVariants as codes
 use Rattle.ngc_modal_state.specs.declared.effect.CycleWords.{CycleWords}
 use Rattle.ngc_modal_state.specs.Use.{depth_word}
 use Rattle.ngc_offsets.specs.Frames.{to_machine, to_program}
-use Rattle.ngc_offsets.specs.declared.fault.FrameFault.TheVariants.{BeyondRange}
 use Rattle.ngc_canned_cycles.specs.declared.cycle.Hole.{Hole}
 use Rattle.ngc_canned_cycles.specs.declared.cycle.Hole.TheVariants.{Drill, DrillWithDwell, Peck}
 use Rattle.ngc_canned_cycles.specs.declared.cycle.Hole.TheVariants.{Bore, BoreWithStop}
@@ -134,7 +133,7 @@ abbrev pub refusal : Cycle → Start → ℕ → Result (Unit {0}) Fault
 refusal c start feed = do
   checked ← faulted faults.Cycle (check c start)
   fed ← refuse_if (feed == 0) faults.FeedZero
-  refuse_if (not (is_in_range c start)) (faults.Frame BeyondRange)
+  refuse_if (not (is_in_range c start)) faults.CycleBeyondRange
 
 abbrev pub cycle : CycleCode → AxisWords → CycleWords → State → Result State Fault
 cycle hole axes words s = do

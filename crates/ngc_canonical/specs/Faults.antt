@@ -9,7 +9,8 @@ use Rattle.ngc_offsets.specs.Faults.{number_of as frame_number}
 use Rattle.ngc_canonical.specs.declared.fault.Fault.{Fault}
 use Rattle.ngc_canonical.specs.declared.fault.Fault.TheVariants.{Value, Modal, Length, Frame, Cycle}
 use Rattle.ngc_canonical.specs.declared.fault.Fault.TheVariants.{Arc, FeedZero, NoEnd}
-use Rattle.ngc_canonical.specs.declared.fault.Fault.TheVariants.{TooManyCommands}
+use Rattle.ngc_canonical.specs.declared.fault.Fault.TheVariants.{TooManyCommands, CycleBeyondRange}
+use Rattle.ngc_canonical.specs.declared.fault.Fault.TheVariants.{NoSuchTool}
 use Rattle.ngc_canonical.specs.declared.fault.ProgramFault.{ProgramFault}
 use Rattle.ngc_canonical.specs.declared.fault.ProgramFault.TheVariants as programs
 
@@ -18,6 +19,8 @@ fault_number (Value e) = value_number e
 fault_number (Modal e) = modal_number e
 fault_number (Length e) = arithmetic_number e
 fault_number (Frame e) = frame_number e
+fault_number CycleBeyondRange = 221
+fault_number (NoSuchTool n) = 222
 fault_number (Cycle e) = cycle_number e
 fault_number (Arc e) = arc_number e
 fault_number FeedZero = 252

@@ -1,7 +1,7 @@
 -- Programmed points, and changes of the frames (NISTIR 6556, 3.5.5 G10, 3.5.8 G28 and G30, 3.5.12
 -- G53, 3.5.18 G92).
-use Rattle.std.specs.Prelude.{ℕ, zero, suc, ℤ, pos, List, Option, Some, None, Result, Ok, Bool}
-use Rattle.std.specs.Prelude.{true, false, is_some, option_map, ◌||◌, if◌then◌else◌}
+use Rattle.std.specs.Prelude.{ℕ, zero, suc, ℤ, pos, List, Option, Some, None, Result, Ok, Err}
+use Rattle.std.specs.Prelude.{Bool, true, false, is_some, ◌||◌, if◌then◌else◌}
 use Rattle.ngc_fixed_length.specs.Limits.{length_of}
 use Rattle.ngc_fixed_length.specs.declared.units.Units.{Units}
 use Rattle.ngc_fixed_length.specs.declared.modes.System.{System}
@@ -18,7 +18,7 @@ use Rattle.ngc_offsets.specs.Offsets.{Offsets}
 use Rattle.ngc_offsets.specs.Frames as frame
 use Rattle.ngc_offsets.specs.Given.{target, machine_target}
 use Rattle.ngc_canonical.specs.declared.fault.Fault.{Fault}
-use Rattle.ngc_canonical.specs.declared.fault.Fault.TheVariants.{Length, Frame}
+use Rattle.ngc_canonical.specs.declared.fault.Fault.TheVariants.{Length, Frame, NoSuchTool}
 use Rattle.ngc_canonical.specs.Steps.{◌>>=◌, faulted}
 use Rattle.ngc_canonical.specs.State.{State, unseries, traverse_to}
 
@@ -63,16 +63,22 @@ set_offset words s = do
   with_frames s (frame.set_axis s.frames s.place given)
 
 -- G43 H uses the tool's offset, if there is such a tool; H0 and G49 set 0
-abbrev pub length_offset : List Tool → ℕ → Option ℤ
-length_offset tools zero = Some (pos 0)
-length_offset tools (suc n) = option_map (λ tool. tool.offset) (tool_at tools (suc n))
+abbrev pub offset_found : ℕ → Option Tool → Result ℤ Fault
+offset_found n None = Err (NoSuchTool n)
+offset_found n (Some tool) = Ok tool.offset
 
-abbrev pub tool_length : List Tool → Option ℕ → Option ℤ
-tool_length tools None = Some (pos 0)
+abbrev pub length_offset : List Tool → ℕ → Result ℤ Fault
+length_offset tools zero = Ok (pos 0)
+length_offset tools (suc n) = offset_found (suc n) (tool_at tools (suc n))
+
+abbrev pub tool_length : List Tool → Option ℕ → Result ℤ Fault
+tool_length tools None = Ok (pos 0)
 tool_length tools (Some n) = length_offset tools n
 
 abbrev pub set_length : List Tool → Option ℕ → State → Result State Fault
-set_length tools h s = with_frames s (frame.set_length s.frames (tool_length tools h))
+set_length tools h s = do
+  length ← tool_length tools h
+  with_frames s (frame.set_length s.frames (Some length))
 
 abbrev pub home_of : MachineFile → Home → Point3
 home_of machine homes.First = machine.home28

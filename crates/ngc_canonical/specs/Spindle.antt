@@ -8,14 +8,13 @@ use Rattle.ngc_modal_state.specs.declared.code.Coolant.{Coolant}
 use Rattle.ngc_modal_state.specs.declared.code.Coolant.TheVariants as coolant
 use Rattle.ngc_modal_state.specs.declared.code.Spindle.{Spindle}
 use Rattle.ngc_modal_state.specs.declared.code.Spindle.TheVariants as spindle
-use Rattle.ngc_offsets.specs.declared.fault.FrameFault.TheVariants.{NoSuchTool}
 use Rattle.ngc_commands.specs.declared.command.Action.TheVariants as actions
 use Rattle.ngc_commands.specs.declared.command.CoolantState.{CoolantState}
 use Rattle.ngc_commands.specs.declared.command.CoolantState.TheVariants.{Off, Mist, Flood, Both}
 use Rattle.ngc_commands.specs.declared.command.SpindleState.{SpindleState}
 use Rattle.ngc_commands.specs.declared.command.SpindleState.TheVariants as turning
 use Rattle.ngc_canonical.specs.declared.fault.Fault.{Fault}
-use Rattle.ngc_canonical.specs.declared.fault.Fault.TheVariants.{Frame}
+use Rattle.ngc_canonical.specs.declared.fault.Fault.TheVariants.{NoSuchTool}
 use Rattle.ngc_canonical.specs.State.{State, emit}
 
 abbrev pub spindle_state : Option Turn → ℕ → SpindleState
@@ -42,14 +41,14 @@ set_spindle code s = emit (actions.Spindle (spindle_state (turn_of code) s.speed
 abbrev pub mount : Option Tool → State → Result State Fault
 mount tool s = emit (actions.Mount tool) (record s { spindle = None })
 
-abbrev pub mount_found : Option Tool → State → Result State Fault
-mount_found None s = Err (Frame NoSuchTool)
-mount_found (Some tool) s = mount (Some tool) s
+abbrev pub mount_found : ℕ → Option Tool → State → Result State Fault
+mount_found n None s = Err (NoSuchTool n)
+mount_found n (Some tool) s = mount (Some tool) s
 
 -- tool 0 is no tool
 abbrev pub change_tool : List Tool → ℕ → State → Result State Fault
 change_tool tools zero s = mount None s
-change_tool tools (suc n) s = mount_found (tool_at tools (suc n)) s
+change_tool tools (suc n) s = mount_found (suc n) (tool_at tools (suc n)) s
 
 -- M7 adds the mist, M8 the flood, M9 turns both off
 abbrev pub with_mist : CoolantState → CoolantState

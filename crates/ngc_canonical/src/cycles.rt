@@ -25,7 +25,6 @@ use ngc_canned_cycles::{Cycle, CycleFault, CycleMove, Hole, Start, fill};
 use ngc_commands::{Action, Feed, Pace, SpindleState, Way};
 use ngc_fixed_length::{Nm, Plane, Point3, Value};
 use ngc_modal_state::{AxisWords, CycleCode, CycleWords};
-use ngc_offsets::FrameFault;
 use smallvec::SmallVec;
 use std::alloc::Allocator;
 
@@ -91,7 +90,7 @@ fn refusal(cycle: &Cycle, start: &Start, feed: u64) -> Result<(), Fault>
     if cycle.is_in_range(start) {
         Ok(())
     } else {
-        Err(Fault::Frame(FrameFault::BeyondRange))
+        Err(Fault::CycleBeyondRange)
     }
 }
 

@@ -20,9 +20,15 @@ pub enum Fault {
     /// 101: a length over 10^11 nm.
     #[error(transparent)]
     Length(NumberFault),
-    /// 221, 222: a fault of a coordinate or a tool number.
+    /// 221: a coordinate, an origin or an offset that is out of range.
     #[error(transparent)]
     Frame(FrameFault),
+    /// 221: a canned cycle with a height or a hole over 10^9 nm from zero.
+    #[error("a coordinate of the canned cycle is beyond its range")]
+    CycleBeyondRange,
+    /// 222: the tool table has no tool of this number.
+    #[error("the tool table has no tool {0}")]
+    NoSuchTool(u32),
     /// 231 to 236: a fault of a canned cycle.
     #[error(transparent)]
     Cycle(CycleFault),
@@ -52,6 +58,8 @@ impl Fault {
             Fault::Modal(fault) => fault.number(),
             Fault::Length(fault) => fault.number(),
             Fault::Frame(fault) => fault.number(),
+            Fault::CycleBeyondRange => 221,
+            Fault::NoSuchTool(_) => 222,
             Fault::Cycle(fault) => fault.number(),
             Fault::Arc(fault) => fault.number(),
             Fault::FeedZero => 252,

@@ -49,16 +49,16 @@ fn stands(words: &AxisWords) -> bool
     words.x.is_some() || words.y.is_some() || words.z.is_some()
 }
 
-// Returns the tool length offset that G43 with its H, or G49, puts in force. Returns `None` for a
-// tool that the table doesn't have.
-fn tool_length<A: Allocator>(tools: &Tools<A>, h: Option<u32>) -> Option<Nm>
+// Returns the tool length offset that G43 with its H, or G49, puts in force. Returns 222 for a tool
+// that the table doesn't have.
+fn tool_length<A: Allocator>(tools: &Tools<A>, h: Option<u32>) -> Result<Nm, Fault>
     ensures { result ≡ length_taken (tools_of tools.now) h }
 {
     match h {
-        None | Some(0) => Some(Nm::zero()),
+        None | Some(0) => Ok(Nm::zero()),
         Some(number) => match tools.find(number) {
-            Some(tool) => Some(tool.offset),
-            None => None,
+            Some(tool) => Ok(tool.offset),
+            None => Err(Fault::NoSuchTool(number)),
         },
     }
 }
@@ -136,7 +136,11 @@ impl<A: Allocator> Interpreter<A> {
         ensures { Becomes result (state_of self.new)
             (length_set (tools_of tools.now) h (state_of self.old)) }
     {
-        match self.frames.set_length(tool_length(tools, h)) {
+        let length = match tool_length(tools, h) {
+            Ok(length) => length,
+            Err(fault) => return Err(LineRefusal::Breaks(fault)),
+        };
+        match self.frames.set_length(Some(length)) {
             Ok(()) => {
                 self.series = None;
                 Ok(())

@@ -14,7 +14,6 @@ use ngc_commands::{Action, CoolantState, SpindleState};
 use ngc_fixed_length::{Turn, Value};
 use ngc_machine_files::{Tool, Tools};
 use ngc_modal_state::{Coolant, Spindle};
-use ngc_offsets::FrameFault;
 use std::alloc::Allocator;
 
 pub(crate) fn spindle_state(turn: Option<Turn>, speed: u64) -> SpindleState
@@ -83,7 +82,7 @@ impl<A: Allocator> Interpreter<A> {
         }
         match tools.find(self.selected) {
             Some(tool) => self.mount(Some(tool)),
-            None => Err(LineRefusal::Breaks(Fault::Frame(FrameFault::NoSuchTool))),
+            None => Err(LineRefusal::Breaks(Fault::NoSuchTool(self.selected))),
         }
     }
 

@@ -1,6 +1,7 @@
 -- The faults of changes and places, and their numbers. Our own.
 use Rattle.std.specs.Prelude.{ℕ, ◌≡◌, ℤ, Result, Ok, Err, if◌then◌else◌}
 use Rattle.ngc_fixed_length.specs.Signed.{is_within}
+use Rattle.ngc_offsets.specs.declared.fault.Axis.{Axis}
 use Rattle.ngc_offsets.specs.declared.fault.FrameFault.{FrameFault}
 use Rattle.ngc_offsets.specs.declared.fault.FrameFault.TheVariants.{BeyondRange, NoSuchTool}
 use Rattle.ngc_offsets.specs.Ranges.{COORDINATE_LIMIT, OFFSET_LIMIT}
@@ -12,17 +13,17 @@ abbrev pub ◌>>=◌ : {A B : Type 0} → Result A FrameFault → (A → Result 
 (Err e) >>= f = Err e
 
 -- a length whose size is at most the limit
-abbrev pub limited : ℕ → ℤ → Result ℤ FrameFault
-limited limit l = if is_within limit l then Ok l else Err BeyondRange
+abbrev pub limited : Axis → ℕ → ℤ → Result ℤ FrameFault
+limited axis limit l = if is_within limit l then Ok l else Err (BeyondRange axis l limit)
 
-abbrev pub coordinate : ℤ → Result ℤ FrameFault
-coordinate c = limited COORDINATE_LIMIT c
+abbrev pub coordinate : Axis → ℤ → Result ℤ FrameFault
+coordinate axis c = limited axis COORDINATE_LIMIT c
 
-abbrev pub offset : ℤ → Result ℤ FrameFault
-offset o = limited OFFSET_LIMIT o
+abbrev pub offset : Axis → ℤ → Result ℤ FrameFault
+offset axis o = limited axis OFFSET_LIMIT o
 
 abbrev pub number_of : FrameFault → ℕ
-number_of BeyondRange = 221
+number_of (BeyondRange axis at limit) = 221
 number_of NoSuchTool = 222
 
 -- a change is either made as the definition says, or refused, and then nothing changes

@@ -8,6 +8,8 @@ use Rattle.ngc_fixed_length.specs.declared.modes.System.TheVariants.{Fifth, Sixt
 use Rattle.ngc_fixed_length.specs.declared.modes.System.TheVariants.{Ninth}
 use Rattle.ngc_fixed_length.specs.declared.points.Point3.{Point3}
 use Rattle.ngc_fixed_length.specs.Places.{plus, minus, zero_point}
+use Rattle.ngc_offsets.specs.declared.fault.Axis.{Axis}
+use Rattle.ngc_offsets.specs.declared.fault.Axis.TheVariants.{X, Y, Z}
 use Rattle.ngc_offsets.specs.declared.fault.FrameFault.{FrameFault}
 use Rattle.ngc_offsets.specs.declared.fault.FrameFault.TheVariants.{NoSuchTool}
 use Rattle.ngc_offsets.specs.declared.given.AxisLengths.{AxisLengths}
@@ -70,9 +72,9 @@ on_axis rule had (Some l) = rule l
 -- G10: the lengths are the origin's coordinates
 abbrev pub new_origin : Point3 → AxisLengths → Result Point3 FrameFault
 new_origin had given = do
-  x ← on_axis offset had.x given.x
-  y ← on_axis offset had.y given.y
-  z ← on_axis offset had.z given.z
+  x ← on_axis (offset X) had.x given.x
+  y ← on_axis (offset Y) had.y given.y
+  z ← on_axis (offset Z) had.z given.z
   Ok (record { x = x; y = y; z = z })
 
 abbrev pub set_origin : Offsets → System → AxisLengths → Result Offsets FrameFault
@@ -81,16 +83,16 @@ set_origin f system given = do
   Ok (record f { origins = slice_set f.origins (index system) origin })
 
 -- G92: the axis offset with which the machine place has the coordinate l on an axis
-abbrev pub left_over : ℤ → ℤ → ℤ → Result ℤ FrameFault
-left_over place base l = do
-  c ← coordinate l
-  offset (place -ℤ base -ℤ c)
+abbrev pub left_over : Axis → ℤ → ℤ → ℤ → Result ℤ FrameFault
+left_over axis place base l = do
+  c ← coordinate axis l
+  offset axis (place -ℤ base -ℤ c)
 
 abbrev pub new_axis : Point3 → Point3 → Point3 → AxisLengths → Result Point3 FrameFault
 new_axis place base had given = do
-  x ← on_axis (left_over place.x base.x) had.x given.x
-  y ← on_axis (left_over place.y base.y) had.y given.y
-  z ← on_axis (left_over place.z base.z) had.z given.z
+  x ← on_axis (left_over X place.x base.x) had.x given.x
+  y ← on_axis (left_over Y place.y base.y) had.y given.y
+  z ← on_axis (left_over Z place.z base.z) had.z given.z
   Ok (record { x = x; y = y; z = z })
 
 abbrev pub set_axis : Offsets → Point3 → AxisLengths → Result Offsets FrameFault
@@ -112,7 +114,7 @@ restore f = record f { axis_offset = f.saved }
 abbrev pub set_length : Offsets → Option ℤ → Result Offsets FrameFault
 set_length f None = Err NoSuchTool
 set_length f (Some l) = do
-  length ← offset l
+  length ← offset Z l
   Ok (record f { length = length })
 
 abbrev pub select : Offsets → System → Offsets

@@ -3,6 +3,8 @@ use Rattle.std.specs.Prelude.{ℤ, ◌+ℤ◌, Option, Some, None, Result, Ok}
 use Rattle.ngc_fixed_length.specs.declared.modes.Distance.{Distance}
 use Rattle.ngc_fixed_length.specs.declared.modes.Distance.TheVariants.{Absolute, Incremental}
 use Rattle.ngc_fixed_length.specs.declared.points.Point3.{Point3}
+use Rattle.ngc_offsets.specs.declared.fault.Axis.{Axis}
+use Rattle.ngc_offsets.specs.declared.fault.Axis.TheVariants.{X, Y, Z}
 use Rattle.ngc_offsets.specs.declared.fault.FrameFault.{FrameFault}
 use Rattle.ngc_offsets.specs.declared.given.AxisLengths.{AxisLengths}
 use Rattle.ngc_offsets.specs.Offsets.{Offsets}
@@ -10,16 +12,16 @@ use Rattle.ngc_offsets.specs.Faults.{◌>>=◌, coordinate}
 use Rattle.ngc_offsets.specs.Frames.{to_machine, to_program}
 
 -- the coordinate on one axis: without a word it stays, and after G91 a word is added to it
-abbrev pub given_on_axis : Distance → ℤ → Option ℤ → Result ℤ FrameFault
-given_on_axis distance current None = Ok current
-given_on_axis Absolute current (Some l) = coordinate l
-given_on_axis Incremental current (Some l) = coordinate (current +ℤ l)
+abbrev pub given_on_axis : Axis → Distance → ℤ → Option ℤ → Result ℤ FrameFault
+given_on_axis axis distance current None = Ok current
+given_on_axis axis Absolute current (Some l) = coordinate axis l
+given_on_axis axis Incremental current (Some l) = coordinate axis (current +ℤ l)
 
 abbrev pub given_place : Distance → Point3 → AxisLengths → Result Point3 FrameFault
 given_place distance current given = do
-  x ← given_on_axis distance current.x given.x
-  y ← given_on_axis distance current.y given.y
-  z ← given_on_axis distance current.z given.z
+  x ← given_on_axis X distance current.x given.x
+  y ← given_on_axis Y distance current.y given.y
+  z ← given_on_axis Z distance current.z given.z
   Ok (record { x = x; y = y; z = z })
 
 -- the machine place to which a line leads from the machine place where it begins

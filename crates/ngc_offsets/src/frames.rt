@@ -6,7 +6,7 @@ ghost use Rattle.ngc_offsets.specs.Faults.{Becomes, offset as offset_in};
 ghost use Rattle.ngc_offsets.specs.Frames.{index, on_axis, new_origin as origin_after};
 ghost use Rattle.ngc_offsets.specs.Frames.{new_axis as axis_after, left_over as left_over_of};
 
-use crate::fault::FrameFault;
+use crate::fault::{Axis, FrameFault};
 use crate::given::{AxisLengths, given_place};
 use crate::range::{coordinate, minus, offset, plus};
 use ngc_fixed_length::{Distance, Nm, Point3, System};
@@ -89,20 +89,20 @@ fn new_origin(had: &Point3, given: &AxisLengths) -> Result<Point3, FrameFault>
     ensures value { result ≡ origin_after had.now given.now }
     ensures range { IfOk result (IsWithin OFFSET_LIMIT) }
 {
-    let x = new_coordinate(had.x, given.x)?;
-    let y = new_coordinate(had.y, given.y)?;
-    let z = new_coordinate(had.z, given.z)?;
+    let x = new_coordinate(Axis::X, had.x, given.x)?;
+    let y = new_coordinate(Axis::Y, had.y, given.y)?;
+    let z = new_coordinate(Axis::Z, had.z, given.z)?;
     Ok(Point3 { x, y, z })
 }
 
-fn new_coordinate(had: Nm, given: Option<Nm>) -> Result<Nm, FrameFault>
+fn new_coordinate(axis: Axis, had: Nm, given: Option<Nm>) -> Result<Nm, FrameFault>
     requires { IsOffset had }
-    ensures value { result ≡ on_axis offset_in had given }
+    ensures value { result ≡ on_axis (offset_in axis) had given }
     ensures range { IfOk result IsOffset }
 {
     match given {
         None => Ok(had),
-        Some(length) => offset(length.nanometres()),
+        Some(length) => offset(axis, length.nanometres()),
     }
 }
 
@@ -118,20 +118,20 @@ fn new_axis(
     ensures value { result ≡ axis_after place.now base.now had.now given.now }
     ensures range { IfOk result (IsWithin OFFSET_LIMIT) }
 {
-    let x = new_offset(place.x, base.x, had.x, given.x)?;
-    let y = new_offset(place.y, base.y, had.y, given.y)?;
-    let z = new_offset(place.z, base.z, had.z, given.z)?;
+    let x = new_offset(Axis::X, place.x, base.x, had.x, given.x)?;
+    let y = new_offset(Axis::Y, place.y, base.y, had.y, given.y)?;
+    let z = new_offset(Axis::Z, place.z, base.z, had.z, given.z)?;
     Ok(Point3 { x, y, z })
 }
 
-fn new_offset(place: Nm, base: Nm, had: Nm, given: Option<Nm>) -> Result<Nm, FrameFault>
+fn new_offset(axis: Axis, place: Nm, base: Nm, had: Nm, given: Option<Nm>) -> Result<Nm, FrameFault>
     requires { IsOffset had }
-    ensures value { result ≡ on_axis (left_over_of place base) had given }
+    ensures value { result ≡ on_axis (left_over_of axis place base) had given }
     ensures range { IfOk result IsOffset }
 {
     match given {
         None => Ok(had),
-        Some(length) => left_over(place, base, length),
+        Some(length) => left_over(axis, place, base, length),
     }
 }
 
@@ -144,12 +144,12 @@ fn excess(place: Nm, base: Nm, coordinate: Nm) -> i64
 }
 
 // Returns the axis offset with which a machine place has the coordinate `length`.
-fn left_over(place: Nm, base: Nm, length: Nm) -> Result<Nm, FrameFault>
-    ensures value { result ≡ left_over_of place base length }
+fn left_over(axis: Axis, place: Nm, base: Nm, length: Nm) -> Result<Nm, FrameFault>
+    ensures value { result ≡ left_over_of axis place base length }
     ensures range { IfOk result IsOffset }
 {
-    let coordinate = coordinate(length.nanometres())?;
-    offset(excess(place, base, coordinate))
+    let coordinate = coordinate(axis, length.nanometres())?;
+    offset(axis, excess(place, base, coordinate))
 }
 
 impl Frames {
@@ -267,7 +267,7 @@ impl Frames {
         match length {
             None => Err(FrameFault::NoSuchTool),
             Some(length) => {
-                self.length = offset(length.nanometres())?;
+                self.length = offset(Axis::Z, length.nanometres())?;
                 Ok(())
             }
         }

@@ -3,7 +3,7 @@ ghost use Rattle.ngc_offsets.specs.Ranges.{IsMachinePlace, IsKeptOrGiven, IsReac
 ghost use Rattle.ngc_offsets.specs.Given.{given_on_axis as on_axis, given_place as place_given};
 ghost use Rattle.ngc_offsets.specs.Given.{machine_target as target_in_machine};
 
-use crate::fault::FrameFault;
+use crate::fault::{Axis, FrameFault};
 use crate::range::coordinate;
 use ngc_fixed_length::{Distance, Nm, Point3};
 
@@ -16,15 +16,22 @@ pub struct AxisLengths {
 }
 
 // Returns the coordinate on one axis. Without a word the axis keeps its coordinate.
-fn given_on_axis(distance: Distance, current: Nm, given: Option<Nm>) -> Result<Nm, FrameFault>
-    ensures value { result ≡ on_axis distance current given }
+fn given_on_axis(
+    axis: Axis,
+    distance: Distance,
+    current: Nm,
+    given: Option<Nm>,
+) -> Result<Nm, FrameFault>
+    ensures value { result ≡ on_axis axis distance current given }
     ensures range { IfOk result (λ c. IsKeptOrGiven current c) }
 {
     match given {
         None => Ok(current),
         Some(length) => match distance {
-            Distance::Absolute => coordinate(length.nanometres()),
-            Distance::Incremental => coordinate(current.nanometres() + length.nanometres()),
+            Distance::Absolute => coordinate(axis, length.nanometres()),
+            Distance::Incremental => {
+                coordinate(axis, current.nanometres() + length.nanometres())
+            }
         },
     }
 }
@@ -39,9 +46,9 @@ pub(crate) fn given_place(
     ensures value { result ≡ place_given distance current.now given.now }
     ensures range { IfOk result (IsReachedFrom current.now) }
 {
-    let x = given_on_axis(distance, current.x, given.x)?;
-    let y = given_on_axis(distance, current.y, given.y)?;
-    let z = given_on_axis(distance, current.z, given.z)?;
+    let x = given_on_axis(Axis::X, distance, current.x, given.x)?;
+    let y = given_on_axis(Axis::Y, distance, current.y, given.y)?;
+    let z = given_on_axis(Axis::Z, distance, current.z, given.z)?;
     Ok(Point3 { x, y, z })
 }
 

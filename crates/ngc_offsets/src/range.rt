@@ -5,7 +5,7 @@ ghost use Rattle.ngc_offsets.specs.Ranges.{IsCoordinate, IsOffset};
 ghost use Rattle.ngc_offsets.specs.Faults.{limited as limited_to, coordinate as coordinate_in};
 ghost use Rattle.ngc_offsets.specs.Faults.{offset as offset_in};
 
-use crate::fault::FrameFault;
+use crate::fault::{Axis, FrameFault};
 use ngc_fixed_length::{Nm, Point3};
 
 /// The greatest size of a programmed coordinate, in nanometres.
@@ -14,34 +14,35 @@ pub const COORDINATE: u64 = 1_000_000_000;
 const OFFSET: u64 = 4_000_000_000;
 
 // Returns a length whose size is at most the limit, or `BeyondRange`.
-fn limited(limit: u64, nanometres: i64) -> Result<Nm, FrameFault>
+fn limited(axis: Axis, limit: u64, at: i64) -> Result<Nm, FrameFault>
     requires { limit ≤ LENGTH_LIMIT }
-    ensures value { result ≡ limited_to limit nanometres }
+    ensures value { result ≡ limited_to axis limit at }
     ensures range { IfOk result (λ l. unsigned_abs l ≤ limit) }
 {
-    if nanometres.unsigned_abs() > limit {
-        return Err(FrameFault::BeyondRange);
+    let beyond = FrameFault::BeyondRange { axis, at, limit };
+    if at.unsigned_abs() > limit {
+        return Err(beyond);
     }
-    match Nm::from_nanometres(i128::from(nanometres)) {
+    match Nm::from_nanometres(i128::from(at)) {
         Ok(length) => Ok(length),
-        Err(_) => Err(FrameFault::BeyondRange),
+        Err(_) => Err(beyond),
     }
 }
 
 /// Returns a programmed coordinate, or `BeyondRange` over 10^9 nm in size.
-pub(crate) fn coordinate(nanometres: i64) -> Result<Nm, FrameFault>
-    ensures value { result ≡ coordinate_in nanometres }
+pub(crate) fn coordinate(axis: Axis, nanometres: i64) -> Result<Nm, FrameFault>
+    ensures value { result ≡ coordinate_in axis nanometres }
     ensures range { IfOk result IsCoordinate }
 {
-    limited(COORDINATE, nanometres)
+    limited(axis, COORDINATE, nanometres)
 }
 
 /// Returns an origin or an offset, or `BeyondRange` over 4*10^9 nm in size.
-pub(crate) fn offset(nanometres: i64) -> Result<Nm, FrameFault>
-    ensures value { result ≡ offset_in nanometres }
+pub(crate) fn offset(axis: Axis, nanometres: i64) -> Result<Nm, FrameFault>
+    ensures value { result ≡ offset_in axis nanometres }
     ensures range { IfOk result IsOffset }
 {
-    limited(OFFSET, nanometres)
+    limited(axis, OFFSET, nanometres)
 }
 
 /// Returns the sum of two points, axis by axis.

@@ -15,7 +15,7 @@ use Rattle.ngc_line_reader.specs.declared.line.RawWord.{RawWord}
 use Rattle.ngc_line_reader.specs.declared.token.Token.{Token}
 use Rattle.ngc_report.specs.Marks.{written_number}
 use Rattle.ngc_refused_values.specs.declared.last_words.Kind.{Kind}
-use Rattle.ngc_refused_values.specs.declared.last_words.Kind.TheVariants.{Tool, Unit, Distance}
+use Rattle.ngc_refused_values.specs.declared.last_words.Kind.TheVariants.{Tool, Unit}
 use Rattle.ngc_refused_values.specs.declared.last_words.LastWord.{LastWord}
 
 -- ---- the words of a line; numbers are in millionths
@@ -31,13 +31,11 @@ abbrev pub may_be : ℤ → ℤ → Option ℤ → Bool
 may_be a b None = true
 may_be a b (Some n) = int_eq n a || int_eq n b
 
--- G20 and G21 set the unit of lengths, G90 and G91 the distance mode
+-- G20 and G21 set the unit of lengths
 abbrev pub is_of : Kind → List Token → RawWord → Bool
 is_of Tool tokens word = has_letter letters.T word
 is_of Unit tokens word =
     has_letter letters.G word && may_be (pos 20000000) (pos 21000000) (written_number tokens word)
-is_of Distance tokens word =
-    has_letter letters.G word && may_be (pos 90000000) (pos 91000000) (written_number tokens word)
 
 abbrev pub word_of : Kind → Parts → Option RawWord
 word_of kind said = find (λ w. is_of kind said.tokens w) said.words

@@ -1,92 +1,136 @@
--- How the report of a refused line names a tool and a coordinate. Our own.
-use Rattle.std.specs.Prelude.{ℕ, ◌==◌, ℤ, unsigned_abs, List, [], ◌∷◌, ◌++◌, codes, decimal, Option, Some}
-use Rattle.std.specs.Prelude.{None, Bool, if◌then◌else◌}
+-- How the report of a refused line writes the values of its fault. Our own.
+use Rattle.std.specs.Prelude.{ℕ, ◌==◌, ◌+◌, ◌/◌, ℤ, unsigned_abs, List, [], ◌++◌, codes, decimal}
+use Rattle.std.specs.Prelude.{Option, Some, None, Bool, if◌then◌else◌}
 use Rattle.std.specs.Fmt.{signed_decimal}
-use Rattle.ngc_text.specs.Millimetres.{length_text, sign_text}
-use Rattle.ngc_line_reader.specs.Letter.{letter_byte}
+use Rattle.std.specs.Int.{abs_diff}
+use Rattle.ngc_text.specs.Millimetres.{sign_text}
+use Rattle.ngc_offsets.specs.Ranges.{COORDINATE_LIMIT}
+use Rattle.ngc_offsets.specs.declared.fault.Axis.{Axis}
+use Rattle.ngc_offsets.specs.declared.fault.Axis.TheVariants.{X, Y, Z}
+use Rattle.ngc_offsets.specs.declared.fault.FrameFault.{FrameFault}
+use Rattle.ngc_offsets.specs.declared.fault.FrameFault.TheVariants.{BeyondRange, NoSuchTool}
+use Rattle.ngc_arc_geometry.specs.declared.fault.ArcFault.{ArcFault}
+use Rattle.ngc_arc_geometry.specs.declared.fault.ArcFault.TheVariants.{RadiiDiffer}
 use Rattle.ngc_line_reader.specs.Program.{Line}
-use Rattle.ngc_canonical.specs.Faults.{fault_number}
 use Rattle.ngc_canonical.specs.declared.fault.Fault.{Fault}
-use Rattle.ngc_report.specs.Words.{shift_text}
+use Rattle.ngc_canonical.specs.declared.fault.Fault.TheVariants as faults
+use Rattle.ngc_report.specs.Words.{shift_text, thousandths_text}
 use Rattle.ngc_report.specs.declared.form.Form.{Form}
 use Rattle.ngc_report.specs.declared.form.Form.TheVariants.{Words, Json}
-use Rattle.ngc_refused_values.specs.Values.{far_coordinate, inches_since, selected_tool}
+use Rattle.ngc_refused_values.specs.Values.{inches_since, selected_tool}
 use Rattle.ngc_refused_values.specs.declared.last_words.LastWord.{LastWord}
-use Rattle.ngc_refused_values.specs.declared.values.FarCoordinate.{FarCoordinate}
 
--- ---- a tool
+-- ---- a sentence, and in JSON what it says as numbers
 
--- the number of a T word is in millionths, as a length is in millionths of a millimetre
-unfoldable pub tool_phrase : ℕ → ℤ → List ℕ
-tool_phrase line tool =
-    codes "Tool " ++ length_text tool ++ codes ", selected in line " ++ decimal line
-    ++ codes ", isn't in the tool table."
+abbrev pub words_of : List ℕ → List ℕ
+words_of phrase = phrase ++ codes "\n"
 
-abbrev pub tool_words : ℕ → ℤ → List ℕ
-tool_words line tool = tool_phrase line tool ++ codes "\n"
+abbrev pub fact_of : List ℕ → List ℕ → List ℕ
+fact_of phrase values =
+    codes ",\n{\"fact\":\"reason\",\"text\":\"" ++ phrase ++ codes "\"" ++ values ++ codes "}"
 
-abbrev pub tool_fact : ℕ → ℤ → List ℕ
-tool_fact line tool =
-    codes ",\n{\"fact\":\"reason\",\"text\":\"" ++ tool_phrase line tool ++ codes "\",\"tool\":"
-    ++ length_text tool ++ codes ",\"line\":" ++ decimal line ++ codes "}"
+-- ---- the line that selects a tool
 
-abbrev pub tool_line : Form → ℕ → ℤ → List ℕ
-tool_line Words line tool = tool_words line tool
-tool_line Json line tool = tool_fact line tool
+unfoldable pub selection_phrase : ℕ → List ℕ
+selection_phrase line = codes "Line " ++ decimal line ++ codes " selects it."
 
--- nothing if the T word isn't written as a number
-abbrev pub number_line : Form → ℕ → Option ℤ → List ℕ
-number_line form line None = []
-number_line form line (Some tool) = tool_line form line tool
+abbrev pub selection_values : ℕ → ℕ → List ℕ
+selection_values line tool = codes ",\"tool\":" ++ decimal tool ++ codes ",\"line\":" ++ decimal line
 
-unfoldable pub selection_text : Form → Option LastWord → List ℕ
-selection_text form None = []
-selection_text form (Some w) = number_line form w.line w.number
+abbrev pub selection_line : Form → ℕ → ℕ → List ℕ
+selection_line Words line tool = words_of (selection_phrase line)
+selection_line Json line tool = fact_of (selection_phrase line) (selection_values line tool)
 
--- ---- a coordinate
+unfoldable pub selection_text : Form → ℕ → Option LastWord → List ℕ
+selection_text form tool None = []
+selection_text form tool (Some w) = selection_line form w.line tool
+
+-- ---- a coordinate, an origin or an offset out of range
+
+abbrev pub axis_text : Axis → List ℕ
+axis_text X = codes "X"
+axis_text Y = codes "Y"
+axis_text Z = codes "Z"
 
 -- a length with at most three decimals, rounded away from zero
 unfoldable pub far_text : ℤ → List ℕ
 far_text z = sign_text z ++ shift_text (unsigned_abs z)
 
+abbrev pub kind_text : ℕ → List ℕ
+kind_text limit = if limit == COORDINATE_LIMIT then [] else codes "The origin or offset of "
+
 unfoldable pub inches_phrase : Option ℕ → List ℕ
 inches_phrase None = []
 inches_phrase (Some line) = codes " Lengths are in inches since line " ++ decimal line ++ codes "."
 
-unfoldable pub far_phrase : Option ℕ → FarCoordinate → List ℕ
-far_phrase inches c =
-    letter_byte c.axis ∷ codes " is at " ++ far_text c.at
-    ++ codes " mm, but the limit is 1000 mm either way." ++ inches_phrase inches
-
-abbrev pub far_words : Option ℕ → FarCoordinate → List ℕ
-far_words inches c = far_phrase inches c ++ codes "\n"
+unfoldable pub far_phrase : Option ℕ → Axis → ℤ → ℕ → List ℕ
+far_phrase inches axis at limit =
+    kind_text limit ++ axis_text axis ++ codes " is at " ++ far_text at
+    ++ codes " mm, but the limit is " ++ shift_text limit ++ codes " mm either way."
+    ++ inches_phrase inches
 
 unfoldable pub inches_fact : Option ℕ → List ℕ
 inches_fact None = []
 inches_fact (Some line) = codes ",\"inches_since\":" ++ decimal line
 
-abbrev pub far_fact : Option ℕ → FarCoordinate → List ℕ
-far_fact inches c =
-    codes ",\n{\"fact\":\"reason\",\"text\":\"" ++ far_phrase inches c ++ codes "\",\"axis\":\""
-    ++ letter_byte c.axis ∷ codes "\",\"at\":" ++ signed_decimal c.at
-    ++ codes ",\"limit\":1000000000" ++ inches_fact inches ++ codes "}"
+unfoldable pub far_values : Option ℕ → Axis → ℤ → ℕ → List ℕ
+far_values inches axis at limit =
+    codes ",\"axis\":\"" ++ axis_text axis ++ codes "\",\"at\":" ++ signed_decimal at
+    ++ codes ",\"limit\":" ++ decimal limit ++ inches_fact inches
 
-abbrev pub far_line : Form → Option ℕ → FarCoordinate → List ℕ
-far_line Words inches c = far_words inches c
-far_line Json inches c = far_fact inches c
+abbrev pub far_line : Form → Option ℕ → Axis → ℤ → ℕ → List ℕ
+far_line Words inches axis at limit = words_of (far_phrase inches axis at limit)
+far_line Json inches axis at limit =
+    fact_of (far_phrase inches axis at limit) (far_values inches axis at limit)
 
-unfoldable pub coordinate_text : Form → Option ℕ → Option FarCoordinate → List ℕ
-coordinate_text form inches None = []
-coordinate_text form inches (Some c) = far_line form inches c
+abbrev pub frame_line : Form → Option ℕ → FrameFault → List ℕ
+frame_line form inches (BeyondRange axis at limit) = far_line form inches axis at limit
+frame_line form inches NoSuchTool = []
+
+-- ---- a canned cycle
+
+unfoldable pub cycle_phrase : Option ℕ → List ℕ
+cycle_phrase inches =
+    codes "A height or a hole of the cycle is over 1000 mm from zero." ++ inches_phrase inches
+
+abbrev pub cycle_line : Form → Option ℕ → List ℕ
+cycle_line Words inches = words_of (cycle_phrase inches)
+cycle_line Json inches = fact_of (cycle_phrase inches) (inches_fact inches)
+
+-- ---- the radii of an arc
+
+-- a length with at most three decimals, the nearest one
+unfoldable pub near_text : ℕ → List ℕ
+near_text n = thousandths_text ((n + 500) / 1000)
+
+unfoldable pub radii_phrase : ℕ → ℕ → List ℕ
+radii_phrase at_start at_end =
+    codes "The radius is " ++ near_text at_start ++ codes " mm at the start and " ++ near_text at_end
+    ++ codes " mm at the end: they differ by " ++ shift_text (abs_diff at_start at_end)
+    ++ codes " mm."
+
+unfoldable pub radii_values : ℕ → ℕ → List ℕ
+radii_values at_start at_end =
+    codes ",\"start_radius\":" ++ decimal at_start ++ codes ",\"end_radius\":" ++ decimal at_end
+    ++ codes ",\"difference\":" ++ decimal (abs_diff at_start at_end)
+
+abbrev pub radii_line : Form → ℕ → ℕ → List ℕ
+radii_line Words at_start at_end = words_of (radii_phrase at_start at_end)
+radii_line Json at_start at_end =
+    fact_of (radii_phrase at_start at_end) (radii_values at_start at_end)
+
+abbrev pub arc_line : Form → ArcFault → List ℕ
+arc_line form (RadiiDiffer at_start at_end) = radii_line form at_start at_end
+arc_line form e = []
 
 -- ---- below the line with this number
 
-abbrev pub range_line : Form → Bool → ℕ → List Line → List ℕ
-range_line form deletes number lines =
-    coordinate_text form (inches_since deletes number lines) (far_coordinate deletes number lines)
-
--- what this fault names: a tool that isn't in the table, or a coordinate out of range
 abbrev pub value_line : Form → Bool → ℕ → Fault → List Line → List ℕ
-value_line form deletes number fault lines =
-    if fault_number fault == 222 then selection_text form (selected_tool deletes number lines)
-    else (if fault_number fault == 221 then range_line form deletes number lines else [])
+value_line form deletes number (faults.NoSuchTool tool) lines =
+    selection_text form tool (selected_tool deletes number lines)
+value_line form deletes number (faults.Frame e) lines =
+    frame_line form (inches_since deletes number lines) e
+value_line form deletes number faults.CycleBeyondRange lines =
+    cycle_line form (inches_since deletes number lines)
+value_line form deletes number (faults.Arc e) lines = arc_line form e
+value_line form deletes number fault lines = []

@@ -19,8 +19,6 @@ pub enum Kind {
     Tool,
     /// G20 and G21.
     Unit,
-    /// G90 and G91.
-    Distance,
 }
 
 /// The last word of a kind.
@@ -50,10 +48,6 @@ fn is_of(kind: Kind, tokens: &[Token], word: &RawWord) -> bool
         Kind::Unit => {
             has_letter(Letter::G, word)
                 && may_be(20_000_000, 21_000_000, written_number(tokens, word))
-        }
-        Kind::Distance => {
-            has_letter(Letter::G, word)
-                && may_be(90_000_000, 91_000_000, written_number(tokens, word))
         }
     }
 }

@@ -1,11 +1,12 @@
-//! What the report of a refused line names from the words of that line and the lines before it.
+//! The values of a refused line's fault, in the report of that line.
 //!
-//! For a tool that isn't in the tool table (222), where a line before selects it, and for a
-//! coordinate out of range (221):
+//! The line that selects a tool that isn't in the tool table (222), a coordinate out of range (221),
+//! and the radii of an arc where they differ (243):
 //!
 //! ```text
-//! Tool 9, selected in line 3, isn't in the tool table.
+//! Line 3 selects it.
 //! X is at 1270 mm, but the limit is 1000 mm either way. Lengths are in inches since line 2.
+//! The radius is 5 mm at the start and 5.003 mm at the end: they differ by 0.003 mm.
 //! ```
 #![tactic(auto)]
 
@@ -17,4 +18,4 @@ mod values;
 
 pub use last_words::{Kind, LastWord, last_word};
 pub use texts::write_values;
-pub use values::{FarCoordinate, far_coordinate, inches_since, selected_tool};
+pub use values::{inches_since, selected_tool};

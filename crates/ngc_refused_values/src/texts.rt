@@ -1,82 +1,95 @@
-//! How a tool and a coordinate of a refused line are written.
-ghost use Rattle.std.specs.Prelude.{◌≡◌, ◌+◌, ◌≤◌, ◌++◌, ◌∷◌, [], length, OnOk, OnErr};
+//! How the values of a refused line's fault are written.
+ghost use Rattle.std.specs.Prelude.{◌≡◌, ◌+◌, ◌≤◌, ◌++◌, codes, length, OnOk, OnErr};
 ghost use Rattle.std.specs.Fmt.{signed_decimal};
 ghost use Rattle.std.specs.Io.KnownBytes.{Appends};
 ghost use Rattle.ngc_text.specs.Collected.{CHUNK_SIZE};
 ghost use Rattle.ngc_text.specs.Failures.{CountsFailure};
 ghost use Rattle.ngc_text.specs.Written.{AppendsBeginning};
-ghost use Rattle.ngc_line_reader.specs.Letter.{letter_byte};
 ghost use Rattle.ngc_line_reader.specs.ProgramView.{text_in};
-ghost use Rattle.ngc_report.specs.Words.{shift_text};
-ghost use Rattle.ngc_refused_values.specs.Texts.{coordinate_text, far_fact, far_line, far_phrase};
-ghost use Rattle.ngc_refused_values.specs.Texts.{far_text, far_words, inches_fact, inches_phrase};
-ghost use Rattle.ngc_refused_values.specs.Texts.{range_line, selection_text, tool_fact, tool_line};
-ghost use Rattle.ngc_refused_values.specs.Texts.{tool_phrase, tool_words, value_line};
+ghost use Rattle.ngc_report.specs.Words.{shift_text, thousandths_text};
+ghost use Rattle.ngc_refused_values.specs.Texts.{arc_line, axis_text, cycle_line, cycle_phrase};
+ghost use Rattle.ngc_refused_values.specs.Texts.{far_line, far_phrase, far_text, far_values};
+ghost use Rattle.ngc_refused_values.specs.Texts.{frame_line, inches_fact, inches_phrase, kind_text};
+ghost use Rattle.ngc_refused_values.specs.Texts.{near_text, radii_line, radii_phrase, radii_values};
+ghost use Rattle.ngc_refused_values.specs.Texts.{selection_line, selection_phrase, selection_text};
+ghost use Rattle.ngc_refused_values.specs.Texts.{selection_values, value_line};
 
 use crate::last_words::LastWord;
-use crate::values::{FarCoordinate, far_coordinate, inches_since, selected_tool};
+use crate::values::{inches_since, selected_tool};
+use ngc_arc_geometry::ArcFault;
 use ngc_canonical::Fault;
-use ngc_line_reader::{Letter, Program};
-use ngc_report::{Form, letter_byte};
+use ngc_line_reader::Program;
+use ngc_offsets::{Axis, COORDINATE, FrameFault};
+use ngc_report::Form;
 use ngc_text::{Chunk, Sink, WriteFault};
 use std::alloc::Allocator;
 
-#[tactic(auto, unfolding(crate::specs::Texts::tool_phrase))]
-fn add_tool_phrase(chunk: &mut Chunk, line: u32, tool: i64)
-    requires { length chunk.old + 200 ≤ CHUNK_SIZE }
-    ensures text { chunk.new ≡ chunk.old ++ tool_phrase line tool }
-    ensures short { length chunk.new ≤ length chunk.old + 150 }
-{
-    chunk.add_text(b"Tool ");
-    chunk.add_length(i128::from(tool));
-    chunk.add_text(b", selected in line ");
-    chunk.add_number(line);
-    chunk.add_text(b", isn't in the tool table.");
-}
-
-fn add_tool_words(chunk: &mut Chunk, line: u32, tool: i64)
-    requires { length chunk.old + 400 ≤ CHUNK_SIZE }
-    ensures { chunk.new ≡ chunk.old ++ tool_words line tool }
-{
-    add_tool_phrase(chunk, line, tool);
-    chunk.add_text(b"\n");
-}
-
-fn add_tool_fact(chunk: &mut Chunk, line: u32, tool: i64)
-    requires { length chunk.old + 400 ≤ CHUNK_SIZE }
-    ensures { chunk.new ≡ chunk.old ++ tool_fact line tool }
+fn begin_fact(chunk: &mut Chunk)
+    requires { length chunk.old + 40 ≤ CHUNK_SIZE }
+    ensures text { chunk.new ≡ chunk.old ++ codes ",\n{\"fact\":\"reason\",\"text\":\"" }
+    ensures short { length chunk.new ≤ length chunk.old + 40 }
 {
     chunk.add_text(b",\n{\"fact\":\"reason\",\"text\":\"");
-    add_tool_phrase(chunk, line, tool);
-    chunk.add_text(b"\",\"tool\":");
-    chunk.add_length(i128::from(tool));
-    chunk.add_text(b",\"line\":");
-    chunk.add_number(line);
-    chunk.add_text(b"}");
 }
 
-fn add_tool(chunk: &mut Chunk, form: Form, line: u32, tool: i64)
+#[tactic(auto, unfolding(crate::specs::Texts::selection_phrase))]
+fn add_selection_phrase(chunk: &mut Chunk, line: u32)
+    requires { length chunk.old + 100 ≤ CHUNK_SIZE }
+    ensures text { chunk.new ≡ chunk.old ++ selection_phrase line }
+    ensures short { length chunk.new ≤ length chunk.old + 60 }
+{
+    chunk.add_text(b"Line ");
+    chunk.add_number(line);
+    chunk.add_text(b" selects it.");
+}
+
+fn add_selection_values(chunk: &mut Chunk, line: u32, tool: u32)
+    requires { length chunk.old + 200 ≤ CHUNK_SIZE }
+    ensures text { chunk.new ≡ chunk.old ++ selection_values line tool }
+    ensures short { length chunk.new ≤ length chunk.old + 100 }
+{
+    chunk.add_text(b",\"tool\":");
+    chunk.add_number(tool);
+    chunk.add_text(b",\"line\":");
+    chunk.add_number(line);
+}
+
+fn add_selection_line(chunk: &mut Chunk, form: Form, line: u32, tool: u32)
     requires { length chunk.old + 400 ≤ CHUNK_SIZE }
-    ensures { chunk.new ≡ chunk.old ++ tool_line form line tool }
+    ensures { chunk.new ≡ chunk.old ++ selection_line form line tool }
 {
     match form {
-        Form::Words => add_tool_words(chunk, line, tool),
-        Form::Json => add_tool_fact(chunk, line, tool),
+        Form::Words => {
+            add_selection_phrase(chunk, line);
+            chunk.add_text(b"\n");
+        }
+        Form::Json => {
+            begin_fact(chunk);
+            add_selection_phrase(chunk, line);
+            chunk.add_text(b"\"");
+            add_selection_values(chunk, line, tool);
+            chunk.add_text(b"}");
+        }
     }
 }
 
 #[tactic(auto, unfolding(crate::specs::Texts::selection_text))]
-fn add_selection(chunk: &mut Chunk, form: Form, selection: &Option<LastWord>)
+fn add_selection(chunk: &mut Chunk, form: Form, tool: u32, selection: &Option<LastWord>)
     requires { length chunk.old + 400 ≤ CHUNK_SIZE }
-    ensures { chunk.new ≡ chunk.old ++ selection_text form selection.now }
+    ensures { chunk.new ≡ chunk.old ++ selection_text form tool selection.now }
 {
     match selection {
         None => {}
-        Some(word) => match word.number {
-            None => {}
-            Some(tool) => add_tool(chunk, form, word.line, tool),
-        },
+        Some(word) => add_selection_line(chunk, form, word.line, tool),
     }
+}
+
+fn add_thousandths(chunk: &mut Chunk, thousandths: u128)
+    requires { length chunk.old + 47 ≤ CHUNK_SIZE }
+    ensures text { chunk.new ≡ chunk.old ++ thousandths_text thousandths }
+    ensures short { length chunk.new ≤ length chunk.old + 47 }
+{
+    chunk.add_millionths(thousandths / 1000, (thousandths % 1000) as u32 * 1000);
 }
 
 // Adds a distance with at most three decimals, rounded up.
@@ -86,11 +99,7 @@ fn add_size(chunk: &mut Chunk, size: u64)
     ensures text { chunk.new ≡ chunk.old ++ shift_text size }
     ensures short { length chunk.new ≤ length chunk.old + 47 }
 {
-    let thousandths = size.div_ceil(1000);
-    chunk.add_millionths(
-        u128::from(thousandths / 1000),
-        (thousandths % 1000) as u32 * 1000,
-    );
+    add_thousandths(chunk, u128::from(size.div_ceil(1000)));
 }
 
 #[tactic(auto, unfolding(crate::specs::Texts::far_text))]
@@ -103,12 +112,26 @@ fn add_far(chunk: &mut Chunk, at: i64)
     add_size(chunk, at.unsigned_abs());
 }
 
-fn add_letter(chunk: &mut Chunk, letter: Letter)
+fn add_axis(chunk: &mut Chunk, axis: Axis)
     requires { length chunk.old + 1 ≤ CHUNK_SIZE }
-    ensures text { chunk.new ≡ chunk.old ++ letter_byte letter ∷ [] }
-    ensures short { length chunk.new ≡ length chunk.old + 1 }
+    ensures text { chunk.new ≡ chunk.old ++ axis_text axis }
+    ensures short { length chunk.new ≤ length chunk.old + 1 }
 {
-    chunk.add_text(&[letter_byte(letter)]);
+    match axis {
+        Axis::X => chunk.add_text(b"X"),
+        Axis::Y => chunk.add_text(b"Y"),
+        Axis::Z => chunk.add_text(b"Z"),
+    }
+}
+
+fn add_kind(chunk: &mut Chunk, limit: u64)
+    requires { length chunk.old + 24 ≤ CHUNK_SIZE }
+    ensures text { chunk.new ≡ chunk.old ++ kind_text limit }
+    ensures short { length chunk.new ≤ length chunk.old + 24 }
+{
+    if limit != COORDINATE {
+        chunk.add_text(b"The origin or offset of ");
+    }
 }
 
 #[tactic(auto, unfolding(crate::specs::Texts::inches_phrase))]
@@ -128,24 +151,19 @@ fn add_inches_phrase(chunk: &mut Chunk, inches: Option<u32>)
 }
 
 #[tactic(auto, unfolding(crate::specs::Texts::far_phrase))]
-fn add_far_phrase(chunk: &mut Chunk, inches: Option<u32>, far: &FarCoordinate)
-    requires { length chunk.old + 200 ≤ CHUNK_SIZE }
-    ensures text { chunk.new ≡ chunk.old ++ far_phrase inches far.now }
-    ensures short { length chunk.new ≤ length chunk.old + 200 }
+fn add_far_phrase(chunk: &mut Chunk, inches: Option<u32>, axis: Axis, at: i64, limit: u64)
+    requires { length chunk.old + 300 ≤ CHUNK_SIZE }
+    ensures text { chunk.new ≡ chunk.old ++ far_phrase inches axis at limit }
+    ensures short { length chunk.new ≤ length chunk.old + 260 }
 {
-    add_letter(chunk, far.axis);
+    add_kind(chunk, limit);
+    add_axis(chunk, axis);
     chunk.add_text(b" is at ");
-    add_far(chunk, far.at);
-    chunk.add_text(b" mm, but the limit is 1000 mm either way.");
+    add_far(chunk, at);
+    chunk.add_text(b" mm, but the limit is ");
+    add_size(chunk, limit);
+    chunk.add_text(b" mm either way.");
     add_inches_phrase(chunk, inches);
-}
-
-fn add_far_words(chunk: &mut Chunk, inches: Option<u32>, far: &FarCoordinate)
-    requires { length chunk.old + 450 ≤ CHUNK_SIZE }
-    ensures { chunk.new ≡ chunk.old ++ far_words inches far.now }
-{
-    add_far_phrase(chunk, inches, far);
-    chunk.add_text(b"\n");
 }
 
 #[tactic(auto, unfolding(crate::specs::Texts::inches_fact))]
@@ -171,55 +189,149 @@ fn add_nanometres(chunk: &mut Chunk, nanometres: i64)
     chunk.add_number(nanometres);
 }
 
-fn add_far_fact(chunk: &mut Chunk, inches: Option<u32>, far: &FarCoordinate)
-    requires { length chunk.old + 450 ≤ CHUNK_SIZE }
-    ensures { chunk.new ≡ chunk.old ++ far_fact inches far.now }
+#[tactic(auto, unfolding(crate::specs::Texts::far_values))]
+fn add_far_values(chunk: &mut Chunk, inches: Option<u32>, axis: Axis, at: i64, limit: u64)
+    requires { length chunk.old + 260 ≤ CHUNK_SIZE }
+    ensures text { chunk.new ≡ chunk.old ++ far_values inches axis at limit }
+    ensures short { length chunk.new ≤ length chunk.old + 200 }
 {
-    chunk.add_text(b",\n{\"fact\":\"reason\",\"text\":\"");
-    add_far_phrase(chunk, inches, far);
-    chunk.add_text(b"\",\"axis\":\"");
-    add_letter(chunk, far.axis);
+    chunk.add_text(b",\"axis\":\"");
+    add_axis(chunk, axis);
     chunk.add_text(b"\",\"at\":");
-    add_nanometres(chunk, far.at);
-    chunk.add_text(b",\"limit\":1000000000");
+    add_nanometres(chunk, at);
+    chunk.add_text(b",\"limit\":");
+    chunk.add_number(limit);
     add_inches_fact(chunk, inches);
-    chunk.add_text(b"}");
 }
 
-fn add_far_line(chunk: &mut Chunk, form: Form, inches: Option<u32>, far: &FarCoordinate)
-    requires { length chunk.old + 450 ≤ CHUNK_SIZE }
-    ensures { chunk.new ≡ chunk.old ++ far_line form inches far.now }
+fn add_far_line(chunk: &mut Chunk, form: Form, inches: Option<u32>, axis: Axis, at: i64, limit: u64)
+    requires { length chunk.old + 600 ≤ CHUNK_SIZE }
+    ensures { chunk.new ≡ chunk.old ++ far_line form inches axis at limit }
 {
     match form {
-        Form::Words => add_far_words(chunk, inches, far),
-        Form::Json => add_far_fact(chunk, inches, far),
+        Form::Words => {
+            add_far_phrase(chunk, inches, axis, at, limit);
+            chunk.add_text(b"\n");
+        }
+        Form::Json => {
+            begin_fact(chunk);
+            add_far_phrase(chunk, inches, axis, at, limit);
+            chunk.add_text(b"\"");
+            add_far_values(chunk, inches, axis, at, limit);
+            chunk.add_text(b"}");
+        }
     }
 }
 
-#[tactic(auto, unfolding(crate::specs::Texts::coordinate_text))]
-fn add_coordinate(chunk: &mut Chunk, form: Form, inches: Option<u32>, far: &Option<FarCoordinate>)
-    requires { length chunk.old + 450 ≤ CHUNK_SIZE }
-    ensures { chunk.new ≡ chunk.old ++ coordinate_text form inches far.now }
+fn add_frame_line(chunk: &mut Chunk, form: Form, inches: Option<u32>, fault: &FrameFault)
+    requires { length chunk.old + 600 ≤ CHUNK_SIZE }
+    ensures { chunk.new ≡ chunk.old ++ frame_line form inches fault.now }
 {
-    match far {
-        None => {}
-        Some(far) => add_far_line(chunk, form, inches, far),
+    match fault {
+        FrameFault::BeyondRange { axis, at, limit } => {
+            add_far_line(chunk, form, inches, *axis, *at, *limit);
+        }
+        FrameFault::NoSuchTool => {}
     }
 }
 
-fn add_range<A: Allocator>(
-    chunk: &mut Chunk,
-    form: Form,
-    deletes: bool,
-    program: &Program<A>,
-    number: u32,
-)
-    requires { length chunk.old + 450 ≤ CHUNK_SIZE }
-    ensures { chunk.new ≡ chunk.old ++ range_line form deletes number (text_in program.now).lines }
+#[tactic(auto, unfolding(crate::specs::Texts::cycle_phrase))]
+fn add_cycle_phrase(chunk: &mut Chunk, inches: Option<u32>)
+    requires { length chunk.old + 200 ≤ CHUNK_SIZE }
+    ensures text { chunk.new ≡ chunk.old ++ cycle_phrase inches }
+    ensures short { length chunk.new ≤ length chunk.old + 140 }
 {
-    let inches = inches_since(deletes, program, number);
-    let far = far_coordinate(deletes, program, number);
-    add_coordinate(chunk, form, inches, &far);
+    chunk.add_text(b"A height or a hole of the cycle is over 1000 mm from zero.");
+    add_inches_phrase(chunk, inches);
+}
+
+fn add_cycle_line(chunk: &mut Chunk, form: Form, inches: Option<u32>)
+    requires { length chunk.old + 600 ≤ CHUNK_SIZE }
+    ensures { chunk.new ≡ chunk.old ++ cycle_line form inches }
+{
+    match form {
+        Form::Words => {
+            add_cycle_phrase(chunk, inches);
+            chunk.add_text(b"\n");
+        }
+        Form::Json => {
+            begin_fact(chunk);
+            add_cycle_phrase(chunk, inches);
+            chunk.add_text(b"\"");
+            add_inches_fact(chunk, inches);
+            chunk.add_text(b"}");
+        }
+    }
+}
+
+// Adds a length with at most three decimals, the nearest one.
+#[tactic(auto, unfolding(crate::specs::Texts::near_text))]
+fn add_near(chunk: &mut Chunk, nanometres: u64)
+    requires { length chunk.old + 47 ≤ CHUNK_SIZE }
+    ensures text { chunk.new ≡ chunk.old ++ near_text nanometres }
+    ensures short { length chunk.new ≤ length chunk.old + 47 }
+{
+    add_thousandths(chunk, (u128::from(nanometres) + 500) / 1000);
+}
+
+#[tactic(auto, unfolding(crate::specs::Texts::radii_phrase))]
+fn add_radii_phrase(chunk: &mut Chunk, at_start: u64, at_end: u64)
+    requires { length chunk.old + 300 ≤ CHUNK_SIZE }
+    ensures text { chunk.new ≡ chunk.old ++ radii_phrase at_start at_end }
+    ensures short { length chunk.new ≤ length chunk.old + 260 }
+{
+    chunk.add_text(b"The radius is ");
+    add_near(chunk, at_start);
+    chunk.add_text(b" mm at the start and ");
+    add_near(chunk, at_end);
+    chunk.add_text(b" mm at the end: they differ by ");
+    add_size(chunk, at_start.abs_diff(at_end));
+    chunk.add_text(b" mm.");
+}
+
+#[tactic(auto, unfolding(crate::specs::Texts::radii_values))]
+fn add_radii_values(chunk: &mut Chunk, at_start: u64, at_end: u64)
+    requires { length chunk.old + 260 ≤ CHUNK_SIZE }
+    ensures text { chunk.new ≡ chunk.old ++ radii_values at_start at_end }
+    ensures short { length chunk.new ≤ length chunk.old + 200 }
+{
+    chunk.add_text(b",\"start_radius\":");
+    chunk.add_number(at_start);
+    chunk.add_text(b",\"end_radius\":");
+    chunk.add_number(at_end);
+    chunk.add_text(b",\"difference\":");
+    chunk.add_number(at_start.abs_diff(at_end));
+}
+
+fn add_radii_line(chunk: &mut Chunk, form: Form, at_start: u64, at_end: u64)
+    requires { length chunk.old + 600 ≤ CHUNK_SIZE }
+    ensures { chunk.new ≡ chunk.old ++ radii_line form at_start at_end }
+{
+    match form {
+        Form::Words => {
+            add_radii_phrase(chunk, at_start, at_end);
+            chunk.add_text(b"\n");
+        }
+        Form::Json => {
+            begin_fact(chunk);
+            add_radii_phrase(chunk, at_start, at_end);
+            chunk.add_text(b"\"");
+            add_radii_values(chunk, at_start, at_end);
+            chunk.add_text(b"}");
+        }
+    }
+}
+
+fn add_arc_line(chunk: &mut Chunk, form: Form, fault: &ArcFault)
+    requires { length chunk.old + 600 ≤ CHUNK_SIZE }
+    ensures { chunk.new ≡ chunk.old ++ arc_line form fault.now }
+{
+    match fault {
+        ArcFault::RadiiDiffer { at_start, at_end } => {
+            add_radii_line(chunk, form, *at_start, *at_end);
+        }
+        _ => {}
+    }
 }
 
 fn value_line<A: Allocator>(
@@ -232,25 +344,37 @@ fn value_line<A: Allocator>(
     ensures { result ≡ value_line form deletes number fault.now (text_in program.now).lines }
 {
     let mut chunk = Chunk::new();
-    match fault.number() {
-        222 => add_selection(&mut chunk, form, &selected_tool(deletes, program, number)),
-        221 => add_range(&mut chunk, form, deletes, program, number),
+    match fault {
+        Fault::NoSuchTool(tool) => {
+            let selection = selected_tool(deletes, program, number);
+            add_selection(&mut chunk, form, *tool, &selection);
+        }
+        Fault::Frame(fault) => {
+            let inches = inches_since(deletes, program, number);
+            add_frame_line(&mut chunk, form, inches, fault);
+        }
+        Fault::CycleBeyondRange => {
+            let inches = inches_since(deletes, program, number);
+            add_cycle_line(&mut chunk, form, inches);
+        }
+        Fault::Arc(fault) => add_arc_line(&mut chunk, form, fault),
         _ => {}
     }
     chunk
 }
 
 /// Writes the values of a fault, below what `write_line` writes of its line, by its number in the
-/// file, from 1, and at a setting of block delete: a tool that isn't in the tool table (222), where
-/// a line before selects it, and a coordinate out of range (221).
+/// file, from 1, and at a setting of block delete: the line that selects a tool that isn't in the
+/// tool table (222), a coordinate, origin or offset out of range (221), and the radii of an arc
+/// where they differ (243).
 ///
 /// ```text
 /// Line 5: M6
-/// Tool 9, selected in line 3, isn't in the tool table.
+/// Tool 9 isn't in the tool table.
+/// Line 3 selects it.
 /// ```
 ///
-/// Nothing is written for any other fault, where `selected_tool` and `far_coordinate` return `None`,
-/// and for a tool whose T word has brackets or a parameter.
+/// Nothing is written for any other fault, and for a tool that the refused line itself names.
 ///
 /// After a fault (902, only if the sink failed) a prefix of the text is written.
 pub fn write_values<A: Allocator, W: Sink>(

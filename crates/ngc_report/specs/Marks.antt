@@ -1,6 +1,6 @@
 -- The word of a line that a fault names, and its mark below the quoted line. Our own.
 use Rattle.std.specs.Prelude.{ℕ, ◌==◌, ◌%◌, nat_lt, ℤ, pos, int_lt, int_le, unsigned_abs, List, [], ◌∷◌}
-use Rattle.std.specs.Prelude.{◌++◌, codes, find, Option, Some, None, is_none, is_some, Result, Ok, Err}
+use Rattle.std.specs.Prelude.{◌++◌, codes, decimal, find, Option, Some, None, is_none, is_some, Result, Ok, Err}
 use Rattle.std.specs.Prelude.{Bool, true, false, not, ◌&&◌, ◌||◌, if◌then◌else◌}
 use Rattle.std.specs.List.{slice_get}
 use Rattle.std.specs.Option.{option_map, option_and_then, option_or}
@@ -22,8 +22,7 @@ use Rattle.ngc_modal_state.specs.declared.fault.MissingWord.TheVariants as missi
 use Rattle.ngc_modal_state.specs.declared.fault.ModalFault.TheVariants.{UnknownCode, WithoutUse}
 use Rattle.ngc_modal_state.specs.declared.fault.ModalFault.TheVariants.{OutOfRange, WordMissing}
 use Rattle.ngc_canonical.specs.declared.fault.Fault.{Fault}
-use Rattle.ngc_canonical.specs.Faults.{fault_number}
-use Rattle.ngc_canonical.specs.declared.fault.Fault.TheVariants.{FeedZero, Frame, Modal}
+use Rattle.ngc_canonical.specs.declared.fault.Fault.TheVariants.{FeedZero, NoSuchTool, Modal}
 use Rattle.ngc_canonical.specs.declared.fault.Fault.TheVariants as faults
 use Rattle.ngc_report.specs.declared.marks.Limit.{Limit}
 use Rattle.ngc_report.specs.declared.marks.Limit.TheVariants.{Range, Length}
@@ -123,7 +122,7 @@ tool_word said =
 abbrev pub named_word : Fault → Parts → Option RawWord
 named_word (Modal OutOfRange) said = breaking_word (Range (sets_origin said)) said
 named_word (faults.Length e) said = breaking_word Length said
-named_word (Frame e) said = if fault_number (Frame e) == 222 then tool_word said else None
+named_word (NoSuchTool n) said = tool_word said
 named_word (Modal (UnknownCode letter millionths)) said =
     option_or (first_word letter (Number millionths) said) (first_word letter Reckoned said)
 named_word (Modal (WithoutUse letter)) said = first_word letter Any said
@@ -180,14 +179,13 @@ range_text w = letter_text w.letter ++ length_text w.millionths ++ codes " is ou
 abbrev pub large_text : WrittenWord → List ℕ
 large_text w = letter_text w.letter ++ length_text w.millionths ++ codes " is too large."
 
-abbrev pub tool_text : WrittenWord → List ℕ
-tool_text w = codes "Tool " ++ length_text w.millionths ++ codes " isn't in the tool table."
+abbrev pub tool_text : ℕ → List ℕ
+tool_text n = codes "Tool " ++ decimal n ++ codes " isn't in the tool table."
 
 -- the sentence about a word by its number
 abbrev pub number_phrase : Fault → WrittenWord → List ℕ
 number_phrase (Modal OutOfRange) w = range_text w
 number_phrase (faults.Length e) w = large_text w
-number_phrase (Frame e) w = tool_text w
 number_phrase _ w = []
 
 abbrev pub phrase_by : Fault → Option WrittenWord → List ℕ
@@ -197,6 +195,7 @@ phrase_by fault (Some w) = number_phrase fault w
 -- the sentence about the word that a fault names
 abbrev pub phrase : Fault → Option WrittenWord → List ℕ
 phrase FeedZero word = codes "No feed above 0 is set for this motion."
+phrase (NoSuchTool n) word = tool_text n
 phrase (Modal (UnknownCode letter millionths)) word = unknown_text letter millionths
 phrase (Modal (WithoutUse letter)) word = idle_text letter
 phrase (Modal (WordMissing missed)) word = missing_text missed
@@ -204,12 +203,12 @@ phrase fault word = phrase_by fault word
 
 abbrev pub has_phrase : Fault → Option WrittenWord → Bool
 has_phrase FeedZero word = true
+has_phrase (NoSuchTool n) word = true
 has_phrase (Modal (UnknownCode letter millionths)) word = true
 has_phrase (Modal (WithoutUse letter)) word = true
 has_phrase (Modal (WordMissing missed)) word = true
 has_phrase (Modal OutOfRange) word = is_some word
 has_phrase (faults.Length e) word = is_some word
-has_phrase (Frame e) word = is_some word
 has_phrase _ word = false
 
 abbrev pub words_sentence : Fault → Option WrittenWord → List ℕ

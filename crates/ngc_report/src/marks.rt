@@ -227,7 +227,7 @@ fn named_word(line: &Line, fault: &Fault) -> Option<RawWord>
             breaking_word(line, Limit::Range { sets_origin })
         }
         Fault::Length(_) => breaking_word(line, Limit::Length),
-        Fault::Frame(_) if fault.number() == 222 => tool_word(line),
+        Fault::NoSuchTool(_) => tool_word(line),
         Fault::Modal(ModalFault::UnknownCode { letter, millionths }) => {
             code_word(line, *letter, *millionths)
         }
@@ -365,13 +365,13 @@ fn add_too_large(chunk: &mut Chunk, word: &WrittenWord)
     chunk.add_text(b" is too large.");
 }
 
-fn add_no_tool(chunk: &mut Chunk, word: &WrittenWord)
+fn add_no_tool(chunk: &mut Chunk, tool: u32)
     requires { length chunk.old + 80 ≤ CHUNK_SIZE }
-    ensures text { chunk.new ≡ chunk.old ++ tool_text word.now }
+    ensures text { chunk.new ≡ chunk.old ++ tool_text tool }
     ensures short { length chunk.new ≤ length chunk.old + 80 }
 {
     chunk.add_text(b"Tool ");
-    chunk.add_length(i128::from(word.millionths));
+    chunk.add_number(tool);
     chunk.add_text(b" isn't in the tool table.");
 }
 
@@ -384,7 +384,6 @@ fn add_number_phrase(chunk: &mut Chunk, fault: &Fault, word: &WrittenWord)
     match fault {
         Fault::Modal(ModalFault::OutOfRange) => add_out_of_range(chunk, word),
         Fault::Length(_) => add_too_large(chunk, word),
-        Fault::Frame(_) => add_no_tool(chunk, word),
         _ => {}
     }
 }
@@ -396,6 +395,7 @@ fn add_phrase(chunk: &mut Chunk, fault: &Fault, word: &Option<WrittenWord>)
 {
     match fault {
         Fault::FeedZero => chunk.add_text(b"No feed above 0 is set for this motion."),
+        Fault::NoSuchTool(tool) => add_no_tool(chunk, *tool),
         Fault::Modal(ModalFault::UnknownCode { letter, millionths }) => {
             add_unknown(chunk, *letter, *millionths)
         }
@@ -414,12 +414,11 @@ fn has_phrase(fault: &Fault, word: &Option<WrittenWord>) -> bool
 {
     match fault {
         Fault::FeedZero
+        | Fault::NoSuchTool(_)
         | Fault::Modal(ModalFault::UnknownCode { .. })
         | Fault::Modal(ModalFault::WithoutUse(_))
         | Fault::Modal(ModalFault::WordMissing(_)) => true,
-        Fault::Modal(ModalFault::OutOfRange) | Fault::Length(_) | Fault::Frame(_) => {
-            word.is_some()
-        }
+        Fault::Modal(ModalFault::OutOfRange) | Fault::Length(_) => word.is_some(),
         _ => false,
     }
 }

@@ -9,12 +9,15 @@ use Rattle.ngc_refused_values.proofs.texts.add_far_phrase.Goals as goal
 pub returns-clause-text : goal.returns-clause-text
 unfolding far_phrase
 returns-clause-text c =
-    let v0 : to_z w64 (of_z w64 c.args.far.now.at) ≡ c.args.far.now.at = omega (arith, ints) in
+    let v0 : to_z w64 (of_z w64 c.args.at) ≡ c.args.at = omega (arith, ints) in
     rw (
       c.add_inches_phrase.ensures.text,
+      c.add_text-3.ensures,
+      c.add_size.ensures.text,
       c.add_text-2.ensures,
       c.add_far.ensures.text,
       v0,
       c.add_text.ensures,
-      c.add_letter.ensures.text,
+      c.add_axis.ensures.text,
+      c.add_kind.ensures.text,
     ) (simp append_assoc)

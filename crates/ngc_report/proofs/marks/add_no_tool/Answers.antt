@@ -1,11 +1,6 @@
 -- One text after the other.
-use Rattle.std.proofs.Common.{◌≡◌, arith, to_z, of_z}
-use Rattle.std.specs.Int.{w128}
-use Rattle.std.proofs.lemmas.Int.{ints}
 use Rattle.std.proofs.lemmas.List.{append_assoc}
 use Rattle.ngc_report.proofs.marks.add_no_tool.Goals as goal
 
 pub returns-clause-text : goal.returns-clause-text
-returns-clause-text c =
-    let v0 : to_z w128 (of_z w128 c.from.result) ≡ c.args.word.now.millionths = omega (arith, ints, c.from.ensures) in
-    rw (c.add_text-2.ensures, c.add_length.ensures.text, v0, c.add_text.ensures) (simp append_assoc)
+returns-clause-text c = rw (c.add_text-2.ensures, c.add_number.ensures.text, c.add_text.ensures) (simp append_assoc)

@@ -22,7 +22,8 @@ returns c =
     let some : 0 < unsigned_abs r = omega (arith, size) in
     let limit : unsigned_abs r * unsigned_abs r ≤ 4000000000000000000 = rw (← size) c.if-size-gt-SQUARE_LIMIT.false in
     let found : radius_centre t e r ≡ Ok c.in_ok-centre.centre = cc (c.in_ok-centre.was {u = tt}) in
-    let last : c.with_equal_radii.result ≡ with_equal_radii t (arc_about e c.in_ok-centre.centre) = cc in
+    let last : c.with_equal_radii.result ≡ with_equal_radii t (arc_about e c.in_ok-centre.centre) =
+    c.with_equal_radii.ensures ∙ ap (λ n. with_equal_radii n (arc_about e c.in_ok-centre.centre)) c.tolerance-2.ensures.value in
     let rest = λ (centre : Point2). with_equal_radii t (arc_about e centre) in
     let passed = four_pass (not e.has_axis_word) _ _ _ NoAxisWord EndIsStart RadiusOutOfRange RadiusOutOfRange (radius_centre t e r >>= rest) word
     (not_zero (chord_square e) chord) (not_zero (unsigned_abs r) some) (not_over 4000000000000000000 (unsigned_abs r * unsigned_abs r) limit) in
