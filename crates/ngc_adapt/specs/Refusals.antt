@@ -5,6 +5,7 @@ use Rattle.std.specs.Prelude.{codes as codes_of, is_some, if◌then◌else◌}
 use Rattle.std.specs.Option.{option_or}
 use Rattle.std.specs.List.{list_any, filter_map}
 use Rattle.ngc_adapt.specs.declared.code.TheConstants as codes
+use Rattle.ngc_adapt.specs.declared.dialect.Dialect.{Dialect}
 use Rattle.ngc_adapt.specs.declared.item.Letter.{Letter}
 use Rattle.ngc_adapt.specs.declared.item.Letter.TheVariants as letters
 use Rattle.ngc_adapt.specs.declared.item.Word.{Word}
@@ -16,7 +17,7 @@ use Rattle.ngc_adapt.specs.declared.refusal.WordRefusal.{WordRefusal}
 use Rattle.ngc_adapt.specs.declared.refusal.WordRefusal.TheVariants as refusals
 use Rattle.ngc_adapt.specs.Comments.{code_of}
 use Rattle.ngc_adapt.specs.Numbers.{has_byte}
-use Rattle.ngc_adapt.specs.Rules.{is_one_of, is_own, is_known, is_fanuc, has, has_unknown, rule_of}
+use Rattle.ngc_adapt.specs.Rules.{is_one_of, is_own, is_known, is_fanuc, is_linuxcnc, has, has_unknown, rule_of}
 use Rattle.ngc_adapt.specs.Rules.{motion_after}
 use Rattle.ngc_adapt.specs.Rules.{sets_origin, has_offset_number}
 
@@ -55,11 +56,16 @@ own_refusal modes words code =
 abbrev pub g_refusal : Modes → List Word → Option ℕ → Option WordRefusal
 g_refusal modes words code = option_or (family_refusal code) (own_refusal modes words code)
 
-abbrev pub m_refusal : Option ℕ → Option WordRefusal
-m_refusal code =
+-- M70 to M72 of LinuxCNC, which `ngc_adapt_moves` rewrites
+abbrev pub saves_modes : Dialect → Option ℕ → Bool
+saves_modes dialect code = is_linuxcnc dialect && is_one_of codes.MODE_SAVING code
+
+abbrev pub m_refusal : Dialect → Option ℕ → Option WordRefusal
+m_refusal dialect code =
     if is_one_of codes.CALLS code || is_one_of codes.SUBPROGRAM_END code
     then Some refusals.Subprogram
-    else refuse (not (is_one_of codes.MACHINE_CODES code)) refusals.UnknownMachineCode
+    else refuse (not (is_one_of codes.MACHINE_CODES code || saves_modes dialect code))
+    refusals.UnknownMachineCode
 
 -- a motion that may be a cycle
 abbrev pub may_be_cycle : Motion → Bool
@@ -93,7 +99,7 @@ letter_refusal modes words letters.V number = Some refusals.MoreAxes
 letter_refusal modes words letters.W number = Some refusals.MoreAxes
 letter_refusal modes words letters.O number = Some refusals.ProgramWord
 letter_refusal modes words letters.G number = g_refusal modes words number.code
-letter_refusal modes words letters.M number = m_refusal number.code
+letter_refusal modes words letters.M number = m_refusal modes.dialect number.code
 letter_refusal modes words letters.P number = p_refusal modes words number
 letter_refusal modes words _ number = None
 

@@ -159,9 +159,14 @@ is_left_out modes w =
 abbrev pub has_left_out : Modes → List Word → Bool
 has_left_out modes words = list_any (λ w. is_left_out modes w) words
 
+-- M70 and M71 of LinuxCNC, which leave all modes in force
+abbrev pub keeps_modes : Modes → Option ℕ → Bool
+keeps_modes modes code = is_linuxcnc modes.dialect && is_one_of codes.MODE_KEEPING code
+
 abbrev pub is_unknown_m : Modes → Word → Bool
 is_unknown_m modes w =
     is_m w.letter && not (is_one_of codes.MACHINE_CODES w.number.code) && not (is_left_out modes w)
+    && not (keeps_modes modes w.number.code)
 
 abbrev pub is_unknown_g : Dialect → Word → Bool
 is_unknown_g dialect w = is_g w.letter && not (is_known dialect w.number.code)

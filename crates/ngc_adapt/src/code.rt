@@ -87,6 +87,12 @@ pub const TOOL_CHANGE: [u16; 1] = [60];
 /// M61, which sets the number of the tool in the spindle.
 pub const TOOL_IN_SPINDLE: [u16; 1] = [610];
 
+/// M70, M71 and M72, which save modes, forget them and restore them.
+pub const MODE_SAVING: [u16; 3] = [700, 710, 720];
+
+/// M70 and M71, which leave all modes in force.
+pub const MODE_KEEPING: [u16; 2] = [700, 710];
+
 /// M50 to M53, switches of the panel.
 pub const SWITCHES: [u16; 4] = [500, 510, 520, 530];
 

@@ -4,6 +4,7 @@ ghost use Rattle.ngc_adapt.specs.declared.refusal.WordRefusal.TheVariants as ref
 
 use crate::code;
 use crate::comment::code_of;
+use crate::dialect::Dialect;
 use crate::item::{Letter, Word};
 use crate::number::{Number, has_byte};
 use crate::rule::{Modes, Motion, has, has_offset_number, is_known, is_one_of, is_own};
@@ -158,15 +159,22 @@ fn refuse(holds: bool, refusal: WordRefusal) -> Option<WordRefusal>
     if holds { Some(refusal) } else { None }
 }
 
+// Returns whether a code is one of M70 to M72 of LinuxCNC, which the crate for moves rewrites.
+fn saves_modes(dialect: Dialect, code: Option<u16>) -> bool
+    ensures { result ≡ spec.saves_modes dialect code }
+{
+    dialect.is_linuxcnc() && is_one_of(&code::MODE_SAVING, code)
+}
+
 // Returns the refusal of an M code.
-fn m_refusal(code: Option<u16>) -> Option<WordRefusal>
-    ensures { result ≡ spec.m_refusal code }
+fn m_refusal(dialect: Dialect, code: Option<u16>) -> Option<WordRefusal>
+    ensures { result ≡ spec.m_refusal dialect code }
 {
     if is_one_of(&code::CALLS, code) || is_one_of(&code::SUBPROGRAM_END, code) {
         Some(WordRefusal::Subprogram)
     } else {
         refuse(
-            !is_one_of(&code::MACHINE_CODES, code),
+            !(is_one_of(&code::MACHINE_CODES, code) || saves_modes(dialect, code)),
             WordRefusal::UnknownMachineCode,
         )
     }
@@ -300,7 +308,7 @@ impl Modes {
             Letter::E | Letter::U | Letter::V | Letter::W => Some(WordRefusal::MoreAxes),
             Letter::O => Some(WordRefusal::ProgramWord),
             Letter::G => self.g_refusal(words, number.code),
-            Letter::M => m_refusal(number.code),
+            Letter::M => m_refusal(self.dialect, number.code),
             Letter::P => self.p_refusal(words, number),
             _ => None,
         }

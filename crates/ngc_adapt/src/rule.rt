@@ -703,7 +703,7 @@ impl Modes {
     ghost use Rattle.ngc_adapt.specs.Rules.{modes_after, has_tolerance, is_idle_offset};
     ghost use Rattle.ngc_adapt.specs.Rules.{has_other_motion, is_unaltered, code_rule};
     ghost use Rattle.ngc_adapt.specs.Rules.{offset_rule, rule_for, is_dropped, is_left_out};
-    ghost use Rattle.ngc_adapt.specs.Rules.{is_unknown_m, may_take_p, takes_p_elsewhere};
+    ghost use Rattle.ngc_adapt.specs.Rules.{is_unknown_m, keeps_modes, may_take_p, takes_p_elsewhere};
     ghost use Rattle.ngc_adapt.specs.Rules.{lost_modes};
     ghost use Rattle.ngc_adapt.specs.Rules.{has_p_elsewhere, has_left_out, has_user_of_p};
     ghost use Rattle.ngc_adapt.specs.Rules.{is_altered};
@@ -757,12 +757,20 @@ impl Modes {
                 || self.is_dropped(code))
     }
 
+    // Returns whether a code is M70 or M71 of LinuxCNC, which leave all modes in force.
+    fn keeps_modes(&self, code: Option<u16>) -> bool
+        ensures { result ≡ keeps_modes self.now code }
+    {
+        self.dialect.is_linuxcnc() && is_one_of(&code::MODE_KEEPING, code)
+    }
+
     fn is_unknown_m(&self, word: &Word) -> bool
         ensures { result ≡ is_unknown_m self.now word.now }
     {
         is_m(word.letter)
             && !is_one_of(&code::MACHINE_CODES, word.number.code)
             && !self.is_left_out(word)
+            && !self.keeps_modes(word.number.code)
     }
 
     fn may_take_p(&self, word: &Word) -> bool

@@ -15,6 +15,7 @@ use Rattle.ngc_adapt_moves.specs.declared.places.Motion.{Motion}
 use Rattle.ngc_adapt_moves.specs.declared.places.Motion.TheVariants as motions
 use Rattle.ngc_adapt_moves.specs.declared.places.ArcDistance.TheVariants as arcs
 use Rattle.ngc_adapt_moves.specs.declared.places.Drilling.TheVariants as drillings
+use Rattle.ngc_adapt_moves.specs.declared.places.Saving.TheVariants as savings
 use Rattle.ngc_adapt_moves.specs.declared.places.Homes.{Homes}
 use Rattle.ngc_fixed_length.specs.declared.modes.RetractMode.TheVariants as retracts
 use Rattle.ngc_adapt_moves.specs.declared.places.Places.{Places}
@@ -25,7 +26,7 @@ use Rattle.ngc_adapt_moves.specs.Places.{no_offset}
 use Rattle.ngc_adapt_moves.specs.Values.{value_of}
 use Rattle.ngc_adapt_moves.specs.Texts.{value_text}
 use Rattle.ngc_adapt_moves.specs.Lines.{written, rules_for, refusals_for, places_after, lines_for, before_for}
-use Rattle.ngc_adapt_moves.specs.LineReports.{line_report, plan_report, changes_text, further_changes, refusals_text, further_refusals, refusal_text}
+use Rattle.ngc_adapt_moves.specs.LineReports.{line_report, plan_report, changes_text, further_changes, code_changes, refusals_text, further_refusals, refusal_text}
 
 -- ---- values
 
@@ -83,7 +84,9 @@ at motion distance place =
       place = place;
       local = no_offset;
       retract = Some retracts.Series;
+      feed = None;
       drilling = drillings.Off;
+      saving = savings.Off;
       motion_again = false;
     }
 
@@ -111,8 +114,31 @@ again b p =
       place = p.place;
       local = p.local;
       retract = p.retract;
+      feed = p.feed;
       drilling = p.drilling;
+      saving = p.saving;
       motion_again = b;
+    }
+
+-- with another feed
+abbrev fed : ℤ → Places → Places
+fed feed p =
+    record {
+      dialect = p.dialect;
+      homes = p.homes;
+      motion = p.motion;
+      plane = p.plane;
+      units = p.units;
+      distance = p.distance;
+      arc_distance = p.arc_distance;
+      feed_mode = p.feed_mode;
+      place = p.place;
+      local = p.local;
+      retract = p.retract;
+      feed = Some feed;
+      drilling = p.drilling;
+      saving = p.saving;
+      motion_again = p.motion_again;
     }
 
 abbrev with_local : Place → Places → Places
@@ -129,7 +155,9 @@ with_local local p =
       place = p.place;
       local = local;
       retract = p.retract;
+      feed = p.feed;
       drilling = p.drilling;
+      saving = p.saving;
       motion_again = p.motion_again;
     }
 
@@ -147,7 +175,9 @@ without_homes p =
       place = p.place;
       local = p.local;
       retract = p.retract;
+      feed = p.feed;
       drilling = p.drilling;
+      saving = p.saving;
       motion_again = p.motion_again;
     }
 
@@ -165,7 +195,9 @@ from_origin p =
       place = p.place;
       local = p.local;
       retract = p.retract;
+      feed = p.feed;
       drilling = p.drilling;
+      saving = p.saving;
       motion_again = p.motion_again;
     }
 
@@ -267,7 +299,7 @@ unfolding written items_of item_of
 written_motion_again = refl
 
 after_motion_again : places_after (again true feeding) (codes "N20 X5 F100")
-    ≡ at motions.Feed distances.Absolute (place (pos 5000000) (pos 2000000) (pos 3000000))
+    ≡ fed (pos 100000000) (at motions.Feed distances.Absolute (place (pos 5000000) (pos 2000000) (pos 3000000)))
 unfolding places_after items_of item_of
 after_motion_again = refl
 
@@ -275,7 +307,7 @@ written_motion_named : written (again true feeding) (codes "G1 X5") ≡ codes "G
 unfolding written items_of item_of
 written_motion_named = refl
 
-after_a_line_without_motion : places_after (again true feeding) (codes "M5 F100") ≡ again true feeding
+after_a_line_without_motion : places_after (again true feeding) (codes "M5 F100") ≡ fed (pos 100000000) (again true feeding)
 unfolding places_after items_of item_of
 after_a_line_without_motion = refl
 
@@ -372,11 +404,11 @@ refused_line = refl
 -- ---- the report
 
 report_of_homing : line_report 7 8 feeding (codes "G28 Z7.5") ≡ codes "line 7 (8): part_home exact: G28 Z7.5 -> G0 Z7.5 / G53 G0 Z50\n"
-unfolding line_report plan_report changes_text further_changes refusals_text further_refusals refusal_text items_of item_of digits
+unfolding line_report plan_report changes_text further_changes code_changes refusals_text further_refusals refusal_text items_of item_of digits
 report_of_homing = refl
 
 report_of_a_refusal : line_report 7 8 (without_homes feeding) (codes "G28 Z7.5") ≡ codes "line 7: part_home left: only the axes named go home in the source, all three here: name the machine file by --machine\n"
-unfolding line_report plan_report changes_text further_changes refusals_text further_refusals refusal_text items_of item_of digits
+unfolding line_report plan_report changes_text further_changes code_changes refusals_text further_refusals refusal_text items_of item_of digits
 report_of_a_refusal = refl
 
 -- ---- motion codes with codes that take the axis words, and F with a change of the units
@@ -395,7 +427,9 @@ in_linuxcnc u p =
       place = p.place;
       local = p.local;
       retract = p.retract;
+      feed = p.feed;
       drilling = p.drilling;
+      saving = p.saving;
       motion_again = p.motion_again;
     }
 

@@ -43,7 +43,8 @@ neither false b h k = k
 -- where no rule holds, nothing is changed
 none_changed : (plan : Plan) → rules_of plan ≡ [] → is_changed plan ≡ false
 none_changed plan h =
-    let o = last_none _ _ _ h in
+    let q = last_none _ _ _ h in
+    let o = last_none _ _ _ q.0 in
     let n = last_none _ _ _ o.0 in
     let m = last_none _ _ _ n.0 in
     let k = last_none _ _ _ m.0 in
@@ -56,7 +57,7 @@ none_changed plan h =
     let c = last_none _ _ _ d.0 in
     let b = last_none _ _ _ c.0 in
     let a = only_none _ _ b.0 in
-    neither _ _ a (neither _ _ b.1 (neither _ _ c.1 (neither _ _ d.1 (neither _ _ e.1 (neither _ _ f.1 (neither _ _ g.1 (neither _ _ i.1 (neither _ _ j.1 (neither _ _ k.1 (neither _ _ m.1 (neither _ _ n.1 o.1)))))))))))
+    neither _ _ a (neither _ _ b.1 (neither _ _ c.1 (neither _ _ d.1 (neither _ _ e.1 (neither _ _ f.1 (neither _ _ g.1 (neither _ _ i.1 (neither _ _ j.1 (neither _ _ k.1 (neither _ _ m.1 (neither _ _ n.1 (neither _ _ o.1 q.1))))))))))))
 
 stays : (t : Bool) (x line : List ℕ) → t ≡ false → cond t x line ≡ line
 stays true x line e = absurd cc

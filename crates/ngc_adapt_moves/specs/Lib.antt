@@ -11,6 +11,7 @@ pub mod Places
 pub mod Plans
 pub mod Radii
 pub mod Reports
+pub mod Savings
 pub mod Texts
 pub mod Values
 pub mod Words

@@ -20,7 +20,7 @@ use Rattle.ngc_adapt_moves.specs.Angles.{whole_turn}
 use Rattle.ngc_adapt_moves.specs.Lines.{rewritten}
 use Rattle.ngc_adapt_moves.specs.Plans.{plan_of, is_homed, is_named, is_circled, is_first, is_origin}
 use Rattle.ngc_adapt_moves.specs.Plans.{is_local, is_one_turn, is_several, is_stopped_later, local_refusal}
-use Rattle.ngc_adapt_moves.specs.Plans.{is_pecked, pecks_refusal, turns_refusal}
+use Rattle.ngc_adapt_moves.specs.Plans.{is_pecked, is_saving, pecks_refusal, savings_refusal, turns_refusal}
 use Rattle.ngc_adapt_moves.specs.Plans.{homing_refusal, naming_refusal, circle_refusal, centre_refusal}
 use Rattle.ngc_adapt_moves.specs.Plans.{feeding_refusal, balance_refusal}
 use Rattle.ngc_adapt_moves.specs.Reports.{rule_name, class_of, refusal_name, sentence}
@@ -75,6 +75,13 @@ several_if holds number written_number plan line =
     ++ (rewritten (codes " / ") plan line ++ heights_text plan.turns))))
     else []
 
+-- the changes of a tool change, a hole and saved modes
+unfoldable pub code_changes : ℕ → ℕ → Plan → List ℕ → List ℕ
+code_changes number written_number plan line =
+    change_if plan.tool_first number written_number rules.ToolChangeFirst plan line
+    ++ (change_if (is_pecked plan.pecks) number written_number rules.ChipBreaking plan line
+    ++ change_if (is_saving plan.savings) number written_number rules.SavedModes plan line)
+
 -- the changes of an arc, a stop and a local offset
 unfoldable pub further_changes : ℕ → ℕ → Plan → List ℕ → List ℕ
 further_changes number written_number plan line =
@@ -83,8 +90,7 @@ further_changes number written_number plan line =
     ++ (change_if (is_one_turn plan.turns) number written_number rules.OneTurn plan line
     ++ (several_if (is_several plan.turns) number written_number plan line
     ++ (change_if (is_local plan.local) number written_number rules.LocalOffset plan line
-    ++ (change_if plan.tool_first number written_number rules.ToolChangeFirst plan line
-    ++ change_if (is_pecked plan.pecks) number written_number rules.ChipBreaking plan line)))))
+    ++ code_changes number written_number plan line))))
 
 unfoldable pub changes_text : ℕ → ℕ → Plan → List ℕ → List ℕ
 changes_text number written_number plan line =
@@ -111,7 +117,8 @@ further_refusals number plan =
     refusal_if number (balance_refusal plan.balance)
     ++ (refusal_if number (turns_refusal plan.turns)
     ++ (refusal_if number (local_refusal plan.local)
-    ++ refusal_if number (pecks_refusal plan.pecks)))
+    ++ (refusal_if number (pecks_refusal plan.pecks)
+    ++ refusal_if number (savings_refusal plan.savings))))
 
 unfoldable pub refusals_text : ℕ → Plan → List ℕ
 refusals_text number plan =

@@ -167,6 +167,20 @@ first_q words = find (λ (w : Word). is_q w.letter) words
 abbrev pub q_value : List Word → Option ℤ
 q_value words = value_in (first_q words)
 
+abbrev pub first_f : List Word → Option Word
+first_f words = find (λ (w : Word). is_f w.letter) words
+
+-- the number of the first F, if it is known
+abbrev pub f_value : List Word → Option ℤ
+f_value words = value_in (first_f words)
+
+abbrev pub is_s : Letter → Bool
+is_s letters.S = true
+is_s _ = false
+
+abbrev pub has_speed : List Word → Bool
+has_speed words = list_any (λ (w : Word). is_s w.letter) words
+
 abbrev pub first_r : List Word → Option Word
 first_r words = find (λ (w : Word). is_r w.letter) words
 
@@ -186,7 +200,9 @@ is_known code =
     || is_one_of codes.FOR_ONE_LINE code || is_one_of codes.PLAIN code
 
 abbrev pub is_known_m : Option ℕ → Bool
-is_known_m code = is_one_of codes.MACHINE_CODES code || is_one_of codes.TOOL_CHANGE code
+is_known_m code =
+    is_one_of codes.MACHINE_CODES code || is_one_of codes.TOOL_CHANGE code
+    || is_one_of codes.MODE_SAVING code
 
 -- a code that isn't known, or an axis that our language doesn't have
 abbrev pub is_unknown : Word → Bool
@@ -208,4 +224,5 @@ has_plane words =
 -- a line that may change where the tool is, or the coordinates of that place
 abbrev pub may_move : List Word → Bool
 may_move words =
-    has_g words || has_axes words || has_m codes.TOOL_CHANGE words || has_unknown words
+    has_g words || has_axes words || has_m codes.TOOL_CHANGE words
+    || has_m codes.MODES_RESTORED words || has_unknown words

@@ -9,6 +9,7 @@ use Rattle.ngc_adapt_moves.specs.declared.axis.Place.{Place}
 use Rattle.ngc_adapt_moves.specs.declared.homing.Homing.{Homing}
 use Rattle.ngc_adapt_moves.specs.declared.homing.Homing.TheVariants as homings
 use Rattle.ngc_adapt_moves.specs.declared.places.Drilling.{Drilling}
+use Rattle.ngc_adapt_moves.specs.declared.places.Saving.{Saving}
 use Rattle.ngc_adapt_moves.specs.declared.places.Motion.{Motion}
 use Rattle.ngc_adapt_moves.specs.declared.places.Motion.TheVariants as motions
 use Rattle.ngc_adapt_moves.specs.declared.places.Places.{Places}
@@ -26,6 +27,7 @@ use Rattle.ngc_adapt_moves.specs.Plans.{added_text, before_count, change_of, cir
 use Rattle.ngc_adapt_moves.specs.Plans.{line_count, naming_text, plan_of, refusals_of, rules_of}
 use Rattle.ngc_adapt_moves.specs.OwnLines.{own_words}
 use Rattle.ngc_adapt_moves.specs.Pecks.{drilling_after, pecks_written}
+use Rattle.ngc_adapt_moves.specs.Savings.{modes_back, saving_after}
 use Rattle.ngc_adapt_moves.specs.Turns.{turns_written}
 use Rattle.ngc_adapt_moves.specs.Texts.{axis_letter, text_of, value_text}
 use Rattle.ngc_adapt_moves.specs.Words.{word_of, words_of}
@@ -135,8 +137,8 @@ is_again places plan words deletable =
     else is_pecked plan.pecks || plan.apart || (places.motion_again
     && (deletable || not (has_motion words || is_named plan.naming))))
 
-abbrev pub with_again : Bool → Drilling → Places → Places
-with_again again drilling places =
+abbrev pub with_again : Bool → Drilling → Saving → Places → Places
+with_again again drilling saving places =
     record {
       dialect = places.dialect;
       homes = places.homes;
@@ -149,14 +151,18 @@ with_again again drilling places =
       place = places.place;
       local = places.local;
       retract = places.retract;
+      feed = places.feed;
       drilling = drilling;
+      saving = saving;
       motion_again = again;
     }
 
 abbrev pub next_places : Places → Plan → List Word → Bool → Places
 next_places places plan words deletable =
     with_again (is_again places plan words deletable)
-    (drilling_after places.drilling plan.pecks words deletable) (after_line places words deletable)
+    (drilling_after places.drilling plan.pecks words deletable)
+    (saving_after places.saving plan.savings words deletable)
+    (modes_back plan.savings deletable (after_line places words deletable))
 
 abbrev pub not_read : List MoveRefusal
 not_read = refusals.NotRead ∷ []

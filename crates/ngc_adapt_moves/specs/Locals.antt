@@ -1,5 +1,5 @@
 -- G52, a local offset of the coordinates, which our language has as the offset of G92. Our own.
-use Rattle.std.specs.Prelude.{ℕ, ◌==◌, ◌&&◌, ◌||◌, not, Bool, true, false, ℤ, List, count_by, Option, Some}
+use Rattle.std.specs.Prelude.{ℕ, ◌==◌, ◌&&◌, ◌||◌, not, Bool, ℤ, List, count_by, Option}
 use Rattle.std.specs.Prelude.{None, if◌then◌else◌}
 use Rattle.ngc_adapt_moves.specs.declared.axis.Axis.{Axis}
 use Rattle.ngc_adapt_moves.specs.declared.axis.Axis.TheVariants as axes

@@ -1,5 +1,5 @@
 -- The words of a line that are written on a line of their own, and the order of M words.
-use Rattle.std.specs.Prelude.{ℕ, ◌-◌, ◌==◌, nat_le, nat_lt, ◌&&◌, ◌||◌, not, Bool, true, false, List, [], ◌∷◌}
+use Rattle.std.specs.Prelude.{ℕ, ◌-◌, ◌==◌, nat_le, nat_lt, ◌&&◌, ◌||◌, not, Bool, false, List, [], ◌∷◌}
 use Rattle.std.specs.Prelude.{◌++◌, Option, Some, None, if◌then◌else◌}
 use Rattle.ngc_adapt.specs.Items.{items_of}
 use Rattle.ngc_adapt_moves.specs.declared.own_line.OwnLine.{OwnLine}

@@ -1,6 +1,6 @@
 -- G73, which drills with short pecks to break the chips, written as its moves. LinuxCNC defines it:
 -- between the pecks the tool goes back by 0.254 mm or 0.010 inch.
-use Rattle.std.specs.Prelude.{ℕ, zero, suc, ◌+◌, ◌-◌, ◌*◌, ◌/◌, ◌==◌, nat_le, ◌&&◌, ◌||◌, not, Bool, true, false}
+use Rattle.std.specs.Prelude.{ℕ, zero, suc, ◌+◌, ◌-◌, ◌*◌, ◌/◌, nat_le, ◌&&◌, ◌||◌, not, Bool, true, false}
 use Rattle.std.specs.Prelude.{ℤ, pos, int_lt, ◌-ℤ◌, unsigned_abs, List, [], ◌++◌, Option, Some, None, is_some}
 use Rattle.std.specs.Prelude.{if◌then◌else◌}
 use Rattle.ngc_adapt.specs.declared.dialect.Dialect.{Dialect}
@@ -31,9 +31,9 @@ use Rattle.ngc_adapt_moves.specs.Homing.{has_target}
 use Rattle.ngc_adapt_moves.specs.LineWords.{has, has_axes, has_m, has_motion, has_offsets, has_p, has_q}
 use Rattle.ngc_adapt_moves.specs.LineWords.{has_radius, has_repeats, has_unknown, may_move, names}
 use Rattle.ngc_adapt_moves.specs.LineWords.{q_value, r_value, value_along}
-use Rattle.ngc_adapt_moves.specs.Places.{drilling_lost, loses_place, start_along, sum}
+use Rattle.ngc_adapt_moves.specs.Places.{drilling_lost, is_per_minute, loses_place, start_along, sum}
 use Rattle.ngc_adapt_moves.specs.Texts.{motion_text, text_of}
-use Rattle.ngc_adapt_moves.specs.Turns.{coordinate_word, coordinates, is_absolute, is_per_minute}
+use Rattle.ngc_adapt_moves.specs.Turns.{coordinate_word, coordinates, is_absolute}
 use Rattle.ngc_adapt_moves.specs.Values.{known}
 
 -- ---- the words of a hole

@@ -20,6 +20,8 @@ use Rattle.ngc_adapt_moves.specs.declared.axis.Axis.TheVariants as axes
 use Rattle.ngc_adapt_moves.specs.declared.axis.Place.{Place}
 use Rattle.ngc_adapt_moves.specs.declared.places.Drilling.{Drilling}
 use Rattle.ngc_adapt_moves.specs.declared.places.Drilling.TheVariants as drillings
+use Rattle.ngc_adapt_moves.specs.declared.places.Saving.{Saving}
+use Rattle.ngc_adapt_moves.specs.declared.places.Saving.TheVariants as savings
 use Rattle.ngc_adapt_moves.specs.declared.places.Motion.{Motion}
 use Rattle.ngc_adapt_moves.specs.declared.places.Motion.TheVariants as motions
 use Rattle.ngc_adapt_moves.specs.declared.places.ArcDistance.{ArcDistance}
@@ -30,7 +32,7 @@ use Rattle.ngc_adapt_moves.specs.declared.word.Word.{Word}
 use Rattle.ngc_adapt_moves.specs.declared.code.TheConstants as codes
 use Rattle.ngc_adapt_moves.specs.Axes.{along, nowhere}
 use Rattle.ngc_adapt_moves.specs.Values.{known}
-use Rattle.ngc_adapt_moves.specs.LineWords.{has, has_m, has_axes, has_motion, has_plane, has_repeats}
+use Rattle.ngc_adapt_moves.specs.LineWords.{f_value, has, has_feed, has_m, has_axes, has_motion, has_plane, has_repeats}
 use Rattle.ngc_adapt_moves.specs.LineWords.{has_unknown, is_same_axis, may_move, names, value_along}
 
 -- Grbl starts with G0 in force
@@ -78,6 +80,10 @@ retract_after before words =
     if has codes.SERIES_RETRACT words then Some retracts.Series else (
     if has codes.HOLE_RETRACT words then Some retracts.Retract else before)
 
+abbrev pub is_per_minute : Option FeedMode → Bool
+is_per_minute (Some feeds.PerMinute) = true
+is_per_minute _ = false
+
 abbrev pub are_inches : Option Units → Bool
 are_inches (Some units_of.Inches) = true
 are_inches _ = false
@@ -91,6 +97,18 @@ abbrev pub changes_units : Option Units → List Word → Bool
 changes_units units words =
     (has codes.INCHES words && not (are_inches units))
     || (has codes.MILLIMETRES words && not (are_millimetres units))
+
+-- the feed in force: an F in G94, in units that don't change
+abbrev pub feed_after : Places → List Word → Option ℤ
+feed_after places words =
+    if changes_units places.units words
+    || not (is_per_minute (feed_mode_after places.feed_mode words)) then None else (
+    if has_feed words then f_value words else places.feed)
+
+abbrev pub feed_either : Places → List Word → Option ℤ
+feed_either places words =
+    if has_feed words || (has codes.UNITS words || has codes.FEED_MODE words) then None
+    else places.feed
 
 -- a place gets other coordinates on a line, or the tool may be taken elsewhere
 abbrev pub loses_place : Option Units → List Word → Bool
@@ -221,7 +239,9 @@ start dialect homes =
       place = nowhere;
       local = no_offset;
       retract = Some retracts.Series;
+      feed = None;
       drilling = drillings.Off;
+      saving = savings.Off;
       motion_again = false;
     }
 
@@ -229,6 +249,10 @@ start dialect homes =
 abbrev pub drilling_lost : Drilling → Drilling
 drilling_lost drillings.Off = drillings.Off
 drilling_lost _ = drillings.Lost
+
+abbrev pub saving_lost : Saving → Saving
+saving_lost savings.Off = savings.Off
+saving_lost _ = savings.Lost
 
 -- after a line of which nothing is known
 abbrev pub lost : Places → Places
@@ -245,7 +269,9 @@ lost places =
       place = nowhere;
       local = nowhere;
       retract = None;
+      feed = None;
       drilling = drilling_lost places.drilling;
+      saving = saving_lost places.saving;
       motion_again = places.motion_again;
     }
 
@@ -264,7 +290,9 @@ modes_after places words =
       place = places.place;
       local = local_after places words;
       retract = retract_after places.retract words;
+      feed = feed_after places words;
       drilling = places.drilling;
+      saving = places.saving;
       motion_again = places.motion_again;
     }
 
@@ -298,7 +326,9 @@ modes_either places words =
       place = place_either places words;
       local = local_either places words;
       retract = if has codes.RETRACT_MODE words then None else places.retract;
+      feed = feed_either places words;
       drilling = places.drilling;
+      saving = places.saving;
       motion_again = places.motion_again;
     }
 
@@ -316,7 +346,9 @@ with_place place places =
       place = place;
       local = places.local;
       retract = places.retract;
+      feed = places.feed;
       drilling = places.drilling;
+      saving = places.saving;
       motion_again = places.motion_again;
     }
 

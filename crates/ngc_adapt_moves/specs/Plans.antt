@@ -1,5 +1,5 @@
 -- The result of the rules for a line with these words.
-use Rattle.std.specs.Prelude.{ℕ, ◌+◌, ◌-◌, nat_le, nat_lt, ℤ, ◌&&◌, ◌||◌, not, Bool, true, false, List, [], ◌∷◌, ◌++◌, Option}
+use Rattle.std.specs.Prelude.{ℕ, ◌+◌, ℤ, ◌&&◌, ◌||◌, not, Bool, true, false, List, [], ◌∷◌, ◌++◌, Option}
 use Rattle.std.specs.Prelude.{Some, None, if◌then◌else◌}
 use Rattle.std.specs.Option.{option_or}
 use Rattle.ngc_adapt.specs.declared.dialect.Dialect.{Dialect}
@@ -34,6 +34,8 @@ use Rattle.ngc_adapt_moves.specs.declared.local.Local.TheVariants as locals
 use Rattle.ngc_adapt_moves.specs.declared.pecks.Pecked.{Pecked}
 use Rattle.ngc_adapt_moves.specs.declared.pecks.Pecks.{Pecks}
 use Rattle.ngc_adapt_moves.specs.declared.pecks.Pecks.TheVariants as pecks
+use Rattle.ngc_adapt_moves.specs.declared.savings.Savings.{Savings}
+use Rattle.ngc_adapt_moves.specs.declared.savings.Savings.TheVariants as savings
 use Rattle.ngc_adapt_moves.specs.declared.turns.Turning.{Turning}
 use Rattle.ngc_adapt_moves.specs.declared.turns.Turns.{Turns}
 use Rattle.ngc_adapt_moves.specs.declared.turns.Turns.TheVariants as turns
@@ -45,7 +47,8 @@ use Rattle.ngc_adapt_moves.specs.declared.word.Word.{Word}
 use Rattle.ngc_adapt_moves.specs.declared.code.TheConstants as codes
 use Rattle.ngc_adapt_moves.specs.Axes.{along}
 use Rattle.ngc_adapt_moves.specs.LineWords.{has, has_axes, has_feed, has_motion, has_place}
-use Rattle.ngc_adapt_moves.specs.LineWords.{has_unknown, is_axis, is_code, is_p, is_q, is_r}
+use Rattle.ngc_adapt_moves.specs.LineWords.{has_unknown, is_axis, is_code, is_machine_code, is_p, is_q, is_r}
+use Rattle.ngc_adapt_moves.specs.Savings.{savings_of}
 use Rattle.ngc_adapt_moves.specs.Pecks.{further_pecks, leads_to_top, pecks_of}
 use Rattle.ngc_adapt_moves.specs.declared.own_line.OwnLine.TheVariants as own_lines
 use Rattle.ngc_adapt_moves.specs.OwnLines.{end_later, is_of, pause_later, tool_first}
@@ -135,6 +138,7 @@ plan_of places words =
           (centre_of places (modes_after places words) words) words) words;
       local = local_of places words;
       pecks = pecks_of places (modes_after places words) words;
+      savings = savings_of places words;
       tool_first = tool_first words;
       pause_later = pause_later words;
       end_later = end_later words;
@@ -185,13 +189,19 @@ is_local _ = false
 abbrev pub is_stopped_later : Plan → Bool
 is_stopped_later plan = plan.pause_later || plan.end_later
 
+-- M70 and M71 are left out, or M72 is written as codes
+abbrev pub is_saving : Savings → Bool
+is_saving savings.Other = false
+is_saving (savings.Left refusal) = false
+is_saving _ = true
+
 -- a rule changes the line
 abbrev pub is_changed : Plan → Bool
 is_changed plan =
     is_homed plan.homing || (is_named plan.naming || (is_circled plan.circle || (is_origin plan
     || (plan.apart || (is_first plan.feeding || (is_moved plan.balance
     || (is_stopped_later plan || (is_one_turn plan.turns || (is_several plan.turns || (is_local plan.local
-    || (plan.tool_first || is_pecked plan.pecks)))))))))))
+    || (plan.tool_first || (is_pecked plan.pecks || is_saving plan.savings))))))))))))
 
 abbrev pub rule_if : Bool → Rule → List Rule
 rule_if holds rule = if holds then rule ∷ [] else []
@@ -199,7 +209,7 @@ rule_if holds rule = if holds then rule ∷ [] else []
 -- the rules that change the line
 abbrev pub rules_of : Plan → List Rule
 rules_of plan =
-    (((((((((((rule_if (is_homed plan.homing) rules.PartHome
+    ((((((((((((rule_if (is_homed plan.homing) rules.PartHome
     ++ rule_if (is_named plan.naming) rules.MotionAgain)
     ++ rule_if (is_circled plan.circle) rules.FullCircle)
     ++ rule_if (is_origin plan) rules.ArcOrigin) ++ rule_if plan.apart rules.MotionApart)
@@ -210,7 +220,8 @@ rules_of plan =
     ++ rule_if (is_several plan.turns) rules.SeveralTurns)
     ++ rule_if (is_local plan.local) rules.LocalOffset)
     ++ rule_if plan.tool_first rules.ToolChangeFirst)
-    ++ rule_if (is_pecked plan.pecks) rules.ChipBreaking
+    ++ rule_if (is_pecked plan.pecks) rules.ChipBreaking)
+    ++ rule_if (is_saving plan.savings) rules.SavedModes
 
 abbrev pub homing_refusal : Homing → Option MoveRefusal
 homing_refusal (homings.Left refusal) = Some refusal
@@ -248,6 +259,10 @@ abbrev pub pecks_refusal : Pecks → Option MoveRefusal
 pecks_refusal (pecks.Left refusal) = Some refusal
 pecks_refusal _ = None
 
+abbrev pub savings_refusal : Savings → Option MoveRefusal
+savings_refusal (savings.Left refusal) = Some refusal
+savings_refusal _ = None
+
 abbrev pub refusal_if : Option MoveRefusal → List MoveRefusal
 refusal_if (Some refusal) = refusal ∷ []
 refusal_if None = []
@@ -255,11 +270,12 @@ refusal_if None = []
 -- why the line is left, if it is
 abbrev pub refusals_of : Plan → List MoveRefusal
 refusals_of plan =
-    (((((((refusal_if (homing_refusal plan.homing) ++ refusal_if (naming_refusal plan.naming))
+    ((((((((refusal_if (homing_refusal plan.homing) ++ refusal_if (naming_refusal plan.naming))
     ++ refusal_if (circle_refusal plan.circle)) ++ refusal_if (centre_refusal plan.centre))
     ++ refusal_if (feeding_refusal plan.feeding)) ++ refusal_if (balance_refusal plan.balance))
     ++ refusal_if (turns_refusal plan.turns)) ++ refusal_if (local_refusal plan.local))
-    ++ refusal_if (pecks_refusal plan.pecks)
+    ++ refusal_if (pecks_refusal plan.pecks))
+    ++ refusal_if (savings_refusal plan.savings)
 
 -- the code that names the motion again
 abbrev pub naming_text : Naming → Text
@@ -358,6 +374,17 @@ pecked_change (pecks.By p) w =
     else pecked_text p w.letter
 pecked_change _ w = None
 
+abbrev pub saving_text : Savings → Option Text
+saving_text savings.Other = None
+saving_text (savings.Left refusal) = None
+saving_text (savings.Restore s) = Some (texts.Modes s)
+saving_text _ = Some texts.Nothing
+
+-- the codes of the saved modes for M72, and nothing for M70 and M71
+abbrev pub saved_change : Savings → Word → Option Text
+saved_change result w =
+    if is_machine_code codes.MODE_SAVING w then saving_text result else None
+
 -- a word that is left out of the source's own line: G90.1 and G91.1, a motion code that takes no axis
 -- words, and a word that is written on a line before or after
 abbrev pub leaves_out : Plan → Word → Bool
@@ -374,7 +401,7 @@ abbrev pub change_of : Plan → Word → Option Text
 change_of plan w =
     if leaves_out plan w then Some texts.Nothing
     else option_or (option_or (option_or (turned_change plan.turns w) (local_change plan.local w))
-    (pecked_change plan.pecks w))
+    (option_or (pecked_change plan.pecks w) (saved_change plan.savings w)))
     (homing_change plan.homing plan.balance plan.centre w)
 
 abbrev pub one_if : Bool → ℕ

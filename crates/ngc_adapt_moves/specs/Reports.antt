@@ -19,6 +19,7 @@ rule_name rules.SeveralTurns = codes "several_turns"
 rule_name rules.LocalOffset = codes "local_offset"
 rule_name rules.ToolChangeFirst = codes "tool_change_first"
 rule_name rules.ChipBreaking = codes "chip_breaking"
+rule_name rules.SavedModes = codes "saved_modes"
 
 -- what a rule keeps: the same commands, or the same within a length
 abbrev pub class_of : Rule → List ℕ
@@ -35,6 +36,7 @@ class_of rules.SeveralTurns = codes "bound"
 class_of rules.LocalOffset = codes "exact"
 class_of rules.ToolChangeFirst = codes "exact"
 class_of rules.ChipBreaking = codes "exact"
+class_of rules.SavedModes = codes "exact"
 
 abbrev pub refusal_name : MoveRefusal → List ℕ
 refusal_name refusals.NotRead = codes "not_read"
@@ -52,6 +54,7 @@ refusal_name refusals.RadiiDiffer = codes "moved_centre"
 refusal_name refusals.TurnsNotKnown = codes "several_turns"
 refusal_name refusals.LocalNotKnown = codes "local_offset"
 refusal_name refusals.PecksNotKnown = codes "chip_breaking"
+refusal_name refusals.ModesNotKnown = codes "saved_modes"
 
 -- what is wrong, and the way out
 abbrev pub sentence : MoveRefusal → List ℕ
@@ -84,3 +87,5 @@ sentence refusals.LocalNotKnown =
     codes "G52 needs G90, a known position, no G92 before it and no other code that takes its words: set an origin by G10 L2"
 sentence refusals.PecksNotKnown =
     codes "G73 needs G17, G90, G94, a known height, Z, R and Q, and G80 before another cycle: write its moves"
+sentence refusals.ModesNotKnown =
+    codes "M70 to M72 need lines of their own, known modes, and no change of the spindle, coolant, tool, origin or path between them: write the codes"

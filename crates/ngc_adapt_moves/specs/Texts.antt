@@ -1,10 +1,21 @@
 -- Replacements of words. Values have the decimals that they need, at most six.
-use Rattle.std.specs.Prelude.{ℕ, ◌+◌, ◌/◌, ◌%◌, ◌==◌, ℤ, pos, negsuc, unsigned_abs, List, [], ◌∷◌, ◌++◌}
-use Rattle.std.specs.Prelude.{take, codes, decimal, if◌then◌else◌}
+use Rattle.std.specs.Prelude.{ℕ, ◌+◌, ◌/◌, ◌%◌, ◌==◌, ℤ, pos, negsuc, unsigned_abs, Bool, true, List, [], ◌∷◌, ◌++◌}
+use Rattle.std.specs.Prelude.{take, codes, decimal, Option, Some, if◌then◌else◌}
 use Rattle.ngc_adapt_moves.specs.declared.axis.Axis.{Axis}
 use Rattle.ngc_adapt_moves.specs.declared.axis.Axis.TheVariants as axes
 use Rattle.ngc_adapt_moves.specs.declared.places.Motion.{Motion}
 use Rattle.ngc_adapt_moves.specs.declared.places.Motion.TheVariants as motions
+use Rattle.ngc_adapt_moves.specs.declared.places.Saved.{Saved}
+use Rattle.ngc_fixed_length.specs.declared.units.Units.{Units}
+use Rattle.ngc_fixed_length.specs.declared.units.Units.TheVariants as units_of
+use Rattle.ngc_fixed_length.specs.declared.modes.Plane.{Plane}
+use Rattle.ngc_fixed_length.specs.declared.modes.Plane.TheVariants as planes
+use Rattle.ngc_fixed_length.specs.declared.modes.Distance.{Distance}
+use Rattle.ngc_fixed_length.specs.declared.modes.Distance.TheVariants as distances
+use Rattle.ngc_fixed_length.specs.declared.modes.FeedMode.{FeedMode}
+use Rattle.ngc_fixed_length.specs.declared.modes.FeedMode.TheVariants as feeds
+use Rattle.ngc_fixed_length.specs.declared.modes.RetractMode.{RetractMode}
+use Rattle.ngc_fixed_length.specs.declared.modes.RetractMode.TheVariants as retracts
 use Rattle.ngc_adapt_moves.specs.declared.text.Text.{Text}
 use Rattle.ngc_adapt_moves.specs.declared.text.Text.TheVariants as texts
 
@@ -54,6 +65,39 @@ motion_text _ = []
 abbrev pub word_text : ℕ → ℤ → List ℕ
 word_text letter value = letter ∷ (value_text value ++ codes " ")
 
+abbrev pub plane_text : Plane → List ℕ
+plane_text planes.XY = codes "G17 "
+plane_text planes.ZX = codes "G18 "
+plane_text planes.YZ = codes "G19 "
+
+abbrev pub units_text : Units → List ℕ
+units_text units_of.Inches = codes "G20 "
+units_text units_of.Millimetres = codes "G21 "
+
+abbrev pub distance_text : Distance → List ℕ
+distance_text distances.Absolute = codes "G90 "
+distance_text distances.Incremental = codes "G91 "
+
+abbrev pub feed_mode_text : FeedMode → List ℕ
+feed_mode_text feeds.InverseTime = codes "G93 "
+feed_mode_text feeds.PerMinute = codes "G94 "
+
+abbrev pub retract_text : RetractMode → List ℕ
+retract_text retracts.Series = codes "G98 "
+retract_text retracts.Retract = codes "G99 "
+
+-- F, if the feed may have changed; 70 is the code of F
+abbrev pub feed_text : Bool → Option ℤ → List ℕ
+feed_text true (Some feed) = word_text 70 feed
+feed_text _ _ = []
+
+-- the codes that restore saved modes
+unfoldable pub modes_text : Saved → List ℕ
+modes_text s =
+    plane_text s.plane ++ (units_text s.units ++ (distance_text s.distance
+    ++ (feed_mode_text s.feed_mode ++ (retract_text s.retract
+    ++ feed_text s.has_other_feed s.feed))))
+
 abbrev pub text_of : Text → List ℕ
 text_of texts.Nothing = []
 text_of texts.MachineTraverse = codes "G53 G0 "
@@ -61,3 +105,4 @@ text_of texts.AxisOffset = codes "G92 "
 text_of (texts.Motion motion) = motion_text motion
 text_of (texts.Coordinate axis value) = word_text (axis_letter axis) value
 text_of (texts.Offset axis value) = word_text (offset_letter axis) value
+text_of (texts.Modes saved) = modes_text saved

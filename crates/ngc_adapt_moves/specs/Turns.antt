@@ -8,8 +8,6 @@ use Rattle.ngc_adapt.specs.declared.dialect.Dialect.TheVariants as dialects
 use Rattle.ngc_fixed_length.specs.declared.modes.Plane.{Plane}
 use Rattle.ngc_fixed_length.specs.declared.modes.Distance.{Distance}
 use Rattle.ngc_fixed_length.specs.declared.modes.Distance.TheVariants as distances
-use Rattle.ngc_fixed_length.specs.declared.modes.FeedMode.{FeedMode}
-use Rattle.ngc_fixed_length.specs.declared.modes.FeedMode.TheVariants as feeds
 use Rattle.ngc_fixed_length.specs.Limits.{limited}
 use Rattle.ngc_fixed_length.specs.Rounding.{nearest_size}
 use Rattle.ngc_adapt_moves.specs.declared.arc.Centre.{Centre}
@@ -34,7 +32,7 @@ use Rattle.ngc_adapt_moves.specs.declared.code.TheConstants as codes
 use Rattle.ngc_adapt_moves.specs.Angles.{arc_angle, whole_turn}
 use Rattle.ngc_adapt_moves.specs.Arcs.{first_axis, is_arc, second_axis}
 use Rattle.ngc_adapt_moves.specs.LineWords.{has, has_m, has_p, names, p_value}
-use Rattle.ngc_adapt_moves.specs.Places.{hole_axis, start_along, sum}
+use Rattle.ngc_adapt_moves.specs.Places.{hole_axis, is_per_minute, start_along, sum}
 use Rattle.ngc_adapt_moves.specs.Radii.{chord_along, in_plane, offset_word, sweep_in}
 use Rattle.ngc_adapt_moves.specs.Texts.{motion_text, text_of}
 use Rattle.ngc_adapt_moves.specs.Values.{known, signed}
@@ -62,10 +60,6 @@ is_point _ = false
 abbrev pub is_absolute : Option Distance → Bool
 is_absolute (Some distances.Absolute) = true
 is_absolute _ = false
-
-abbrev pub is_per_minute : Option FeedMode → Bool
-is_per_minute (Some feeds.PerMinute) = true
-is_per_minute _ = false
 
 abbrev pub is_even : Balance → Bool
 is_even balances.Other = true

@@ -129,6 +129,27 @@ pub const PAUSES: [u16; 3] = [0, 10, 600];
 /// The M codes that end a program: M2 and M30.
 pub const ENDS: [u16; 2] = [20, 300];
 
+/// M70, which saves modes.
+pub const MODES_SAVED: [u16; 1] = [700];
+
+/// M71, which forgets saved modes.
+pub const MODES_FORGOTTEN: [u16; 1] = [710];
+
+/// M72, which restores saved modes.
+pub const MODES_RESTORED: [u16; 1] = [720];
+
+/// M70, M71 and M72.
+pub const MODE_SAVING: [u16; 3] = [700, 710, 720];
+
+/// Modes that M70 saves and that aren't followed: offsets of tools, coordinate systems, and how near
+/// the path is kept.
+pub const MORE_SAVED: [u16; 14] = [
+    430, 490, 540, 550, 560, 570, 580, 590, 591, 592, 593, 610, 611, 640,
+];
+
+/// M codes of modes that M70 saves: spindle, coolant and overrides.
+pub const MACHINE_SAVED: [u16; 8] = [30, 40, 50, 70, 80, 90, 480, 490];
+
 /// The change of the tool.
 pub const TOOL_CHANGE: [u16; 1] = [60];
 

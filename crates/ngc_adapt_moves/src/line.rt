@@ -10,6 +10,7 @@ use crate::own_line::{OwnLine, add_own_words};
 use crate::pecks::{add_pecks, drilling_after};
 use crate::places::{Motion, Places};
 use crate::plan::Plan;
+use crate::savings::{modes_back, saving_after};
 use crate::text::{add_text, add_value, axis_letter};
 use crate::turns::add_turns;
 use crate::word::{Word, word_of};
@@ -268,8 +269,13 @@ pub(crate) fn next_places(
     requires { modes.now ≡ modes_after places.now words.now }
     ensures { result ≡ spec.next_places places.now plan.now words.now deletable }
 {
-    let mut after = places.after_line(modes, words, deletable);
+    let mut after = modes_back(
+        &plan.savings,
+        deletable,
+        &places.after_line(modes, words, deletable),
+    );
     after.motion_again = is_again(places, plan, modes, words, deletable);
     after.drilling = drilling_after(&places.drilling, &plan.pecks, words, deletable);
+    after.saving = saving_after(&places.saving, &plan.savings, words, deletable);
     after
 }

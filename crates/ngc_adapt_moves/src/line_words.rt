@@ -149,7 +149,8 @@ pub(crate) fn machine_codes(codes: &[u16], words: &[Word]) -> usize
         .count()
 }
 
-fn has_g(words: &[Word]) -> bool
+/// Returns whether a line has G.
+pub(crate) fn has_g(words: &[Word]) -> bool
     ensures { result ≡ spec.has_g words.now }
 {
     words.iter().any(|word| is_g(word.letter))
@@ -263,6 +264,32 @@ pub(crate) fn q_value(words: &[Word]) -> Option<Value>
     value_in(first_q(words))
 }
 
+fn first_f(words: &[Word]) -> Option<Word>
+    ensures { result ≡ spec.first_f words.now }
+{
+    words.iter().find(|word| is_f(word.letter)).copied()
+}
+
+/// Returns the number of the first F, if it is known.
+pub(crate) fn f_value(words: &[Word]) -> Option<Value>
+    ensures { result ≡ spec.f_value words.now }
+{
+    value_in(first_f(words))
+}
+
+fn is_s(letter: Letter) -> bool
+    ensures { result ≡ spec.is_s letter }
+{
+    matches!(letter, Letter::S)
+}
+
+/// Returns whether a line has S.
+pub(crate) fn has_speed(words: &[Word]) -> bool
+    ensures { result ≡ spec.has_speed words.now }
+{
+    words.iter().any(|word| is_s(word.letter))
+}
+
 fn first_r(words: &[Word]) -> Option<Word>
     ensures { result ≡ spec.first_r words.now }
 {
@@ -356,7 +383,9 @@ fn is_known(code: Option<u16>) -> bool
 fn is_known_m(code: Option<u16>) -> bool
     ensures { result ≡ spec.is_known_m code }
 {
-    is_one_of(&code::MACHINE_CODES, code) || is_one_of(&code::TOOL_CHANGE, code)
+    is_one_of(&code::MACHINE_CODES, code)
+        || is_one_of(&code::TOOL_CHANGE, code)
+        || is_one_of(&code::MODE_SAVING, code)
 }
 
 // Returns whether the effect of a word isn't known.
@@ -393,5 +422,9 @@ pub(crate) fn has_plane(words: &[Word]) -> bool
 pub(crate) fn may_move(words: &[Word]) -> bool
     ensures { result ≡ spec.may_move words.now }
 {
-    has_g(words) || has_axes(words) || has_m(&code::TOOL_CHANGE, words) || has_unknown(words)
+    has_g(words)
+        || has_axes(words)
+        || has_m(&code::TOOL_CHANGE, words)
+        || has_m(&code::MODES_RESTORED, words)
+        || has_unknown(words)
 }

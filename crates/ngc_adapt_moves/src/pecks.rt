@@ -9,10 +9,10 @@ use crate::line_words::{
     has, has_axes, has_m, has_motion, has_offsets, has_p, has_q, has_radius, has_repeats,
     has_unknown, may_move, names, q_value, r_value, value_along,
 };
-use crate::places::{Drilling, Hole, Motion, Places, loses_place, start_along, sum};
+use crate::places::{Drilling, Hole, Motion, Places, is_per_minute, loses_place, start_along, sum};
 use crate::rule::MoveRefusal;
 use crate::text::{add_text, motion_text};
-use crate::turns::{add_coordinates, coordinate_word, is_absolute, is_per_minute};
+use crate::turns::{add_coordinates, coordinate_word, is_absolute};
 use crate::value::known;
 use crate::word::Word;
 use ngc_adapt::Dialect;

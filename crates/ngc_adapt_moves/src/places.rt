@@ -6,8 +6,8 @@ ghost use Rattle.ngc_adapt_moves.specs.Axes.{nowhere};
 use crate::axis::{Axis, Place};
 use crate::code;
 use crate::line_words::{
-    has, has_axes, has_m, has_motion, has_plane, has_repeats, has_unknown, is_same_axis, may_move,
-    names, value_along,
+    f_value, has, has_axes, has_feed, has_m, has_motion, has_plane, has_repeats, has_unknown,
+    is_same_axis, may_move, names, value_along,
 };
 use crate::value::known;
 use crate::word::Word;
@@ -88,6 +88,46 @@ impl Drilling {
     }
 }
 
+/// Modes that M70 saves.
+#[derive(Clone, Copy)]
+pub struct Saved {
+    pub plane: Plane,
+    pub units: Units,
+    pub distance: Distance,
+    pub arc_distance: ArcDistance,
+    pub feed_mode: FeedMode,
+    pub retract: RetractMode,
+    /// The feed in force, in units per minute, if it is known.
+    pub feed: Option<Value>,
+    /// Whether a line after M70 may have changed the feed.
+    pub has_other_feed: bool,
+}
+
+/// The modes that M72 restores.
+#[derive(Clone, Copy)]
+pub enum Saving {
+    /// There are none.
+    Off,
+    /// They aren't known, or another mode may have changed that M72 restores.
+    Lost,
+    /// These.
+    On(Saved),
+}
+
+impl Saving {
+    ghost use Rattle.ngc_adapt_moves.specs.Places.{saving_lost};
+
+    /// Returns the saved modes after a line of which nothing is known.
+    pub(crate) fn lost(&self) -> Saving
+        ensures { result ≡ saving_lost self.now }
+    {
+        match self {
+            Saving::Off => Saving::Off,
+            Saving::Lost | Saving::On(_) => Saving::Lost,
+        }
+    }
+}
+
 /// The state after the previous lines, as far as the rules use it. A mode that isn't known is
 /// `None`.
 #[derive(Clone, Copy)]
@@ -107,6 +147,10 @@ pub struct Places {
     pub local: Place,
     /// The retract mode of cycles.
     pub retract: Option<RetractMode>,
+    /// The feed in force, in units per minute.
+    pub feed: Option<Value>,
+    /// The modes that M72 restores.
+    pub saving: Saving,
     /// The hole that the next lines repeat.
     pub drilling: Drilling,
     /// Whether the rewritten program leaves another motion mode than the source, so that the next
@@ -126,7 +170,8 @@ fn retract_after(before: Option<RetractMode>, words: &[Word]) -> Option<RetractM
     }
 }
 
-fn nowhere() -> Place
+/// Returns a position that isn't known.
+pub(crate) fn nowhere() -> Place
     ensures { result ≡ nowhere }
 {
     Place {
@@ -225,6 +270,13 @@ pub(crate) fn feed_mode_after(before: Option<FeedMode>, words: &[Word]) -> Optio
     } else {
         before
     }
+}
+
+/// Returns whether G94 is in force.
+pub(crate) fn is_per_minute(feed_mode: Option<FeedMode>) -> bool
+    ensures { result ≡ spec.is_per_minute feed_mode }
+{
+    matches!(feed_mode, Some(FeedMode::PerMinute))
 }
 
 fn are_inches(units: Option<Units>) -> bool
@@ -432,6 +484,33 @@ fn kept_nought(offset: Option<Value>) -> Option<Value>
 
 impl Places {
     ghost use Rattle.ngc_adapt_moves.specs.Places.{local_along, local_after, local_either};
+    ghost use Rattle.ngc_adapt_moves.specs.Places.{feed_after, feed_either};
+
+    // Returns the feed in force after a line.
+    fn feed_after(&self, words: &[Word]) -> Option<Value>
+        ensures { result ≡ feed_after self.now words.now }
+    {
+        if changes_units(self.units, words)
+            || !is_per_minute(feed_mode_after(self.feed_mode, words))
+        {
+            None
+        } else if has_feed(words) {
+            f_value(words)
+        } else {
+            self.feed
+        }
+    }
+
+    // Returns the feed in force after a line that block delete may take out.
+    fn feed_either(&self, words: &[Word]) -> Option<Value>
+        ensures { result ≡ feed_either self.now words.now }
+    {
+        if has_feed(words) || has(&code::UNITS, words) || has(&code::FEED_MODE, words) {
+            None
+        } else {
+            self.feed
+        }
+    }
 
     // Returns the local offset of an axis after a line.
     fn local_along(&self, words: &[Word], axis: Axis) -> Option<Value>
@@ -490,6 +569,8 @@ impl Places {
             place: nowhere(),
             local: no_offset(),
             retract: Some(RetractMode::Series),
+            feed: None,
+            saving: Saving::Off,
             drilling: Drilling::Off,
             motion_again: false,
         }
@@ -511,6 +592,8 @@ impl Places {
             place: nowhere(),
             local: nowhere(),
             retract: None,
+            feed: None,
+            saving: self.saving.lost(),
             drilling: self.drilling.lost(),
             motion_again: self.motion_again,
         }
@@ -532,6 +615,8 @@ impl Places {
             place: self.place,
             local: self.local_after(words),
             retract: retract_after(self.retract, words),
+            feed: self.feed_after(words),
+            saving: self.saving,
             drilling: self.drilling,
             motion_again: self.motion_again,
         }
@@ -605,6 +690,8 @@ impl Places {
             } else {
                 self.retract
             },
+            feed: self.feed_either(words),
+            saving: self.saving,
             drilling: self.drilling,
             motion_again: self.motion_again,
         }

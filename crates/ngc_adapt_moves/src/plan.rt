@@ -8,7 +8,8 @@ use crate::axis::{Axis, Place};
 use crate::code;
 use crate::homing::{Homing, homing_of, is_part_home};
 use crate::line_words::{
-    has, has_axes, has_feed, has_motion, has_place, has_unknown, is_axis, is_code, is_p, is_q, is_r,
+    has, has_axes, has_feed, has_motion, has_place, has_unknown, is_axis, is_code, is_machine_code,
+    is_p, is_q, is_r,
 };
 use crate::local::{Local, local_of};
 use crate::own_line::{OwnLine, end_later, pause_later, tool_first};
@@ -16,6 +17,7 @@ use crate::pecks::{Pecked, Pecks, pecks_of};
 use crate::places::{Motion, Places, changes_units, feed_mode_after};
 use crate::radii::{Balance, balance_of};
 use crate::rule::{MoveRefusal, Rule};
+use crate::savings::{Savings, savings_of};
 use crate::text::Text;
 use crate::turns::{Turning, Turns, turns_of};
 use crate::word::{Letter, Word};
@@ -24,7 +26,7 @@ use ngc_adapt::Dialect;
 use ngc_fixed_length::{FeedMode, Units, Value};
 
 /// The greatest number of rules that change a line, and of those for which it is left.
-pub const MOST_RULES: usize = 13;
+pub const MOST_RULES: usize = 14;
 
 /// The result for a line that may have to name its motion.
 #[derive(Clone, Copy)]
@@ -64,6 +66,7 @@ pub struct Plan {
     pub turns: Turns,
     pub local: Local,
     pub pecks: Pecks,
+    pub savings: Savings,
     /// Whether S, T and M6 are written on a line before.
     pub tool_first: bool,
     /// Whether M0, M1 or M60 is written on a line after.
@@ -173,6 +176,7 @@ pub(crate) fn plan_of(places: &Places, after: &Places, words: &[Word]) -> Plan
         turns: turns_of(places, after, &centre, &balance, words),
         local: local_of(places, words),
         pecks,
+        savings: savings_of(places, words),
         tool_first: tool_first(words),
         pause_later: pause_later(words),
         end_later: end_later(words),
@@ -181,7 +185,7 @@ pub(crate) fn plan_of(places: &Places, after: &Places, words: &[Word]) -> Plan
 
 // Adds a rule if it applies.
 fn add_rule(holds: bool, rule: Rule, rules: &mut ArrayVec<Rule, MOST_RULES>)
-    requires { length rules.old.items ≤ 12 }
+    requires { length rules.old.items ≤ 13 }
     ensures items { rules.new.items ≡ rules.old.items ++ spec.rule_if holds rule }
     ensures few { length rules.new.items ≤ length rules.old.items + 1 }
 {
@@ -494,6 +498,48 @@ fn axis_text(pecked: &Pecked, axis: Axis) -> Option<Text>
     }
 }
 
+impl Savings {
+    ghost use Rattle.ngc_adapt_moves.specs.Plans.{is_saving, savings_refusal, saving_text, saved_change};
+
+    /// Returns whether M70 or M71 is left out, or M72 is written as codes.
+    pub(crate) fn is_saving(&self) -> bool
+        ensures { result ≡ is_saving self.now }
+    {
+        !matches!(self, Savings::Other | Savings::Left(_))
+    }
+
+    /// Returns why the line is left, if it is.
+    pub(crate) fn refusal(&self) -> Option<MoveRefusal>
+        ensures { result ≡ savings_refusal self.now }
+    {
+        match self {
+            Savings::Left(refusal) => Some(*refusal),
+            Savings::Other | Savings::Save(_) | Savings::Forget | Savings::Restore(_) => None,
+        }
+    }
+
+    fn text(&self) -> Option<Text>
+        ensures { result ≡ saving_text self.now }
+    {
+        match self {
+            Savings::Other | Savings::Left(_) => None,
+            Savings::Restore(saved) => Some(Text::Modes(*saved)),
+            Savings::Save(_) | Savings::Forget => Some(Text::Nothing),
+        }
+    }
+
+    // Returns what is written in place of a word.
+    fn change_of(&self, word: &Word) -> Option<Text>
+        ensures { result ≡ saved_change self.now word.now }
+    {
+        if is_machine_code(&code::MODE_SAVING, word) {
+            self.text()
+        } else {
+            None
+        }
+    }
+}
+
 impl Turns {
     ghost use Rattle.ngc_adapt_moves.specs.Plans.{is_one_turn, is_several, turns_refusal};
     ghost use Rattle.ngc_adapt_moves.specs.Plans.{turned_change};
@@ -680,6 +726,7 @@ impl Plan {
             || self.local.is_local()
             || self.tool_first
             || self.pecks.is_pecked()
+            || self.savings.is_saving()
     }
 
     /// Returns the rules that change the line.
@@ -700,6 +747,7 @@ impl Plan {
         add_rule(self.local.is_local(), Rule::LocalOffset, &mut rules);
         add_rule(self.tool_first, Rule::ToolChangeFirst, &mut rules);
         add_rule(self.pecks.is_pecked(), Rule::ChipBreaking, &mut rules);
+        add_rule(self.savings.is_saving(), Rule::SavedModes, &mut rules);
         rules
     }
 
@@ -717,6 +765,7 @@ impl Plan {
         add_refusal(self.turns.refusal(), &mut refusals);
         add_refusal(self.local.refusal(), &mut refusals);
         add_refusal(self.pecks.refusal(), &mut refusals);
+        add_refusal(self.savings.refusal(), &mut refusals);
         refusals
     }
 
@@ -754,7 +803,7 @@ impl Plan {
         self.turns
             .change_of(word)
             .or(self.local.change_of(word))
-            .or(self.pecks.change_of(word))
+            .or(self.pecks.change_of(word).or(self.savings.change_of(word)))
             .or(self.homing_change(word))
     }
 

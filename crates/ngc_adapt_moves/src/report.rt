@@ -187,6 +187,48 @@ fn add_several<A: Allocator>(
     Ok(())
 }
 
+// Adds the changes of a tool change, a hole and saved modes.
+#[tactic(auto, unfolding(crate::specs::LineReports::code_changes))]
+fn add_code_changes<A: Allocator>(
+    number: usize,
+    written_number: usize,
+    plan: &Plan,
+    line: &[u8],
+    report: &mut Vec<u8, A>,
+) -> Result<(), AllocError>
+    ensures { IfOk result (λ _. report.new.items ≡ report.old.items
+        ++ report_of.code_changes number written_number plan.now line.now) }
+{
+    add_change_if(
+        plan.tool_first,
+        number,
+        written_number,
+        Rule::ToolChangeFirst,
+        plan,
+        line,
+        report,
+    )?;
+    add_change_if(
+        plan.pecks.is_pecked(),
+        number,
+        written_number,
+        Rule::ChipBreaking,
+        plan,
+        line,
+        report,
+    )?;
+    add_change_if(
+        plan.savings.is_saving(),
+        number,
+        written_number,
+        Rule::SavedModes,
+        plan,
+        line,
+        report,
+    )?;
+    Ok(())
+}
+
 // Adds the changes of an arc, a stop and a local offset.
 #[tactic(auto, unfolding(crate::specs::LineReports::further_changes))]
 fn add_further_changes<A: Allocator>(
@@ -228,24 +270,7 @@ fn add_further_changes<A: Allocator>(
         line,
         report,
     )?;
-    add_change_if(
-        plan.tool_first,
-        number,
-        written_number,
-        Rule::ToolChangeFirst,
-        plan,
-        line,
-        report,
-    )?;
-    add_change_if(
-        plan.pecks.is_pecked(),
-        number,
-        written_number,
-        Rule::ChipBreaking,
-        plan,
-        line,
-        report,
-    )?;
+    add_code_changes(number, written_number, plan, line, report)?;
     Ok(())
 }
 
@@ -367,6 +392,7 @@ fn add_further_refusals<A: Allocator>(
     add_refusal_if(number, plan.turns.refusal(), report)?;
     add_refusal_if(number, plan.local.refusal(), report)?;
     add_refusal_if(number, plan.pecks.refusal(), report)?;
+    add_refusal_if(number, plan.savings.refusal(), report)?;
     Ok(())
 }
 

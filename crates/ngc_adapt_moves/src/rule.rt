@@ -32,6 +32,8 @@ pub enum Rule {
     ToolChangeFirst,
     /// G73, which breaks the chips, written as its moves.
     ChipBreaking,
+    /// M70, M71 and M72, which save modes and restore them.
+    SavedModes,
 }
 
 impl Default for Rule {
@@ -63,6 +65,7 @@ impl Rule {
             Rule::LocalOffset => "local_offset",
             Rule::ToolChangeFirst => "tool_change_first",
             Rule::ChipBreaking => "chip_breaking",
+            Rule::SavedModes => "saved_modes",
         }
     }
 
@@ -82,7 +85,8 @@ impl Rule {
             | Rule::OneTurn
             | Rule::LocalOffset
             | Rule::ToolChangeFirst
-            | Rule::ChipBreaking => "exact",
+            | Rule::ChipBreaking
+            | Rule::SavedModes => "exact",
             Rule::MovedCentre | Rule::SeveralTurns => "bound",
         }
     }
@@ -121,6 +125,8 @@ pub enum MoveRefusal {
     LocalNotKnown,
     /// A hole of G73 whose moves aren't known.
     PecksNotKnown,
+    /// M70, M71 or M72 where the modes aren't known.
+    ModesNotKnown,
 }
 
 impl Default for MoveRefusal {
@@ -154,6 +160,7 @@ impl MoveRefusal {
             MoveRefusal::TurnsNotKnown => "several_turns",
             MoveRefusal::LocalNotKnown => "local_offset",
             MoveRefusal::PecksNotKnown => "chip_breaking",
+            MoveRefusal::ModesNotKnown => "saved_modes",
         }
     }
 
@@ -203,6 +210,9 @@ impl MoveRefusal {
             }
             MoveRefusal::PecksNotKnown => {
                 "G73 needs G17, G90, G94, a known height, Z, R and Q, and G80 before another cycle: write its moves"
+            }
+            MoveRefusal::ModesNotKnown => {
+                "M70 to M72 need lines of their own, known modes, and no change of the spindle, coolant, tool, origin or path between them: write the codes"
             }
         }
     }

@@ -3,9 +3,9 @@ ghost use Rattle.std.specs.Prelude.{◌≡◌, ◌++◌, ◌<◌, ◌≤◌, IfO
 ghost use Rattle.ngc_adapt_moves.specs.Texts as spec;
 
 use crate::axis::Axis;
-use crate::places::Motion;
+use crate::places::{Motion, Saved};
 use itoa::Buffer;
-use ngc_fixed_length::Value;
+use ngc_fixed_length::{Distance, FeedMode, Plane, RetractMode, Units, Value};
 use std::alloc::{AllocError, Allocator};
 
 /// The text in place of a word, or in front of it.
@@ -22,6 +22,8 @@ pub enum Text {
     Coordinate(Axis, Value),
     /// The word of an offset.
     Offset(Axis, Value),
+    /// The codes that restore saved modes.
+    Modes(Saved),
 }
 
 // Returns a point and six digits.
@@ -137,6 +139,81 @@ fn add_word<A: Allocator>(letter: u8, value: Value, out: &mut Vec<u8, A>) -> Res
     Ok(())
 }
 
+fn plane_text(plane: Plane) -> &'static [u8]
+    ensures { result.now ≡ spec.plane_text plane }
+{
+    match plane {
+        Plane::XY => b"G17 ",
+        Plane::ZX => b"G18 ",
+        Plane::YZ => b"G19 ",
+    }
+}
+
+fn units_text(units: Units) -> &'static [u8]
+    ensures { result.now ≡ spec.units_text units }
+{
+    match units {
+        Units::Inches => b"G20 ",
+        Units::Millimetres => b"G21 ",
+    }
+}
+
+fn distance_text(distance: Distance) -> &'static [u8]
+    ensures { result.now ≡ spec.distance_text distance }
+{
+    match distance {
+        Distance::Absolute => b"G90 ",
+        Distance::Incremental => b"G91 ",
+    }
+}
+
+fn feed_mode_text(feed_mode: FeedMode) -> &'static [u8]
+    ensures { result.now ≡ spec.feed_mode_text feed_mode }
+{
+    match feed_mode {
+        FeedMode::InverseTime => b"G93 ",
+        FeedMode::PerMinute => b"G94 ",
+    }
+}
+
+fn retract_text(retract: RetractMode) -> &'static [u8]
+    ensures { result.now ≡ spec.retract_text retract }
+{
+    match retract {
+        RetractMode::Series => b"G98 ",
+        RetractMode::Retract => b"G99 ",
+    }
+}
+
+// Adds F, if the feed may have changed.
+fn add_feed<A: Allocator>(
+    has_other_feed: bool,
+    feed: Option<Value>,
+    out: &mut Vec<u8, A>,
+) -> Result<(), AllocError>
+    ensures { IfOk result (λ _. out.new.items ≡ out.old.items
+        ++ spec.feed_text has_other_feed feed) }
+{
+    match (has_other_feed, feed) {
+        (true, Some(feed)) => add_word(b'F', feed, out),
+        _ => Ok(()),
+    }
+}
+
+// Adds the codes that restore saved modes.
+#[tactic(auto, unfolding(crate::specs::Texts::modes_text))]
+fn add_modes<A: Allocator>(saved: &Saved, out: &mut Vec<u8, A>) -> Result<(), AllocError>
+    ensures { IfOk result (λ _. out.new.items ≡ out.old.items ++ spec.modes_text saved.now) }
+{
+    out.extend_from_slice(plane_text(saved.plane))?;
+    out.extend_from_slice(units_text(saved.units))?;
+    out.extend_from_slice(distance_text(saved.distance))?;
+    out.extend_from_slice(feed_mode_text(saved.feed_mode))?;
+    out.extend_from_slice(retract_text(saved.retract))?;
+    add_feed(saved.has_other_feed, saved.feed, out)?;
+    Ok(())
+}
+
 /// Adds the replacement of a word.
 pub(crate) fn add_text<A: Allocator>(text: Text, out: &mut Vec<u8, A>) -> Result<(), AllocError>
     ensures { IfOk result (λ _. out.new.items ≡ out.old.items ++ spec.text_of text) }
@@ -157,5 +234,6 @@ pub(crate) fn add_text<A: Allocator>(text: Text, out: &mut Vec<u8, A>) -> Result
         }
         Text::Coordinate(axis, value) => add_word(axis_letter(axis), value, out),
         Text::Offset(axis, value) => add_word(offset_letter(axis), value, out),
+        Text::Modes(saved) => add_modes(&saved, out),
     }
 }

@@ -9,14 +9,14 @@ use crate::arc::{Centre, first_axis, is_arc, second_axis};
 use crate::axis::{Axis, Place};
 use crate::code;
 use crate::line_words::{has, has_m, has_p, names, p_value};
-use crate::places::{ArcDistance, Motion, Places, hole_axis, start_along, sum};
+use crate::places::{ArcDistance, Motion, Places, hole_axis, is_per_minute, start_along, sum};
 use crate::radii::{Balance, Sweep, chord_along, offset_word, place_in, signed_size, sweep_in};
 use crate::rule::MoveRefusal;
 use crate::text::{Text, add_text, motion_text};
 use crate::value::known;
 use crate::word::Word;
 use ngc_adapt::Dialect;
-use ngc_fixed_length::{Distance, FeedMode, Plane, Value};
+use ngc_fixed_length::{Distance, Plane, Value};
 use std::alloc::{AllocError, Allocator};
 
 /// An arc of at least two turns.
@@ -93,13 +93,6 @@ pub(crate) fn is_absolute(distance: Option<Distance>) -> bool
     ensures { result ≡ spec.is_absolute distance }
 {
     matches!(distance, Some(Distance::Absolute))
-}
-
-/// Returns whether G94 is in force.
-pub(crate) fn is_per_minute(feed_mode: Option<FeedMode>) -> bool
-    ensures { result ≡ spec.is_per_minute feed_mode }
-{
-    matches!(feed_mode, Some(FeedMode::PerMinute))
 }
 
 fn is_even(balance: &Balance) -> bool
