@@ -8,7 +8,7 @@ use Rattle.ngc_line_reader.specs.declared.program.fault.ReadFault.{ReadFault}
 use Rattle.ngc_line_reader.specs.declared.program.fault.ReadFault.TheVariants as reads
 use Rattle.ngc_commands.specs.declared.command.Command.{Command}
 use Rattle.ngc_canonical.specs.Faults.{fault_number}
-use Rattle.ngc_canonical.specs.Meaning.{meaning, program_said}
+use Rattle.ngc_canonical.specs.Meaning.{meaning, parsed_program}
 use Rattle.ngc_canonical.specs.State.{Setup}
 use Rattle.ngc_canonical.specs.declared.fault.Fault.{Fault}
 use Rattle.ngc_canonical.specs.declared.fault.Fault.TheVariants.{NoEnd}
@@ -47,7 +47,7 @@ pub record Means (setup : Setup) (block_delete : Bool) (bytes : List ℕ)
   pub is_text : program_of bytes ≡ Ok text
   pub readings : List Reading
   pub are_readings : AreReadings text.lines readings
-  pub means : meaning (program_said text readings) setup block_delete ≡ outcome
+  pub means : meaning (parsed_program text readings) setup block_delete ≡ outcome
 
 abbrev pub HasFirst : Setup → Bool → List ℕ → TextFault → Type 0
 HasFirst setup block_delete bytes (Unread e) = program_of bytes ≡ Err e

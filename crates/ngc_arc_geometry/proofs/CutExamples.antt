@@ -47,9 +47,9 @@ a_step_out : cut_follows (pos 10000) half false (start_of half) (record { u = po
 unfolding root_of_digits whole_root whole_root_above
 a_step_out = refl
 
-farther_out : cut_follows (pos 10000) half false (start_of half) (record { u = pos 15000000; v = pos 55010001 }) ≡ false
+axis_distance : cut_follows (pos 10000) half false (start_of half) (record { u = pos 15000000; v = pos 55010001 }) ≡ false
 unfolding root_of_digits whole_root whole_root_above
-farther_out = refl
+axis_distance = refl
 
 two_quadrants : cut_follows (pos 10000) half true (record { u = pos 12000000; v = pos 54000000 }) (end_of half) ≡ false
 unfolding root_of_digits whole_root whole_root_above

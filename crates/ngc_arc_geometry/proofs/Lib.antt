@@ -23,7 +23,7 @@ pub mod FormatRadii
 -- Small numbers are unchanged in 64 bits.
 pub mod Machine
 -- If no step refuses, the result is the last step's.
-pub mod Steps
+pub mod LastStep
 -- Properties of every arc.
 pub mod ArcLemmas
 -- Grid points next to a number of nanometres.

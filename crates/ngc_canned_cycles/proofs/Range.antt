@@ -7,7 +7,7 @@ use Rattle.std.proofs.lemmas.Int.{ints}
 use Rattle.ngc_fixed_length.specs.Limits.{IsLength}
 use Rattle.ngc_fixed_length.specs.declared.modes.Distance.{Distance}
 use Rattle.ngc_fixed_length.specs.declared.modes.Distance.TheVariants.{Absolute, Incremental}
-use Rattle.ngc_offsets.specs.Ranges.{IsCoordinate, IsKeptOrGiven}
+use Rattle.ngc_offsets.specs.Ranges.{IsCoordinate, IsPresentOrNamed}
 use Rattle.ngc_canned_cycles.specs.declared.cycle.Cycle.{Cycle}
 use Rattle.ngc_canned_cycles.specs.declared.cycle.Start.{Start}
 use Rattle.ngc_canned_cycles.specs.Heights.{repeat_on_axis, repeat_place, place_before, retract_of, bottom_of, repeats_of, AreLengths}
@@ -34,7 +34,7 @@ between b (negsuc a) j n least most first last =
 
 along : (distance : Distance) (before : ℤ) (given : Option ℤ) (j n : ℕ) → 1 ≤ j → j ≤ n →
     is_in_range_if_given given (repeat_on_axis distance 1 before given) ≡ true → is_in_range_if_given given (repeat_on_axis distance n before given) ≡ true →
-    IsKeptOrGiven before (repeat_on_axis distance j before given)
+    IsPresentOrNamed before (repeat_on_axis distance j before given)
 along Absolute before None j n least most first last = inl refl
 along Incremental before None j n least most first last = inl refl
 along Absolute before (Some l) j n least most first last = inr (leb-true _ _ first)
@@ -44,8 +44,8 @@ along Incremental before (Some l) j n least most first last = inr (between befor
 pub record AreCoordinates (c : Cycle) (s : Start) : Type 0 where
   pub retract : IsCoordinate (retract_of c s)
   pub bottom : IsCoordinate (bottom_of c s)
-  pub u : (j : ℕ) → 1 ≤ j → j ≤ repeats_of c.repeats → IsKeptOrGiven (place_before c s).u (repeat_place c s j).u
-  pub v : (j : ℕ) → 1 ≤ j → j ≤ repeats_of c.repeats → IsKeptOrGiven (place_before c s).v (repeat_place c s j).v
+  pub u : (j : ℕ) → 1 ≤ j → j ≤ repeats_of c.repeats → IsPresentOrNamed (place_before c s).u (repeat_place c s j).u
+  pub v : (j : ℕ) → 1 ≤ j → j ≤ repeats_of c.repeats → IsPresentOrNamed (place_before c s).v (repeat_place c s j).v
 
 pub coordinates : (c : Cycle) (s : Start) → is_in_range c s ≡ true → AreCoordinates c s
 coordinates c s h =
@@ -60,7 +60,7 @@ coordinates c s h =
       v = λ j p q. along c.distance (place_before c s).v c.v j (repeats_of c.repeats) p q (and_right _ _ least) (and_right _ _ most);
     }
 
-is_length : (before c : ℤ) → IsLength before → IsKeptOrGiven before c → IsLength c
+is_length : (before c : ℤ) → IsLength before → IsPresentOrNamed before c → IsLength c
 is_length before c near kept = elim kept [ inl same ↦ rw same near | inr given ↦ omega (arith, ints) ]
 
 pub lengths : (c : Cycle) (s : Start) → is_in_range c s ≡ true → IsLength (place_before c s).u → IsLength (place_before c s).v → (j : ℕ) → 1 ≤ j →

@@ -13,7 +13,7 @@ use Rattle.ngc_fixed_length.specs.declared.modes.RetractMode.TheVariants.{Series
 use Rattle.ngc_fixed_length.specs.declared.points.Point2.{Point2}
 use Rattle.ngc_fixed_length.specs.declared.points.Point3.{Point3}
 use Rattle.ngc_offsets.specs.Offsets.{Offsets}
-use Rattle.ngc_offsets.specs.Ranges.{MACHINE_LIMIT, SHIFT_LIMIT, AreInRange, IsCoordinate, IsKeptOrGiven}
+use Rattle.ngc_offsets.specs.Ranges.{MACHINE_LIMIT, SHIFT_LIMIT, AreInRange, IsCoordinate, IsPresentOrNamed}
 use Rattle.ngc_offsets.specs.Frames.{shift_of, IsReachable}
 use Rattle.ngc_offsets.proofs.Reach.{IsWithin-shift_of}
 use Rattle.ngc_canned_cycles.specs.declared.cycle.Cycle.{Cycle}
@@ -37,7 +37,7 @@ Near s c = unsigned_abs (c +ℤ s) ≤ MACHINE_LIMIT
 near_coordinate : (s c : ℤ) → unsigned_abs s ≤ SHIFT_LIMIT → IsCoordinate c → Near s c
 near_coordinate s c p q = omega (arith, ints)
 
-near_kept : (s before c : ℤ) → unsigned_abs s ≤ SHIFT_LIMIT → Near s before → IsKeptOrGiven before c → Near s c
+near_kept : (s before c : ℤ) → unsigned_abs s ≤ SHIFT_LIMIT → Near s before → IsPresentOrNamed before c → Near s c
 near_kept s before c p near kept = elim kept [ inl e ↦ rw e near | inr given ↦ near_coordinate s c p given ]
 
 near_if : (s a b : ℤ) (test : Bool) → Near s a → Near s b → Near s (if test then a else b)

@@ -25,7 +25,7 @@ use Rattle.ngc_modal_state.specs.Use.{check, user, feed_mode_of, whole}
 use Rattle.ngc_canonical.specs.declared.fault.Fault.TheVariants.{Modal}
 use Rattle.ngc_canonical.specs.Meaning.{effects_of}
 use Rattle.ngc_canonical.specs.Steps.{faulted}
-use Rattle.ngc_canonical.proofs.Joining.{after}
+use Rattle.ngc_canonical.proofs.JoinedMotions.{after}
 
 -- an effect that doesn't stop
 abbrev pub IsPassing : Effect → Type 0

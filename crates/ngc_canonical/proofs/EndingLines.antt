@@ -14,12 +14,12 @@ use Rattle.ngc_canonical.specs.declared.fault.ProgramFault.{ProgramFault}
 use Rattle.ngc_canonical.specs.Joined.{EndsLast, HaveEnd}
 use Rattle.ngc_commands.specs.Sequence.{EndIsLast, HasEnd}
 use Rattle.ngc_canonical.specs.Meaning.{NumberedLine, Program, effects_of, with_settings, execute, execute_words, at_line, remaining, after_line, commands_of, past_last}
-use Rattle.ngc_canonical.specs.Meaning.{go_on, then_lines, from_state, meaning, GivesMeaning}
+use Rattle.ngc_canonical.specs.Meaning.{go_on, then_lines, from_state, meaning, MeaningIs}
 use Rattle.ngc_canonical.specs.State.{Setup, State, start_state, emit}
 use Rattle.ngc_canonical.specs.Steps.{faulted}
 use Rattle.ngc_canonical.proofs.Ending.{StopIsLast, stops_last}
 use Rattle.ngc_canonical.proofs.EndingSteps.{HasNoEnd, Open, Left, IsEndOnly, ended_by, left_open, run_left}
-use Rattle.ngc_canonical.proofs.Joining.{onward, after, emitted}
+use Rattle.ngc_canonical.proofs.JoinedMotions.{onward, after, emitted}
 
 -- the end follows all other commands
 abbrev pub Ends : State → Type 0
@@ -102,12 +102,12 @@ pub line_on : (setup : Setup) (block_delete : Bool) (number : ℕ) (r : Reading)
 line_on setup block_delete number r s t running none e on = (line_left setup block_delete number r s t running none e).no_end on
 
 pub finished_ended : {X : Type 0} (mark : Option ℕ) (count : ℕ) (s : State) (view : X → List Command) (result : Result X ProgramFault) → HasNoEnd s.commands
-    → GivesMeaning view result (commands_of (past_last mark count s)) → IfOk result (λ v. EndIsLast (view v))
+    → MeaningIs view result (commands_of (past_last mark count s)) → IfOk result (λ v. EndIsLast (view v))
 finished_ended mark count s view (Ok v) none says = (commands_end (past_last mark count s) (view v) (past_last_ends mark count s none) says).0
 finished_ended mark count s view (Err e) none says = tt
 
 pub finished_has_end : {X : Type 0} (mark : Option ℕ) (count : ℕ) (s : State) (view : X → List Command) (result : Result X ProgramFault) → HasNoEnd s.commands
-    → GivesMeaning view result (commands_of (past_last mark count s)) → IfOk result (λ v. HasEnd (view v))
+    → MeaningIs view result (commands_of (past_last mark count s)) → IfOk result (λ v. HasEnd (view v))
 finished_has_end mark count s view (Ok v) none says = (commands_end (past_last mark count s) (view v) (past_last_ends mark count s none) says).1
 finished_has_end mark count s view (Err e) none says = tt
 

@@ -42,14 +42,14 @@ use Rattle.ngc_commands.specs.Sequence.{IsLastIfEnd, EndIsLast, HasEnd}
 use Rattle.ngc_commands.specs.Movement.{end_of as moved_to}
 use Rattle.ngc_canonical.specs.Steps.{faulted, refuse_if}
 use Rattle.ngc_canonical.specs.State.{Setup, State, emit, at_place, motion_in, go, traverse_to, unseries}
-use Rattle.ngc_canonical.specs.Spindle.{spindle_state, tell_speed, turn_of, mount, mount_found, change_tool, with_coolant}
+use Rattle.ngc_canonical.specs.Spindle.{spindle_state, emit_speed, turn_of, mount, mount_found, change_tool, with_coolant}
 use Rattle.ngc_canonical.specs.Places.{axis_lengths, end_of, with_frames, set_origin, set_offset, tool_length, set_length, home_of, stands, go_home}
 use Rattle.ngc_canonical.specs.Motions.{traverse, feed_in, straight}
 use Rattle.ngc_canonical.specs.Arcs.{has_plane_word, arc_of, arc}
 use Rattle.ngc_canonical.specs.Cycles.{kept_after, cycle_of, series_of, start_of, make_move, make_moves, all_moves, refusal, cycle}
 use Rattle.ngc_canonical.specs.Perform.{with_motion, stop, perform, run}
 use Rattle.ngc_canonical.proofs.Ending.{IsPassing, IsLastIfStop, StopIsLast}
-use Rattle.ngc_canonical.proofs.Joining.{onward, after, emitted}
+use Rattle.ngc_canonical.proofs.JoinedMotions.{onward, after, emitted}
 
 abbrev pub IsNotEnd : Action → Type 0
 IsNotEnd actions.End = ⊥
@@ -120,7 +120,7 @@ moves w pace s h =
 
 -- ---- spindle, coolant and tools
 
-tell_speed_open : (turn : Option Turn) (s : State) → Open s → IfOk (tell_speed turn s) Open
+tell_speed_open : (turn : Option Turn) (s : State) → Open s → IfOk (emit_speed turn s) Open
 tell_speed_open None s h = h
 tell_speed_open (Some turn) s h = passes (actions.Spindle (turning.Turning turn s.speed)) s h tt
 

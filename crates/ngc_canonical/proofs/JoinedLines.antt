@@ -16,12 +16,12 @@ use Rattle.ngc_canonical.specs.declared.fault.ProgramFault.{ProgramFault}
 use Rattle.ngc_canonical.specs.Joined.{Joined, ArcsHaveEvenRadii, FewCommands}
 use Rattle.ngc_commands.specs.Sequence.{HaveEvenRadii}
 use Rattle.ngc_canonical.specs.Meaning.{NumberedLine, Program, effects_of, with_settings, execute, execute_words, at_line, remaining, after_line, commands_of, past_last}
-use Rattle.ngc_canonical.specs.Meaning.{go_on, then_lines, from_state, meaning, GivesMeaning}
+use Rattle.ngc_canonical.specs.Meaning.{go_on, then_lines, from_state, meaning, MeaningIs}
 use Rattle.ngc_commands.specs.Movement.{actions_of, ways_of, AreJoined}
 use Rattle.ngc_canonical.specs.State.{Setup, State, start_state, emit}
 use Rattle.ngc_commands.specs.Sequence.{COMMAND_LIMIT}
 use Rattle.ngc_canonical.specs.Steps.{faulted}
-use Rattle.ngc_canonical.proofs.Joining.{IsTrail, Holds, onward, after, stays}
+use Rattle.ngc_canonical.proofs.JoinedMotions.{IsTrail, Holds, onward, after, stays}
 use Rattle.ngc_canonical.proofs.JoinedSteps.{run_holds}
 
 start_holds : (machine : MachineFile) → Holds machine.start (start_state machine)
@@ -94,24 +94,24 @@ pub handed_out : (p : Point3) (s : State) (commands : List Command) → Holds p 
 handed_out p s commands h e = subst (AreFrom p) (sym e) (record { place = s.place; trail = h })
 
 finished : {X : Type 0} (p : Point3) (mark : Option ℕ) (count : ℕ) (s : State) (view : X → List Command) (result : Result X ProgramFault) → Holds p s
-    → GivesMeaning view result (commands_of (past_last mark count s)) → IfOk result (λ v. AreFrom p (view v))
+    → MeaningIs view result (commands_of (past_last mark count s)) → IfOk result (λ v. AreFrom p (view v))
 finished p mark count s view (Ok v) h says = commands_from p (past_last mark count s) (view v) (past_last_holds p mark count s h) says
 finished p mark count s view (Err e) h says = tt
 
 pub finished_joined : {X : Type 0} (p : Point3) (mark : Option ℕ) (count : ℕ) (s : State) (view : X → List Command) (result : Result X ProgramFault) → Holds p s
-    → GivesMeaning view result (commands_of (past_last mark count s)) → IfOk result (λ v. AreJoined p (ways_of (actions_of (view v))))
+    → MeaningIs view result (commands_of (past_last mark count s)) → IfOk result (λ v. AreJoined p (ways_of (actions_of (view v))))
 finished_joined p mark count s view result h says =
     IfOk-weaker result (λ v. AreFrom p (view v)) (λ v. AreJoined p (ways_of (actions_of (view v)))) (λ v from. from.trail.leads.joined)
     (finished p mark count s view result h says)
 
 pub finished_radii : {X : Type 0} (p : Point3) (mark : Option ℕ) (count : ℕ) (s : State) (view : X → List Command) (result : Result X ProgramFault) → Holds p s
-    → GivesMeaning view result (commands_of (past_last mark count s)) → IfOk result (λ v. HaveEvenRadii (ways_of (actions_of (view v))))
+    → MeaningIs view result (commands_of (past_last mark count s)) → IfOk result (λ v. HaveEvenRadii (ways_of (actions_of (view v))))
 finished_radii p mark count s view result h says =
     IfOk-weaker result (λ v. AreFrom p (view v)) (λ v. HaveEvenRadii (ways_of (actions_of (view v)))) (λ v from. from.trail.leads.radii)
     (finished p mark count s view result h says)
 
 pub finished_few : {X : Type 0} (p : Point3) (mark : Option ℕ) (count : ℕ) (s : State) (view : X → List Command) (result : Result X ProgramFault) → Holds p s
-    → GivesMeaning view result (commands_of (past_last mark count s)) → IfOk result (λ v. length (view v) ≤ COMMAND_LIMIT)
+    → MeaningIs view result (commands_of (past_last mark count s)) → IfOk result (λ v. length (view v) ≤ COMMAND_LIMIT)
 finished_few p mark count s view result h says =
     IfOk-weaker result (λ v. AreFrom p (view v)) (λ v. length (view v) ≤ COMMAND_LIMIT) (λ v from. from.trail.few) (finished p mark count s view result h says)
 

@@ -44,18 +44,18 @@ use Rattle.ngc_commands.specs.declared.movement.Pace.TheVariants as paces
 use Rattle.ngc_commands.specs.declared.movement.Way.TheVariants as ways
 use Rattle.ngc_canonical.specs.Steps.{faulted, refuse_if}
 use Rattle.ngc_canonical.specs.State.{Setup, State, emit, go, traverse_to, unseries}
-use Rattle.ngc_canonical.specs.Spindle.{spindle_state, tell_speed, turn_of, mount, mount_found, change_tool, with_coolant}
+use Rattle.ngc_canonical.specs.Spindle.{spindle_state, emit_speed, turn_of, mount, mount_found, change_tool, with_coolant}
 use Rattle.ngc_canonical.specs.Places.{word_length, axis_lengths, end_of, with_frames, set_origin, set_offset, tool_length, set_length, home_of, stands, go_home}
 use Rattle.ngc_canonical.specs.Motions.{traverse, feed_in, straight}
 use Rattle.ngc_canonical.specs.Arcs.{has_plane_word, along_u, along_v, ends_of, arc_by, arc_of, arc}
 use Rattle.ngc_canonical.specs.Cycles.{kept_after, cycle_of, series_of, start_of, make_move, make_moves, all_moves, refusal, cycle}
 use Rattle.ngc_canonical.specs.Perform.{with_motion, stop, perform, run}
-use Rattle.ngc_canonical.proofs.Joining.{Holds, onward, after, stays, moves}
+use Rattle.ngc_canonical.proofs.JoinedMotions.{Holds, onward, after, stays, moves}
 use Rattle.ngc_canonical.proofs.ArcLaws.{start_of_centre, start_of_radius}
 
 -- ---- spindle, coolant and tools
 
-tell_speed_holds : (p : Point3) (turn : Option Turn) (s : State) → Holds p s → IfOk (tell_speed turn s) (Holds p)
+tell_speed_holds : (p : Point3) (turn : Option Turn) (s : State) → Holds p s → IfOk (emit_speed turn s) (Holds p)
 tell_speed_holds p None s h = h
 tell_speed_holds p (Some turn) s h = stays p (actions.Spindle (turning.Turning turn s.speed)) s h tt
 

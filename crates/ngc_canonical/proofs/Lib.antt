@@ -6,7 +6,7 @@ pub mod CycleLaws
 pub mod ArcLaws
 -- Each step of a program continues the motions from where the axes are, its arcs have even radii,
 -- and the number of commands stays in range.
-pub mod Joining
+pub mod JoinedMotions
 -- Each effect continues the motions from where the axes are, with even radii, and the number of
 -- commands stays in range.
 pub mod JoinedSteps

@@ -124,8 +124,8 @@ abbrev pub mark_of : Bool → ℕ → Option ℕ
 mark_of true count = Some (count + 2)
 mark_of false count = None
 
-abbrev pub program_said : ProgramText → List Reading → Program
-program_said text rs =
+abbrev pub parsed_program : ProgramText → List Reading → Program
+parsed_program text rs =
     record {
       lines = with_readings text.lines rs;
       count = length text.lines;
@@ -143,13 +143,13 @@ Fails Memory says = Unit {0}
 Fails (At line e) says = says ≡ Err (At line e)
 
 -- the effects that were found are the definition's
-abbrev pub GivesEffects : Result (Unit {0}) Fault → List Effect →
+abbrev pub EffectsAre : Result (Unit {0}) Fault → List Effect →
     Result (List Effect) Fault → Type 0
-GivesEffects (Ok u) found says = says ≡ Ok found
-GivesEffects (Err e) found says = says ≡ Err e
+EffectsAre (Ok u) found says = says ≡ Ok found
+EffectsAre (Err e) found says = says ≡ Err e
 
 -- the result, seen by view, equals the definition's, unless memory ran out
-abbrev pub GivesMeaning : {X Y : Type 0} → (X → Y) → Result X ProgramFault →
+abbrev pub MeaningIs : {X Y : Type 0} → (X → Y) → Result X ProgramFault →
     Result Y ProgramFault → Type 0
-GivesMeaning view (Ok x) says = says ≡ Ok (view x)
-GivesMeaning view (Err e) says = Fails e says
+MeaningIs view (Ok x) says = says ≡ Ok (view x)
+MeaningIs view (Err e) says = Fails e says

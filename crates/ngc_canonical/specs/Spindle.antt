@@ -22,12 +22,12 @@ spindle_state None speed = turning.Off
 spindle_state (Some turn) speed = turning.Turning turn speed
 
 -- S adds a command at once while the spindle turns
-abbrev pub tell_speed : Option Turn → State → Result State Fault
-tell_speed None s = Ok s
-tell_speed (Some turn) s = emit (actions.Spindle (turning.Turning turn s.speed)) s
+abbrev pub emit_speed : Option Turn → State → Result State Fault
+emit_speed None s = Ok s
+emit_speed (Some turn) s = emit (actions.Spindle (turning.Turning turn s.speed)) s
 
 abbrev pub set_speed : ℤ → State → Result State Fault
-set_speed v s = tell_speed s.spindle (record s { speed = unsigned_abs v })
+set_speed v s = emit_speed s.spindle (record s { speed = unsigned_abs v })
 
 abbrev pub turn_of : Spindle → Option Turn
 turn_of (spindle.Start turn) = Some turn

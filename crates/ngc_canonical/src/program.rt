@@ -2,7 +2,7 @@
 ghost use Rattle.std.specs.Prelude.{◌≡◌, ◌≤◌, ◌<◌, ℕ, List, length, slice_get, Some, IfOk};
 ghost use Rattle.ngc_line_reader.specs.Grammar.{Reading};
 ghost use Rattle.ngc_line_reader.specs.Held.{AllWithinLimit};
-ghost use Rattle.ngc_line_reader.specs.Shown.{view_parts, items_of, items_said};
+ghost use Rattle.ngc_line_reader.specs.Shown.{view_parts, items_of, parsed_items};
 ghost use Rattle.ngc_line_reader.specs.Program.{Line as ProgramLine};
 ghost use Rattle.ngc_line_reader.specs.Words.{pairs_of};
 ghost use Rattle.ngc_line_reader.specs.ProgramText.{AreReadings};
@@ -12,7 +12,7 @@ ghost use Rattle.ngc_parameters.specs.Stored.{changes_of};
 ghost use Rattle.ngc_canonical.specs.Meaning.{effects_of as effects_in, execute as executed};
 ghost use Rattle.ngc_canonical.specs.Meaning.{execute_words as words_executed};
 ghost use Rattle.ngc_canonical.specs.Meaning.{with_settings, past_last, past_text, commands_of};
-ghost use Rattle.ngc_canonical.specs.Meaning.{GivesMeaning, GivesEffects, meaning, program_said};
+ghost use Rattle.ngc_canonical.specs.Meaning.{MeaningIs, EffectsAre, meaning, parsed_program};
 ghost use Rattle.ngc_canonical.specs.Meaning.{mark_of as marked_at};
 ghost use Rattle.ngc_canonical.specs.Interpreter.{setup_of, state_of, Becomes};
 ghost use Rattle.ngc_canonical.specs.Taken.{IsExecuted, IsTaken};
@@ -52,7 +52,7 @@ impl Work {
 impl<A: Allocator + Copy> Interpreter<A> {
     // Finds the effects of a line.
     fn effects(&self, words: &[Word], effects: &mut ArrayVec<Effect, 24>) -> Result<(), Fault>
-        ensures { GivesEffects result effects.new.items
+        ensures { EffectsAre result effects.new.items
             (effects_in (state_of self.now).modes (pairs_of words.now)) }
     {
         let block = match Block::new(words) {
@@ -100,7 +100,7 @@ impl<A: Allocator + Copy> Interpreter<A> {
         effects: &mut ArrayVec<Effect, 24>,
     ) -> Result<(), LineRefusal>
         ensures { (bytes : List ℕ) (r : Reading) →
-            items_of (view_parts line.entry) ≡ items_said bytes r → AllWithinLimit r.items →
+            items_of (view_parts line.entry) ≡ parsed_items bytes r → AllWithinLimit r.items →
             Becomes result (state_of self.new)
             (executed (setup_of machine.now tools.now) r.items (state_of self.old)) }
     {
@@ -184,7 +184,7 @@ impl<A: Allocator + Copy> Interpreter<A> {
     // Ends a program after its last line: a marked file ends at its second `%`, whose line is
     // `mark`.
     fn end_at(mut self, mark: Option<u32>, count: u32) -> Result<Vec<Command, A>, ProgramFault>
-        ensures { GivesMeaning (λ v. v.items) result
+        ensures { MeaningIs (λ v. v.items) result
             (commands_of (past_last mark count (state_of self))) }
     {
         let Some(line) = mark else {
@@ -204,7 +204,7 @@ impl<A: Allocator + Copy> Interpreter<A> {
     /// Ends a program after its last line, and returns its commands: a marked file ends at its
     /// second `%`, as by M2. Any other file needs M2 or M30 (120 otherwise, with the last line).
     pub fn finish(self, program: &Program<A>) -> Result<Vec<Command, A>, ProgramFault>
-        ensures { GivesMeaning (λ v. v.items) result
+        ensures { MeaningIs (λ v. v.items) result
             (commands_of (past_text (text_in program.now) (state_of self))) }
     {
         self.end_at(mark_of(program), program.len() as u32)
@@ -236,8 +236,8 @@ pub fn interpret<A: Allocator + Copy>(
 ) -> Result<Vec<Command, A>, ProgramFault>
     // For all readings of the lines (each line has exactly one), the result is what they mean.
     ensures commands { (rs : List Reading) → AreReadings (text_in program.now).lines rs →
-        GivesMeaning (λ v. v.items) result
-        (meaning (program_said (text_in program.now) rs)
+        MeaningIs (λ v. v.items) result
+        (meaning (parsed_program (text_in program.now) rs)
         (setup_of machine.now tools.now) block_delete) }
     // The first motion begins at the machine's start point, and each further one where the motion
     // before it ends.

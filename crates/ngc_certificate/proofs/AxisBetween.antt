@@ -7,7 +7,7 @@ use Rattle.std.specs.Int.{int_min, int_max}
 use Rattle.ngc_fixed_length.specs.Boxes.{grid_above, grid_below}
 use Rattle.ngc_fixed_length.specs.Grid.{distance}
 use Rattle.ngc_certificate.specs.DerivedBox.{cut_at, low_between, high_between}
-use Rattle.ngc_certificate.proofs.Shares.{ahead_of, ahead_back, before}
+use Rattle.ngc_certificate.proofs.PathShares.{ahead_of, ahead_back, before}
 
 -- a whole number is at most a quotient rounded down if its product is at most the dividend
 pub floor_above : (y : ℕ) (q x : ℤ) → 0 < y → (q *ℤ pos y) ≤ℤ x → q ≤ℤ int_div_euclid x (pos y)

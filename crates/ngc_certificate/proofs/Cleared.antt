@@ -15,12 +15,12 @@ use Rattle.ngc_commands.specs.declared.movement.Way.TheVariants.{Line, Arc}
 use Rattle.ngc_certificate_text.specs.declared.piece.Piece.{Piece}
 use Rattle.ngc_certificate_text.specs.Certificate.{IsEntry, good_piece}
 use Rattle.ngc_certificate.specs.PieceFault.{pieces_fault, ArePiecesValid}
-use Rattle.ngc_certificate.specs.Made.{pieces_of, powers_of_two, tries, cleared, IsCutClear, MayCut, MayStand, MayFind}
+use Rattle.ngc_certificate.specs.Made.{pieces_of, powers_of_two, tries, cleared, IsCutClear, MayCut, MayHavePieces, MayFindPieces}
 use Rattle.ngc_certificate.specs.Making.{is_clear_in, pieces_where}
 use Rattle.ngc_certificate.proofs.Division.{few, count_of}
 use Rattle.ngc_certificate.specs.Planned.{IsDividedIfLine}
 use Rattle.ngc_certificate.proofs.NoFault.{pieces_valid, some_none}
-use Rattle.ngc_certificate.proofs.Truths.{both, and, no_truth}
+use Rattle.ngc_certificate.proofs.TrueTests.{both, and, no_truth}
 use Rattle.ngc_certificate.proofs.GoodPieces.{pieces_good}
 
 -- ---- the first that passes
@@ -129,29 +129,29 @@ true≢false h = cc
 -- an arc that one piece clears, and one for which nothing is found
 pub whole_stands : (machine : MachineFile) (most : ℕ) (tool : Option Tool) (a : ArcShape) (pieces : List Piece) → pieces ≡ pieces_of machine.step (Arc a) 1 →
     is_clear_in machine tool (Arc a) 1 ≡ true →
-    MayStand machine most tool a (Some pieces)
+    MayHavePieces machine most tool a (Some pieces)
 whole_stands machine most tool a pieces same clear =
     record { whole = λ h. ap (λ (ps : List Piece). Some ps) same; cut = λ h. absurd (true≢false (sym clear ∙ h)) }
 
 pub none_stands : (machine : MachineFile) (most : ℕ) (tool : Option Tool) (a : ArcShape) → is_clear_in machine tool (Arc a) 1 ≡ false →
-    MayStand machine most tool a None
+    MayHavePieces machine most tool a None
 none_stands machine most tool a refused = record { whole = λ h. absurd (true≢false (sym h ∙ refused)); cut = λ h. tt }
 
 -- one that is cut, or for which no cuts are found
 pub cut_stands : (machine : MachineFile) (most : ℕ) (tool : Option Tool) (a : ArcShape) (clear : Bool) (pieces : List Piece) →
     is_clear_in machine tool (Arc a) 1 ≡ false →
-    (clear ≡ true → IsCutClear machine most tool a pieces) → MayStand machine most tool a (pieces_where clear pieces)
+    (clear ≡ true → IsCutClear machine most tool a pieces) → MayHavePieces machine most tool a (pieces_where clear pieces)
 cut_stands machine most tool a true pieces refused h = record { whole = λ whole. absurd (true≢false (sym whole ∙ refused)); cut = λ e. h refl }
 cut_stands machine most tool a false pieces refused h = none_stands machine most tool a refused
 
 pub line_found : (machine : MachineFile) (most : ℕ) (tool : Option Tool) (w : Way) (b e : Point3) (found : Option (List Piece)) → w ≡ Line b e →
-    cleared machine most tool w ≡ found → MayFind machine most tool w found
+    cleared machine most tool w ≡ found → MayFindPieces machine most tool w found
 line_found machine most tool w b e found is h =
-    subst (λ v. MayFind machine most tool v found) (sym is) (subst (λ v. found ≡ cleared machine most tool v) is (sym h))
+    subst (λ v. MayFindPieces machine most tool v found) (sym is) (subst (λ v. found ≡ cleared machine most tool v) is (sym h))
 
 arc_valid : (machine : MachineFile) (most : ℕ) (tool : Option Tool) (a : ArcShape) (found : Option (List Piece)) (pieces : List Piece) (clear : Bool) →
     is_clear_in machine tool (Arc a) 1 ≡ clear →
-    MayStand machine most tool a found → found ≡ Some pieces → ArePiecesValid machine tool (Arc a) pieces
+    MayHavePieces machine most tool a found → found ≡ Some pieces → ArePiecesValid machine tool (Arc a) pieces
 arc_valid machine most tool a found pieces true e may is =
     let whole = pieces_of machine.step (Arc a) 1 in
     subst (ArePiecesValid machine tool (Arc a)) (same_some whole pieces (sym (may.whole e) ∙ is))
@@ -162,21 +162,21 @@ arc_valid machine most tool a found pieces false e may is =
 
 pub found_valid : (machine : MachineFile) (most : ℕ) (tool : Option Tool) (w : Way) (found : Option (List Piece)) (pieces : List Piece) → 1 ≤ most →
     most ≤ 65535 →
-    MayFind machine most tool w found → found ≡ Some pieces → ArePiecesValid machine tool w pieces
+    MayFindPieces machine most tool w found → found ≡ Some pieces → ArePiecesValid machine tool w pieces
 found_valid machine most tool (Line b e) found pieces least greatest may is = cleared_valid machine most tool (Line b e) pieces least greatest (sym may ∙ is)
 found_valid machine most tool (Arc a) found pieces least greatest may is =
     arc_valid machine most tool a found pieces (is_clear_in machine tool (Arc a) 1) refl may is
 
 arc_few : (machine : MachineFile) (most : ℕ) (tool : Option Tool) (a : ArcShape) (pieces : List Piece) (clear : Bool) →
     is_clear_in machine tool (Arc a) 1 ≡ clear → most ≤ 65535 →
-    MayStand machine most tool a (Some pieces) → length pieces ≤ 65535
+    MayHavePieces machine most tool a (Some pieces) → length pieces ≤ 65535
 arc_few machine most tool a pieces true e greatest may =
     subst (λ (ps : List Piece). length ps ≤ 65535) (same_some (pieces_of machine.step (Arc a) 1) pieces (sym (may.whole e)))
     (few machine.step (Arc a) 1 (omega arith) (omega arith))
 arc_few machine most tool a pieces false e greatest may = let cut = may.cut e in omega (arith, cut.few, greatest)
 
 found_few : (machine : MachineFile) (most : ℕ) (tool : Option Tool) (w : Way) (pieces : List Piece) → 1 ≤ most → most ≤ 65535 →
-    MayFind machine most tool w (Some pieces) → length pieces ≤ 65535
+    MayFindPieces machine most tool w (Some pieces) → length pieces ≤ 65535
 found_few machine most tool (Line b e) pieces least greatest may =
     let c = cleared_is machine most tool (Line b e) pieces least greatest (sym may) in
     subst (λ (ps : List Piece). length ps ≤ 65535) (sym c.made) (few machine.step (Line b e) c.count (at_least c.count c.fits) (at_most c.count c.fits))
@@ -188,7 +188,7 @@ some_valid machine tool w (p ∷ ps) valid = omega arith
 
 -- an entry that a certificate may contain
 pub found_entry : (machine : MachineFile) (most k : ℕ) (tool : Option Tool) (w : Way) (pieces : List Piece) → k ≤ 999999 → 1 ≤ most → most ≤ 65535 →
-    MayFind machine most tool w (Some pieces) → IsTrue (list_all good_piece pieces) → IsEntry (record { index = k; pieces = pieces })
+    MayFindPieces machine most tool w (Some pieces) → IsTrue (list_all good_piece pieces) → IsEntry (record { index = k; pieces = pieces })
 found_entry machine most k tool w pieces index least greatest may good = record {
   index = index;
   some = some_valid machine tool w pieces (found_valid machine most tool w (Some pieces) pieces least greatest may refl);
@@ -198,7 +198,7 @@ found_entry machine most k tool w pieces index least greatest may good = record 
 
 -- a line has the pieces of their number
 pub found_divided : (machine : MachineFile) (most : ℕ) (tool : Option Tool) (w : Way) (pieces : List Piece) → 1 ≤ most → most ≤ 65535 →
-    MayFind machine most tool w (Some pieces) → IsDividedIfLine machine.step w pieces
+    MayFindPieces machine most tool w (Some pieces) → IsDividedIfLine machine.step w pieces
 found_divided machine most tool (Line b e) pieces least greatest may =
     let c = cleared_is machine most tool (Line b e) pieces least greatest (sym may) in
     let number : length pieces ≡ c.count = ap (λ (ps : List Piece). length ps) c.made ∙ count_of machine.step b e c.count 0 c.count in

@@ -19,7 +19,7 @@ use Rattle.ngc_certificate_text.specs.declared.piece.Cut.TheVariants.{Part, Plac
 use Rattle.ngc_certificate_text.specs.declared.piece.Piece.{Piece}
 use Rattle.ngc_certificate_text.specs.declared.piece.Setting.TheVariants.{Off, On}
 use Rattle.ngc_certificate_text.specs.Certificate.{Entry, CertificateData}
-use Rattle.ngc_certificate_text.specs.Spelling.{parted_spelling}
+use Rattle.ngc_certificate_text.specs.Spelling.{version_1_text}
 use Rattle.ngc_certificate.specs.declared.fault.MakeFault.{MakeFault}
 use Rattle.ngc_certificate.specs.declared.fault.MakeFault.TheVariants.{NotCleared}
 use Rattle.ngc_certificate.specs.declared.fault.PieceFault.TheVariants.{Chain, NotCovered, OutsideTravel, MeetsFixture}
@@ -47,7 +47,7 @@ both pieces = record { off = record { index = 0; pieces = pieces } ∷ []; on = 
 
 -- ---- a traverse of 0.03 mm
 
-text : parted_spelling (both (pieces_of (pos 10000) (along_x (pos 30000)) 1))
+text : version_1_text (both (pieces_of (pos 10000) (along_x (pos 30000)) 1))
     ≡ codes "ngc-certificate 1\nsetting off 1\nmotion 0 1\nline 65536 0 0 0 3 0 0\nsetting on 1\nmotion 0 1\nline 65536 0 0 0 3 0 0\nend\n"
 unfolding digits
 text = refl

@@ -30,7 +30,7 @@ use Rattle.ngc_certificate.specs.Made.{line_piece, line_pieces_from, pieces_of}
 use Rattle.ngc_certificate.specs.Making.{whole_arc}
 use Rattle.ngc_certificate.proofs.GoodLines.{ordered}
 use Rattle.ngc_certificate.proofs.SafeInPiece.{le_trans, safe_in_piece}
-use Rattle.ngc_certificate.proofs.Truths.{le_of, le_test, both, and}
+use Rattle.ngc_certificate.proofs.TrueTests.{le_of, le_test, both, and}
 use Rattle.ngc_arc_geometry.proofs.SweptEnds.{end_inside}
 
 -- ---- lines

@@ -1,14 +1,14 @@
 -- Sums and products in 128 bits.
-pub mod Wide
+pub mod WideSums
 -- Quotients by a step, in 64 and 128 bits.
 pub mod Quotients
 -- The box of a line in one piece is that of its grid ends.
 pub mod WholeLine
 -- The refusal of the remaining pieces, one piece at a time.
-pub mod RestFault
+pub mod RemainingPieces
 -- Inequalities of one axis, in whole numbers: n, k of a path's moves, s and t the cuts in parts of
 -- W.
-mod Shares
+mod PathShares
 -- One axis of a line between two cuts.
 mod AxisBetween
 -- Each point of a line's path is in the derived box of one of its pieces.
@@ -18,7 +18,7 @@ pub mod CoveredLaw
 -- The boxes of an arc's pieces, with one more piece each time.
 pub mod CutPieces
 -- Tests that are true.
-pub mod Truths
+pub mod TrueTests
 -- The boxes of pieces that share a cut arc.
 pub mod SharedLaws
 -- Each position in the derived box of a valid piece is safe.
@@ -30,7 +30,7 @@ pub mod NoFault
 -- The pieces of a divided motion.
 pub mod Division
 -- The numbers of pieces that are tried, in order.
-pub mod Tries
+pub mod TriedCuts
 -- The motions of a plan, and one more.
 pub mod PlanLaws
 -- From one command to the next.
@@ -52,7 +52,7 @@ pub mod ArcEnds
 -- There is a result for all commands.
 pub mod SomeMade
 -- Properties of every good result.
-pub mod Oks
+pub mod GoodResults
 -- The commands that aren't cleared, and what is made.
 pub mod UnclearedLaws
 -- The commands before the one at which a setting is refused, and that one.

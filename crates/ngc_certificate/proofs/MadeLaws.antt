@@ -27,11 +27,11 @@ use Rattle.ngc_certificate.specs.declared.maker.MotionRefusal.{MotionRefusal}
 use Rattle.ngc_certificate.specs.declared.maker.MotionRefusal.TheVariants as refusals
 use Rattle.ngc_certificate.specs.PieceFault.{pieces_fault, place_fault, ArePiecesValid}
 use Rattle.ngc_certificate.specs.Valid.{AreClearFrom, IsValid}
-use Rattle.ngc_certificate.specs.Made.{pieces_of, cleared, with_entry, with_pieces, unless_met, MayFind, IsMadeFrom, IsSettingMade, join_settings, from_start}
-use Rattle.ngc_certificate.specs.Made.{IsMade, GivesMade, clears_from, clears_undivided}
-use Rattle.ngc_certificate.specs.Making.{is_clear_in, GivesSetting, fault_at}
+use Rattle.ngc_certificate.specs.Made.{pieces_of, cleared, with_entry, with_pieces, unless_met, MayFindPieces, IsMadeFrom, IsSettingMade, join_settings, from_start}
+use Rattle.ngc_certificate.specs.Made.{IsMade, MadeResultIs, clears_from, clears_undivided}
+use Rattle.ngc_certificate.specs.Making.{is_clear_in, SettingResultIs, fault_at}
 use Rattle.ngc_certificate.proofs.NoFault.{clear_at}
-use Rattle.ngc_certificate.proofs.Truths.{both}
+use Rattle.ngc_certificate.proofs.TrueTests.{both}
 use Rattle.ngc_certificate.proofs.Cleared.{found_valid, none_of}
 use Rattle.ngc_certificate.proofs.SomeMade.{some_made}
 
@@ -135,7 +135,7 @@ cleared_undivided machine most tool w least clear = elim (cases_lt 1 most) [
 
 found_undivided : (machine : MachineFile) (most : ℕ) (tool : Option Tool) (w : Way) (found : Option (List Piece)) → 1 ≤ most →
     is_clear_in machine tool w 1 ≡ true →
-    MayFind machine most tool w found → found ≡ Some (pieces_of machine.step w 1)
+    MayFindPieces machine most tool w found → found ≡ Some (pieces_of machine.step w 1)
 found_undivided machine most tool (Line b e) found least clear may = may ∙ cleared_undivided machine most tool (Line b e) least clear
 found_undivided machine most tool (Arc a) found least clear may = may.whole clear
 
@@ -173,7 +173,7 @@ undivided_made machine most off on says least a b made =
 
 -- if a setting is refused, not all motions clear undivided
 refused_undivided : (machine : MachineFile) (most : ℕ) (off on : List Command) (s : Setting) (refusal : MotionRefusal) → 1 ≤ most →
-    GivesMade {X = CertificateData} (λ c. c) (Err (fault_at s refusal)) (IsMade machine most off on) →
+    MadeResultIs {X = CertificateData} (λ c. c) (Err (fault_at s refusal)) (IsMade machine most off on) →
     clears_undivided machine off ≡ true → clears_undivided machine on ≡ true → fault_at s refusal ≡ Memory
 refused_undivided machine most off on s (refusals.NotCleared k) least h a b =
     let m = undivided_made machine most off on (Err (NotCleared s k)) least a b h in
@@ -209,13 +209,13 @@ start_refused machine most off on clear start here =
 pub off_refused : {X : Type 0} (view : X → CertificateData) (machine : MachineFile) (most : ℕ) (off on : List Command) (clear : Bool) (refusal : MotionRefusal)
     (fault : MakeFault) →
     clear ≡ is_none (place_fault machine None (grid machine.step machine.start)) → clear ≡ true →
-    GivesSetting {X = List Entry} (λ m. m) (Err refusal) (IsSettingMade machine most off) → fault ≡ fault_at Off refusal →
-    GivesMade view (Err fault) (IsMade machine most off on)
+    SettingResultIs {X = List Entry} (λ m. m) (Err refusal) (IsSettingMade machine most off) → fault ≡ fault_at Off refusal →
+    MadeResultIs view (Err fault) (IsMade machine most off on)
 off_refused view machine most off on clear refusal fault start here h same =
-    subst (λ f. GivesMade view (Err f) (IsMade machine most off on)) (sym same) (at_off refusal h)
+    subst (λ f. MadeResultIs view (Err f) (IsMade machine most off on)) (sym same) (at_off refusal h)
   where
-    at_off : (r : MotionRefusal) → GivesSetting {X = List Entry} (λ m. m) (Err r) (IsSettingMade machine most off) →
-        GivesMade view (Err (fault_at Off r)) (IsMade machine most off on)
+    at_off : (r : MotionRefusal) → SettingResultIs {X = List Entry} (λ m. m) (Err r) (IsSettingMade machine most off) →
+        MadeResultIs view (Err (fault_at Off r)) (IsMade machine most off on)
     at_off (refusals.NotCleared k) made =
         let second = some_made machine most 0 None machine.start (actions_of on) in
         (Err k, second.0, made, second.1, ap (λ o. from_start o (join_settings (Err k) second.0)) (sym (no_fixture machine clear start here)))
@@ -224,13 +224,13 @@ off_refused view machine most off on clear refusal fault start here h same =
 pub on_refused : {X : Type 0} (view : X → CertificateData) (machine : MachineFile) (most : ℕ) (off on : List Command) (clear : Bool) (entries : List Entry)
     (refusal : MotionRefusal) (fault : MakeFault) →
     clear ≡ is_none (place_fault machine None (grid machine.step machine.start)) → clear ≡ true → IsSettingMade machine most off (Ok entries) →
-    GivesSetting {X = List Entry} (λ m. m) (Err refusal) (IsSettingMade machine most on) → fault ≡ fault_at On refusal →
-    GivesMade view (Err fault) (IsMade machine most off on)
+    SettingResultIs {X = List Entry} (λ m. m) (Err refusal) (IsSettingMade machine most on) → fault ≡ fault_at On refusal →
+    MadeResultIs view (Err fault) (IsMade machine most off on)
 on_refused view machine most off on clear entries refusal fault start here first h same =
-    subst (λ f. GivesMade view (Err f) (IsMade machine most off on)) (sym same) (at_on refusal h)
+    subst (λ f. MadeResultIs view (Err f) (IsMade machine most off on)) (sym same) (at_on refusal h)
   where
-    at_on : (r : MotionRefusal) → GivesSetting {X = List Entry} (λ m. m) (Err r) (IsSettingMade machine most on) →
-        GivesMade view (Err (fault_at On r)) (IsMade machine most off on)
+    at_on : (r : MotionRefusal) → SettingResultIs {X = List Entry} (λ m. m) (Err r) (IsSettingMade machine most on) →
+        MadeResultIs view (Err (fault_at On r)) (IsMade machine most off on)
     at_on (refusals.NotCleared k) made =
         (Ok entries, Err k, first, made, ap (λ o. from_start o (join_settings (Ok entries) (Err k))) (sym (no_fixture machine clear start here)))
     at_on refusals.Memory made = tt
@@ -254,7 +254,7 @@ both_made machine most off on clear off_entries on_entries start here first seco
 
 pub off_undivided : (machine : MachineFile) (most : ℕ) (off on : List Command) (clear : Bool) (refusal : MotionRefusal) (fault : MakeFault) → 1 ≤ most →
     clear ≡ is_none (place_fault machine None (grid machine.step machine.start)) → clear ≡ true →
-    GivesSetting {X = List Entry} (λ m. m) (Err refusal) (IsSettingMade machine most off) → fault ≡ fault_at Off refusal →
+    SettingResultIs {X = List Entry} (λ m. m) (Err refusal) (IsSettingMade machine most off) → fault ≡ fault_at Off refusal →
     clears_undivided machine off ≡ true → clears_undivided machine on ≡ true → fault ≡ Memory
 off_undivided machine most off on clear refusal fault least start here given same a b =
     same ∙ refused_undivided machine most off on Off refusal least
@@ -263,7 +263,7 @@ off_undivided machine most off on clear refusal fault least start here given sam
 pub on_undivided : (machine : MachineFile) (most : ℕ) (off on : List Command) (clear : Bool) (entries : List Entry) (refusal : MotionRefusal) (fault : MakeFault) →
     1 ≤ most →
     clear ≡ is_none (place_fault machine None (grid machine.step machine.start)) → clear ≡ true →
-    IsSettingMade machine most off (Ok entries) → GivesSetting {X = List Entry} (λ m. m) (Err refusal) (IsSettingMade machine most on) →
+    IsSettingMade machine most off (Ok entries) → SettingResultIs {X = List Entry} (λ m. m) (Err refusal) (IsSettingMade machine most on) →
     fault ≡ fault_at On refusal →
     clears_undivided machine off ≡ true → clears_undivided machine on ≡ true → fault ≡ Memory
 on_undivided machine most off on clear entries refusal fault least start here first given same a b =

@@ -16,23 +16,23 @@ use Rattle.std.proofs.Math.ListN.{drop_of_length-le}
 use Rattle.ngc_certificate_text.specs.declared.piece.Piece.{Piece}
 use Rattle.ngc_certificate_text.specs.Certificate.{Entry}
 use Rattle.ngc_certificate.specs.PieceFault.{place_fault}
-use Rattle.ngc_certificate.specs.Made.{with_entry, unless_met, MayFind, IsMadeFrom, IsSettingMade}
-use Rattle.ngc_certificate.specs.Making.{behind, MadeSoFar, IsGivenFrom, Leads, GivesSetting}
+use Rattle.ngc_certificate.specs.Made.{with_entry, unless_met, MayFindPieces, IsMadeFrom, IsSettingMade}
+use Rattle.ngc_certificate.specs.Making.{behind, MadeSoFar, IsAllowedFrom, Leads, SettingResultIs}
 use Rattle.ngc_certificate.specs.declared.maker.MotionRefusal.{MotionRefusal}
 use Rattle.ngc_certificate.specs.declared.maker.MotionRefusal.TheVariants.{NotCleared, Memory}
 use Rattle.ngc_certificate.proofs.SomeMade.{some_made}
 
-behind_entry : (motions : List Entry) (k : ℕ) (pieces : List Piece) (r : Result (List Entry) ℕ) →
+after_entry : (motions : List Entry) (k : ℕ) (pieces : List Piece) (r : Result (List Entry) ℕ) →
     behind motions (with_entry k pieces r) ≡ behind (motions ++ (record { index = k; pieces = pieces } ∷ [])) r
-behind_entry motions k pieces (Ok rest) =
+after_entry motions k pieces (Ok rest) =
     let e : Entry = record { index = k; pieces = pieces } in
     ap (λ (l : List Entry). Ok l) (sym (append_assoc motions (e ∷ []) rest))
-behind_entry motions k pieces (Err refused) = refl
+after_entry motions k pieces (Err refused) = refl
 
 -- a motion for which pieces are found
 pub goes_on : (machine : MachineFile) (most k : ℕ) (tool : Option Tool) (place new_place : Point3) (motions new_motions : List Entry) (m : Motion)
     (pieces same : List Piece) (actions : List Action) (says rest : Result (List Entry) ℕ) →
-    MayFind machine most tool m.way (Some pieces) → same ≡ pieces → new_motions ≡ motions ++ (record { index = k; pieces = same } ∷ []) →
+    MayFindPieces machine most tool m.way (Some pieces) → same ≡ pieces → new_motions ≡ motions ++ (record { index = k; pieces = same } ∷ []) →
     new_place ≡ end_of m.way →
     IsMadeFrom machine most (k + 1) tool new_place actions rest → says ≡ behind new_motions rest →
     (all : Result (List Entry) ℕ) × IsMadeFrom machine most k tool place (Move m ∷ actions) all × (says ≡ behind motions all)
@@ -40,12 +40,12 @@ goes_on machine most k tool place new_place motions new_motions m pieces same ac
   with_entry k pieces rest,
   (Some pieces, rest, found, subst (λ p. IsMadeFrom machine most (k + 1) tool p actions rest) ends made, refl),
   e ∙ ap (λ ms. behind ms rest) added ∙ ap (λ ps. behind (motions ++ (record { index = k; pieces = ps } ∷ [])) rest) same_pieces
-      ∙ sym (behind_entry motions k pieces rest),
+      ∙ sym (after_entry motions k pieces rest),
 )
 
 -- one for which none are found
 pub stops : (machine : MachineFile) (most k : ℕ) (tool : Option Tool) (place : Point3) (motions : List Entry) (m : Motion) (actions : List Action) →
-    MayFind machine most tool m.way None → (all : Result (List Entry) ℕ) × IsMadeFrom machine most k tool place (Move m ∷ actions) all ×
+    MayFindPieces machine most tool m.way None → (all : Result (List Entry) ℕ) × IsMadeFrom machine most k tool place (Move m ∷ actions) all ×
     (Err k ≡ behind motions all)
 stops machine most k tool place motions m actions found =
     let rest = some_made machine most (k + 1) tool (end_of m.way) actions in
@@ -94,14 +94,14 @@ none_left i commands h = ap actions_of (drop_of_length-le commands {i = i} h)
 -- a command that isn't cleared
 pub stopped : (machine : MachineFile) (most k : ℕ) (commands : List Command) (action : Action) (left later : List Action) (old new : MadeSoFar)
     (refusal : MotionRefusal) →
-    ((says : Result (List Entry) ℕ) → IsGivenFrom machine most k old left says → IsSettingMade machine most commands says) → left ≡ action ∷ later →
-    Leads machine most k action old (Err refusal) new → GivesSetting {X = List Entry} (λ m. m) (Err refusal) (IsSettingMade machine most commands)
+    ((says : Result (List Entry) ℕ) → IsAllowedFrom machine most k old left says → IsSettingMade machine most commands says) → left ≡ action ∷ later →
+    Leads machine most k action old (Err refusal) new → SettingResultIs {X = List Entry} (λ m. m) (Err refusal) (IsSettingMade machine most commands)
 stopped machine most k commands action left later old new (NotCleared n) leads split h =
-    leads (Err n) (subst (λ actions. IsGivenFrom machine most k old actions (Err n)) (sym split) (h later))
+    leads (Err n) (subst (λ actions. IsAllowedFrom machine most k old actions (Err n)) (sym split) (h later))
 stopped machine most k commands action left later old new Memory leads split h = tt
 
 -- a refusal is the same for each kind of store
 pub refusal_seen : {X Y : Type 0} (view : X → List Entry) (seen : Y → List Entry) (refusal : MotionRefusal) (May : Result (List Entry) ℕ → Type 0) →
-    GivesSetting view (Err refusal) May → GivesSetting seen (Err refusal) May
+    SettingResultIs view (Err refusal) May → SettingResultIs seen (Err refusal) May
 refusal_seen view seen (NotCleared n) May h = h
 refusal_seen view seen Memory May h = tt

@@ -17,7 +17,7 @@ use Rattle.ngc_certificate_text.specs.declared.piece.Piece.{Piece}
 use Rattle.ngc_certificate.specs.declared.stretch.Stretch.{Stretch}
 use Rattle.ngc_certificate.specs.DerivedBox.{derived_box}
 use Rattle.ngc_certificate.specs.PieceFault.{IsPieceValid}
-use Rattle.ngc_certificate.proofs.Truths.{le_of, le_test, both, and, or_to, list_to}
+use Rattle.ngc_certificate.proofs.TrueTests.{le_of, le_test, both, and, or_to, list_to}
 
 pub scale_up : (s : ℕ) (a b : ℤ) → a ≤ℤ b → (a *ℤ pos s) ≤ℤ (b *ℤ pos s)
 scale_up s (pos a) (pos b) h = let i : a ≤ b = omega (arith, ints, h) in omega (arith, ints, mul-le-mul_left s i)

@@ -14,16 +14,16 @@ use Rattle.ngc_commands.specs.Movement.{end_of}
 use Rattle.ngc_certificate_text.specs.declared.piece.Piece.{Piece}
 use Rattle.ngc_certificate_text.specs.Certificate.{Entry}
 use Rattle.ngc_certificate.specs.PieceFault.{place_fault}
-use Rattle.ngc_certificate.specs.Made.{pieces_of, cleared, with_pieces, unless_met, MayStand, MayFind, IsMadeFrom}
+use Rattle.ngc_certificate.specs.Made.{pieces_of, cleared, with_pieces, unless_met, MayHavePieces, MayFindPieces, IsMadeFrom}
 use Rattle.ngc_certificate.specs.Making.{is_clear_in}
 use Rattle.ngc_certificate.proofs.Cleared.{whole_stands, none_stands}
 
 whole_or_none : (machine : MachineFile) (most : ℕ) (tool : Option Tool) (a : ArcShape) (clear : Bool) → is_clear_in machine tool (Arc a) 1 ≡ clear →
-    (found : Option (List Piece)) × MayStand machine most tool a found
+    (found : Option (List Piece)) × MayHavePieces machine most tool a found
 whole_or_none machine most tool a true e = (Some (pieces_of machine.step (Arc a) 1), whole_stands machine most tool a (pieces_of machine.step (Arc a) 1) refl e)
 whole_or_none machine most tool a false e = (None, none_stands machine most tool a e)
 
-pub some_found : (machine : MachineFile) (most : ℕ) (tool : Option Tool) (w : Way) → (found : Option (List Piece)) × MayFind machine most tool w found
+pub some_found : (machine : MachineFile) (most : ℕ) (tool : Option Tool) (w : Way) → (found : Option (List Piece)) × MayFindPieces machine most tool w found
 some_found machine most tool (Line b e) = (cleared machine most tool (Line b e), refl)
 some_found machine most tool (Arc a) = whole_or_none machine most tool a (is_clear_in machine tool (Arc a) 1) refl
 

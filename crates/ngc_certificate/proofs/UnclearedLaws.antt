@@ -13,8 +13,8 @@ use Rattle.ngc_commands.specs.Movement.{actions_of, end_of}
 use Rattle.ngc_certificate_text.specs.declared.piece.Piece.{Piece}
 use Rattle.ngc_certificate_text.specs.Certificate.{Entry}
 use Rattle.ngc_certificate.specs.PieceFault.{place_fault}
-use Rattle.ngc_certificate.specs.Made.{with_pieces, unless_met, MayFind, IsMadeFrom}
-use Rattle.ngc_certificate.specs.Uncleared.{unless_cleared, AreUnclearedFrom, BeginsAs, FirstUnclearedIsRefused, MadeSaysUncleared, NoneUnclearedIsMade}
+use Rattle.ngc_certificate.specs.Made.{with_pieces, unless_met, MayFindPieces, IsMadeFrom}
+use Rattle.ngc_certificate.specs.Uncleared.{unless_cleared, AreUnclearedFrom, BeginsAs, FirstUnclearedIsRefused, MadeNamesUncleared, NoneUnclearedIsMade}
 use Rattle.ngc_certificate.proofs.Cleared.{none_of}
 use Rattle.ngc_certificate.proofs.SomeMade.{some_found, some_made}
 
@@ -43,7 +43,7 @@ at_mount machine most k tool new place actions (Some fixture) rest e h =
 
 at_motion : (machine : MachineFile) (most k : ℕ) (tool : Option Tool) (place : Point3) (m : Motion) (actions : List Action) (found : Option (List Piece))
     (rest : Result (List Entry) ℕ) →
-    MayFind machine most tool m.way found → BeginsAs rest (AreUnclearedFrom machine most (k + 1) tool (end_of m.way) actions) →
+    MayFindPieces machine most tool m.way found → BeginsAs rest (AreUnclearedFrom machine most (k + 1) tool (end_of m.way) actions) →
     BeginsAs (with_pieces k found rest) (AreUnclearedFrom machine most k tool place (Move m ∷ actions))
 at_motion machine most k tool place m actions None rest may h =
     let later = some_uncleared machine most (k + 1) tool (end_of m.way) actions in
@@ -64,7 +64,7 @@ as_made machine most k tool place (Move m ∷ actions) says made =
     (at_motion machine most k tool place m actions made.0 made.1 made.2 rest)
 as_made machine most k tool place (_ ∷ actions) says made = as_made machine most (k + 1) tool place actions says made
 
-pub made_says : MadeSaysUncleared
+pub made_says : MadeNamesUncleared
 made_says machine most commands says made = as_made machine most 0 None machine.start (actions_of commands) says made
 
 -- ---- if there is none

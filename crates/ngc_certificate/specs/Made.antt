@@ -89,7 +89,7 @@ MayCut machine most tool a (Some pieces) = IsCutClear machine most tool a pieces
 
 -- an arc has one piece if that clears it; otherwise it has cuts, and their positions are not
 -- prescribed
-pub record MayStand (machine : MachineFile) (most : ℕ) (tool : Option Tool) (a : ArcShape)
+pub record MayHavePieces (machine : MachineFile) (most : ℕ) (tool : Option Tool) (a : ArcShape)
     (found : Option (List Piece)) : Type 0 where
   pub whole : is_none (pieces_fault machine tool (Arc a) (pieces_of machine.step (Arc a) 1))
       ≡ true → found ≡ Some (pieces_of machine.step (Arc a) 1)
@@ -97,9 +97,9 @@ pub record MayStand (machine : MachineFile) (most : ℕ) (tool : Option Tool) (a
       MayCut machine most tool a found
 
 -- a line has the pieces of the first try of which none is refused
-abbrev pub MayFind : MachineFile → ℕ → Option Tool → Way → Option (List Piece) → Type 0
-MayFind machine most tool (Line b e) found = found ≡ cleared machine most tool (Line b e)
-MayFind machine most tool (Arc a) found = MayStand machine most tool a found
+abbrev pub MayFindPieces : MachineFile → ℕ → Option Tool → Way → Option (List Piece) → Type 0
+MayFindPieces machine most tool (Line b e) found = found ≡ cleared machine most tool (Line b e)
+MayFindPieces machine most tool (Arc a) found = MayHavePieces machine most tool a found
 
 -- ---- the certificates that may be made
 
@@ -114,7 +114,7 @@ IsMadeFrom machine most k tool place (Mount new ∷ actions) says =
     × (says ≡ unless_met (place_fault machine new (grid machine.step place)) k rest)
 IsMadeFrom machine most k tool place (Move m ∷ actions) says =
     (found : Option (List Piece)) × (rest : Result (List Entry) ℕ) ×
-    MayFind machine most tool m.way found
+    MayFindPieces machine most tool m.way found
     × IsMadeFrom machine most (k + 1) tool (end_of m.way) actions rest ×
     (says ≡ with_pieces k found rest)
 IsMadeFrom machine most k tool place (_ ∷ actions) says =
@@ -146,11 +146,11 @@ IsMade machine most off on says =
     (join_settings first second))
 
 -- a result that is allowed, unless memory ran out
-abbrev pub GivesMade : {X : Type 0} → (X → CertificateData) → Result X MakeFault →
+abbrev pub MadeResultIs : {X : Type 0} → (X → CertificateData) → Result X MakeFault →
     (Result CertificateData MakeFault → Type 0) → Type 0
-GivesMade view (Ok x) May = May (Ok (view x))
-GivesMade view (Err (NotCleared s k)) May = May (Err (NotCleared s k))
-GivesMade view (Err Memory) May = Unit {0}
+MadeResultIs view (Ok x) May = May (Ok (view x))
+MadeResultIs view (Err (NotCleared s k)) May = May (Err (NotCleared s k))
+MadeResultIs view (Err Memory) May = Unit {0}
 
 -- start and tool changes are clear, and every motion's undivided box clears
 abbrev pub clears_from : MachineFile → Option Tool → Point3 → List Action → Bool

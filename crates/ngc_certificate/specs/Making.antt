@@ -56,8 +56,8 @@ abbrev pub made_by : {M : Type 0} → (M → List Entry) → Progress M → Made
 made_by entries p = record { motions = entries p.motions; tool = p.tool; place = p.place }
 
 -- the allowed results for a setting, from command k on, if these commands remain
-abbrev pub IsGivenFrom : MachineFile → ℕ → ℕ → MadeSoFar → List Action → Result (List Entry) ℕ → Type 0
-IsGivenFrom machine most k p actions says =
+abbrev pub IsAllowedFrom : MachineFile → ℕ → ℕ → MadeSoFar → List Action → Result (List Entry) ℕ → Type 0
+IsAllowedFrom machine most k p actions says =
     (rest : Result (List Entry) ℕ) × IsMadeFrom machine most k p.tool p.place actions rest ×
     (says ≡ behind p.motions rest)
 
@@ -67,19 +67,19 @@ abbrev pub Leads : MachineFile → ℕ → ℕ → Action → MadeSoFar →
     Type 0
 Leads machine most k action old (Ok done) new =
     ((actions : List Action) (says : Result (List Entry) ℕ) →
-    IsGivenFrom machine most (k + 1) new actions says →
-    IsGivenFrom machine most k old (action ∷ actions) says)
+    IsAllowedFrom machine most (k + 1) new actions says →
+    IsAllowedFrom machine most k old (action ∷ actions) says)
     × (length new.motions ≤ length old.motions + 1)
 Leads machine most k action old (Err (NotCleared command)) new =
-    (actions : List Action) → IsGivenFrom machine most k old (action ∷ actions) (Err command)
+    (actions : List Action) → IsAllowedFrom machine most k old (action ∷ actions) (Err command)
 Leads machine most k action old (Err Memory) new = Unit {0}
 
 -- a result that is allowed, unless memory ran out
-abbrev pub GivesSetting : {X : Type 0} → (X → List Entry) → Result X MotionRefusal →
+abbrev pub SettingResultIs : {X : Type 0} → (X → List Entry) → Result X MotionRefusal →
     (Result (List Entry) ℕ → Type 0) → Type 0
-GivesSetting view (Ok x) May = May (Ok (view x))
-GivesSetting view (Err (NotCleared command)) May = May (Err command)
-GivesSetting view (Err Memory) May = Unit {0}
+SettingResultIs view (Ok x) May = May (Ok (view x))
+SettingResultIs view (Err (NotCleared command)) May = May (Err command)
+SettingResultIs view (Err Memory) May = Unit {0}
 
 -- the fault for a refusal at a setting
 abbrev pub fault_at : Setting → MotionRefusal → MakeFault

@@ -15,7 +15,7 @@ use Rattle.ngc_certificate_text.specs.Certificate.{Entry}
 use Rattle.ngc_commands.specs.Reached.{after}
 use Rattle.ngc_commands.specs.declared.reached.Reached.{Reached}
 use Rattle.ngc_certificate.specs.PieceFault.{place_fault}
-use Rattle.ngc_certificate.specs.Made.{MayFind, IsSettingMade}
+use Rattle.ngc_certificate.specs.Made.{MayFindPieces, IsSettingMade}
 
 -- command k before those that follow, unless it is cleared
 abbrev pub unless_cleared : Bool → ℕ → List ℕ → List ℕ
@@ -32,7 +32,7 @@ AreUnclearedFrom machine most k tool place (Mount new ∷ actions) ks =
     (rest : List ℕ) × AreUnclearedFrom machine most (k + 1) new place actions rest
     × (ks ≡ unless_cleared (is_none (place_fault machine new (grid machine.step place))) k rest)
 AreUnclearedFrom machine most k tool place (Move m ∷ actions) ks =
-    (found : Option (List Piece)) × (rest : List ℕ) × MayFind machine most tool m.way found
+    (found : Option (List Piece)) × (rest : List ℕ) × MayFindPieces machine most tool m.way found
     × AreUnclearedFrom machine most (k + 1) tool (end_of m.way) actions rest ×
     (ks ≡ unless_cleared (is_some found) k rest)
 AreUnclearedFrom machine most k tool place (_ ∷ actions) ks =
@@ -51,8 +51,8 @@ BeginsAs (Ok entries) May = May []
 BeginsAs (Err k) May = (ks : List ℕ) × May (k ∷ ks)
 
 -- what is made of a setting determines the command that may be the first
-abbrev pub MadeSaysUncleared : Type 0
-MadeSaysUncleared =
+abbrev pub MadeNamesUncleared : Type 0
+MadeNamesUncleared =
     (machine : MachineFile) (most : ℕ) (commands : List Command) (says : Result (List Entry) ℕ) →
     IsSettingMade machine most commands says → BeginsAs says (AreUncleared machine most commands)
 

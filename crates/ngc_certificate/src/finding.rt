@@ -4,7 +4,7 @@ ghost use Rattle.std.specs.List.{list_all};
 ghost use Rattle.ngc_machine_files.specs.Machine.{file_of};
 ghost use Rattle.ngc_commands.specs.declared.movement.Way.TheVariants as ways;
 ghost use Rattle.ngc_certificate_text.specs.Certificate.{good_piece};
-ghost use Rattle.ngc_certificate.specs.Made.{pieces_of, cleared, IsCutClear, MayFind, MayStand};
+ghost use Rattle.ngc_certificate.specs.Made.{pieces_of, cleared, IsCutClear, MayFindPieces, MayHavePieces};
 ghost use Rattle.ngc_certificate.specs.Making.{is_clear_in, pieces_where};
 
 use crate::cutting::{Stops, cut_arc};
@@ -96,7 +96,7 @@ fn find_arc<A: Allocator>(
 ) -> Result<bool, AllocError>
     requires { 1 ≤ most }
     ensures found { IfOk result
-        (λ clear. MayStand (file_of machine.now) most tool.now arc.now
+        (λ clear. MayHavePieces (file_of machine.now) most tool.now arc.now
         (pieces_where clear pieces.new.items)) }
     ensures good { IfOk result (λ clear. clear ≡ true →
         IsTrue (list_all good_piece pieces.new.items)) }
@@ -121,7 +121,7 @@ pub(crate) fn find_clear<A: Allocator>(
 ) -> Result<bool, AllocError>
     requires { 1 ≤ most }
     ensures found { IfOk result
-        (λ clear. MayFind (file_of machine.now) most tool.now way.now
+        (λ clear. MayFindPieces (file_of machine.now) most tool.now way.now
         (pieces_where clear pieces.new.items)) }
     ensures good { IfOk result (λ clear. clear ≡ true →
         IsTrue (list_all good_piece pieces.new.items)) }

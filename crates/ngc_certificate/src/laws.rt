@@ -1,7 +1,7 @@
 //! Laws about the definitions only.
 ghost use Rattle.ngc_certificate.specs.Covered.{Covered, SafeOnPath};
 ghost use Rattle.ngc_certificate.specs.NoFault.{NoPiecesFaultIsValid, NoPlaceFaultIsClear};
-ghost use Rattle.ngc_certificate.specs.Uncleared.{FirstUnclearedIsRefused, MadeSaysUncleared};
+ghost use Rattle.ngc_certificate.specs.Uncleared.{FirstUnclearedIsRefused, MadeNamesUncleared};
 ghost use Rattle.ngc_certificate.specs.Uncleared.{NoneUnclearedIsMade};
 
 /// States that each point of a motion's path is in the derived box of one of its pieces.
@@ -27,7 +27,7 @@ pub fn no_fault_is_valid()
 /// cleared. Conversely, if all commands may be cleared, motions may be made for it, and otherwise it
 /// may be refused at the first one that isn't.
 pub fn uncleared_as_made()
-    ensures says { MadeSaysUncleared }
+    ensures says { MadeNamesUncleared }
     ensures made { NoneUnclearedIsMade }
     ensures refused { FirstUnclearedIsRefused }
 {}

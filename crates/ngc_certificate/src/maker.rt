@@ -8,9 +8,9 @@ ghost use Rattle.ngc_certificate_text.specs.Certificate.{MOTION_LIMIT};
 ghost use Rattle.ngc_certificate_text.specs.Contents.{said_of, form_of};
 ghost use Rattle.ngc_certificate_text.specs.Joined.{Parted};
 ghost use Rattle.ngc_certificate.specs.Valid.{IsValid};
-ghost use Rattle.ngc_certificate.specs.Made.{IsSettingMade, IsMade, GivesMade, clears_undivided};
+ghost use Rattle.ngc_certificate.specs.Made.{IsSettingMade, IsMade, MadeResultIs, clears_undivided};
 ghost use Rattle.ngc_certificate.specs.Common.{way_at, way_of};
-ghost use Rattle.ngc_certificate.specs.Making.{is_clear_at, made_by, Leads, GivesSetting, fault_at};
+ghost use Rattle.ngc_certificate.specs.Making.{is_clear_at, made_by, Leads, SettingResultIs, fault_at};
 
 use crate::fault::MakeFault;
 use crate::finding::find_clear;
@@ -164,7 +164,7 @@ pub(crate) fn fill<A: Allocator, M: MotionStore + Drop>(
     requires empty { M.entries empty machine.now.step commands.now ≡ [] }
     requires most { 1 ≤ most }
     requires count { length commands.now ≤ COMMAND_LIMIT }
-    ensures made { GivesSetting (λ m. M.entries m machine.now.step commands.now) result
+    ensures made { SettingResultIs (λ m. M.entries m machine.now.step commands.now) result
         (IsSettingMade (file_of machine.now) most commands.now) }
     ensures are { IfOk result
         (λ m. AreEntries (M.entries m machine.now.step commands.now)) }
@@ -213,7 +213,7 @@ pub fn make<A: Allocator + Copy>(
     requires cuts { 1 ≤ cuts }
     requires off { length off.now ≤ COMMAND_LIMIT }
     requires on { length on.now ≤ COMMAND_LIMIT }
-    ensures made { GivesMade said_of result (IsMade (file_of machine.now) cuts off.now on.now) }
+    ensures made { MadeResultIs said_of result (IsMade (file_of machine.now) cuts off.now on.now) }
     ensures valid { IfOk result (λ c. IsValid (file_of machine.now) off.now (said_of c).off ×
         IsValid (file_of machine.now) on.now (said_of c).on) }
     // It is of version 1.
@@ -250,7 +250,7 @@ pub fn make_alike<A: Allocator + Copy>(
 ) -> Result<Certificate<A>, MakeFault>
     requires cuts { 1 ≤ cuts }
     requires count { length commands.now ≤ COMMAND_LIMIT }
-    ensures made { GivesMade said_of result
+    ensures made { MadeResultIs said_of result
         (IsMade (file_of machine.now) cuts commands.now commands.now) }
     ensures valid { IfOk result (λ c. IsValid (file_of machine.now) commands.now (said_of c).off ×
         IsValid (file_of machine.now) commands.now (said_of c).on) }

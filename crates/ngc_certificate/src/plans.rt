@@ -3,7 +3,7 @@ ghost use Rattle.std.specs.Prelude.{◌≡◌, ◌≤◌, length, true, IfOk, Ma
 ghost use Rattle.ngc_machine_files.specs.Machine.{file_of};
 ghost use Rattle.ngc_commands.specs.Sequence.{COMMAND_LIMIT};
 ghost use Rattle.ngc_certificate_text.specs.Certificate.{AreEntries};
-ghost use Rattle.ngc_certificate.specs.Made.{IsMade, GivesMade, clears_undivided};
+ghost use Rattle.ngc_certificate.specs.Made.{IsMade, MadeResultIs, clears_undivided};
 ghost use Rattle.ngc_certificate.specs.Plans.{plan_at, both_planned};
 ghost use Rattle.ngc_certificate.specs.Valid.{IsValid};
 
@@ -50,7 +50,7 @@ pub fn make_plans<A: Allocator + Copy>(
     requires cuts { 1 ≤ cuts }
     requires off { length off.now ≤ COMMAND_LIMIT }
     requires on { length on.now ≤ COMMAND_LIMIT }
-    ensures made { GivesMade (λ p. both_planned machine.now.step off.now on.now p) result
+    ensures made { MadeResultIs (λ p. both_planned machine.now.step off.now on.now p) result
         (IsMade (file_of machine.now) cuts off.now on.now) }
     ensures valid { IfOk result (λ p.
         IsValid (file_of machine.now) off.now (both_planned machine.now.step off.now on.now p).off
@@ -92,7 +92,7 @@ pub fn make_plans_alike<A: Allocator + Copy>(
 ) -> Result<Plans<A>, MakeFault>
     requires cuts { 1 ≤ cuts }
     requires count { length commands.now ≤ COMMAND_LIMIT }
-    ensures made { GivesMade (λ p. both_planned machine.now.step commands.now commands.now p) result
+    ensures made { MadeResultIs (λ p. both_planned machine.now.step commands.now commands.now p) result
         (IsMade (file_of machine.now) cuts commands.now commands.now) }
     ensures valid { IfOk result (λ p. IsValid (file_of machine.now) commands.now
         (both_planned machine.now.step commands.now commands.now p).off

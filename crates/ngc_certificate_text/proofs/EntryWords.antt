@@ -4,7 +4,7 @@ use Rattle.std.proofs.Common.{arith}
 use Rattle.std.specs.Prelude.{ℤ, pos, unsigned_abs, codes, map, ◌&&◌, nat_le, if◌then◌else◌}
 use Rattle.std.specs.Str.{bytes_eq}
 use Rattle.std.proofs.lemmas.Bool.{and_parts}
-use Rattle.ngc_certificate_text.specs.declared.expected.EntriesLeft.{EntriesLeft}
+use Rattle.ngc_certificate_text.specs.declared.expected.RemainingEntries.{RemainingEntries}
 use Rattle.ngc_certificate_text.specs.declared.expected.Indices.TheVariants.{Both, Off, On}
 use Rattle.ngc_certificate_text.specs.declared.lines.CountsLine.{CountsLine}
 use Rattle.ngc_certificate_text.specs.declared.lines.EntryLine.{EntryLine}
@@ -14,8 +14,8 @@ use Rattle.ngc_certificate_text.specs.declared.lines.MotionLine.{MotionLine}
 use Rattle.ngc_certificate_text.specs.declared.told.Version.TheVariants.{One, Two}
 use Rattle.ngc_certificate_text.specs.Certificate.{INDEX_LIMIT, PIECE_LIMIT, MOTION_LIMIT}
 use Rattle.ngc_certificate_text.specs.Clamped.{clamped, at_most_eight}
-use Rattle.ngc_certificate_text.specs.EntryLines.{version_said, motion_counts, counts_said, may_come, three_counts, of_setting, entry_in, entry_said}
-use Rattle.ngc_certificate_text.specs.Lines.{numbers_in, numbers_behind, is_count, ranged, two_counts}
+use Rattle.ngc_certificate_text.specs.EntryLines.{parsed_version, motion_counts, parsed_counts, may_still_follow, three_counts, of_setting, entry_in, parsed_entry}
+use Rattle.ngc_certificate_text.specs.Lines.{numbers_in, numbers_in_rest, is_count, ranged, two_counts}
 use Rattle.ngc_certificate_text.specs.Number.{fields}
 use Rattle.ngc_certificate_text.specs.Parts.{motion_of, both_of}
 use Rattle.ngc_certificate_text.proofs.NumbersOutOfRange.{same_count, ranged_same}
@@ -32,18 +32,18 @@ version_or c d e f = rw (e, f) refl
 version_else : (c d : Bool) → c ≡ false → d ≡ false → Err Spelling ≡ (if c then Ok One else if d then Ok Two else Err Spelling)
 version_else c d e f = rw (e, f) refl
 
-pub version_one : (line : List ℕ) (b : Bool) → b ≡ bytes_eq line (codes "ngc-certificate 1") → b ≡ true → Ok One ≡ version_said line
-unfolding version_said
+pub version_one : (line : List ℕ) (b : Bool) → b ≡ bytes_eq line (codes "ngc-certificate 1") → b ≡ true → Ok One ≡ parsed_version line
+unfolding parsed_version
 version_one line b is h = version_by (bytes_eq line (codes "ngc-certificate 1")) (bytes_eq line (codes "ngc-certificate 2")) (sym is ∙ h)
 
 pub version_two : (line : List ℕ) (b d : Bool) → b ≡ bytes_eq line (codes "ngc-certificate 1") → b ≡ false → d ≡ bytes_eq line (codes "ngc-certificate 2") →
-    d ≡ true → Ok Two ≡ version_said line
-unfolding version_said
+    d ≡ true → Ok Two ≡ parsed_version line
+unfolding parsed_version
 version_two line b d is h dis k = version_or (bytes_eq line (codes "ngc-certificate 1")) (bytes_eq line (codes "ngc-certificate 2")) (sym is ∙ h) (sym dis ∙ k)
 
 pub version_none : (line : List ℕ) (b d : Bool) → b ≡ bytes_eq line (codes "ngc-certificate 1") → b ≡ false → d ≡ bytes_eq line (codes "ngc-certificate 2") →
-    d ≡ false → Err Spelling ≡ version_said line
-unfolding version_said
+    d ≡ false → Err Spelling ≡ parsed_version line
+unfolding parsed_version
 version_none line b d is h dis k =
     version_else (bytes_eq line (codes "ngc-certificate 1")) (bytes_eq line (codes "ngc-certificate 2")) (sym is ∙ h) (sym dis ∙ k)
 
@@ -51,18 +51,18 @@ version_none line b d is h dis k =
 
 pub counts_word : (line word : List ℕ) (fs : List (List ℕ)) (b : Bool) (found : Result CountsLine LineFlaw) → fields line ≡ word ∷ fs →
     b ≡ bytes_eq word (codes "motions") → b ≡ true
-    → found ≡ motion_counts (numbers_in fs) → found ≡ counts_said line
-unfolding counts_said
+    → found ≡ motion_counts (numbers_in fs) → found ≡ parsed_counts line
+unfolding parsed_counts
 counts_word line word fs b found e is h said =
     said ∙ ap motion_counts (sym (word_is (bytes_eq word (codes "motions")) (numbers_in fs) (sym is ∙ h)))
-    ∙ ap (λ (l : List (List ℕ)). motion_counts (numbers_behind (codes "motions" ∷ []) l)) (sym e)
+    ∙ ap (λ (l : List (List ℕ)). motion_counts (numbers_in_rest (codes "motions" ∷ []) l)) (sym e)
 
 pub counts_not_word : (line word : List ℕ) (fs : List (List ℕ)) (b : Bool) → fields line ≡ word ∷ fs → b ≡ bytes_eq word (codes "motions") → b ≡ false →
-    Err Spelling ≡ counts_said line
-unfolding counts_said
+    Err Spelling ≡ parsed_counts line
+unfolding parsed_counts
 counts_not_word line word fs b e is h =
     ap motion_counts (sym (word_not (bytes_eq word (codes "motions")) (numbers_in fs) (sym is ∙ h)))
-    ∙ ap (λ (l : List (List ℕ)). motion_counts (numbers_behind (codes "motions" ∷ []) l)) (sym e)
+    ∙ ap (λ (l : List (List ℕ)). motion_counts (numbers_in_rest (codes "motions" ∷ []) l)) (sym e)
 
 -- ---- entries
 
@@ -84,56 +84,56 @@ entry_none c d f x y z w e g h = rw (e, g, h) refl
 tested : (word name : List ℕ) (may m b c : Bool) → m ≡ may → b ≡ (bytes_eq word name && m) → b ≡ c → (bytes_eq word name && may) ≡ c
 tested word name may m b c e is h = ap (λ (x : Bool). bytes_eq word name && x) (sym e) ∙ sym is ∙ h
 
-module _ (left : EntriesLeft) (line word : List ℕ) (fs : List (List ℕ)) (is : fields line ≡ word ∷ fs) (mb b : Bool) (eb : mb ≡ may_come left (Both 0 0))
+module _ (left : RemainingEntries) (line word : List ℕ) (fs : List (List ℕ)) (is : fields line ≡ word ∷ fs) (mb b : Bool) (eb : mb ≡ may_still_follow left (Both 0 0))
     (tb : b ≡ (bytes_eq word (codes "both") && mb)) where
   abbrev both_in : Bool
-  both_in = bytes_eq word (codes "both") && may_come left (Both 0 0)
+  both_in = bytes_eq word (codes "both") && may_still_follow left (Both 0 0)
 
   abbrev off_in : Bool
-  off_in = bytes_eq word (codes "off") && may_come left (Off 0)
+  off_in = bytes_eq word (codes "off") && may_still_follow left (Off 0)
 
   abbrev on_in : Bool
-  on_in = bytes_eq word (codes "on") && may_come left (On 0)
+  on_in = bytes_eq word (codes "on") && may_still_follow left (On 0)
 
-  pub entry_both : (found : Result EntryLine LineFlaw) → b ≡ true → found ≡ three_counts (numbers_in fs) → found ≡ entry_said left line
-  unfolding entry_said
+  pub entry_both : (found : Result EntryLine LineFlaw) → b ≡ true → found ≡ three_counts (numbers_in fs) → found ≡ parsed_entry left line
+  unfolding parsed_entry
   entry_both found h said =
       said ∙ entry_by both_in off_in on_in (three_counts (numbers_in fs)) (of_setting Off (two_counts (numbers_in fs)))
       (of_setting On (two_counts (numbers_in fs))) (Err Spelling)
-      (tested word (codes "both") (may_come left (Both 0 0)) mb b true eb tb h) ∙ ap (entry_in left) (sym is)
+      (tested word (codes "both") (may_still_follow left (Both 0 0)) mb b true eb tb h) ∙ ap (entry_in left) (sym is)
 
-  pub entry_off : (mo c : Bool) → mo ≡ may_come left (Off 0) → c ≡ (bytes_eq word (codes "off") && mo) →
+  pub entry_off : (mo c : Bool) → mo ≡ may_still_follow left (Off 0) → c ≡ (bytes_eq word (codes "off") && mo) →
       (motion : Result MotionLine LineFlaw) (found : Result EntryLine LineFlaw) → b ≡ false → c ≡ true
-      → motion ≡ two_counts (numbers_in fs) → found ≡ of_setting Off motion → found ≡ entry_said left line
-  unfolding entry_said
+      → motion ≡ two_counts (numbers_in fs) → found ≡ of_setting Off motion → found ≡ parsed_entry left line
+  unfolding parsed_entry
   entry_off mo c eo to motion found h k said of =
       of ∙ ap (of_setting Off) said
       ∙ entry_or both_in off_in on_in (three_counts (numbers_in fs)) (of_setting Off (two_counts (numbers_in fs))) (of_setting On (two_counts (numbers_in fs)))
       (Err Spelling)
-      (tested word (codes "both") (may_come left (Both 0 0)) mb b false eb tb h) (tested word (codes "off") (may_come left (Off 0)) mo c true eo to k)
+      (tested word (codes "both") (may_still_follow left (Both 0 0)) mb b false eb tb h) (tested word (codes "off") (may_still_follow left (Off 0)) mo c true eo to k)
       ∙ ap (entry_in left) (sym is)
 
-  pub entry_on : (mo c : Bool) → mo ≡ may_come left (Off 0) → c ≡ (bytes_eq word (codes "off") && mo) → (mn d : Bool) → mn ≡ may_come left (On 0) →
+  pub entry_on : (mo c : Bool) → mo ≡ may_still_follow left (Off 0) → c ≡ (bytes_eq word (codes "off") && mo) → (mn d : Bool) → mn ≡ may_still_follow left (On 0) →
       d ≡ (bytes_eq word (codes "on") && mn)
       → (motion : Result MotionLine LineFlaw) (found : Result EntryLine LineFlaw) → b ≡ false → c ≡ false → d ≡ true
-      → motion ≡ two_counts (numbers_in fs) → found ≡ of_setting On motion → found ≡ entry_said left line
-  unfolding entry_said
+      → motion ≡ two_counts (numbers_in fs) → found ≡ of_setting On motion → found ≡ parsed_entry left line
+  unfolding parsed_entry
   entry_on mo c eo to mn d en tn motion found h k l said of =
       of ∙ ap (of_setting On) said
       ∙ entry_or_else both_in off_in on_in (three_counts (numbers_in fs)) (of_setting Off (two_counts (numbers_in fs)))
       (of_setting On (two_counts (numbers_in fs))) (Err Spelling)
-      (tested word (codes "both") (may_come left (Both 0 0)) mb b false eb tb h) (tested word (codes "off") (may_come left (Off 0)) mo c false eo to k)
-      (tested word (codes "on") (may_come left (On 0)) mn d true en tn l) ∙ ap (entry_in left) (sym is)
+      (tested word (codes "both") (may_still_follow left (Both 0 0)) mb b false eb tb h) (tested word (codes "off") (may_still_follow left (Off 0)) mo c false eo to k)
+      (tested word (codes "on") (may_still_follow left (On 0)) mn d true en tn l) ∙ ap (entry_in left) (sym is)
 
-  pub entry_no_word : (mo c : Bool) → mo ≡ may_come left (Off 0) → c ≡ (bytes_eq word (codes "off") && mo) → (mn d : Bool) → mn ≡ may_come left (On 0) →
+  pub entry_no_word : (mo c : Bool) → mo ≡ may_still_follow left (Off 0) → c ≡ (bytes_eq word (codes "off") && mo) → (mn d : Bool) → mn ≡ may_still_follow left (On 0) →
       d ≡ (bytes_eq word (codes "on") && mn) → b ≡ false → c ≡ false → d ≡ false
-      → Err Spelling ≡ entry_said left line
-  unfolding entry_said
+      → Err Spelling ≡ parsed_entry left line
+  unfolding parsed_entry
   entry_no_word mo c eo to mn d en tn h k l =
       entry_none both_in off_in on_in (three_counts (numbers_in fs)) (of_setting Off (two_counts (numbers_in fs))) (of_setting On (two_counts (numbers_in fs)))
       (Err Spelling)
-      (tested word (codes "both") (may_come left (Both 0 0)) mb b false eb tb h) (tested word (codes "off") (may_come left (Off 0)) mo c false eo to k)
-      (tested word (codes "on") (may_come left (On 0)) mn d false en tn l) ∙ ap (entry_in left) (sym is)
+      (tested word (codes "both") (may_still_follow left (Both 0 0)) mb b false eb tb h) (tested word (codes "off") (may_still_follow left (Off 0)) mo c false eo to k)
+      (tested word (codes "on") (may_still_follow left (On 0)) mn d false en tn l) ∙ ap (entry_in left) (sym is)
 
 -- ---- three numbers
 

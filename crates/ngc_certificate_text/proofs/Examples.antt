@@ -6,23 +6,23 @@ use Rattle.ngc_fixed_length.specs.declared.points.StepPos.{StepPos}
 use Rattle.ngc_certificate_text.specs.declared.fault.CertificateFault.TheVariants.{WrongHeader, BadLine, OutOfRange}
 use Rattle.ngc_certificate_text.specs.declared.piece.Cut.TheVariants.{Part}
 use Rattle.ngc_certificate_text.specs.Number.{number_in}
-use Rattle.ngc_certificate_text.specs.Lines.{numbers_in, setting_said, motion_said, piece_said, end_said}
+use Rattle.ngc_certificate_text.specs.Lines.{numbers_in, parsed_setting, parsed_motion, parsed_piece, parsed_end}
 use Rattle.ngc_certificate_text.specs.declared.expected.Indices.TheVariants.{Both, Off, On}
 use Rattle.ngc_certificate_text.specs.declared.piece.Piece.{Piece}
-use Rattle.ngc_certificate_text.specs.EntryLines.{version_said, counts_said, entry_said}
+use Rattle.ngc_certificate_text.specs.EntryLines.{parsed_version, parsed_counts, parsed_entry}
 use Rattle.ngc_certificate_text.specs.Joined.{Joined}
-use Rattle.ngc_certificate_text.specs.Said.{line_at, several, entry_at, setting_at, settings_at, item_at, items_at, joined_at, form_said, certificate_said}
+use Rattle.ngc_certificate_text.specs.Said.{line_at, several, entry_at, setting_at, settings_at, item_at, items_at, joined_at, parsed_form, parsed_certificate}
 
 -- a certificate with nothing to move
-nothing : certificate_said (codes "ngc-certificate 1\nsetting off 0\nsetting on 0\nend\n") ≡ Ok (record { off = []; on = [] })
-unfolding certificate_said form_said version_said settings_at setting_at line_at several end_said setting_said numbers_in number_in
+nothing : parsed_certificate (codes "ngc-certificate 1\nsetting off 0\nsetting on 0\nend\n") ≡ Ok (record { off = []; on = [] })
+unfolding parsed_certificate parsed_form parsed_version settings_at setting_at line_at several parsed_end parsed_setting numbers_in number_in
 nothing = refl
 
 box : StepPos → StepPos → GridBox
 box low high = record { low = low; high = high }
 
 -- a line of one piece, at one setting
-one_line : certificate_said (codes "ngc-certificate 1\nsetting off 1\nmotion 7 1\nline 65536 0 -1 2 0 0 3\nsetting on 0\nend\n")
+one_line : parsed_certificate (codes "ngc-certificate 1\nsetting off 1\nmotion 7 1\nline 65536 0 -1 2 0 0 3\nsetting on 0\nend\n")
     ≡ Ok (record {
       off = record {
         index = 7;
@@ -31,50 +31,50 @@ one_line : certificate_said (codes "ngc-certificate 1\nsetting off 1\nmotion 7 1
       } ∷ [];
       on = [];
     })
-unfolding certificate_said form_said version_said settings_at setting_at line_at several entry_at end_said setting_said motion_said piece_said numbers_in
+unfolding parsed_certificate parsed_form parsed_version settings_at setting_at line_at several entry_at parsed_end parsed_setting parsed_motion parsed_piece numbers_in
     number_in box
 one_line = refl
 
-version_three : certificate_said (codes "ngc-certificate 3\nsetting off 0\nsetting on 0\nend\n") ≡ Err WrongHeader
-unfolding certificate_said form_said version_said
+version_three : parsed_certificate (codes "ngc-certificate 3\nsetting off 0\nsetting on 0\nend\n") ≡ Err WrongHeader
+unfolding parsed_certificate parsed_form parsed_version
 version_three = refl
 
 -- the first line lacks its line feed
-header_alone : certificate_said (codes "ngc-certificate 1") ≡ Err WrongHeader
-unfolding certificate_said form_said version_said
+header_alone : parsed_certificate (codes "ngc-certificate 1") ≡ Err WrongHeader
+unfolding parsed_certificate parsed_form parsed_version
 header_alone = refl
 
 -- a line is missing, and the last one lacks its line feed
-cut_off : certificate_said (codes "ngc-certificate 1\nsetting off 0\n") ≡ Err (BadLine 3)
-unfolding certificate_said form_said version_said settings_at setting_at line_at several setting_said numbers_in number_in
+cut_off : parsed_certificate (codes "ngc-certificate 1\nsetting off 0\n") ≡ Err (BadLine 3)
+unfolding parsed_certificate parsed_form parsed_version settings_at setting_at line_at several parsed_setting numbers_in number_in
 cut_off = refl
 
-no_line_feed : certificate_said (codes "ngc-certificate 1\nsetting off 0\nsetting on 0\nend") ≡ Err (BadLine 4)
-unfolding certificate_said form_said version_said settings_at setting_at line_at several end_said setting_said numbers_in number_in
+no_line_feed : parsed_certificate (codes "ngc-certificate 1\nsetting off 0\nsetting on 0\nend") ≡ Err (BadLine 4)
+unfolding parsed_certificate parsed_form parsed_version settings_at setting_at line_at several parsed_end parsed_setting numbers_in number_in
 no_line_feed = refl
 
 -- a byte after the end
-more : certificate_said (codes "ngc-certificate 1\nsetting off 0\nsetting on 0\nend\n\n") ≡ Err (BadLine 5)
-unfolding certificate_said form_said version_said settings_at setting_at line_at several end_said setting_said numbers_in number_in
+more : parsed_certificate (codes "ngc-certificate 1\nsetting off 0\nsetting on 0\nend\n\n") ≡ Err (BadLine 5)
+unfolding parsed_certificate parsed_form parsed_version settings_at setting_at line_at several parsed_end parsed_setting numbers_in number_in
 more = refl
 
 -- a count below zero is a number out of range, and a leading zero is written wrong
-below_zero : certificate_said (codes "ngc-certificate 1\nsetting off -3\n") ≡ Err (OutOfRange 2)
-unfolding certificate_said form_said version_said settings_at setting_at line_at several setting_said numbers_in number_in
+below_zero : parsed_certificate (codes "ngc-certificate 1\nsetting off -3\n") ≡ Err (OutOfRange 2)
+unfolding parsed_certificate parsed_form parsed_version settings_at setting_at line_at several parsed_setting numbers_in number_in
 below_zero = refl
 
-zero_in_front : certificate_said (codes "ngc-certificate 1\nsetting off 03\n") ≡ Err (BadLine 2)
-unfolding certificate_said form_said version_said settings_at setting_at line_at several setting_said numbers_in number_in
+zero_in_front : parsed_certificate (codes "ngc-certificate 1\nsetting off 03\n") ≡ Err (BadLine 2)
+unfolding parsed_certificate parsed_form parsed_version settings_at setting_at line_at several parsed_setting numbers_in number_in
 zero_in_front = refl
 
 -- within a line a wrong text takes precedence over a wrong range
-out_and_wrong : certificate_said (codes "ngc-certificate 1\nsetting off 1\nmotion 1000000 -0\n") ≡ Err (BadLine 3)
-unfolding certificate_said form_said version_said settings_at setting_at line_at several entry_at setting_said motion_said numbers_in number_in
+out_and_wrong : parsed_certificate (codes "ngc-certificate 1\nsetting off 1\nmotion 1000000 -0\n") ≡ Err (BadLine 3)
+unfolding parsed_certificate parsed_form parsed_version settings_at setting_at line_at several entry_at parsed_setting parsed_motion numbers_in number_in
 out_and_wrong = refl
 
 -- a box whose low corner is above its high corner
-inside_out : certificate_said (codes "ngc-certificate 1\nsetting off 1\nmotion 0 1\narc 0 0 1 0 0 0 0 0\n") ≡ Err (OutOfRange 4)
-unfolding certificate_said form_said version_said settings_at setting_at line_at several entry_at setting_said motion_said piece_said numbers_in number_in
+inside_out : parsed_certificate (codes "ngc-certificate 1\nsetting off 1\nmotion 0 1\narc 0 0 1 0 0 0 0 0\n") ≡ Err (OutOfRange 4)
+unfolding parsed_certificate parsed_form parsed_version settings_at setting_at line_at several entry_at parsed_setting parsed_motion parsed_piece numbers_in number_in
 inside_out = refl
 
 -- ---- version 2
@@ -86,16 +86,16 @@ whole : StepPos → StepPos → Piece
 whole low high = record { end = Part 65536; bounds = record { low = low; high = high } }
 
 -- a line at both settings
-both_settings : form_said (codes "ngc-certificate 2\nmotions 1 1\nboth 0 0 1\nline 65536 0 0 0 3 0 0\nend\n")
+both_settings : parsed_form (codes "ngc-certificate 2\nmotions 1 1\nboth 0 0 1\nline 65536 0 0 0 3 0 0\nend\n")
     ≡ Ok (Joined (record { indices = Both 0 0; pieces = whole (point 0 0 0) (point 3 0 0) ∷ [] } ∷ []))
-unfolding form_said version_said joined_at line_at several items_at item_at counts_said entry_said piece_said end_said numbers_in number_in whole point
+unfolding parsed_form parsed_version joined_at line_at several items_at item_at parsed_counts parsed_entry parsed_piece parsed_end numbers_in number_in whole point
 both_settings = refl
 
 -- the same motions in version 1's words
-both_expanded : certificate_said (codes "ngc-certificate 2\nmotions 1 1\nboth 0 0 1\nline 65536 0 0 0 3 0 0\nend\n")
-    ≡ certificate_said (codes "ngc-certificate 1\nsetting off 1\nmotion 0 1\nline 65536 0 0 0 3 0 0\nsetting on 1\nmotion 0 1\nline 65536 0 0 0 3 0 0\nend\n")
-unfolding certificate_said form_said version_said settings_at setting_at entry_at setting_said motion_said joined_at line_at several items_at item_at
-    counts_said entry_said piece_said end_said numbers_in number_in
+both_expanded : parsed_certificate (codes "ngc-certificate 2\nmotions 1 1\nboth 0 0 1\nline 65536 0 0 0 3 0 0\nend\n")
+    ≡ parsed_certificate (codes "ngc-certificate 1\nsetting off 1\nmotion 0 1\nline 65536 0 0 0 3 0 0\nsetting on 1\nmotion 0 1\nline 65536 0 0 0 3 0 0\nend\n")
+unfolding parsed_certificate parsed_form parsed_version settings_at setting_at entry_at parsed_setting parsed_motion joined_at line_at several items_at item_at
+    parsed_counts parsed_entry parsed_piece parsed_end numbers_in number_in
 both_expanded = refl
 
 -- the second line of the program begins with `/`, so its third line starts elsewhere at `on`
@@ -105,7 +105,7 @@ low_end = record { x = pos 3; y = pos 2; z = negsuc 0 }
 low_start : StepPos
 low_start = record { x = pos 3; y = pos 0; z = negsuc 0 }
 
-parted_paths : form_said
+parted_paths : parsed_form
     (codes "ngc-certificate 2\nmotions 3 2\nboth 0 0 1\nline 65536 0 0 0 3 0 0\noff 1 1\nline 65536 3 0 0 3 2 0\noff 2 1\nline 65536 3 2 -1 3 2 0\non 1 1\nline 65536 3 0 -1 3 0 0\nend\n")
     ≡ Ok (Joined (
     record { indices = Both 0 0; pieces = whole (point 0 0 0) (point 3 0 0) ∷ [] }
@@ -113,52 +113,52 @@ parted_paths : form_said
     ∷ record { indices = Off 2; pieces = whole low_end (point 3 2 0) ∷ [] }
     ∷ record { indices = On 1; pieces = whole low_start (point 3 0 0) ∷ [] } ∷ []
     ))
-unfolding form_said version_said joined_at line_at several items_at item_at counts_said entry_said piece_said end_said numbers_in number_in whole point
+unfolding parsed_form parsed_version joined_at line_at several items_at item_at parsed_counts parsed_entry parsed_piece parsed_end numbers_in number_in whole point
     low_end low_start
 parted_paths = refl
 
 -- a motion of `on` is missing
-one_short : form_said
+one_short : parsed_form
     (codes "ngc-certificate 2\nmotions 3 2\nboth 0 0 1\nline 65536 0 0 0 3 0 0\noff 1 1\nline 65536 3 0 0 3 2 0\noff 2 1\nline 65536 3 2 -1 3 2 0\nend\n")
     ≡ Err (BadLine 9)
-unfolding form_said version_said joined_at line_at several items_at item_at counts_said entry_said piece_said end_said numbers_in number_in
+unfolding parsed_form parsed_version joined_at line_at several items_at item_at parsed_counts parsed_entry parsed_piece parsed_end numbers_in number_in
 one_short = refl
 
 -- one motion more than declared
-one_more : form_said (codes "ngc-certificate 2\nmotions 0 1\noff 0 1\nline 65536 0 0 0 3 0 0\n") ≡ Err (BadLine 3)
-unfolding form_said version_said joined_at line_at several items_at item_at counts_said entry_said piece_said numbers_in number_in
+one_more : parsed_form (codes "ngc-certificate 2\nmotions 0 1\noff 0 1\nline 65536 0 0 0 3 0 0\n") ≡ Err (BadLine 3)
+unfolding parsed_form parsed_version joined_at line_at several items_at item_at parsed_counts parsed_entry parsed_piece numbers_in number_in
 one_more = refl
 
 -- an entry of `off` alone directly after one of `on` alone
-off_behind_on : form_said (codes "ngc-certificate 2\nmotions 2 2\non 0 1\nline 65536 0 0 0 3 0 0\noff 0 1\nline 65536 0 0 0 3 0 0\n") ≡ Err (BadLine 5)
-unfolding form_said version_said joined_at line_at several items_at item_at counts_said entry_said piece_said numbers_in number_in
+off_behind_on : parsed_form (codes "ngc-certificate 2\nmotions 2 2\non 0 1\nline 65536 0 0 0 3 0 0\noff 0 1\nline 65536 0 0 0 3 0 0\n") ≡ Err (BadLine 5)
+unfolding parsed_form parsed_version joined_at line_at several items_at item_at parsed_counts parsed_entry parsed_piece numbers_in number_in
 off_behind_on = refl
 
 -- the same after the last motion of `on`
-last_on_first : form_said (codes "ngc-certificate 2\nmotions 1 1\non 0 1\nline 65536 0 0 0 3 0 0\noff 0 1\nline 65536 0 0 0 3 0 0\nend\n") ≡ Err (BadLine 5)
-unfolding form_said version_said joined_at line_at several items_at item_at counts_said entry_said piece_said numbers_in number_in
+last_on_first : parsed_form (codes "ngc-certificate 2\nmotions 1 1\non 0 1\nline 65536 0 0 0 3 0 0\noff 0 1\nline 65536 0 0 0 3 0 0\nend\n") ≡ Err (BadLine 5)
+unfolding parsed_form parsed_version joined_at line_at several items_at item_at parsed_counts parsed_entry parsed_piece numbers_in number_in
 last_on_first = refl
 
 -- an earlier fault takes precedence
-out_before : form_said (codes "ngc-certificate 2\nmotions 1 1\non 0 1\nline 70000 0 0 0 3 0 0\noff 0 1\n") ≡ Err (OutOfRange 4)
-unfolding form_said version_said joined_at line_at several items_at item_at counts_said entry_said piece_said numbers_in number_in
+out_before : parsed_form (codes "ngc-certificate 2\nmotions 1 1\non 0 1\nline 70000 0 0 0 3 0 0\noff 0 1\n") ≡ Err (OutOfRange 4)
+unfolding parsed_form parsed_version joined_at line_at several items_at item_at parsed_counts parsed_entry parsed_piece numbers_in number_in
 out_before = refl
 
 -- motions of `off` are missing
-off_missing : form_said (codes "ngc-certificate 2\nmotions 1 1\non 0 1\nline 65536 0 0 0 3 0 0\n") ≡ Err (BadLine 5)
-unfolding form_said version_said joined_at line_at several items_at item_at counts_said entry_said piece_said numbers_in number_in
+off_missing : parsed_form (codes "ngc-certificate 2\nmotions 1 1\non 0 1\nline 65536 0 0 0 3 0 0\n") ≡ Err (BadLine 5)
+unfolding parsed_form parsed_version joined_at line_at several items_at item_at parsed_counts parsed_entry parsed_piece numbers_in number_in
 off_missing = refl
 
 -- ranges
-index_out : form_said (codes "ngc-certificate 2\nmotions 1 1\nboth 0 1000000 1\n") ≡ Err (OutOfRange 3)
-unfolding form_said version_said joined_at line_at several items_at item_at counts_said entry_said numbers_in number_in
+index_out : parsed_form (codes "ngc-certificate 2\nmotions 1 1\nboth 0 1000000 1\n") ≡ Err (OutOfRange 3)
+unfolding parsed_form parsed_version joined_at line_at several items_at item_at parsed_counts parsed_entry numbers_in number_in
 index_out = refl
 
-counts_out : form_said (codes "ngc-certificate 2\nmotions 0 1000001\n") ≡ Err (OutOfRange 2)
-unfolding form_said version_said joined_at line_at counts_said numbers_in number_in
+counts_out : parsed_form (codes "ngc-certificate 2\nmotions 0 1000001\n") ≡ Err (OutOfRange 2)
+unfolding parsed_form parsed_version joined_at line_at parsed_counts numbers_in number_in
 counts_out = refl
 
 -- within a line a wrong text takes precedence over a wrong range
-out_and_used_up : form_said (codes "ngc-certificate 2\nmotions 0 1\nboth 0 1000000 1\n") ≡ Err (BadLine 3)
-unfolding form_said version_said joined_at line_at several items_at item_at counts_said entry_said numbers_in number_in
+out_and_used_up : parsed_form (codes "ngc-certificate 2\nmotions 0 1\nboth 0 1000000 1\n") ≡ Err (BadLine 3)
+unfolding parsed_form parsed_version joined_at line_at several items_at item_at parsed_counts parsed_entry numbers_in number_in
 out_and_used_up = refl

@@ -10,9 +10,9 @@ use Rattle.std.proofs.lemmas.Bool.{and_from, and_parts}
 use Rattle.std.proofs.lemmas.List.Folds.{list_all-append}
 use Rattle.std.proofs.lemmas.List.Splits.{join_with_byte-slice_split}
 use Rattle.std.proofs.lemmas.Slice.Eq.{bytes_eq-Decides}
-use Rattle.ngc_text.proofs.Splits.{lacks, split_joined}
+use Rattle.ngc_text.proofs.SplitTexts.{lacks, split_joined}
 use Rattle.ngc_certificate_text.specs.Number.{fields, number_in}
-use Rattle.ngc_certificate_text.specs.Lines.{numbers_in, numbers_behind}
+use Rattle.ngc_certificate_text.specs.Lines.{numbers_in, numbers_in_rest}
 use Rattle.ngc_certificate_text.proofs.SignedNumbers.{signed_lacks, number_in-signed, number_spelled}
 
 pub joined_split : (s : ℕ) (text : List ℕ) → join_with_byte s (slice_split (λ b. b == s) text) ≡ text
@@ -73,7 +73,7 @@ same_bytes xs = (bytes_eq-Decides xs xs).1 refl
 pub bytes_same : (xs ys : List ℕ) → bytes_eq xs ys ≡ true → xs ≡ ys
 bytes_same xs ys h = (bytes_eq-Decides xs ys).0 h
 
-pub behind_words : (ws fs : List (List ℕ)) → numbers_behind ws (ws ++ fs) ≡ numbers_in fs
+pub behind_words : (ws fs : List (List ℕ)) → numbers_in_rest ws (ws ++ fs) ≡ numbers_in fs
 behind_words [] fs = refl
 behind_words (w ∷ ws) fs = rw (same_bytes w) (behind_words ws fs)
 
@@ -87,11 +87,11 @@ pub record WordsFirst (ws fs : List (List ℕ)) (zs : List ℤ) : Type 0 where
   pub is : fs ≡ ws ++ rest
   pub numbers : numbers_in rest ≡ Some zs
 
-pub words_first : (ws fs : List (List ℕ)) (zs : List ℤ) → numbers_behind ws fs ≡ Some zs → WordsFirst ws fs zs
+pub words_first : (ws fs : List (List ℕ)) (zs : List ℤ) → numbers_in_rest ws fs ≡ Some zs → WordsFirst ws fs zs
 words_first [] fs zs h = record { rest = fs; is = refl; numbers = h }
 words_first (w ∷ ws) [] zs h = absurd (cc h)
 words_first (w ∷ ws) (f ∷ fs) zs h =
-    let first = word_first (bytes_eq f w) (numbers_behind ws fs) zs h in
+    let first = word_first (bytes_eq f w) (numbers_in_rest ws fs) zs h in
     let more = words_first ws fs zs first.1 in
     record { rest = more.rest; is = ap (λ (x : List ℕ). x ∷ fs) (bytes_same f w first.0) ∙ ap (λ (l : List (List ℕ)). w ∷ l) more.is; numbers = more.numbers }
 
@@ -111,12 +111,12 @@ line_fields w ws zs words small =
 
 -- the numbers of a line with this text
 pub line_numbers : (w : List ℕ) (ws : List (List ℕ)) (zs : List ℤ) → list_all (lacks 32) (w ∷ ws) ≡ true → AreSmall zs
-    → numbers_behind (w ∷ ws) (fields (line_text w ws zs)) ≡ Some zs
+    → numbers_in_rest (w ∷ ws) (fields (line_text w ws zs)) ≡ Some zs
 line_numbers w ws zs words small =
-    ap (numbers_behind (w ∷ ws)) (line_fields w ws zs words small) ∙ behind_words (w ∷ ws) (map signed_decimal zs) ∙ numbers_in-signed zs small
+    ap (numbers_in_rest (w ∷ ws)) (line_fields w ws zs words small) ∙ behind_words (w ∷ ws) (map signed_decimal zs) ∙ numbers_in-signed zs small
 
 -- a line with these numbers after the words has this text
-pub line_spelled : (w : List ℕ) (ws : List (List ℕ)) (zs : List ℤ) (line : List ℕ) → numbers_behind (w ∷ ws) (fields line) ≡ Some zs → AreSmall zs →
+pub line_spelled : (w : List ℕ) (ws : List (List ℕ)) (zs : List ℤ) (line : List ℕ) → numbers_in_rest (w ∷ ws) (fields line) ≡ Some zs → AreSmall zs →
     line ≡ line_text w ws zs
 line_spelled w ws zs line h small =
     let first = words_first (w ∷ ws) (fields line) zs h in

@@ -126,9 +126,9 @@ joined_are (suc n) (a ∷ off) (b ∷ on) h k =
     (item_both a b (All-head IsEntry a off h) (All-head IsEntry b on k))
     (joined_are n off on (All-tail IsEntry a off h) (All-tail IsEntry b on k))
 
-on_in_order : (behind_on : Bool) (on : List Entry) → in_order behind_on (map (item_of settings.On) on) ≡ true
-on_in_order behind_on [] = refl
-on_in_order behind_on (b ∷ on) = on_in_order true on
+on_in_order : (after_on : Bool) (on : List Entry) → in_order after_on (map (item_of settings.On) on) ≡ true
+on_in_order after_on [] = refl
+on_in_order after_on (b ∷ on) = on_in_order true on
 
 alone_in_order : (off on : List Entry) → in_order false (alone_items off on) ≡ true
 alone_in_order [] on = on_in_order false on

@@ -10,10 +10,10 @@ use Rattle.ngc_certificate_text.specs.declared.told.Told.{Told}
 use Rattle.ngc_certificate_text.specs.Ahead.{Rest, Left, left_from, nothing_left, made_with, certificate_of, form_of_text, wrong_line}
 use Rattle.ngc_certificate_text.specs.LinesView.{left_by, IsReading}
 use Rattle.ngc_certificate_text.specs.Parted.{is_feedless, firm, firm_lines, PartsLines}
-use Rattle.ngc_certificate_text.specs.Said.{lines_of, nothing_in, certificate_said, form_said}
+use Rattle.ngc_certificate_text.specs.Said.{lines_of, nothing_in, parsed_certificate, parsed_form}
 use Rattle.ngc_certificate_text.specs.Told.{IsFront, Tells}
 use Rattle.ngc_certificate_text.proofs.LinesAhead.{HasNoLine, wrong_said, nothing_said, ended_said, two_left, one_left, begun_said, begun_form}
-use Rattle.ngc_certificate_text.proofs.Parting.{feedless_both, split_onto, only_line}
+use Rattle.ngc_certificate_text.proofs.LineSplitting.{feedless_both, split_onto, only_line}
 use Rattle.ngc_certificate_text.proofs.SpelledTexts.{some_lines}
 
 -- a line between equal rests
@@ -139,9 +139,9 @@ too_far r rest e some reading =
     ap (from r) (split_onto r.cut.items rest s.0 s.1 reading.feedless s.2)
     ∙ nothing_said r.next.expected r.next.number ((r.cut.items ++ s.0) ∷ s.1) e (some_first (r.cut.items ++ s.0) s.1 more)
 
-pub goes_too_far : (r : CertificateLines) (rest : List ℕ) → r.next.expected ≡ next.Nothing → 0 < length r.cut.items → IsReading r →
+pub has_trailing_bytes : (r : CertificateLines) (rest : List ℕ) → r.next.expected ≡ next.Nothing → 0 < length r.cut.items → IsReading r →
     left_by lines_of r rest ≡ left_by lines_of r []
-goes_too_far r rest e some reading = too_far r rest e some reading ∙ sym (too_far r [] e some reading)
+has_trailing_bytes r rest e some reading = too_far r rest e some reading ∙ sym (too_far r [] e some reading)
 
 -- ---- the beginning
 
@@ -163,17 +163,17 @@ module _ {X : Type 0} (said : List ℕ → Result X CertificateFault) (of : Rest
   begun_firm r bytes rest e f = begun r (firm_lines rest) bytes (firm bytes ++ rest) e f refl
 
 pub motions_text : (r : CertificateLines) (bytes : List ℕ) → r.next.expected ≡ next.Header → r.cut.items ≡ [] →
-    certificate_said bytes ≡ made_with certificate_of (left_by lines_of r bytes)
-motions_text r bytes e f = begun_text certificate_said certificate_of begun_said r bytes e f
+    parsed_certificate bytes ≡ made_with certificate_of (left_by lines_of r bytes)
+motions_text r bytes e f = begun_text parsed_certificate certificate_of begun_said r bytes e f
 
 pub motions_firm : (r : CertificateLines) (bytes rest : List ℕ) → r.next.expected ≡ next.Header → r.cut.items ≡ [] →
-    certificate_said (firm bytes ++ rest) ≡ made_with certificate_of (left_by (firm_lines rest) r bytes)
-motions_firm r bytes rest e f = begun_firm certificate_said certificate_of begun_said r bytes rest e f
+    parsed_certificate (firm bytes ++ rest) ≡ made_with certificate_of (left_by (firm_lines rest) r bytes)
+motions_firm r bytes rest e f = begun_firm parsed_certificate certificate_of begun_said r bytes rest e f
 
 pub form_text : (r : CertificateLines) (bytes : List ℕ) → r.next.expected ≡ next.Header → r.cut.items ≡ [] →
-    form_said bytes ≡ made_with form_of_text (left_by lines_of r bytes)
-form_text r bytes e f = begun_text form_said form_of_text begun_form r bytes e f
+    parsed_form bytes ≡ made_with form_of_text (left_by lines_of r bytes)
+form_text r bytes e f = begun_text parsed_form form_of_text begun_form r bytes e f
 
 pub form_firm : (r : CertificateLines) (bytes rest : List ℕ) → r.next.expected ≡ next.Header → r.cut.items ≡ [] →
-    form_said (firm bytes ++ rest) ≡ made_with form_of_text (left_by (firm_lines rest) r bytes)
-form_firm r bytes rest e f = begun_firm form_said form_of_text begun_form r bytes rest e f
+    parsed_form (firm bytes ++ rest) ≡ made_with form_of_text (left_by (firm_lines rest) r bytes)
+form_firm r bytes rest e f = begun_firm parsed_form form_of_text begun_form r bytes rest e f

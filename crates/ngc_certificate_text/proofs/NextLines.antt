@@ -10,11 +10,11 @@ use Rattle.ngc_certificate_text.specs.declared.expected.BegunMotion.{BegunMotion
 use Rattle.ngc_certificate_text.specs.declared.fault.CertificateFault.{CertificateFault}
 use Rattle.ngc_certificate_text.specs.declared.lines.LineFlaw.{LineFlaw}
 use Rattle.ngc_certificate_text.specs.declared.lines.LineFlaw.TheVariants.{Spelling}
-use Rattle.ngc_certificate_text.specs.declared.expected.EntriesLeft.{EntriesLeft}
+use Rattle.ngc_certificate_text.specs.declared.expected.RemainingEntries.{RemainingEntries}
 use Rattle.ngc_certificate_text.specs.declared.expected.Indices.{Indices}
 use Rattle.ngc_certificate_text.specs.declared.expected.Indices.TheVariants as of
-use Rattle.ngc_certificate_text.specs.declared.expected.MotionsLeft.{MotionsLeft}
-use Rattle.ngc_certificate_text.specs.declared.expected.MotionsLeft.TheVariants.{Parted, Joined}
+use Rattle.ngc_certificate_text.specs.declared.expected.RemainingMotions.{RemainingMotions}
+use Rattle.ngc_certificate_text.specs.declared.expected.RemainingMotions.TheVariants.{Parted, Joined}
 use Rattle.ngc_certificate_text.specs.declared.lines.CountsLine.{CountsLine}
 use Rattle.ngc_certificate_text.specs.declared.lines.EntryLine.{EntryLine}
 use Rattle.ngc_certificate_text.specs.declared.piece.Piece.{Piece}
@@ -24,28 +24,28 @@ use Rattle.ngc_certificate_text.specs.declared.told.Told.{Told}
 use Rattle.ngc_certificate_text.specs.declared.told.Told.TheVariants as tell
 use Rattle.ngc_certificate_text.specs.declared.told.Version.{Version}
 use Rattle.ngc_certificate_text.specs.declared.told.Version.TheVariants.{One, Two}
-use Rattle.ngc_certificate_text.specs.Ahead.{Rest, Left, left_from, made_with, name_of, index_at, of_version, next_of_entries, next_of_motions, motions_behind}
+use Rattle.ngc_certificate_text.specs.Ahead.{Rest, Left, left_from, made_with, name_of, index_at, of_version, next_of_entries, next_of_motions, motions_after}
 use Rattle.ngc_certificate_text.specs.Ahead.{HaveSome, go_on, is_open, wrong_line, IsSound, lines_ahead, lines_of_motions}
 use Rattle.ngc_certificate_text.specs.Certificate.{INDEX_LIMIT}
-use Rattle.ngc_certificate_text.specs.EntryLines.{version_said, counts_said, none_left, may_come, left_behind, all_left}
+use Rattle.ngc_certificate_text.specs.EntryLines.{parsed_version, parsed_counts, none_left, may_still_follow, remaining_after, all_left}
 use Rattle.ngc_certificate_text.specs.Joined.{good_indices}
-use Rattle.ngc_certificate_text.specs.Lines.{setting_said, motion_said, piece_said, end_said}
+use Rattle.ngc_certificate_text.specs.Lines.{parsed_setting, parsed_motion, parsed_piece, parsed_end}
 use Rattle.ngc_certificate_text.specs.Said.{next_number, fault_at}
-use Rattle.ngc_certificate_text.specs.Told.{onto, Fits, IsFront, behind_version, behind_piece, behind_told, left_at, taken_at, IsNext, told_with, counts_told}
-use Rattle.ngc_certificate_text.specs.Told.{any_said, motion_told, told_by, fault_of}
+use Rattle.ngc_certificate_text.specs.Told.{onto, Fits, IsFront, after_version, after_piece, after_content, left_at, taken_at, IsNext, content_with, counts_content}
+use Rattle.ngc_certificate_text.specs.Told.{parsed_motion_or_entry, motion_content, content_by, fault_of}
 use Rattle.ngc_certificate_text.proofs.LinesAhead.{begun, of_parted, header_ended, two_left, nothing_said, setting_flawed, counts_flawed, motion_flawed}
 use Rattle.ngc_certificate_text.proofs.LinesAhead.{closed_said, piece_flawed, end_flawed, header_read, header_wrong, setting_read, counts_read, motion_read, piece_read}
 use Rattle.ngc_certificate_text.proofs.LinesAhead.{last_read, end_read, left_fits, left_none}
-use Rattle.ngc_certificate_text.proofs.LeftEntries.{total, entry_spelled, counts_spelled, least, some_on}
+use Rattle.ngc_certificate_text.proofs.RemainingEntryLaws.{total, entry_spelled, counts_spelled, least, some_on}
 use Rattle.ngc_certificate_text.proofs.SpelledLines.{setting_spelled, motion_spelled, piece_spelled}
 
 -- ---- a correct line
 
-told_ok : {X : Type 0} (f : X → Told) (r : Result X LineFlaw) (told : Told) → told_with f r ≡ Ok told → (x : X) × (r ≡ Ok x) × (told ≡ f x)
+told_ok : {X : Type 0} (f : X → Told) (r : Result X LineFlaw) (told : Told) → content_with f r ≡ Ok told → (x : X) × (r ≡ Ok x) × (told ≡ f x)
 told_ok f (Ok x) told h = (x, refl, sym (cc h))
 told_ok f (Err flaw) told h = absurd (cc h)
 
-told_err : {X : Type 0} (f : X → Told) (r : Result X LineFlaw) (flaw : LineFlaw) → told_with f r ≡ Err flaw → r ≡ Err flaw
+told_err : {X : Type 0} (f : X → Told) (r : Result X LineFlaw) (flaw : LineFlaw) → content_with f r ≡ Err flaw → r ≡ Err flaw
 told_err {X} f (Ok x) flaw h = absurd (cc h)
 told_err {X} f (Err other) flaw h = let same : other ≡ flaw = cc h in ap (λ (l : LineFlaw). flawed l) same where
   flawed : LineFlaw → Result X LineFlaw
@@ -72,7 +72,7 @@ mapped (Err fault) f h = tt
 
 -- one piece of a motion
 piece_ahead : (b : BegunMotion) (last : Bool) (number : ℕ) (lines : List (List ℕ)) → 1 ≤ b.pieces_left → nat_le b.pieces_left 1 ≡ last
-    → left_from (next.Piece (record b { pieces_left = b.pieces_left - 1 })) number lines ≡ left_from (behind_piece last b) number lines
+    → left_from (next.Piece (record b { pieces_left = b.pieces_left - 1 })) number lines ≡ left_from (after_piece last b) number lines
 piece_ahead b true number lines some e =
     let none : b.pieces_left - 1 ≡ 0 = grind (arith, nat_tests) in
     last_read [] [] lines number (record b { pieces_left = b.pieces_left - 1 }) none
@@ -84,9 +84,9 @@ stopped told before (Ok r) fault front e = absurd (cc e)
 stopped told before (Err other) fault front e = front ∙ e
 
 module _ (number : ℕ) (line after : List ℕ) (left : List (List ℕ)) (short : length line ≤ 256) where
-  piece_front : (b : BegunMotion) (p : Piece) → 1 ≤ b.pieces_left → piece_said line ≡ Ok p
+  piece_front : (b : BegunMotion) (p : Piece) → 1 ≤ b.pieces_left → parsed_piece line ≡ Ok p
       → IsFront (tell.Piece b p) (left_from (next.Piece b) number (line ∷ after ∷ left))
-      (left_from (behind_told (tell.Piece b p)) (next_number number) (after ∷ left))
+      (left_from (after_content (tell.Piece b p)) (next_number number) (after ∷ left))
   piece_front b p some e =
       let one = record b { pieces_left = b.pieces_left - 1 } in
       let same = piece_ahead b (nat_le b.pieces_left 1) (next_number number) (after ∷ left) some refl in
@@ -97,93 +97,93 @@ module _ (number : ℕ) (line after : List ℕ) (left : List (List ℕ)) (short 
       (mapped (left_from (next.Piece one) (next_number number) (after ∷ left)) (λ r h. omega (arith, h, some))
       (left_fits one (next_number number) (after ∷ left))))
 
-  motion_front : (m : MotionsLeft) (e : EntryLine) → HaveSome m → any_said m line ≡ Ok e
-      → IsFront (motion_told m e) (left_from (next.Motion m) number (line ∷ after ∷ left))
-      (left_from (behind_told (motion_told m e)) (next_number number) (after ∷ left))
+  motion_front : (m : RemainingMotions) (e : EntryLine) → HaveSome m → parsed_motion_or_entry m line ≡ Ok e
+      → IsFront (motion_content m e) (left_from (next.Motion m) number (line ∷ after ∷ left))
+      (left_from (after_content (motion_content m e)) (next_number number) (after ∷ left))
   motion_front m e some h =
-      front (motion_told m e) (left_from (next.Motion m) number (line ∷ after ∷ left)) (left_from (next.Piece (begun m e)) (next_number number) (after ∷ left))
+      front (motion_content m e) (left_from (next.Motion m) number (line ∷ after ∷ left)) (left_from (next.Piece (begun m e)) (next_number number) (after ∷ left))
       (motion_read line after left number m e some short h) (left_fits (begun m e) (next_number number) (after ∷ left))
 
-  setting_front : (s : Setting) (n : ℕ) → setting_said (name_of s) line ≡ Ok n
+  setting_front : (s : Setting) (n : ℕ) → parsed_setting (name_of s) line ≡ Ok n
       → IsFront (tell.Setting s n) (left_from (next.Setting s) number (line ∷ after ∷ left))
-      (left_from (behind_told (tell.Setting s n)) (next_number number) (after ∷ left))
+      (left_from (after_content (tell.Setting s n)) (next_number number) (after ∷ left))
   setting_front s n e =
       front_same (tell.Setting s n) (left_from (next.Setting s) number (line ∷ after ∷ left))
       (left_from (next_of_motions (Parted s n)) (next_number number) (after ∷ left))
       (setting_read line after left number s n short e) (λ r. refl)
       (always (left_from (next_of_motions (Parted s n)) (next_number number) (after ∷ left)) (λ r. tt))
 
-  counts_front : (c : CountsLine) → counts_said line ≡ Ok c
-      → IsFront (counts_told c) (left_from next.Counts number (line ∷ after ∷ left))
-      (left_from (behind_told (counts_told c)) (next_number number) (after ∷ left))
+  counts_front : (c : CountsLine) → parsed_counts line ≡ Ok c
+      → IsFront (counts_content c) (left_from next.Counts number (line ∷ after ∷ left))
+      (left_from (after_content (counts_content c)) (next_number number) (after ∷ left))
   counts_front c e =
-      front_same (counts_told c) (left_from next.Counts number (line ∷ after ∷ left))
+      front_same (counts_content c) (left_from next.Counts number (line ∷ after ∷ left))
       (left_from (next_of_motions (Joined (all_left c))) (next_number number) (after ∷ left))
       (counts_read line after left number c short e) (λ r. refl)
       (always (left_from (next_of_motions (Joined (all_left c))) (next_number number) (after ∷ left)) (λ r. tt))
 
-  end_front : end_said line ≡ Ok tt →
+  end_front : parsed_end line ≡ Ok tt →
       IsFront tell.End (left_from next.End number (line ∷ after ∷ left)) (left_from next.Nothing (next_number number) (after ∷ left))
   end_front e =
       front_same tell.End (left_from next.End number (line ∷ after ∷ left)) (left_from next.Nothing (next_number number) (after ∷ left))
       (end_read line after left number short e) (λ r. refl) (left_none (next_number number) (after ∷ left))
 
-  header_front : number ≡ 1 → (v : Version) → version_said line ≡ Ok v
-      → IsFront (tell.Header v) (left_from next.Header number (line ∷ after ∷ left)) (left_from (behind_version v) (next_number number) (after ∷ left))
+  header_front : number ≡ 1 → (v : Version) → parsed_version line ≡ Ok v
+      → IsFront (tell.Header v) (left_from next.Header number (line ∷ after ∷ left)) (left_from (after_version v) (next_number number) (after ∷ left))
   header_front first v h =
       let two : 2 ≡ next_number number = ap next_number (sym first) in
-      front (tell.Header v) (left_from next.Header number (line ∷ after ∷ left)) (left_from (behind_version v) (next_number number) (after ∷ left))
+      front (tell.Header v) (left_from next.Header number (line ∷ after ∷ left)) (left_from (after_version v) (next_number number) (after ∷ left))
       (header_read line after left number v h ∙ ap (made_with (of_version v))
-      (header_ended v 2 (after ∷ left) ∙ ap (λ (n : ℕ). left_from (behind_version v) n (after ∷ left)) two))
-      (always (left_from (behind_version v) (next_number number) (after ∷ left)) (λ r. tt))
+      (header_ended v 2 (after ∷ left) ∙ ap (λ (n : ℕ). left_from (after_version v) n (after ∷ left)) two))
+      (always (left_from (after_version v) (next_number number) (after ∷ left)) (λ r. tt))
 
   -- a line that is read
-  pub told_front : (e : Expected) (told : Told) → IsSound e number → told_by e line ≡ Ok told
-      → IsFront told (left_from e number (line ∷ after ∷ left)) (left_from (behind_told told) (next_number number) (after ∷ left))
+  pub told_front : (e : Expected) (told : Told) → IsSound e number → content_by e line ≡ Ok told
+      → IsFront told (left_from e number (line ∷ after ∷ left)) (left_from (after_content told) (next_number number) (after ∷ left))
   told_front next.Header told sound h =
-      let r = told_ok tell.Header (version_said line) told h in
+      let r = told_ok tell.Header (parsed_version line) told h in
       let P : Told → Type 0 = λ t. IsFront t (left_from next.Header number (line ∷ after ∷ left))
-      (left_from (behind_told t) (next_number number) (after ∷ left)) in
+      (left_from (after_content t) (next_number number) (after ∷ left)) in
       subst P (sym r.2) (header_front (sound.first refl) r.0 r.1)
   told_front (next.Setting s) told sound h =
-      let r = told_ok (tell.Setting s) (setting_said (name_of s) line) told h in
+      let r = told_ok (tell.Setting s) (parsed_setting (name_of s) line) told h in
       let P : Told → Type 0 = λ t. IsFront t (left_from (next.Setting s) number (line ∷ after ∷ left))
-      (left_from (behind_told t) (next_number number) (after ∷ left)) in
+      (left_from (after_content t) (next_number number) (after ∷ left)) in
       subst P (sym r.2) (setting_front s r.0 r.1)
   told_front next.Counts told sound h =
-      let r = told_ok counts_told (counts_said line) told h in
+      let r = told_ok counts_content (parsed_counts line) told h in
       let P : Told → Type 0 = λ t. IsFront t (left_from next.Counts number (line ∷ after ∷ left))
-      (left_from (behind_told t) (next_number number) (after ∷ left)) in
+      (left_from (after_content t) (next_number number) (after ∷ left)) in
       subst P (sym r.2) (counts_front r.0 r.1)
   told_front (next.Motion m) told sound h =
-      let r = told_ok (motion_told m) (any_said m line) told h in
+      let r = told_ok (motion_content m) (parsed_motion_or_entry m line) told h in
       let P : Told → Type 0 = λ t. IsFront t (left_from (next.Motion m) number (line ∷ after ∷ left))
-      (left_from (behind_told t) (next_number number) (after ∷ left)) in
+      (left_from (after_content t) (next_number number) (after ∷ left)) in
       subst P (sym r.2) (motion_front m r.0 (sound.motion m refl) r.1)
   told_front (next.Piece b) told sound h =
-      let r = told_ok (tell.Piece b) (piece_said line) told h in
+      let r = told_ok (tell.Piece b) (parsed_piece line) told h in
       let P : Told → Type 0 = λ t. IsFront t (left_from (next.Piece b) number (line ∷ after ∷ left))
-      (left_from (behind_told t) (next_number number) (after ∷ left)) in
+      (left_from (after_content t) (next_number number) (after ∷ left)) in
       subst P (sym r.2) (piece_front b r.0 (sound.piece b refl) r.1)
   told_front next.End told sound h =
-      let r = told_ok (λ (x : Unit {0}). tell.End) (end_said line) told h in
+      let r = told_ok (λ (x : Unit {0}). tell.End) (parsed_end line) told h in
       let P : Told → Type 0 = λ t. IsFront t (left_from next.End number (line ∷ after ∷ left))
-      (left_from (behind_told t) (next_number number) (after ∷ left)) in
+      (left_from (after_content t) (next_number number) (after ∷ left)) in
       subst P (sym r.2) (end_front r.1)
   told_front next.Nothing told sound h = absurd (cc h)
 
   -- a line that is refused
-  pub told_refused : (e : Expected) (flaw : LineFlaw) → IsSound e number → told_by e line ≡ Err flaw →
+  pub told_refused : (e : Expected) (flaw : LineFlaw) → IsSound e number → content_by e line ≡ Err flaw →
       left_from e number (line ∷ after ∷ left) ≡ Err (fault_of e number flaw)
-  told_refused next.Header flaw sound h = header_wrong line after left number flaw (told_err tell.Header (version_said line) flaw h)
+  told_refused next.Header flaw sound h = header_wrong line after left number flaw (told_err tell.Header (parsed_version line) flaw h)
   told_refused (next.Setting s) flaw sound h =
-      setting_flawed number line after left flaw short s (told_err (tell.Setting s) (setting_said (name_of s) line) flaw h)
-  told_refused next.Counts flaw sound h = counts_flawed number line after left flaw short (told_err counts_told (counts_said line) flaw h)
+      setting_flawed number line after left flaw short s (told_err (tell.Setting s) (parsed_setting (name_of s) line) flaw h)
+  told_refused next.Counts flaw sound h = counts_flawed number line after left flaw short (told_err counts_content (parsed_counts line) flaw h)
   told_refused (next.Motion m) flaw sound h =
-      motion_flawed number line after left flaw short m (sound.motion m refl) (told_err (motion_told m) (any_said m line) flaw h)
+      motion_flawed number line after left flaw short m (sound.motion m refl) (told_err (motion_content m) (parsed_motion_or_entry m line) flaw h)
   told_refused (next.Piece b) flaw sound h =
-      piece_flawed number line after left flaw short b (sound.piece b refl) (told_err (tell.Piece b) (piece_said line) flaw h)
-  told_refused next.End flaw sound h = end_flawed number line after left flaw short (told_err (λ (x : Unit {0}). tell.End) (end_said line) flaw h)
+      piece_flawed number line after left flaw short b (sound.piece b refl) (told_err (tell.Piece b) (parsed_piece line) flaw h)
+  told_refused next.End flaw sound h = end_flawed number line after left flaw short (told_err (λ (x : Unit {0}). tell.End) (parsed_end line) flaw h)
   told_refused next.Nothing flaw sound h =
       let is : Spelling ≡ flaw = cc h in
       nothing_said next.Nothing number (line ∷ after ∷ left) refl (two_left line after left) ∙ ap (λ (l : LineFlaw). refused (fault_at number l)) is where
@@ -191,12 +191,12 @@ module _ (number : ℕ) (line after : List ℕ) (left : List (List ℕ)) (short 
         refused fault = Err fault
 
   -- a line after which none may follow
-  pub told_closed : (e : Expected) (told : Told) → IsSound e number → told_by e line ≡ Ok told → is_open (behind_told told) ≡ false →
-      left_from e number (line ∷ after ∷ left) ≡ Err (wrong_line (behind_told told) (next_number number))
+  pub told_closed : (e : Expected) (told : Told) → IsSound e number → content_by e line ≡ Ok told → is_open (after_content told) ≡ false →
+      left_from e number (line ∷ after ∷ left) ≡ Err (wrong_line (after_content told) (next_number number))
   told_closed e told sound h closed = stopped told
-      (left_from e number (line ∷ after ∷ left)) (left_from (behind_told told) (next_number number) (after ∷ left))
-      (wrong_line (behind_told told) (next_number number)) (told_front e told sound h)
-      (closed_said (behind_told told) (next_number number) (after ∷ left) closed)
+      (left_from e number (line ∷ after ∷ left)) (left_from (after_content told) (next_number number) (after ∷ left))
+      (wrong_line (after_content told) (next_number number)) (told_front e told sound h)
+      (closed_said (after_content told) (next_number number) (after ∷ left) closed)
 
 -- ---- what is expected
 
@@ -207,11 +207,11 @@ counted_parted Off n index On some = omega arith
 counted_parted On n index Off some = omega arith
 counted_parted On n index On some = omega (arith, some)
 
-counted_joined : (left : EntriesLeft) (i : Indices) (t : Setting) → may_come left i ≡ true →
-    left_at (Joined left) t ≡ left_at (Joined (left_behind left i)) t + taken_at i t
+counted_joined : (left : RemainingEntries) (i : Indices) (t : Setting) → may_still_follow left i ≡ true →
+    left_at (Joined left) t ≡ left_at (Joined (remaining_after left i)) t + taken_at i t
 counted_joined left (of.Both i j) Off h = let p = and_parts (nat_lt 0 left.off) (nat_lt 0 left.on) h in grind (arith, nat_tests, p.0)
 counted_joined left (of.Both i j) On h = let p = and_parts (nat_lt 0 left.off) (nat_lt 0 left.on) h in grind (arith, nat_tests, p.1)
-counted_joined left (of.Off i) Off h = let p = and_parts (nat_lt 0 left.off) (not left.behind_on) h in grind (arith, nat_tests, p.0)
+counted_joined left (of.Off i) Off h = let p = and_parts (nat_lt 0 left.off) (not left.after_on) h in grind (arith, nat_tests, p.0)
 counted_joined left (of.Off i) On h = omega arith
 counted_joined left (of.On j) Off h = omega arith
 counted_joined left (of.On j) On h = let some = some_on left j h in omega (arith, some)
@@ -220,11 +220,11 @@ good_index : (s : Setting) (i : ℕ) → i ≤ INDEX_LIMIT → good_indices (ind
 good_index Off i h = least i INDEX_LIMIT h
 good_index On i h = least i INDEX_LIMIT h
 
-motion_next : (m : MotionsLeft) (line : List ℕ) (e : EntryLine) → HaveSome m → any_said m line ≡ Ok e → IsNext (next.Motion m) (motion_told m e)
+motion_next : (m : RemainingMotions) (line : List ℕ) (e : EntryLine) → HaveSome m → parsed_motion_or_entry m line ≡ Ok e → IsNext (next.Motion m) (motion_content m e)
 motion_next (Parted s n) line e some h =
-    let r = of_parted s (motion_said line) e h in
+    let r = of_parted s (parsed_motion line) e h in
     let spelled = motion_spelled line r.0 r.1 in
-    let P : EntryLine → Type 0 = λ x. IsNext (next.Motion (Parted s n)) (motion_told (Parted s n) x) in
+    let P : EntryLine → Type 0 = λ x. IsNext (next.Motion (Parted s n)) (motion_content (Parted s n) x) in
     subst P r.2 (record {
       left = Parted s n;
       expected = refl;
@@ -246,44 +246,44 @@ motion_next (Joined left) line e some h =
       few = spelled.taken.few;
     }
 
-pub told_next : (e : Expected) (number : ℕ) (line : List ℕ) (told : Told) → IsSound e number → told_by e line ≡ Ok told → IsNext e told
+pub told_next : (e : Expected) (number : ℕ) (line : List ℕ) (told : Told) → IsSound e number → content_by e line ≡ Ok told → IsNext e told
 told_next next.Header number line told sound h =
-    let r = told_ok tell.Header (version_said line) told h in
+    let r = told_ok tell.Header (parsed_version line) told h in
     let P : Told → Type 0 = λ t. IsNext next.Header t in
     subst P (sym r.2) refl
 told_next (next.Setting s) number line told sound h =
-    let r = told_ok (tell.Setting s) (setting_said (name_of s) line) told h in
+    let r = told_ok (tell.Setting s) (parsed_setting (name_of s) line) told h in
     let P : Told → Type 0 = λ t. IsNext (next.Setting s) t in
     subst P (sym r.2) (refl, (setting_spelled (name_of s) line r.0 r.1).1)
 told_next next.Counts number line told sound h =
-    let r = told_ok counts_told (counts_said line) told h in
+    let r = told_ok counts_content (parsed_counts line) told h in
     let spelled = counts_spelled line r.0 r.1 in
     let P : Told → Type 0 = λ t. IsNext next.Counts t in
     subst P (sym r.2) (refl, spelled.off, spelled.on)
 told_next (next.Motion m) number line told sound h =
-    let r = told_ok (motion_told m) (any_said m line) told h in
+    let r = told_ok (motion_content m) (parsed_motion_or_entry m line) told h in
     let P : Told → Type 0 = λ t. IsNext (next.Motion m) t in
     subst P (sym r.2) (motion_next m line r.0 (sound.motion m refl) r.1)
 told_next (next.Piece b) number line told sound h =
-    let r = told_ok (tell.Piece b) (piece_said line) told h in
+    let r = told_ok (tell.Piece b) (parsed_piece line) told h in
     let P : Told → Type 0 = λ t. IsNext (next.Piece b) t in
     subst P (sym r.2) (refl, (piece_spelled line r.0 r.1).held.good)
 told_next next.End number line told sound h =
-    let r = told_ok (λ (x : Unit {0}). tell.End) (end_said line) told h in
+    let r = told_ok (λ (x : Unit {0}). tell.End) (parsed_end line) told h in
     let P : Told → Type 0 = λ t. IsNext next.End t in
     subst P (sym r.2) refl
 told_next next.Nothing number line told sound h = absurd (cc h)
 
 -- ---- the next line is sound
 
-entries_some : (left : EntriesLeft) → none_left left ≡ false → 1 ≤ total left
+entries_some : (left : RemainingEntries) → none_left left ≡ false → 1 ≤ total left
 entries_some left h = some_of left.off left.on h where
   some_of : (m n : ℕ) → ((m == 0) && (n == 0)) ≡ false → 1 ≤ m + n
   some_of zero zero h = absurd (cc h)
   some_of zero (suc n) h = omega arith
   some_of (suc m) n h = omega arith
 
-motion_sound : (m : MotionsLeft) (number : ℕ) → HaveSome m → go_on m ≡ true → IsSound (next.Motion m) number
+motion_sound : (m : RemainingMotions) (number : ℕ) → HaveSome m → go_on m ≡ true → IsSound (next.Motion m) number
 motion_sound m number some going = record {
   first = λ e. absurd (cc e);
   motion = λ k e. let same : m ≡ k = cc e in subst HaveSome same some;
@@ -292,7 +292,7 @@ motion_sound m number some going = record {
 }
 
 -- if the next line is neither the first line nor a motion nor a piece
-other_sound : (e : Expected) (number : ℕ) → (e ≡ next.Header → ⊥) → ((m : MotionsLeft) → e ≡ next.Motion m → ⊥) →
+other_sound : (e : Expected) (number : ℕ) → (e ≡ next.Header → ⊥) → ((m : RemainingMotions) → e ≡ next.Motion m → ⊥) →
     ((b : BegunMotion) → e ≡ next.Piece b → ⊥) → is_open e ≡ true
     → IsSound e number
 other_sound e number no_header no_motion no_piece going = record {
@@ -308,18 +308,18 @@ end_sound number = other_sound next.End number (λ x. cc x) (λ m x. cc x) (λ b
 setting_sound : (s : Setting) (number : ℕ) → IsSound (next.Setting s) number
 setting_sound s number = other_sound (next.Setting s) number (λ x. cc x) (λ m x. cc x) (λ b x. cc x) refl
 
-entries_sound : (b : Bool) (left : EntriesLeft) (number : ℕ) → none_left left ≡ b → is_open (next_of_entries b left) ≡ true →
+entries_sound : (b : Bool) (left : RemainingEntries) (number : ℕ) → none_left left ≡ b → is_open (next_of_entries b left) ≡ true →
     IsSound (next_of_entries b left) number
 entries_sound true left number e going = end_sound number
 entries_sound false left number e going = motion_sound (Joined left) number (entries_some left e) going
 
-motions_sound : (m : MotionsLeft) (number : ℕ) → is_open (next_of_motions m) ≡ true → IsSound (next_of_motions m) number
+motions_sound : (m : RemainingMotions) (number : ℕ) → is_open (next_of_motions m) ≡ true → IsSound (next_of_motions m) number
 motions_sound (Parted Off zero) number going = setting_sound On number
 motions_sound (Parted On zero) number going = end_sound number
 motions_sound (Parted s (suc n)) number going = motion_sound (Parted s (suc n)) number (omega arith) refl
 motions_sound (Joined left) number going = entries_sound (none_left left) left number refl going
 
-version_sound : (v : Version) (number : ℕ) → IsSound (behind_version v) number
+version_sound : (v : Version) (number : ℕ) → IsSound (after_version v) number
 version_sound One number = setting_sound Off number
 version_sound Two number = other_sound next.Counts number (λ x. cc x) (λ m x. cc x) (λ b x. cc x) refl
 
@@ -331,34 +331,34 @@ piece_sound b number some = record {
   going = refl;
 }
 
-behind_sound : (b : BegunMotion) (last : Bool) (number : ℕ) → nat_le b.pieces_left 1 ≡ last → is_open (behind_piece last b) ≡ true →
-    IsSound (behind_piece last b) number
+behind_sound : (b : BegunMotion) (last : Bool) (number : ℕ) → nat_le b.pieces_left 1 ≡ last → is_open (after_piece last b) ≡ true →
+    IsSound (after_piece last b) number
 behind_sound b true number e going = motions_sound b.behind number going
 behind_sound b false number e going = let more : 1 ≤ b.pieces_left - 1 = grind (arith, nat_tests) in
     piece_sound (record b { pieces_left = b.pieces_left - 1 }) number more
 
-pub told_sound : (e : Expected) (told : Told) (number : ℕ) → IsNext e told → is_open (behind_told told) ≡ true → IsSound (behind_told told) number
+pub told_sound : (e : Expected) (told : Told) (number : ℕ) → IsNext e told → is_open (after_content told) ≡ true → IsSound (after_content told) number
 told_sound e (tell.Header v) number h going = version_sound v number
 told_sound e (tell.Setting s n) number h going = motions_sound (Parted s n) number going
-told_sound e (tell.Counts off on) number h going = motions_sound (Joined (record { off = off; on = on; behind_on = false })) number going
+told_sound e (tell.Counts off on) number h going = motions_sound (Joined (record { off = off; on = on; after_on = false })) number going
 told_sound e (tell.Motion b) number h going = piece_sound b number h.some
 told_sound e (tell.Piece b p) number h going = behind_sound b (nat_le b.pieces_left 1) number refl going
 told_sound e tell.End number h going = other_sound next.Nothing number (λ x. cc x) (λ m x. cc x) (λ b x. cc x) refl
 
 -- ---- fewer lines may follow
 
-entries_lines : (b : Bool) (left : EntriesLeft) → lines_ahead (next_of_entries b left) ≤ lines_of_motions (Joined left)
+entries_lines : (b : Bool) (left : RemainingEntries) → lines_ahead (next_of_entries b left) ≤ lines_of_motions (Joined left)
 entries_lines true left = omega arith
 entries_lines false left = omega arith
 
-motions_lines : (m : MotionsLeft) → lines_ahead (next_of_motions m) ≤ lines_of_motions m
+motions_lines : (m : RemainingMotions) → lines_ahead (next_of_motions m) ≤ lines_of_motions m
 motions_lines (Parted Off zero) = omega arith
 motions_lines (Parted On zero) = omega arith
 motions_lines (Parted s (suc n)) = omega arith
 motions_lines (Joined left) = entries_lines (none_left left) left
 
 piece_lines : (b : BegunMotion) (last : Bool) → nat_le b.pieces_left 1 ≡ last → 1 ≤ b.pieces_left →
-    lines_ahead (behind_piece last b) + 1 ≤ lines_ahead (next.Piece b)
+    lines_ahead (after_piece last b) + 1 ≤ lines_ahead (next.Piece b)
 piece_lines b true e some = omega (arith, motions_lines b.behind, some)
 piece_lines b false e some = omega (arith, some)
 
@@ -368,27 +368,27 @@ one_taken (of.Off i) = omega arith
 one_taken (of.On j) = omega arith
 
 -- a motion's lines are among those that may follow
-fewer_lines : (m : MotionsLeft) (i : Indices) → HaveSome m → ((s : Setting) → left_at m s ≡ left_at (motions_behind m i) s + taken_at i s)
-    → lines_of_motions (motions_behind m i) + 65536 ≤ lines_of_motions m
+fewer_lines : (m : RemainingMotions) (i : Indices) → HaveSome m → ((s : Setting) → left_at m s ≡ left_at (motions_after m i) s + taken_at i s)
+    → lines_of_motions (motions_after m i) + 65536 ≤ lines_of_motions m
 fewer_lines (Parted s n) i some counted = omega (arith, some)
 fewer_lines (Joined left) i some counted =
     let off = counted Off in
     let on = counted On in
     let one = one_taken i in
-    by_counts left.off left.on (left_behind left i).off (left_behind left i).on (taken_at i Off) (taken_at i On) off on one where
+    by_counts left.off left.on (remaining_after left i).off (remaining_after left i).on (taken_at i Off) (taken_at i On) off on one where
       by_counts : (m n a b c d : ℕ) → m ≡ a + c → n ≡ b + d → 1 ≤ c + d → 65536 * (a + b) + 2 + 65536 ≤ 65536 * (m + n) + 2
       by_counts m n a b c d e f one = omega (arith, e, f, one)
 
-version_lines : (v : Version) → lines_ahead (behind_version v) + 1 ≤ lines_ahead next.Header
+version_lines : (v : Version) → lines_ahead (after_version v) + 1 ≤ lines_ahead next.Header
 version_lines One = omega arith
 version_lines Two = omega arith
 
-pub told_lines : (e : Expected) (told : Told) (number : ℕ) → IsSound e number → IsNext e told → lines_ahead (behind_told told) + 1 ≤ lines_ahead e
+pub told_lines : (e : Expected) (told : Told) (number : ℕ) → IsSound e number → IsNext e told → lines_ahead (after_content told) + 1 ≤ lines_ahead e
 told_lines e (tell.Header v) number sound h = let old = ap lines_ahead h in omega (arith, old, version_lines v)
 told_lines e (tell.Setting s n) number sound h = let old = ap lines_ahead h.0 in omega (arith, old, motions_lines (Parted s n), h.1)
 told_lines e (tell.Counts off on) number sound h =
     let old = ap lines_ahead h.0 in
-    omega (arith, old, motions_lines (Joined (record { off = off; on = on; behind_on = false })), h.1, h.2)
+    omega (arith, old, motions_lines (Joined (record { off = off; on = on; after_on = false })), h.1, h.2)
 told_lines e (tell.Motion b) number sound h =
     let old = ap lines_ahead h.expected in
     let same = ap lines_of_motions h.behind in
@@ -398,7 +398,7 @@ told_lines e (tell.Motion b) number sound h =
       old,
       h.few,
       same,
-      fewer_lines h.left b.indices some (λ s. h.counted s ∙ ap (λ (m : MotionsLeft). left_at m s + taken_at b.indices s) h.behind),
+      fewer_lines h.left b.indices some (λ s. h.counted s ∙ ap (λ (m : RemainingMotions). left_at m s + taken_at b.indices s) h.behind),
     )
 told_lines e (tell.Piece b p) number sound h =
     let old = ap lines_ahead h.0 in

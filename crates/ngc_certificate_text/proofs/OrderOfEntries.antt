@@ -8,7 +8,7 @@ use Rattle.ngc_certificate_text.specs.declared.expected.Indices.TheVariants.{Bot
 use Rattle.ngc_certificate_text.specs.declared.piece.Piece.{Piece}
 use Rattle.ngc_certificate_text.specs.declared.piece.Setting.{Setting}
 use Rattle.ngc_certificate_text.specs.Certificate.{Entry, CertificateData, entries_at, MOTION_LIMIT}
-use Rattle.ngc_certificate_text.specs.Found.{add_item, HasRoomFor}
+use Rattle.ngc_certificate_text.specs.Found.{add_item, HasSpaceFor}
 use Rattle.ngc_certificate_text.specs.Joined.{Item, entry_with, onto_motions, expansion}
 use Rattle.ngc_certificate_text.specs.Order.{kind_of, kinds_of, items_in, IsWhole}
 use Rattle.ngc_certificate_text.specs.Told.{taken_at}
@@ -108,7 +108,7 @@ pushed_on ks more off on late x j ps slice whole is same e f =
 
 -- there is capacity for an entry's motion
 pub room_for : (ks : List EntryKind) (off on : List Entry) (x y : Indices) (s : Setting) → IsWhole ks off on → x ≡ y → taken_at y s ≡ 1 →
-    HasRoomFor x (items_in ks off on)
+    HasSpaceFor x (items_in ks off on)
     → length (entries_at s (data_of off on)) < MOTION_LIMIT
 room_for ks off on x y s whole is one room =
     let here = room s in

@@ -11,7 +11,7 @@ use Rattle.ngc_certificate_text.specs.declared.lines.LineFlaw.{LineFlaw}
 use Rattle.ngc_certificate_text.specs.declared.lines.MotionLine.{MotionLine}
 use Rattle.ngc_certificate_text.specs.Certificate.{WHOLE, INDEX_LIMIT, PIECE_LIMIT, MOTION_LIMIT, CUT_LIMIT}
 use Rattle.ngc_certificate_text.specs.Lines.{is_count, good_box, ranged, boxed, one_count, two_counts, line_piece, arc_piece}
-use Rattle.ngc_certificate_text.specs.Parts.{box_said, place_between, piece_with, motion_of}
+use Rattle.ngc_certificate_text.specs.Parts.{parsed_box, place_between, piece_with, motion_of}
 
 abbrev piece_at : Cut → GridBox → Piece
 piece_at e b = record { end = e; bounds = b }
@@ -26,7 +26,7 @@ with_flaw : (good : Bool) (e : Cut) (flaw : LineFlaw) → piece_with (ranged goo
 with_flaw true e flaw = refl
 with_flaw false e flaw = refl
 
-boxed_is : (good : Bool) (e : Cut) (zs : List ℤ) → piece_with (ranged good e) (box_said zs) ≡ boxed good e zs
+boxed_is : (good : Bool) (e : Cut) (zs : List ℤ) → piece_with (ranged good e) (parsed_box zs) ≡ boxed good e zs
 boxed_is good e [] = with_flaw good e _
 boxed_is good e (a ∷ []) = with_flaw good e _
 boxed_is good e (a ∷ b ∷ []) = with_flaw good e _
@@ -39,13 +39,13 @@ boxed_is good e (a ∷ b ∷ c ∷ d ∷ f ∷ g ∷ []) =
 boxed_is good e (a ∷ b ∷ c ∷ d ∷ f ∷ g ∷ k ∷ zs) = with_flaw good e _
 
 by_parts : (good : Bool) (e : Cut) (zs rest : List ℤ) (end : Result Cut LineFlaw) (bounds : Result GridBox LineFlaw) (found : Result Piece LineFlaw)
-    → end ≡ ranged good e → bounds ≡ box_said rest → rest ≡ zs → found ≡ piece_with end bounds → found ≡ boxed good e zs
+    → end ≡ ranged good e → bounds ≡ parsed_box rest → rest ≡ zs → found ≡ piece_with end bounds → found ≡ boxed good e zs
 by_parts good e zs rest end bounds found is_end is_box same is =
-    is ∙ ap (λ (x : Result Cut LineFlaw). piece_with x bounds) is_end ∙ ap (piece_with (ranged good e)) (is_box ∙ ap box_said same) ∙ boxed_is good e zs
+    is ∙ ap (λ (x : Result Cut LineFlaw). piece_with x bounds) is_end ∙ ap (piece_with (ranged good e)) (is_box ∙ ap parsed_box same) ∙ boxed_is good e zs
 
 pub line_is_said : (xs : List ℤ) (t : ℤ) (end : Result Cut LineFlaw) (bounds : Result GridBox LineFlaw) (found : Result Piece LineFlaw) → 1 ≤ length xs →
     t ≡ get_or xs 0 (pos 0)
-    → end ≡ ranged (is_count 1 WHOLE t) (Part (unsigned_abs t)) → bounds ≡ box_said (take (length xs - 1) (drop 1 xs)) → found ≡ piece_with end bounds →
+    → end ≡ ranged (is_count 1 WHOLE t) (Part (unsigned_abs t)) → bounds ≡ parsed_box (take (length xs - 1) (drop 1 xs)) → found ≡ piece_with end bounds →
     found ≡ line_piece (Some xs)
 line_is_said [] t end bounds found some et is_end is_box is = absurd (omega (arith, some))
 line_is_said (x ∷ xs) t end bounds found some et is_end is_box is =
@@ -61,7 +61,7 @@ pub arc_is_said : (xs : List ℤ) (u v : ℤ) (ru rv : Result ℤ LineFlaw) (end
     (found : Result Piece LineFlaw) → 2 ≤ length xs
     → u ≡ get_or xs 0 (pos 0) → v ≡ get_or xs 1 (pos 0) → ru ≡ ranged (is_within CUT_LIMIT u) u → rv ≡ ranged (is_within CUT_LIMIT v) v →
     end ≡ place_between ru rv
-    → bounds ≡ box_said (take (length xs - 2) (drop 2 xs)) → found ≡ piece_with end bounds → found ≡ arc_piece (Some xs)
+    → bounds ≡ parsed_box (take (length xs - 2) (drop 2 xs)) → found ≡ piece_with end bounds → found ≡ arc_piece (Some xs)
 arc_is_said [] u v ru rv end bounds found some eu ev is_u is_v is_end is_box is = absurd (omega (arith, some))
 arc_is_said (x ∷ []) u v ru rv end bounds found some eu ev is_u is_v is_end is_box is = absurd (omega (arith, some))
 arc_is_said (x ∷ y ∷ xs) u v ru rv end bounds found some eu ev is_u is_v is_end is_box is =

@@ -5,11 +5,11 @@ use Rattle.std.proofs.lemmas.Bool.{and_from}
 use Rattle.std.proofs.lemmas.Bool.Decides.{nat_tests}
 use Rattle.std.proofs.lemmas.List.{append-nil}
 use Rattle.ngc_certificate_text.specs.declared.certificate_lines.CertificateLines.{CertificateLines}
-use Rattle.ngc_certificate_text.specs.declared.expected.EntriesLeft.{EntriesLeft}
+use Rattle.ngc_certificate_text.specs.declared.expected.RemainingEntries.{RemainingEntries}
 use Rattle.ngc_certificate_text.specs.declared.expected.Expected.{Expected}
 use Rattle.ngc_certificate_text.specs.declared.expected.Expected.TheVariants as next
 use Rattle.ngc_certificate_text.specs.declared.expected.Indices.TheVariants as of
-use Rattle.ngc_certificate_text.specs.declared.expected.MotionsLeft.TheVariants.{Parted, Joined}
+use Rattle.ngc_certificate_text.specs.declared.expected.RemainingMotions.TheVariants.{Parted, Joined}
 use Rattle.ngc_certificate_text.specs.declared.fault.CertificateFault.{CertificateFault}
 use Rattle.ngc_certificate_text.specs.declared.fault.CertificateFault.TheVariants as faults
 use Rattle.ngc_certificate_text.specs.declared.lines.LineFlaw.TheVariants.{Spelling, Range}
@@ -17,64 +17,64 @@ use Rattle.ngc_certificate_text.specs.declared.piece.Setting.{Setting}
 use Rattle.ngc_certificate_text.specs.declared.piece.Setting.TheVariants.{Off, On}
 use Rattle.ngc_certificate_text.specs.declared.told.Version.TheVariants.{One}
 use Rattle.ngc_certificate_text.specs.Ahead.{Rest, Left, left_from, made_with, of_version, name_of, index_at, wrong_line, go_on, IsSound}
-use Rattle.ngc_certificate_text.specs.EntryLines.{version_said, counts_said, may_come, entry_said, of_setting}
-use Rattle.ngc_certificate_text.specs.Lines.{numbers_in, setting_said, motion_said, piece_said}
+use Rattle.ngc_certificate_text.specs.EntryLines.{parsed_version, parsed_counts, may_still_follow, parsed_entry, of_setting}
+use Rattle.ngc_certificate_text.specs.Lines.{numbers_in, parsed_setting, parsed_motion, parsed_piece}
 use Rattle.ngc_certificate_text.specs.LinesView.{left_by, IsReading}
 use Rattle.ngc_certificate_text.specs.Number.{number_in}
 use Rattle.ngc_certificate_text.specs.Parted.{firm, firm_lines, PartsLines}
-use Rattle.ngc_certificate_text.specs.Reader.{Saying, outcome_by, firm_by, FaultIs, StepGives, Stands, AnswerIs}
+use Rattle.ngc_certificate_text.specs.Reader.{Saying, outcome_by, firm_by, FaultIs, StepResultIs, Stands, AnswerIs}
 use Rattle.ngc_certificate_text.specs.Said.{lines_of}
 use Rattle.ngc_certificate_text.proofs.LinesAhead.{wrong_said, ended_said, header_read, header_ended, setting_flawed, counts_flawed, motion_flawed}
 use Rattle.ngc_certificate_text.proofs.LinesAhead.{piece_flawed}
 use Rattle.ngc_certificate_text.proofs.LinesAhead.{end_read}
-use Rattle.ngc_certificate_text.proofs.LeftEntries.{if_taken}
+use Rattle.ngc_certificate_text.proofs.RemainingEntryLaws.{if_taken}
 use Rattle.ngc_certificate_text.proofs.SpelledLines.{end_reads}
-use Rattle.ngc_certificate_text.proofs.Parting.{lines_parts, firm_parts, firm_begun}
+use Rattle.ngc_certificate_text.proofs.LineSplitting.{lines_parts, firm_parts, firm_begun}
 
 -- ---- whatever is expected, one following text has a fault, and another has none or a different
 -- one
 
-huge_setting : (s : Setting) → setting_said (name_of s) (codes "setting " ++ name_of s ++ codes " 9999999") ≡ Err Range
-unfolding setting_said numbers_in number_in
+huge_setting : (s : Setting) → parsed_setting (name_of s) (codes "setting " ++ name_of s ++ codes " 9999999") ≡ Err Range
+unfolding parsed_setting numbers_in number_in
 huge_setting Off = refl
 huge_setting On = refl
 
-huge_motion : motion_said (codes "motion 9999999 1") ≡ Err Range
-unfolding motion_said numbers_in number_in
+huge_motion : parsed_motion (codes "motion 9999999 1") ≡ Err Range
+unfolding parsed_motion numbers_in number_in
 huge_motion = refl
 
-huge_counts : counts_said (codes "motions 9999999 0") ≡ Err Range
-unfolding counts_said numbers_in number_in
+huge_counts : parsed_counts (codes "motions 9999999 0") ≡ Err Range
+unfolding parsed_counts numbers_in number_in
 huge_counts = refl
 
-first_version : version_said (codes "ngc-certificate 1") ≡ Ok One
-unfolding version_said
+first_version : parsed_version (codes "ngc-certificate 1") ≡ Ok One
+unfolding parsed_version
 first_version = refl
 
-no_part : piece_said (codes "line 0 0 0 0 0 0 0") ≡ Err Range
-unfolding piece_said numbers_in number_in
+no_part : parsed_piece (codes "line 0 0 0 0 0 0 0") ≡ Err Range
+unfolding parsed_piece numbers_in number_in
 no_part = refl
 
-huge_both : (left : EntriesLeft) → may_come left (of.Both 0 0) ≡ true → entry_said left (codes "both 9999999 0 1") ≡ Err Range
-unfolding entry_said numbers_in number_in
-huge_both left h = if_taken (may_come left (of.Both 0 0)) (Err Range) (Err Spelling) h
+huge_both : (left : RemainingEntries) → may_still_follow left (of.Both 0 0) ≡ true → parsed_entry left (codes "both 9999999 0 1") ≡ Err Range
+unfolding parsed_entry numbers_in number_in
+huge_both left h = if_taken (may_still_follow left (of.Both 0 0)) (Err Range) (Err Spelling) h
 
-huge_off : (left : EntriesLeft) → may_come left (of.Off 0) ≡ true → entry_said left (codes "off 9999999 1") ≡ Err Range
-unfolding entry_said numbers_in number_in
-huge_off left h = if_taken (may_come left (of.Off 0)) (Err Range) (Err Spelling) h
+huge_off : (left : RemainingEntries) → may_still_follow left (of.Off 0) ≡ true → parsed_entry left (codes "off 9999999 1") ≡ Err Range
+unfolding parsed_entry numbers_in number_in
+huge_off left h = if_taken (may_still_follow left (of.Off 0)) (Err Range) (Err Spelling) h
 
-huge_on : (left : EntriesLeft) → may_come left (of.On 0) ≡ true → entry_said left (codes "on 9999999 1") ≡ Err Range
-unfolding entry_said numbers_in number_in
-huge_on left h = if_taken (may_come left (of.On 0)) (Err Range) (Err Spelling) h
+huge_on : (left : RemainingEntries) → may_still_follow left (of.On 0) ≡ true → parsed_entry left (codes "on 9999999 1") ≡ Err Range
+unfolding parsed_entry numbers_in number_in
+huge_on left h = if_taken (may_still_follow left (of.On 0)) (Err Range) (Err Spelling) h
 
 -- a line that is out of its range if these entries remain
-record HugeEntry (left : EntriesLeft) : Type 0 where
+record HugeEntry (left : RemainingEntries) : Type 0 where
   line : List ℕ
   short : length line ≤ 256
-  out : entry_said left line ≡ Err Range
+  out : parsed_entry left line ≡ Err Range
   alone : lines_of (line ++ codes "\n") ≡ line ∷ [] ∷ []
 
-some_huge : (left : EntriesLeft) (b c : Bool) → (left.off == 0) ≡ b → (left.on == 0) ≡ c → 1 ≤ left.off + left.on → go_on (Joined left) ≡ true → HugeEntry left
+some_huge : (left : RemainingEntries) (b c : Bool) → (left.off == 0) ≡ b → (left.on == 0) ≡ c → 1 ≤ left.off + left.on → go_on (Joined left) ≡ true → HugeEntry left
 some_huge left false false e f some going =
     let off : nat_lt 0 left.off ≡ true = grind (arith, nat_tests) in
     let on : nat_lt 0 left.on ≡ true = grind (arith, nat_tests) in
@@ -86,7 +86,7 @@ some_huge left false true e f some going =
       line = codes "off 9999999 1";
       short = omega arith;
       out =
-          huge_off left (and_from _ _ off (by_behind left.behind_on (left.off == 0) (nat_lt 0 left.on) e none going));
+          huge_off left (and_from _ _ off (by_behind left.after_on (left.off == 0) (nat_lt 0 left.on) e none going));
       alone = refl;
     } where
       by_behind : (b c d : Bool) → c ≡ false → d ≡ false → (not b || (c || d)) ≡ true → not b ≡ true
@@ -198,12 +198,12 @@ module _ {X : Type 0} where
   -- a piece leads from a text to another
   abbrev pub Leads : Saying X → Saying X → List ℕ → Result (Unit {0}) CertificateFault → Type 0
   Leads old new piece result =
-      (lines : List ℕ → List (List ℕ)) → PartsLines lines → (rest : List ℕ) → StepGives result (old lines (piece ++ rest)) (new lines rest)
+      (lines : List ℕ → List (List ℕ)) → PartsLines lines → (rest : List ℕ) → StepResultIs result (old lines (piece ++ rest)) (new lines rest)
 
   at_step : (old new : Saying X) (piece : List ℕ) (result other : Result (Unit {0}) CertificateFault) → Leads old new piece result → result ≡ other →
       Leads old new piece other
   at_step old new piece result other leads e = λ lines parts rest.
-      subst (λ (r : Result (Unit {0}) CertificateFault). StepGives r (old lines (piece ++ rest)) (new lines rest)) e (leads lines parts rest)
+      subst (λ (r : Result (Unit {0}) CertificateFault). StepResultIs r (old lines (piece ++ rest)) (new lines rest)) e (leads lines parts rest)
 
   module _ (refusal : Option CertificateFault) (old new : Saying X) (piece : List ℕ) (result : Result (Unit {0}) CertificateFault) (going : refusal ≡ None)
       (leads : Leads old new piece result) where

@@ -8,7 +8,7 @@ use Rattle.std.specs.Int.Signed.{mag}
 use Rattle.std.specs.Option.{option_map}
 use Rattle.std.proofs.lemmas.Bool.Decides.{nat_tests}
 use Rattle.ngc_text.specs.Decimals.{are_digits, decimal_in}
-use Rattle.ngc_text.proofs.Splits.{lacks}
+use Rattle.ngc_text.proofs.SplitTexts.{lacks}
 use Rattle.ngc_text.proofs.DecimalLaws.{first_digit, decimal_digits, decimal_in-decimal, decimal_spelled, decimal_lacks}
 use Rattle.ngc_certificate_text.specs.Number.{negated, number_in}
 

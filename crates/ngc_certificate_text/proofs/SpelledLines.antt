@@ -21,9 +21,9 @@ use Rattle.ngc_certificate_text.specs.declared.lines.MotionLine.{MotionLine}
 use Rattle.ngc_certificate_text.specs.Certificate.{WHOLE, INDEX_LIMIT, PIECE_LIMIT, MOTION_LIMIT, CUT_LIMIT, good_cut, good_piece}
 use Rattle.ngc_certificate_text.specs.Spelling.{piece_line, motion_line}
 use Rattle.ngc_certificate_text.specs.Number.{fields}
-use Rattle.ngc_certificate_text.specs.Lines.{numbers_in, numbers_behind, is_count, ranged, one_count, setting_said, two_counts, motion_said, is_step, are_steps}
-use Rattle.ngc_certificate_text.specs.Lines.{good_box, boxed, line_piece, arc_piece, piece_in, piece_said, end_said}
-use Rattle.ngc_text.proofs.Splits.{lacks}
+use Rattle.ngc_certificate_text.specs.Lines.{numbers_in, numbers_in_rest, is_count, ranged, one_count, parsed_setting, two_counts, parsed_motion, is_step, are_steps}
+use Rattle.ngc_certificate_text.specs.Lines.{good_box, boxed, line_piece, arc_piece, piece_in, parsed_piece, parsed_end}
+use Rattle.ngc_text.proofs.SplitTexts.{lacks}
 use Rattle.ngc_certificate_text.proofs.Fields.{AreSmall, line_text, line_fields, line_numbers, line_spelled, numbers_lack, numbers_in-signed}
 use Rattle.ngc_certificate_text.proofs.Fields.{numbers_spelled, bytes_same, joined_split}
 
@@ -127,8 +127,8 @@ pub setting_is_line : (name : List ℕ) (n : ℕ) → IsName name → n ≤ MOTI
 unfolding setting_text
 setting_is_line name n h few = text_is_line (codes "setting") (name ∷ []) (pos n ∷ []) (setting_words name h) (omega arith, tt) (omega arith)
 
-pub setting_reads : (name : List ℕ) (n : ℕ) → IsName name → n ≤ MOTION_LIMIT → setting_said name (setting_text name n) ≡ Ok n
-unfolding setting_text setting_said
+pub setting_reads : (name : List ℕ) (n : ℕ) → IsName name → n ≤ MOTION_LIMIT → parsed_setting name (setting_text name n) ≡ Ok n
+unfolding setting_text parsed_setting
 setting_reads name n h few =
     ap one_count (line_numbers (codes "setting") (name ∷ []) (pos n ∷ []) (setting_words name h).whole (omega arith, tt))
     ∙ ap (λ (b : Bool). ranged b n) (count_from 0 MOTION_LIMIT n (omega arith) few)
@@ -147,10 +147,10 @@ one_count_ok (Some (z ∷ [])) n h =
     record { is = ap (λ (x : ℤ). Some (x ∷ [])) (c.is ∙ ap pos r.1); few = omega (arith, c.high, r.1) }
 one_count_ok (Some (z ∷ y ∷ zs)) n h = absurd (cc h)
 
-pub setting_spelled : (name line : List ℕ) (n : ℕ) → setting_said name line ≡ Ok n → (line ≡ setting_text name n) × (n ≤ MOTION_LIMIT)
-unfolding setting_text setting_said
+pub setting_spelled : (name line : List ℕ) (n : ℕ) → parsed_setting name line ≡ Ok n → (line ≡ setting_text name n) × (n ≤ MOTION_LIMIT)
+unfolding setting_text parsed_setting
 setting_spelled name line n h =
-    let c = one_count_ok (numbers_behind (codes "setting" ∷ name ∷ []) (fields line)) n h in
+    let c = one_count_ok (numbers_in_rest (codes "setting" ∷ name ∷ []) (fields line)) n h in
     (line_spelled (codes "setting") (name ∷ []) (pos n ∷ []) line c.is (omega (arith, c.few), tt), c.few)
 
 pub setting_line_is : (name : List ℕ) (n : ℕ) → codes "setting " ++ name ++ codes " " ++ decimal n ++ codes "\n" ≡ setting_text name n ++ (10 ∷ [])
@@ -172,8 +172,8 @@ pub motion_is_line : (i n : ℕ) → i ≤ INDEX_LIMIT → n ≤ PIECE_LIMIT →
 unfolding motion_text
 motion_is_line i n hi hn = text_is_line (codes "motion") [] (pos i ∷ pos n ∷ []) motion_words (omega arith, (omega arith, tt)) (omega arith)
 
-pub motion_reads : (i n : ℕ) → i ≤ INDEX_LIMIT → 1 ≤ n → n ≤ PIECE_LIMIT → motion_said (motion_text i n) ≡ Ok (record { index = i; pieces = n })
-unfolding motion_text motion_said
+pub motion_reads : (i n : ℕ) → i ≤ INDEX_LIMIT → 1 ≤ n → n ≤ PIECE_LIMIT → parsed_motion (motion_text i n) ≡ Ok (record { index = i; pieces = n })
+unfolding motion_text parsed_motion
 motion_reads i n hi some hn =
     ap two_counts (line_numbers (codes "motion") [] (pos i ∷ pos n ∷ []) refl (omega arith, (omega arith, tt)))
     ∙ ap (λ (b : Bool). ranged b (record { index = i; pieces = n }))
@@ -210,10 +210,10 @@ pub record MotionSpelled (line : List ℕ) (m : MotionLine) : Type 0 where
   pub some : 1 ≤ m.pieces
   pub few : m.pieces ≤ PIECE_LIMIT
 
-pub motion_spelled : (line : List ℕ) (m : MotionLine) → motion_said line ≡ Ok m → MotionSpelled line m
-unfolding motion_text motion_said
+pub motion_spelled : (line : List ℕ) (m : MotionLine) → parsed_motion line ≡ Ok m → MotionSpelled line m
+unfolding motion_text parsed_motion
 motion_spelled line m h =
-    let c = two_counts_ok (numbers_behind (codes "motion" ∷ []) (fields line)) m h in
+    let c = two_counts_ok (numbers_in_rest (codes "motion" ∷ []) (fields line)) m h in
     record {
       is = line_spelled (codes "motion") [] (pos m.index ∷ pos m.pieces ∷ []) line c.is (omega (arith, c.index), (omega (arith, c.few), tt));
       index = c.index;
@@ -300,8 +300,8 @@ cut_whole : (e : Cut) → list_all (lacks 32) (cut_word e ∷ []) ≡ true
 cut_whole (Part t) = refl
 cut_whole (Place q) = refl
 
-pub piece_reads : (p : Piece) → IsHeld p → piece_said (piece_text p) ≡ Ok p
-unfolding piece_text piece_said
+pub piece_reads : (p : Piece) → IsHeld p → parsed_piece (piece_text p) ≡ Ok p
+unfolding piece_text parsed_piece
 piece_reads p h =
     ap piece_in (line_fields (cut_word p.end) [] (cut_numbers p.end (six p.bounds)) (cut_whole p.end) (piece_small p h))
     ∙ piece_fields p.end p.bounds (and_parts (good_cut p.end) (is_below p.bounds.low p.bounds.high) h.good).0 (good_steps p h) (piece_small p h)
@@ -397,8 +397,8 @@ spelled_by_fields line (word ∷ fs) p e h =
       held = held;
     }
 
-pub piece_spelled : (line : List ℕ) (p : Piece) → piece_said line ≡ Ok p → PieceSpelled line p
-unfolding piece_said
+pub piece_spelled : (line : List ℕ) (p : Piece) → parsed_piece line ≡ Ok p → PieceSpelled line p
+unfolding parsed_piece
 piece_spelled line p h = spelled_by_fields line (fields line) p refl h
 
 flat_line : (w s t a b c d e f n : List ℕ) → w ++ s ++ t ++ (s ++ a ++ s ++ b ++ s ++ c) ++ (s ++ d ++ s ++ e ++ s ++ f) ++ n
@@ -426,14 +426,14 @@ piece_line_is p = cut_line_is p.end p.bounds
 pub end_is_line : IsLine (codes "end")
 end_is_line = record { feedless = refl; short = omega arith }
 
-pub end_reads : end_said (codes "end") ≡ Ok tt
-unfolding end_said
+pub end_reads : parsed_end (codes "end") ≡ Ok tt
+unfolding parsed_end
 end_reads = refl
 
 end_by : (line : List ℕ) (c : Bool) (x : Unit {0}) → bytes_eq line (codes "end") ≡ c → (if c then Ok tt else Err Spelling) ≡ Ok x → line ≡ codes "end"
 end_by line true x e h = bytes_same line (codes "end") e
 end_by line false x e h = absurd (cc h)
 
-pub end_spelled : (line : List ℕ) (x : Unit {0}) → end_said line ≡ Ok x → line ≡ codes "end"
-unfolding end_said
+pub end_spelled : (line : List ℕ) (x : Unit {0}) → parsed_end line ≡ Ok x → line ≡ codes "end"
+unfolding parsed_end
 end_spelled line x h = end_by line (bytes_eq line (codes "end")) x refl h

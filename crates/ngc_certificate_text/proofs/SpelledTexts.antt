@@ -15,32 +15,32 @@ use Rattle.ngc_certificate_text.specs.declared.lines.LineFlaw.TheVariants.{Spell
 use Rattle.ngc_certificate_text.specs.declared.lines.MotionLine.{MotionLine}
 use Rattle.ngc_certificate_text.specs.Certificate.{Entry, CertificateData, IsEntry, AreEntries, IsCertificate, INDEX_LIMIT, PIECE_LIMIT, MOTION_LIMIT}
 use Rattle.ngc_certificate_text.specs.Certificate.{good_piece}
-use Rattle.ngc_certificate_text.specs.Spelling.{piece_line, motion_line, entry_lines, setting_lines, parted_spelling, item_line, item_lines, counts_line}
-use Rattle.ngc_certificate_text.specs.Spelling.{joined_spelling, spelling}
-use Rattle.ngc_certificate_text.specs.declared.expected.EntriesLeft.{EntriesLeft}
+use Rattle.ngc_certificate_text.specs.Spelling.{piece_line, motion_line, entry_lines, setting_lines, version_1_text, item_line, item_lines, counts_line}
+use Rattle.ngc_certificate_text.specs.Spelling.{version_2_text, spelling}
+use Rattle.ngc_certificate_text.specs.declared.expected.RemainingEntries.{RemainingEntries}
 use Rattle.ngc_certificate_text.specs.declared.expected.Indices.{Indices}
 use Rattle.ngc_certificate_text.specs.declared.expected.Indices.TheVariants as of
 use Rattle.ngc_certificate_text.specs.declared.lines.CountsLine.{CountsLine}
 use Rattle.ngc_certificate_text.specs.declared.lines.EntryLine.{EntryLine}
 use Rattle.ngc_certificate_text.specs.declared.told.Version.{Version}
 use Rattle.ngc_certificate_text.specs.declared.told.Version.TheVariants.{One, Two}
-use Rattle.ngc_certificate_text.specs.EntryLines.{version_said, counts_said, entry_said, may_come, left_behind, all_left}
+use Rattle.ngc_certificate_text.specs.EntryLines.{parsed_version, parsed_counts, parsed_entry, may_still_follow, remaining_after, all_left}
 use Rattle.ngc_certificate_text.specs.Joined.{Item, expansion, IsItem, in_order, IsJoined, Form, Parted, Joined}
-use Rattle.ngc_certificate_text.specs.Lines.{setting_said, motion_said, piece_said, end_said, are_steps}
+use Rattle.ngc_certificate_text.specs.Lines.{parsed_setting, parsed_motion, parsed_piece, parsed_end, are_steps}
 use Rattle.ngc_certificate_text.specs.Said.{lines_of, Place, Said, then_read, next_number, line_is, line_in, line_at, several, entry_at, setting_at}
-use Rattle.ngc_certificate_text.specs.Said.{settings_at, item_at, items_at, joined_at, said_with, version_is, nothing_in, ended, header_in, form_at, form_said}
-use Rattle.ngc_certificate_text.specs.Said.{has_steps, HasSteps, item_steps, IsForm, OneSpelling}
-use Rattle.ngc_text.proofs.Splits.{lacks, split_here}
+use Rattle.ngc_certificate_text.specs.Said.{settings_at, item_at, items_at, joined_at, parsed_with, version_is, nothing_in, ended, header_in, form_at, parsed_form}
+use Rattle.ngc_certificate_text.specs.Said.{has_steps, HasSteps, item_steps, IsForm, IsOneWriting}
+use Rattle.ngc_text.proofs.SplitTexts.{lacks, split_here}
 use Rattle.ngc_certificate_text.proofs.Fields.{joined_split, bytes_same}
 use Rattle.ngc_certificate_text.proofs.SpelledLines.{IsLine, IsName, setting_text, setting_line_is, setting_is_line, setting_reads, setting_spelled}
 use Rattle.ngc_certificate_text.proofs.SpelledLines.{motion_text}
 use Rattle.ngc_certificate_text.proofs.SpelledLines.{motion_is_line, motion_reads, motion_spelled, motion_line_is, IsHeld, piece_text, piece_is_line}
 use Rattle.ngc_certificate_text.proofs.SpelledLines.{piece_reads}
 use Rattle.ngc_certificate_text.proofs.SpelledLines.{piece_spelled, piece_line_is, end_is_line, end_reads, end_spelled}
-use Rattle.ngc_certificate_text.proofs.LeftEntries.{total, IsTaken, entry_text, entry_is_line, entry_reads, entry_spelled, item_line_is, counts_text}
-use Rattle.ngc_certificate_text.proofs.LeftEntries.{counts_is_line, counts_reads, counts_spelled, one_fewer, some_on, no_more, items_none, more_items, item_is}
-use Rattle.ngc_certificate_text.proofs.LeftEntries.{pieces_behind as entry_pieces}
-use Rattle.ngc_certificate_text.proofs.Taken.{text_left, then_ok, line_taken, ok_same, read_to, said_ok}
+use Rattle.ngc_certificate_text.proofs.RemainingEntryLaws.{total, IsTaken, entry_text, entry_is_line, entry_reads, entry_spelled, item_line_is, counts_text}
+use Rattle.ngc_certificate_text.proofs.RemainingEntryLaws.{counts_is_line, counts_reads, counts_spelled, one_fewer, some_on, no_more, items_none, more_items, item_is}
+use Rattle.ngc_certificate_text.proofs.RemainingEntryLaws.{pieces_behind as entry_pieces}
+use Rattle.ngc_certificate_text.proofs.LinesTaken.{text_left, then_ok, line_taken, ok_same, read_to, said_ok}
 
 -- ---- positions
 
@@ -135,20 +135,20 @@ held_pieces (p ∷ ps) good steps =
     let s = and_parts (are_steps p.bounds.low && are_steps p.bounds.high) _ steps in
     (record { good = g.0; steps = s.0 }, held_pieces ps g.1 s.1)
 
-piece_reads_on : (p : Piece) → IsHeld p → ReadsOn (line_at piece_said) (piece_line p) p
-piece_reads_on p h = subst (λ (t : List ℕ). ReadsOn (line_at piece_said) t p) (sym (piece_line_is p))
-    (line_reads piece_said (piece_text p) p (piece_is_line p h) (piece_reads p h))
+piece_reads_on : (p : Piece) → IsHeld p → ReadsOn (line_at parsed_piece) (piece_line p) p
+piece_reads_on p h = subst (λ (t : List ℕ). ReadsOn (line_at parsed_piece) t p) (sym (piece_line_is p))
+    (line_reads parsed_piece (piece_text p) p (piece_is_line p h) (piece_reads p h))
 
-motion_reads_on : (i n : ℕ) → i ≤ INDEX_LIMIT → 1 ≤ n → n ≤ PIECE_LIMIT → ReadsOn (line_at motion_said) (motion_line i n) (record { index = i; pieces = n })
+motion_reads_on : (i n : ℕ) → i ≤ INDEX_LIMIT → 1 ≤ n → n ≤ PIECE_LIMIT → ReadsOn (line_at parsed_motion) (motion_line i n) (record { index = i; pieces = n })
 motion_reads_on i n hi some hn =
-    subst (λ (t : List ℕ). ReadsOn (line_at motion_said) t (record { index = i; pieces = n })) (sym (motion_line_is i n))
-    (line_reads motion_said (motion_text i n) (record { index = i; pieces = n }) (motion_is_line i n hi hn) (motion_reads i n hi some hn))
+    subst (λ (t : List ℕ). ReadsOn (line_at parsed_motion) t (record { index = i; pieces = n })) (sym (motion_line_is i n))
+    (line_reads parsed_motion (motion_text i n) (record { index = i; pieces = n }) (motion_is_line i n hi hn) (motion_reads i n hi some hn))
 
 -- what follows a motion's line
 pieces_behind : MotionLine → Place → Said Entry
-pieces_behind m q = then_read (several (line_at piece_said) m.pieces q) (λ pieces r. Ok (record { index = m.index; pieces = pieces }, r))
+pieces_behind m q = then_read (several (line_at parsed_piece) m.pieces q) (λ pieces r. Ok (record { index = m.index; pieces = pieces }, r))
 
-entry_is : (p : Place) → entry_at p ≡ then_read (line_at motion_said p) pieces_behind
+entry_is : (p : Place) → entry_at p ≡ then_read (line_at parsed_motion p) pieces_behind
 unfolding entry_at pieces_behind
 entry_is p = refl
 
@@ -156,12 +156,12 @@ pieces_read_on : (i : ℕ) (ps : List Piece) → AllByRecursion IsHeld ps
     → ReadsOn (pieces_behind (record { index = i; pieces = length ps })) (flat_map piece_line ps) (record { index = i; pieces = ps })
 unfolding pieces_behind
 pieces_read_on i ps h number rest =
-    let a = several_read (line_at piece_said) piece_line IsHeld piece_reads_on ps h number rest in
+    let a = several_read (line_at parsed_piece) piece_line IsHeld piece_reads_on ps h number rest in
     (a.0, ap (λ (r : Said (List Piece)). then_read r (λ pieces q. Ok (record { index = i; pieces = pieces }, q))) a.1)
 
 pub entry_reads_on : (e : Entry) → IsSpelledEntry e → ReadsOn entry_at (entry_lines e) e
 entry_reads_on e h number rest =
-    let a = then_reads (line_at motion_said) pieces_behind (motion_line e.index (length e.pieces)) (flat_map piece_line e.pieces)
+    let a = then_reads (line_at parsed_motion) pieces_behind (motion_line e.index (length e.pieces)) (flat_map piece_line e.pieces)
     (record { index = e.index; pieces = length e.pieces }) e
     (motion_reads_on e.index (length e.pieces) h.entry.index h.entry.some h.entry.count)
     (pieces_read_on e.index e.pieces (held_pieces e.pieces h.entry.pieces h.steps)) number rest in
@@ -175,27 +175,27 @@ spelled_entries (e ∷ es) all steps =
     let s = and_parts (has_steps e) (list_all has_steps es) steps in
     (record { entry = All-head IsEntry e es all; steps = s.0 }, spelled_entries es (All-tail IsEntry e es all) s.1)
 
-motions_behind : ℕ → Place → Said (List Entry)
-motions_behind n q = several entry_at n q
+motions_after : ℕ → Place → Said (List Entry)
+motions_after n q = several entry_at n q
 
-setting_is : (name : List ℕ) (p : Place) → setting_at name p ≡ then_read (line_at (setting_said name) p) motions_behind
-unfolding setting_at motions_behind
+setting_is : (name : List ℕ) (p : Place) → setting_at name p ≡ then_read (line_at (parsed_setting name) p) motions_after
+unfolding setting_at motions_after
 setting_is name p = refl
 
-motions_read_on : (es : List Entry) → AllByRecursion IsSpelledEntry es → ReadsOn (motions_behind (length es)) (flat_map entry_lines es) es
-unfolding motions_behind
+motions_read_on : (es : List Entry) → AllByRecursion IsSpelledEntry es → ReadsOn (motions_after (length es)) (flat_map entry_lines es) es
+unfolding motions_after
 motions_read_on es h = several_read entry_at entry_lines IsSpelledEntry entry_reads_on es h
 
 pub setting_reads_on : (name : List ℕ) (es : List Entry) → IsName name → AreEntries es → list_all has_steps es ≡ true →
     ReadsOn (setting_at name) (setting_lines name es) es
 setting_reads_on name es is are steps number rest =
-    let a = then_reads (line_at (setting_said name)) motions_behind (setting_text name (length es) ++ (10 ∷ [])) (flat_map entry_lines es) (length es) es
-    (line_reads (setting_said name) (setting_text name (length es)) (length es) (setting_is_line name (length es) is are.count)
+    let a = then_reads (line_at (parsed_setting name)) motions_after (setting_text name (length es) ++ (10 ∷ [])) (flat_map entry_lines es) (length es) es
+    (line_reads (parsed_setting name) (setting_text name (length es)) (length es) (setting_is_line name (length es) is are.count)
     (setting_reads name (length es) is are.count))
     (motions_read_on es (spelled_entries es are.each steps)) number rest in (
       a.0,
       setting_is name (at number (setting_lines name es ++ rest))
-          ∙ ap (λ (t : List ℕ). then_read (line_at (setting_said name) (at number (t ++ flat_map entry_lines es ++ rest))) motions_behind)
+          ∙ ap (λ (t : List ℕ). then_read (line_at (parsed_setting name) (at number (t ++ flat_map entry_lines es ++ rest))) motions_after)
           (setting_line_is name (length es)) ∙ a.1,
     )
 
@@ -209,8 +209,8 @@ version_feedless : (v : Version) → lacks 10 (version_text v) ≡ true
 version_feedless One = refl
 version_feedless Two = refl
 
-version_reads : (v : Version) → version_said (version_text v) ≡ Ok v
-unfolding version_said
+version_reads : (v : Version) → parsed_version (version_text v) ≡ Ok v
+unfolding parsed_version
 version_reads One = refl
 version_reads Two = refl
 
@@ -231,7 +231,7 @@ on_name : IsName (codes "on")
 on_name = record { whole = refl; feedless = refl; short = omega arith }
 
 end_behind : List Entry → List Entry → Place → Said CertificateData
-end_behind off on r = then_read (line_at end_said r) (λ _ s. Ok (record { off = off; on = on }, s))
+end_behind off on r = then_read (line_at parsed_end r) (λ _ s. Ok (record { off = off; on = on }, s))
 
 on_behind : List Entry → Place → Said CertificateData
 on_behind off q = then_read (setting_at (codes "on") q) (end_behind off)
@@ -243,7 +243,7 @@ settings_are p = refl
 end_read_on : (off on : List Entry) → ReadsOn (end_behind off on) (codes "end" ++ (10 ∷ [])) (record { off = off; on = on })
 unfolding end_behind
 end_read_on off on number rest =
-    let a = line_reads end_said (codes "end") tt end_is_line end_reads number rest in
+    let a = line_reads parsed_end (codes "end") tt end_is_line end_reads number rest in
     (a.0, ap (λ (r : Said (Unit {0})). then_read r (λ _ s. Ok (record { off = off; on = on }, s))) a.1)
 
 on_read_on : (off on : List Entry) → AreEntries on → list_all has_steps on ≡ true →
@@ -263,14 +263,14 @@ body_reads_on c is steps number rest =
     (setting_reads_on (codes "off") c.off off_name is.off steps.off) (on_read_on c.off c.on is.on steps.on) number rest in
     (a.0, settings_are (at number (body c ++ rest)) ∙ a.1)
 
-spelling_is : (c : CertificateData) → parted_spelling c ≡ codes "ngc-certificate 1" ++ (10 ∷ body c)
+spelling_is : (c : CertificateData) → version_1_text c ≡ codes "ngc-certificate 1" ++ (10 ∷ body c)
 spelling_is c = flat (codes "ngc-certificate 1\n") (setting_lines (codes "off") c.off) (setting_lines (codes "on") c.on) (codes "end\n") where
   flat : (h a b e : List ℕ) → h ++ a ++ b ++ e ≡ h ++ (a ++ (b ++ e))
   flat h a b e = simp append_assoc
 
 -- a text with the first line of a version, and a form after it
-read_whole : (v : Version) (text rest : List ℕ) (f : Form) → text ≡ version_text v ++ (10 ∷ rest) → ReadsOn (form_at v) rest f → form_said text ≡ Ok f
-unfolding form_said
+read_whole : (v : Version) (text rest : List ℕ) (f : Form) → text ≡ version_text v ++ (10 ∷ rest) → ReadsOn (form_at v) rest f → parsed_form text ≡ Ok f
+unfolding parsed_form
 read_whole v text rest f is reads =
     let a = reads 2 [] in
     ap (λ (t : List ℕ). ended (then_read (header_in (lines_of t)) form_at)) is
@@ -278,10 +278,10 @@ read_whole v text rest f is reads =
     ∙ ap (λ (t : List ℕ). ended (form_at v (at 2 t))) (sym (append-nil rest))
     ∙ ap ended a.1
 
-parted_back : (c : CertificateData) → IsCertificate c → HasSteps c → form_said (parted_spelling c) ≡ Ok (Parted c)
-parted_back c is steps = read_whole One (parted_spelling c) (body c) (Parted c) (spelling_is c) (λ number rest.
+parted_back : (c : CertificateData) → IsCertificate c → HasSteps c → parsed_form (version_1_text c) ≡ Ok (Parted c)
+parted_back c is steps = read_whole One (version_1_text c) (body c) (Parted c) (spelling_is c) (λ number rest.
     let a = body_reads_on c is steps number rest in
-    (a.0, ap (λ (r : Said CertificateData). said_with Parted r) a.1))
+    (a.0, ap (λ (r : Said CertificateData). parsed_with Parted r) a.1))
 
 -- ---- version 2
 
@@ -290,15 +290,15 @@ record IsSpelledItem (x : Item) : Type 0 where
   item : IsItem x
   steps : item_steps x ≡ true
 
-item_taken : (left : EntriesLeft) (x : Item) → IsItem x → may_come left x.indices ≡ true → IsTaken left x.indices (length x.pieces)
+item_taken : (left : RemainingEntries) (x : Item) → IsItem x → may_still_follow left x.indices ≡ true → IsTaken left x.indices (length x.pieces)
 item_taken left x is may = record { may = may; indices = is.indices; some = is.some; few = is.count }
 
-entry_reads_at : (left : EntriesLeft) (x : Item) → IsItem x → may_come left x.indices ≡ true
-    → ReadsOn (line_at (entry_said left)) (item_line x.indices (length x.pieces)) (record { indices = x.indices; pieces = length x.pieces })
+entry_reads_at : (left : RemainingEntries) (x : Item) → IsItem x → may_still_follow left x.indices ≡ true
+    → ReadsOn (line_at (parsed_entry left)) (item_line x.indices (length x.pieces)) (record { indices = x.indices; pieces = length x.pieces })
 entry_reads_at left x is may =
-    subst (λ (t : List ℕ). ReadsOn (line_at (entry_said left)) t (record { indices = x.indices; pieces = length x.pieces }))
+    subst (λ (t : List ℕ). ReadsOn (line_at (parsed_entry left)) t (record { indices = x.indices; pieces = length x.pieces }))
     (sym (item_line_is x.indices (length x.pieces)))
-    (line_reads (entry_said left) (entry_text x.indices (length x.pieces)) (record { indices = x.indices; pieces = length x.pieces })
+    (line_reads (parsed_entry left) (entry_text x.indices (length x.pieces)) (record { indices = x.indices; pieces = length x.pieces })
     (entry_is_line x.indices (length x.pieces) is.indices is.count)
     (entry_reads left x.indices (length x.pieces) (item_taken left x is may)))
 
@@ -306,37 +306,37 @@ item_pieces_read : (i : Indices) (ps : List Piece) → AllByRecursion IsHeld ps
     → ReadsOn (entry_pieces (record { indices = i; pieces = length ps })) (flat_map piece_line ps) (record { indices = i; pieces = ps })
 unfolding entry_pieces
 item_pieces_read i ps h number rest =
-    let a = several_read (line_at piece_said) piece_line IsHeld piece_reads_on ps h number rest in
+    let a = several_read (line_at parsed_piece) piece_line IsHeld piece_reads_on ps h number rest in
     (a.0, ap (λ (r : Said (List Piece)). then_read r (λ pieces q. Ok (record { indices = i; pieces = pieces }, q))) a.1)
 
-item_reads_on : (left : EntriesLeft) (x : Item) → IsSpelledItem x → may_come left x.indices ≡ true → ReadsOn (item_at left) (item_lines x) x
+item_reads_on : (left : RemainingEntries) (x : Item) → IsSpelledItem x → may_still_follow left x.indices ≡ true → ReadsOn (item_at left) (item_lines x) x
 item_reads_on left x h may number rest =
-    let a = then_reads (line_at (entry_said left)) entry_pieces (item_line x.indices (length x.pieces)) (flat_map piece_line x.pieces)
+    let a = then_reads (line_at (parsed_entry left)) entry_pieces (item_line x.indices (length x.pieces)) (flat_map piece_line x.pieces)
     (record { indices = x.indices; pieces = length x.pieces }) x
     (entry_reads_at left x h.item may) (item_pieces_read x.indices x.pieces (held_pieces x.pieces h.item.pieces h.steps)) number rest in
     (a.0, item_is left (at number (item_lines x ++ rest)) ∙ a.1)
 
 -- as many motions remain as these entries have, and they may be next
-record AreLeft (left : EntriesLeft) (xs : List Item) : Type 0 where
+record AreLeft (left : RemainingEntries) (xs : List Item) : Type 0 where
   off : left.off ≡ length ((expansion xs).off)
   on : left.on ≡ length ((expansion xs).on)
-  order : in_order left.behind_on xs ≡ true
+  order : in_order left.after_on xs ≡ true
 
-record IsFirst (left : EntriesLeft) (i : Indices) (xs : List Item) : Type 0 where
-  may : may_come left i ≡ true
-  behind : AreLeft (left_behind left i) xs
+record IsFirst (left : RemainingEntries) (i : Indices) (xs : List Item) : Type 0 where
+  may : may_still_follow left i ≡ true
+  behind : AreLeft (remaining_after left i) xs
 
 above_zero : (m n : ℕ) → m ≡ suc n → nat_lt 0 m ≡ true
 above_zero m n e = grind (arith, nat_tests)
 
-first_of_left : (left : EntriesLeft) (i : Indices) (ps : List Piece) (xs : List Item) → AreLeft left (record { indices = i; pieces = ps } ∷ xs) →
+first_of_left : (left : RemainingEntries) (i : Indices) (ps : List Piece) (xs : List Item) → AreLeft left (record { indices = i; pieces = ps } ∷ xs) →
     IsFirst left i xs
 first_of_left left (of.Both i j) ps xs are = record {
   may = and_from _ _ (above_zero left.off (length ((expansion xs).off)) are.off) (above_zero left.on (length ((expansion xs).on)) are.on);
   behind = record { off = omega (arith, are.off); on = omega (arith, are.on); order = are.order };
 }
 first_of_left left (of.Off i) ps xs are =
-    let p = and_parts (not left.behind_on) (in_order false xs) are.order in
+    let p = and_parts (not left.after_on) (in_order false xs) are.order in
     record {
       may = and_from _ _ (above_zero left.off (length ((expansion xs).off)) are.off) p.0;
       behind = record { off = omega (arith, are.off); on = are.on; order = p.1 };
@@ -346,19 +346,19 @@ first_of_left left (of.On j) ps xs are = record {
   behind = record { off = are.off; on = omega (arith, are.on); order = are.order };
 }
 
-entries_behind : ℕ → EntriesLeft → Item → Place → Said (List Item)
-entries_behind n left x q = then_read (items_at n (left_behind left x.indices) q) (λ xs r. Ok (x ∷ xs, r))
+entries_behind : ℕ → RemainingEntries → Item → Place → Said (List Item)
+entries_behind n left x q = then_read (items_at n (remaining_after left x.indices) q) (λ xs r. Ok (x ∷ xs, r))
 
-more_are : (n : ℕ) (left : EntriesLeft) (p : Place) → 1 ≤ total left → items_at (suc n) left p ≡ then_read (item_at left p) (entries_behind n left)
+more_are : (n : ℕ) (left : RemainingEntries) (p : Place) → 1 ≤ total left → items_at (suc n) left p ≡ then_read (item_at left p) (entries_behind n left)
 unfolding entries_behind
 more_are n left p h = more_items n left p h
 
-behind_reads : (n : ℕ) (left : EntriesLeft) (x : Item) (xs : List Item) → ReadsOn (items_at n (left_behind left x.indices)) (flat_map item_lines xs) xs →
+behind_reads : (n : ℕ) (left : RemainingEntries) (x : Item) (xs : List Item) → ReadsOn (items_at n (remaining_after left x.indices)) (flat_map item_lines xs) xs →
     ReadsOn (entries_behind n left x) (flat_map item_lines xs) (x ∷ xs)
 unfolding entries_behind
 behind_reads n left x xs h number rest = let a = h number rest in (a.0, ap (λ (r : Said (List Item)). then_read r (λ ys q. Ok (x ∷ ys, q))) a.1)
 
-items_read_on : (n : ℕ) (left : EntriesLeft) (xs : List Item) → AllByRecursion IsSpelledItem xs → AreLeft left xs → total left ≤ n →
+items_read_on : (n : ℕ) (left : RemainingEntries) (xs : List Item) → AllByRecursion IsSpelledItem xs → AreLeft left xs → total left ≤ n →
     ReadsOn (items_at n left) (flat_map item_lines xs) xs
 items_read_on n left [] h are few number rest = (number, items_none n left (at number rest) (no_more left (omega (arith, are.off, are.on))))
 items_read_on zero left (x ∷ xs) h are few number rest =
@@ -369,7 +369,7 @@ items_read_on (suc n) left (x ∷ xs) h are few number rest =
     let one = one_fewer left x.indices first.may in
     let a = then_reads (item_at left) (entries_behind n left) (item_lines x) (flat_map item_lines xs) x (x ∷ xs)
     (item_reads_on left x h.0 first.may)
-    (behind_reads n left x xs (items_read_on n (left_behind left x.indices) xs h.1 first.behind (omega (arith, few, one)))) number rest in
+    (behind_reads n left x xs (items_read_on n (remaining_after left x.indices) xs h.1 first.behind (omega (arith, few, one)))) number rest in
     (a.0, more_are n left (at number (flat_map item_lines (x ∷ xs) ++ rest)) (omega (arith, one)) ∙ a.1)
 
 spelled_items : (xs : List Item) → All IsItem xs → list_all item_steps xs ≡ true → AllByRecursion IsSpelledItem xs
@@ -379,19 +379,19 @@ spelled_items (x ∷ xs) all steps =
     (record { item = All-head IsItem x xs all; steps = s.0 }, spelled_items xs (All-tail IsItem x xs all) s.1)
 
 end_of_items : List Item → Place → Said (List Item)
-end_of_items items r = then_read (line_at end_said r) (λ _ s. Ok (items, s))
+end_of_items items r = then_read (line_at parsed_end r) (λ _ s. Ok (items, s))
 
 items_behind : CountsLine → Place → Said (List Item)
 items_behind c q = then_read (items_at (c.off + c.on) (all_left c) q) end_of_items
 
-joined_is : (p : Place) → joined_at p ≡ then_read (line_at counts_said p) items_behind
+joined_is : (p : Place) → joined_at p ≡ then_read (line_at parsed_counts p) items_behind
 unfolding joined_at items_behind end_of_items
 joined_is p = refl
 
 end_items_read : (items : List Item) → ReadsOn (end_of_items items) (codes "end" ++ (10 ∷ [])) items
 unfolding end_of_items
 end_items_read items number rest =
-    let a = line_reads end_said (codes "end") tt end_is_line end_reads number rest in
+    let a = line_reads parsed_end (codes "end") tt end_is_line end_reads number rest in
     (a.0, ap (λ (r : Said (Unit {0})). then_read r (λ _ s. Ok (items, s))) a.1)
 
 abbrev counts_of : List Item → CountsLine
@@ -413,31 +413,31 @@ counts_line_is m n = flat (codes "motions") (32 ∷ []) (decimal m) (decimal n) 
   flat w s a b n = simp append_assoc
 
 counts_reads_on : (m n : ℕ) → m ≤ MOTION_LIMIT → n ≤ MOTION_LIMIT →
-    ReadsOn (line_at counts_said) (codes "motions " ++ decimal m ++ codes " " ++ decimal n ++ codes "\n") (record { off = m; on = n })
+    ReadsOn (line_at parsed_counts) (codes "motions " ++ decimal m ++ codes " " ++ decimal n ++ codes "\n") (record { off = m; on = n })
 counts_reads_on m n hm hn =
-    subst (λ (t : List ℕ). ReadsOn (line_at counts_said) t (record { off = m; on = n })) (sym (counts_line_is m n))
-    (line_reads counts_said (counts_text m n) (record { off = m; on = n }) (counts_is_line m n hm hn) (counts_reads m n hm hn))
+    subst (λ (t : List ℕ). ReadsOn (line_at parsed_counts) t (record { off = m; on = n })) (sym (counts_line_is m n))
+    (line_reads parsed_counts (counts_text m n) (record { off = m; on = n }) (counts_is_line m n hm hn) (counts_reads m n hm hn))
 
 abbrev joined_body : List Item → List ℕ
 joined_body items = counts_line (expansion items) ++ (flat_map item_lines items ++ codes "end\n")
 
 joined_reads_on : (items : List Item) → IsJoined items → list_all item_steps items ≡ true → ReadsOn joined_at (joined_body items) items
 joined_reads_on items is steps number rest =
-    let a = then_reads (line_at counts_said) items_behind (counts_line (expansion items)) (flat_map item_lines items ++ codes "end\n") (counts_of items) items
+    let a = then_reads (line_at parsed_counts) items_behind (counts_line (expansion items)) (flat_map item_lines items ++ codes "end\n") (counts_of items) items
     (counts_reads_on (length ((expansion items).off)) (length ((expansion items).on)) is.off is.on) (items_reads_end items is steps) number rest in
     (a.0, joined_is (at number (joined_body items ++ rest)) ∙ a.1)
 
-joined_spelling_is : (items : List Item) → joined_spelling items ≡ codes "ngc-certificate 2" ++ (10 ∷ joined_body items)
+joined_spelling_is : (items : List Item) → version_2_text items ≡ codes "ngc-certificate 2" ++ (10 ∷ joined_body items)
 joined_spelling_is items = flat (codes "ngc-certificate 2\n") (counts_line (expansion items)) (flat_map item_lines items) (codes "end\n") where
   flat : (h a b e : List ℕ) → h ++ a ++ b ++ e ≡ h ++ (a ++ (b ++ e))
   flat h a b e = simp append_assoc
 
-joined_back : (items : List Item) → IsJoined items → list_all item_steps items ≡ true → form_said (joined_spelling items) ≡ Ok (Joined items)
-joined_back items is steps = read_whole Two (joined_spelling items) (joined_body items) (Joined items) (joined_spelling_is items) (λ number rest.
+joined_back : (items : List Item) → IsJoined items → list_all item_steps items ≡ true → parsed_form (version_2_text items) ≡ Ok (Joined items)
+joined_back items is steps = read_whole Two (version_2_text items) (joined_body items) (Joined items) (joined_spelling_is items) (λ number rest.
     let a = joined_reads_on items is steps number rest in
-    (a.0, ap (λ (r : Said (List Item)). said_with Joined r) a.1))
+    (a.0, ap (λ (r : Said (List Item)). parsed_with Joined r) a.1))
 
-pub reads_back : (f : Form) → IsForm f → form_said (spelling f) ≡ Ok f
+pub reads_back : (f : Form) → IsForm f → parsed_form (spelling f) ≡ Ok f
 reads_back (Parted c) is = parted_back c is.0 is.1
 reads_back (Joined items) is = joined_back items is.0 is.1
 
@@ -477,8 +477,8 @@ several_spells {X} said text good spells (suc n) p xs q h =
     ) in
     subst (λ (r : List X × Place). SeveralSpells text good (suc n) p r.0 r.1) e all
 
-piece_spells : Spells (line_at piece_said) piece_line IsHeld
-piece_spells = line_spells piece_said piece_line IsHeld
+piece_spells : Spells (line_at parsed_piece) piece_line IsHeld
+piece_spells = line_spells parsed_piece piece_line IsHeld
     (λ line x h. let s = piece_spelled line x h in (ap (λ (l : List ℕ). l ++ (10 ∷ [])) s.is ∙ sym (piece_line_is x), s.held))
 
 record GoodMotion (m : MotionLine) : Type 0 where
@@ -486,8 +486,8 @@ record GoodMotion (m : MotionLine) : Type 0 where
   some : 1 ≤ m.pieces
   few : m.pieces ≤ PIECE_LIMIT
 
-motion_spells : Spells (line_at motion_said) (λ m. motion_line m.index m.pieces) GoodMotion
-motion_spells = line_spells motion_said (λ m. motion_line m.index m.pieces) GoodMotion
+motion_spells : Spells (line_at parsed_motion) (λ m. motion_line m.index m.pieces) GoodMotion
+motion_spells = line_spells parsed_motion (λ m. motion_line m.index m.pieces) GoodMotion
     (λ line x h. let s = motion_spelled line x h in
     (ap (λ (l : List ℕ). l ++ (10 ∷ [])) s.is ∙ sym (motion_line_is x.index x.pieces), record { index = s.index; some = s.some; few = s.few }))
 
@@ -502,11 +502,11 @@ held_steps (p ∷ ps) h = rw (h.0.steps, held_steps ps h.1) refl
 entry_spells : Spells entry_at entry_lines IsSpelledEntry
 unfolding pieces_behind
 entry_spells p e q h =
-    let a = then_ok (line_at motion_said p) pieces_behind e q (sym (entry_is p) ∙ h) in
-    let b = then_ok (several (line_at piece_said) a.0.pieces a.1) (λ pieces r. Ok (record { index = a.0.index; pieces = pieces }, r)) e q a.3 in
+    let a = then_ok (line_at parsed_motion p) pieces_behind e q (sym (entry_is p) ∙ h) in
+    let b = then_ok (several (line_at parsed_piece) a.0.pieces a.1) (λ pieces r. Ok (record { index = a.0.index; pieces = pieces }, r)) e q a.3 in
     let same : read_to (with_pieces a.0.index b.0) b.1 ≡ read_to e q = ok_same (read_to (with_pieces a.0.index b.0) b.1) (read_to e q) b.3 in
     let first = motion_spells p a.0 a.1 a.2 in
-    let more = several_spells (line_at piece_said) piece_line IsHeld piece_spells a.0.pieces a.1 b.0 b.1 b.2 in
+    let more = several_spells (line_at parsed_piece) piece_line IsHeld piece_spells a.0.pieces a.1 b.0 b.1 b.2 in
     let text : text_left p ≡ entry_lines (with_pieces a.0.index b.0) ++ text_left b.1 =
     first.0 ∙ ap (λ (l : List ℕ). motion_line a.0.index a.0.pieces ++ l) more.0
     ∙ sym (append_assoc (motion_line a.0.index a.0.pieces) (flat_map piece_line b.0) (text_left b.1))
@@ -537,10 +537,10 @@ record GoodSetting (es : List Entry) : Type 0 where
   steps : list_all has_steps es ≡ true
 
 setting_spells : (name : List ℕ) → Spells (setting_at name) (setting_lines name) GoodSetting
-unfolding motions_behind
+unfolding motions_after
 setting_spells name p es q h =
-    let a = then_ok (line_at (setting_said name) p) motions_behind es q (sym (setting_is name p) ∙ h) in
-    let t = line_taken (setting_said name) p a.0 a.1 a.2 in
+    let a = then_ok (line_at (parsed_setting name) p) motions_after es q (sym (setting_is name p) ∙ h) in
+    let t = line_taken (parsed_setting name) p a.0 a.1 a.2 in
     let s = setting_spelled name t.line a.0 t.says in
     let more = several_spells entry_at entry_lines IsSpelledEntry entry_spells a.0 a.1 es q a.3 in
     let line : text_left p ≡ (codes "setting " ++ name ++ codes " " ++ decimal a.0 ++ codes "\n") ++ text_left a.1 =
@@ -556,9 +556,9 @@ record GoodCertificate (c : CertificateData) : Type 0 where
   off : GoodSetting c.off
   on : GoodSetting c.on
 
-end_text : (p : Place) (x : Unit {0}) (q : Place) → line_at end_said p ≡ Ok (x, q) → text_left p ≡ codes "end\n" ++ text_left q
+end_text : (p : Place) (x : Unit {0}) (q : Place) → line_at parsed_end p ≡ Ok (x, q) → text_left p ≡ codes "end\n" ++ text_left q
 end_text p x q h =
-    let t = line_taken end_said p x q h in
+    let t = line_taken parsed_end p x q h in
     t.joined ∙ ap (λ (l : List ℕ). l ++ (10 ∷ text_left q)) (end_spelled t.line x t.says)
 
 settings_spell : (p : Place) (c : CertificateData) (q : Place) → settings_at p ≡ Ok (c, q) → (text_left p ≡ body c ++ text_left q) × GoodCertificate c
@@ -566,7 +566,7 @@ unfolding on_behind end_behind
 settings_spell p c q h =
     let a = then_ok (setting_at (codes "off") p) on_behind c q (sym (settings_are p) ∙ h) in
     let b = then_ok (setting_at (codes "on") a.1) (end_behind a.0) c q a.3 in
-    let d = then_ok (line_at end_said b.1) (λ _ s. Ok (record { off = a.0; on = b.0 }, s)) c q b.3 in
+    let d = then_ok (line_at parsed_end b.1) (λ _ s. Ok (record { off = a.0; on = b.0 }, s)) c q b.3 in
     let same : read_to (both_settings a.0 b.0) d.1 ≡ read_to c q = ok_same (read_to (both_settings a.0 b.0) d.1) (read_to c q) d.3 in
     let off = setting_spells (codes "off") p a.0 a.1 a.2 in
     let on = setting_spells (codes "on") a.1 b.0 b.1 b.2 in
@@ -584,27 +584,27 @@ settings_spell p c q h =
 
 -- ---- version 2
 
-entry_line_spells : (left : EntriesLeft) (p : Place) (e : EntryLine) (q : Place) → line_at (entry_said left) p ≡ Ok (e, q)
+entry_line_spells : (left : RemainingEntries) (p : Place) (e : EntryLine) (q : Place) → line_at (parsed_entry left) p ≡ Ok (e, q)
     → (text_left p ≡ item_line e.indices e.pieces ++ text_left q) × IsTaken left e.indices e.pieces
 entry_line_spells left p e q h =
-    let t = line_taken (entry_said left) p e q h in
+    let t = line_taken (parsed_entry left) p e q h in
     let s = entry_spelled left t.line e t.says in (
       t.joined ∙ sym (append_assoc t.line (10 ∷ []) (text_left q)) ∙ ap (λ (l : List ℕ). l ++ (10 ∷ []) ++ text_left q) s.is
           ∙ ap (λ (l : List ℕ). l ++ text_left q) (sym (item_line_is e.indices e.pieces)),
       s.taken,
     )
 
-abbrev ItemSpells : EntriesLeft → Place → Item → Place → Type 0
-ItemSpells left p x q = (text_left p ≡ item_lines x ++ text_left q) × IsSpelledItem x × (may_come left x.indices ≡ true)
+abbrev ItemSpells : RemainingEntries → Place → Item → Place → Type 0
+ItemSpells left p x q = (text_left p ≡ item_lines x ++ text_left q) × IsSpelledItem x × (may_still_follow left x.indices ≡ true)
 
-item_spells : (left : EntriesLeft) (p : Place) (x : Item) (q : Place) → item_at left p ≡ Ok (x, q) → ItemSpells left p x q
+item_spells : (left : RemainingEntries) (p : Place) (x : Item) (q : Place) → item_at left p ≡ Ok (x, q) → ItemSpells left p x q
 unfolding entry_pieces
 item_spells left p x q h =
-    let a = then_ok (line_at (entry_said left) p) entry_pieces x q (sym (item_is left p) ∙ h) in
-    let b = then_ok (several (line_at piece_said) a.0.pieces a.1) (λ pieces r. Ok (item_with a.0.indices pieces, r)) x q a.3 in
+    let a = then_ok (line_at (parsed_entry left) p) entry_pieces x q (sym (item_is left p) ∙ h) in
+    let b = then_ok (several (line_at parsed_piece) a.0.pieces a.1) (λ pieces r. Ok (item_with a.0.indices pieces, r)) x q a.3 in
     let same : read_to (item_with a.0.indices b.0) b.1 ≡ read_to x q = ok_same (read_to (item_with a.0.indices b.0) b.1) (read_to x q) b.3 in
     let first = entry_line_spells left p a.0 a.1 a.2 in
-    let more = several_spells (line_at piece_said) piece_line IsHeld piece_spells a.0.pieces a.1 b.0 b.1 b.2 in
+    let more = several_spells (line_at parsed_piece) piece_line IsHeld piece_spells a.0.pieces a.1 b.0 b.1 b.2 in
     let text : text_left p ≡ item_lines (item_with a.0.indices b.0) ++ text_left b.1 =
     first.0 ∙ ap (λ (l : List ℕ). item_line a.0.indices a.0.pieces ++ l) more.0
     ∙ sym (append_assoc (item_line a.0.indices a.0.pieces) (flat_map piece_line b.0) (text_left b.1))
@@ -625,7 +625,7 @@ item_spells left p x q h =
 one_more : (m n : ℕ) → nat_lt 0 m ≡ true → m - 1 ≡ n → m ≡ suc n
 one_more m n h e = grind (arith, nat_tests)
 
-left_with : (left : EntriesLeft) (i : Indices) (ps : List Piece) (xs : List Item) → may_come left i ≡ true → AreLeft (left_behind left i) xs →
+left_with : (left : RemainingEntries) (i : Indices) (ps : List Piece) (xs : List Item) → may_still_follow left i ≡ true → AreLeft (remaining_after left i) xs →
     AreLeft left (record { indices = i; pieces = ps } ∷ xs)
 left_with left (of.Both i j) ps xs may are =
     let p = and_parts (nat_lt 0 left.off) (nat_lt 0 left.on) may in
@@ -635,32 +635,32 @@ left_with left (of.Both i j) ps xs may are =
       order = are.order;
     }
 left_with left (of.Off i) ps xs may are =
-    let p = and_parts (nat_lt 0 left.off) (not left.behind_on) may in
+    let p = and_parts (nat_lt 0 left.off) (not left.after_on) may in
     record { off = one_more left.off (length ((expansion xs).off)) p.0 are.off; on = are.on; order = and_from _ _ p.1 are.order }
 left_with left (of.On j) ps xs may are =
     let some = some_on left j may in
     record { off = are.off; on = omega (arith, some, are.on); order = are.order }
 
-abbrev ItemsSpell : EntriesLeft → Place → List Item → Place → Type 0
+abbrev ItemsSpell : RemainingEntries → Place → List Item → Place → Type 0
 ItemsSpell left p xs q = (text_left p ≡ flat_map item_lines xs ++ text_left q) × AllByRecursion IsSpelledItem xs × AreLeft left xs
 
-none_spell : (n : ℕ) (left : EntriesLeft) (p : Place) (xs : List Item) (q : Place) → total left ≡ 0 → items_at n left p ≡ Ok (xs, q) → ItemsSpell left p xs q
+none_spell : (n : ℕ) (left : RemainingEntries) (p : Place) (xs : List Item) (q : Place) → total left ≡ 0 → items_at n left p ≡ Ok (xs, q) → ItemsSpell left p xs q
 none_spell n left p xs q none h =
     let e : read_to [] p ≡ read_to xs q = ok_same (read_to [] p) (read_to xs q) (sym (items_none n left p (no_more left none)) ∙ h) in
     subst (λ (r : List Item × Place). ItemsSpell left p r.0 r.1) e (refl, tt, record { off = omega (arith, none); on = omega (arith, none); order = refl })
 
-some_spell : (n m : ℕ) (left : EntriesLeft) (p : Place) (xs : List Item) (q : Place)
-    → ((more : EntriesLeft) (r : Place) (ys : List Item) (s : Place) → total more ≤ n → items_at n more r ≡ Ok (ys, s) → ItemsSpell more r ys s)
+some_spell : (n m : ℕ) (left : RemainingEntries) (p : Place) (xs : List Item) (q : Place)
+    → ((more : RemainingEntries) (r : Place) (ys : List Item) (s : Place) → total more ≤ n → items_at n more r ≡ Ok (ys, s) → ItemsSpell more r ys s)
     → total left ≤ suc n → total left ≡ m → items_at (suc n) left p ≡ Ok (xs, q) → ItemsSpell left p xs q
 some_spell n zero left p xs q spells few e h = none_spell (suc n) left p xs q e h
 some_spell n (suc m) left p xs q spells few e h =
-    let a = then_ok (item_at left p) (λ x r. then_read (items_at n (left_behind left x.indices) r) (λ ys s. Ok (x ∷ ys, s))) xs q
+    let a = then_ok (item_at left p) (λ x r. then_read (items_at n (remaining_after left x.indices) r) (λ ys s. Ok (x ∷ ys, s))) xs q
     (sym (more_items n left p (omega (arith, e))) ∙ h) in
-    let b = then_ok (items_at n (left_behind left a.0.indices) a.1) (λ ys s. Ok (a.0 ∷ ys, s)) xs q a.3 in
+    let b = then_ok (items_at n (remaining_after left a.0.indices) a.1) (λ ys s. Ok (a.0 ∷ ys, s)) xs q a.3 in
     let same : read_to (a.0 ∷ b.0) b.1 ≡ read_to xs q = ok_same (read_to (a.0 ∷ b.0) b.1) (read_to xs q) b.3 in
     let first = item_spells left p a.0 a.1 a.2 in
     let one = one_fewer left a.0.indices first.2 in
-    let more = spells (left_behind left a.0.indices) a.1 b.0 b.1 (omega (arith, few, one)) b.2 in
+    let more = spells (remaining_after left a.0.indices) a.1 b.0 b.1 (omega (arith, few, one)) b.2 in
     let all : ItemsSpell left p (a.0 ∷ b.0) b.1 = (
       first.0 ∙ ap (λ (l : List ℕ). item_lines a.0 ++ l) more.0 ∙ sym (append_assoc (item_lines a.0) (flat_map item_lines b.0) (text_left b.1)),
       (first.1, more.1),
@@ -668,7 +668,7 @@ some_spell n (suc m) left p xs q spells few e h =
     ) in
     subst (λ (r : List Item × Place). ItemsSpell left p r.0 r.1) same all
 
-items_spell : (n : ℕ) (left : EntriesLeft) (p : Place) (xs : List Item) (q : Place) → total left ≤ n → items_at n left p ≡ Ok (xs, q) → ItemsSpell left p xs q
+items_spell : (n : ℕ) (left : RemainingEntries) (p : Place) (xs : List Item) (q : Place) → total left ≤ n → items_at n left p ≡ Ok (xs, q) → ItemsSpell left p xs q
 items_spell zero left p xs q few h = none_spell 0 left p xs q (omega (arith, few)) h
 items_spell (suc n) left p xs q few h = some_spell n (total left) left p xs q (λ more r ys s k e. items_spell n more r ys s k e) few refl h
 
@@ -684,11 +684,11 @@ joined_spell : (p : Place) (items : List Item) (q : Place) → joined_at p ≡ O
     (text_left p ≡ joined_body items ++ text_left q) × IsForm (Joined items)
 unfolding items_behind end_of_items
 joined_spell p items q h =
-    let a = then_ok (line_at counts_said p) items_behind items q (sym (joined_is p) ∙ h) in
+    let a = then_ok (line_at parsed_counts p) items_behind items q (sym (joined_is p) ∙ h) in
     let b = then_ok (items_at (a.0.off + a.0.on) (all_left a.0) a.1) end_of_items items q a.3 in
-    let d = then_ok (line_at end_said b.1) (λ _ s. Ok (b.0, s)) items q b.3 in
+    let d = then_ok (line_at parsed_end b.1) (λ _ s. Ok (b.0, s)) items q b.3 in
     let same : read_to b.0 d.1 ≡ read_to items q = ok_same (read_to b.0 d.1) (read_to items q) d.3 in
-    let t = line_taken counts_said p a.0 a.1 a.2 in
+    let t = line_taken parsed_counts p a.0 a.1 a.2 in
     let c = counts_spelled t.line a.0 t.says in
     let more = items_spell (a.0.off + a.0.on) (all_left a.0) a.1 b.0 b.1 (omega arith) b.2 in
     let end = end_text b.1 d.0 d.1 d.2 in
@@ -717,11 +717,11 @@ version_if line v true d e f h = let is : One ≡ v = cc h in bytes_same line (c
 version_if line v false true e f h = let is : Two ≡ v = cc h in bytes_same line (codes "ngc-certificate 2") f ∙ ap version_text is
 version_if line v false false e f h = absurd (cc h)
 
-version_spelled : (line : List ℕ) (v : Version) → version_said line ≡ Ok v → line ≡ version_text v
-unfolding version_said
+version_spelled : (line : List ℕ) (v : Version) → parsed_version line ≡ Ok v → line ≡ version_text v
+unfolding parsed_version
 version_spelled line v h = version_if line v (bytes_eq line (codes "ngc-certificate 1")) (bytes_eq line (codes "ngc-certificate 2")) refl refl h
 
-header_by : (line next : List ℕ) (left : List (List ℕ)) (v : Version) (p : Place) (r : Result Version LineFlaw) → version_said line ≡ r →
+header_by : (line next : List ℕ) (left : List (List ℕ)) (v : Version) (p : Place) (r : Result Version LineFlaw) → parsed_version line ≡ r →
     version_is r (next ∷ left) ≡ said_ok (v, p)
     → join_with_byte 10 (line ∷ next ∷ left) ≡ version_text v ++ (10 ∷ text_left p)
 header_by line next left v p (Ok w) e h =
@@ -734,7 +734,7 @@ header_by line next left v p (Err flaw) e h = absurd (cc h)
 header_text : (lines : List (List ℕ)) (v : Version) (p : Place) → header_in lines ≡ Ok (v, p) → join_with_byte 10 lines ≡ version_text v ++ (10 ∷ text_left p)
 header_text [] v p h = absurd (cc h)
 header_text (last ∷ []) v p h = absurd (cc h)
-header_text (line ∷ next ∷ left) v p h = header_by line next left v p (version_said line) refl h
+header_text (line ∷ next ∷ left) v p h = header_by line next left v p (parsed_version line) refl h
 
 ended_if : (r : Form × Place) (f : Form) (b : Bool) → nothing_in r.1.left ≡ b → (if b then Ok r.0 else Err (BadLine r.1.number)) ≡ Ok f
     → (nothing_in r.1.left ≡ true) × (r.0 ≡ f)
@@ -783,8 +783,8 @@ whole_spelling : (f : Form) → spelling f ≡ version_text (version_of f) ++ (1
 whole_spelling (Parted c) = spelling_is c
 whole_spelling (Joined items) = joined_spelling_is items
 
-pub spelled_only : (text : List ℕ) (f : Form) → form_said text ≡ Ok f → IsForm f × (text ≡ spelling f)
-unfolding form_said
+pub spelled_only : (text : List ℕ) (f : Form) → parsed_form text ≡ Ok f → IsForm f × (text ≡ spelling f)
+unfolding parsed_form
 spelled_only text f h =
     let e = ended_ok (then_read (header_in (lines_of text)) form_at) f h in
     let a = then_ok (header_in (lines_of text)) form_at f e.0 e.1 in
@@ -797,5 +797,5 @@ spelled_only text f h =
           ∙ ap (λ (v : Version). version_text v ++ (10 ∷ body_of f)) rest.version ∙ sym (whole_spelling f),
     )
 
-pub one_spelling : OneSpelling
-one_spelling text f = (spelled_only text f, λ h. subst (λ (t : List ℕ). form_said t ≡ Ok f) (sym h.1) (reads_back f h.0))
+pub one_writing : IsOneWriting
+one_writing text f = (spelled_only text f, λ h. subst (λ (t : List ℕ). parsed_form t ≡ Ok f) (sym h.1) (reads_back f h.0))

@@ -10,7 +10,7 @@ use Rattle.ngc_certificate_text.specs.declared.lines.LineFlaw.{LineFlaw}
 use Rattle.ngc_fixed_length.specs.declared.points.GridBox.{GridBox}
 use Rattle.ngc_fixed_length.specs.Boxes.{is_below}
 use Rattle.ngc_certificate_text.specs.Lines.{is_step, are_steps, ranged}
-use Rattle.ngc_certificate_text.specs.Parts.{box_said, box_between}
+use Rattle.ngc_certificate_text.specs.Parts.{parsed_box, box_between}
 
 step_fits : (z : ℤ) → is_step z ≡ true → SFits w32 z
 step_fits (pos n) h = let p = and_parts true (nat_le n 2147483647) h in record { sfits = grind (arith, nat_tests, p.1) }
@@ -46,7 +46,7 @@ box_parts false q low high = refl
 
 six_said : (xs : List ℤ) (a b c d e f : ℤ) → 6 ≤ length xs → length xs < 7 → a ≡ get_or xs 0 (pos 0) → b ≡ get_or xs 1 (pos 0) → c ≡ get_or xs 2 (pos 0)
     → d ≡ get_or xs 3 (pos 0) → e ≡ get_or xs 4 (pos 0) → f ≡ get_or xs 5 (pos 0)
-    → box_between (ranged (are_steps (point a b c)) (point a b c)) (ranged (are_steps (point d e f)) (point d e f)) ≡ box_said xs
+    → box_between (ranged (are_steps (point a b c)) (point a b c)) (ranged (are_steps (point d e f)) (point d e f)) ≡ parsed_box xs
 six_said [] a b c d e f low high ea eb ec ed ee ef = absurd (omega (arith, low))
 six_said (x0 ∷ []) a b c d e f low high ea eb ec ed ee ef = absurd (omega (arith, low))
 six_said (x0 ∷ x1 ∷ []) a b c d e f low high ea eb ec ed ee ef = absurd (omega (arith, low))
@@ -64,7 +64,7 @@ six_said (x0 ∷ x1 ∷ x2 ∷ x3 ∷ x4 ∷ x5 ∷ x6 ∷ xs) a b c d e f low h
 pub box_is_said : (xs : List ℤ) (a b c d e f : ℤ) (low high : Result StepPos LineFlaw) (found : Result GridBox LineFlaw) → 6 ≤ length xs → length xs < 7
     → a ≡ get_or xs 0 (pos 0) → b ≡ get_or xs 1 (pos 0) → c ≡ get_or xs 2 (pos 0) → d ≡ get_or xs 3 (pos 0) → e ≡ get_or xs 4 (pos 0) → f ≡ get_or xs 5 (pos 0)
     → low ≡ ranged (are_steps (point a b c)) (point a b c) → high ≡ ranged (are_steps (point d e f)) (point d e f) → found ≡ box_between low high →
-    found ≡ box_said xs
+    found ≡ parsed_box xs
 box_is_said xs a b c d e f low high found some few ea eb ec ed ee ef is_low is_high is =
     is ∙ ap (λ (l : Result StepPos LineFlaw). box_between l high) is_low
     ∙ ap (λ (h : Result StepPos LineFlaw). box_between (ranged (are_steps (point a b c)) (point a b c)) h) is_high

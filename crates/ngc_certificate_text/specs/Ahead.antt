@@ -5,11 +5,11 @@ use Rattle.std.specs.Prelude.{◌==◌, nat_lt}
 use Rattle.ngc_certificate_text.specs.declared.expected.Expected.{Expected}
 use Rattle.ngc_certificate_text.specs.declared.expected.Expected.TheVariants as next
 use Rattle.ngc_certificate_text.specs.declared.expected.BegunMotion.{BegunMotion}
-use Rattle.ngc_certificate_text.specs.declared.expected.EntriesLeft.{EntriesLeft}
+use Rattle.ngc_certificate_text.specs.declared.expected.RemainingEntries.{RemainingEntries}
 use Rattle.ngc_certificate_text.specs.declared.expected.Indices.{Indices}
 use Rattle.ngc_certificate_text.specs.declared.expected.Indices.TheVariants as of
-use Rattle.ngc_certificate_text.specs.declared.expected.MotionsLeft.{MotionsLeft}
-use Rattle.ngc_certificate_text.specs.declared.expected.MotionsLeft.TheVariants.{Parted, Joined}
+use Rattle.ngc_certificate_text.specs.declared.expected.RemainingMotions.{RemainingMotions}
+use Rattle.ngc_certificate_text.specs.declared.expected.RemainingMotions.TheVariants.{Parted, Joined}
 use Rattle.ngc_certificate_text.specs.declared.fault.CertificateFault.{CertificateFault}
 use Rattle.ngc_certificate_text.specs.declared.fault.CertificateFault.TheVariants as faults
 use Rattle.ngc_certificate_text.specs.declared.piece.Piece.{Piece}
@@ -18,10 +18,10 @@ use Rattle.ngc_certificate_text.specs.declared.piece.Setting.TheVariants.{Off, O
 use Rattle.ngc_certificate_text.specs.declared.told.Version.{Version}
 use Rattle.ngc_certificate_text.specs.declared.told.Version.TheVariants.{One, Two}
 use Rattle.ngc_certificate_text.specs.Certificate.{Entry, CertificateData, MOTION_LIMIT}
-use Rattle.ngc_certificate_text.specs.EntryLines.{counts_said, all_left, none_left, left_behind}
+use Rattle.ngc_certificate_text.specs.EntryLines.{parsed_counts, all_left, none_left, remaining_after}
 use Rattle.ngc_certificate_text.specs.Joined.{Item, expansion, Form, form_by}
-use Rattle.ngc_certificate_text.specs.Lines.{piece_said, end_said}
-pub use Rattle.ngc_certificate_text.specs.Said.{said_with, made_with}
+use Rattle.ngc_certificate_text.specs.Lines.{parsed_piece, parsed_end}
+pub use Rattle.ngc_certificate_text.specs.Said.{parsed_with, made_with}
 use Rattle.ngc_certificate_text.specs.Said.{Place, Said, then_read, line_at, several, entry_at}
 use Rattle.ngc_certificate_text.specs.Said.{setting_at, items_at, header_in, ended}
 
@@ -69,44 +69,44 @@ name_of On = codes "on"
 
 -- the last line
 unfoldable pub end_ahead : Place → Said Rest
-end_ahead p = then_read (line_at end_said p) (λ _ q. Ok (nothing_left, q))
+end_ahead p = then_read (line_at parsed_end p) (λ _ q. Ok (nothing_left, q))
 
 -- what follows a setting: the other one, or the last line
 unfoldable pub behind : Setting → Place → Said Rest
 behind Off p =
-    then_read (setting_at (codes "on") p) (λ more q. said_with (with_motions On more) (end_ahead q))
+    then_read (setting_at (codes "on") p) (λ more q. parsed_with (with_motions On more) (end_ahead q))
 behind On p = end_ahead p
 
 -- a setting, and what follows it
 unfoldable pub setting_ahead : Setting → Place → Said Rest
 setting_ahead s p =
-    then_read (setting_at (name_of s) p) (λ more q. said_with (with_motions s more) (behind s q))
+    then_read (setting_at (name_of s) p) (λ more q. parsed_with (with_motions s more) (behind s q))
 
 -- the remaining motions of a setting, or the remaining entries of both
-unfoldable pub motions_ahead : MotionsLeft → Place → Said Rest
+unfoldable pub motions_ahead : RemainingMotions → Place → Said Rest
 motions_ahead (Parted s left) p =
-    then_read (several entry_at left p) (λ more q. said_with (with_motions s more) (behind s q))
+    then_read (several entry_at left p) (λ more q. parsed_with (with_motions s more) (behind s q))
 motions_ahead (Joined left) p = then_read (items_at (left.off + left.on) left p)
-    (λ more q. said_with (with_items more) (end_ahead q))
+    (λ more q. parsed_with (with_items more) (end_ahead q))
 
 -- the remaining pieces of a motion, and the motions after it
 unfoldable pub pieces_ahead : BegunMotion → Place → Said Rest
 pieces_ahead b p =
-    then_read (several (line_at piece_said) b.pieces_left p) (λ pieces q.
-    said_with (with_pieces pieces) (motions_ahead b.behind q))
+    then_read (several (line_at parsed_piece) b.pieces_left p) (λ pieces q.
+    parsed_with (with_pieces pieces) (motions_ahead b.behind q))
 
 -- the counts of version 2, and its entries
 unfoldable pub counts_ahead : Place → Said Rest
-counts_ahead p = then_read (line_at counts_said p) (λ c q. motions_ahead (Joined (all_left c)) q)
+counts_ahead p = then_read (line_at parsed_counts p) (λ c q. motions_ahead (Joined (all_left c)) q)
 
-unfoldable pub behind_header : Version → Place → Said Rest
-behind_header One p = setting_ahead Off p
-behind_header Two p = counts_ahead p
+unfoldable pub after_header : Version → Place → Said Rest
+after_header One p = setting_ahead Off p
+after_header Two p = counts_ahead p
 
 -- the result of the text from this line on
 unfoldable pub ahead : Expected → Place → Said Rest
 ahead next.Header p =
-    then_read (header_in p.left) (λ v q. said_with (of_version v) (behind_header v q))
+    then_read (header_in p.left) (λ v q. parsed_with (of_version v) (after_header v q))
 ahead (next.Setting s) p = setting_ahead s p
 ahead next.Counts p = counts_ahead p
 ahead (next.Motion left) p = motions_ahead left p
@@ -128,19 +128,19 @@ abbrev pub next_setting : Setting → Expected
 next_setting Off = next.Setting On
 next_setting On = next.End
 
-abbrev pub next_of_entries : Bool → EntriesLeft → Expected
+abbrev pub next_of_entries : Bool → RemainingEntries → Expected
 next_of_entries true left = next.End
 next_of_entries false left = next.Motion (Joined left)
 
-abbrev pub next_of_motions : MotionsLeft → Expected
+abbrev pub next_of_motions : RemainingMotions → Expected
 next_of_motions (Parted s zero) = next_setting s
 next_of_motions (Parted s (suc n)) = next.Motion (Parted s (suc n))
 next_of_motions (Joined left) = next_of_entries (none_left left) left
 
 -- the remaining motions after a motion
-abbrev pub motions_behind : MotionsLeft → Indices → MotionsLeft
-motions_behind (Parted s left) indices = Parted s (left - 1)
-motions_behind (Joined left) indices = Joined (left_behind left indices)
+abbrev pub motions_after : RemainingMotions → Indices → RemainingMotions
+motions_after (Parted s left) indices = Parted s (left - 1)
+motions_after (Joined left) indices = Joined (remaining_after left indices)
 
 -- the fault of a line that is missing, or too long
 abbrev pub wrong_line : Expected → ℕ → CertificateFault
@@ -152,18 +152,18 @@ wrong_line (next.Piece b) number = faults.BadLine number
 wrong_line next.End number = faults.BadLine number
 wrong_line next.Nothing number = faults.BadLine number
 
-abbrev pub how_many : MotionsLeft → ℕ
+abbrev pub how_many : RemainingMotions → ℕ
 how_many (Parted s left) = left
 how_many (Joined left) = left.off + left.on
 
-abbrev pub HaveSome : MotionsLeft → Type 0
+abbrev pub HaveSome : RemainingMotions → Type 0
 HaveSome left = 1 ≤ how_many left
 
 -- Some motion may be next. After an entry of `on` alone, none may be if motions of `off` remain and
 -- none of `on`.
-abbrev pub go_on : MotionsLeft → Bool
+abbrev pub go_on : RemainingMotions → Bool
 go_on (Parted s left) = true
-go_on (Joined left) = not left.behind_on || ((left.off == 0) || nat_lt 0 left.on)
+go_on (Joined left) = not left.after_on || ((left.off == 0) || nat_lt 0 left.on)
 
 -- some line may be next; if none may, the next line is wrong whatever it is
 abbrev pub is_open : Expected → Bool
@@ -178,7 +178,7 @@ is_open next.Nothing = true
 -- some line may be next, a motion or a piece is counted, and the first line has the first number
 pub record IsSound (e : Expected) (number : ℕ) : Type 0 where
   pub first : e ≡ next.Header → number ≡ 1
-  pub motion : (left : MotionsLeft) → e ≡ next.Motion left → HaveSome left
+  pub motion : (left : RemainingMotions) → e ≡ next.Motion left → HaveSome left
   pub piece : (b : BegunMotion) → e ≡ next.Piece b → 1 ≤ b.pieces_left
   pub going : IsTrue (is_open e)
 
@@ -187,17 +187,17 @@ abbrev pub LINES_OF_MOTIONS : ℕ
 LINES_OF_MOTIONS = 65536 * MOTION_LIMIT
 
 -- the end, and one line after it that is refused; before them the other setting
-abbrev pub lines_behind : Setting → ℕ
-lines_behind Off = LINES_OF_MOTIONS + 3
-lines_behind On = 2
+abbrev pub lines_after : Setting → ℕ
+lines_after Off = LINES_OF_MOTIONS + 3
+lines_after On = 2
 
-abbrev pub lines_of_motions : MotionsLeft → ℕ
-lines_of_motions (Parted s left) = 65536 * left + lines_behind s
+abbrev pub lines_of_motions : RemainingMotions → ℕ
+lines_of_motions (Parted s left) = 65536 * left + lines_after s
 lines_of_motions (Joined left) = 65536 * (left.off + left.on) + 2
 
 abbrev pub lines_ahead : Expected → ℕ
 lines_ahead next.Header = 2 * LINES_OF_MOTIONS + 5
-lines_ahead (next.Setting s) = LINES_OF_MOTIONS + 1 + lines_behind s
+lines_ahead (next.Setting s) = LINES_OF_MOTIONS + 1 + lines_after s
 lines_ahead next.Counts = 2 * LINES_OF_MOTIONS + 3
 lines_ahead (next.Motion left) = lines_of_motions left
 lines_ahead (next.Piece b) = b.pieces_left + lines_of_motions b.behind

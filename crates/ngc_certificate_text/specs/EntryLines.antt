@@ -3,7 +3,7 @@ use Rattle.std.specs.Prelude.{ℕ, ◌-◌, nat_lt, ◌==◌, ℤ, unsigned_abs,
 use Rattle.std.specs.Prelude.{Some, Result, Ok, Err, Bool, true, false, not, ◌&&◌}
 use Rattle.std.specs.Prelude.{if◌then◌else◌}
 use Rattle.std.specs.Str.{bytes_eq}
-use Rattle.ngc_certificate_text.specs.declared.expected.EntriesLeft.{EntriesLeft}
+use Rattle.ngc_certificate_text.specs.declared.expected.RemainingEntries.{RemainingEntries}
 use Rattle.ngc_certificate_text.specs.declared.expected.Indices.{Indices}
 use Rattle.ngc_certificate_text.specs.declared.expected.Indices.TheVariants.{Both, Off, On}
 use Rattle.ngc_certificate_text.specs.declared.lines.CountsLine.{CountsLine}
@@ -14,14 +14,14 @@ use Rattle.ngc_certificate_text.specs.declared.lines.MotionLine.{MotionLine}
 use Rattle.ngc_certificate_text.specs.declared.told.Version.{Version}
 use Rattle.ngc_certificate_text.specs.declared.told.Version.TheVariants.{One, Two}
 use Rattle.ngc_certificate_text.specs.Certificate.{INDEX_LIMIT, PIECE_LIMIT, MOTION_LIMIT}
-use Rattle.ngc_certificate_text.specs.Lines.{numbers_in, numbers_behind, is_count, ranged}
+use Rattle.ngc_certificate_text.specs.Lines.{numbers_in, numbers_in_rest, is_count, ranged}
 use Rattle.ngc_certificate_text.specs.Lines.{two_counts}
 use Rattle.ngc_certificate_text.specs.Number.{fields}
 
 -- ---- the first line
 
-unfoldable pub version_said : List ℕ → Result Version LineFlaw
-version_said line =
+unfoldable pub parsed_version : List ℕ → Result Version LineFlaw
+parsed_version line =
     if bytes_eq line (codes "ngc-certificate 1") then Ok One else
     if bytes_eq line (codes "ngc-certificate 2") then Ok Two else Err Spelling
 
@@ -34,29 +34,29 @@ motion_counts (Some (m ∷ n ∷ [])) =
 motion_counts _ = Err Spelling
 
 -- the numbers of motions of both settings
-unfoldable pub counts_said : List ℕ → Result CountsLine LineFlaw
-counts_said line = motion_counts (numbers_behind (codes "motions" ∷ []) (fields line))
+unfoldable pub parsed_counts : List ℕ → Result CountsLine LineFlaw
+parsed_counts line = motion_counts (numbers_in_rest (codes "motions" ∷ []) (fields line))
 
 -- ---- the remaining entries
 
 -- all of them
-abbrev pub all_left : CountsLine → EntriesLeft
-all_left c = record { off = c.off; on = c.on; behind_on = false }
+abbrev pub all_left : CountsLine → RemainingEntries
+all_left c = record { off = c.off; on = c.on; after_on = false }
 
-abbrev pub none_left : EntriesLeft → Bool
+abbrev pub none_left : RemainingEntries → Bool
 none_left left = (left.off == 0) && (left.on == 0)
 
 -- An entry may be next if motions of its settings remain, but one of `off` alone not directly after
 -- one of `on` alone.
-abbrev pub may_come : EntriesLeft → Indices → Bool
-may_come left (Both i j) = nat_lt 0 left.off && nat_lt 0 left.on
-may_come left (Off i) = nat_lt 0 left.off && not left.behind_on
-may_come left (On j) = nat_lt 0 left.on
+abbrev pub may_still_follow : RemainingEntries → Indices → Bool
+may_still_follow left (Both i j) = nat_lt 0 left.off && nat_lt 0 left.on
+may_still_follow left (Off i) = nat_lt 0 left.off && not left.after_on
+may_still_follow left (On j) = nat_lt 0 left.on
 
-abbrev pub left_behind : EntriesLeft → Indices → EntriesLeft
-left_behind left (Both i j) = record { off = left.off - 1; on = left.on - 1; behind_on = false }
-left_behind left (Off i) = record { off = left.off - 1; on = left.on; behind_on = false }
-left_behind left (On j) = record { off = left.off; on = left.on - 1; behind_on = true }
+abbrev pub remaining_after : RemainingEntries → Indices → RemainingEntries
+remaining_after left (Both i j) = record { off = left.off - 1; on = left.on - 1; after_on = false }
+remaining_after left (Off i) = record { off = left.off - 1; on = left.on; after_on = false }
+remaining_after left (On j) = record { off = left.off; on = left.on - 1; after_on = true }
 
 -- ---- the line of an entry
 
@@ -71,16 +71,16 @@ abbrev pub of_setting : (ℕ → Indices) → Result MotionLine LineFlaw → Res
 of_setting of (Ok m) = Ok (record { indices = of m.index; pieces = m.pieces })
 of_setting of (Err flaw) = Err flaw
 
-abbrev pub entry_in : EntriesLeft → List (List ℕ) → Result EntryLine LineFlaw
+abbrev pub entry_in : RemainingEntries → List (List ℕ) → Result EntryLine LineFlaw
 entry_in left [] = Err Spelling
 entry_in left (word ∷ fs) =
-    if bytes_eq word (codes "both") && may_come left (Both 0 0)
+    if bytes_eq word (codes "both") && may_still_follow left (Both 0 0)
     then three_counts (numbers_in fs) else
-    if bytes_eq word (codes "off") && may_come left (Off 0)
+    if bytes_eq word (codes "off") && may_still_follow left (Off 0)
     then of_setting Off (two_counts (numbers_in fs)) else
-    if bytes_eq word (codes "on") && may_come left (On 0)
+    if bytes_eq word (codes "on") && may_still_follow left (On 0)
     then of_setting On (two_counts (numbers_in fs)) else Err Spelling
 
 -- one of the entries that may be next, and the number of its pieces
-unfoldable pub entry_said : EntriesLeft → List ℕ → Result EntryLine LineFlaw
-entry_said left line = entry_in left (fields line)
+unfoldable pub parsed_entry : RemainingEntries → List ℕ → Result EntryLine LineFlaw
+parsed_entry left line = entry_in left (fields line)

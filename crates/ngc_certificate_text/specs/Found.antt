@@ -80,19 +80,19 @@ gathered (Some b) h r =
 
 -- ---- there is capacity for the rest
 
-abbrev pub may_come_behind : Setting → Setting → ℕ
-may_come_behind Off s = MOTION_LIMIT
-may_come_behind On Off = 0
-may_come_behind On On = MOTION_LIMIT
+abbrev pub may_follow_after : Setting → Setting → ℕ
+may_follow_after Off s = MOTION_LIMIT
+may_follow_after On Off = 0
+may_follow_after On On = MOTION_LIMIT
 
-abbrev pub may_come : Expected → Setting → ℕ
-may_come next.Header s = MOTION_LIMIT
-may_come (next.Setting t) s = may_come_behind t s
-may_come next.Counts s = MOTION_LIMIT
-may_come (next.Motion left) s = left_at left s
-may_come (next.Piece b) s = left_at b.behind s + taken_at b.indices s
-may_come next.End s = 0
-may_come next.Nothing s = 0
+abbrev pub may_still_follow : Expected → Setting → ℕ
+may_still_follow next.Header s = MOTION_LIMIT
+may_still_follow (next.Setting t) s = may_follow_after t s
+may_still_follow next.Counts s = MOTION_LIMIT
+may_still_follow (next.Motion left) s = left_at left s
+may_still_follow (next.Piece b) s = left_at b.behind s + taken_at b.indices s
+may_still_follow next.End s = 0
+may_still_follow next.Nothing s = 0
 
 pub record IsBegun (b : BegunMotion) (pieces : List Piece) : Type 0 where
   pub indices : IsTrue (good_indices b.indices)
@@ -100,26 +100,26 @@ pub record IsBegun (b : BegunMotion) (pieces : List Piece) : Type 0 where
   pub good : IsTrue (list_all good_piece pieces)
 
 -- a certificate has capacity for the entries that may follow
-abbrev pub HasRoom : Expected → List Item → Type 0
-HasRoom e items =
-    (s : Setting) → length (entries_at s (expansion items)) + may_come e s ≤ MOTION_LIMIT
+abbrev pub HasSpace : Expected → List Item → Type 0
+HasSpace e items =
+    (s : Setting) → length (entries_at s (expansion items)) + may_still_follow e s ≤ MOTION_LIMIT
 
 -- and for one more entry
-abbrev pub HasRoomFor : Indices → List Item → Type 0
-HasRoomFor indices items =
+abbrev pub HasSpaceFor : Indices → List Item → Type 0
+HasSpaceFor indices items =
     (s : Setting) → length (entries_at s (expansion items)) + taken_at indices s ≤ MOTION_LIMIT
 
 -- this line may follow the part read so far
 pub record MayExpect (e : Expected) (h : Heard) : Type 0 where
   pub version : e ≡ next.Header → h.version ≡ None
-  pub room : HasRoom e h.items
+  pub room : HasSpace e h.items
   pub piece : (b : BegunMotion) → e ≡ next.Piece b → IsBegun b h.pieces
 
 -- a piece may be added
 pub record IsPieceTaken (b : BegunMotion) (p : Piece) (h : Heard) : Type 0 where
   pub begun : IsBegun b h.pieces
   pub some : 1 ≤ b.pieces_left
-  pub room : HasRoom (next.Piece b) h.items
+  pub room : HasSpace (next.Piece b) h.items
   pub good : IsTrue (good_piece p)
 
 -- a line may be added

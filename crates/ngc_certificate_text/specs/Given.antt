@@ -9,12 +9,12 @@ use Rattle.ngc_certificate_text.specs.declared.fault.CertificateFault.TheVariant
 use Rattle.ngc_certificate_text.specs.declared.fault.CertificateFault.TheVariants.{ReadFailed}
 
 -- the result is that of the text, except for lack of memory and the source's failure
-abbrev pub GivesCertificate : {A X : Type 0} → (Certificate A → X) →
+abbrev pub CertificateResultIs : {A X : Type 0} → (Certificate A → X) →
     Result (Certificate A) CertificateFault
     → Result X CertificateFault → Type 0
-GivesCertificate view (Ok c) says = says ≡ Ok (view c)
-GivesCertificate view (Err WrongHeader) says = says ≡ Err WrongHeader
-GivesCertificate view (Err (BadLine n)) says = says ≡ Err (BadLine n)
-GivesCertificate view (Err (OutOfRange n)) says = says ≡ Err (OutOfRange n)
-GivesCertificate view (Err Memory) says = Unit {0}
-GivesCertificate view (Err ReadFailed) says = Unit {0}
+CertificateResultIs view (Ok c) says = says ≡ Ok (view c)
+CertificateResultIs view (Err WrongHeader) says = says ≡ Err WrongHeader
+CertificateResultIs view (Err (BadLine n)) says = says ≡ Err (BadLine n)
+CertificateResultIs view (Err (OutOfRange n)) says = says ≡ Err (OutOfRange n)
+CertificateResultIs view (Err Memory) says = Unit {0}
+CertificateResultIs view (Err ReadFailed) says = Unit {0}

@@ -50,14 +50,14 @@ is_on (Off i) = false
 is_on (Both i j) = false
 
 abbrev pub may_follow : Bool → Indices → Bool
-may_follow behind_on (Off i) = not behind_on
-may_follow behind_on (On j) = true
-may_follow behind_on (Both i j) = true
+may_follow after_on (Off i) = not after_on
+may_follow after_on (On j) = true
+may_follow after_on (Both i j) = true
 
 -- no entry of `off` alone directly follows one of `on` alone
 abbrev pub in_order : Bool → List Item → Bool
-in_order behind_on [] = true
-in_order behind_on (x ∷ xs) = may_follow behind_on x.indices && in_order (is_on x.indices) xs
+in_order after_on [] = true
+in_order after_on (x ∷ xs) = may_follow after_on x.indices && in_order (is_on x.indices) xs
 
 -- properties of every certificate of version 2
 pub record IsJoined (items : List Item) : Type 0 where

@@ -25,10 +25,10 @@ numbers_in [] = Some []
 numbers_in (f ∷ fs) = option_and_then (λ z. option_map (λ zs. z ∷ zs) (numbers_in fs)) (number_in f)
 
 -- numbers after these words, one in each field
-abbrev pub numbers_behind : List (List ℕ) → List (List ℕ) → Option (List ℤ)
-numbers_behind [] fs = numbers_in fs
-numbers_behind (w ∷ ws) [] = None
-numbers_behind (w ∷ ws) (f ∷ fs) = if bytes_eq f w then numbers_behind ws fs else None
+abbrev pub numbers_in_rest : List (List ℕ) → List (List ℕ) → Option (List ℤ)
+numbers_in_rest [] fs = numbers_in fs
+numbers_in_rest (w ∷ ws) [] = None
+numbers_in_rest (w ∷ ws) (f ∷ fs) = if bytes_eq f w then numbers_in_rest ws fs else None
 
 abbrev pub is_between : ℤ → ℤ → ℤ → Bool
 is_between least greatest z = int_le least z && int_le z greatest
@@ -48,8 +48,8 @@ one_count (Some (n ∷ [])) = ranged (is_count 0 MOTION_LIMIT n) (unsigned_abs n
 one_count _ = Err Spelling
 
 -- the number of motions of the setting with this name
-unfoldable pub setting_said : List ℕ → List ℕ → Result ℕ LineFlaw
-setting_said name line = one_count (numbers_behind (codes "setting" ∷ name ∷ []) (fields line))
+unfoldable pub parsed_setting : List ℕ → List ℕ → Result ℕ LineFlaw
+parsed_setting name line = one_count (numbers_in_rest (codes "setting" ∷ name ∷ []) (fields line))
 
 abbrev pub two_counts : Option (List ℤ) → Result MotionLine LineFlaw
 two_counts (Some (i ∷ n ∷ [])) =
@@ -58,8 +58,8 @@ two_counts (Some (i ∷ n ∷ [])) =
 two_counts _ = Err Spelling
 
 -- a motion's index, and the number of its pieces
-unfoldable pub motion_said : List ℕ → Result MotionLine LineFlaw
-motion_said line = two_counts (numbers_behind (codes "motion" ∷ []) (fields line))
+unfoldable pub parsed_motion : List ℕ → Result MotionLine LineFlaw
+parsed_motion line = two_counts (numbers_in_rest (codes "motion" ∷ []) (fields line))
 
 -- ---- pieces
 
@@ -97,10 +97,10 @@ piece_in (word ∷ fs) =
     if bytes_eq word (codes "line") then line_piece (numbers_in fs) else
     if bytes_eq word (codes "arc") then arc_piece (numbers_in fs) else Err Spelling
 
-unfoldable pub piece_said : List ℕ → Result Piece LineFlaw
-piece_said line = piece_in (fields line)
+unfoldable pub parsed_piece : List ℕ → Result Piece LineFlaw
+parsed_piece line = piece_in (fields line)
 
 -- ---- the last line
 
-unfoldable pub end_said : List ℕ → Result (Unit {0}) LineFlaw
-end_said line = if bytes_eq line (codes "end") then Ok tt else Err Spelling
+unfoldable pub parsed_end : List ℕ → Result (Unit {0}) LineFlaw
+parsed_end line = if bytes_eq line (codes "end") then Ok tt else Err Spelling

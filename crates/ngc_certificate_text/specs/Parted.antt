@@ -7,13 +7,13 @@ use Rattle.ngc_certificate_text.specs.Said.{lines_of}
 
 -- The bytes that are certain whatever follows, after the beginning of a line: those of lines that a
 -- line feed ends, and of a line that already has more than 256 bytes.
-abbrev pub firm_behind : List ℕ → List ℕ → List ℕ
-firm_behind line [] = if nat_le (length line) 256 then [] else line
-firm_behind line (b ∷ bytes) =
-    if b == 10 then line ++ (10 ∷ firm_behind [] bytes) else firm_behind (line ++ (b ∷ [])) bytes
+abbrev pub certain_after : List ℕ → List ℕ → List ℕ
+certain_after line [] = if nat_le (length line) 256 then [] else line
+certain_after line (b ∷ bytes) =
+    if b == 10 then line ++ (10 ∷ certain_after [] bytes) else certain_after (line ++ (b ∷ [])) bytes
 
 abbrev pub firm : List ℕ → List ℕ
-firm bytes = firm_behind [] bytes
+firm bytes = certain_after [] bytes
 
 -- the lines of the certain bytes and of others after them
 abbrev pub firm_lines : List ℕ → List ℕ → List (List ℕ)

@@ -15,13 +15,13 @@ use Rattle.ngc_certificate_text.specs.declared.lines.LineFlaw.TheVariants.{Spell
 use Rattle.ngc_certificate_text.specs.Lines.{ranged, good_box}
 
 -- the box with these six numbers
-abbrev pub box_said : List ℤ → Result GridBox LineFlaw
-box_said (x0 ∷ y0 ∷ z0 ∷ x1 ∷ y1 ∷ z1 ∷ []) =
+abbrev pub parsed_box : List ℤ → Result GridBox LineFlaw
+parsed_box (x0 ∷ y0 ∷ z0 ∷ x1 ∷ y1 ∷ z1 ∷ []) =
     let low : StepPos = record { x = x0; y = y0; z = z0 } in
     let high : StepPos = record { x = x1; y = y1; z = z1 } in
     let bounds : GridBox = record { low = low; high = high } in
     ranged (good_box bounds) bounds
-box_said _ = Err Spelling
+parsed_box _ = Err Spelling
 
 -- the box between two corners, if they are in range
 abbrev pub box_between : Result StepPos LineFlaw → Result StepPos LineFlaw → Result GridBox LineFlaw

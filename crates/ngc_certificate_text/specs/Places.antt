@@ -25,7 +25,7 @@ entry_there Off off on p =
 entry_there On off on p =
     record { indices = of.On (entry_at on p.on).index; pieces = (entry_at on p.on).pieces }
 
-abbrev pub behind_entry : EntryKind → Passed → Passed
-behind_entry Both p = record { off = p.off + 1; on = p.on + 1 }
-behind_entry Off p = record { off = p.off + 1; on = p.on }
-behind_entry On p = record { off = p.off; on = p.on + 1 }
+abbrev pub after_entry : EntryKind → Passed → Passed
+after_entry Both p = record { off = p.off + 1; on = p.on + 1 }
+after_entry Off p = record { off = p.off + 1; on = p.on }
+after_entry On p = record { off = p.off; on = p.on + 1 }

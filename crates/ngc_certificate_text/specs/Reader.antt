@@ -33,10 +33,10 @@ FaultIs faults.Memory says = Unit {0}
 FaultIs faults.ReadFailed says = Unit {0}
 
 -- the result of the text is still open, or the fault is its result
-abbrev pub StepGives : {X : Type 0} → Result (Unit {0}) CertificateFault →
+abbrev pub StepResultIs : {X : Type 0} → Result (Unit {0}) CertificateFault →
     Result X CertificateFault → Result X CertificateFault → Type 0
-StepGives (Ok done) before after = before ≡ after
-StepGives (Err fault) before after = FaultIs fault before
+StepResultIs (Ok done) before after = before ≡ after
+StepResultIs (Err fault) before after = FaultIs fault before
 
 -- a text is refused with this fault whatever bytes follow
 abbrev pub Stands : {X : Type 0} → CertificateFault → (List ℕ → Result X CertificateFault) → Type 0

@@ -6,7 +6,7 @@ use Rattle.ngc_certificate_text.specs.Joined.{Form}
 use Rattle.ngc_certificate_text.specs.LinesView.{room_of}
 use Rattle.ngc_certificate_text.specs.Reader.{outcome_by, firm_by}
 use Rattle.ngc_certificate_text.specs.Resumed.{resumed}
-use Rattle.ngc_certificate_text.specs.Said.{form_said}
+use Rattle.ngc_certificate_text.specs.Said.{parsed_form}
 
 -- the result of a certificate's text
 abbrev pub Outcome : Type 0
@@ -32,4 +32,4 @@ room_in r = room_of r.text.lines
 abbrev pub Goes : {A : Type 0} → Option (List ℕ) → Option (List ℕ) → CertificateReader A → Type 0
 Goes None left r = Unit {0}
 Goes (Some all) None r = ⊥
-Goes (Some all) (Some left) r = form_said all ≡ outcome_in r left
+Goes (Some all) (Some left) r = parsed_form all ≡ outcome_in r left

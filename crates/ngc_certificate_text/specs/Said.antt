@@ -11,13 +11,13 @@ use Rattle.ngc_certificate_text.specs.declared.lines.LineFlaw.{LineFlaw}
 use Rattle.ngc_certificate_text.specs.declared.lines.LineFlaw.TheVariants.{Spelling, Range}
 use Rattle.ngc_certificate_text.specs.declared.piece.Piece.{Piece}
 use Rattle.ngc_certificate_text.specs.Certificate.{Entry, CertificateData, IsCertificate}
-use Rattle.ngc_certificate_text.specs.Lines.{setting_said, motion_said, piece_said, end_said}
+use Rattle.ngc_certificate_text.specs.Lines.{parsed_setting, parsed_motion, parsed_piece, parsed_end}
 use Rattle.ngc_certificate_text.specs.Lines.{are_steps}
-use Rattle.ngc_certificate_text.specs.declared.expected.EntriesLeft.{EntriesLeft}
+use Rattle.ngc_certificate_text.specs.declared.expected.RemainingEntries.{RemainingEntries}
 use Rattle.ngc_certificate_text.specs.declared.told.Version.{Version}
 use Rattle.ngc_certificate_text.specs.declared.told.Version.TheVariants.{One, Two}
-use Rattle.ngc_certificate_text.specs.EntryLines.{version_said, counts_said, entry_said, all_left}
-use Rattle.ngc_certificate_text.specs.EntryLines.{none_left, left_behind}
+use Rattle.ngc_certificate_text.specs.EntryLines.{parsed_version, parsed_counts, parsed_entry, all_left}
+use Rattle.ngc_certificate_text.specs.EntryLines.{none_left, remaining_after}
 use Rattle.ngc_certificate_text.specs.Joined.{Item, IsJoined, Form, Parted, Joined, contents}
 use Rattle.ngc_certificate_text.specs.Spelling.{spelling}
 
@@ -71,13 +71,13 @@ several said (suc n) p =
 -- a motion: its line, and a line for each piece
 unfoldable pub entry_at : Place → Said Entry
 entry_at p =
-    then_read (line_at motion_said p) (λ m q.
-    then_read (several (line_at piece_said) m.pieces q) (λ pieces r.
+    then_read (line_at parsed_motion p) (λ m q.
+    then_read (several (line_at parsed_piece) m.pieces q) (λ pieces r.
     Ok (record { index = m.index; pieces = pieces }, r)))
 
 -- a setting: its line, and its motions
 unfoldable pub setting_at : List ℕ → Place → Said (List Entry)
-setting_at name p = then_read (line_at (setting_said name) p) (λ n q. several entry_at n q)
+setting_at name p = then_read (line_at (parsed_setting name) p) (λ n q. several entry_at n q)
 
 -- there is nothing after the last line feed
 abbrev pub nothing_in : List (List ℕ) → Bool
@@ -89,31 +89,31 @@ unfoldable pub settings_at : Place → Said CertificateData
 settings_at p =
     then_read (setting_at (codes "off") p) (λ off q.
     then_read (setting_at (codes "on") q) (λ on r.
-    then_read (line_at end_said r) (λ _ s. Ok (record { off = off; on = on }, s))))
+    then_read (line_at parsed_end r) (λ _ s. Ok (record { off = off; on = on }, s))))
 
 -- ---- version 2
 
 -- an entry: its line, and a line for each piece
-unfoldable pub item_at : EntriesLeft → Place → Said Item
+unfoldable pub item_at : RemainingEntries → Place → Said Item
 item_at left p =
-    then_read (line_at (entry_said left) p) (λ e q.
-    then_read (several (line_at piece_said) e.pieces q) (λ pieces r.
+    then_read (line_at (parsed_entry left) p) (λ e q.
+    then_read (several (line_at parsed_piece) e.pieces q) (λ pieces r.
     Ok (record { indices = e.indices; pieces = pieces }, r)))
 
 -- entries until no motions remain: at most n
-unfoldable pub items_at : ℕ → EntriesLeft → Place → Said (List Item)
+unfoldable pub items_at : ℕ → RemainingEntries → Place → Said (List Item)
 items_at zero left p = Ok ([], p)
 items_at (suc n) left p =
     if none_left left then Ok ([], p) else
     then_read (item_at left p)
-    (λ x q. then_read (items_at n (left_behind left x.indices) q) (λ xs r. Ok (x ∷ xs, r)))
+    (λ x q. then_read (items_at n (remaining_after left x.indices) q) (λ xs r. Ok (x ∷ xs, r)))
 
 -- the counts, the entries, and the line `end`
 unfoldable pub joined_at : Place → Said (List Item)
 joined_at p =
-    then_read (line_at counts_said p) (λ c q.
+    then_read (line_at parsed_counts p) (λ c q.
     then_read (items_at (c.off + c.on) (all_left c) q) (λ items r.
-    then_read (line_at end_said r) (λ _ s. Ok (items, s))))
+    then_read (line_at parsed_end r) (λ _ s. Ok (items, s))))
 
 -- ---- the whole text
 
@@ -129,8 +129,8 @@ made_with f (Ok x) = Ok (f x)
 made_with f (Err fault) = Err fault
 
 -- a value that is made from the content of a part of the text
-abbrev pub said_with : {X Y : Type 0} → (X → Y) → Said X → Said Y
-said_with f s = then_read s (λ r q. Ok (f r, q))
+abbrev pub parsed_with : {X Y : Type 0} → (X → Y) → Said X → Said Y
+parsed_with f s = then_read s (λ r q. Ok (f r, q))
 
 abbrev pub version_is : Result Version LineFlaw → List (List ℕ) → Said Version
 version_is (Ok v) left = Ok (v, record { number = 2; left = left })
@@ -140,19 +140,19 @@ version_is (Err flaw) left = Err WrongHeader
 abbrev pub header_in : List (List ℕ) → Said Version
 header_in [] = Err WrongHeader
 header_in (last ∷ []) = Err WrongHeader
-header_in (line ∷ next ∷ left) = version_is (version_said line) (next ∷ left)
+header_in (line ∷ next ∷ left) = version_is (parsed_version line) (next ∷ left)
 
 abbrev pub form_at : Version → Place → Said Form
-form_at One p = said_with Parted (settings_at p)
-form_at Two p = said_with Joined (joined_at p)
+form_at One p = parsed_with Parted (settings_at p)
+form_at Two p = parsed_with Joined (joined_at p)
 
 -- the content of a text of either version
-unfoldable pub form_said : List ℕ → Result Form CertificateFault
-form_said text = ended (then_read (header_in (lines_of text)) form_at)
+unfoldable pub parsed_form : List ℕ → Result Form CertificateFault
+parsed_form text = ended (then_read (header_in (lines_of text)) form_at)
 
 -- its motions
-unfoldable pub certificate_said : List ℕ → Result CertificateData CertificateFault
-certificate_said text = made_with contents (form_said text)
+unfoldable pub parsed_certificate : List ℕ → Result CertificateData CertificateFault
+parsed_certificate text = made_with contents (parsed_form text)
 
 -- ---- the law
 
@@ -173,6 +173,6 @@ IsForm (Parted c) = IsCertificate c × HasSteps c
 IsForm (Joined items) = IsJoined items × IsTrue (list_all item_steps items)
 
 -- a text has a form if and only if it is the form's text
-abbrev pub OneSpelling : Type 0
-OneSpelling =
-    (text : List ℕ) (f : Form) → (form_said text ≡ Ok f) ↔ (IsForm f × (text ≡ spelling f))
+abbrev pub IsOneWriting : Type 0
+IsOneWriting =
+    (text : List ℕ) (f : Form) → (parsed_form text ≡ Ok f) ↔ (IsForm f × (text ≡ spelling f))

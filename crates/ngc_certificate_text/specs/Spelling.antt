@@ -34,8 +34,8 @@ setting_lines name entries =
     codes "setting " ++ name ++ codes " " ++ decimal (length entries) ++ codes "\n"
     ++ flat_map entry_lines entries
 
-abbrev pub parted_spelling : CertificateData → List ℕ
-parted_spelling c =
+abbrev pub version_1_text : CertificateData → List ℕ
+version_1_text c =
     codes "ngc-certificate 1\n" ++ setting_lines (codes "off") c.off
     ++ setting_lines (codes "on") c.on ++ codes "end\n"
 
@@ -56,11 +56,11 @@ abbrev pub counts_line : CertificateData → List ℕ
 counts_line c =
     codes "motions " ++ decimal (length c.off) ++ codes " " ++ decimal (length c.on) ++ codes "\n"
 
-abbrev pub joined_spelling : List Item → List ℕ
-joined_spelling items =
+abbrev pub version_2_text : List Item → List ℕ
+version_2_text items =
     codes "ngc-certificate 2\n" ++ counts_line (expansion items) ++ flat_map item_lines items
     ++ codes "end\n"
 
 abbrev pub spelling : Form → List ℕ
-spelling (Parted c) = parted_spelling c
-spelling (Joined items) = joined_spelling items
+spelling (Parted c) = version_1_text c
+spelling (Joined items) = version_2_text items

@@ -6,8 +6,8 @@ use Rattle.ngc_certificate_text.specs.declared.expected.Expected.TheVariants as 
 use Rattle.ngc_certificate_text.specs.declared.expected.BegunMotion.{BegunMotion}
 use Rattle.ngc_certificate_text.specs.declared.expected.Indices.{Indices}
 use Rattle.ngc_certificate_text.specs.declared.expected.Indices.TheVariants as of
-use Rattle.ngc_certificate_text.specs.declared.expected.MotionsLeft.{MotionsLeft}
-use Rattle.ngc_certificate_text.specs.declared.expected.MotionsLeft.TheVariants.{Parted, Joined}
+use Rattle.ngc_certificate_text.specs.declared.expected.RemainingMotions.{RemainingMotions}
+use Rattle.ngc_certificate_text.specs.declared.expected.RemainingMotions.TheVariants.{Parted, Joined}
 use Rattle.ngc_certificate_text.specs.declared.fault.CertificateFault.{CertificateFault}
 use Rattle.ngc_certificate_text.specs.declared.fault.CertificateFault.TheVariants as faults
 use Rattle.ngc_certificate_text.specs.declared.lines.CountsLine.{CountsLine}
@@ -21,11 +21,11 @@ use Rattle.ngc_certificate_text.specs.declared.told.Told.TheVariants as tell
 use Rattle.ngc_certificate_text.specs.declared.told.Version.{Version}
 use Rattle.ngc_certificate_text.specs.declared.told.Version.TheVariants.{One, Two}
 use Rattle.ngc_certificate_text.specs.Ahead.{Rest, Left, name_of, index_at, of_version, with_items}
-use Rattle.ngc_certificate_text.specs.Ahead.{with_pieces, next_of_motions, motions_behind}
+use Rattle.ngc_certificate_text.specs.Ahead.{with_pieces, next_of_motions, motions_after}
 use Rattle.ngc_certificate_text.specs.Certificate.{PIECE_LIMIT, MOTION_LIMIT, good_piece}
-use Rattle.ngc_certificate_text.specs.EntryLines.{version_said, counts_said, entry_said, of_setting}
+use Rattle.ngc_certificate_text.specs.EntryLines.{parsed_version, parsed_counts, parsed_entry, of_setting}
 use Rattle.ngc_certificate_text.specs.Joined.{good_indices}
-use Rattle.ngc_certificate_text.specs.Lines.{setting_said, motion_said, piece_said, end_said}
+use Rattle.ngc_certificate_text.specs.Lines.{parsed_setting, parsed_motion, parsed_piece, parsed_end}
 use Rattle.ngc_certificate_text.specs.Said.{fault_at}
 
 -- the rest before a line is the line's version, motion or piece, and the rest after the line
@@ -53,25 +53,25 @@ IsFront told before (Err fault) = before ≡ Err fault
 
 -- ---- the line that follows another
 
-abbrev pub behind_version : Version → Expected
-behind_version One = next.Setting Off
-behind_version Two = next.Counts
+abbrev pub after_version : Version → Expected
+after_version One = next.Setting Off
+after_version Two = next.Counts
 
-abbrev pub behind_piece : Bool → BegunMotion → Expected
-behind_piece true b = next_of_motions b.behind
-behind_piece false b = next.Piece (record b { pieces_left = b.pieces_left - 1 })
+abbrev pub after_piece : Bool → BegunMotion → Expected
+after_piece true b = next_of_motions b.behind
+after_piece false b = next.Piece (record b { pieces_left = b.pieces_left - 1 })
 
-abbrev pub behind_told : Told → Expected
-behind_told (tell.Header v) = behind_version v
-behind_told (tell.Setting s n) = next_of_motions (Parted s n)
-behind_told (tell.Counts off on) =
-    next_of_motions (Joined (record { off = off; on = on; behind_on = false }))
-behind_told (tell.Motion b) = next.Piece b
-behind_told (tell.Piece b p) = behind_piece (nat_le b.pieces_left 1) b
-behind_told tell.End = next.Nothing
+abbrev pub after_content : Told → Expected
+after_content (tell.Header v) = after_version v
+after_content (tell.Setting s n) = next_of_motions (Parted s n)
+after_content (tell.Counts off on) =
+    next_of_motions (Joined (record { off = off; on = on; after_on = false }))
+after_content (tell.Motion b) = next.Piece b
+after_content (tell.Piece b p) = after_piece (nat_le b.pieces_left 1) b
+after_content tell.End = next.Nothing
 
 -- the number of motions of a setting that may still follow, if these motions remain
-abbrev pub left_at : MotionsLeft → Setting → ℕ
+abbrev pub left_at : RemainingMotions → Setting → ℕ
 left_at (Parted Off left) Off = left
 left_at (Parted Off left) On = MOTION_LIMIT
 left_at (Parted On left) Off = 0
@@ -89,9 +89,9 @@ taken_at (of.On j) On = 1
 
 -- a motion's line declares at least one piece, and the motion counts as one of its setting
 pub record IsMotionTold (e : Expected) (b : BegunMotion) : Type 0 where
-  pub left : MotionsLeft
+  pub left : RemainingMotions
   pub expected : e ≡ next.Motion left
-  pub behind : b.behind ≡ motions_behind left b.indices
+  pub behind : b.behind ≡ motions_after left b.indices
   pub counted : (s : Setting) → left_at left s ≡ left_at b.behind s + taken_at b.indices s
   pub indices : IsTrue (good_indices b.indices)
   pub some : 1 ≤ b.pieces_left
@@ -108,30 +108,30 @@ IsNext e tell.End = e ≡ next.End
 
 -- ---- the content of a line, if this one is expected
 
-abbrev pub told_with : {X : Type 0} → (X → Told) → Result X LineFlaw → Result Told LineFlaw
-told_with f (Ok x) = Ok (f x)
-told_with f (Err flaw) = Err flaw
+abbrev pub content_with : {X : Type 0} → (X → Told) → Result X LineFlaw → Result Told LineFlaw
+content_with f (Ok x) = Ok (f x)
+content_with f (Err flaw) = Err flaw
 
-abbrev pub counts_told : CountsLine → Told
-counts_told c = tell.Counts c.off c.on
+abbrev pub counts_content : CountsLine → Told
+counts_content c = tell.Counts c.off c.on
 
 -- the line of a motion, or of an entry
-abbrev pub any_said : MotionsLeft → List ℕ → Result EntryLine LineFlaw
-any_said (Parted s left) line = of_setting (index_at s) (motion_said line)
-any_said (Joined left) line = entry_said left line
+abbrev pub parsed_motion_or_entry : RemainingMotions → List ℕ → Result EntryLine LineFlaw
+parsed_motion_or_entry (Parted s left) line = of_setting (index_at s) (parsed_motion line)
+parsed_motion_or_entry (Joined left) line = parsed_entry left line
 
-abbrev pub motion_told : MotionsLeft → EntryLine → Told
-motion_told left e = tell.Motion
-    (record { indices = e.indices; pieces_left = e.pieces; behind = motions_behind left e.indices })
+abbrev pub motion_content : RemainingMotions → EntryLine → Told
+motion_content left e = tell.Motion
+    (record { indices = e.indices; pieces_left = e.pieces; behind = motions_after left e.indices })
 
-abbrev pub told_by : Expected → List ℕ → Result Told LineFlaw
-told_by next.Header line = told_with tell.Header (version_said line)
-told_by (next.Setting s) line = told_with (tell.Setting s) (setting_said (name_of s) line)
-told_by next.Counts line = told_with counts_told (counts_said line)
-told_by (next.Motion left) line = told_with (motion_told left) (any_said left line)
-told_by (next.Piece b) line = told_with (tell.Piece b) (piece_said line)
-told_by next.End line = told_with (λ _. tell.End) (end_said line)
-told_by next.Nothing line = Err Spelling
+abbrev pub content_by : Expected → List ℕ → Result Told LineFlaw
+content_by next.Header line = content_with tell.Header (parsed_version line)
+content_by (next.Setting s) line = content_with (tell.Setting s) (parsed_setting (name_of s) line)
+content_by next.Counts line = content_with counts_content (parsed_counts line)
+content_by (next.Motion left) line = content_with (motion_content left) (parsed_motion_or_entry left line)
+content_by (next.Piece b) line = content_with (tell.Piece b) (parsed_piece line)
+content_by next.End line = content_with (λ _. tell.End) (parsed_end line)
+content_by next.Nothing line = Err Spelling
 
 -- why a line is refused, if this one is expected
 abbrev pub fault_of : Expected → ℕ → LineFlaw → CertificateFault

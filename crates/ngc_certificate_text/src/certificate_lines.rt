@@ -6,8 +6,8 @@ ghost use Rattle.ngc_certificate_text.specs.declared.expected.Expected.TheVarian
 ghost use Rattle.ngc_certificate_text.specs.LinesView.{left_by, expected_in, IsReading, room_of};
 ghost use Rattle.ngc_certificate_text.specs.Parted.{firm, firm_lines, is_feedless, IsSplit};
 ghost use Rattle.ngc_certificate_text.specs.Parted.{PartsLines};
-ghost use Rattle.ngc_certificate_text.specs.Said.{lines_of, certificate_said, form_said};
-ghost use Rattle.ngc_certificate_text.specs.Told.{IsFront, IsNext, Tells, behind_told};
+ghost use Rattle.ngc_certificate_text.specs.Said.{lines_of, parsed_certificate, parsed_form};
+ghost use Rattle.ngc_certificate_text.specs.Told.{IsFront, IsNext, Tells, after_content};
 
 use crate::fault::CertificateFault;
 use crate::next_line::NextLine;
@@ -39,15 +39,15 @@ impl CertificateLines {
     pub fn new() -> CertificateLines
         ensures reading { IsReading result }
         ensures expected { expected_in result ≡ expect.Header }
-        ensures text { (bytes : List ℕ) → certificate_said bytes
+        ensures text { (bytes : List ℕ) → parsed_certificate bytes
             ≡ made_with certificate_of (left_by lines_of result bytes) }
         ensures firm { (bytes rest : List ℕ) →
-            certificate_said (firm bytes ++ rest)
+            parsed_certificate (firm bytes ++ rest)
             ≡ made_with certificate_of (left_by (firm_lines rest) result bytes) }
-        ensures form { (bytes : List ℕ) → form_said bytes
+        ensures form { (bytes : List ℕ) → parsed_form bytes
             ≡ made_with form_of_text (left_by lines_of result bytes) }
         ensures firm_form { (bytes rest : List ℕ) →
-            form_said (firm bytes ++ rest) ≡ made_with form_of_text
+            parsed_form (firm bytes ++ rest) ≡ made_with form_of_text
             (left_by (firm_lines rest) result bytes) }
     {
         CertificateLines {
@@ -85,7 +85,7 @@ impl CertificateLines {
             (self.old.cut.items ∷ next ∷ left))
             (left_from self.new.next.expected self.new.next.number (next ∷ left)) }
         ensures expected { IfOk result (λ told. IsNext (expected_in self.old) told ×
-            (expected_in self.new ≡ behind_told told)) }
+            (expected_in self.new ≡ after_content told)) }
         ensures empty { OnOk result (self.new.cut.items ≡ []) }
         ensures reading { OnOk result (IsReading self.new) }
         ensures room { OnOk result (room_of self.new + 1 ≤ room_of self.old) }
@@ -109,7 +109,7 @@ impl CertificateLines {
             Tells result (left_by lines self.old (bytes.now ++ (10 ∷ rest)))
             (left_by lines self.new rest) }
         ensures expected { IfOk result (λ told. IsNext (expected_in self.old) told ×
-            (expected_in self.new ≡ behind_told told)) }
+            (expected_in self.new ≡ after_content told)) }
         ensures reading { OnOk result (IsReading self.new) }
         ensures room { OnOk result (room_of self.new + length bytes.now + 1 ≤ room_of self.old) }
         ensures memory { result ≢ Err CertificateFault.Memory }
@@ -144,7 +144,7 @@ impl CertificateLines {
             (λ fault. left_by lines self.old (bytes.now ++ rest) ≡ Err fault) }
         ensures expected { IfOk result
             (λ o. MatchOption o (expected_in self.new ≡ expected_in self.old)
-            (λ p. IsNext (expected_in self.old) p.0 × (expected_in self.new ≡ behind_told p.0))) }
+            (λ p. IsNext (expected_in self.old) p.0 × (expected_in self.new ≡ after_content p.0))) }
         ensures reading { OnOk result (IsReading self.new) }
         // A text is no longer than the limits of its lines allow.
         ensures room { IfOk result
@@ -168,7 +168,7 @@ impl CertificateLines {
 
     /// Returns whether there are bytes after the end of the text, so that the following bytes
     /// change nothing.
-    pub fn goes_too_far(&self) -> bool
+    pub fn has_trailing_bytes(&self) -> bool
         ensures { IsTrue result → IsReading self.now → (rest : List ℕ) →
             left_by lines_of self.now rest ≡ left_by lines_of self.now [] }
     {

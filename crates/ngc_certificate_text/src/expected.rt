@@ -1,8 +1,8 @@
 ghost use Rattle.std.specs.Prelude.{◌≡◌, nat_le, IsTrue};
 ghost use Rattle.ngc_certificate_text.specs.Ahead.{next_setting, next_of_entries, next_of_motions};
-ghost use Rattle.ngc_certificate_text.specs.Ahead.{motions_behind, go_on, is_open};
-ghost use Rattle.ngc_certificate_text.specs.EntryLines.{none_left, may_come, left_behind};
-ghost use Rattle.ngc_certificate_text.specs.Told.{behind_piece, behind_told, behind_version};
+ghost use Rattle.ngc_certificate_text.specs.Ahead.{motions_after, go_on, is_open};
+ghost use Rattle.ngc_certificate_text.specs.EntryLines.{none_left, may_still_follow, remaining_after};
+ghost use Rattle.ngc_certificate_text.specs.Told.{after_piece, after_content, after_version};
 
 use crate::piece::Setting;
 use crate::told::{Told, Version};
@@ -19,23 +19,23 @@ pub enum Indices {
 
 /// The remaining entries of version 2.
 #[derive(Clone, Copy)]
-pub struct EntriesLeft {
+pub struct RemainingEntries {
     /// The number of remaining motions of `off`.
     pub off: u32,
     /// The number of remaining motions of `on`.
     pub on: u32,
     /// Whether the last entry was a motion of `on` alone, so that one of `off` alone may not be
     /// next.
-    pub behind_on: bool,
+    pub after_on: bool,
 }
 
 /// The remaining motions.
 #[derive(Clone, Copy)]
-pub enum MotionsLeft {
+pub enum RemainingMotions {
     /// Version 1: a setting, and the number of its remaining motions.
     Parted(Setting, u32),
     /// Version 2: those of both settings.
-    Joined(EntriesLeft),
+    Joined(RemainingEntries),
 }
 
 /// A motion whose pieces are being read, or in version 2 one of each setting.
@@ -45,7 +45,7 @@ pub struct BegunMotion {
     /// The number of remaining pieces.
     pub pieces_left: u32,
     /// The motions after this one.
-    pub behind: MotionsLeft,
+    pub behind: RemainingMotions,
 }
 
 /// The next line of a certificate.
@@ -56,7 +56,7 @@ pub enum Expected {
     /// The counts, in version 2.
     Counts,
     /// The line of a motion; these motions remain.
-    Motion(MotionsLeft),
+    Motion(RemainingMotions),
     Piece(BegunMotion),
     End,
     /// No line: the text has ended.
@@ -72,98 +72,98 @@ fn behind(setting: Setting) -> Expected
     }
 }
 
-fn entries(left: EntriesLeft) -> Expected
+fn entries(left: RemainingEntries) -> Expected
     ensures { result ≡ next_of_entries (none_left left) left }
 {
     if left.off == 0 && left.on == 0 {
         Expected::End
     } else {
-        Expected::Motion(MotionsLeft::Joined(left))
+        Expected::Motion(RemainingMotions::Joined(left))
     }
 }
 
 // Returns the next line if these motions remain.
-fn motions(left: MotionsLeft) -> Expected
+fn motions(left: RemainingMotions) -> Expected
     ensures { result ≡ next_of_motions left }
 {
     match left {
-        MotionsLeft::Parted(setting, 0) => behind(setting),
-        MotionsLeft::Parted(_, _) => Expected::Motion(left),
-        MotionsLeft::Joined(entries_left) => entries(entries_left),
+        RemainingMotions::Parted(setting, 0) => behind(setting),
+        RemainingMotions::Parted(_, _) => Expected::Motion(left),
+        RemainingMotions::Joined(entries_left) => entries(entries_left),
     }
 }
 
-impl EntriesLeft {
+impl RemainingEntries {
     /// Returns whether a motion of each setting may be next.
     pub(crate) fn may_be_both(&self) -> bool
-        ensures { result ≡ may_come self.now (Indices.Both 0 0) }
+        ensures { result ≡ may_still_follow self.now (Indices.Both 0 0) }
     {
         self.off > 0 && self.on > 0
     }
 
     /// Returns whether a motion of `off` alone may be next.
     pub(crate) fn may_be_off(&self) -> bool
-        ensures { result ≡ may_come self.now (Indices.Off 0) }
+        ensures { result ≡ may_still_follow self.now (Indices.Off 0) }
     {
-        self.off > 0 && !self.behind_on
+        self.off > 0 && !self.after_on
     }
 
     /// Returns whether a motion of `on` alone may be next.
     pub(crate) fn may_be_on(&self) -> bool
-        ensures { result ≡ may_come self.now (Indices.On 0) }
+        ensures { result ≡ may_still_follow self.now (Indices.On 0) }
     {
         self.on > 0
     }
 
     // Returns whether some entry may be next.
     fn go_on(&self) -> bool
-        ensures { result ≡ go_on (MotionsLeft.Joined self.now) }
+        ensures { result ≡ go_on (RemainingMotions.Joined self.now) }
     {
-        !self.behind_on || self.off == 0 || self.on > 0
+        !self.after_on || self.off == 0 || self.on > 0
     }
 
     // Returns the remaining entries after an entry.
-    fn behind(self, indices: Indices) -> EntriesLeft
-        ensures { result ≡ left_behind self indices }
+    fn behind(self, indices: Indices) -> RemainingEntries
+        ensures { result ≡ remaining_after self indices }
     {
-        let EntriesLeft { off, on, .. } = self;
+        let RemainingEntries { off, on, .. } = self;
         match indices {
-            Indices::Both(_, _) => EntriesLeft {
+            Indices::Both(_, _) => RemainingEntries {
                 off: off.saturating_sub(1),
                 on: on.saturating_sub(1),
-                behind_on: false,
+                after_on: false,
             },
-            Indices::Off(_) => EntriesLeft {
+            Indices::Off(_) => RemainingEntries {
                 off: off.saturating_sub(1),
                 on,
-                behind_on: false,
+                after_on: false,
             },
-            Indices::On(_) => EntriesLeft {
+            Indices::On(_) => RemainingEntries {
                 off,
                 on: on.saturating_sub(1),
-                behind_on: true,
+                after_on: true,
             },
         }
     }
 }
 
-impl MotionsLeft {
+impl RemainingMotions {
     /// Returns the remaining motions after a motion, or after one of each setting.
-    pub(crate) fn behind(self, indices: Indices) -> MotionsLeft
-        ensures { result ≡ motions_behind self indices }
+    pub(crate) fn behind(self, indices: Indices) -> RemainingMotions
+        ensures { result ≡ motions_after self indices }
     {
         match self {
-            MotionsLeft::Parted(setting, left) => {
-                MotionsLeft::Parted(setting, left.saturating_sub(1))
+            RemainingMotions::Parted(setting, left) => {
+                RemainingMotions::Parted(setting, left.saturating_sub(1))
             }
-            MotionsLeft::Joined(left) => MotionsLeft::Joined(left.behind(indices)),
+            RemainingMotions::Joined(left) => RemainingMotions::Joined(left.behind(indices)),
         }
     }
 }
 
 // Returns the next line after a piece of a motion.
-fn behind_piece(begun: &BegunMotion) -> Expected
-    ensures { result ≡ behind_piece (nat_le begun.now.pieces_left 1) begun.now }
+fn after_piece(begun: &BegunMotion) -> Expected
+    ensures { result ≡ after_piece (nat_le begun.now.pieces_left 1) begun.now }
 {
     if begun.pieces_left <= 1 {
         return motions(begun.behind);
@@ -178,7 +178,7 @@ fn behind_piece(begun: &BegunMotion) -> Expected
 impl Version {
     // Returns the next line after the first one.
     fn second_line(self) -> Expected
-        ensures { result ≡ behind_version self }
+        ensures { result ≡ after_version self }
     {
         match self {
             Version::One => Expected::Setting(Setting::Off),
@@ -195,25 +195,25 @@ impl Expected {
         ensures { result ≡ is_open self.now }
     {
         match self {
-            Expected::Motion(MotionsLeft::Joined(left)) => left.go_on(),
+            Expected::Motion(RemainingMotions::Joined(left)) => left.go_on(),
             _ => true,
         }
     }
 
     /// Returns the next line after a line.
-    pub(crate) fn behind_told(told: &Told) -> Expected
-        ensures { result ≡ behind_told told.now }
+    pub(crate) fn after_content(told: &Told) -> Expected
+        ensures { result ≡ after_content told.now }
     {
         match told {
             Told::Header(version) => version.second_line(),
-            Told::Setting(setting, count) => motions(MotionsLeft::Parted(*setting, *count)),
-            Told::Counts(off, on) => entries(EntriesLeft {
+            Told::Setting(setting, count) => motions(RemainingMotions::Parted(*setting, *count)),
+            Told::Counts(off, on) => entries(RemainingEntries {
                 off: *off,
                 on: *on,
-                behind_on: false,
+                after_on: false,
             }),
             Told::Motion(begun) => Expected::Piece(*begun),
-            Told::Piece(begun, _) => behind_piece(begun),
+            Told::Piece(begun, _) => after_piece(begun),
             Told::End => Expected::Nothing,
         }
     }

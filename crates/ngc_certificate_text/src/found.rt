@@ -1,6 +1,6 @@
 ghost use Rattle.std.specs.Prelude.{◌≡◌, [], ◌∷◌, ◌++◌, OnOk, None};
 ghost use Rattle.ngc_certificate_text.specs.Contents.{said_of, form_of};
-ghost use Rattle.ngc_certificate_text.specs.Found.{HasRoomFor, IsKept, add_item, heard, heard_in};
+ghost use Rattle.ngc_certificate_text.specs.Found.{HasSpaceFor, IsKept, add_item, heard, heard_in};
 ghost use Rattle.ngc_certificate_text.specs.Found.{MayTake};
 ghost use Rattle.ngc_certificate_text.specs.Joined.{IsItem, contents, form_by};
 
@@ -53,7 +53,7 @@ impl<A: Allocator> Found<A> {
     // Adds an entry with the pieces read so far.
     fn push_entry(&mut self, indices: Indices) -> Result<(), AllocError>
         requires kept { IsKept self.old }
-        requires room { HasRoomFor indices (heard_in self.old).items }
+        requires room { HasSpaceFor indices (heard_in self.old).items }
         requires item { IsItem (record { indices = indices; pieces = self.old.pieces.items }) }
         ensures pushed { OnOk result
             ((heard_in self.new).items ≡ add_item indices self.old.pieces.items

@@ -21,7 +21,7 @@ mod write;
 
 pub use certificate::{Certificate, EntryKind, first_joined};
 pub use certificate_lines::CertificateLines;
-pub use expected::{BegunMotion, EntriesLeft, Expected, Indices, MotionsLeft};
+pub use expected::{BegunMotion, Expected, Indices, RemainingEntries, RemainingMotions};
 pub use fault::CertificateFault;
 pub use motion_list::MotionList;
 pub use motions::Motions;

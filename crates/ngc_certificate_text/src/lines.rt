@@ -7,19 +7,19 @@ ghost use Rattle.ngc_certificate_text.specs.Clamped.{all_fields};
 ghost use Rattle.ngc_certificate_text.specs.Lines.{numbers_in as numbers_said};
 ghost use Rattle.ngc_certificate_text.specs.Lines.{one_count as one_said};
 ghost use Rattle.ngc_certificate_text.specs.Lines.{two_counts as two_said};
-ghost use Rattle.ngc_certificate_text.specs.Lines.{line_piece as line_said, arc_piece as arc_said};
-ghost use Rattle.ngc_certificate_text.specs.Lines.{setting_said};
-ghost use Rattle.ngc_certificate_text.specs.Lines.{motion_said, piece_said, end_said};
+ghost use Rattle.ngc_certificate_text.specs.Lines.{line_piece as parsed_line, arc_piece as arc_said};
+ghost use Rattle.ngc_certificate_text.specs.Lines.{parsed_setting};
+ghost use Rattle.ngc_certificate_text.specs.Lines.{parsed_motion, parsed_piece, parsed_end};
 ghost use Rattle.ngc_certificate_text.specs.Lines.{is_count, is_step, are_steps, ranged};
 ghost use Rattle.ngc_certificate_text.specs.Ahead.{index_at};
-ghost use Rattle.ngc_certificate_text.specs.EntryLines.{version_said, counts_said};
+ghost use Rattle.ngc_certificate_text.specs.EntryLines.{parsed_version, parsed_counts};
 ghost use Rattle.ngc_certificate_text.specs.EntryLines.{motion_counts as counts_in};
-ghost use Rattle.ngc_certificate_text.specs.EntryLines.{entry_said, three_counts as three_said};
+ghost use Rattle.ngc_certificate_text.specs.EntryLines.{parsed_entry, three_counts as three_said};
 ghost use Rattle.ngc_certificate_text.specs.EntryLines.{of_setting};
-ghost use Rattle.ngc_certificate_text.specs.Parts.{box_said, box_between, place_between};
+ghost use Rattle.ngc_certificate_text.specs.Parts.{parsed_box, box_between, place_between};
 ghost use Rattle.ngc_certificate_text.specs.Parts.{piece_with, motion_of, counts_of, both_of};
 
-use crate::expected::{EntriesLeft, Indices};
+use crate::expected::{Indices, RemainingEntries};
 use crate::number::{numbers_in, split_field};
 use crate::piece::{Cut, Piece, Setting};
 use crate::told::Version;
@@ -120,7 +120,7 @@ fn box_between(
 
 // Returns the box with these six numbers.
 fn box_in(numbers: &[i64]) -> Result<GridBox, LineFlaw>
-    ensures { result ≡ box_said numbers.now }
+    ensures { result ≡ parsed_box numbers.now }
 {
     match numbers {
         [x0, y0, z0, x1, y1, z1] => box_between(corner(*x0, *y0, *z0), corner(*x1, *y1, *z1)),
@@ -161,7 +161,7 @@ fn piece_with(
 }
 
 fn line_piece(numbers: &[i64]) -> Result<Piece, LineFlaw>
-    ensures { result ≡ line_said (Some numbers.now) }
+    ensures { result ≡ parsed_line (Some numbers.now) }
 {
     match numbers {
         [end, steps @ ..] => piece_with(part(*end), box_in(steps)),
@@ -300,7 +300,7 @@ fn two_counts_in(fields: Option<&[u8]>) -> Result<MotionLine, LineFlaw>
 }
 
 fn line_piece_in(fields: Option<&[u8]>) -> Result<Piece, LineFlaw>
-    ensures { result ≡ line_said (numbers_said (all_fields fields.entry)) }
+    ensures { result ≡ parsed_line (numbers_said (all_fields fields.entry)) }
 {
     match numbers_in(fields) {
         Some(numbers) => line_piece(numbers.as_slice()),
@@ -325,7 +325,7 @@ pub(crate) fn is_text(bytes: &[u8], text: &[u8]) -> bool
 
 /// Returns the number of motions of the setting with this name, from its line.
 pub(crate) fn setting_line(name: &[u8], line: &[u8]) -> Result<u32, LineFlaw>
-    ensures { result ≡ setting_said name.now line.now }
+    ensures { result ≡ parsed_setting name.now line.now }
 {
     let (word, behind) = split_field(line);
     let rest = match behind {
@@ -344,7 +344,7 @@ pub(crate) fn setting_line(name: &[u8], line: &[u8]) -> Result<u32, LineFlaw>
 
 /// Returns a motion's index and number of pieces, from its line.
 pub(crate) fn motion_line(line: &[u8]) -> Result<MotionLine, LineFlaw>
-    ensures { result ≡ motion_said line.now }
+    ensures { result ≡ parsed_motion line.now }
 {
     let (word, numbers) = split_field(line);
     if is_text(word, b"motion") {
@@ -356,7 +356,7 @@ pub(crate) fn motion_line(line: &[u8]) -> Result<MotionLine, LineFlaw>
 
 /// Returns the version, from the first line.
 pub(crate) fn version_line(line: &[u8]) -> Result<Version, LineFlaw>
-    ensures { result ≡ version_said line.now }
+    ensures { result ≡ parsed_version line.now }
 {
     if is_text(line, b"ngc-certificate 1") {
         Ok(Version::One)
@@ -369,7 +369,7 @@ pub(crate) fn version_line(line: &[u8]) -> Result<Version, LineFlaw>
 
 /// Returns the numbers of motions of both settings, from their line.
 pub(crate) fn counts_line(line: &[u8]) -> Result<CountsLine, LineFlaw>
-    ensures { result ≡ counts_said line.now }
+    ensures { result ≡ parsed_counts line.now }
 {
     let (word, numbers) = split_field(line);
     if is_text(word, b"motions") {
@@ -405,7 +405,7 @@ fn on_entry(motion: Result<MotionLine, LineFlaw>) -> Result<EntryLine, LineFlaw>
 
 /// Returns the motion of a setting in version 1, from its line.
 pub(crate) fn setting_motion(setting: Setting, line: &[u8]) -> Result<EntryLine, LineFlaw>
-    ensures { result ≡ of_setting (index_at setting) (motion_said line.now) }
+    ensures { result ≡ of_setting (index_at setting) (parsed_motion line.now) }
 {
     match setting {
         Setting::Off => off_entry(motion_line(line)),
@@ -414,15 +414,15 @@ pub(crate) fn setting_motion(setting: Setting, line: &[u8]) -> Result<EntryLine,
 }
 
 // Returns whether a word is the name of an entry that may be next.
-fn is_entry(word: &[u8], name: &[u8], may_come: bool) -> bool
-    ensures { result ≡ (bytes_eq word.now name.now && may_come) }
+fn is_entry(word: &[u8], name: &[u8], may_still_follow: bool) -> bool
+    ensures { result ≡ (bytes_eq word.now name.now && may_still_follow) }
 {
-    is_text(word, name) && may_come
+    is_text(word, name) && may_still_follow
 }
 
 /// Returns an entry that may be next, from its line.
-pub(crate) fn entry_line(left: &EntriesLeft, line: &[u8]) -> Result<EntryLine, LineFlaw>
-    ensures { result ≡ entry_said left.now line.now }
+pub(crate) fn entry_line(left: &RemainingEntries, line: &[u8]) -> Result<EntryLine, LineFlaw>
+    ensures { result ≡ parsed_entry left.now line.now }
 {
     let (word, numbers) = split_field(line);
     if is_entry(word, b"both", left.may_be_both()) {
@@ -438,7 +438,7 @@ pub(crate) fn entry_line(left: &EntriesLeft, line: &[u8]) -> Result<EntryLine, L
 
 /// Returns a piece, from its line.
 pub(crate) fn piece_line(line: &[u8]) -> Result<Piece, LineFlaw>
-    ensures { result ≡ piece_said line.now }
+    ensures { result ≡ parsed_piece line.now }
 {
     let (word, numbers) = split_field(line);
     if is_text(word, b"line") {
@@ -452,7 +452,7 @@ pub(crate) fn piece_line(line: &[u8]) -> Result<Piece, LineFlaw>
 
 /// Checks that the line is the last one.
 pub(crate) fn end_line(line: &[u8]) -> Result<(), LineFlaw>
-    ensures { result ≡ end_said line.now }
+    ensures { result ≡ parsed_end line.now }
 {
     if is_text(line, b"end") {
         Ok(())

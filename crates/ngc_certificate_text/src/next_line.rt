@@ -2,12 +2,12 @@ ghost use Rattle.std.specs.Prelude.{◌≡◌, ◌≢◌, ◌+◌, ◌-◌, ◌�
 ghost use Rattle.std.specs.Prelude.{OnOk, IfOk, Err, IsTrue, ◌↔◌};
 ghost use Rattle.ngc_certificate_text.specs.Ahead.{name_of, wrong_line, IsSound, left_from};
 ghost use Rattle.ngc_certificate_text.specs.Ahead.{lines_ahead};
-ghost use Rattle.ngc_certificate_text.specs.Lines.{setting_said, piece_said, end_said};
+ghost use Rattle.ngc_certificate_text.specs.Lines.{parsed_setting, parsed_piece, parsed_end};
 ghost use Rattle.ngc_certificate_text.specs.Said.{next_number};
-ghost use Rattle.ngc_certificate_text.specs.Told.{IsNext, Tells, behind_told, fault_of, any_said};
-ghost use Rattle.ngc_certificate_text.specs.Told.{told_by, told_with, motion_told};
+ghost use Rattle.ngc_certificate_text.specs.Told.{IsNext, Tells, after_content, fault_of, parsed_motion_or_entry};
+ghost use Rattle.ngc_certificate_text.specs.Told.{content_by, content_with, motion_content};
 
-use crate::expected::{BegunMotion, Expected, MotionsLeft};
+use crate::expected::{BegunMotion, Expected, RemainingMotions};
 use crate::fault::CertificateFault;
 use crate::lines::{
     EntryLine, LineFlaw, counts_line, end_line, entry_line, piece_line, setting_line,
@@ -35,7 +35,7 @@ fn name(setting: Setting) -> &'static [u8]
 }
 
 fn header(line: &[u8]) -> Result<Told, LineFlaw>
-    ensures { result ≡ told_by Expected.Header line.now }
+    ensures { result ≡ content_by Expected.Header line.now }
 {
     match version_line(line) {
         Ok(version) => Ok(Told::Header(version)),
@@ -43,8 +43,8 @@ fn header(line: &[u8]) -> Result<Told, LineFlaw>
     }
 }
 
-fn setting_told(setting: Setting, line: &[u8]) -> Result<Told, LineFlaw>
-    ensures { result ≡ told_with (Told.Setting setting) (setting_said (name_of setting) line.now) }
+fn setting_content(setting: Setting, line: &[u8]) -> Result<Told, LineFlaw>
+    ensures { result ≡ content_with (Told.Setting setting) (parsed_setting (name_of setting) line.now) }
 {
     match setting_line(name(setting), line) {
         Ok(count) => Ok(Told::Setting(setting, count)),
@@ -52,8 +52,8 @@ fn setting_told(setting: Setting, line: &[u8]) -> Result<Told, LineFlaw>
     }
 }
 
-fn counts_told(line: &[u8]) -> Result<Told, LineFlaw>
-    ensures { result ≡ told_by Expected.Counts line.now }
+fn counts_content(line: &[u8]) -> Result<Told, LineFlaw>
+    ensures { result ≡ content_by Expected.Counts line.now }
 {
     match counts_line(line) {
         Ok(counts) => Ok(Told::Counts(counts.off, counts.on)),
@@ -61,18 +61,18 @@ fn counts_told(line: &[u8]) -> Result<Told, LineFlaw>
     }
 }
 
-fn any_line(left: MotionsLeft, line: &[u8]) -> Result<EntryLine, LineFlaw>
-    ensures { result ≡ any_said left line.now }
+fn any_line(left: RemainingMotions, line: &[u8]) -> Result<EntryLine, LineFlaw>
+    ensures { result ≡ parsed_motion_or_entry left line.now }
 {
     match left {
-        MotionsLeft::Parted(setting, _) => setting_motion(setting, line),
-        MotionsLeft::Joined(entries) => entry_line(&entries, line),
+        RemainingMotions::Parted(setting, _) => setting_motion(setting, line),
+        RemainingMotions::Joined(entries) => entry_line(&entries, line),
     }
 }
 
 // Returns the content of the line of one of these motions.
-fn motion_told(left: MotionsLeft, line: &[u8]) -> Result<Told, LineFlaw>
-    ensures { result ≡ told_with (motion_told left) (any_said left line.now) }
+fn motion_content(left: RemainingMotions, line: &[u8]) -> Result<Told, LineFlaw>
+    ensures { result ≡ content_with (motion_content left) (parsed_motion_or_entry left line.now) }
 {
     match any_line(left, line) {
         Ok(entry) => Ok(Told::Motion(BegunMotion {
@@ -84,8 +84,8 @@ fn motion_told(left: MotionsLeft, line: &[u8]) -> Result<Told, LineFlaw>
     }
 }
 
-fn piece_told(begun: BegunMotion, line: &[u8]) -> Result<Told, LineFlaw>
-    ensures { result ≡ told_with (Told.Piece begun) (piece_said line.now) }
+fn piece_content(begun: BegunMotion, line: &[u8]) -> Result<Told, LineFlaw>
+    ensures { result ≡ content_with (Told.Piece begun) (parsed_piece line.now) }
 {
     match piece_line(line) {
         Ok(piece) => Ok(Told::Piece(begun, piece)),
@@ -93,8 +93,8 @@ fn piece_told(begun: BegunMotion, line: &[u8]) -> Result<Told, LineFlaw>
     }
 }
 
-fn end_told(line: &[u8]) -> Result<Told, LineFlaw>
-    ensures { result ≡ told_by Expected.End line.now }
+fn end_content(line: &[u8]) -> Result<Told, LineFlaw>
+    ensures { result ≡ content_by Expected.End line.now }
 {
     match end_line(line) {
         Ok(()) => Ok(Told::End),
@@ -115,15 +115,15 @@ impl NextLine {
 
     // Returns the content of a line.
     fn told(&self, line: &[u8]) -> Result<Told, LineFlaw>
-        ensures { result ≡ told_by self.now.expected line.now }
+        ensures { result ≡ content_by self.now.expected line.now }
     {
         match self.expected {
             Expected::Header => header(line),
-            Expected::Setting(setting) => setting_told(setting, line),
-            Expected::Counts => counts_told(line),
-            Expected::Motion(left) => motion_told(left, line),
-            Expected::Piece(begun) => piece_told(begun, line),
-            Expected::End => end_told(line),
+            Expected::Setting(setting) => setting_content(setting, line),
+            Expected::Counts => counts_content(line),
+            Expected::Motion(left) => motion_content(left, line),
+            Expected::Piece(begun) => piece_content(begun, line),
+            Expected::End => end_content(line),
             Expected::Nothing => Err(LineFlaw::Spelling),
         }
     }
@@ -152,12 +152,12 @@ impl NextLine {
     // Returns the line after one with this content.
     fn behind(&self, told: &Told) -> NextLine
         ensures { result ≡ record {
-          expected = behind_told told.now;
+          expected = after_content told.now;
           number = next_number self.now.number;
         } }
     {
         NextLine {
-            expected: Expected::behind_told(told),
+            expected: Expected::after_content(told),
             number: self.number.saturating_add(1),
         }
     }
@@ -170,7 +170,7 @@ impl NextLine {
             Tells result (left_from self.old.expected self.old.number (line.now ∷ next ∷ left))
             (left_from self.new.expected self.new.number (next ∷ left)) }
         ensures expected { IfOk result (λ told. IsNext self.old.expected told ×
-            (self.new.expected ≡ behind_told told)) }
+            (self.new.expected ≡ after_content told)) }
         ensures sound { IsSound self.new.expected self.new.number }
         ensures progress { OnOk result
             (lines_ahead self.new.expected + 1 ≤ lines_ahead self.old.expected) }

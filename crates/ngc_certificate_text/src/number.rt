@@ -11,7 +11,7 @@ use ngc_text::decimal_in;
 pub type Numbers = ArrayVec<i64, 8>;
 
 // Returns the bytes after a leading minus sign.
-fn behind_minus(field: &[u8]) -> Option<&[u8]>
+fn after_minus(field: &[u8]) -> Option<&[u8]>
     ensures { option_map (λ d. d.now) result ≡ minus_tail field.now }
 {
     match field {
@@ -45,7 +45,7 @@ fn negative(size: Option<u64>) -> Option<i64>
 fn number_in(field: &[u8]) -> Option<i64>
     ensures { result ≡ option_map clamped (number_said field.now) }
 {
-    match behind_minus(field) {
+    match after_minus(field) {
         Some(digits) => negative(decimal_in(digits)),
         None => positive(decimal_in(field)),
     }

@@ -3,8 +3,8 @@ ghost use Rattle.ngc_text.specs.Failures.{Rises};
 ghost use Rattle.ngc_certificate_text.specs.Contents.{said_of, form_of};
 ghost use Rattle.ngc_certificate_text.specs.Joined.{contents};
 ghost use Rattle.ngc_certificate_text.specs.Pulled.{FailsByReading};
-ghost use Rattle.ngc_certificate_text.specs.Said.{certificate_said, form_said};
-ghost use Rattle.ngc_certificate_text.specs.Given.{GivesCertificate};
+ghost use Rattle.ngc_certificate_text.specs.Said.{parsed_certificate, parsed_form};
+ghost use Rattle.ngc_certificate_text.specs.Given.{CertificateResultIs};
 ghost use Rattle.ngc_certificate_text.specs.declared.fault.CertificateFault.TheVariants.{ReadFailed};
 
 use crate::certificate::Certificate;
@@ -19,7 +19,7 @@ fn read_form<A: Allocator + Copy, R: Source>(
     source: &mut R,
 ) -> Result<Certificate<A>, CertificateFault>
     ensures form { IfSome (R.remaining source.old)
-        (λ bytes. GivesCertificate form_of result (form_said bytes)) }
+        (λ bytes. CertificateResultIs form_of result (parsed_form bytes)) }
     ensures said { IfOk result (λ c. said_of c ≡ contents (form_of c)) }
     ensures device { result ≡ Err ReadFailed →
         Rises (R.failures source.old) (R.failures source.new) }
@@ -40,7 +40,7 @@ fn read_form<A: Allocator + Copy, R: Source>(
             Err(fault) => return Err(fault),
         }
         // Bytes after the end are a fault before their line is complete.
-        if reader.goes_too_far() {
+        if reader.has_trailing_bytes() {
             break;
         }
     }
@@ -59,10 +59,10 @@ impl<A: Allocator + Copy> Certificate<A> {
         // If the source's bytes are known, the result is the one that they define, except for lack
         // of memory and a failure of the source.
         ensures said { IfSome (R.remaining source.old)
-            (λ bytes. GivesCertificate said_of result (certificate_said bytes)) }
+            (λ bytes. CertificateResultIs said_of result (parsed_certificate bytes)) }
         // The same holds for its form.
         ensures form { IfSome (R.remaining source.old)
-            (λ bytes. GivesCertificate form_of result (form_said bytes)) }
+            (λ bytes. CertificateResultIs form_of result (parsed_form bytes)) }
         // `ReadFailed` is returned only if the source failed.
         ensures device { result ≡ Err ReadFailed →
             Rises (R.failures source.old) (R.failures source.new) }

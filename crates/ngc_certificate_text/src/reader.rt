@@ -34,20 +34,20 @@ impl<A: Allocator> CertificateReader<A> {
     ghost use Rattle.std.specs.Result.{result_err};
     ghost use Rattle.ngc_certificate_text.specs.Reader.{AnswerIs, FaultIs};
     ghost use Rattle.ngc_certificate_text.specs.Contents.{said_of, form_of};
-    ghost use Rattle.ngc_certificate_text.specs.Given.{GivesCertificate};
+    ghost use Rattle.ngc_certificate_text.specs.Given.{CertificateResultIs};
     ghost use Rattle.ngc_certificate_text.specs.Joined.{contents};
     ghost use Rattle.ngc_certificate_text.specs.Parted.{firm};
     ghost use Rattle.ngc_certificate_text.specs.ReaderView.{outcome_in, firm_in, refusal_in};
     ghost use Rattle.ngc_certificate_text.specs.ReaderView.{room_in};
-    ghost use Rattle.ngc_certificate_text.specs.Said.{form_said};
+    ghost use Rattle.ngc_certificate_text.specs.Said.{parsed_form};
 
     /// Returns a reader that has received no bytes.
     pub fn new(alloc: A) -> CertificateReader<A>
     where
         A: Copy,
-        ensures text { (bytes : List ℕ) → form_said bytes ≡ outcome_in result bytes }
+        ensures text { (bytes : List ℕ) → parsed_form bytes ≡ outcome_in result bytes }
         ensures firm { (bytes rest : List ℕ) →
-            form_said (firm bytes ++ rest) ≡ firm_in result bytes rest }
+            parsed_form (firm bytes ++ rest) ≡ firm_in result bytes rest }
         ensures going { refusal_in result ≡ None }
     {
         CertificateReader {
@@ -91,12 +91,12 @@ impl<A: Allocator> CertificateReader<A> {
     }
 
     // Returns whether there are bytes after the end, so that the following bytes change nothing.
-    pub(crate) fn goes_too_far(&self) -> bool
+    pub(crate) fn has_trailing_bytes(&self) -> bool
         ensures { IsTrue result → (rest : List ℕ) →
             outcome_in self.now rest ≡ outcome_in self.now [] }
     {
         match self.refusal {
-            None => self.text.goes_too_far(),
+            None => self.text.has_trailing_bytes(),
             Some(_) => true,
         }
     }
@@ -105,7 +105,7 @@ impl<A: Allocator> CertificateReader<A> {
     /// returned before, or that of a line that is missing or lacks its line feed.
     pub fn finish(self) -> Result<Certificate<A>, CertificateFault>
         // The result is the one that all pieces together define, except for lack of memory.
-        ensures form { GivesCertificate form_of result (outcome_in self []) }
+        ensures form { CertificateResultIs form_of result (outcome_in self []) }
         ensures said { IfOk result (λ c. said_of c ≡ contents (form_of c)) }
         ensures again { IfSome (refusal_in self) (λ fault. result ≡ Err fault) }
         ensures device { result ≢ Err ReadFailed }

@@ -1,13 +1,13 @@
 ghost use Rattle.std.specs.Prelude.{◌≡◌, ◌≢◌, ℕ, ◌+◌, ◌≤◌, List, [], ◌++◌, length, IsTrue, IfOk};
 ghost use Rattle.std.specs.Prelude.{OnOk, Err};
 ghost use Rattle.ngc_certificate_text.specs.Contents.{said_of, form_of};
-ghost use Rattle.ngc_certificate_text.specs.Given.{GivesCertificate};
+ghost use Rattle.ngc_certificate_text.specs.Given.{CertificateResultIs};
 ghost use Rattle.ngc_certificate_text.specs.Joined.{contents};
 ghost use Rattle.ngc_certificate_text.specs.LinesView.{room_of};
 ghost use Rattle.ngc_certificate_text.specs.Parted.{firm, firm_lines, PartsLines};
-ghost use Rattle.ngc_certificate_text.specs.Reader.{StepGives};
+ghost use Rattle.ngc_certificate_text.specs.Reader.{StepResultIs};
 ghost use Rattle.ngc_certificate_text.specs.Resumed.{resumed, IsResuming};
-ghost use Rattle.ngc_certificate_text.specs.Said.{lines_of, form_said};
+ghost use Rattle.ngc_certificate_text.specs.Said.{lines_of, parsed_form};
 
 use crate::certificate::Certificate;
 use crate::certificate_lines::CertificateLines;
@@ -27,9 +27,9 @@ impl<A: Allocator> TextSoFar<A> {
     where
         A: Copy,
         ensures reading { IsResuming result }
-        ensures begins { (bytes : List ℕ) → form_said bytes ≡ resumed result lines_of bytes }
+        ensures begins { (bytes : List ℕ) → parsed_form bytes ≡ resumed result lines_of bytes }
         ensures firm { (bytes rest : List ℕ) →
-            form_said (firm bytes ++ rest) ≡ resumed result (firm_lines rest) bytes }
+            parsed_form (firm bytes ++ rest) ≡ resumed result (firm_lines rest) bytes }
     {
         TextSoFar {
             lines: CertificateLines::new(),
@@ -41,7 +41,7 @@ impl<A: Allocator> TextSoFar<A> {
     pub(crate) fn feed(&mut self, bytes: &[u8]) -> Result<(), CertificateFault>
         requires { IsResuming self.old }
         ensures step { (lines : List ℕ → List (List ℕ)) → PartsLines lines → (rest : List ℕ) →
-            StepGives result (resumed self.old lines (bytes.now ++ rest))
+            StepResultIs result (resumed self.old lines (bytes.now ++ rest))
             (resumed self.new lines rest) }
         ensures reading { OnOk result (IsResuming self.new) }
         ensures room { OnOk result
@@ -62,17 +62,17 @@ impl<A: Allocator> TextSoFar<A> {
     }
 
     /// Returns whether there are bytes after the end of the text.
-    pub(crate) fn goes_too_far(&self) -> bool
+    pub(crate) fn has_trailing_bytes(&self) -> bool
         ensures { IsTrue result → IsResuming self.now → (rest : List ℕ) →
             resumed self.now lines_of rest ≡ resumed self.now lines_of [] }
     {
-        self.lines.goes_too_far()
+        self.lines.has_trailing_bytes()
     }
 
     /// Returns the certificate, after the last byte.
     pub(crate) fn finish(self) -> Result<Certificate<A>, CertificateFault>
         requires { IsResuming self }
-        ensures form { GivesCertificate form_of result (resumed self lines_of []) }
+        ensures form { CertificateResultIs form_of result (resumed self lines_of []) }
         ensures said { IfOk result (λ c. said_of c ≡ contents (form_of c)) }
         ensures device { result ≢ Err CertificateFault.ReadFailed }
     {

@@ -2,18 +2,18 @@ ghost use Rattle.std.specs.Prelude.{◌≡◌, ◌+◌, ◌<◌, ◌≤◌, ◌+
 ghost use Rattle.std.specs.Prelude.{OnOk, OnErr};
 ghost use Rattle.std.specs.Io.KnownBytes.{Appends};
 ghost use Rattle.ngc_text.specs.Failures.{CountsFailure};
-ghost use Rattle.ngc_text.specs.Written.{AppendsBeginning};
-ghost use Rattle.ngc_text.specs.Collected.{CHUNK_SIZE, HasLineRoom};
+ghost use Rattle.ngc_text.specs.Written.{AppendsPrefix};
+ghost use Rattle.ngc_text.specs.Collected.{CHUNK_SIZE, HasSpaceForLine};
 ghost use Rattle.ngc_certificate_text.specs.Certificate.{entry_at};
 ghost use Rattle.ngc_certificate_text.specs.Collects.{Collects};
 ghost use Rattle.ngc_certificate_text.specs.Contents.{form_of};
 ghost use Rattle.ngc_certificate_text.specs.Spelling.{steps_text, cut_text, piece_line};
 ghost use Rattle.ngc_certificate_text.specs.Spelling.{motion_line, entry_lines, setting_lines};
-ghost use Rattle.ngc_certificate_text.specs.Spelling.{parted_spelling};
+ghost use Rattle.ngc_certificate_text.specs.Spelling.{version_1_text};
 ghost use Rattle.ngc_certificate_text.specs.Spelling.{indices_text, item_line, item_lines};
-ghost use Rattle.ngc_certificate_text.specs.Spelling.{joined_spelling, spelling};
+ghost use Rattle.ngc_certificate_text.specs.Spelling.{version_2_text, spelling};
 ghost use Rattle.ngc_certificate_text.specs.Order.{items_in, IsWhole};
-ghost use Rattle.ngc_certificate_text.specs.Places.{MayPass, entry_there, behind_entry};
+ghost use Rattle.ngc_certificate_text.specs.Places.{MayPass, entry_there, after_entry};
 
 use crate::certificate::{Certificate, EntryKind};
 use crate::expected::Indices;
@@ -52,7 +52,7 @@ fn add_cut(chunk: &mut Chunk, end: &Cut)
 }
 
 fn add_piece(chunk: &mut Chunk, piece: &Piece)
-    requires { HasLineRoom chunk.old }
+    requires { HasSpaceForLine chunk.old }
     ensures { chunk.new ≡ chunk.old ++ piece_line piece.now }
 {
     add_cut(chunk, &piece.end);
@@ -62,7 +62,7 @@ fn add_piece(chunk: &mut Chunk, piece: &Piece)
 }
 
 fn add_motion(chunk: &mut Chunk, index: u32, pieces: usize)
-    requires { HasLineRoom chunk.old }
+    requires { HasSpaceForLine chunk.old }
     ensures { chunk.new ≡ chunk.old ++ motion_line index pieces }
 {
     chunk.add_text(b"motion ");
@@ -73,7 +73,7 @@ fn add_motion(chunk: &mut Chunk, index: u32, pieces: usize)
 }
 
 fn add_setting(chunk: &mut Chunk, name: &[u8], motions: usize)
-    requires room { HasLineRoom chunk.old }
+    requires room { HasSpaceForLine chunk.old }
     requires name { length name.now ≤ 3 }
     ensures { chunk.new ≡ chunk.old
         ++ (codes "setting " ++ name.now ++ codes " " ++ decimal motions ++ codes "\n") }
@@ -90,7 +90,7 @@ fn write_piece<W: Sink>(chunk: &mut Chunk, piece: &Piece, sink: &mut W) -> Resul
         (piece_line piece.now) }
     ensures counts { CountsFailure (W.failures sink.old) (W.failures sink.new) result }
 {
-    match chunk.make_room(sink) {
+    match chunk.make_space(sink) {
         Ok(()) => {}
         Err(fault) => return Err(fault),
     }
@@ -131,7 +131,7 @@ fn write_motion<M: MotionList, W: Sink>(
         (entry_lines (entry_at (M.entries motions.now) i)) }
     ensures counts { CountsFailure (W.failures sink.old) (W.failures sink.new) result }
 {
-    match chunk.make_room(sink) {
+    match chunk.make_space(sink) {
         Ok(()) => {}
         Err(fault) => return Err(fault),
     }
@@ -168,7 +168,7 @@ fn write_setting<M: MotionList, W: Sink>(
         (setting_lines name.now (M.entries motions.now)) }
     ensures counts { CountsFailure (W.failures sink.old) (W.failures sink.new) result }
 {
-    match chunk.make_room(sink) {
+    match chunk.make_space(sink) {
         Ok(()) => {}
         Err(fault) => return Err(fault),
     }
@@ -182,9 +182,9 @@ fn write_settings<M: MotionList, W: Sink>(
     on: &M,
     sink: &mut W,
 ) -> Result<(), WriteFault>
-    requires { HasLineRoom chunk.old }
+    requires { HasSpaceForLine chunk.old }
     ensures text { Collects (W.written sink.old) (W.written sink.new) chunk.old chunk.new result
-        (parted_spelling (record { off = M.entries off.now; on = M.entries on.now })) }
+        (version_1_text (record { off = M.entries off.now; on = M.entries on.now })) }
     ensures counts { CountsFailure (W.failures sink.old) (W.failures sink.new) result }
 {
     chunk.add_text(b"ngc-certificate 1\n");
@@ -196,7 +196,7 @@ fn write_settings<M: MotionList, W: Sink>(
         Ok(()) => {}
         Err(fault) => return Err(fault),
     }
-    match chunk.make_room(sink) {
+    match chunk.make_space(sink) {
         Ok(()) => {}
         Err(fault) => return Err(fault),
     }
@@ -228,7 +228,7 @@ fn add_indices(chunk: &mut Chunk, indices: &Indices)
 }
 
 fn add_entry(chunk: &mut Chunk, indices: &Indices, pieces: usize)
-    requires { HasLineRoom chunk.old }
+    requires { HasSpaceForLine chunk.old }
     ensures { chunk.new ≡ chunk.old ++ item_line indices.now pieces }
 {
     add_indices(chunk, indices);
@@ -238,7 +238,7 @@ fn add_entry(chunk: &mut Chunk, indices: &Indices, pieces: usize)
 }
 
 fn add_counts(chunk: &mut Chunk, off: usize, on: usize)
-    requires { HasLineRoom chunk.old }
+    requires { HasSpaceForLine chunk.old }
     ensures { chunk.new ≡ chunk.old
         ++ (codes "motions " ++ decimal off ++ codes " " ++ decimal on ++ codes "\n") }
 {
@@ -265,7 +265,7 @@ fn write_entry<M: MotionList, W: Sink>(
         })) }
     ensures counts { CountsFailure (W.failures sink.old) (W.failures sink.new) result }
 {
-    match chunk.make_room(sink) {
+    match chunk.make_space(sink) {
         Ok(()) => {}
         Err(fault) => return Err(fault),
     }
@@ -306,10 +306,10 @@ fn entry_there<'a, M: MotionList>(
 }
 
 // Returns the position after it.
-fn behind_entry(kind: EntryKind, passed: Passed) -> Passed
+fn after_entry(kind: EntryKind, passed: Passed) -> Passed
     requires off { passed.off < usize.MAX }
     requires on { passed.on < usize.MAX }
-    ensures { result ≡ behind_entry kind passed }
+    ensures { result ≡ after_entry kind passed }
 {
     let Passed { off, on } = passed;
     match kind {
@@ -341,7 +341,7 @@ fn write_entries<M: MotionList, W: Sink>(
             Ok(()) => {}
             Err(fault) => return Err(fault),
         }
-        passed = behind_entry(*kind, passed);
+        passed = after_entry(*kind, passed);
     }
     Ok(())
 }
@@ -356,7 +356,7 @@ fn write_counts<W: Sink>(
         (codes "motions " ++ decimal off ++ codes " " ++ decimal on ++ codes "\n") }
     ensures counts { CountsFailure (W.failures sink.old) (W.failures sink.new) result }
 {
-    match chunk.make_room(sink) {
+    match chunk.make_space(sink) {
         Ok(()) => {}
         Err(fault) => return Err(fault),
     }
@@ -371,10 +371,10 @@ fn write_whole<M: MotionList, W: Sink>(
     on: &M,
     sink: &mut W,
 ) -> Result<(), WriteFault>
-    requires room { HasLineRoom chunk.old }
+    requires room { HasSpaceForLine chunk.old }
     requires whole { IsWhole order.now (M.entries off.now) (M.entries on.now) }
     ensures text { Collects (W.written sink.old) (W.written sink.new) chunk.old chunk.new result
-        (joined_spelling (items_in order.now (M.entries off.now) (M.entries on.now))) }
+        (version_2_text (items_in order.now (M.entries off.now) (M.entries on.now))) }
     ensures counts { CountsFailure (W.failures sink.old) (W.failures sink.new) result }
 {
     chunk.add_text(b"ngc-certificate 2\n");
@@ -388,7 +388,7 @@ fn write_whole<M: MotionList, W: Sink>(
         Ok(()) => {}
         Err(fault) => return Err(fault),
     }
-    match chunk.make_room(sink) {
+    match chunk.make_space(sink) {
         Ok(()) => {}
         Err(fault) => return Err(fault),
     }
@@ -402,9 +402,9 @@ fn write_whole<M: MotionList, W: Sink>(
 /// After a fault (902, only if the sink failed) a prefix of the text is written.
 pub fn write_parted<M: MotionList, W: Sink>(off: &M, on: &M, sink: &mut W) -> Result<(), WriteFault>
     ensures ok { OnOk result (Appends (W.written sink.old) (W.written sink.new)
-        (parted_spelling (record { off = M.entries off.now; on = M.entries on.now }))) }
-    ensures fault { OnErr result (AppendsBeginning (W.written sink.old) (W.written sink.new)
-        (parted_spelling (record { off = M.entries off.now; on = M.entries on.now }))) }
+        (version_1_text (record { off = M.entries off.now; on = M.entries on.now }))) }
+    ensures fault { OnErr result (AppendsPrefix (W.written sink.old) (W.written sink.new)
+        (version_1_text (record { off = M.entries off.now; on = M.entries on.now }))) }
     ensures counts { CountsFailure (W.failures sink.old) (W.failures sink.new) result }
 {
     let mut chunk = Chunk::new();
@@ -427,9 +427,9 @@ pub fn write_joined<M: MotionList, W: Sink>(
 ) -> Result<(), WriteFault>
     requires { IsWhole order.now (M.entries off.now) (M.entries on.now) }
     ensures ok { OnOk result (Appends (W.written sink.old) (W.written sink.new)
-        (joined_spelling (items_in order.now (M.entries off.now) (M.entries on.now)))) }
-    ensures fault { OnErr result (AppendsBeginning (W.written sink.old) (W.written sink.new)
-        (joined_spelling (items_in order.now (M.entries off.now) (M.entries on.now)))) }
+        (version_2_text (items_in order.now (M.entries off.now) (M.entries on.now)))) }
+    ensures fault { OnErr result (AppendsPrefix (W.written sink.old) (W.written sink.new)
+        (version_2_text (items_in order.now (M.entries off.now) (M.entries on.now)))) }
     ensures counts { CountsFailure (W.failures sink.old) (W.failures sink.new) result }
 {
     let mut chunk = Chunk::new();
@@ -448,7 +448,7 @@ impl<A: Allocator> Certificate<A> {
         ensures ok { OnOk result
             (Appends (W.written sink.old) (W.written sink.new) (spelling (form_of self.now))) }
         ensures fault { OnErr result
-            (AppendsBeginning (W.written sink.old) (W.written sink.new)
+            (AppendsPrefix (W.written sink.old) (W.written sink.new)
             (spelling (form_of self.now))) }
         ensures counts { CountsFailure (W.failures sink.old) (W.failures sink.new) result }
     {

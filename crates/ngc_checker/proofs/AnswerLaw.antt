@@ -4,13 +4,13 @@ use Rattle.ngc_canonical.specs.Meaning.{Program}
 use Rattle.ngc_canonical.specs.State.{Setup}
 use Rattle.ngc_certificate_text.specs.declared.fault.CertificateFault.{CertificateFault}
 use Rattle.ngc_certificate_text.specs.Ahead.{made_with}
-use Rattle.ngc_certificate_text.specs.Said.{certificate_said}
+use Rattle.ngc_certificate_text.specs.Said.{parsed_certificate}
 use Rattle.ngc_checker.specs.declared.check_fault.CheckReadFault.{CheckReadFault}
 use Rattle.ngc_checker.specs.declared.check_fault.CheckReadFault.TheVariants as reads
 use Rattle.ngc_checker.specs.declared.fault.CheckFault.{CheckFault}
 use Rattle.ngc_checker.specs.declared.fault.CheckFault.TheVariants as faults
 use Rattle.ngc_checker.specs.Accepted.{AcceptedData, Keeps, IsFirst}
-use Rattle.ngc_checker.specs.CheckView.{GivesVerdict, AnswersSaid, VerdictIsAnswer, text_verdict}
+use Rattle.ngc_checker.specs.CheckView.{VerdictResultIs, ReturnsParsed, VerdictIsAnswer, text_verdict}
 use Rattle.ngc_checker.specs.FirstRefusal.{first_refusal}
 
 pub made_ok : {X Y : Type 0} (f : X → Y) (o : Result X CertificateFault) (y : Y) → made_with f o ≡ Ok y → (x : X) × (o ≡ Ok x) × (f x ≡ y)
@@ -33,13 +33,13 @@ first_is (faults.ToolChange s k i) o h = h
 
 answered : (program : Program) (setup : Setup) (text : List ℕ) (kept : Option AcceptedData) (answer : Result AcceptedData CheckReadFault) →
     ((a : AcceptedData) → kept ≡ Some a → Keeps program setup a)
-    → GivesVerdict (λ a. a) kept answer (text_verdict program setup text) → AnswersSaid (λ a. a) program setup text answer
+    → VerdictResultIs (λ a. a) kept answer (text_verdict program setup text) → ReturnsParsed (λ a. a) program setup text answer
 answered program setup text kept (Ok a) keeps h =
-    let m = made_ok (first_refusal program setup) (certificate_said text) None h.0 in
+    let m = made_ok (first_refusal program setup) (parsed_certificate text) None h.0 in
     (m.0, m.1, (m.2, keeps a h.1))
-answered program setup text kept (Err (reads.Certificate fault)) keeps h = made_err (first_refusal program setup) (certificate_said text) fault h
+answered program setup text kept (Err (reads.Certificate fault)) keeps h = made_err (first_refusal program setup) (parsed_certificate text) fault h
 answered program setup text kept (Err (reads.Check fault)) keeps h =
-    let m = made_ok (first_refusal program setup) (certificate_said text) (Some fault) h in
+    let m = made_ok (first_refusal program setup) (parsed_certificate text) (Some fault) h in
     (m.0, m.1, first_is fault (first_refusal program setup m.0) m.2)
 
 pub law : VerdictIsAnswer

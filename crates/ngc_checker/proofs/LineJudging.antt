@@ -5,9 +5,9 @@ use Rattle.std.proofs.lemmas.Bool.Decides.{nat_tests}
 use Rattle.ngc_certificate_text.specs.declared.expected.Expected.{Expected}
 use Rattle.ngc_certificate_text.specs.declared.expected.BegunMotion.{BegunMotion}
 use Rattle.ngc_certificate_text.specs.declared.fault.CertificateFault.{CertificateFault}
-use Rattle.ngc_certificate_text.specs.declared.expected.EntriesLeft.{EntriesLeft}
-use Rattle.ngc_certificate_text.specs.declared.expected.MotionsLeft.{MotionsLeft}
-use Rattle.ngc_certificate_text.specs.declared.expected.MotionsLeft.TheVariants.{Parted, Joined}
+use Rattle.ngc_certificate_text.specs.declared.expected.RemainingEntries.{RemainingEntries}
+use Rattle.ngc_certificate_text.specs.declared.expected.RemainingMotions.{RemainingMotions}
+use Rattle.ngc_certificate_text.specs.declared.expected.RemainingMotions.TheVariants.{Parted, Joined}
 use Rattle.ngc_certificate_text.specs.declared.told.Version.{Version}
 use Rattle.ngc_certificate_text.specs.declared.told.Version.TheVariants.{One, Two}
 use Rattle.ngc_certificate_text.specs.declared.piece.Setting.TheVariants.{Off, On}
@@ -15,32 +15,32 @@ use Rattle.ngc_certificate_text.specs.declared.told.Told.{Told}
 use Rattle.ngc_certificate_text.specs.declared.told.Told.TheVariants as tell
 use Rattle.ngc_certificate_text.specs.Ahead.{Rest, Left, made_with, next_of_entries, next_of_motions, IsSound}
 use Rattle.ngc_certificate_text.specs.EntryLines.{none_left}
-use Rattle.ngc_certificate_text.specs.Told.{onto, Fits, IsFront, behind_piece, behind_told, behind_version, IsNext}
-use Rattle.ngc_checker.specs.Judging.{JudgeData, MayJudge, left_behind, left_of, IsAt}
+use Rattle.ngc_certificate_text.specs.Told.{onto, Fits, IsFront, after_piece, after_content, after_version, IsNext}
+use Rattle.ngc_checker.specs.Judging.{JudgeData, MayJudge, remaining_after, left_of, IsAt}
 
-next_left_of : (m : MotionsLeft) → left_of (next_of_motions m) ≡ 0
+next_left_of : (m : RemainingMotions) → left_of (next_of_motions m) ≡ 0
 next_left_of (Parted Off zero) = refl
 next_left_of (Parted On zero) = refl
 next_left_of (Parted s (suc n)) = refl
 next_left_of (Joined left) = entries_left (none_left left) left where
-  entries_left : (none : Bool) (e : EntriesLeft) → left_of (next_of_entries none e) ≡ 0
+  entries_left : (none : Bool) (e : RemainingEntries) → left_of (next_of_entries none e) ≡ 0
   entries_left true e = refl
   entries_left false e = refl
 
-version_left_of : (v : Version) → left_of (behind_version v) ≡ 0
+version_left_of : (v : Version) → left_of (after_version v) ≡ 0
 version_left_of One = refl
 version_left_of Two = refl
 
-piece_at : (b : BegunMotion) (last : Bool) → nat_le b.pieces_left 1 ≡ last → b.pieces_left - 1 ≡ left_of (behind_piece last b)
+piece_at : (b : BegunMotion) (last : Bool) → nat_le b.pieces_left 1 ≡ last → b.pieces_left - 1 ≡ left_of (after_piece last b)
 piece_at b true e = let none : b.pieces_left - 1 ≡ 0 = grind (arith, nat_tests) in none ∙ sym (next_left_of b.behind)
 piece_at b false e = refl
 
-pub judged_at : (e : Expected) (told : Told) (old new : JudgeData) → IsNext e told → IsAt e old → new.left ≡ left_behind told old.left →
-    IsAt (behind_told told) new
+pub judged_at : (e : Expected) (told : Told) (old new : JudgeData) → IsNext e told → IsAt e old → new.left ≡ remaining_after told old.left →
+    IsAt (after_content told) new
 judged_at e (tell.Header v) old new is at done = done ∙ at ∙ ap left_of is ∙ sym (version_left_of v)
 judged_at e (tell.Setting s n) old new is at done = done ∙ at ∙ ap left_of is.0 ∙ sym (next_left_of (Parted s n))
 judged_at e (tell.Counts off on) old new is at done =
-    done ∙ at ∙ ap left_of is.0 ∙ sym (next_left_of (Joined (record { off = off; on = on; behind_on = false })))
+    done ∙ at ∙ ap left_of is.0 ∙ sym (next_left_of (Joined (record { off = off; on = on; after_on = false })))
 judged_at e (tell.Motion b) old new is at done = done
 judged_at e (tell.Piece b p) old new is at done = done ∙ piece_at b (nat_le b.pieces_left 1) refl
 judged_at e tell.End old new is at done = done ∙ at ∙ ap left_of is

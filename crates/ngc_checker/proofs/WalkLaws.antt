@@ -15,7 +15,7 @@ use Rattle.ngc_commands.specs.Movement.{actions_of, motion_indices, end_of}
 use Rattle.ngc_certificate_text.specs.declared.piece.Piece.{Piece}
 use Rattle.ngc_certificate_text.specs.declared.piece.Setting.{Setting}
 use Rattle.ngc_certificate_text.specs.Certificate.{Entry, entry_at}
-use Rattle.ngc_certificate_text.proofs.Spelled.{entry_there}
+use Rattle.ngc_certificate_text.proofs.WrittenCertificate.{entry_there}
 use Rattle.ngc_certificate.specs.declared.fault.PieceRefusal.{PieceRefusal}
 use Rattle.ngc_certificate.specs.declared.pieces.PieceJudge.{PieceJudge}
 use Rattle.ngc_certificate.specs.PieceFault.{pieces_fault, ◌or◌}

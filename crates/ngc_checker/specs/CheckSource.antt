@@ -12,13 +12,13 @@ use Rattle.ngc_checker.specs.CheckView.{text_verdict}
 -- the result is acceptance if the text has no fault and nothing is refused, with the program that
 -- the checker stores; otherwise it is the text's fault, lack of memory, the source's failure, or
 -- the first refusal
-abbrev pub AnswersText : {X : Type 0} → (X → AcceptedData) → Program → Setup → List ℕ →
+abbrev pub ReturnsOfText : {X : Type 0} → (X → AcceptedData) → Program → Setup → List ℕ →
     Result X CheckReadFault → Type 0
-AnswersText view program setup text (Ok x) =
+ReturnsOfText view program setup text (Ok x) =
     (text_verdict program setup text ≡ Ok None) × Keeps program setup (view x)
-AnswersText view program setup text (Err (reads.Certificate fault)) =
+ReturnsOfText view program setup text (Err (reads.Certificate fault)) =
     FaultIs fault (text_verdict program setup text)
-AnswersText view program setup text (Err (reads.Check fault)) =
+ReturnsOfText view program setup text (Err (reads.Check fault)) =
     text_verdict program setup text ≡ Ok (Some fault)
 
 -- the count of failures rises if the result is that the source failed, and stays the same otherwise

@@ -8,13 +8,13 @@ use Rattle.ngc_certificate_text.specs.Ahead.{made_with}
 use Rattle.ngc_certificate_text.specs.Certificate.{CertificateData}
 use Rattle.ngc_certificate_text.specs.LinesView.{room_of}
 use Rattle.ngc_certificate_text.specs.Reader.{outcome_by, firm_by}
-use Rattle.ngc_certificate_text.specs.Said.{certificate_said}
+use Rattle.ngc_certificate_text.specs.Said.{parsed_certificate}
 use Rattle.ngc_checker.specs.declared.check_fault.CheckReadFault.{CheckReadFault}
 use Rattle.ngc_checker.specs.declared.check_fault.CheckReadFault.TheVariants as reads
 use Rattle.ngc_checker.specs.declared.check_reader.CheckReader.{CheckReader}
 use Rattle.ngc_checker.specs.declared.fault.CheckFault.{CheckFault}
 use Rattle.ngc_checker.specs.Accepted.{AcceptedData, Answers, Keeps}
-use Rattle.ngc_checker.specs.Checked.{judged, kept_by}
+use Rattle.ngc_checker.specs.Checked.{judged, accepted_by}
 use Rattle.ngc_checker.specs.FirstRefusal.{first_refusal}
 
 -- the result of a text: its fault, or else the first refusal of its certificate, or none
@@ -22,7 +22,7 @@ abbrev pub Verdict : Type 0
 Verdict = Result (Option CheckFault) CertificateFault
 
 abbrev pub text_verdict : Program → Setup → List ℕ → Verdict
-text_verdict program setup text = made_with (first_refusal program setup) (certificate_said text)
+text_verdict program setup text = made_with (first_refusal program setup) (parsed_certificate text)
 
 -- its result if these bytes follow those read so far, and no more
 abbrev pub outcome_in : {A : Type 0} → CheckReader A → List ℕ → Verdict
@@ -37,8 +37,8 @@ abbrev pub refusal_in : {A : Type 0} → CheckReader A → Option CertificateFau
 refusal_in r = r.refusal
 
 -- the program that an acceptance returns; nothing if the program is refused
-abbrev pub kept_in : {A : Type 0} → CheckReader A → Option AcceptedData
-kept_in r = kept_by r.text.judge
+abbrev pub accepted_in : {A : Type 0} → CheckReader A → Option AcceptedData
+accepted_in r = accepted_by r.text.judge
 
 -- the greatest number of further bytes of the text
 abbrev pub room_in : {A : Type 0} → CheckReader A → ℕ
@@ -46,24 +46,24 @@ room_in r = room_of r.text.lines
 
 -- the result is acceptance with the stored program if nothing is refused, and otherwise the text's
 -- fault or the first refusal
-abbrev pub GivesVerdict : {X : Type 0} → (X → AcceptedData) → Option AcceptedData →
+abbrev pub VerdictResultIs : {X : Type 0} → (X → AcceptedData) → Option AcceptedData →
     Result X CheckReadFault → Verdict → Type 0
-GivesVerdict view kept (Ok x) says = (says ≡ Ok None) × (kept ≡ Some (view x))
-GivesVerdict view kept (Err (reads.Certificate fault)) says = says ≡ Err fault
-GivesVerdict view kept (Err (reads.Check fault)) says = says ≡ Ok (Some fault)
+VerdictResultIs view kept (Ok x) says = (says ≡ Ok None) × (kept ≡ Some (view x))
+VerdictResultIs view kept (Err (reads.Certificate fault)) says = says ≡ Err fault
+VerdictResultIs view kept (Err (reads.Check fault)) says = says ≡ Ok (Some fault)
 
 -- ---- the whole text
 
 -- the result of a reader of a certificate's text: the text's fault, or else the checker's result
 -- for its certificate
-abbrev pub AnswersSaid : {X : Type 0} → (X → AcceptedData) → Program → Setup → List ℕ →
+abbrev pub ReturnsParsed : {X : Type 0} → (X → AcceptedData) → Program → Setup → List ℕ →
     Result X CheckReadFault → Type 0
-AnswersSaid view program setup text (Ok x) =
-    (c : CertificateData) × (certificate_said text ≡ Ok c) × Answers view program setup c (Ok x)
-AnswersSaid view program setup text (Err (reads.Certificate fault)) =
-    certificate_said text ≡ Err fault
-AnswersSaid {X} view program setup text (Err (reads.Check fault)) = (c : CertificateData) ×
-    (certificate_said text ≡ Ok c) × Answers {X = X} view program setup c (Err fault)
+ReturnsParsed view program setup text (Ok x) =
+    (c : CertificateData) × (parsed_certificate text ≡ Ok c) × Answers view program setup c (Ok x)
+ReturnsParsed view program setup text (Err (reads.Certificate fault)) =
+    parsed_certificate text ≡ Err fault
+ReturnsParsed {X} view program setup text (Err (reads.Check fault)) = (c : CertificateData) ×
+    (parsed_certificate text ≡ Ok c) × Answers {X = X} view program setup c (Err fault)
 
 -- The result of a reader for the joined pieces is the checker's result for their certificate, or
 -- the text's fault.
@@ -72,5 +72,5 @@ VerdictIsAnswer =
     (program : Program) (setup : Setup) (text : List ℕ) (kept : Option AcceptedData)
     (answer : Result AcceptedData CheckReadFault)
     → ((a : AcceptedData) → kept ≡ Some a → Keeps program setup a)
-    → GivesVerdict (λ a. a) kept answer (text_verdict program setup text) →
-    AnswersSaid (λ a. a) program setup text answer
+    → VerdictResultIs (λ a. a) kept answer (text_verdict program setup text) →
+    ReturnsParsed (λ a. a) program setup text answer

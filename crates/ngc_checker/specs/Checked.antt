@@ -6,16 +6,16 @@ use Rattle.ngc_certificate_text.specs.Reader.{Saying}
 use Rattle.ngc_checker.specs.declared.fault.CheckFault.{CheckFault}
 use Rattle.ngc_checker.specs.declared.judged_lines.JudgedLines.{JudgedLines}
 use Rattle.ngc_checker.specs.Accepted.{AcceptedData}
-use Rattle.ngc_checker.specs.Judging.{JudgeData, IsAt, verdict_of, kept_of}
+use Rattle.ngc_checker.specs.Judging.{JudgeData, IsAt, verdict_of, stored_contents}
 
 -- the first refusal, if this remains: that of the program takes precedence
 abbrev pub judged_by : Result JudgeData CheckFault → Rest → Option CheckFault
 judged_by (Ok v) r = verdict_of v r
 judged_by (Err fault) r = Some fault
 
-abbrev pub kept_by : Result JudgeData CheckFault → Option AcceptedData
-kept_by (Ok v) = Some (kept_of v)
-kept_by (Err fault) = None
+abbrev pub accepted_by : Result JudgeData CheckFault → Option AcceptedData
+accepted_by (Ok v) = Some (stored_contents v)
+accepted_by (Err fault) = None
 
 -- the result of these bytes after the lines so far
 abbrev pub judged : {A : Type 0} → JudgedLines A → Saying (Option CheckFault)

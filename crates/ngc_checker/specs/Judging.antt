@@ -66,8 +66,8 @@ pub record IsJudge (machine : MachineFile) (off on : List Command) (off_walk on_
 abbrev pub verdict_of : JudgeData → Rest → Option CheckFault
 verdict_of v r = verdict_left v.machine v.off v.on v.off_walk v.on_walk r
 
-abbrev pub kept_of : JudgeData → AcceptedData
-kept_of v = held v.machine v.tools v.off v.on
+abbrev pub stored_contents : JudgeData → AcceptedData
+stored_contents v = held v.machine v.tools v.off v.on
 
 -- ---- a line
 
@@ -81,13 +81,13 @@ MayJudge (tell.Piece b p) v = (v.left ≡ b.pieces_left) × (1 ≤ b.pieces_left
 MayJudge tell.End v = Unit {0}
 
 -- the number of remaining pieces after the line
-abbrev pub left_behind : Told → ℕ → ℕ
-left_behind (tell.Header version) left = left
-left_behind (tell.Setting s n) left = left
-left_behind (tell.Counts off on) left = left
-left_behind (tell.Motion b) left = b.pieces_left
-left_behind (tell.Piece b p) left = b.pieces_left - 1
-left_behind tell.End left = left
+abbrev pub remaining_after : Told → ℕ → ℕ
+remaining_after (tell.Header version) left = left
+remaining_after (tell.Setting s n) left = left
+remaining_after (tell.Counts off on) left = left
+remaining_after (tell.Motion b) left = b.pieces_left
+remaining_after (tell.Piece b p) left = b.pieces_left - 1
+remaining_after tell.End left = left
 
 -- ---- the next line
 

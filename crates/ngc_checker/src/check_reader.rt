@@ -5,14 +5,14 @@ ghost use Rattle.ngc_line_reader.specs.Grammar.{Reading};
 ghost use Rattle.ngc_line_reader.specs.ProgramText.{AreReadings};
 ghost use Rattle.ngc_line_reader.specs.ProgramView.{text_in};
 ghost use Rattle.ngc_canonical.specs.Interpreter.{setup_of};
-ghost use Rattle.ngc_canonical.specs.Meaning.{program_said};
+ghost use Rattle.ngc_canonical.specs.Meaning.{parsed_program};
 ghost use Rattle.ngc_certificate_text.specs.Ahead.{Rest, certificate_of};
 ghost use Rattle.ngc_certificate_text.specs.declared.expected.Expected.TheVariants as expect;
 ghost use Rattle.ngc_checker.specs.Accepted.{AcceptedData, Keeps};
 ghost use Rattle.ngc_checker.specs.FirstRefusal.{first_refusal};
 ghost use Rattle.ngc_checker.specs.Judging.{JudgeData, IsAt};
 ghost use Rattle.std.proofs.Props.{props};
-ghost use Rattle.ngc_checker.specs.Checked.{IsJudged, judged_by, kept_by};
+ghost use Rattle.ngc_checker.specs.Checked.{IsJudged, judged_by, accepted_by};
 ghost use Rattle.ngc_certificate_text.specs.declared.fault.CertificateFault.TheVariants as texts;
 
 use crate::accepted::Accepted;
@@ -59,11 +59,11 @@ fn judge_of<A: Allocator + Copy>(
 ) -> Result<Result<Judge<A>, CheckFault>, MemoryFault>
     ensures verdict { (rs : List Reading) → AreReadings (text_in program.now).lines rs →
         IfOk result (λ j. (r : Rest) →
-        first_refusal (program_said (text_in program.now) rs) (setup_of machine.now tools.now)
+        first_refusal (parsed_program (text_in program.now) rs) (setup_of machine.now tools.now)
         (certificate_of r) ≡ judged_by j r) }
     ensures kept { (rs : List Reading) → AreReadings (text_in program.now).lines rs →
-        IfOk result (λ j. (a : AcceptedData) → kept_by j ≡ Some a →
-        Keeps (program_said (text_in program.now) rs) (setup_of machine.now tools.now) a) }
+        IfOk result (λ j. (a : AcceptedData) → accepted_by j ≡ Some a →
+        Keeps (parsed_program (text_in program.now) rs) (setup_of machine.now tools.now) a) }
     ensures at { IfOk result (λ j. (v : JudgeData) → j ≡ Ok v → IsAt expect.Header v) }
 {
     let own_machine = match machine.copy(alloc) {
@@ -87,7 +87,7 @@ impl<A: Allocator> CheckReader<A> {
     ghost use Rattle.ngc_certificate_text.specs.Parted.{firm};
     ghost use Rattle.ngc_certificate_text.specs.Reader.{AnswerIs, FaultIs};
     ghost use Rattle.ngc_checker.specs.CheckView.{text_verdict, outcome_in, firm_in, refusal_in};
-    ghost use Rattle.ngc_checker.specs.CheckView.{kept_in, room_in, GivesVerdict};
+    ghost use Rattle.ngc_checker.specs.CheckView.{accepted_in, room_in, VerdictResultIs};
 
     /// Returns a reader that has received no bytes. It executes the program at both settings of
     /// block delete; if the program is refused, `finish` returns the refusal. It fails if memory is
@@ -103,15 +103,15 @@ impl<A: Allocator> CheckReader<A> {
         // This holds for all readings of the lines: each line has exactly one.
         ensures text { (rs : List Reading) → AreReadings (text_in program.now).lines rs →
             IfOk result (λ r. (bytes : List ℕ) →
-            text_verdict (program_said (text_in program.now) rs)
+            text_verdict (parsed_program (text_in program.now) rs)
             (setup_of machine.now tools.now) bytes ≡ outcome_in r bytes) }
         ensures firm { (rs : List Reading) → AreReadings (text_in program.now).lines rs →
             IfOk result (λ r. (bytes rest : List ℕ) →
-            text_verdict (program_said (text_in program.now) rs) (setup_of machine.now tools.now)
+            text_verdict (parsed_program (text_in program.now) rs) (setup_of machine.now tools.now)
             (firm bytes ++ rest) ≡ firm_in r bytes rest) }
         ensures keeps { (rs : List Reading) → AreReadings (text_in program.now).lines rs →
-            IfOk result (λ r. (a : AcceptedData) → kept_in r ≡ Some a →
-            Keeps (program_said (text_in program.now) rs) (setup_of machine.now tools.now) a) }
+            IfOk result (λ r. (a : AcceptedData) → accepted_in r ≡ Some a →
+            Keeps (parsed_program (text_in program.now) rs) (setup_of machine.now tools.now) a) }
         ensures going { IfOk result (λ r. refusal_in r ≡ None) }
     {
         match judge_of(alloc, program, machine, tools) {
@@ -141,7 +141,7 @@ impl<A: Allocator> CheckReader<A> {
             MatchResult result
             (λ _. outcome_in self.old (piece.now ++ rest) ≡ outcome_in self.new rest)
             (λ fault. FaultIs fault (outcome_in self.old (piece.now ++ rest))) }
-        ensures keeps { kept_in self.new ≡ kept_in self.old }
+        ensures keeps { accepted_in self.new ≡ accepted_in self.old }
         // A fault is stored, and returned again.
         ensures refusal { refusal_in self.new ≡ result_err result }
         ensures again { IfSome (refusal_in self.old) (λ fault. result ≡ Err fault) }
@@ -163,12 +163,12 @@ impl<A: Allocator> CheckReader<A> {
     }
 
     // Returns whether there are bytes after the end, so that the following bytes change nothing.
-    pub(crate) fn goes_too_far(&self) -> bool
+    pub(crate) fn has_trailing_bytes(&self) -> bool
         ensures { IsTrue result → (rest : List ℕ) →
             outcome_in self.now rest ≡ outcome_in self.now [] }
     {
         match self.refusal {
-            None => self.text.goes_too_far(),
+            None => self.text.has_trailing_bytes(),
             Some(_) => true,
         }
     }
@@ -177,7 +177,7 @@ impl<A: Allocator> CheckReader<A> {
     /// text that was returned before, or that of a line that is missing or lacks its line feed, or
     /// else the first refusal, as `check` does.
     pub fn finish(self) -> Result<Accepted<A>, CheckReadFault>
-        ensures said { GivesVerdict (λ a. a) (kept_in self) result (outcome_in self []) }
+        ensures said { VerdictResultIs (λ a. a) (accepted_in self) result (outcome_in self []) }
         ensures again { IfSome (refusal_in self)
             (λ fault. result ≡ Err (CheckReadFault.Certificate fault)) }
         ensures memory { result ≢ Err (CheckReadFault.Certificate CertificateFault.Memory) }

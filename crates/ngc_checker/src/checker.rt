@@ -4,7 +4,7 @@ ghost use Rattle.ngc_line_reader.specs.ProgramText.{AreReadings};
 ghost use Rattle.ngc_line_reader.specs.ProgramView.{text_in};
 ghost use Rattle.ngc_machine_files.specs.Machine.{file_of};
 ghost use Rattle.ngc_canonical.specs.Interpreter.{setup_of};
-ghost use Rattle.ngc_canonical.specs.Meaning.{program_said};
+ghost use Rattle.ngc_canonical.specs.Meaning.{parsed_program};
 ghost use Rattle.ngc_commands.specs.Sequence.{COMMAND_LIMIT};
 ghost use Rattle.ngc_certificate.specs.Plans.{both_planned};
 ghost use Rattle.ngc_certificate.specs.Valid.{IsValid};
@@ -137,7 +137,7 @@ pub fn check<A: Allocator + Copy>(
 ) -> Result<Accepted<A>, CheckFault>
     // This holds for all readings of the lines: each line has exactly one.
     ensures { (rs : List Reading) → AreReadings (text_in program.now).lines rs →
-        Answers (λ a. a) (program_said (text_in program.now) rs) (setup_of machine.now tools.now)
+        Answers (λ a. a) (parsed_program (text_in program.now) rs) (setup_of machine.now tools.now)
         (said_of certificate.now) result }
 {
     let Ok(own_machine) = machine.copy(alloc) else {

@@ -9,7 +9,7 @@ ghost use Rattle.ngc_certificate.specs.PieceFault.{◌or◌};
 ghost use Rattle.ngc_job.specs.Job.{commands_in};
 ghost use Rattle.ngc_checker.specs.FirstRefusal.{settings_fault};
 ghost use Rattle.ngc_checker.specs.Held.{accepted_of};
-ghost use Rattle.ngc_checker.specs.Judging.{MayJudge, kept_of, left_behind, verdict_of};
+ghost use Rattle.ngc_checker.specs.Judging.{MayJudge, stored_contents, remaining_after, verdict_of};
 
 use crate::accepted::Accepted;
 use crate::fault::CheckFault;
@@ -69,7 +69,7 @@ impl<A: Allocator> Judge<A> {
         ensures verdict { (r : Rest) →
             settings_fault job.machine (Ok job.off) (Ok (commands_in true job)) (certificate_of r)
             ≡ verdict_of result r }
-        ensures kept { kept_of result ≡ accepted_of job }
+        ensures kept { stored_contents result ≡ accepted_of job }
         ensures left { result.left ≡ 0 }
     {
         let off_walk = SettingJudge::new(job.machine());
@@ -90,7 +90,7 @@ impl<A: Allocator> Judge<A> {
             verdict_of self.old
             (with_items (record { indices = begun.now.indices; pieces = r.pieces } ∷ []) r)
             ≡ verdict_of self.new r }
-        ensures kept { kept_of self.new ≡ kept_of self.old }
+        ensures kept { stored_contents self.new ≡ stored_contents self.old }
         ensures left { self.new.left ≡ begun.now.pieces_left }
     {
         let pieces = begun.pieces_left;
@@ -117,7 +117,7 @@ impl<A: Allocator> Judge<A> {
         requires some { 1 ≤ begun.now.pieces_left }
         ensures verdict { (r : Rest) → length r.pieces + 1 ≡ begun.now.pieces_left →
             verdict_of self.old (with_pieces (piece.now ∷ r.pieces) r) ≡ verdict_of self.new r }
-        ensures kept { kept_of self.new ≡ kept_of self.old }
+        ensures kept { stored_contents self.new ≡ stored_contents self.old }
         ensures left { self.new.left ≡ begun.now.pieces_left - 1 }
     {
         let left = begun.pieces_left;
@@ -132,8 +132,8 @@ impl<A: Allocator> Judge<A> {
         requires { MayJudge told.now self.old }
         ensures verdict { (r : Rest) → Fits told.now r →
             verdict_of self.old (onto told.now r) ≡ verdict_of self.new r }
-        ensures kept { kept_of self.new ≡ kept_of self.old }
-        ensures left { self.new.left ≡ left_behind told.now self.old.left }
+        ensures kept { stored_contents self.new ≡ stored_contents self.old }
+        ensures left { self.new.left ≡ remaining_after told.now self.old.left }
     {
         match told {
             Told::Motion(begun) => self.motion(begun),
@@ -146,7 +146,7 @@ impl<A: Allocator> Judge<A> {
     pub(crate) fn finish(self) -> Result<Accepted<A>, CheckFault>
         requires { self.left ≡ 0 }
         ensures { MatchResult result (λ a. (verdict_of self nothing_left ≡ None) ×
-            (a ≡ kept_of self)) (λ fault. verdict_of self nothing_left ≡ Some fault) }
+            (a ≡ stored_contents self)) (λ fault. verdict_of self nothing_left ≡ Some fault) }
     {
         let Judge {
             job,

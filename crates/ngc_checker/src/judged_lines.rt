@@ -3,12 +3,12 @@ ghost use Rattle.std.specs.Prelude.{Ok, Err, IfOk, OnOk, MatchResult};
 ghost use Rattle.ngc_certificate_text.specs.Ahead.{Rest};
 ghost use Rattle.ngc_certificate_text.specs.LinesView.{room_of};
 ghost use Rattle.ngc_certificate_text.specs.Parted.{PartsLines};
-ghost use Rattle.ngc_certificate_text.specs.Reader.{StepGives};
+ghost use Rattle.ngc_certificate_text.specs.Reader.{StepResultIs};
 ghost use Rattle.ngc_certificate_text.specs.Said.{lines_of};
-ghost use Rattle.ngc_certificate_text.specs.Told.{onto, Fits, IsNext, behind_told};
+ghost use Rattle.ngc_certificate_text.specs.Told.{onto, Fits, IsNext, after_content};
 ghost use Rattle.ngc_certificate_text.specs.declared.expected.Expected.{Expected};
-ghost use Rattle.ngc_checker.specs.Checked.{judged, judged_by, kept_by, IsJudged};
-ghost use Rattle.ngc_checker.specs.CheckView.{GivesVerdict};
+ghost use Rattle.ngc_checker.specs.Checked.{judged, judged_by, accepted_by, IsJudged};
+ghost use Rattle.ngc_checker.specs.CheckView.{VerdictResultIs};
 ghost use Rattle.ngc_checker.specs.Judging.{JudgeData, IsAt, MayJudge};
 
 use crate::accepted::Accepted;
@@ -29,10 +29,10 @@ fn take_line<A: Allocator>(judge: &mut Result<Judge<A>, CheckFault>, told: &Told
     requires { IfOk judge.old (λ v. MayJudge told.now v) }
     ensures verdict { (r : Rest) → Fits told.now r →
         judged_by judge.old (onto told.now r) ≡ judged_by judge.new r }
-    ensures kept { kept_by judge.new ≡ kept_by judge.old }
+    ensures kept { accepted_by judge.new ≡ accepted_by judge.old }
     ensures at { (e : Expected) → IsNext e told.now →
         ((v : JudgeData) → judge.old ≡ Ok v → IsAt e v) → (v : JudgeData) → judge.new ≡ Ok v →
-        IsAt (behind_told told.now) v }
+        IsAt (after_content told.now) v }
 {
     if let Ok(judge) = judge {
         judge.take(told);
@@ -44,10 +44,10 @@ impl<A: Allocator> JudgedLines<A> {
     pub(crate) fn feed(&mut self, bytes: &[u8]) -> Result<(), CertificateFault>
         requires { IsJudged self.old }
         ensures step { (lines : List ℕ → List (List ℕ)) → PartsLines lines → (rest : List ℕ) →
-            StepGives result (judged self.old lines (bytes.now ++ rest))
+            StepResultIs result (judged self.old lines (bytes.now ++ rest))
             (judged self.new lines rest) }
         ensures reading { OnOk result (IsJudged self.new) }
-        ensures kept { kept_by self.new.judge ≡ kept_by self.old.judge }
+        ensures kept { accepted_by self.new.judge ≡ accepted_by self.old.judge }
         ensures room { OnOk result
             (room_of self.new.lines + length bytes.now ≤ room_of self.old.lines) }
         ensures memory { result ≢ Err CertificateFault.Memory }
@@ -67,17 +67,17 @@ impl<A: Allocator> JudgedLines<A> {
     }
 
     /// Returns whether there are bytes after the end of the text.
-    pub(crate) fn goes_too_far(&self) -> bool
+    pub(crate) fn has_trailing_bytes(&self) -> bool
         ensures { IsTrue result → IsJudged self.now → (rest : List ℕ) →
             judged self.now lines_of rest ≡ judged self.now lines_of [] }
     {
-        self.lines.goes_too_far()
+        self.lines.has_trailing_bytes()
     }
 
     /// Returns the result, after the last byte.
     pub(crate) fn finish(self) -> Result<Accepted<A>, CheckReadFault>
         requires { IsJudged self }
-        ensures said { GivesVerdict (λ a. a) (kept_by self.judge) result (judged self lines_of []) }
+        ensures said { VerdictResultIs (λ a. a) (accepted_by self.judge) result (judged self lines_of []) }
         ensures memory { result ≢ Err (CheckReadFault.Certificate CertificateFault.Memory) }
         ensures device { result ≢ Err (CheckReadFault.Certificate CertificateFault.ReadFailed) }
     {

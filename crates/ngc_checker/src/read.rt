@@ -4,9 +4,9 @@ ghost use Rattle.ngc_line_reader.specs.Grammar.{Reading};
 ghost use Rattle.ngc_line_reader.specs.ProgramText.{AreReadings};
 ghost use Rattle.ngc_line_reader.specs.ProgramView.{text_in};
 ghost use Rattle.ngc_canonical.specs.Interpreter.{setup_of};
-ghost use Rattle.ngc_canonical.specs.Meaning.{program_said};
+ghost use Rattle.ngc_canonical.specs.Meaning.{parsed_program};
 ghost use Rattle.ngc_certificate_text.specs.declared.fault.CertificateFault.TheVariants.{ReadFailed};
-ghost use Rattle.ngc_checker.specs.CheckSource.{AnswersText, FailsByReading};
+ghost use Rattle.ngc_checker.specs.CheckSource.{ReturnsOfText, FailsByReading};
 
 use crate::accepted::Accepted;
 use crate::check_fault::CheckReadFault;
@@ -35,7 +35,7 @@ pub fn check_source<A: Allocator + Copy, S: Source>(
     // exactly one.
     ensures said { (rs : List Reading) → AreReadings (text_in program.now).lines rs →
         IfSome (S.remaining source.old)
-        (λ text. AnswersText (λ a. a) (program_said (text_in program.now) rs)
+        (λ text. ReturnsOfText (λ a. a) (parsed_program (text_in program.now) rs)
         (setup_of machine.now tools.now) text result) }
     // `ReadFailed` is returned only if the source failed.
     ensures device { result ≡ Err (CheckReadFault.Certificate ReadFailed) →
@@ -60,7 +60,7 @@ pub fn check_source<A: Allocator + Copy, S: Source>(
             Err(fault) => return Err(CheckReadFault::Certificate(fault)),
         }
         // Bytes after the end are a fault before their line is complete.
-        if reader.goes_too_far() {
+        if reader.has_trailing_bytes() {
             break;
         }
     }

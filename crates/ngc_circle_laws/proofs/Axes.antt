@@ -20,7 +20,7 @@ use Rattle.ngc_arc_geometry.specs.Radii.{outer_radius}
 use Rattle.ngc_arc_geometry.specs.Sector.{turning, in_sector, quadrant_points, first_met, first_quadrant, rotated, quadrants_in_turn, extremes}
 use Rattle.ngc_circle_laws.specs.Placed.{mirrored, placed, turned_by, axis_spoke, axis_points, first_axis, IsATurn}
 use Rattle.ngc_circle_laws.specs.Round.{IsRound, QuadrantPointsAre}
-use Rattle.ngc_circle_laws.proofs.Crosses.{twice, back}
+use Rattle.ngc_circle_laws.proofs.CrossProducts.{twice, back}
 use Rattle.ngc_circle_laws.proofs.Sectors.{turned_sum, beside, in_round, out_of_round}
 
 -- ---- the four, from some quadrant on

@@ -25,9 +25,9 @@ use Rattle.ngc_arc_geometry.specs.ArcBand.{spread, IsWithin}
 use Rattle.ngc_arc_geometry.specs.ArcOrder.{Passes}
 use Rattle.ngc_arc_geometry.proofs.Squares.{square_sum}
 use Rattle.ngc_circle_laws.specs.Placed.{mirrored, placed, first_axis}
-use Rattle.ngc_circle_laws.proofs.Crosses.{same_axis}
+use Rattle.ngc_circle_laws.proofs.CrossProducts.{same_axis}
 use Rattle.ngc_circle_laws.specs.ArcWalk.{IsWalk}
-use Rattle.ngc_circle_laws.proofs.Passing.{passes}
+use Rattle.ngc_circle_laws.proofs.PassedQuadrants.{passes}
 
 -- ---- the distance between two points of one quadrant
 

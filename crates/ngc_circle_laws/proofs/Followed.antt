@@ -16,7 +16,7 @@ use Rattle.ngc_circle_laws.specs.ArcWalk.{IsWalk}
 use Rattle.ngc_circle_laws.specs.Hull.{IsNearHull}
 use Rattle.ngc_circle_laws.specs.Placed.{placed, turned_by, IsATurn}
 use Rattle.ngc_circle_laws.specs.Round.{IsRound}
-use Rattle.ngc_circle_laws.proofs.Boxed.{IsNearBand, IsEnd, between_rays}
+use Rattle.ngc_circle_laws.proofs.ArcBoxes.{IsNearBand, IsEnd, between_rays}
 use Rattle.ngc_circle_laws.proofs.Circuit.{IsCircuit, below_on, above_on, walk_passes}
 use Rattle.ngc_circle_laws.proofs.Lifts.{some_leeway, circuit_in_band}
 use Rattle.ngc_circle_laws.proofs.Sectors.{turned_sum}

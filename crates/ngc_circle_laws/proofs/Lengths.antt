@@ -5,14 +5,14 @@ use Rattle.std.proofs.Math.Nat.{mul-le-mul_left, le_of_mul-le-mul_left}
 use Rattle.ngc_circle_walk.specs.declared.spoke.Spoke.{Spoke}
 use Rattle.ngc_circle_walk.specs.Bounds.{IsBelow, IsAbove}
 use Rattle.ngc_circle_walk.specs.Directions.{IsNoLater}
-use Rattle.ngc_circle_walk.proofs.Beginnings.{IsSmallSize, more_limit, twice_high}
+use Rattle.ngc_circle_walk.proofs.WheelStart.{IsSmallSize, more_limit, twice_high}
 use Rattle.ngc_circle_walk.proofs.NearEnd.{limit_of}
 use Rattle.ngc_circle_walk.proofs.Rays.{square_le, from_squares}
 use Rattle.ngc_circle_walk.proofs.Rolling.{all_below, within_reach, far_on}
 use Rattle.ngc_arc_geometry.specs.Shape.{ArcShape}
 use Rattle.ngc_circle_laws.specs.ArcWalk.{IsWalk, IsBeforeEnd}
 use Rattle.ngc_circle_laws.specs.Placed.{IsATurn}
-use Rattle.ngc_circle_laws.proofs.Boxed.{not_beyond, not_behind, IsNearBand}
+use Rattle.ngc_circle_laws.proofs.ArcBoxes.{not_beyond, not_behind, IsNearBand}
 use Rattle.ngc_circle_laws.proofs.Circuit.{IsCircuit, limit_grows, wide_limit}
 use Rattle.ngc_circle_laws.proofs.Followed.{at_most_four, large_near}
 use Rattle.ngc_circle_laws.proofs.SmallCircuit.{IsSmallCircuit, no_less, small_below, small_above}

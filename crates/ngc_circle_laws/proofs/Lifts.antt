@@ -4,7 +4,7 @@ use Rattle.std.specs.Prelude.{Bool, true, false, nat_le, if◌then◌else◌}
 use Rattle.ngc_fixed_length.specs.declared.points.Point2.{Point2}
 use Rattle.ngc_circle_walk.specs.declared.spoke.Spoke.{Spoke}
 use Rattle.ngc_circle_walk.proofs.Rays.{square_le}
-use Rattle.ngc_circle_walk.proofs.Turns.{square_around}
+use Rattle.ngc_circle_walk.proofs.QuadrantTurns.{square_around}
 use Rattle.ngc_circle_walk.proofs.Band.{not_too_far, not_too_near}
 use Rattle.ngc_arc_geometry.specs.Shape.{ArcShape}
 use Rattle.ngc_arc_geometry.specs.Radii.{squared_distance, inner_radius, outer_radius}
@@ -13,7 +13,7 @@ use Rattle.ngc_arc_geometry.specs.ArcBand.{leeway, spread, IsWithin, IsInBand}
 use Rattle.ngc_arc_geometry.specs.ArcSides.{IsBetweenEnds}
 use Rattle.ngc_arc_geometry.specs.ArcOrder.{Passes, GoesOn}
 use Rattle.ngc_circle_laws.specs.Placed.{placed}
-use Rattle.ngc_circle_laws.proofs.Crosses.{dot_placed}
+use Rattle.ngc_circle_laws.proofs.CrossProducts.{dot_placed}
 use Rattle.ngc_circle_laws.proofs.Walks.{walk_in_sector, walk_goes_on}
 use Rattle.ngc_circle_laws.proofs.Circuit.{IsCircuit, below_on, above_on, walk_passes}
 

@@ -8,7 +8,7 @@ use Rattle.ngc_circle_walk.specs.declared.spoke.Spoke.{Spoke}
 use Rattle.ngc_circle_walk.specs.Bounds.{IsBelow, IsAbove}
 use Rattle.ngc_circle_walk.specs.Entering.{IsEntry}
 use Rattle.ngc_circle_walk.specs.Wheel.{rolled}
-use Rattle.ngc_circle_walk.proofs.Beginnings.{IsSmallSize}
+use Rattle.ngc_circle_walk.proofs.WheelStart.{IsSmallSize}
 use Rattle.ngc_arc_geometry.specs.Shape.{ArcShape}
 use Rattle.ngc_arc_geometry.specs.Radii.{inner_radius, outer_radius}
 use Rattle.ngc_arc_geometry.specs.Sector.{extremes}
@@ -17,8 +17,8 @@ use Rattle.ngc_arc_geometry.specs.ArcOrder.{Passes}
 use Rattle.ngc_circle_laws.specs.Placed.{placed, turned_by, axis_spoke, axis_points, first_axis}
 use Rattle.ngc_circle_laws.specs.Round.{IsRound}
 use Rattle.ngc_circle_laws.proofs.Axes.{extremes_are}
-use Rattle.ngc_circle_laws.proofs.Begins.{Begins}
-use Rattle.ngc_circle_laws.proofs.Shorts.{IsByAxis}
+use Rattle.ngc_circle_laws.proofs.FirstPoints.{Begins}
+use Rattle.ngc_circle_laws.proofs.ShortArcs.{IsByAxis}
 use Rattle.ngc_circle_laws.proofs.SmallCircuit.{by_first, by_second}
 
 one_point : (a : ArcShape) (b s : Spoke) (d j c : ℕ) → c ≤ 1 → (0 < c → IsWithin d (placed a s) (placed a (axis_spoke b (outer_radius a) j))) →

@@ -14,14 +14,14 @@ use Rattle.ngc_circle_walk.specs.declared.spoke.Quadrant.TheVariants.{First, Sec
 use Rattle.ngc_circle_walk.specs.declared.spoke.Spoke.{Spoke}
 use Rattle.ngc_circle_walk.specs.Quadrants.{following}
 use Rattle.ngc_circle_walk.specs.Around.{around}
-use Rattle.ngc_circle_walk.proofs.Turns.{cross_same, cross_next, cross_behind}
-use Rattle.ngc_circle_walk.proofs.Between.{IsWithinTurn, both_ahead, one_ahead}
+use Rattle.ngc_circle_walk.proofs.QuadrantTurns.{cross_same, cross_next, cross_behind}
+use Rattle.ngc_circle_walk.proofs.DirectionsInSector.{IsWithinTurn, both_ahead, one_ahead}
 use Rattle.ngc_circle_walk.specs.Directions.{IsNoLater}
 use Rattle.ngc_arc_geometry.specs.Shape.{ArcShape, start_of, end_of}
 use Rattle.ngc_arc_geometry.specs.Sector.{turn_from, is_ahead, same_direction, in_sector}
 use Rattle.ngc_circle_laws.specs.Placed.{mirrored, placed, turned_by, axis_spoke, IsATurn}
-use Rattle.ngc_circle_laws.proofs.Crosses.{times_neg, neg_times, negs_times, turn_placed, dot_placed, four_on, same_axis, IsBehind, ahead_or_behind, is_ahead_true}
-use Rattle.ngc_circle_laws.proofs.Crosses.{is_ahead_false}
+use Rattle.ngc_circle_laws.proofs.CrossProducts.{times_neg, neg_times, negs_times, turn_placed, dot_placed, four_on, same_axis, IsBehind, ahead_or_behind, is_ahead_true}
+use Rattle.ngc_circle_laws.proofs.CrossProducts.{is_ahead_false}
 
 -- the test of the definition, with start and end as parameters
 abbrev pub between : ArcShape → Point2 → Point2 → Point2 → Bool

@@ -7,7 +7,7 @@ use Rattle.ngc_fixed_length.specs.declared.points.Point2.{Point2}
 use Rattle.ngc_circle_walk.specs.declared.spoke.Spoke.{Spoke}
 use Rattle.ngc_circle_walk.specs.Bounds.{IsBelow, IsAbove}
 use Rattle.ngc_circle_walk.specs.Quadrants.{following}
-use Rattle.ngc_circle_walk.proofs.Beginnings.{IsSmallSize, more_limit, less_limit, twice_low, twice_high}
+use Rattle.ngc_circle_walk.proofs.WheelStart.{IsSmallSize, more_limit, less_limit, twice_low, twice_high}
 use Rattle.ngc_circle_walk.proofs.Rays.{square_le}
 use Rattle.ngc_circle_walk.proofs.Rolling.{all_below, all_above}
 use Rattle.ngc_arc_geometry.specs.Shape.{ArcShape}
@@ -17,11 +17,11 @@ use Rattle.ngc_arc_geometry.specs.ArcBand.{spread, IsWithin, IsInBand}
 use Rattle.ngc_arc_geometry.specs.ArcOrder.{Passes}
 use Rattle.ngc_circle_laws.specs.Placed.{mirrored, placed, first_axis}
 use Rattle.ngc_circle_laws.specs.ArcWalk.{IsWalk}
-use Rattle.ngc_circle_laws.proofs.Boxed.{IsNearBand}
+use Rattle.ngc_circle_laws.proofs.ArcBoxes.{IsNearBand}
 use Rattle.ngc_circle_laws.proofs.Circuit.{gap, gap_up, spokes_apart}
-use Rattle.ngc_circle_laws.proofs.Crosses.{same_axis}
+use Rattle.ngc_circle_laws.proofs.CrossProducts.{same_axis}
 use Rattle.ngc_circle_laws.proofs.Lifts.{square_placed}
-use Rattle.ngc_circle_laws.proofs.Passing.{passes}
+use Rattle.ngc_circle_laws.proofs.PassedQuadrants.{passes}
 
 -- the circle is that of the arc's end, at the radius r; if that is less than two and a quarter
 -- steps, it is a circle of two and a quarter steps

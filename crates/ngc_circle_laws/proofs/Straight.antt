@@ -17,9 +17,9 @@ use Rattle.ngc_arc_geometry.specs.Radii.{squared_distance}
 use Rattle.ngc_arc_geometry.specs.ArcBand.{IsWithin}
 use Rattle.ngc_arc_geometry.proofs.Squares.{square_sum}
 use Rattle.ngc_circle_laws.specs.Placed.{mirrored, placed}
-use Rattle.ngc_circle_laws.proofs.Nearly.{IsPair}
-use Rattle.ngc_circle_laws.proofs.NearlySmall.{IsFew}
-use Rattle.ngc_circle_laws.proofs.Reached.{IsApart, SomeWay}
+use Rattle.ngc_circle_laws.proofs.NearEndArcs.{IsPair}
+use Rattle.ngc_circle_laws.proofs.NearEndSmallArcs.{IsFew}
+use Rattle.ngc_circle_laws.proofs.ReachedEndRays.{IsApart, SomeWay}
 
 -- ---- the distance of two points in the arc's plane is that of their vectors from the centre
 

@@ -10,15 +10,15 @@ use Rattle.ngc_circle_walk.specs.declared.spoke.Roll.TheVariants.{Outward, Diago
 use Rattle.ngc_circle_walk.specs.declared.spoke.Spoke.{Spoke}
 use Rattle.ngc_circle_walk.specs.Wheel.{rolled, IsRoll}
 use Rattle.ngc_circle_walk.specs.Quadrants.{following}
-use Rattle.ngc_circle_walk.proofs.Turns.{cross_same, over_turns}
+use Rattle.ngc_circle_walk.proofs.QuadrantTurns.{cross_same, over_turns}
 use Rattle.ngc_circle_walk.specs.Directions.{IsNoLater}
-use Rattle.ngc_circle_walk.proofs.Progress.{turns_on}
+use Rattle.ngc_circle_walk.proofs.WheelProgress.{turns_on}
 use Rattle.ngc_circle_walk.specs.Rolling.{quadrants_of, IsRolling}
 use Rattle.ngc_arc_geometry.specs.Shape.{ArcShape}
 use Rattle.ngc_arc_geometry.specs.Sector.{turn_from, in_sector}
 use Rattle.ngc_circle_laws.specs.Placed.{placed, turned_by, IsATurn}
 use Rattle.ngc_circle_laws.specs.ArcWalk.{IsBeforeEnd, IsWalk}
-use Rattle.ngc_circle_laws.proofs.Crosses.{turn_placed}
+use Rattle.ngc_circle_laws.proofs.CrossProducts.{turn_placed}
 use Rattle.ngc_circle_laws.proofs.Sectors.{turned_sum, in_round}
 
 -- ---- one move

@@ -8,14 +8,14 @@ use Rattle.ngc_circle_walk.specs.declared.spoke.Roll.TheVariants.{Outward, Diago
 use Rattle.ngc_circle_walk.specs.declared.spoke.Spoke.{Spoke}
 use Rattle.ngc_circle_walk.specs.Around.{way_to}
 use Rattle.ngc_circle_walk.specs.Wheel.{rolled, IsRoll}
-use Rattle.ngc_circle_walk.specs.Rolling.{IsNearCircle, GoesRound, StaysNear, ComesRound, NeverTurnsBack}
+use Rattle.ngc_circle_walk.specs.Rolling.{IsNearCircle, GoesRound, StaysNear, PassesQuadrants, NeverTurnsBack}
 use Rattle.ngc_circle_walk.proofs.Rim.{square_le}
 use Rattle.ngc_circle_walk.specs.Bounds.{IsBelow, IsAbove}
 use Rattle.ngc_circle_walk.proofs.NearEnd.{IsRim, limit_of}
 use Rattle.ngc_circle_walk.proofs.Rolling.{all_below, all_above, soon_past}
 use Rattle.ngc_circle_walk.proofs.Band.{not_too_far, not_too_near}
-use Rattle.ngc_circle_walk.proofs.Progress.{turns_on}
-use Rattle.ngc_circle_walk.proofs.Turns.{cross_same, over_turns}
+use Rattle.ngc_circle_walk.proofs.WheelProgress.{turns_on}
+use Rattle.ngc_circle_walk.proofs.QuadrantTurns.{cross_same, over_turns}
 
 -- ---- the sizes of a circle of radius q + 1
 
@@ -88,8 +88,8 @@ round_on g q n at quadrant k m way le few =
 wider : (k g r l m : ℕ) → l ≤ g → k * g ≤ 2 * (r + l + g) * m → k * g ≤ 2 * (r + 2 * g) * m
 wider k g r l m le h = omega (arith, mul-le-mul_left m le)
 
-pub comes_round : ComesRound
-comes_round g r n at quadrant way k m le few =
+pub passes_quadrants : PassesQuadrants
+passes_quadrants g r n at quadrant way k m le few =
     let e = one_less g r way.step way.large in
     let a = round_on g (r - 1) n at quadrant k m (subst (λ t. GoesRound g t n at quadrant) (sym e) way) le few in
     let b : k * g ≤ 2 * (r + 4 * g / 5 + g) * (m + 1) = rw e at a in

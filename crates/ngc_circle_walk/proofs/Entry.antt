@@ -8,7 +8,7 @@ use Rattle.ngc_circle_walk.specs.Wheel.{square}
 use Rattle.ngc_circle_walk.proofs.Rim.{less_step, inward_above, over_below, over_above}
 use Rattle.ngc_circle_walk.proofs.Rays.{square_le, from_squares, squares_apart}
 use Rattle.ngc_circle_walk.proofs.NearEnd.{IsRim, limit_of}
-use Rattle.ngc_circle_walk.proofs.Joins.{IsJoint}
+use Rattle.ngc_circle_walk.proofs.JointMoves.{IsJoint}
 
 -- 17/12 is above the root of 2
 axes_sum : (x y r : ℕ) → x * x + y * y ≤ r * r → 12 * (x + y) ≤ 17 * r

@@ -7,9 +7,9 @@ pub mod NearEnd
 -- A column's root tells which of its points are within the limit.
 pub mod Columns
 -- A wheel turns forward: each move leads further round.
-pub mod Progress
+pub mod WheelProgress
 -- The straight parts of an arc's path, and the move that leads onto the wheel.
-pub mod Joins
+pub mod JointMoves
 -- The point at which a wheel begins: the joint (x, y), the grid point nearest to the start (bx, by)
 -- moved from its radius s = p + 1 to the radius r = q ..
 pub mod Entry
@@ -19,10 +19,10 @@ pub mod Band
 -- From the joint (x, y) straight to an end whose ray a diagonal move would reach or pass: less than 7g/4 on each axis.
 pub mod Short
 -- Turns about the centre, by quadrants.
-pub mod Turns
+pub mod QuadrantTurns
 -- A direction from the start's to the end's, in quadrants counted from the start on, is in the
 -- sector.
-pub mod Between
+pub mod DirectionsInSector
 -- The sequence of a wheel's points.
 pub mod Rolling
 -- Moves over an axis: an end shortly past it, and the quadrant point on it.
@@ -37,4 +37,4 @@ pub mod CircleLaws
 pub mod SmallCircles
 -- The distance from the centre at which a wheel begins: at the joint, or at the point to which the
 -- entry leads.
-pub mod Beginnings
+pub mod WheelStart

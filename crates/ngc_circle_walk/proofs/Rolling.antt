@@ -6,7 +6,7 @@ use Rattle.ngc_circle_walk.specs.Rolling.{IsRolling}
 use Rattle.ngc_circle_walk.proofs.Rim.{rolls_below, rolls_above}
 use Rattle.ngc_circle_walk.specs.Bounds.{IsBelow, IsAbove}
 use Rattle.ngc_circle_walk.proofs.Rays.{from_squares}
-use Rattle.ngc_circle_walk.proofs.Progress.{gone, goes_on}
+use Rattle.ngc_circle_walk.proofs.WheelProgress.{gone, goes_on}
 
 pub all_below : (g limit big n : ℕ) (at : ℕ → Spoke) (quadrant : ℕ → ℕ) (k : ℕ) → IsRolling g limit n at quadrant → limit ≤ big → 2 * (g * g) ≤ big →
     IsBelow g big (at 0) → k ≤ n → IsBelow g big (at k)

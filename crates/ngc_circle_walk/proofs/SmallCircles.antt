@@ -22,9 +22,9 @@ over_least G lo E d e few near =
     let h = mul-le-mul_left d few in
     omega (arith, a, b, c, f, h, near)
 
-farther_out : (g r G t E m : ℕ) → G ≡ g * g → t ≡ r * g → r ≤ 8 * g → r * r ≤ E + G → m ≤ 4 * t + 6 * G → 15 * G < 2 * E + m →
+axis_distance : (g r G t E m : ℕ) → G ≡ g * g → t ≡ r * g → r ≤ 8 * g → r * r ≤ E + G → m ≤ 4 * t + 6 * G → 15 * G < 2 * E + m →
     52 * (G * E) + 30 * (G * m) < m * m + 225 * (G * G) → ⊥
-farther_out g r G t E m eG et small round far more near =
+axis_distance g r G t E m eG et small round far more near =
     let rg = mul-le-mul_left g small in
     let t_small : t ≤ 8 * G = omega (arith, rg, eG, et) in
     elim (cases_lt (2 * E) (9 * G)) [
@@ -114,7 +114,7 @@ by_the_end g q A E p c D r e =
                 let aE : A * E ≡ (E + m) * E = ap (λ x. x * E) em in
                 let aa : (A + E) * (A + E) ≡ (E + m + E) * (E + m + E) = ap (λ x. (x + E) * (x + E)) em in
                 let ga : G * (A + E) ≡ G * (E + m + E) = ap (λ x. G * (x + E)) em in
-                absurd (farther_out g (q + 1) G t E m (omega arith) (omega arith) r.small (omega (arith, r.end_low, gg, qq))
+                absurd (axis_distance g (q + 1) G t E m (omega arith) (omega arith) r.small (omega (arith, r.end_low, gg, qq))
                 (omega (arith, r.below, r.end_low, em, gg, qq)) (omega (arith, es, em, a, long, e))
                 (omega (arith, near, ss, gs, aE, aa, ga))))
             | inl ins ↦ (

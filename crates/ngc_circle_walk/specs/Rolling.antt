@@ -55,8 +55,8 @@ StaysNear = (g r n : ℕ) (at : ℕ → Spoke) (quadrant : ℕ → ℕ) → Goes
     (k : ℕ) → k ≤ n → IsNearCircle r g (at k)
 
 -- it passes m quadrants in at most 2*(m + 1)*(r + 2*g)/g moves
-abbrev pub ComesRound : Type 0
-ComesRound = (g r n : ℕ) (at : ℕ → Spoke) (quadrant : ℕ → ℕ) → GoesRound g r n at quadrant →
+abbrev pub PassesQuadrants : Type 0
+PassesQuadrants = (g r n : ℕ) (at : ℕ → Spoke) (quadrant : ℕ → ℕ) → GoesRound g r n at quadrant →
     (k m : ℕ) → k ≤ n → quadrant k ≤ m → k * g ≤ 2 * (r + 2 * g) * (m + 1)
 
 -- no wheel turns back: the cross product of a move's ends about the centre is at least 0

@@ -1,5 +1,5 @@
 //! Laws about the definitions only.
-ghost use Rattle.ngc_circle_walk.specs.Rolling.{RollsFromAnywhere, StaysNear, ComesRound, NeverTurnsBack};
+ghost use Rattle.ngc_circle_walk.specs.Rolling.{RollsFromAnywhere, StaysNear, PassesQuadrants, NeverTurnsBack};
 ghost use Rattle.ngc_circle_walk.specs.Wheel.{OneIsDue};
 
 /// States that the rule allows exactly one move at each point, so both wheels make the same moves.
@@ -18,8 +18,8 @@ pub fn stays_near()
 {}
 
 /// States that a wheel passes a number of quadrants in a bounded number of moves.
-pub fn comes_round()
-    ensures { ComesRound }
+pub fn passes_quadrants()
+    ensures { PassesQuadrants }
 {}
 
 /// States that no move of a wheel turns back.

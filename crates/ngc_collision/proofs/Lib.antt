@@ -1,2 +1,2 @@
 -- The boxes of the parts of a tool.
-pub mod Stacked
+pub mod ToolBoxes

@@ -18,8 +18,8 @@ use Rattle.clap.specs.declared.builder.value_parser.ValueParser.TheVariants.{Uns
 use Rattle.clap.specs.declared.error.kind.ErrorKind.{ErrorKind}
 use Rattle.clap.specs.declared.parser.matches.ValueSource.TheVariants.{CommandLine, DefaultValue}
 use Rattle.clap.proofs.ValueTestLemmas.{accepts-Accepts}
-use Rattle.ngc_command_line.proofs.Filled.{AreFilled, AreSound, Begins, IsSound, defaults_filled, neither, settle_filled, walk_filled, with_values_filled}
-use Rattle.ngc_command_line.proofs.Filled.{without_filled}
+use Rattle.ngc_command_line.proofs.FoundValues.{AreFilled, AreSound, Begins, IsSound, defaults_filled, neither, settle_filled, walk_filled, with_values_filled}
+use Rattle.ngc_command_line.proofs.FoundValues.{without_filled}
 
 no_default : (P : Text → Text → Type 0) (a : Rule) → a.defaults ≡ [] → (rows : List Row) → AreFilled P rows
     → AreFilled P (if has_row a.id rows then rows else default_rows a.id (reading_by a) a.defaults rows)

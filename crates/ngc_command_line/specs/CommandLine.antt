@@ -30,7 +30,7 @@ format_option = record (file_option (codes "format")) { parser = Some (Unsigned 
 abbrev pub inverted_option : Rule
 inverted_option = record (file_option (codes "inverted")) { parser = Some (Unsigned 0 255) }
 
--- `--origin SYSTEM=X,Y,Z`, which may be given several times
+-- `--origin SYSTEM=X,Y,Z`, which may be written several times
 abbrev pub origin_option : Rule
 origin_option = record (file_option (codes "origin")) { action = Some Append }
 

@@ -5,7 +5,7 @@ use Rattle.std.specs.Str.{bytes_eq}
 use Rattle.std.specs.Str.Parse.{IsNumeral, digits_value, without_leading_plus}
 use Rattle.std.specs.Option.{option_map_or}
 use Rattle.clap.specs.Words.{IsUnsignedIn, Row, Shape, Text, all_of, fault_of, first_of}
-use Rattle.ngc_origins.specs.Texts.{OriginList, no_origins, origins_said}
+use Rattle.ngc_origins.specs.Texts.{OriginList, no_origins, parsed_origins}
 use Rattle.ngc_origins.specs.declared.reading.OriginMistake.{OriginMistake}
 use Rattle.ngc_command_line.specs.CommandLine.{MachineSource, FromGrbl, FromFigures, ngc_app, run_name}
 use Rattle.ngc_command_line.specs.declared.options.AdaptOptions.{AdaptOptions}
@@ -52,7 +52,7 @@ is_set name rows = option_map_or (λ value. bytes_eq value (codes "true")) (firs
 
 -- the origins that the values of `--origin` write, all of them, or the first mistake
 abbrev pub origins_in : List Row → Result OriginList OriginMistake
-origins_in rows = origins_said (unwrap_or (all_of (codes "origin") rows) [])
+origins_in rows = parsed_origins (unwrap_or (all_of (codes "origin") rows) [])
 
 -- the values of `--origin` are origins, each of another system
 abbrev pub HaveOrigins : Option (Text × List Row) → Type 0
@@ -332,106 +332,106 @@ AreOptions (Some found) (ToHelp command) = (found.0 ≡ codes "help")
 AreOptions (Some found) ToVersion = found.0 ≡ codes "version"
 
 -- `list` is requested, with these options, and no origin is replaced
-abbrev pub AsksForList : Option Text → Option Text → Option Text → Bool → Options → Type 0
-AsksForList program machine tools delete (ToList list) =
+abbrev pub IsListRequest : Option Text → Option Text → Option Text → Bool → Options → Type 0
+IsListRequest program machine tools delete (ToList list) =
     (option_map (λ name. name.now) list.program ≡ program)
     × (option_map (λ name. name.now) list.machine ≡ machine)
     × (option_map (λ name. name.now) list.tools ≡ tools)
     × (list.delete ≡ delete) × (list.origins ≡ no_origins)
-AsksForList program machine tools delete other = ⊥
+IsListRequest program machine tools delete other = ⊥
 
 -- `certify` is requested, with these options, by default 8 cuts and version 1, and no origin is
 -- replaced
-abbrev pub AsksForCertify : Text → Text → Option Text → Option ℕ → Option Format → Options → Type 0
-AsksForCertify machine tools program cuts format (ToCertify certify) =
+abbrev pub IsCertifyRequest : Text → Text → Option Text → Option ℕ → Option Format → Options → Type 0
+IsCertifyRequest machine tools program cuts format (ToCertify certify) =
     (certify.machine.now ≡ machine) × (certify.tools.now ≡ tools)
     × (option_map (λ name. name.now) certify.program ≡ program)
     × (certify.cuts ≡ unwrap_or cuts 8) × (certify.format ≡ unwrap_or format One)
     × (certify.origins ≡ no_origins)
-AsksForCertify machine tools program cuts format other = ⊥
+IsCertifyRequest machine tools program cuts format other = ⊥
 
 -- `check` is requested, with these options, and no origin is replaced
-abbrev pub AsksForCheck : Text → Text → Text → Option Text → Options → Type 0
-AsksForCheck machine tools certificate program (ToCheck check) =
+abbrev pub IsCheckRequest : Text → Text → Text → Option Text → Options → Type 0
+IsCheckRequest machine tools certificate program (ToCheck check) =
     (check.machine.now ≡ machine) × (check.tools.now ≡ tools)
     × (check.certificate.now ≡ certificate)
     × (option_map (λ name. name.now) check.program ≡ program) × (check.origins ≡ no_origins)
-AsksForCheck machine tools certificate program other = ⊥
+IsCheckRequest machine tools certificate program other = ⊥
 
 -- a run that writes this is requested, with these options, and no bits are inverted and no
 -- origin is replaced
-abbrev pub AsksForRun : Recording → Text → Text → Text → Option Text → Option Text → Bool →
+abbrev pub IsRunRequest : Recording → Text → Text → Text → Option Text → Option Text → Bool →
     Option Text → Options → Type 0
-AsksForRun recording machine tools certificate (Some events) program delete output (ToRun run) =
+IsRunRequest recording machine tools certificate (Some events) program delete output (ToRun run) =
     (run.recording ≡ recording) × (run.machine.now ≡ machine) × (run.tools.now ≡ tools)
     × (run.certificate.now ≡ certificate) × (run.events.now ≡ events)
     × (option_map (λ name. name.now) run.program ≡ program) × (run.delete ≡ delete)
     × (option_map (λ name. name.now) run.output ≡ output) × (run.inverted ≡ 0)
     × (run.origins ≡ no_origins)
-AsksForRun recording machine tools certificate None program delete output (ToRunThrough run) =
+IsRunRequest recording machine tools certificate None program delete output (ToRunThrough run) =
     (run.recording ≡ recording) × (run.machine.now ≡ machine) × (run.tools.now ≡ tools)
     × (run.certificate.now ≡ certificate)
     × (option_map (λ name. name.now) run.program ≡ program) × (run.delete ≡ delete)
     × (option_map (λ name. name.now) run.output ≡ output) × (run.inverted ≡ 0)
     × (run.origins ≡ no_origins)
-AsksForRun recording machine tools certificate events program delete output other = ⊥
+IsRunRequest recording machine tools certificate events program delete output other = ⊥
 
 -- `live` is requested, with these options, and no bits are inverted and no
 -- origin is replaced
-abbrev pub AsksForLive : Text → Text → Text → Text → Bool → Option Text → Bool → Options → Type 0
-AsksForLive machine tools certificate program delete output feed_ring (ToLive live) =
+abbrev pub IsLiveRequest : Text → Text → Text → Text → Bool → Option Text → Bool → Options → Type 0
+IsLiveRequest machine tools certificate program delete output feed_ring (ToLive live) =
     (live.machine.now ≡ machine) × (live.tools.now ≡ tools)
     × (live.certificate.now ≡ certificate) × (live.program.now ≡ program)
     × (live.delete ≡ delete) × (option_map (λ name. name.now) live.output ≡ output)
     × (live.inverted ≡ 0) × (live.feed_ring ≡ feed_ring) × (live.origins ≡ no_origins)
-AsksForLive machine tools certificate program delete output feed_ring other = ⊥
+IsLiveRequest machine tools certificate program delete output feed_ring other = ⊥
 
 -- `draw` is requested, with these options, and no origin is replaced
-abbrev pub AsksForDraw : Text → Text → Option Text → Option Text → Option Text → Bool → Bool →
+abbrev pub IsDrawRequest : Text → Text → Option Text → Option Text → Option Text → Bool → Bool →
     Bool → Options → Type 0
-AsksForDraw machine tools certificate program view delete bodies whole (ToDraw draw) =
+IsDrawRequest machine tools certificate program view delete bodies whole (ToDraw draw) =
     (draw.machine.now ≡ machine) × (draw.tools.now ≡ tools)
     × (option_map (λ name. name.now) draw.certificate ≡ certificate)
     × (option_map (λ name. name.now) draw.program ≡ program)
     × (option_map (λ name. name.now) draw.view ≡ view) × (draw.delete ≡ delete)
     × (draw.bodies ≡ bodies) × (draw.whole ≡ whole)
     × (draw.origins ≡ no_origins)
-AsksForDraw machine tools certificate program view delete bodies whole other = ⊥
+IsDrawRequest machine tools certificate program view delete bodies whole other = ⊥
 
 -- `show` is requested, with these options
-abbrev pub AsksForShow : Text → Option Text → Bool → Options → Type 0
-AsksForShow machine tools warnings (ToShow show) =
+abbrev pub IsShowRequest : Text → Option Text → Bool → Options → Type 0
+IsShowRequest machine tools warnings (ToShow show) =
     (show.machine.now ≡ machine) × (option_map (λ name. name.now) show.tools ≡ tools)
     × (show.warnings ≡ warnings)
-AsksForShow machine tools warnings other = ⊥
+IsShowRequest machine tools warnings other = ⊥
 
 -- `report` is requested, with these options, by default 8 cuts, and no origin is replaced
-abbrev pub AsksForReport : Text → Text → Option Text → Option ℕ → Bool → Bool → Options → Type 0
-AsksForReport machine tools program cuts all json (ToReport report) =
+abbrev pub IsReportRequest : Text → Text → Option Text → Option ℕ → Bool → Bool → Options → Type 0
+IsReportRequest machine tools program cuts all json (ToReport report) =
     (report.machine.now ≡ machine) × (report.tools.now ≡ tools)
     × (option_map (λ name. name.now) report.program ≡ program)
     × (report.cuts ≡ unwrap_or cuts 8) × (report.all ≡ all) × (report.json ≡ json)
     × (report.origins ≡ no_origins)
-AsksForReport machine tools program cuts all json other = ⊥
+IsReportRequest machine tools program cuts all json other = ⊥
 
 -- `place` is requested, with these options, by default 8 cuts, and no origin is replaced
-abbrev pub AsksForPlace : Text → Text → Option Text → Option Text → Option ℕ → Bool → Options →
+abbrev pub IsPlaceRequest : Text → Text → Option Text → Option Text → Option ℕ → Bool → Options →
     Type 0
-AsksForPlace machine tools program system cuts json (ToPlace place) =
+IsPlaceRequest machine tools program system cuts json (ToPlace place) =
     (place.machine.now ≡ machine) × (place.tools.now ≡ tools)
     × (option_map (λ name. name.now) place.program ≡ program)
     × (option_map (λ name. name.now) place.system ≡ system)
     × (place.cuts ≡ unwrap_or cuts 8) × (place.json ≡ json) × (place.origins ≡ no_origins)
-AsksForPlace machine tools program system cuts json other = ⊥
+IsPlaceRequest machine tools program system cuts json other = ⊥
 
 -- `adapt` is requested, with these options
-abbrev pub AsksForAdapt : Text → Option Text → Option ℕ → Option Text → Option Text →
+abbrev pub IsAdaptRequest : Text → Option Text → Option ℕ → Option Text → Option Text →
     Options → Type 0
-AsksForAdapt from machine tool drop program (ToAdapt adapt) =
+IsAdaptRequest from machine tool drop program (ToAdapt adapt) =
     (adapt.from.now ≡ from) × (option_map (λ name. name.now) adapt.machine ≡ machine)
     × (adapt.tool ≡ tool) × (option_map (λ name. name.now) adapt.drop ≡ drop)
     × (option_map (λ name. name.now) adapt.program ≡ program)
-AsksForAdapt from machine tool drop program other = ⊥
+IsAdaptRequest from machine tool drop program other = ⊥
 
 abbrev pub grbl_in : MachineSource → Option Text
 grbl_in (FromGrbl file) = Some file
@@ -454,9 +454,9 @@ acceleration_in (FromGrbl file) = None
 acceleration_in (FromFigures steps travel feed acceleration) = Some acceleration
 
 -- `machine` is requested, with these options
-abbrev pub AsksForMachine : MachineSource → Option Text → Option Text → Option Text →
+abbrev pub IsMachineRequest : MachineSource → Option Text → Option Text → Option Text →
     Options → Type 0
-AsksForMachine source corner ticks frame (ToMachine machine) =
+IsMachineRequest source corner ticks frame (ToMachine machine) =
     (option_map (λ name. name.now) machine.grbl ≡ grbl_in source)
     × (option_map (λ name. name.now) machine.steps ≡ steps_in source)
     × (option_map (λ name. name.now) machine.travel ≡ travel_in source)
@@ -472,12 +472,12 @@ AsksForMachine source corner ticks frame (ToMachine machine) =
     × (option_map (λ name. name.now) machine.home30 ≡ None)
     × (option_map (λ name. name.now) machine.ring ≡ None)
     × (machine.arc_feed ≡ false)
-AsksForMachine source corner ticks frame other = ⊥
+IsMachineRequest source corner ticks frame other = ⊥
 
 -- `help` is requested, for this command
-abbrev pub AsksForHelp : Option Text → Options → Type 0
-AsksForHelp command (ToHelp asked) = option_map (λ name. name.now) asked ≡ command
-AsksForHelp command other = ⊥
+abbrev pub IsHelpRequest : Option Text → Options → Type 0
+IsHelpRequest command (ToHelp asked) = option_map (λ name. name.now) asked ≡ command
+IsHelpRequest command other = ⊥
 
 -- a command, if there is one, is one of the program's
 abbrev pub AreCommands : Option Text → Type 0

@@ -13,11 +13,11 @@ ghost use Rattle.ngc_command_line.specs.CommandLine.{help_words, list_words, sho
 ghost use Rattle.ngc_command_line.specs.CommandLine.{ngc_app, run_words};
 ghost use Rattle.ngc_command_line.specs.CommandLine.{MachineSource, adapt_words, machine_words};
 ghost use Rattle.ngc_command_line.specs.CommandLine.{live_words, place_words, report_words};
-ghost use Rattle.ngc_command_line.specs.Meant.{AreCutsInRange, AreOptions, AsksForCertify};
-ghost use Rattle.ngc_command_line.specs.Meant.{AsksForCheck, AsksForDraw, AsksForList, AsksForRun};
-ghost use Rattle.ngc_command_line.specs.Meant.{AsksForLive, AsksForShow, AsksForHelp};
-ghost use Rattle.ngc_command_line.specs.Meant.{AreCommands, AsksForPlace, AsksForReport};
-ghost use Rattle.ngc_command_line.specs.Meant.{AsksForAdapt, AsksForMachine, HaveOrigins, IsTaken};
+ghost use Rattle.ngc_command_line.specs.Meant.{AreCutsInRange, AreOptions, IsCertifyRequest};
+ghost use Rattle.ngc_command_line.specs.Meant.{IsCheckRequest, IsDrawRequest, IsListRequest, IsRunRequest};
+ghost use Rattle.ngc_command_line.specs.Meant.{IsLiveRequest, IsShowRequest, IsHelpRequest};
+ghost use Rattle.ngc_command_line.specs.Meant.{AreCommands, IsPlaceRequest, IsReportRequest};
+ghost use Rattle.ngc_command_line.specs.Meant.{IsAdaptRequest, IsMachineRequest, HaveOrigins, IsTaken};
 ghost use Rattle.ngc_command_line.specs.Meant.{IsToolInRange, IsWhole, origins_in};
 ghost use Rattle.ngc_command_line.specs.Meant.{help_fault_number, usage_fault_number};
 
@@ -170,7 +170,7 @@ pub fn read_options<'a>(alloc: Global, words: &'a [&'a str]) -> Result<Options<'
     // each option may be left out.
     ensures spelled { (program machine tools : Option Text) (delete : Bool)
         → texts words.entry.now ≡ list_words program machine tools delete
-        → MatchResult result (AsksForList program machine tools delete)
+        → MatchResult result (IsListRequest program machine tools delete)
         (λ fault. fault ≡ UsageFault.Memory) }
     // `certify --machine=FILE --tools=FILE --program=FILE --cuts=N --format=VERSION` is read as it
     // is written, where the last three may be left out.
@@ -178,13 +178,13 @@ pub fn read_options<'a>(alloc: Global, words: &'a [&'a str]) -> Result<Options<'
         (format : Option Format)
         → AreCutsInRange cuts
         → texts words.entry.now ≡ certify_words machine tools program cuts format
-        → MatchResult result (AsksForCertify machine tools program cuts format)
+        → MatchResult result (IsCertifyRequest machine tools program cuts format)
         (λ fault. fault ≡ UsageFault.Memory) }
     // `check --machine=FILE --tools=FILE --certificate=FILE --program=FILE` is read as it is
     // written, where the last may be left out.
     ensures spelled_check { (machine tools certificate : Text) (program : Option Text)
         → texts words.entry.now ≡ check_words machine tools certificate program
-        → MatchResult result (AsksForCheck machine tools certificate program)
+        → MatchResult result (IsCheckRequest machine tools certificate program)
         (λ fault. fault ≡ UsageFault.Memory) }
     // `run --machine=FILE --tools=FILE --certificate=FILE --events=FILE --program=FILE --delete
     // --output=FORM` is read as it is written, where the last four may be left out, and so is
@@ -194,7 +194,7 @@ pub fn read_options<'a>(alloc: Global, words: &'a [&'a str]) -> Result<Options<'
         → texts words.entry.now
         ≡ run_words recording machine tools certificate events program delete output
         → MatchResult result
-        (AsksForRun recording machine tools certificate events program delete output)
+        (IsRunRequest recording machine tools certificate events program delete output)
         (λ fault. fault ≡ UsageFault.Memory) }
     // `live --machine=FILE --tools=FILE --certificate=FILE --program=FILE --delete --output=FORM
     // --feed-ring` is read as it is written, where the last three may be left out.
@@ -203,7 +203,7 @@ pub fn read_options<'a>(alloc: Global, words: &'a [&'a str]) -> Result<Options<'
         → texts words.entry.now
         ≡ live_words machine tools certificate program delete output feed_ring
         → MatchResult result
-        (AsksForLive machine tools certificate program delete output feed_ring)
+        (IsLiveRequest machine tools certificate program delete output feed_ring)
         (λ fault. fault ≡ UsageFault.Memory) }
     // `draw --machine=FILE --tools=FILE --certificate=FILE --program=FILE --view=VIEW --delete
     // --bodies --whole` is read as it is written, where the last six may be left out.
@@ -212,13 +212,13 @@ pub fn read_options<'a>(alloc: Global, words: &'a [&'a str]) -> Result<Options<'
         → texts words.entry.now
         ≡ draw_words machine tools certificate program view delete bodies whole
         → MatchResult result
-        (AsksForDraw machine tools certificate program view delete bodies whole)
+        (IsDrawRequest machine tools certificate program view delete bodies whole)
         (λ fault. fault ≡ UsageFault.Memory) }
     // `show --machine=FILE --tools=FILE --warnings` is read as it is written, where the last two
     // may be left out.
     ensures spelled_show { (machine : Text) (tools : Option Text) (warnings : Bool)
         → texts words.entry.now ≡ show_words machine tools warnings
-        → MatchResult result (AsksForShow machine tools warnings)
+        → MatchResult result (IsShowRequest machine tools warnings)
         (λ fault. fault ≡ UsageFault.Memory) }
     // `report --machine=FILE --tools=FILE --program=FILE --cuts=N --all --json` is read as it is
     // written, where the last four may be left out.
@@ -226,7 +226,7 @@ pub fn read_options<'a>(alloc: Global, words: &'a [&'a str]) -> Result<Options<'
         (all json : Bool)
         → AreCutsInRange cuts
         → texts words.entry.now ≡ report_words machine tools program cuts all json
-        → MatchResult result (AsksForReport machine tools program cuts all json)
+        → MatchResult result (IsReportRequest machine tools program cuts all json)
         (λ fault. fault ≡ UsageFault.Memory) }
     // `place --machine=FILE --tools=FILE --program=FILE --system=SYSTEM --cuts=N --json` is read as
     // it is written, where the last four may be left out.
@@ -234,7 +234,7 @@ pub fn read_options<'a>(alloc: Global, words: &'a [&'a str]) -> Result<Options<'
         (cuts : Option ℕ) (json : Bool)
         → AreCutsInRange cuts
         → texts words.entry.now ≡ place_words machine tools program system cuts json
-        → MatchResult result (AsksForPlace machine tools program system cuts json)
+        → MatchResult result (IsPlaceRequest machine tools program system cuts json)
         (λ fault. fault ≡ UsageFault.Memory) }
     // `adapt --from=CONTROL --machine=FILE --tool=N --drop=CODES --program=FILE` is read as it is
     // written, where the last four may be left out.
@@ -242,19 +242,19 @@ pub fn read_options<'a>(alloc: Global, words: &'a [&'a str]) -> Result<Options<'
         (drop program : Option Text)
         → IsToolInRange tool
         → texts words.entry.now ≡ adapt_words from machine tool drop program
-        → MatchResult result (AsksForAdapt from machine tool drop program)
+        → MatchResult result (IsAdaptRequest from machine tool drop program)
         (λ fault. fault ≡ UsageFault.Memory) }
     // `machine --grbl=FILE --corner=SPEED --ticks=N --frame=END` is read as it is written, where
     // the last three may be left out, and so is `machine --steps-per-mm=N --travel=X,Y,Z
     // --feed=X,Y,Z --acceleration=X,Y,Z` with the same three. Its other options are left to tests.
     ensures spelled_machine { (source : MachineSource) (corner ticks frame : Option Text)
         → texts words.entry.now ≡ machine_words source corner ticks frame
-        → MatchResult result (AsksForMachine source corner ticks frame)
+        → MatchResult result (IsMachineRequest source corner ticks frame)
         (λ fault. fault ≡ UsageFault.Memory) }
     // So are `help`, `help COMMAND` with the name of a command, and `version`.
     ensures spelled_help { (command : Option Text) → AreCommands command
         → texts words.entry.now ≡ help_words command
-        → MatchResult result (AsksForHelp command) (λ fault. fault ≡ UsageFault.Memory) }
+        → MatchResult result (IsHelpRequest command) (λ fault. fault ≡ UsageFault.Memory) }
     ensures spelled_version { texts words.entry.now ≡ codes "version" ∷ []
         → MatchResult result (λ options. options ≡ Options.Version)
         (λ fault. fault ≡ UsageFault.Memory) }

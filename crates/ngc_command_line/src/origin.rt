@@ -27,7 +27,7 @@ fn reason(mistake: OriginMistake) -> &'static str {
         OriginMistake::NoPlace => {
             "X, Y and Z are three numbers from -1000 to 1000, in mm, with at most six decimals"
         }
-        OriginMistake::Twice => "the origin of this system is given twice",
+        OriginMistake::Twice => "this system has an origin already",
     }
 }
 

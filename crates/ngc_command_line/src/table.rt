@@ -12,7 +12,7 @@ use std::alloc::{AllocError, Global};
 pub(crate) enum Takes<'a> {
     Nothing,
     Text(&'a str),
-    // A text each time that the argument is given.
+    // A text each time that the argument is written.
     Texts(&'a str),
     // A number within these bounds.
     Number(&'a str, u64, u64),

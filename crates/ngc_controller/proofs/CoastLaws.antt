@@ -19,7 +19,7 @@ use Rattle.ngc_events.specs.declared.reply.Reply.TheVariants.{Ticked}
 use Rattle.ngc_machine_model.specs.State.{Job, Queued, State, path_steps, millionths, place_before, effective}
 use Rattle.ngc_machine_model.specs.Progress.{TravelsAtLeast, GoesOn}
 use Rattle.ngc_machine_model.specs.RateRules.{target}
-use Rattle.ngc_machine_model.specs.Reach.{leg_of, legs_behind}
+use Rattle.ngc_machine_model.specs.Reach.{leg_of, legs_after}
 use Rattle.ngc_machine_model.specs.Step.{Outcome, Travels, Dwells, Finishes, Serves, Rests, HeadTick, TickBy, Step, ticks_of}
 use Rattle.ngc_machine_model.specs.Stretch.{Stretch}
 use Rattle.ngc_controller.specs.declared.drive.Drive.{Drive}
@@ -72,7 +72,7 @@ pub record IsEven (job : Job) (l : Queued) (ls : List Queued) (s : State) (r : R
   pub moves : 1 ≤ path_steps l
   pub runs : s.stopped ≡ false
   pub ring : s.ring ≡ l ∷ ls
-  pub legs : r.legs ≡ leg_of job s.done joined l ∷ legs_behind job (suc s.done) l ls
+  pub legs : r.legs ≡ leg_of job s.done joined l ∷ legs_after job (suc s.done) l ls
   pub change : r.change ≡ job.machine.change
   pub rate : r.rate ≡ s.rate
   pub within : r.rest ≤ millionths l
@@ -100,7 +100,7 @@ even_tick job l ls s r joined wish n h = record {
   at = h.at;
   place_at = refl;
   aim = h.aim;
-  tick = coast_ticks r wish n (leg_of job s.done joined l) (legs_behind job (suc s.done) l ls) (omega (arith, h.change, h.machine.change.least)) h.within h.may;
+  tick = coast_ticks r wish n (leg_of job s.done joined l) (legs_after job (suc s.done) l ls) (omega (arith, h.change, h.machine.change.least)) h.within h.may;
   place_next = refl;
   point_at = refl;
 }
@@ -186,9 +186,9 @@ pub record IsEvenOn (job : Job) (queue : List Queued) (s : State) (r : RampState
 even_head : (job : Job) (l : Queued) (ls : List Queued) (s : State) (r : RampState) (wish aimed n place : ℕ) (p : StepPos)
     (h : IsEvenOn job (l ∷ ls) s r wish aimed n place p) → IsEven job l ls s r h.legs.0 wish n
 even_head job l ls s r wish aimed n place p h =
-    let legs : r.legs ≡ leg_of job s.done h.legs.0 l ∷ legs_behind job (suc s.done) l ls = h.legs.1 ∙ moving_legs job s.done h.legs.0 l ls h.moves in
-    let left : IsRest r.rest (leg_of job s.done h.legs.0 l ∷ legs_behind job (suc s.done) l ls) = subst (λ ks. IsRest r.rest ks) legs h.left in
-    let may : MayCoastOn (leg_of job s.done h.legs.0 l ∷ legs_behind job (suc s.done) l ls) r wish n = subst (λ ks. MayCoastOn ks r wish n) legs h.may in
+    let legs : r.legs ≡ leg_of job s.done h.legs.0 l ∷ legs_after job (suc s.done) l ls = h.legs.1 ∙ moving_legs job s.done h.legs.0 l ls h.moves in
+    let left : IsRest r.rest (leg_of job s.done h.legs.0 l ∷ legs_after job (suc s.done) l ls) = subst (λ ks. IsRest r.rest ks) legs h.left in
+    let may : MayCoastOn (leg_of job s.done h.legs.0 l ∷ legs_after job (suc s.done) l ls) r wish n = subst (λ ks. MayCoastOn ks r wish n) legs h.may in
     record {
       machine = h.machine;
       motion = h.point_at.1;

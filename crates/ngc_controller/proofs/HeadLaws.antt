@@ -15,7 +15,7 @@ use Rattle.ngc_fixed_length.specs.Limits.{MILLION}
 use Rattle.ngc_planner.specs.Ramp.{RampState, IsRest, TicksTo, next_rest, after_tick}
 use Rattle.ngc_planner.proofs.RampLaws.{ends_slowly}
 use Rattle.ngc_machine_model.specs.State.{Job, Queued, State, path_steps, millionths, effective}
-use Rattle.ngc_machine_model.specs.Reach.{leg_of, legs_behind}
+use Rattle.ngc_machine_model.specs.Reach.{leg_of, legs_after}
 use Rattle.ngc_events.specs.declared.reply.Ending.TheVariants.{Done}
 use Rattle.ngc_events.specs.declared.reply.Reply.TheVariants.{Ticked}
 use Rattle.ngc_controller.specs.declared.drive.Drive.{Drive}
@@ -49,7 +49,7 @@ pub record IsTravelOn (job : Job) (ring : List Queued) (old : State) (r s : Ramp
 
 first_leg : (job : Job) (l : Queued) (ls : List Queued) (old : State) (r s : RampState) (wish aimed v place : ℕ) (due ended : Bool) (next : ℕ) (p : StepPos)
     (h : IsTravelOn job (l ∷ ls) old r s wish aimed v place due ended next p) →
-    r.legs ≡ leg_of job old.done h.legs.0 l ∷ legs_behind job (suc old.done) l ls
+    r.legs ≡ leg_of job old.done h.legs.0 l ∷ legs_after job (suc old.done) l ls
 first_leg job l ls old r s wish aimed v place due ended next p h = h.legs.1 ∙ moving_legs job old.done h.legs.0 l ls h.moves
 
 travel : (job : Job) (l : Queued) (ls : List Queued) (old : State) (r s : RampState) (wish aimed v place : ℕ) (due ended : Bool) (next : ℕ) (p : StepPos)
@@ -57,7 +57,7 @@ travel : (job : Job) (l : Queued) (ls : List Queued) (old : State) (r s : RampSt
     IsTravel job l ls old r s h.legs.0 wish v place due ended next p
 travel job l ls old r s wish aimed v place due ended next p h =
     let legs = first_leg job l ls old r s wish aimed v place due ended next p h in
-    let left : IsRest r.rest (leg_of job old.done h.legs.0 l ∷ legs_behind job (suc old.done) l ls) = subst (λ ks. IsRest r.rest ks) legs h.left in
+    let left : IsRest r.rest (leg_of job old.done h.legs.0 l ∷ legs_after job (suc old.done) l ls) = subst (λ ks. IsRest r.rest ks) legs h.left in
     record {
       machine = h.machine;
       motion = h.point_at.1;
@@ -71,7 +71,7 @@ travel job l ls old r s wish aimed v place due ended next p h =
       place_at = h.place_at;
       aim = h.aim ∙ ap (λ t. if old.held then 0 else t) (h.target h.moves
           ∙ ap (λ k. target_on job.machine l.command.action (path_steps l) (effective old) (point l.path k)) h.place_at);
-      tick = h.tick (leg_of job old.done h.legs.0 l) (legs_behind job (suc old.done) l ls) legs;
+      tick = h.tick (leg_of job old.done h.legs.0 l) (legs_after job (suc old.done) l ls) legs;
       place_next = h.place_next;
       point_at = h.point_at.0;
     }
@@ -141,7 +141,7 @@ travel_goes_on job [] old new r s wish aimed v place due ended next p t xs h on 
 travel_goes_on job (l ∷ ls) old new r s wish aimed v place due ended next p t xs h on far queue same is =
     let k = travel job l ls old r s wish aimed v place due ended next p h in
     let has = has_travelled job l ls old r s h.legs.0 wish v place due ended next p k in
-    let g = goes r s (legs_behind job (suc old.done) l ls) v ended k.tick.ends on k.tick.next in
+    let g = goes r s (legs_after job (suc old.done) l ls) v ended k.tick.ends on k.tick.next in
     let there : t ≡ millionths l - s.rest = far ∙ ap (λ ys. travelled_of ys s.rest) queue ∙ moving_travelled l ls s.rest h.moves in
     let rate : new.rate ≡ v = ap (λ (x : State). x.rate) is ∙ g.rate in (
       goes_on job l ls old new r v next due p t xs s.rate has k.at k.within g.less (omega (arith, there, g.rest, g.less, k.at, k.within))
@@ -157,7 +157,7 @@ place_on job [] old r s wish aimed v place due ended next p h on = elim h.moves 
 place_on job (l ∷ ls) old r s wish aimed v place due ended next p h on =
     let k = travel job l ls old r s wish aimed v place due ended next p h in
     let has = has_travelled job l ls old r s h.legs.0 wish v place due ended next p k in
-    let g = goes r s (legs_behind job (suc old.done) l ls) v ended k.tick.ends on k.tick.next in
+    let g = goes r s (legs_after job (suc old.done) l ls) v ended k.tick.ends on k.tick.next in
     let there = moving_travelled l ls s.rest h.moves in
     let far : min (old.travelled + v) (millionths l) ≡ travelled_of (l ∷ ls) s.rest = omega (arith, there, g.rest, g.less, k.at, k.within) in (
       has.place ∙ ap (λ x. x / MILLION) far,
@@ -170,13 +170,13 @@ place_on job (l ∷ ls) old r s wish aimed v place due ended next p h on =
 pub order_goes_on : {A : Type 0} (job : Job) (done : ℕ) (ring after : RingData) (drive new : Drive A) (dwelt : ℕ) (panel : Panel) (old : State) (s : RampState) (wish v : ℕ)
     (due ended : Bool) (p : StepPos) → IsInOrder job done ring drive dwelt panel →
     IsTravelOn job ring.loaded old drive.ramp s wish drive.target v ring.place due ended after.place p → ended ≡ false → after.loaded ≡ ring.loaded → after.room ≡ ring.room →
-    panel.stopped ≡ false → new.ramp ≡ s → new.flows_on ≡ drive.flows_on → new.entry ≡ drive.entry →
+    panel.stopped ≡ false → new.ramp ≡ s → new.continues_travel ≡ drive.continues_travel → new.entry ≡ drive.entry →
     IsTarget job.machine (effective_at panel) after.loaded after.place new.target →
     IsInOrder {A = A} job done after new dwelt panel
 order_goes_on {A = A} job done ring after drive new dwelt panel old s wish v due ended p o h go queue room runs ramp flows entry target =
     let on = place_on job ring.loaded old drive.ramp s wish drive.target v ring.place due ended after.place p h go in
     let here : IsInOrder {A = A} job done (record { loaded = ring.loaded; place = after.place; room = ring.room })
-    (record { ramp = s; target = new.target; entry = drive.entry; flows_on = drive.flows_on }) dwelt panel = record {
+    (record { ramp = s; target = new.target; entry = drive.entry; continues_travel = drive.continues_travel }) dwelt panel = record {
       machine = o.machine;
       change = on.2 ∙ o.change;
       room = o.room;
@@ -186,14 +186,14 @@ order_goes_on {A = A} job done ring after drive new dwelt panel old s wish v due
       slow = λ still. absurd (still h.moves);
       whole = λ still. absurd (still h.moves);
       entry = o.entry;
-      flows_on = o.flows_on;
+      continues_travel = o.continues_travel;
       place = on.0;
       target = subst (λ xs. IsTarget job.machine (effective_at panel) xs after.place new.target) queue target;
       few = o.few;
       brief = o.brief;
       still = λ stopped. cc;
     } in
-    rw (same_ring after ring.loaded after.place ring.room queue refl room, same_drive new s drive.flows_on drive.entry ramp flows entry) here
+    rw (same_ring after ring.loaded after.place ring.room queue refl room, same_drive new s drive.continues_travel drive.entry ramp flows entry) here
 
 -- ---- if it ends
 
@@ -211,7 +211,7 @@ ends_on job [] old r s wish aimed v place due ended next p h done = elim h.moves
 ends_on job (l ∷ ls) old r s wish aimed v place due ended next p h done =
     let k = travel job l ls old r s wish aimed v place due ended next p h in
     let has = has_travelled job l ls old r s h.legs.0 wish v place due ended next p k in
-    let behind = legs_behind job (suc old.done) l ls in
+    let behind = legs_after job (suc old.done) l ls in
     let e = ends r s behind v ended k.tick.ends done k.tick.next in
     let few : v - r.rest < MILLION = omega (arith, has.small, k.some) in
     let some : 1 ≤ r.change = omega (arith, k.change, h.machine.change.least) in

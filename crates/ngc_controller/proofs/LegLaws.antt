@@ -8,23 +8,23 @@ use Rattle.ngc_fixed_length.specs.Limits.{MILLION}
 use Rattle.ngc_planner.specs.Reach.{ahead}
 use Rattle.ngc_planner.specs.Ramp.{RampState, IsRest, next_rest, loaded, rest_with}
 use Rattle.ngc_machine_model.specs.State.{Job, Queued, path_steps, millionths}
-use Rattle.ngc_machine_model.specs.Reach.{stops, flows_into, leg_of, legs_behind}
+use Rattle.ngc_machine_model.specs.Reach.{stops, continues_into, leg_of, legs_after}
 use Rattle.ngc_machine_model.proofs.RampFit.{unjoined, no_more_legs, last_behind, one_more, none_more}
-use Rattle.ngc_controller.specs.Drive.{flows_on, last_flows_on, legs_of, with_one_more}
+use Rattle.ngc_controller.specs.Drive.{continues_travel, last_flows_on, legs_of, with_one_more}
 use Rattle.ngc_controller.specs.Fields.{travelled_of}
 use Rattle.ngc_controller.specs.Ring.{IsMoving}
 
 -- ---- whether or not the head is a motion with path steps
 
 pub moving_legs : (job : Job) (k : ℕ) (joined : Bool) (l : Queued) (ls : List Queued) → 1 ≤ path_steps l →
-    legs_of job k joined (l ∷ ls) ≡ leg_of job k joined l ∷ legs_behind job (suc k) l ls
+    legs_of job k joined (l ∷ ls) ≡ leg_of job k joined l ∷ legs_after job (suc k) l ls
 moving_legs job k joined l ls some =
-    ap (λ b. cond b (leg_of job k joined l ∷ legs_behind job (suc k) l ls) (legs_behind job (suc k) l ls)) (lt-ltb 0 (path_steps l) some)
+    ap (λ b. cond b (leg_of job k joined l ∷ legs_after job (suc k) l ls) (legs_after job (suc k) l ls)) (lt-ltb 0 (path_steps l) some)
 
 pub still_legs : (job : Job) (k : ℕ) (joined : Bool) (l : Queued) (ls : List Queued) → path_steps l ≤ 0 →
-    legs_of job k joined (l ∷ ls) ≡ legs_behind job (suc k) l ls
+    legs_of job k joined (l ∷ ls) ≡ legs_after job (suc k) l ls
 still_legs job k joined l ls none =
-    ap (λ b. cond b (leg_of job k joined l ∷ legs_behind job (suc k) l ls) (legs_behind job (suc k) l ls)) (le-ltb 0 (path_steps l) none)
+    ap (λ b. cond b (leg_of job k joined l ∷ legs_after job (suc k) l ls) (legs_after job (suc k) l ls)) (le-ltb 0 (path_steps l) none)
 
 pub moving_travelled : (l : Queued) (ls : List Queued) (rest : ℕ) → 1 ≤ path_steps l → travelled_of (l ∷ ls) rest ≡ millionths l - rest
 moving_travelled l ls rest some = ap (λ b. cond b (millionths l - rest) 0) (lt-ltb 0 (path_steps l) some)
@@ -34,9 +34,9 @@ still_travelled l ls rest none = ap (λ b. cond b (millionths l - rest) 0) (le-l
 
 -- ---- what follows the head
 
-pub behind_is : (job : Job) (k : ℕ) (l : Queued) (ls : List Queued) → (joined : Bool) × (legs_behind job k l ls ≡ legs_of job k joined ls)
+pub behind_is : (job : Job) (k : ℕ) (l : Queued) (ls : List Queued) → (joined : Bool) × (legs_after job k l ls ≡ legs_of job k joined ls)
 behind_is job k l [] = (false, refl)
-behind_is job k l (m ∷ ms) = (flows_into l m, refl)
+behind_is job k l (m ∷ ms) = (continues_into l m, refl)
 
 few_by : (b : Bool) (x : Leg) (xs : List Leg) (n : ℕ) → length xs ≤ n → length (cond b (x ∷ xs) xs) ≤ suc n
 few_by true x xs n h = omega arith
@@ -45,7 +45,7 @@ few_by false x xs n h = omega arith
 pub few_legs : (job : Job) (k : ℕ) (joined : Bool) (ring : List Queued) → length (legs_of job k joined ring) ≤ length ring
 few_legs job k joined [] = omega arith
 few_legs job k joined (l ∷ ls) =
-    few_by (nat_lt 0 (path_steps l)) (leg_of job k joined l) (legs_behind job (suc k) l ls) (length ls) (no_more_legs job (suc k) l ls)
+    few_by (nat_lt 0 (path_steps l)) (leg_of job k joined l) (legs_after job (suc k) l ls) (length ls) (no_more_legs job (suc k) l ls)
 
 rest_by : (b : Bool) (m : Queued) (x : Leg) (xs : List Leg) (over : ℕ) → b ≡ nat_lt 0 (path_steps m) → x.millionths ≡ millionths m → over < MILLION →
     IsRest (next_rest over xs) xs →
@@ -55,17 +55,17 @@ rest_by false m x xs over test same few h = h
 
 -- part of the first leg after the head remains, whatever a tick has beyond its end
 pub behind_left : (job : Job) (k : ℕ) (l : Queued) (ls : List Queued) (over : ℕ) → over < MILLION →
-    IsRest (next_rest over (legs_behind job k l ls)) (legs_behind job k l ls)
+    IsRest (next_rest over (legs_after job k l ls)) (legs_after job k l ls)
 behind_left job k l [] over few = refl
-behind_left job k l (m ∷ ms) over few = rest_by (nat_lt 0 (path_steps m)) m (leg_of job k (flows_into l m) m) (legs_behind job (suc k) m ms) over refl refl few
+behind_left job k l (m ∷ ms) over few = rest_by (nat_lt 0 (path_steps m)) m (leg_of job k (continues_into l m) m) (legs_after job (suc k) m ms) over refl refl few
     (behind_left job (suc k) m ms over few)
 
 -- no leg is joined to the head if the next command is no motion with path steps
-pub none_ahead : (job : Job) (k : ℕ) (l : Queued) (ls : List Queued) → (IsMoving ls → ⊥) → ahead (legs_behind job k l ls) ≡ 0
+pub none_ahead : (job : Job) (k : ℕ) (l : Queued) (ls : List Queued) → (IsMoving ls → ⊥) → ahead (legs_after job k l ls) ≡ 0
 none_ahead job k l [] still = refl
 none_ahead job k l (m ∷ ms) still =
     let none : path_steps m ≤ 0 = elim (cases_lt 0 (path_steps m)) [ inl more ↦ absurd (still more) | inr zero ↦ zero ] in
-    ap (λ b. ahead (cond b (leg_of job k (flows_into l m) m ∷ legs_behind job (suc k) m ms) (legs_behind job (suc k) m ms))) (le-ltb 0 (path_steps m) none)
+    ap (λ b. ahead (cond b (leg_of job k (continues_into l m) m ∷ legs_after job (suc k) m ms) (legs_after job (suc k) m ms))) (le-ltb 0 (path_steps m) none)
     ∙ unjoined job (suc k) m ms (inl (omega (arith, none)))
 
 -- ---- the distance travelled on a head, if this distance is travelled on the first leg
@@ -91,13 +91,13 @@ still_more : (job : Job) (k : ℕ) (joined : Bool) (q : Queued) (r : RampState) 
 still_more job k joined q r none = ap (λ b. cond b (loaded r (leg_of job k joined q)) r) (le-ltb 0 (path_steps q) none)
 
 -- the last command decides whether the axes continue
-last_is : (l : Queued) (ls : List Queued) → last_flows_on (flows_on l) ls ≡ flows_on (last_behind l ls)
+last_is : (l : Queued) (ls : List Queued) → last_flows_on (continues_travel l) ls ≡ continues_travel (last_behind l ls)
 last_is l [] = refl
 last_is l (m ∷ ms) = last_is m ms
 
-pub last_of_more : (b : Bool) (ring : List Queued) (q : Queued) → last_flows_on b (ring ++ q ∷ []) ≡ flows_on q
+pub last_of_more : (b : Bool) (ring : List Queued) (q : Queued) → last_flows_on b (ring ++ q ∷ []) ≡ continues_travel q
 last_of_more b [] q = refl
-last_of_more b (l ∷ ls) q = last_of_more (flows_on l) ls q
+last_of_more b (l ∷ ls) q = last_of_more (continues_travel l) ls q
 
 pub last_of_rest : (b : Bool) (l : Queued) (ls : List Queued) → b ≡ last_flows_on b (l ∷ ls) → b ≡ last_flows_on b ls
 last_of_rest b l [] h = refl
@@ -119,13 +119,13 @@ joined_legs : (job : Job) (k : ℕ) (joined on : Bool) (l : Queued) (ls : List Q
     legs_of job k joined (l ∷ ls ++ q ∷ []) ≡ legs_of job k joined (l ∷ ls) ++ leg_of job (k + length (l ∷ ls)) on q ∷ []
 joined_legs job k joined on l ls q last some =
     let x = last_behind l ls in
-    let into : flows_into x q ≡ on = into_is (nat_lt 0 (path_steps x)) (not (stops x.command.action)) (nat_lt 0 (path_steps q)) (lt-ltb 0 (path_steps q) some)
+    let into : continues_into x q ≡ on = into_is (nat_lt 0 (path_steps x)) (not (stops x.command.action)) (nat_lt 0 (path_steps q)) (lt-ltb 0 (path_steps q) some)
     ∙ sym (last ∙ last_is l ls) in
     let at : suc k + length ls ≡ k + length (l ∷ ls) = omega arith in
-    more_by (nat_lt 0 (path_steps l)) (leg_of job k joined l) (legs_behind job (suc k) l (ls ++ q ∷ [])) (legs_behind job (suc k) l ls)
+    more_by (nat_lt 0 (path_steps l)) (leg_of job k joined l) (legs_after job (suc k) l (ls ++ q ∷ [])) (legs_after job (suc k) l ls)
     (leg_of job (k + length (l ∷ ls)) on q ∷ [])
-    (one_more job (suc k) l ls q some ∙ ap (λ b. legs_behind job (suc k) l ls ++ leg_of job (suc k + length ls) b q ∷ []) into
-    ∙ ap (λ n. legs_behind job (suc k) l ls ++ leg_of job n on q ∷ []) at)
+    (one_more job (suc k) l ls q some ∙ ap (λ b. legs_after job (suc k) l ls ++ leg_of job (suc k + length ls) b q ∷ []) into
+    ∙ ap (λ n. legs_after job (suc k) l ls ++ leg_of job n on q ∷ []) at)
 
 pub legs_of_more : (job : Job) (k : ℕ) (joined on : Bool) (ring : List Queued) (q : Queued) (r : RampState) → r.legs ≡ legs_of job k joined ring →
     on ≡ last_flows_on on ring →
@@ -147,7 +147,7 @@ legs_of_more job k joined on (l ∷ ls) q r legs last = elim (cases_lt 0 (path_s
   | inr none ↦ (
     joined,
     ap (λ (x : RampState). x.legs) (still_more job (k + length (l ∷ ls)) on q r none) ∙ legs
-        ∙ sym (same_by (nat_lt 0 (path_steps l)) (leg_of job k joined l) (legs_behind job (suc k) l (ls ++ q ∷ [])) (legs_behind job (suc k) l ls)
+        ∙ sym (same_by (nat_lt 0 (path_steps l)) (leg_of job k joined l) (legs_after job (suc k) l (ls ++ q ∷ [])) (legs_after job (suc k) l ls)
         (none_more job (suc k) l ls q (omega (arith, none)))),
   )
 ]
@@ -211,7 +211,7 @@ travelled_more job k n joined on [] q r s legs is = elim (cases_lt 0 (path_steps
 ]
 travelled_more job k n joined on (l ∷ ls) q r s legs is = elim (cases_lt 0 (path_steps l)) [
   | inl more ↦ (
-      let same = same_rest job n on q r s (leg_of job k joined l) (legs_behind job (suc k) l ls) is (legs ∙ moving_legs job k joined l ls more) in
+      let same = same_rest job n on q r s (leg_of job k joined l) (legs_after job (suc k) l ls) is (legs ∙ moving_legs job k joined l ls more) in
       moving_travelled l (ls ++ q ∷ []) s.rest more ∙ ap (λ x. millionths l - x) same ∙ sym (moving_travelled l ls r.rest more))
   | inr none ↦ (still_travelled l (ls ++ q ∷ []) s.rest none ∙ sym (still_travelled l ls r.rest none))
 ]

@@ -20,7 +20,7 @@ use Rattle.ngc_machine_model.specs.State.{Job, Queued, State, command_at}
 use Rattle.ngc_machine_model.specs.Step.{Outcome, MayTake, LoadCommand, Dwells, Finishes, Serves, after, without_head, ticks_of}
 use Rattle.ngc_controller.specs.declared.drive.Drive.{Drive}
 use Rattle.ngc_controller.specs.declared.panel.Panel.{Panel}
-use Rattle.ngc_controller.specs.Drive.{flows_on, last_flows_on, legs_of, with_one_more, IsTarget}
+use Rattle.ngc_controller.specs.Drive.{continues_travel, last_flows_on, legs_of, with_one_more, IsTarget}
 use Rattle.ngc_controller.specs.Fields.{travelled_of, state_of, DWELL_LIMIT, IsInOrder, IsServed, panel_after, tool_after}
 use Rattle.ngc_controller.specs.Panel.{effective_at}
 use Rattle.ngc_controller.specs.Ring.{RingData, IsMoving}
@@ -42,11 +42,11 @@ pub same_ring : (r : RingData) (xs : List Queued) (p n : ℕ) → r.loaded ≡ x
 same_ring r xs p n e f k =
     ap₂ (λ (ys : List Queued) (q : ℕ). record { loaded = ys; place = q; room = r.room }) e f ∙ ap (λ m. record { loaded = xs; place = p; room = m }) k
 
-pub same_drive : {A : Type 0} (d : Drive A) (r : RampState) (b : Bool) (n : ℕ) → d.ramp ≡ r → d.flows_on ≡ b → d.entry ≡ n →
-    d ≡ record { ramp = r; target = d.target; entry = n; flows_on = b }
+pub same_drive : {A : Type 0} (d : Drive A) (r : RampState) (b : Bool) (n : ℕ) → d.ramp ≡ r → d.continues_travel ≡ b → d.entry ≡ n →
+    d ≡ record { ramp = r; target = d.target; entry = n; continues_travel = b }
 same_drive d r b n e f k =
-    ap₂ (λ (x : RampState) (y : Bool). record { ramp = x; target = d.target; entry = d.entry; flows_on = y }) e f
-    ∙ ap (λ m. record { ramp = r; target = d.target; entry = m; flows_on = b }) k
+    ap₂ (λ (x : RampState) (y : Bool). record { ramp = x; target = d.target; entry = d.entry; continues_travel = y }) e f
+    ∙ ap (λ m. record { ramp = r; target = d.target; entry = m; continues_travel = b }) k
 
 last_of_drop : (b : Bool) (ring : List Queued) → b ≡ last_flows_on b ring → b ≡ last_flows_on b (drop 1 ring)
 last_of_drop b [] h = refl
@@ -57,7 +57,7 @@ pub left_order : {A : Type 0} (job : Job) (done : ℕ) (ring : List Queued) (ram
     IsMachine job.machine → IsLeft job (suc done) (drop 1 ring) ramp → travelled_of (drop 1 ring) ramp.rest / MILLION ≡ 0 → on ≡ last_flows_on on ring →
     (panel.stopped ≡ true → ramp.rate ≡ 0) →
     done + length ring ≤ length job.commands → 1 ≤ length ring →
-    after.loaded ≡ drop 1 ring → after.place ≡ 0 → after.room ≡ job.machine.ring → next ≡ done + 1 → dwelt ≡ 0 → new.ramp ≡ ramp → new.flows_on ≡ on →
+    after.loaded ≡ drop 1 ring → after.place ≡ 0 → after.room ≡ job.machine.ring → next ≡ done + 1 → dwelt ≡ 0 → new.ramp ≡ ramp → new.continues_travel ≡ on →
     IsTarget job.machine (effective_at panel) after.loaded after.place new.target →
     entry ≡ joint_before job.machine job.commands (done + length ring) → new.entry ≡ entry →
     IsInOrder job next after new dwelt panel
@@ -65,7 +65,7 @@ left_order {A = A} job done ring ramp on panel next after new dwelt entry machin
     let shorter = length-drop 1 ring in
     let then : next ≡ suc done = omega arith in
     let order : IsInOrder {A = A} job (suc done) (record { loaded = drop 1 ring; place = 0; room = job.machine.ring })
-    (record { ramp = ramp; target = new.target; entry = entry; flows_on = on }) 0 panel =
+    (record { ramp = ramp; target = new.target; entry = entry; continues_travel = on }) 0 panel =
     record {
       machine = machine;
       change = o.change;
@@ -76,7 +76,7 @@ left_order {A = A} job done ring ramp on panel next after new dwelt entry machin
       slow = o.slow;
       whole = o.whole;
       entry = (let behind : done + length ring ≡ suc done + length (drop 1 ring) = omega arith in joint ∙ ap (λ k. joint_before job.machine job.commands k) behind);
-      flows_on = last_of_drop on ring last;
+      continues_travel = last_of_drop on ring last;
       place = sym zero;
       target = subst (λ xs. IsTarget job.machine (effective_at panel) xs 0 new.target) queue
           (subst (λ k. IsTarget job.machine (effective_at panel) after.loaded k new.target) place target);
@@ -96,12 +96,12 @@ pub served_still : (ring : List Queued) (a : Action) → IsServed ring a → IsM
 served_still [] a served moves = moves
 served_still (l ∷ ls) a served moves = omega (arith, served.1, moves)
 
-left_behind : (job : Job) (done : ℕ) (ring : List Queued) (ramp : RampState) (a : Action) → IsServed ring a → ramp.change ≡ job.machine.change →
+remaining_after : (job : Job) (done : ℕ) (ring : List Queued) (ramp : RampState) (a : Action) → IsServed ring a → ramp.change ≡ job.machine.change →
     ramp.room ≡ job.machine.ring →
     (joined : Bool) → ramp.legs ≡ legs_of job done joined ring → IsRest ramp.rest ramp.legs → ramp.rest ≡ next_rest 0 ramp.legs →
     IsLeft job (suc done) (drop 1 ring) (record ramp { rate = 0 }) × (travelled_of (drop 1 ring) ramp.rest ≡ 0)
-left_behind job done [] ramp a served change places joined legs left whole = elim served [ ]
-left_behind job done (l ∷ ls) ramp a served change places joined legs left whole =
+remaining_after job done [] ramp a served change places joined legs left whole = elim served [ ]
+remaining_after job done (l ∷ ls) ramp a served change places joined legs left whole =
     let b = behind_is job (suc done) l ls in
     let are : ramp.legs ≡ legs_of job (suc done) b.0 ls = legs ∙ still_legs job done joined l ls (omega (arith, served.1)) ∙ b.1 in (
       record { change = change; places = places; legs = (b.0, are); left = left; slow = λ still. omega arith; whole = λ still. whole },
@@ -121,7 +121,7 @@ rests_still job done ring drive new dwelt n panel o is brief =
       slow = λ still. omega arith;
       whole = o.whole;
       entry = o.entry;
-      flows_on = o.flows_on;
+      continues_travel = o.continues_travel;
       place = o.place;
       target = o.target;
       few = o.few;
@@ -134,7 +134,7 @@ pub served_left : {A : Type 0} (job : Job) (done : ℕ) (ring : RingData) (drive
     IsInOrder job done ring drive dwelt panel → IsServed ring.loaded a →
     IsLeft job (suc done) (drop 1 ring.loaded) (record drive.ramp { rate = 0 }) × (travelled_of (drop 1 ring.loaded) drive.ramp.rest ≡ 0)
 served_left job done ring drive dwelt panel a o served =
-    left_behind job done ring.loaded drive.ramp a served o.change o.places o.legs.0 o.legs.1 o.left (o.whole (served_still ring.loaded a served))
+    remaining_after job done ring.loaded drive.ramp a served o.change o.places o.legs.0 o.legs.1 o.left (o.whole (served_still ring.loaded a served))
 
 pub served_some : (ring : List Queued) (a : Action) → IsServed ring a → 1 ≤ length ring
 served_some [] a served = elim served [ ]
@@ -200,7 +200,7 @@ still_before (l ∷ ls) q still moves = still moves
 
 pub loaded_order : {A : Type 0} (job : Job) (done : ℕ) (ring : RingData) (drive : Drive A) (dwelt : ℕ) (panel : Panel) (q : Queued) (k : ℕ) (after : RingData) (d : Drive A)
     (n : ℕ) → IsInOrder job done ring drive dwelt panel →
-    d.ramp ≡ with_one_more job (done + length ring.loaded) drive.flows_on q drive.ramp → d.flows_on ≡ flows_on q →
+    d.ramp ≡ with_one_more job (done + length ring.loaded) drive.continues_travel q drive.ramp → d.continues_travel ≡ continues_travel q →
     d.entry ≡ joint_at job.machine job.commands (done + length ring.loaded) →
     IsTarget job.machine (effective_at panel) after.loaded after.place d.target →
     done + length ring.loaded < length job.commands → k ≡ done → n ≡ dwelt → after.loaded ≡ ring.loaded ++ q ∷ [] → after.place ≡ ring.place → after.room ≡ ring.room →
@@ -208,9 +208,9 @@ pub loaded_order : {A : Type 0} (job : Job) (done : ℕ) (ring : RingData) (driv
 loaded_order job done ring drive dwelt panel q k after d n o is flows joint target less same brief queue place room =
     let all = ring.loaded ++ q ∷ [] in
     let more = length-append ring.loaded (q ∷ []) in
-    let has = has_one_more job (done + length ring.loaded) drive.flows_on q drive.ramp d.ramp is in
-    let legs = legs_of_more job done o.legs.0 drive.flows_on ring.loaded q drive.ramp o.legs.1 o.flows_on in
-    let far = travelled_more job done (done + length ring.loaded) o.legs.0 drive.flows_on ring.loaded q drive.ramp d.ramp o.legs.1 is in
+    let has = has_one_more job (done + length ring.loaded) drive.continues_travel q drive.ramp d.ramp is in
+    let legs = legs_of_more job done o.legs.0 drive.continues_travel ring.loaded q drive.ramp o.legs.1 o.continues_travel in
+    let far = travelled_more job done (done + length ring.loaded) o.legs.0 drive.continues_travel ring.loaded q drive.ramp d.ramp o.legs.1 is in
     let here : IsInOrder job done (record { loaded = all; place = ring.place; room = ring.room }) d dwelt panel = record {
       machine = o.machine;
       change = has.change ∙ o.change;
@@ -222,7 +222,7 @@ loaded_order job done ring drive dwelt panel q k after d n o is flows joint targ
       whole = λ still. has.whole (o.whole (still_before ring.loaded q still));
       entry = (let behind : suc (done + length ring.loaded) ≡ done + length all = omega (arith, more) in
           joint ∙ ap (λ k. joint_before job.machine job.commands k) behind);
-      flows_on = flows ∙ sym (last_of_more d.flows_on ring.loaded q);
+      continues_travel = flows ∙ sym (last_of_more d.continues_travel ring.loaded q);
       place = o.place ∙ ap (λ x. x / MILLION) (sym far);
       target = subst (λ xs. IsTarget job.machine (effective_at panel) xs ring.place d.target) queue
           (subst (λ k. IsTarget job.machine (effective_at panel) after.loaded k d.target) place target);
@@ -237,17 +237,17 @@ pub loads : {A : Type 0} (job : Job) (done : ℕ) (ring : RingData) (drive : Dri
     (q : Queued) (k : ℕ) (after : RingData) (d : Drive A) (n : ℕ) →
     IsInOrder job done ring drive dwelt panel → command_at job (done + length ring.loaded) ≡ Some c → length ring.loaded < job.machine.ring → q.command ≡ c →
     MayTake job c.action q.path →
-    d.ramp ≡ with_one_more job (done + length ring.loaded) drive.flows_on q drive.ramp → k ≡ done → n ≡ dwelt → after.loaded ≡ ring.loaded ++ q ∷ [] →
+    d.ramp ≡ with_one_more job (done + length ring.loaded) drive.continues_travel q drive.ramp → k ≡ done → n ≡ dwelt → after.loaded ≡ ring.loaded ++ q ∷ [] →
     LoadCommand job (state_of done ring drive dwelt position tool panel) (command_at job (done + length ring.loaded)) (Ok (Loaded (done + length ring.loaded)))
     (state_of k after d n position tool panel)
 loads job done ring drive dwelt position tool panel c q k after d n o found room same takes is more brief queue =
     let old = state_of done ring drive dwelt position tool panel in
     let new = state_of k after d n position tool panel in
     let out : Outcome = Ok (Loaded (done + length ring.loaded)) in
-    let has = has_one_more job (done + length ring.loaded) drive.flows_on q drive.ramp d.ramp is in
+    let has = has_one_more job (done + length ring.loaded) drive.continues_travel q drive.ramp d.ramp is in
     let far : travelled_of after.loaded d.ramp.rest ≡ travelled_of ring.loaded drive.ramp.rest =
     ap (λ xs. travelled_of xs d.ramp.rest) queue ∙ travelled_more job done
-    (done + length ring.loaded) o.legs.0 drive.flows_on ring.loaded q drive.ramp d.ramp o.legs.1 is in
+    (done + length ring.loaded) o.legs.0 drive.continues_travel ring.loaded q drive.ramp d.ramp o.legs.1 is in
     let rate = has.rate in
     let own : after.loaded ≡ ring.loaded ++ record { command = c; path = q.path } ∷ [] =
     queue ∙ ap (λ x. ring.loaded ++ record { command = x; path = q.path } ∷ []) same in

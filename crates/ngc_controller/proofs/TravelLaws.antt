@@ -15,7 +15,7 @@ use Rattle.ngc_planner.specs.Ramp.{RampState, TicksTo}
 use Rattle.ngc_machine_model.specs.State.{Job, Queued, State, path_steps, millionths}
 use Rattle.ngc_machine_model.specs.Progress.{TravelsAtLeast}
 use Rattle.ngc_machine_model.specs.RateRules.{target, MayTravel}
-use Rattle.ngc_machine_model.specs.Reach.{leg_of, legs_behind}
+use Rattle.ngc_machine_model.specs.Reach.{leg_of, legs_after}
 use Rattle.ngc_events.specs.declared.reply.Ending.{Ending}
 use Rattle.ngc_events.specs.declared.reply.Ending.TheVariants.{Done}
 use Rattle.ngc_events.specs.declared.reply.Reply.TheVariants.{Ticked}
@@ -80,7 +80,7 @@ pub record IsTravel (job : Job) (l : Queued) (ls : List Queued) (old : State) (r
   pub machine : IsMachine job.machine
   pub motion : IsMotion l.command.action
   pub moves : 1 ≤ path_steps l
-  pub legs : r.legs ≡ leg_of job old.done joined l ∷ legs_behind job (suc old.done) l ls
+  pub legs : r.legs ≡ leg_of job old.done joined l ∷ legs_after job (suc old.done) l ls
   pub change : r.change ≡ job.machine.change
   pub rate : r.rate ≡ old.rate
   pub some : 1 ≤ r.rest
@@ -88,7 +88,7 @@ pub record IsTravel (job : Job) (l : Queued) (ls : List Queued) (old : State) (r
   pub at : old.travelled ≡ millionths l - r.rest
   pub place_at : place ≡ old.travelled / MILLION
   pub aim : wish ≡ target job l old
-  pub tick : TicksTo r wish (leg_of job old.done joined l) (legs_behind job (suc old.done) l ls) v due ended s
+  pub tick : TicksTo r wish (leg_of job old.done joined l) (legs_after job (suc old.done) l ls) v due ended s
   pub place_next : next ≡ next_place place due
   pub point_at : p ≡ point l.path next
 

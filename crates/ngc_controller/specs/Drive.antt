@@ -7,23 +7,23 @@ use Rattle.ngc_fixed_length.specs.LinePath.{point}
 use Rattle.ngc_planner.specs.ArcFeed.{target_on, is_by_place}
 use Rattle.ngc_planner.specs.Ramp.{RampState, loaded}
 use Rattle.ngc_machine_model.specs.State.{Job, Queued, path_steps}
-use Rattle.ngc_machine_model.specs.Reach.{stops, leg_of, legs_behind}
+use Rattle.ngc_machine_model.specs.Reach.{stops, leg_of, legs_after}
 
 -- the axes need not stop after a command if a motion with path steps follows
-abbrev pub flows_on : Queued → Bool
-flows_on l = nat_lt 0 (path_steps l) && not (stops l.command.action)
+abbrev pub continues_travel : Queued → Bool
+continues_travel l = nat_lt 0 (path_steps l) && not (stops l.command.action)
 
 -- the same for the last of these, or for the command before them
 abbrev pub last_flows_on : Bool → List Queued → Bool
 last_flows_on before [] = before
-last_flows_on before (l ∷ ls) = last_flows_on (flows_on l) ls
+last_flows_on before (l ∷ ls) = last_flows_on (continues_travel l) ls
 
 -- the legs of a ring whose head is command k; it no longer matters whether the axes reached the
 -- head without a stop
 abbrev pub legs_of : Job → ℕ → Bool → List Queued → List Leg
 legs_of job k joined [] = []
 legs_of job k joined (l ∷ ls) = if nat_lt 0 (path_steps l)
-    then leg_of job k joined l ∷ legs_behind job (suc k) l ls else legs_behind job (suc k) l ls
+    then leg_of job k joined l ∷ legs_after job (suc k) l ls else legs_after job (suc k) l ls
 
 -- command k is loaded: a motion with path steps is added to the ramp
 abbrev pub with_one_more : Job → ℕ → Bool → Queued → RampState → RampState

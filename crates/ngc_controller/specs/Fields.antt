@@ -60,7 +60,7 @@ pub record IsInOrder {A : Type 0} (job : Job) (done : ℕ) (ring : RingData) (dr
   pub whole : (IsMoving ring.loaded → ⊥) → drive.ramp.rest ≡ next_rest 0 drive.ramp.legs
   pub entry : drive.entry
       ≡ joint_before job.machine job.commands (done + length ring.loaded)
-  pub flows_on : drive.flows_on ≡ last_flows_on drive.flows_on ring.loaded
+  pub continues_travel : drive.continues_travel ≡ last_flows_on drive.continues_travel ring.loaded
   pub place : ring.place ≡ travelled_of ring.loaded drive.ramp.rest / MILLION
   pub target : IsTarget job.machine (effective_at panel) ring.loaded ring.place drive.target
   pub few : done + length ring.loaded ≤ length job.commands

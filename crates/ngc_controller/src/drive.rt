@@ -7,7 +7,7 @@ ghost use Rattle.ngc_planner.specs.Leg.{IsLeg};
 ghost use Rattle.ngc_machine_model.specs.Headline.{job_of};
 ghost use Rattle.ngc_machine_model.specs.State.{path_steps, millionths};
 ghost use Rattle.ngc_machine_model.specs.Reach.{stops};
-ghost use Rattle.ngc_controller.specs.Drive.{flows_on, with_one_more};
+ghost use Rattle.ngc_controller.specs.Drive.{continues_travel, with_one_more};
 
 use crate::route::Loaded;
 use ngc_commands::{Action, Command};
@@ -27,7 +27,7 @@ pub struct Drive<A: Allocator> {
     pub entry: u64,
     /// Whether the last loaded command is a motion with path steps at whose end the axes need not
     /// stop.
-    pub flows_on: bool,
+    pub continues_travel: bool,
 }
 
 // Returns whether the axes stop at the end of an action that is a motion.
@@ -86,20 +86,20 @@ impl<A: Allocator> Drive<A> {
         requires room { length self.old.ramp.legs < self.old.ramp.room }
         requires entry { self.old.entry ≡ joint_before (file_of machine.now) commands.now index }
         ensures ramp { self.new.ramp ≡ with_one_more
-            (job_of (file_of machine.now) commands.now) index self.old.flows_on loaded.now.queued
+            (job_of (file_of machine.now) commands.now) index self.old.continues_travel loaded.now.queued
             self.old.ramp }
         ensures target { self.new.target ≡ self.old.target }
         ensures entry { self.new.entry ≡ joint_at (file_of machine.now) commands.now index }
-        ensures flows_on { self.new.flows_on ≡ flows_on loaded.now.queued }
+        ensures continues_travel { self.new.continues_travel ≡ continues_travel loaded.now.queued }
     {
         let moves = loaded.path_steps() > 0;
         let exit = joint_at(commands, index, machine);
         if moves {
-            let leg = leg_between(self.entry, exit, self.flows_on, loaded, machine);
+            let leg = leg_between(self.entry, exit, self.continues_travel, loaded, machine);
             self.ramp.load(leg);
         }
         self.entry = exit;
-        self.flows_on = moves && !stops(&loaded.command().action);
+        self.continues_travel = moves && !stops(&loaded.command().action);
     }
 
     /// Makes a tick without travel. The last rate must be at most the change.

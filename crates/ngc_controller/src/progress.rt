@@ -6,7 +6,7 @@ ghost use Rattle.ngc_fixed_length.specs.Limits.{MILLION};
 ghost use Rattle.ngc_machine_model.specs.Headline.{job_of};
 ghost use Rattle.ngc_planner.specs.Joints.{joint_at, joint_before};
 ghost use Rattle.ngc_planner.specs.Ramp.{MOST_LEGS};
-ghost use Rattle.ngc_controller.specs.Drive.{flows_on, with_one_more, IsTarget, is_head_by_place};
+ghost use Rattle.ngc_controller.specs.Drive.{continues_travel, with_one_more, IsTarget, is_head_by_place};
 ghost use Rattle.ngc_controller.specs.Loaded.{next_place};
 ghost use Rattle.ngc_controller.specs.Opening.{IsOpening};
 ghost use Rattle.ngc_controller.specs.Ring.{action_of, IsMoving, IsPointOn, HasNext};
@@ -51,7 +51,7 @@ impl<K: ArcKernel + Drop, A: Allocator + Copy> Progress<K, A> {
                 ramp,
                 target: 0,
                 entry: 1_000_000,
-                flows_on: false,
+                continues_travel: false,
             },
             done: 0,
             dwelt: 0,
@@ -91,11 +91,11 @@ impl<K: ArcKernel + Drop, A: Allocator + Copy> Progress<K, A> {
         ensures dwelt { self.new.dwelt ≡ self.old.dwelt }
         ensures ramp { self.new.drive.ramp ≡ with_one_more
             (job_of (file_of machine.now) commands.now)
-            (self.old.done + length self.old.ring.loaded) self.old.drive.flows_on loaded.queued
+            (self.old.done + length self.old.ring.loaded) self.old.drive.continues_travel loaded.queued
             self.old.drive.ramp }
         ensures entry { self.new.drive.entry ≡ joint_at (file_of machine.now) commands.now
             (self.old.done + length self.old.ring.loaded) }
-        ensures flows_on { self.new.drive.flows_on ≡ flows_on loaded.queued }
+        ensures continues_travel { self.new.drive.continues_travel ≡ continues_travel loaded.queued }
         ensures target { IsTarget (file_of machine.now) percent self.new.ring.loaded
             self.new.ring.place self.new.drive.target }
     {
@@ -119,7 +119,7 @@ impl<K: ArcKernel + Drop, A: Allocator + Copy> Progress<K, A> {
         ensures dwelt { self.new.dwelt ≡ 0 }
         ensures ramp { self.new.drive.ramp ≡ self.old.drive.ramp }
         ensures entry { self.new.drive.entry ≡ self.old.drive.entry }
-        ensures flows_on { self.new.drive.flows_on ≡ self.old.drive.flows_on }
+        ensures continues_travel { self.new.drive.continues_travel ≡ self.old.drive.continues_travel }
         ensures target { IsTarget (file_of machine.now) percent self.new.ring.loaded
             self.new.ring.place self.new.drive.target }
     {
@@ -136,7 +136,7 @@ impl<K: ArcKernel + Drop, A: Allocator + Copy> Progress<K, A> {
         ensures dwelt { self.new.dwelt ≡ self.old.dwelt }
         ensures ramp { self.new.drive.ramp ≡ self.old.drive.ramp }
         ensures entry { self.new.drive.entry ≡ self.old.drive.entry }
-        ensures flows_on { self.new.drive.flows_on ≡ self.old.drive.flows_on }
+        ensures continues_travel { self.new.drive.continues_travel ≡ self.old.drive.continues_travel }
         ensures target { IsTarget (file_of machine.now) percent self.old.ring.loaded
             self.old.ring.place self.new.drive.target }
     {
@@ -178,7 +178,7 @@ impl<K: ArcKernel + Drop, A: Allocator + Copy> Progress<K, A> {
         ensures dwelt { self.new.dwelt ≡ self.old.dwelt }
         ensures ramp { self.new.drive.ramp ≡ self.old.drive.ramp }
         ensures entry { self.new.drive.entry ≡ self.old.drive.entry }
-        ensures flows_on { self.new.drive.flows_on ≡ self.old.drive.flows_on }
+        ensures continues_travel { self.new.drive.continues_travel ≡ self.old.drive.continues_travel }
         ensures target { IsTarget (file_of machine.now) percent self.new.ring.loaded
             self.new.ring.place self.new.drive.target }
     {

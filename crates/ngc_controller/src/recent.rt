@@ -51,7 +51,7 @@ impl<A: Allocator> Model for Recent<A> {
 
 // Returns the reply `index` positions before the last of these, counting the quiet ones before
 // each.
-fn told_before<A: Allocator>(told: &HeapCircularBuffer<Told, A>, index: u64) -> Option<Reply>
+fn reported_before<A: Allocator>(told: &HeapCircularBuffer<Told, A>, index: u64) -> Option<Reply>
     ensures { result ≡ from_the_last index (replies told.now.items) }
 {
     let mut left = index;
@@ -125,6 +125,6 @@ impl<A: Allocator> Recent<A> {
         if index < quiet {
             return Some(QUIET);
         }
-        told_before(&self.told, index - quiet)
+        reported_before(&self.told, index - quiet)
     }
 }

@@ -223,7 +223,7 @@ fn number_of(
 // Each job gets little memory, and then more and more: it is refused at first, and done from some
 // size on.
 #[test]
-fn refused_memory_is_told(rt: HostRuntime) -> Result<(), Fail> {
+fn refused_memory_is_reported(rt: HostRuntime) -> Result<(), Fail> {
     for (job, step) in JOBS {
         let mut refused = 0u32;
         let mut done = 0u32;

@@ -64,7 +64,7 @@ fn tells(rt: &impl Abort, controller: &mut Controller<ArcPath, Global>) {
 }
 
 #[test]
-fn what_a_controller_tells(rt: HostRuntime) -> Result<(), Fail> {
+fn what_a_controller_replies(rt: HostRuntime) -> Result<(), Fail> {
     let tools = Tools::read(rt.alloc(), TOOLS.as_bytes())?;
     let accepted = accepted_on(rt.alloc(), "T1 M6\nM2\n", NO_MOTIONS, &tools, false);
     match Controller::new(rt.alloc(), accepted.ok_or("not accepted")?, false) {

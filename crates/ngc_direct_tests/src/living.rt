@@ -73,7 +73,7 @@ fn fed(alloc: Global, events: &[u8], form: LiveForm, size: usize) -> Result<Vec<
 }
 
 #[test]
-fn pieces_of_any_size_give_what_a_run_gives(rt: HostRuntime) -> Result<(), Fail> {
+fn pieces_of_any_size_make_the_run(rt: HostRuntime) -> Result<(), Fail> {
     let events = EVENTS.as_bytes();
     for form in [
         LiveForm::Log,

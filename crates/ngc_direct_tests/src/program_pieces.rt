@@ -100,7 +100,7 @@ const PROMPT: &[(&str, usize, &str, Option<(usize, u16)>)] = &[
 ];
 
 #[test]
-fn faults_are_told_at_once(rt: HostRuntime) -> Result<(), Fail> {
+fn faults_are_reported_at_once(rt: HostRuntime) -> Result<(), Fail> {
     for (front, spaces, end, wanted) in PROMPT {
         let middle = " ".repeat(rt.alloc(), *spaces)?;
         let text = format!(in rt.alloc(); "{front}{middle}{end}")?;

@@ -102,7 +102,7 @@ fn grows(
 }
 
 #[test]
-fn refused_memory_is_told(rt: HostRuntime) -> Result<(), Fail> {
+fn refused_memory_is_reported(rt: HostRuntime) -> Result<(), Fail> {
     for (job, piece, times, wanted, step) in JOBS {
         let text = piece.repeat(rt.alloc(), *times)?;
         grows(&rt, rt.alloc(), (*job, text.as_str(), *wanted, *step))?;

@@ -74,12 +74,12 @@ meets r s =
     overlap r.left r.right s.left s.right && overlap r.top r.bottom s.top s.bottom
 
 -- a label that isn't drawn overlaps nothing
-abbrev pub meets_room : Room → Option Room → Bool
-meets_room r None = false
-meets_room r (Some s) = meets r s
+abbrev pub meets_space : Room → Option Room → Bool
+meets_space r None = false
+meets_space r (Some s) = meets r s
 
 abbrev pub meets_placed : Room → Placed → Bool
-meets_placed r p = meets_room r p.room
+meets_placed r p = meets_space r p.room
 
 -- ---- the rule
 

@@ -1,6 +1,6 @@
 //! How shapes are written.
 ghost use Rattle.ngc_text.specs.Failures.{CountsFailure};
-ghost use Rattle.ngc_text.specs.Collected.{HasLineRoom};
+ghost use Rattle.ngc_text.specs.Collected.{HasSpaceForLine};
 ghost use Rattle.ngc_certificate_text.specs.Collects.{Collects};
 ghost use Rattle.ngc_drawing.specs.Draws.{Draws};
 ghost use Rattle.ngc_drawing.specs.Spelling.{shape_text};
@@ -21,7 +21,7 @@ fn draw<W: Sink>(
         (shape_text unit.now.micrometres shape.now) }
     ensures counts { CountsFailure (W.failures sink.old) (W.failures sink.new) result }
 {
-    match chunk.make_room(sink) {
+    match chunk.make_space(sink) {
         Ok(()) => {}
         Err(fault) => return Err(fault),
     }

@@ -3,7 +3,7 @@ ghost use Rattle.std.specs.Prelude.{◌≡◌, ◌≤◌, ◌<◌, ◌+◌, ◌*
 ghost use Rattle.std.specs.Prelude.{◌++◌, ◌∷◌, [], length, IfOk, option_map};
 ghost use Rattle.std.specs.List.{list_any};
 ghost use Rattle.ngc_machine_files.specs.Machine.{file_of};
-ghost use Rattle.ngc_drawing.specs.Labels.{anchor, width, place_across, room, overlap, meets, meets_room};
+ghost use Rattle.ngc_drawing.specs.Labels.{anchor, width, place_across, room, overlap, meets, meets_space};
 ghost use Rattle.ngc_drawing.specs.Labels.{meets_placed, height, lowered, settle, tries, settled};
 ghost use Rattle.ngc_drawing.specs.Labels.{HIDDEN, settled_in, with_mark, origin_label, digits};
 ghost use Rattle.ngc_drawing.specs.Labels.{fixture_characters, with_fixtures, mark_labels, labels};

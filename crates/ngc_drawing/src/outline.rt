@@ -36,7 +36,7 @@ fn tool_box(view: View, low: &Place, high: &Place) -> Shape
 }
 
 // Adds the boxes that a tool fills at a place.
-fn add_standing<A: Allocator>(
+fn add_tool_outline<A: Allocator>(
     shapes: &mut ArrayVec<Shape, 8>,
     view: View,
     machine: &Machine<A>,
@@ -66,7 +66,7 @@ fn add_outline<A: Allocator>(
         ++ outline view (file_of machine.now).step tool.now action.now }
 {
     if let Action::Move(motion) = action {
-        add_standing(shapes, view, machine, tool, &motion.way.end());
+        add_tool_outline(shapes, view, machine, tool, &motion.way.end());
     }
 }
 

@@ -3,7 +3,7 @@ ghost use Rattle.std.specs.Prelude.{◌≡◌, ◌<◌, ◌≤◌, ◌*◌, unsi
 ghost use Rattle.std.specs.Prelude.{map, OnOk, OnErr, Err, IfOk, ◌+◌};
 ghost use Rattle.std.specs.Io.KnownBytes.{Appends, Keeps};
 ghost use Rattle.ngc_text.specs.Failures.{CountsFailure};
-ghost use Rattle.ngc_text.specs.Written.{AppendsBeginning};
+ghost use Rattle.ngc_text.specs.Written.{AppendsPrefix};
 ghost use Rattle.ngc_machine_files.specs.Machine.{file_of};
 ghost use Rattle.ngc_drawing.specs.declared.shape.Shape.TheVariants as drawn;
 ghost use Rattle.ngc_drawing.specs.Draws.{Draws};
@@ -684,7 +684,7 @@ fn write_picture<A: Allocator, W: Sink>(
         (shapes_text (unit_of area.now) (picture_of view (file_of machine.now) commands.now
         refusal.now area.now tools.now swept.now labels.now work.now))) }
     ensures fault { OnErr result
-        (AppendsBeginning (W.written sink.old) (W.written sink.new)
+        (AppendsPrefix (W.written sink.old) (W.written sink.new)
         (shapes_text (unit_of area.now) (picture_of view (file_of machine.now) commands.now
         refusal.now area.now tools.now swept.now labels.now work.now))) }
     ensures counts { CountsFailure (W.failures sink.old) (W.failures sink.new) result }
@@ -740,7 +740,7 @@ pub fn write_svg<A: Allocator + Copy, B: Allocator, W: Sink>(
         (picture_text look.now (file_of machine.now) commands.now motions.now refusal.now
         work.now)) }
     ensures fault { OnErr result
-        (AppendsBeginning (W.written sink.old) (W.written sink.new)
+        (AppendsPrefix (W.written sink.old) (W.written sink.new)
         (picture_text look.now (file_of machine.now) commands.now motions.now refusal.now
         work.now)) }
     ensures memory { result ≡ Err DrawFault.Memory →

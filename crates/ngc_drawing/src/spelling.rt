@@ -1,6 +1,6 @@
 ghost use Rattle.std.specs.Prelude.{◌≡◌, ◌+◌, ◌*◌, ◌<◌, ◌≤◌, ◌++◌, codes, decimal, length};
 ghost use Rattle.std.specs.Prelude.{flat_map};
-ghost use Rattle.ngc_text.specs.Collected.{CHUNK_SIZE, HasLineRoom};
+ghost use Rattle.ngc_text.specs.Collected.{CHUNK_SIZE, HasSpaceForLine};
 ghost use Rattle.ngc_drawing.specs.Units.{IsUnit};
 ghost use Rattle.ngc_drawing.specs.declared.shape.BoxKind.TheVariants as kinds;
 ghost use Rattle.ngc_drawing.specs.declared.shape.Shape.TheVariants as shapes;
@@ -149,7 +149,7 @@ fn add_silhouette(chunk: &mut Chunk, block: &Block)
 
 /// Adds its edges at the nearest corner.
 fn add_near_edges(chunk: &mut Chunk, block: &Block)
-    requires { HasLineRoom chunk.old }
+    requires { HasSpaceForLine chunk.old }
     ensures { chunk.new ≡ chunk.old ++ near_edges_text block.now }
 {
     chunk.add_text(b"\nM");
@@ -166,7 +166,7 @@ fn add_near_edges(chunk: &mut Chunk, block: &Block)
 
 /// Adds the outline of a box that the tool fills at the end of a refused motion.
 fn add_fault_block(chunk: &mut Chunk, block: &Block)
-    requires { HasLineRoom chunk.old }
+    requires { HasSpaceForLine chunk.old }
     ensures { chunk.new ≡ chunk.old
         ++ (kind_text kinds.FaultTool ++ silhouette_text block.now ++ codes "\"/>\n") }
 {
@@ -361,7 +361,7 @@ fn turn(clockwise: bool) -> &'static [u8]
 }
 
 fn add_begin(chunk: &mut Chunk, sheet: &Sheet)
-    requires { HasLineRoom chunk.old }
+    requires { HasSpaceForLine chunk.old }
     ensures { chunk.new ≡ chunk.old ++ begin_text sheet.now }
 {
     chunk.add_text(
@@ -382,7 +382,7 @@ fn add_begin(chunk: &mut Chunk, sheet: &Sheet)
 }
 
 fn add_window(chunk: &mut Chunk, pane: &Pane)
-    requires { HasLineRoom chunk.old }
+    requires { HasSpaceForLine chunk.old }
     ensures { chunk.new ≡ chunk.old ++ window_text pane.now }
 {
     chunk.add_text(b"<svg x=\"");
@@ -406,7 +406,7 @@ fn add_window(chunk: &mut Chunk, pane: &Pane)
 
 /// Adds a box as a rectangle.
 fn add_outline(chunk: &mut Chunk, kind: BoxKind, area: &Rectangle)
-    requires { HasLineRoom chunk.old }
+    requires { HasSpaceForLine chunk.old }
     ensures { chunk.new ≡ chunk.old ++ (kind_text kind ++ area_text area.now ++ codes "\"/>\n") }
 {
     chunk.add_text(beginning(kind));
@@ -415,7 +415,7 @@ fn add_outline(chunk: &mut Chunk, kind: BoxKind, area: &Rectangle)
 }
 
 fn add_fixture_number(chunk: &mut Chunk, unit: i64, at: &Spot, number: usize, lines: usize)
-    requires { HasLineRoom chunk.old }
+    requires { HasSpaceForLine chunk.old }
     ensures { chunk.new ≡ chunk.old ++ shape_text unit (shapes.FixtureNumber at.now number lines) }
 {
     begin_sign(chunk, unit, at);
@@ -457,7 +457,7 @@ fn add_string(chunk: &mut Chunk, text: &[u8])
 /// Adds a name after a number, where there is one.
 #[tactic(auto, unfolding(crate::specs::Spelling::name_text))]
 fn add_name(chunk: &mut Chunk, name: &Name)
-    requires { HasLineRoom chunk.old }
+    requires { HasSpaceForLine chunk.old }
     ensures { chunk.new ≡ chunk.old ++ name_text name.now }
 {
     let name = name.as_bytes();
@@ -468,7 +468,7 @@ fn add_name(chunk: &mut Chunk, name: &Name)
 }
 
 fn add_fault_number(chunk: &mut Chunk, unit: i64, at: &Spot, fault: u16)
-    requires { HasLineRoom chunk.old }
+    requires { HasSpaceForLine chunk.old }
     ensures { chunk.new ≡ chunk.old ++ shape_text unit (shapes.FaultNumber at.now fault) }
 {
     begin_sign(chunk, unit, at);
@@ -479,7 +479,7 @@ fn add_fault_number(chunk: &mut Chunk, unit: i64, at: &Spot, fault: u16)
 }
 
 fn add_marked(chunk: &mut Chunk, unit: i64, mark: &Mark, at: &Spot)
-    requires { HasLineRoom chunk.old }
+    requires { HasSpaceForLine chunk.old }
     ensures { chunk.new ≡ chunk.old ++ sign_at unit at.now (mark_text mark.now) }
 {
     begin_sign(chunk, unit, at);
@@ -488,7 +488,7 @@ fn add_marked(chunk: &mut Chunk, unit: i64, mark: &Mark, at: &Spot)
 }
 
 fn add_scale(chunk: &mut Chunk, unit: i64, at: &Spot, bar: u64)
-    requires room { HasLineRoom chunk.old }
+    requires room { HasSpaceForLine chunk.old }
     requires unit { IsUnit unit }
     ensures { chunk.new ≡ chunk.old ++ scale_text unit at.now bar }
 {
@@ -508,7 +508,7 @@ fn add_scale(chunk: &mut Chunk, unit: i64, at: &Spot, bar: u64)
 }
 
 fn add_scale_length(chunk: &mut Chunk, unit: i64, at: &Spot, bar: u64)
-    requires { HasLineRoom chunk.old }
+    requires { HasSpaceForLine chunk.old }
     ensures { chunk.new ≡ chunk.old ++ shape_text unit (shapes.ScaleLength at.now bar) }
 {
     begin_sign(chunk, unit, at);
@@ -519,7 +519,7 @@ fn add_scale_length(chunk: &mut Chunk, unit: i64, at: &Spot, bar: u64)
 }
 
 fn add_isometric_note(chunk: &mut Chunk, unit: i64, at: &Spot)
-    requires { HasLineRoom chunk.old }
+    requires { HasSpaceForLine chunk.old }
     ensures { chunk.new ≡ chunk.old ++ sign_at unit at.now
         (codes "<text x=\"27\" y=\"6\" fill=\"#808080\" stroke=\"none\">X, Y: measured across; Z: upwards</text>") }
 {
@@ -533,7 +533,7 @@ fn add_isometric_note(chunk: &mut Chunk, unit: i64, at: &Spot)
 /// Adds what the scale bar measures in the isometric view.
 #[tactic(auto, unfolding(crate::specs::Spelling::scale_note_text))]
 fn add_scale_note(chunk: &mut Chunk, unit: i64, view: View, at: &Spot)
-    requires { HasLineRoom chunk.old }
+    requires { HasSpaceForLine chunk.old }
     ensures { chunk.new ≡ chunk.old ++ scale_note_text unit view at.now }
 {
     match view {
@@ -543,7 +543,7 @@ fn add_scale_note(chunk: &mut Chunk, unit: i64, view: View, at: &Spot)
 }
 
 fn add_legend(chunk: &mut Chunk, unit: i64, at: &Spot)
-    requires { HasLineRoom chunk.old }
+    requires { HasSpaceForLine chunk.old }
     ensures { chunk.new ≡ chunk.old ++ shape_text unit (shapes.Legend at.now) }
 {
     chunk.add_text(b"<g transform=\"translate(");
@@ -556,7 +556,7 @@ fn add_legend(chunk: &mut Chunk, unit: i64, at: &Spot)
 }
 
 fn add_tool(chunk: &mut Chunk, rank: usize, number: u32)
-    requires { HasLineRoom chunk.old }
+    requires { HasSpaceForLine chunk.old }
     ensures { chunk.new ≡ chunk.old
         ++ (codes "<tspan x=\"0\" dy=\"3\" fill=\"" ++ colour_text rank ++ codes "\">&#9632; "
         ++ tool_text number) }
@@ -573,7 +573,7 @@ fn add_tool(chunk: &mut Chunk, rank: usize, number: u32)
 }
 
 fn add_path(chunk: &mut Chunk, ink: &Ink, at: &Spot)
-    requires { HasLineRoom chunk.old }
+    requires { HasSpaceForLine chunk.old }
     ensures { chunk.new ≡ chunk.old
         ++ (codes "<path stroke=\"" ++ ink_text ink.now ++ codes "\" d=\"M" ++ spot_text at.now) }
 {
@@ -584,7 +584,7 @@ fn add_path(chunk: &mut Chunk, ink: &Ink, at: &Spot)
 }
 
 fn add_round(chunk: &mut Chunk, radius: i64, clockwise: bool, to: &Spot)
-    requires { HasLineRoom chunk.old }
+    requires { HasSpaceForLine chunk.old }
     ensures { chunk.new ≡ chunk.old
         ++ (codes "\nA" ++ length_text radius ++ codes " " ++ length_text radius
         ++ turn_text clockwise ++ spot_text to.now) }
@@ -598,7 +598,7 @@ fn add_round(chunk: &mut Chunk, radius: i64, clockwise: bool, to: &Spot)
 }
 
 fn add_line(chunk: &mut Chunk, to: &Spot)
-    requires { HasLineRoom chunk.old }
+    requires { HasSpaceForLine chunk.old }
     ensures { chunk.new ≡ chunk.old ++ (codes "\nL" ++ spot_text to.now) }
 {
     chunk.add_text(b"\nL");
@@ -606,7 +606,7 @@ fn add_line(chunk: &mut Chunk, to: &Spot)
 }
 
 fn add_body(chunk: &mut Chunk, area: &Rectangle)
-    requires { HasLineRoom chunk.old }
+    requires { HasSpaceForLine chunk.old }
     ensures { chunk.new ≡ chunk.old ++ (codes "\n" ++ area_text area.now) }
 {
     chunk.add_text(b"\n");
@@ -614,7 +614,7 @@ fn add_body(chunk: &mut Chunk, area: &Rectangle)
 }
 
 fn add_bodies_of(chunk: &mut Chunk, rank: usize)
-    requires { HasLineRoom chunk.old }
+    requires { HasSpaceForLine chunk.old }
     ensures { chunk.new ≡ chunk.old
         ++ (codes "<path fill=\"" ++ colour_text rank ++ codes "\" d=\"") }
 {
@@ -624,7 +624,7 @@ fn add_bodies_of(chunk: &mut Chunk, rank: usize)
 }
 
 fn add_part(chunk: &mut Chunk, diameter: i64, long: i64)
-    requires { HasLineRoom chunk.old }
+    requires { HasSpaceForLine chunk.old }
     ensures { chunk.new ≡ chunk.old
         ++ (codes ", " ++ length_text diameter ++ codes " x " ++ length_text long) }
 {
@@ -635,7 +635,7 @@ fn add_part(chunk: &mut Chunk, diameter: i64, long: i64)
 }
 
 fn add_fault_line(chunk: &mut Chunk, fault: u16, command: usize)
-    requires { HasLineRoom chunk.old }
+    requires { HasSpaceForLine chunk.old }
     ensures { chunk.new ≡ chunk.old
         ++ (codes "<tspan x=\"0\" dy=\"3\" fill=\"#E60000\">fault " ++ decimal fault
         ++ codes " at command " ++ decimal command ++ codes "</tspan>\n") }
@@ -649,7 +649,7 @@ fn add_fault_line(chunk: &mut Chunk, fault: u16, command: usize)
 
 /// Adds the text of a shape, in a drawing of this unit.
 pub(crate) fn add_shape(chunk: &mut Chunk, unit: i64, shape: &Shape)
-    requires room { HasLineRoom chunk.old }
+    requires room { HasSpaceForLine chunk.old }
     requires unit { IsUnit unit }
     ensures { chunk.new ≡ chunk.old ++ shape_text unit shape.now }
 {

@@ -15,7 +15,7 @@ use Rattle.ngc_events.specs.declared.event.EventLine.{EventLine}
 use Rattle.ngc_events.specs.declared.fault.EventsFault.{EventsFault}
 use Rattle.ngc_events.specs.declared.fault.EventsFault.TheVariants.{BadLine, TooManyLines, Memory}
 use Rattle.ngc_events.specs.Arriving.{Arriving, Begins, HaveArrived, IsNoEvent, IsSplit, IsWrongAfter, LONGEST_LINE, MOST_LINES, StopsAfter, TakesOne, is_feedless}
-use Rattle.ngc_events.specs.Events.{event_said}
+use Rattle.ngc_events.specs.Events.{parsed_event}
 use Rattle.ngc_events.specs.Spelling.{words_of, event_text, events_text, is_given}
 use Rattle.ngc_events.proofs.EventLaws.{event_spelled}
 
@@ -43,15 +43,15 @@ short_words (StopSwitch true) times h = omega arith
 short_words (StopSwitch false) times h = omega arith
 short_words Start times h = omega arith
 
-pub longest_line : (line : List ℕ) (said : EventLine) → event_said line ≡ Some said → length line ≤ LONGEST_LINE
+pub longest_line : (line : List ℕ) (said : EventLine) → parsed_event line ≡ Some said → length line ≤ LONGEST_LINE
 longest_line line said h =
     let spells = event_spelled line said h in
     omega (arith, ap length spells.is, short_words said.event said.times spells.given)
 
 -- ---- one more line
 
-are_given : List EventLine → Bool
-are_given lines = list_all (λ (line : EventLine). is_given line.event line.times) lines
+are_sent : List EventLine → Bool
+are_sent lines = list_all (λ (line : EventLine). is_given line.event line.times) lines
 
 -- the bytes that follow the lines that have arrived
 pub follows : (text piece : List ℕ) (lines : List EventLine) (now : Arriving) → HaveArrived text lines now →
@@ -62,7 +62,7 @@ one_line : (line : EventLine) → events_text (line ∷ []) ≡ words_of line.ev
 one_line line = append-nil (event_text line)
 
 pub one_more : (text piece part rest : List ℕ) (lines : List EventLine) (line : EventLine) (old new : Arriving) → HaveArrived text lines old →
-    IsSplit piece part rest → Some line ≡ event_said (old.begun ++ part) → new ≡ record { complete = old.complete + 1; begun = [] } →
+    IsSplit piece part rest → Some line ≡ parsed_event (old.begun ++ part) → new ≡ record { complete = old.complete + 1; begun = [] } →
     TakesOne text piece lines line rest new
 one_more text piece part rest lines line old new h split said is =
     let spells = event_spelled (old.begun ++ part) line (sym said) in
@@ -126,7 +126,7 @@ long_begun text piece lines old at h feedless long is =
     }))
 
 no_event : (begun piece part rest : List ℕ) → is_feedless begun ≡ true → IsSplit piece part rest →
-    (LONGEST_LINE < length (begun ++ part)) ⊎ (event_said (begun ++ part) ≡ None) → IsNoEvent (begun ++ piece)
+    (LONGEST_LINE < length (begun ++ part)) ⊎ (parsed_event (begun ++ part) ≡ None) → IsNoEvent (begun ++ piece)
 no_event begun piece part rest feedless split wrong = record {
   line = begun ++ part;
   after = 10 ∷ rest;
@@ -136,7 +136,7 @@ no_event begun piece part rest feedless split wrong = record {
 }
 
 pub wrong_ended : (text piece part rest : List ℕ) (lines : List EventLine) (old : Arriving) (at : ℕ) → HaveArrived text lines old → IsSplit piece part rest →
-    (LONGEST_LINE < length (old.begun ++ part)) ⊎ (event_said (old.begun ++ part) ≡ None) → at ≡ old.complete + 1 → IsWrongAfter (text ++ piece) lines at
+    (LONGEST_LINE < length (old.begun ++ part)) ⊎ (parsed_event (old.begun ++ part) ≡ None) → at ≡ old.complete + 1 → IsWrongAfter (text ++ piece) lines at
 wrong_ended text piece part rest lines old at h split wrong is =
     subst (IsWrongAfter (text ++ piece) lines) (sym is) (wrong_line text piece lines old h (no_event old.begun piece part rest h.feedless split wrong))
 

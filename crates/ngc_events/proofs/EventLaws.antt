@@ -12,9 +12,9 @@ use Rattle.ngc_events.specs.declared.event.Event.{Event}
 use Rattle.ngc_events.specs.declared.event.Event.TheVariants.{Load, Tick, Hold, Resume, Override, StopSwitch, Start}
 use Rattle.ngc_events.specs.declared.event.EventLine.{EventLine}
 use Rattle.ngc_text.specs.Decimals.{decimal_in}
-use Rattle.ngc_text.proofs.Splits.{lacks}
+use Rattle.ngc_text.proofs.SplitTexts.{lacks}
 use Rattle.ngc_text.proofs.DecimalLaws.{decimal_in-decimal, decimal_spelled, decimal_lacks}
-use Rattle.ngc_events.specs.Events.{up_to, number_to, once, ticks, begins, word_said, event_said}
+use Rattle.ngc_events.specs.Events.{up_to, number_to, once, ticks, begins, parsed_word, parsed_event}
 use Rattle.ngc_events.specs.Spelling.{words_of, is_given}
 
 abbrev line_with : Event → ℕ → EventLine
@@ -54,16 +54,16 @@ some_ticks (suc n) h = refl
 is_once : (event : Event) (times : ℕ) → (times == 1) ≡ true → Some (once event) ≡ Some (line_with event times)
 is_once event times h = ap (λ (n : ℕ). Some (line_with event n)) (sym (one times h))
 
-tick_said : (text : List ℕ) → event_said (codes "tick " ++ text) ≡ ticks (number_to 1000000 text)
-unfolding event_said
+tick_said : (text : List ℕ) → parsed_event (codes "tick " ++ text) ≡ ticks (number_to 1000000 text)
+unfolding parsed_event
 tick_said text = refl
 
-override_said : (text : List ℕ) → event_said (codes "override " ++ text) ≡ option_map (λ n. once (Override n)) (number_to 255 text)
-unfolding event_said
+override_said : (text : List ℕ) → parsed_event (codes "override " ++ text) ≡ option_map (λ n. once (Override n)) (number_to 255 text)
+unfolding parsed_event
 override_said text = refl
 
-pub event_reads : (event : Event) (times : ℕ) → is_given event times ≡ true → event_said (words_of event times) ≡ Some (line_with event times)
-unfolding event_said word_said
+pub event_reads : (event : Event) (times : ℕ) → is_given event times ≡ true → parsed_event (words_of event times) ≡ Some (line_with event times)
+unfolding parsed_event parsed_word
 event_reads Load times h = is_once Load times h
 event_reads Tick times h =
     let range = and_parts (nat_le 1 times) (nat_le times 1000000) h in
@@ -118,8 +118,8 @@ word_or line word event others said is given other h = elim (by_test (bytes_eq l
   | inr p ↦ other p.1
 ]
 
-word_spelled : (line : List ℕ) (said : Event) → word_said line ≡ Some said → Spells line (once said)
-unfolding word_said
+word_spelled : (line : List ℕ) (said : Event) → parsed_word line ≡ Some said → Spells line (once said)
+unfolding parsed_word
 word_spelled line said =
     word_or line (codes "load") Load _ said refl refl
     (word_or line (codes "hold") Hold _ said refl refl
@@ -160,13 +160,13 @@ override_spelled line said front h =
       given = and_from (nat_le m.0 255) true (within m.0 255 number.1) refl;
     })
 
-other_spelled : (line : List ℕ) (said : EventLine) → option_map once (word_said line) ≡ Some said → Spells line said
+other_spelled : (line : List ℕ) (said : EventLine) → option_map once (parsed_word line) ≡ Some said → Spells line said
 other_spelled line said h =
-    let m = mapped once (word_said line) said h in
+    let m = mapped once (parsed_word line) said h in
     subst (Spells line) m.2 (word_spelled line m.0 m.1)
 
-pub event_spelled : (line : List ℕ) (said : EventLine) → event_said line ≡ Some said → Spells line said
-unfolding event_said
+pub event_spelled : (line : List ℕ) (said : EventLine) → parsed_event line ≡ Some said → Spells line said
+unfolding parsed_event
 event_spelled line said h = elim (by_test (begins (codes "tick ") line) _ _ said h) [
   | inl p ↦ tick_spelled line said p.0 p.1
   | inr p ↦ elim (by_test (begins (codes "override ") line) _ _ said p.1) [

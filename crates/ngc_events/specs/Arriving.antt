@@ -6,7 +6,7 @@ use Rattle.std.specs.List.{list_all}
 use Rattle.ngc_events.specs.declared.event.EventLine.{EventLine}
 use Rattle.ngc_events.specs.declared.fault.EventsFault.{EventsFault}
 use Rattle.ngc_events.specs.declared.fault.EventsFault.TheVariants.{BadLine, TooManyLines, Memory}
-use Rattle.ngc_events.specs.Events.{event_said}
+use Rattle.ngc_events.specs.Events.{parsed_event}
 use Rattle.ngc_events.specs.Spelling.{events_text, is_given}
 
 -- the length of the longest line of an event, as `tick 1000000` and `override 255`
@@ -27,7 +27,7 @@ pub record Arriving : Type 0 where
   pub complete : ℕ
   pub begun : List ℕ
 
--- A text is the lines of these events, and a prefix of another line. By the law `OneSpelling` it
+-- A text is the lines of these events, and a prefix of another line. By the law `IsOneWriting` it
 -- lists these events up to that line, just as the text of an events file does.
 pub record HaveArrived (text : List ℕ) (lines : List EventLine) (now : Arriving) : Type 0 where
   pub spelled : text ≡ events_text lines ++ now.begun
@@ -48,7 +48,7 @@ pub record IsNoEvent (text : List ℕ) : Type 0 where
   pub splits : text ≡ line ++ after
   pub feedless : IsTrue (is_feedless line)
   pub wrong : (LONGEST_LINE < length line) ⊎
-      ((event_said line ≡ None) × (rest : List ℕ) × (after ≡ 10 ∷ rest))
+      ((parsed_event line ≡ None) × (rest : List ℕ) × (after ≡ 10 ∷ rest))
 
 -- a text is the lines of these events, and then a line, of this number, that is no event
 pub record IsWrongAfter (text : List ℕ) (lines : List EventLine) (at : ℕ) : Type 0 where

@@ -45,8 +45,8 @@ abbrev pub behind : List ℕ → List ℕ → List ℕ
 behind front line = drop (length front) line
 
 -- the event of a word
-unfoldable pub word_said : List ℕ → Option Event
-word_said word =
+unfoldable pub parsed_word : List ℕ → Option Event
+parsed_word word =
     if bytes_eq word (codes "load") then Some Load else
     if bytes_eq word (codes "hold") then Some Hold else
     if bytes_eq word (codes "resume") then Some Resume else
@@ -55,35 +55,35 @@ word_said word =
     if bytes_eq word (codes "switch off") then Some (StopSwitch false) else None
 
 -- the event of a line without its line feed
-unfoldable pub event_said : List ℕ → Option EventLine
-event_said line =
+unfoldable pub parsed_event : List ℕ → Option EventLine
+parsed_event line =
     if begins (codes "tick ") line then ticks (number_to 1000000 (behind (codes "tick ") line)) else
     if begins (codes "override ") line then override
     (number_to 255 (behind (codes "override ") line)) else
-    option_map once (word_said line)
+    option_map once (parsed_word line)
 
 -- ---- the lines of a text
 
 -- the result for the line of this number; a line after the 1,000,000th is too many, whatever it is
-abbrev pub line_said : ℕ → Option EventLine → Result EventLine EventsFault
-line_said number said =
+abbrev pub parsed_line : ℕ → Option EventLine → Result EventLine EventsFault
+parsed_line number said =
     if nat_le number 1000000 then ok_or said (BadLine number) else Err TooManyLines
 
 -- the first line's event in front of those of the other lines
-abbrev pub in_front : Result EventLine EventsFault → Result (List EventLine) EventsFault →
+abbrev pub prefixed : Result EventLine EventsFault → Result (List EventLine) EventsFault →
     Result (List EventLine) EventsFault
-in_front (Ok line) (Ok others) = Ok (line ∷ others)
-in_front (Ok line) (Err fault) = Err fault
-in_front (Err fault) others = Err fault
+prefixed (Ok line) (Ok others) = Ok (line ∷ others)
+prefixed (Ok line) (Err fault) = Err fault
+prefixed (Err fault) others = Err fault
 
 -- the events of lines, of which the first has this number; the last part is what follows the last
 -- line feed, and must be empty
-unfoldable pub lines_said : ℕ → List (List ℕ) → Result (List EventLine) EventsFault
-lines_said number [] = Ok []
-lines_said number (last ∷ []) =
-    if length last == 0 then Ok [] else in_front (line_said number None) (Ok [])
-lines_said number (line ∷ next ∷ lines) =
-    in_front (line_said number (event_said line)) (lines_said (number + 1) (next ∷ lines))
+unfoldable pub parsed_lines : ℕ → List (List ℕ) → Result (List EventLine) EventsFault
+parsed_lines number [] = Ok []
+parsed_lines number (last ∷ []) =
+    if length last == 0 then Ok [] else prefixed (parsed_line number None) (Ok [])
+parsed_lines number (line ∷ next ∷ lines) =
+    prefixed (parsed_line number (parsed_event line)) (parsed_lines (number + 1) (next ∷ lines))
 
-unfoldable pub events_said : List ℕ → Result (List EventLine) EventsFault
-events_said text = lines_said 1 (slice_split (λ b. b == 10) text)
+unfoldable pub parsed_events : List ℕ → Result (List EventLine) EventsFault
+parsed_events text = parsed_lines 1 (slice_split (λ b. b == 10) text)

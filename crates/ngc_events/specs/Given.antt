@@ -5,9 +5,9 @@ use Rattle.ngc_events.specs.declared.fault.EventsFault.{EventsFault}
 use Rattle.ngc_events.specs.declared.fault.EventsFault.TheVariants.{BadLine, TooManyLines, Memory}
 
 -- the result is that of the text, unless memory ran out
-abbrev pub GivesEvents : {A : Type 0} → Result (Vec EventLine A) EventsFault →
+abbrev pub EventsResultIs : {A : Type 0} → Result (Vec EventLine A) EventsFault →
     Result (List EventLine) EventsFault → Type 0
-GivesEvents (Ok events) says = says ≡ Ok events.items
-GivesEvents (Err (BadLine number)) says = says ≡ Err (BadLine number)
-GivesEvents (Err TooManyLines) says = says ≡ Err TooManyLines
-GivesEvents (Err Memory) says = Unit {0}
+EventsResultIs (Ok events) says = says ≡ Ok events.items
+EventsResultIs (Err (BadLine number)) says = says ≡ Err (BadLine number)
+EventsResultIs (Err TooManyLines) says = says ≡ Err TooManyLines
+EventsResultIs (Err Memory) says = Unit {0}

@@ -7,7 +7,7 @@ use Rattle.ngc_events.specs.declared.event.Event.{Event}
 use Rattle.ngc_events.specs.declared.event.Event.TheVariants.{Load, Tick, Hold, Resume, Override}
 use Rattle.ngc_events.specs.declared.event.Event.TheVariants.{StopSwitch, Start}
 use Rattle.ngc_events.specs.declared.event.EventLine.{EventLine}
-use Rattle.ngc_events.specs.Events.{events_said}
+use Rattle.ngc_events.specs.Events.{parsed_events}
 
 -- the line of an event that occurs `times` times
 abbrev pub words_of : Event → ℕ → List ℕ
@@ -42,7 +42,7 @@ pub record AreEvents (lines : List EventLine) : Type 0 where
   pub each : IsTrue (list_all (λ (line : EventLine). is_given line.event line.times) lines)
 
 -- a text is read as events exactly if they are events that a file can hold, and it is their text
-abbrev pub OneSpelling : Type 0
-OneSpelling =
+abbrev pub IsOneWriting : Type 0
+IsOneWriting =
     (text : List ℕ) (lines : List EventLine)
-    → (events_said text ≡ Ok lines) ↔ (AreEvents lines × (text ≡ events_text lines))
+    → (parsed_events text ≡ Ok lines) ↔ (AreEvents lines × (text ≡ events_text lines))

@@ -3,7 +3,7 @@ ghost use Rattle.std.specs.Prelude.{◌≡◌, ◌<◌, ◌≤◌, ◌+◌, ◌+
 ghost use Rattle.std.specs.Prelude.{MatchOption, IfOk, IfErr, IfSome, OnOk, OnErr, Some, None};
 ghost use Rattle.ngc_events.specs.Arriving.{Ends, HaveArrived, IsSplit, LONGEST_LINE, MOST_LINES};
 ghost use Rattle.ngc_events.specs.Arriving.{MOST_TEXT, Takes, filled, is_feedless};
-ghost use Rattle.ngc_events.specs.Events.{event_said};
+ghost use Rattle.ngc_events.specs.Events.{parsed_event};
 ghost use Rattle.ngc_events.specs.declared.event.EventLine.{EventLine as Line};
 
 use crate::event::EventLine;
@@ -72,9 +72,9 @@ impl EventLines {
     // Returns the event of the line, which is complete now.
     fn complete(&mut self) -> Result<EventLine, EventsFault>
         requires { self.old.complete < MOST_LINES }
-        ensures line { IfOk result (λ line. event_said self.old.begun ≡ Some line) }
+        ensures line { IfOk result (λ line. parsed_event self.old.begun ≡ Some line) }
         ensures next { OnOk result (self.new ≡ record { complete = self.old.complete + 1; begun = [] }) }
-        ensures none { OnErr result (event_said self.old.begun ≡ None) }
+        ensures none { OnErr result (parsed_event self.old.begun ≡ None) }
         ensures fault { IfErr result (λ fault. fault ≡ EventsFault.BadLine (self.old.complete + 1)) }
     {
         match event_in(self.begun.as_slice()) {

@@ -2,7 +2,7 @@ ghost use Rattle.std.specs.Prelude.{◌≡◌, ◌≤◌, IfSome};
 ghost use Rattle.std.specs.Str.{bytes_eq};
 ghost use Rattle.ngc_events.specs.Events.{number_to as number_said, once, ticks as ticks_said};
 ghost use Rattle.ngc_events.specs.Events.{override as override_said};
-ghost use Rattle.ngc_events.specs.Events.{word_said, event_said};
+ghost use Rattle.ngc_events.specs.Events.{parsed_word, parsed_event};
 
 use crate::event::{Event, EventLine};
 use ngc_text::decimal_in;
@@ -52,9 +52,9 @@ fn is_word(bytes: &[u8], word: &[u8]) -> bool
     bytes == word
 }
 
-#[tactic(auto, unfolding(crate::specs::Events::word_said))]
+#[tactic(auto, unfolding(crate::specs::Events::parsed_word))]
 fn word_event(word: &[u8]) -> Option<Event>
-    ensures { result ≡ word_said word.now }
+    ensures { result ≡ parsed_word word.now }
 {
     if is_word(word, b"load") {
         Some(Event::Load)
@@ -74,9 +74,9 @@ fn word_event(word: &[u8]) -> Option<Event>
 }
 
 /// Returns the event of a line without its line feed, or `None`.
-#[tactic(auto, unfolding(crate::specs::Events::event_said))]
+#[tactic(auto, unfolding(crate::specs::Events::parsed_event))]
 pub(crate) fn event_in(line: &[u8]) -> Option<EventLine>
-    ensures { result ≡ event_said line.now }
+    ensures { result ≡ parsed_event line.now }
 {
     if let Some(number) = line.strip_prefix(b"tick ") {
         return ticks(number);

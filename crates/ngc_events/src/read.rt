@@ -1,6 +1,6 @@
 ghost use Rattle.std.specs.Prelude.{◌<◌, ◌+◌, length};
-ghost use Rattle.ngc_events.specs.Events.{events_said};
-ghost use Rattle.ngc_events.specs.Given.{GivesEvents};
+ghost use Rattle.ngc_events.specs.Events.{parsed_events};
+ghost use Rattle.ngc_events.specs.Given.{EventsResultIs};
 ghost use Rattle.ngc_events.specs.Reading.{TakesLine};
 
 use crate::event::EventLine;
@@ -34,7 +34,7 @@ fn first_line(before: usize, text: &[u8]) -> Result<(EventLine, &[u8]), EventsFa
 /// Returns the events of a text, or the first fault: 711 if a line is no event or lacks its line
 /// feed, 712 if there are more than 1,000,000 lines.
 pub fn read_events<A: Allocator>(alloc: A, text: &[u8]) -> Result<Vec<EventLine, A>, EventsFault>
-    ensures { GivesEvents result (events_said text.now) }
+    ensures { EventsResultIs result (parsed_events text.now) }
 {
     let mut events = Vec::new(alloc);
     let mut left = text;

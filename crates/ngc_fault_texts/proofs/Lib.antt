@@ -1,4 +1,4 @@
 -- A number is on a page exactly where it is among the page's numbers.
-mod Found
+mod NumberSearch
 -- How far a text is written.
-mod Reached
+mod WrittenProgress

@@ -4,7 +4,7 @@ use Rattle.std.specs.Prelude.{codes, decimal, if◌then◌else◌}
 use Rattle.std.specs.Borrow.{Bor}
 use Rattle.std.specs.Io.KnownBytes.{Appends}
 use Rattle.ngc_text.specs.Failures.{Rises}
-use Rattle.ngc_text.specs.Written.{AppendsBeginning}
+use Rattle.ngc_text.specs.Written.{AppendsPrefix}
 use Rattle.ngc_fault_texts.specs.Numbers.{fault_numbers}
 use Rattle.ngc_fault_texts.specs.declared.telling.ExplainFault.{ExplainFault}
 use Rattle.ngc_fault_texts.specs.declared.telling.ExplainFault.TheVariants.{Unknown, Write}
@@ -32,19 +32,19 @@ column_line (Some column) (Some place) =
 column_line column place = []
 
 -- the part of a row before the fix, in the part of the page that contains the row
-abbrev pub beginning_of : Part → Row → List ℕ
-beginning_of part row =
+abbrev pub explanation_prefix : Part → Row → List ℕ
+explanation_prefix part row =
     joined (codes "Fault " ∷ decimal row.number ∷ codes " (" ∷ part.title.now ∷ codes ")\n\n"
     ∷ row.rule.now ∷ codes "\n\nExample: " ∷ row.example.now ∷ codes "\nMessage: " ∷ row.answer.now
     ∷ codes "\n" ∷ [])
 
 -- the part of a row after the column line: how to fix it
-abbrev pub mend_of : Row → List ℕ
-mend_of row = joined (codes "\n" ∷ row.mend.now ∷ codes "\n\n" ∷ [])
+abbrev pub fix_of : Row → List ℕ
+fix_of row = joined (codes "\n" ∷ row.mend.now ∷ codes "\n\n" ∷ [])
 
 -- a row
 abbrev pub row_text : Part → Row → List ℕ
-row_text part row = beginning_of part row ++ (column_line part.column row.place ++ mend_of row)
+row_text part row = explanation_prefix part row ++ (column_line part.column row.place ++ fix_of row)
 
 -- the rows of a part that have the number
 abbrev pub told_in : ℕ → Part → List Row → List ℕ
@@ -71,7 +71,7 @@ Explains Holds number = (text : List ℕ) × IsExplanation number text × Holds 
 abbrev pub Tells : ℕ → Option (List ℕ) → Option (List ℕ) → Result (Unit {0}) ExplainFault → Type 0
 Tells number old new (Ok u) = Explains (Appends old new) number
 Tells number old new (Err Unknown) = new ≡ old
-Tells number old new (Err (Write fault)) = Explains (AppendsBeginning old new) number
+Tells number old new (Err (Write fault)) = Explains (AppendsPrefix old new) number
 
 -- the table of numbers
 abbrev pub explain_fault_number : ExplainFault → ℕ

@@ -2,10 +2,10 @@ ghost use Rattle.std.specs.Prelude.{◌≡◌, ◌==◌, ◌↔◌, OnErr, OnOk,
 ghost use Rattle.std.specs.List.{list_any};
 ghost use Rattle.std.specs.Io.KnownBytes.{Appends};
 ghost use Rattle.ngc_text.specs.Failures.{CountsFailure};
-ghost use Rattle.ngc_text.specs.Written.{AppendsBeginning};
+ghost use Rattle.ngc_text.specs.Written.{AppendsPrefix};
 ghost use Rattle.ngc_fault_texts.specs.Numbers.{is_fault};
 ghost use Rattle.ngc_fault_texts.specs.Told.{FailsByWriting, Tells, all_of, column_line};
-ghost use Rattle.ngc_fault_texts.specs.Told.{beginning_of, explain_fault_number, mend_of, row_text};
+ghost use Rattle.ngc_fault_texts.specs.Told.{explanation_prefix, explain_fault_number, fix_of, row_text};
 ghost use Rattle.ngc_fault_texts.specs.Told.{told, told_in};
 
 use crate::parts::{Part, Row, page};
@@ -41,7 +41,7 @@ fn write_texts<W: Sink>(texts: &[&[u8]], output: &mut W) -> Result<(), WriteFaul
     ensures ok { OnOk result
         (Appends (W.written output.old) (W.written output.new) (all_of texts.now)) }
     ensures fault { OnErr result
-        (AppendsBeginning (W.written output.old) (W.written output.new) (all_of texts.now)) }
+        (AppendsPrefix (W.written output.old) (W.written output.new) (all_of texts.now)) }
     ensures counts { CountsFailure (W.failures output.old) (W.failures output.new) result }
 {
     for text in texts {
@@ -59,7 +59,7 @@ fn write_column<W: Sink>(part: &Part, row: &Row, output: &mut W) -> Result<(), W
         (Appends (W.written output.old) (W.written output.new)
         (column_line part.now.column row.now.place)) }
     ensures fault { OnErr result
-        (AppendsBeginning (W.written output.old) (W.written output.new)
+        (AppendsPrefix (W.written output.old) (W.written output.new)
         (column_line part.now.column row.now.place)) }
     ensures counts { CountsFailure (W.failures output.old) (W.failures output.new) result }
 {
@@ -71,12 +71,12 @@ fn write_column<W: Sink>(part: &Part, row: &Row, output: &mut W) -> Result<(), W
     }
 }
 
-fn write_beginning<W: Sink>(part: &Part, row: &Row, output: &mut W) -> Result<(), WriteFault>
+fn write_start<W: Sink>(part: &Part, row: &Row, output: &mut W) -> Result<(), WriteFault>
     ensures ok { OnOk result
-        (Appends (W.written output.old) (W.written output.new) (beginning_of part.now row.now)) }
+        (Appends (W.written output.old) (W.written output.new) (explanation_prefix part.now row.now)) }
     ensures fault { OnErr result
-        (AppendsBeginning (W.written output.old) (W.written output.new)
-        (beginning_of part.now row.now)) }
+        (AppendsPrefix (W.written output.old) (W.written output.new)
+        (explanation_prefix part.now row.now)) }
     ensures counts { CountsFailure (W.failures output.old) (W.failures output.new) result }
 {
     let mut buffer = Buffer::new();
@@ -96,11 +96,11 @@ fn write_beginning<W: Sink>(part: &Part, row: &Row, output: &mut W) -> Result<()
     write_texts(&texts, output)
 }
 
-fn write_mend<W: Sink>(row: &Row, output: &mut W) -> Result<(), WriteFault>
+fn write_fix<W: Sink>(row: &Row, output: &mut W) -> Result<(), WriteFault>
     ensures ok { OnOk result
-        (Appends (W.written output.old) (W.written output.new) (mend_of row.now)) }
+        (Appends (W.written output.old) (W.written output.new) (fix_of row.now)) }
     ensures fault { OnErr result
-        (AppendsBeginning (W.written output.old) (W.written output.new) (mend_of row.now)) }
+        (AppendsPrefix (W.written output.old) (W.written output.new) (fix_of row.now)) }
     ensures counts { CountsFailure (W.failures output.old) (W.failures output.new) result }
 {
     write_texts(&[b"\n", row.mend.as_bytes(), b"\n\n"], output)
@@ -110,11 +110,11 @@ fn write_row<W: Sink>(part: &Part, row: &Row, output: &mut W) -> Result<(), Writ
     ensures ok { OnOk result
         (Appends (W.written output.old) (W.written output.new) (row_text part.now row.now)) }
     ensures fault { OnErr result
-        (AppendsBeginning (W.written output.old) (W.written output.new)
+        (AppendsPrefix (W.written output.old) (W.written output.new)
         (row_text part.now row.now)) }
     ensures counts { CountsFailure (W.failures output.old) (W.failures output.new) result }
 {
-    match write_beginning(part, row, output) {
+    match write_start(part, row, output) {
         Ok(()) => {}
         Err(fault) => return Err(fault),
     }
@@ -122,7 +122,7 @@ fn write_row<W: Sink>(part: &Part, row: &Row, output: &mut W) -> Result<(), Writ
         Ok(()) => {}
         Err(fault) => return Err(fault),
     }
-    write_mend(row, output)
+    write_fix(row, output)
 }
 
 // Writes the rows of a part that have the number.
@@ -131,7 +131,7 @@ fn write_part<W: Sink>(part: &Part, number: u16, output: &mut W) -> Result<(), W
         (Appends (W.written output.old) (W.written output.new)
         (told_in number part.now part.now.rows.now)) }
     ensures fault { OnErr result
-        (AppendsBeginning (W.written output.old) (W.written output.new)
+        (AppendsPrefix (W.written output.old) (W.written output.new)
         (told_in number part.now part.now.rows.now)) }
     ensures counts { CountsFailure (W.failures output.old) (W.failures output.new) result }
 {
@@ -150,7 +150,7 @@ fn write_parts<W: Sink>(parts: &[Part], number: u16, output: &mut W) -> Result<(
     ensures ok { OnOk result
         (Appends (W.written output.old) (W.written output.new) (told number parts.now)) }
     ensures fault { OnErr result
-        (AppendsBeginning (W.written output.old) (W.written output.new) (told number parts.now)) }
+        (AppendsPrefix (W.written output.old) (W.written output.new) (told number parts.now)) }
     ensures counts { CountsFailure (W.failures output.old) (W.failures output.new) result }
 {
     for part in parts {

@@ -1,8 +1,8 @@
 -- A frame is the same as itself.
-pub mod Same
+pub mod SameFrame
 -- From line to line of a program.
-pub mod Steps
+pub mod LineSteps
 -- Converting between the program's coordinates and the machine's.
 pub mod Points
 -- Texts that are collected in order, from each of them.
-pub mod Collected
+pub mod CollectedTexts

@@ -33,8 +33,8 @@ line_text line = codes " of line " ++ decimal line
 unfoldable pub line_if_set : ℕ → List ℕ
 line_if_set line = if line == 0 then [] else line_text line
 
--- an origin that no line set is that of `--origin` where one is given, and that of the machine file
--- otherwise
+-- an origin that no line set is that of `--origin` where the command line has one, and that of
+-- the machine file otherwise
 abbrev pub origin_at_start : Bool → List ℕ
 origin_at_start given = if given then codes " of --origin" else codes " of the machine file"
 

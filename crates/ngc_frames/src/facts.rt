@@ -3,7 +3,7 @@ ghost use Rattle.std.specs.Prelude.{◌≡◌, ◌+◌, ◌≤◌, ◌++◌, len
 ghost use Rattle.std.specs.Fmt.{signed_decimal};
 ghost use Rattle.ngc_certificate_text.specs.Collects.{Collects};
 ghost use Rattle.ngc_collision.specs.Inside.{place_of};
-ghost use Rattle.ngc_text.specs.Collected.{CHUNK_SIZE, HasLineRoom};
+ghost use Rattle.ngc_text.specs.Collected.{CHUNK_SIZE, HasSpaceForLine};
 ghost use Rattle.ngc_text.specs.Failures.{CountsFailure};
 ghost use Rattle.ngc_frames.specs.Facts.{axis_offset_fact, ends_fact, line_fact, motion_fact};
 ghost use Rattle.ngc_frames.specs.Facts.{offsets_fact, origin_fact, system_fact, tool_length_fact};
@@ -118,7 +118,7 @@ fn add_unit(chunk: &mut Chunk, frame: &FrameInForce)
 
 #[tactic(auto, unfolding(crate::specs::Facts::ends_fact))]
 fn add_ends(chunk: &mut Chunk, from: &Place, to: &Place)
-    requires { HasLineRoom chunk.old }
+    requires { HasSpaceForLine chunk.old }
     ensures { chunk.new ≡ chunk.old ++ ends_fact (place_of from.now) (place_of to.now) }
 {
     chunk.add_text(b",\"from\":");
@@ -130,7 +130,7 @@ fn add_ends(chunk: &mut Chunk, from: &Place, to: &Place)
 
 #[tactic(auto, unfolding(crate::specs::Facts::zero_fact))]
 fn add_zero(chunk: &mut Chunk, frame: &FrameInForce)
-    requires { HasLineRoom chunk.old }
+    requires { HasSpaceForLine chunk.old }
     ensures { chunk.new ≡ chunk.old ++ zero_fact frame.now }
 {
     add_system(chunk, frame);
@@ -139,7 +139,7 @@ fn add_zero(chunk: &mut Chunk, frame: &FrameInForce)
 
 #[tactic(auto, unfolding(crate::specs::Facts::offsets_fact))]
 fn add_offsets(chunk: &mut Chunk, frame: &FrameInForce)
-    requires { HasLineRoom chunk.old }
+    requires { HasSpaceForLine chunk.old }
     ensures { chunk.new ≡ chunk.old ++ offsets_fact frame.now }
 {
     add_axis_offset(chunk, frame);
@@ -162,15 +162,15 @@ pub fn collect_motion_fact<W: Sink>(
         (motion_fact frame.now (place_of from.now) (place_of to.now)) }
     ensures counts { CountsFailure (W.failures sink.old) (W.failures sink.new) result }
 {
-    match chunk.make_room(sink) {
+    match chunk.make_space(sink) {
         Ok(()) => add_zero(chunk, frame),
         Err(fault) => return Err(fault),
     }
-    match chunk.make_room(sink) {
+    match chunk.make_space(sink) {
         Ok(()) => add_offsets(chunk, frame),
         Err(fault) => return Err(fault),
     }
-    match chunk.make_room(sink) {
+    match chunk.make_space(sink) {
         Ok(()) => add_ends(chunk, from, to),
         Err(fault) => return Err(fault),
     }

@@ -1,7 +1,7 @@
 //! The frame at the start of a program, and each change of it.
 ghost use Rattle.std.specs.Prelude.{◌≡◌, ◌≤◌, ◌++◌, List, length, IfOk, OnOk};
 ghost use Rattle.ngc_canonical.specs.Interpreter.{setup_of, state_of};
-ghost use Rattle.ngc_canonical.specs.Meaning.{GivesMeaning, meaning, program_said, with_readings};
+ghost use Rattle.ngc_canonical.specs.Meaning.{MeaningIs, meaning, parsed_program, with_readings};
 ghost use Rattle.ngc_commands.specs.Movement.{actions_of, ways_of, AreJoined};
 ghost use Rattle.ngc_commands.specs.Sequence.{HaveEvenRadii, EndIsLast, HasEnd};
 ghost use Rattle.ngc_machine_files.specs.Machine.{file_of};
@@ -71,8 +71,8 @@ pub fn interpret_with_frames<A: Allocator + Copy>(
 ) -> Result<FramedCommands<A>, ProgramFault>
     // For all readings of the lines. Each line has exactly one.
     ensures commands { (rs : List Reading) → AreReadings (text_in program.now).lines rs →
-        GivesMeaning (λ f. f.commands.items) result
-        (meaning (program_said (text_in program.now) rs)
+        MeaningIs (λ f. f.commands.items) result
+        (meaning (parsed_program (text_in program.now) rs)
         (setup_of machine.now tools.now) block_delete) }
     ensures joined { IfOk result
         (λ f. AreJoined (file_of machine.now).start (ways_of (actions_of f.commands.items))) }

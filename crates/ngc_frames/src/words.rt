@@ -2,7 +2,7 @@
 ghost use Rattle.std.specs.Prelude.{◌≡◌, ◌+◌, ◌≤◌, ◌++◌, codes, length};
 ghost use Rattle.ngc_certificate_text.specs.Collects.{Collects};
 ghost use Rattle.ngc_collision.specs.Inside.{place_of};
-ghost use Rattle.ngc_text.specs.Collected.{CHUNK_SIZE, HasLineRoom};
+ghost use Rattle.ngc_text.specs.Collected.{CHUNK_SIZE, HasSpaceForLine};
 ghost use Rattle.ngc_text.specs.Failures.{CountsFailure};
 ghost use Rattle.ngc_text.specs.Millimetres.{mm_text};
 ghost use Rattle.ngc_frames.specs.Words.{axis_offset_words, ends_words, goes_words};
@@ -192,7 +192,7 @@ fn add_unit(chunk: &mut Chunk, line: u32, unit: Units)
 
 #[tactic(auto, unfolding(crate::specs::Words::goes_words))]
 fn add_goes(chunk: &mut Chunk, frame: &FrameInForce, from: &Place, to: &Place)
-    requires { HasLineRoom chunk.old }
+    requires { HasSpaceForLine chunk.old }
     ensures { chunk.new ≡ chunk.old
         ++ goes_words frame.now (place_of from.now) (place_of to.now) }
 {
@@ -202,7 +202,7 @@ fn add_goes(chunk: &mut Chunk, frame: &FrameInForce, from: &Place, to: &Place)
 
 #[tactic(auto, unfolding(crate::specs::Words::zero_words))]
 fn add_zero(chunk: &mut Chunk, given: bool, frame: &FrameInForce)
-    requires { HasLineRoom chunk.old }
+    requires { HasSpaceForLine chunk.old }
     ensures { chunk.new ≡ chunk.old ++ zero_words given frame.now }
 {
     add_origin(chunk, given, frame);
@@ -211,7 +211,7 @@ fn add_zero(chunk: &mut Chunk, given: bool, frame: &FrameInForce)
 
 #[tactic(auto, unfolding(crate::specs::Words::lengths_words))]
 fn add_lengths(chunk: &mut Chunk, frame: &FrameInForce)
-    requires { HasLineRoom chunk.old }
+    requires { HasSpaceForLine chunk.old }
     ensures { chunk.new ≡ chunk.old ++ lengths_words frame.now }
 {
     add_tool_length(chunk, frame);
@@ -236,15 +236,15 @@ pub fn collect_motion_words<W: Sink>(
         (motion_words given frame.now (place_of from.now) (place_of to.now)) }
     ensures counts { CountsFailure (W.failures sink.old) (W.failures sink.new) result }
 {
-    match chunk.make_room(sink) {
+    match chunk.make_space(sink) {
         Ok(()) => add_goes(chunk, frame, from, to),
         Err(fault) => return Err(fault),
     }
-    match chunk.make_room(sink) {
+    match chunk.make_space(sink) {
         Ok(()) => add_zero(chunk, given, frame),
         Err(fault) => return Err(fault),
     }
-    match chunk.make_room(sink) {
+    match chunk.make_space(sink) {
         Ok(()) => add_lengths(chunk, frame),
         Err(fault) => return Err(fault),
     }

@@ -7,9 +7,9 @@ use Rattle.ngc_machine_files.specs.MachineText.{machine_file}
 use Rattle.ngc_machine_files.specs.ToolText.{tool_table}
 use Rattle.ngc_machine_files.specs.declared.fault.FileFault.{FileFault}
 use Rattle.ngc_machine_files.specs.declared.tools.Tool.{Tool}
-use Rattle.ngc_inputs.specs.Setups.{FileBytes, IfSaid, KeepsFiles, IfMachine, IfTools, OnSetup, AreSetup, Refuses}
+use Rattle.ngc_inputs.specs.Setups.{FileBytes, IfParsed, KeepsFiles, IfMachine, IfTools, OnSetup, AreSetup, Refuses}
 use Rattle.ngc_inputs.specs.Setups.{OnPlaced}
-use Rattle.ngc_inputs.specs.Shops.{GivesPlaced, GivesShop, IsPlaced, RefusesMachine, RefusesShop, RefusesTools}
+use Rattle.ngc_inputs.specs.Shops.{PlacedResultIs, ShopResultIs, IsPlaced, RefusesMachine, RefusesShop, RefusesTools}
 use Rattle.ngc_inputs.specs.declared.setup.Shop.{Shop}
 use Rattle.ngc_machine_files.specs.Machine.{file_of}
 use Rattle.ngc_machine_files.specs.Tools.{tools_of}
@@ -27,7 +27,7 @@ carried (Some bytes) items slice P same read p = subst P (same ∙ read) p
 -- what holds of it holds where more holds
 pub said_weaker : {T : Type 0} (read : List ℕ → Result T FileFault) (builtin : T) (bytes : FileBytes) (name : Option (List ℕ))
     (P Q : Result T FileFault → Type 0)
-    → ((says : Result T FileFault) → P says → Q says) → IfSaid read builtin bytes name P → IfSaid read builtin bytes name Q
+    → ((says : Result T FileFault) → P says → Q says) → IfParsed read builtin bytes name P → IfParsed read builtin bytes name Q
 said_weaker read builtin bytes None P Q on p = on (Ok builtin) p
 said_weaker read builtin bytes (Some name) P Q on p = some_weaker (bytes (Some name)) p where
   some_weaker : (known : Option (List ℕ)) → IfSome known (λ text. P (read text)) → IfSome known (λ text. Q (read text))
@@ -37,7 +37,7 @@ said_weaker read builtin bytes (Some name) P Q on p = some_weaker (bytes (Some n
 -- files that were kept have the same contents
 pub said_before : {T : Type 0} (read : List ℕ → Result T FileFault) (builtin : T) (old new : FileBytes) (name : Option (List ℕ))
     (P : Result T FileFault → Type 0)
-    → KeepsFiles old new → IfSaid read builtin new name P → IfSaid read builtin old name P
+    → KeepsFiles old new → IfParsed read builtin new name P → IfParsed read builtin old name P
 said_before read builtin old new None P keeps p = p
 said_before read builtin old new (Some name) P keeps p = subst (λ (known : Option (List ℕ)). IfSome known (λ text. P (read text))) (keeps (Some name)) p
 
@@ -45,19 +45,19 @@ said_before read builtin old new (Some name) P keeps p = subst (λ (known : Opti
 pub on_setup : (bytes : FileBytes) (machine tools : Option (List ℕ)) (setup : Setup) (P : Setup → Type 0)
     → IfMachine bytes machine (λ says. says ≡ Ok setup.machine) → IfTools bytes tools (λ says. says ≡ Ok setup.tools) → P setup
     → OnSetup bytes machine tools P
-on_setup bytes machine tools setup P machine_said tools_said p =
+on_setup bytes machine tools setup P parsed_machine parsed_tools p =
     said_weaker machine_file built_in_machine bytes machine (λ says. says ≡ Ok setup.machine)
     (λ m. IfTools bytes tools (λ t. (s : Setup) × AreSetup m t s × P s))
     (λ m said_m.
     said_weaker tool_table [] bytes tools (λ says. says ≡ Ok setup.tools) (λ t. (s : Setup) × AreSetup m t s × P s)
-    (λ t said_t. (setup, record { machine_said = said_m; tools_said = said_t }, p)) tools_said)
-    machine_said
+    (λ t said_t. (setup, record { parsed_machine = said_m; parsed_tools = said_t }, p)) parsed_tools)
+    parsed_machine
 
 -- and with other origins, for the contents of the two files and these origins
 pub on_placed : (bytes : FileBytes) (machine tools : Option (List ℕ)) (origins : OriginList) (setup : Setup) (P : Setup → Type 0)
     → IfMachine bytes machine (IsPlaced origins setup.machine) → IfTools bytes tools (λ says. says ≡ Ok setup.tools) → P setup
     → OnPlaced bytes machine tools origins P
-on_placed bytes machine tools origins setup P machine_said tools_said p =
+on_placed bytes machine tools origins setup P parsed_machine parsed_tools p =
     said_weaker machine_file built_in_machine bytes machine (IsPlaced origins setup.machine)
     (λ m. IfTools bytes tools (λ t. (s : Setup) × AreSetup m t s × P (record s { machine = placed origins s.machine })))
     (λ m said_m.
@@ -65,15 +65,15 @@ on_placed bytes machine tools origins setup P machine_said tools_said p =
     (λ t. (s : Setup) × AreSetup m t s × P (record s { machine = placed origins s.machine }))
     (λ t said_t. (
       record { machine = said_m.0; tools = setup.tools },
-      record { machine_said = said_m.1; tools_said = said_t },
+      record { parsed_machine = said_m.1; parsed_tools = said_t },
       subst (λ (m : MachineFile). P (record { machine = m; tools = setup.tools })) said_m.2 p,
-    )) tools_said)
-    machine_said
+    )) parsed_tools)
+    parsed_machine
 
 -- a machine and its tools that were read, with these origins
 pub shop_placed : (bytes : FileBytes) (machine tools : Option (List ℕ)) (origins : OriginList) (shop placed_shop : Shop)
-    → GivesShop bytes machine tools (Ok shop) → file_of placed_shop.machine ≡ placed origins (file_of shop.machine)
-    → tools_of placed_shop.tools ≡ tools_of shop.tools → GivesPlaced bytes machine tools origins (Ok placed_shop)
+    → ShopResultIs bytes machine tools (Ok shop) → file_of placed_shop.machine ≡ placed origins (file_of shop.machine)
+    → tools_of placed_shop.tools ≡ tools_of shop.tools → PlacedResultIs bytes machine tools origins (Ok placed_shop)
 shop_placed bytes machine tools origins shop placed_shop said placed_machine same_tools = (
   said_weaker machine_file built_in_machine bytes machine (λ says. says ≡ Ok (file_of shop.machine)) (IsPlaced origins (file_of placed_shop.machine))
       (λ says is. (file_of shop.machine, is, placed_machine)) said.0,

@@ -12,11 +12,11 @@ use Rattle.ngc_machine_files.specs.Machine.{MachineFile, file_of}
 use Rattle.ngc_machine_files.specs.MachineText.{machine_file}
 use Rattle.ngc_machine_files.specs.ToolText.{tool_table}
 use Rattle.ngc_inputs.specs.Setups.{FileBytes, IfMachine, KeepsFiles}
-use Rattle.ngc_inputs.specs.Shops.{GivesPlaced, GivesShop, IsPlaced}
+use Rattle.ngc_inputs.specs.Shops.{PlacedResultIs, ShopResultIs, IsPlaced}
 use Rattle.ngc_origins.specs.Texts.{OriginList}
 use Rattle.ngc_inputs.specs.Faults.{OfCertifying, OfChecking, OfDrawing, OfListing, OfLiving, OfRunning}
 use Rattle.ngc_inputs.specs.Unread.{Kind, OfMachine, OfTools, OfProgram, OfCertificate, OfEvents, OfSource, IsReadAs, Input, setup_input, shop_inputs, AtFirst}
-use Rattle.ngc_inputs.specs.Unread.{TellsKindUnread, TellsFirstUnread, FailsBy, FailsByInput, program_unread, certificate_unread, unread_by}
+use Rattle.ngc_inputs.specs.Unread.{ReportsKindUnread, ReportsFirstUnread, FailsBy, FailsByInput, program_unread, certificate_unread, unread_by}
 use Rattle.ngc_inputs.specs.declared.fault.AnswerFault.{AnswerFault}
 use Rattle.ngc_inputs.specs.declared.fault.AnswerFault.TheVariants as answers
 use Rattle.ngc_inputs.specs.declared.setup.Shop.{Shop}
@@ -30,7 +30,7 @@ AllRead bytes (input ∷ more) = IfSome (bytes input.name) (IsReadAs input.kind)
 
 -- the report on one file alone, or on the only one of some
 abbrev pub Told : (Option (List ℕ) → Type 0) → FileBytes → List Input → ℕ → ℕ → Option InputFault → Type 0
-Told fails bytes files old new why = MatchOption why (new ≡ old) (TellsFirstUnread fails bytes files old new)
+Told fails bytes files old new why = MatchOption why (new ≡ old) (ReportsFirstUnread fails bytes files old new)
 
 pub unread_told : {T : Type 0} (fails : Option (List ℕ) → Type 0) (bytes : FileBytes) (files : List Input) (old new : ℕ) (r : Result T AnswerFault)
     (e : AnswerFault)
@@ -52,10 +52,10 @@ all_read bytes [] more all all_more = all_more
 all_read bytes (input ∷ files) more (read, all) all_more = (read, all_read bytes files more all all_more)
 
 -- further files follow
-pub told_before : (fails : Option (List ℕ) → Type 0) (bytes : FileBytes) (files more : List Input) (old new : ℕ) (why : Option InputFault)
+pub reported_before : (fails : Option (List ℕ) → Type 0) (bytes : FileBytes) (files more : List Input) (old new : ℕ) (why : Option InputFault)
     → Told fails bytes files old new why → Told fails bytes (files ++ more) old new why
-told_before fails bytes files more old new None told = told
-told_before fails bytes files more old new (Some fault) told = first_before (λ kind known. TellsKindUnread fails kind known old new fault) bytes files more told
+reported_before fails bytes files more old new None told = told
+reported_before fails bytes files more old new (Some fault) told = first_before (λ kind known. ReportsKindUnread fails kind known old new fault) bytes files more told
 
 -- a file by itself, after files that were read and before others
 pub told_behind : (fails : Option (List ℕ) → Type 0) (bytes after : FileBytes) (files : List Input) (kind : Kind) (name : Option (List ℕ)) (more : List Input)
@@ -65,9 +65,9 @@ pub told_behind : (fails : Option (List ℕ) → Type 0) (bytes after : FileByte
     Told fails bytes (files ++ record { kind = kind; name = name } ∷ more) old new why
 told_behind fails bytes after files kind name more old mid new None all same_bytes same told = told ∙ same
 told_behind fails bytes after files kind name more old mid new (Some fault) all same_bytes same (inl tells) =
-    first_behind (λ k known. TellsKindUnread fails k known old new fault) bytes files (record { kind = kind; name = name } ∷ more) all
-    (inl (subst (λ n. TellsKindUnread fails kind (bytes name) n new fault) same
-    (subst (λ (known : Option (List ℕ)). TellsKindUnread fails kind known mid new fault) same_bytes tells)))
+    first_behind (λ k known. ReportsKindUnread fails k known old new fault) bytes files (record { kind = kind; name = name } ∷ more) all
+    (inl (subst (λ n. ReportsKindUnread fails kind (bytes name) n new fault) same
+    (subst (λ (known : Option (List ℕ)). ReportsKindUnread fails kind known mid new fault) same_bytes tells)))
 told_behind fails bytes after files kind name more old mid new (Some fault) all same_bytes same (inr (read, none)) = absurd none
 
 -- a file that couldn't be opened, after files that were read and before others
@@ -79,7 +79,7 @@ unopened fails bytes files kind name more old mid new e is all same rises =
     subst (λ (f : InputFault). Told fails bytes (files ++ record { kind = kind; name = name } ∷ more) old new (Some f)) (sym is)
     (told_behind fails bytes bytes files kind name more old mid new (Some inputs.Device) all refl same (inl (by_kind kind)))
   where
-    by_kind : (kind : Kind) → TellsKindUnread fails kind (bytes name) mid new inputs.Device
+    by_kind : (kind : Kind) → ReportsKindUnread fails kind (bytes name) mid new inputs.Device
     by_kind OfMachine = inl rises
     by_kind OfTools = inl rises
     by_kind OfProgram = inl rises
@@ -99,7 +99,7 @@ is_read read value known source same said =
     if_known known (λ text. read text ≡ Ok value) (λ text. IsOk (read text)) (λ text is. is_ok_of (read text) value is)
     (subst (λ (k : Option (List ℕ)). IfSome k (λ text. read text ≡ Ok value)) same said)
 
-pub shop_read : (bytes : FileBytes) (machine tools : Option (List ℕ)) (shop : Shop) → GivesShop bytes machine tools (Ok shop) →
+pub shop_read : (bytes : FileBytes) (machine tools : Option (List ℕ)) (shop : Shop) → ShopResultIs bytes machine tools (Ok shop) →
     AllRead bytes (shop_inputs machine tools)
 shop_read bytes None None shop said = tt
 shop_read bytes None (Some t) shop said = (is_read tool_table _ (bytes (Some t)) (bytes (Some t)) refl said.1, tt)
@@ -108,7 +108,7 @@ shop_read bytes (Some m) (Some t) shop said =
     (is_read machine_file _ (bytes (Some m)) (bytes (Some m)) refl said.0, (is_read tool_table _ (bytes (Some t)) (bytes (Some t)) refl said.1, tt))
 
 -- the same of a machine with other origins
-pub placed_read : (bytes : FileBytes) (machine tools : Option (List ℕ)) (origins : OriginList) (shop : Shop) → GivesPlaced bytes machine tools origins (Ok shop)
+pub placed_read : (bytes : FileBytes) (machine tools : Option (List ℕ)) (origins : OriginList) (shop : Shop) → PlacedResultIs bytes machine tools origins (Ok shop)
     → AllRead bytes (shop_inputs machine tools)
 placed_read bytes machine tools origins shop said = both machine tools said
   where
@@ -117,7 +117,7 @@ placed_read bytes machine tools origins shop said = both machine tools said
     of_machine None said = tt
     of_machine (Some text) said = subst IsOk (sym said.1) refl
 
-    both : (machine tools : Option (List ℕ)) → GivesPlaced bytes machine tools origins (Ok shop) → AllRead bytes (shop_inputs machine tools)
+    both : (machine tools : Option (List ℕ)) → PlacedResultIs bytes machine tools origins (Ok shop) → AllRead bytes (shop_inputs machine tools)
     both None None said = tt
     both None (Some t) said = (is_read tool_table _ (bytes (Some t)) (bytes (Some t)) refl said.1, tt)
     both (Some m) None said = (of_machine (bytes (Some m)) said.0, tt)
@@ -252,4 +252,4 @@ pub nothing_read : {T : Type 0} (fails : Option (List ℕ) → Type 0) (bytes : 
     → IfErr outcome (λ fault. unread_by fault ≡ None) → FailsByInput fails bytes files count count outcome
 nothing_read fails bytes files count (Ok value) is = refl
 nothing_read fails bytes files count (Err fault) is =
-    subst (λ (why : Option InputFault). MatchOption why (count ≡ count) (TellsFirstUnread fails bytes files count count)) (sym is) refl
+    subst (λ (why : Option InputFault). MatchOption why (count ≡ count) (ReportsFirstUnread fails bytes files count count)) (sym is) refl

@@ -1,7 +1,7 @@
 -- The results of certifying and checking a program. Our own.
 use Rattle.std.specs.Prelude.{◌≡◌, ℕ, List, Option, None, Result, Ok, Err, codes, true, false}
 use Rattle.std.specs.Io.KnownBytes.{Appends, Keeps}
-use Rattle.ngc_text.specs.Written.{AppendsBeginning}
+use Rattle.ngc_text.specs.Written.{AppendsPrefix}
 use Rattle.ngc_line_reader.specs.Grammar.{Reading}
 use Rattle.ngc_line_reader.specs.ProgramText.{ProgramText, program_of, AreReadings}
 use Rattle.ngc_line_reader.specs.ProgramView.{FaultIs}
@@ -9,13 +9,13 @@ use Rattle.ngc_commands.specs.declared.command.Command.{Command}
 use Rattle.ngc_canonical.specs.declared.fault.ProgramFault.{ProgramFault}
 use Rattle.ngc_canonical.specs.declared.fault.ProgramFault.TheVariants as programs
 use Rattle.ngc_canonical.specs.State.{Setup}
-use Rattle.ngc_canonical.specs.Meaning.{Program as ProgramLines, meaning, program_said}
+use Rattle.ngc_canonical.specs.Meaning.{Program as ProgramLines, meaning, parsed_program}
 use Rattle.ngc_certificate_text.specs.declared.piece.Setting.{Setting}
 use Rattle.ngc_certificate_text.specs.declared.piece.Setting.TheVariants.{Off, On}
 use Rattle.ngc_certificate_text.specs.declared.fault.CertificateFault.{CertificateFault}
 use Rattle.ngc_certificate_text.specs.declared.fault.CertificateFault.TheVariants as texts
 use Rattle.ngc_certificate_text.specs.Certificate.{CertificateData}
-use Rattle.ngc_certificate_text.specs.Said.{certificate_said}
+use Rattle.ngc_certificate_text.specs.Said.{parsed_certificate}
 use Rattle.ngc_certificate_text.specs.Joined.{Form, Parted}
 use Rattle.ngc_certificate_text.specs.Spelling.{spelling}
 use Rattle.ngc_command_line.specs.declared.options.Format.{Format}
@@ -37,7 +37,7 @@ pub record IsProgram (bytes : List ℕ) (program : ProgramLines) : Type 0 where
   pub is_text : program_of bytes ≡ Ok text
   pub readings : List Reading
   pub are_readings : AreReadings text.lines readings
-  pub is_said : program ≡ program_said text readings
+  pub is_parsed : program ≡ parsed_program text readings
 
 -- a file's program has these commands at the two settings of block delete
 pub record AreMeanings (setup : Setup) (bytes : List ℕ) (off on : List Command) : Type 0 where
@@ -127,31 +127,31 @@ Certifies setup bytes cuts format old new (Err (answers.Refused setting fault)) 
 Certifies setup bytes cuts format old new (Err (answers.Make fault)) =
     WhyNotMade setup bytes cuts (answers.Make fault) × Keeps old new
 Certifies setup bytes cuts format old new (Err (answers.Write fault)) =
-    (f : Form) × IsCertificateFor setup bytes cuts format f × AppendsBeginning old new (spelling f)
+    (f : Form) × IsCertificateFor setup bytes cuts format f × AppendsPrefix old new (spelling f)
 Certifies setup bytes cuts format old new (Err _) = ⊥
 
 -- ---- checking
 
 -- the program of one file, and the certificate of another
-pub record AreGiven (bytes text : List ℕ) (program : ProgramLines) (c : CertificateData) :
+pub record AreSent (bytes text : List ℕ) (program : ProgramLines) (c : CertificateData) :
     Type 0 where
   pub is_program : IsProgram bytes program
-  pub is_certificate : certificate_said text ≡ Ok c
+  pub is_certificate : parsed_certificate text ≡ Ok c
 
 -- nothing is refused of the two files
 pub record IsAcceptedText (setup : Setup) (bytes text : List ℕ) : Type 0 where
   pub program : ProgramLines
   pub certificate : CertificateData
-  pub given : AreGiven bytes text program certificate
+  pub given : AreSent bytes text program certificate
   pub none_refused : first_refusal program setup certificate ≡ None
 
 -- a text isn't a certificate, apart from lack of memory and a device's failure
 abbrev pub IsNoCertificate : List ℕ → CertificateFault → Type 0
 IsNoCertificate text texts.Memory = Unit {0}
 IsNoCertificate text texts.ReadFailed = Unit {0}
-IsNoCertificate text (texts.BadLine line) = certificate_said text ≡ Err (texts.BadLine line)
-IsNoCertificate text texts.WrongHeader = certificate_said text ≡ Err texts.WrongHeader
-IsNoCertificate text (texts.OutOfRange line) = certificate_said text ≡ Err (texts.OutOfRange line)
+IsNoCertificate text (texts.BadLine line) = parsed_certificate text ≡ Err (texts.BadLine line)
+IsNoCertificate text texts.WrongHeader = parsed_certificate text ≡ Err texts.WrongHeader
+IsNoCertificate text (texts.OutOfRange line) = parsed_certificate text ≡ Err (texts.OutOfRange line)
 
 -- the one word that is written where nothing is refused
 abbrev pub accepted_text : List ℕ
@@ -169,8 +169,8 @@ Checks setup bytes text old new (Err (answers.Read fault)) =
 Checks setup bytes text old new (Err (answers.Certificate fault)) =
     IsNoCertificate text fault × Keeps old new
 Checks setup bytes text old new (Err (answers.Check fault)) =
-    ((program : ProgramLines) × (c : CertificateData) × AreGiven bytes text program c ×
+    ((program : ProgramLines) × (c : CertificateData) × AreSent bytes text program c ×
     IsFirst fault (first_refusal program setup c)) × Keeps old new
 Checks setup bytes text old new (Err (answers.Write fault)) =
-    IsAcceptedText setup bytes text × AppendsBeginning old new accepted_text
+    IsAcceptedText setup bytes text × AppendsPrefix old new accepted_text
 Checks setup bytes text old new (Err _) = ⊥

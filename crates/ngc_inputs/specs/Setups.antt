@@ -15,10 +15,10 @@ abbrev pub FileBytes : Type 0
 FileBytes = Option (List ℕ) → Option (List ℕ)
 
 -- P of a named file's contents, where its bytes are known, or of the default if none is named
-abbrev pub IfSaid : {T : Type 0} → (List ℕ → Result T FileFault) → T → FileBytes → Option (List ℕ) →
+abbrev pub IfParsed : {T : Type 0} → (List ℕ → Result T FileFault) → T → FileBytes → Option (List ℕ) →
     (Result T FileFault → Type 0) → Type 0
-IfSaid read builtin bytes None P = P (Ok builtin)
-IfSaid read builtin bytes (Some name) P = IfSome (bytes (Some name)) (λ text. P (read text))
+IfParsed read builtin bytes None P = P (Ok builtin)
+IfParsed read builtin bytes (Some name) P = IfSome (bytes (Some name)) (λ text. P (read text))
 
 -- the bytes of every file are as they were, and of every file with a name
 abbrev pub KeepsFiles : FileBytes → FileBytes → Type 0
@@ -30,16 +30,16 @@ KeepsNamed old new = (name : List ℕ) → new (Some name) ≡ old (Some name)
 -- the machine and its tools in the two files
 pub record AreSetup (machine : Result MachineFile FileFault) (tools : Result (List Tool) FileFault)
     (setup : Setup) : Type 0 where
-  pub machine_said : machine ≡ Ok setup.machine
-  pub tools_said : tools ≡ Ok setup.tools
+  pub parsed_machine : machine ≡ Ok setup.machine
+  pub parsed_tools : tools ≡ Ok setup.tools
 
 -- P of the contents of the machine file and the tool table, or of the defaults if none is named
 abbrev pub IfMachine : FileBytes → Option (List ℕ) →
     (Result MachineFile FileFault → Type 0) → Type 0
-IfMachine bytes name P = IfSaid machine_file built_in_machine bytes name P
+IfMachine bytes name P = IfParsed machine_file built_in_machine bytes name P
 
 abbrev pub IfTools : FileBytes → Option (List ℕ) → (Result (List Tool) FileFault → Type 0) → Type 0
-IfTools bytes name P = IfSaid tool_table [] bytes name P
+IfTools bytes name P = IfParsed tool_table [] bytes name P
 
 -- P of the machine with its tools in two files
 abbrev pub OnSetup : FileBytes → Option (List ℕ) → Option (List ℕ) → (Setup → Type 0) → Type 0

@@ -28,12 +28,12 @@ RefusesShop bytes machine tools (answers.Tools e) =
     IfMachine bytes machine IsOk × RefusesTools bytes tools (answers.Tools e)
 RefusesShop bytes machine tools fault = RefusesMachine bytes machine fault
 
-abbrev pub GivesShop : FileBytes → Option (List ℕ) → Option (List ℕ) →
+abbrev pub ShopResultIs : FileBytes → Option (List ℕ) → Option (List ℕ) →
     Result Shop AnswerFault → Type 0
-GivesShop bytes machine tools (Ok shop) =
+ShopResultIs bytes machine tools (Ok shop) =
     IfMachine bytes machine (λ says. says ≡ Ok (file_of shop.machine)) ×
     IfTools bytes tools (λ says. says ≡ Ok (tools_of shop.tools))
-GivesShop bytes machine tools (Err fault) = RefusesShop bytes machine tools fault
+ShopResultIs bytes machine tools (Err fault) = RefusesShop bytes machine tools fault
 
 -- what is read is a machine, and with these origins it is this one
 abbrev pub IsPlaced : OriginList → MachineFile → Result MachineFile FileFault → Type 0
@@ -41,9 +41,9 @@ IsPlaced origins machine says =
     (m : MachineFile) × (says ≡ Ok m) × (machine ≡ placed origins m)
 
 -- the machine has these origins in place of its own
-abbrev pub GivesPlaced : FileBytes → Option (List ℕ) → Option (List ℕ) → OriginList →
+abbrev pub PlacedResultIs : FileBytes → Option (List ℕ) → Option (List ℕ) → OriginList →
     Result Shop AnswerFault → Type 0
-GivesPlaced bytes machine tools origins (Ok shop) =
+PlacedResultIs bytes machine tools origins (Ok shop) =
     IfMachine bytes machine (IsPlaced origins (file_of shop.machine)) ×
     IfTools bytes tools (λ says. says ≡ Ok (tools_of shop.tools))
-GivesPlaced bytes machine tools origins (Err fault) = RefusesShop bytes machine tools fault
+PlacedResultIs bytes machine tools origins (Err fault) = RefusesShop bytes machine tools fault

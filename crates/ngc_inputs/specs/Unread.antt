@@ -1,10 +1,10 @@
 -- Which file isn't read, and why. Our own.
 use Rattle.std.specs.Prelude.{◌≡◌, ◌<◌, ◌⊎◌, ℕ, List, [], ◌∷◌, ◌++◌, length, Option, Some, None}
 use Rattle.std.specs.Prelude.{MatchOption, Result, Ok, Err, IsOk, IfSome}
-use Rattle.ngc_certificate_text.specs.Said.{certificate_said}
+use Rattle.ngc_certificate_text.specs.Said.{parsed_certificate}
 use Rattle.ngc_certificate_text.specs.declared.fault.CertificateFault.{CertificateFault}
 use Rattle.ngc_certificate_text.specs.declared.fault.CertificateFault.TheVariants as texts
-use Rattle.ngc_events.specs.Events.{events_said}
+use Rattle.ngc_events.specs.Events.{parsed_events}
 use Rattle.ngc_text.specs.Failures.{Rises}
 use Rattle.ngc_text.specs.declared.input_fault.InputFault.{InputFault}
 use Rattle.ngc_text.specs.declared.input_fault.InputFault.TheVariants as inputs
@@ -34,8 +34,8 @@ abbrev pub IsReadAs : Kind → List ℕ → Type 0
 IsReadAs OfMachine text = IsOk (machine_file text)
 IsReadAs OfTools text = IsOk (tool_table text)
 IsReadAs OfProgram text = IsOk (program_of text)
-IsReadAs OfCertificate text = IsOk (certificate_said text)
-IsReadAs OfEvents text = IsOk (events_said text)
+IsReadAs OfCertificate text = IsOk (parsed_certificate text)
+IsReadAs OfEvents text = IsOk (parsed_events text)
 IsReadAs OfSource text = Unit {0}
 
 -- a file that a command reads: what it is read as, and its name, or standard input
@@ -73,24 +73,24 @@ abbrev pub IsUnread : (Option (List ℕ) → Type 0) → Option (List ℕ) → �
 IsUnread fails known old new = Rises old new ⊎ ((new ≡ old) × fails known)
 
 -- the consequences of the report that a file can't be read completely
-abbrev pub TellsUnread : (Option (List ℕ) → Type 0) → Option (List ℕ) → ℕ → ℕ → InputFault → Type 0
-TellsUnread fails known old new inputs.Memory = new ≡ old
-TellsUnread fails known old new inputs.Device = IsUnread fails known old new
-TellsUnread fails known old new inputs.TooLong =
+abbrev pub ReportsUnread : (Option (List ℕ) → Type 0) → Option (List ℕ) → ℕ → ℕ → InputFault → Type 0
+ReportsUnread fails known old new inputs.Memory = new ≡ old
+ReportsUnread fails known old new inputs.Device = IsUnread fails known old new
+ReportsUnread fails known old new inputs.TooLong =
     (new ≡ old) × IfSome known (λ bytes. FILE_LIMIT < length bytes)
 
 -- the same for a file that is read as this kind; a program and a certificate are never too long
-abbrev pub TellsKindUnread : (Option (List ℕ) → Type 0) → Kind → Option (List ℕ) → ℕ → ℕ →
+abbrev pub ReportsKindUnread : (Option (List ℕ) → Type 0) → Kind → Option (List ℕ) → ℕ → ℕ →
     InputFault → Type 0
-TellsKindUnread fails OfProgram known old new inputs.TooLong = ⊥
-TellsKindUnread fails OfCertificate known old new inputs.TooLong = ⊥
-TellsKindUnread fails kind known old new fault = TellsUnread fails known old new fault
+ReportsKindUnread fails OfProgram known old new inputs.TooLong = ⊥
+ReportsKindUnread fails OfCertificate known old new inputs.TooLong = ⊥
+ReportsKindUnread fails kind known old new fault = ReportsUnread fails known old new fault
 
 -- the first of these files that isn't read
-abbrev pub TellsFirstUnread : (Option (List ℕ) → Type 0) → FileBytes → List Input → ℕ → ℕ →
+abbrev pub ReportsFirstUnread : (Option (List ℕ) → Type 0) → FileBytes → List Input → ℕ → ℕ →
     InputFault → Type 0
-TellsFirstUnread fails bytes files old new fault =
-    AtFirst (λ kind known. TellsKindUnread fails kind known old new fault) bytes files
+ReportsFirstUnread fails bytes files old new fault =
+    AtFirst (λ kind known. ReportsKindUnread fails kind known old new fault) bytes files
 
 -- ---- faults and unread files: 901, and 900 where a file is read completely; any other fault means
 -- that all opened files were read
@@ -121,7 +121,7 @@ abbrev pub FailsBy : {T E : Type 0} → (E → Option InputFault) → (Option (L
     FileBytes → List Input → ℕ → ℕ → Result T E → Type 0
 FailsBy unread fails bytes files old new (Ok value) = new ≡ old
 FailsBy unread fails bytes files old new (Err fault) =
-    MatchOption (unread fault) (new ≡ old) (TellsFirstUnread fails bytes files old new)
+    MatchOption (unread fault) (new ≡ old) (ReportsFirstUnread fails bytes files old new)
 
 abbrev pub FailsByInput : {T : Type 0} → (Option (List ℕ) → Type 0) → FileBytes → List Input → ℕ →
     ℕ → Result T AnswerFault → Type 0

@@ -1,7 +1,7 @@
 //! The checker's verdict on a program and a certificate, whose text is judged as it is read.
 ghost use Rattle.std.specs.Prelude.{◌≡◌, [], ◌∷◌, IfSome, List, Some, Err};
 ghost use Rattle.ngc_canonical.specs.Interpreter.{setup_of};
-ghost use Rattle.ngc_canonical.specs.Meaning.{program_said};
+ghost use Rattle.ngc_canonical.specs.Meaning.{parsed_program};
 ghost use Rattle.ngc_certificate_text.specs.Pulled.{FailsByReading};
 ghost use Rattle.ngc_certificate_text.specs.declared.fault.CertificateFault.TheVariants.{ReadFailed};
 ghost use Rattle.ngc_line_reader.specs.Grammar.{Reading};
@@ -41,7 +41,7 @@ pub fn judge<A: Allocator + Copy, S: Source>(
     // one.
     ensures judges { (rs : List Reading) → AreReadings (text_in program.now).lines rs →
         IfSome (S.remaining certificate.old)
-        (λ text. Judges (program_said (text_in program.now) rs) (setup_of machine.now tools.now)
+        (λ text. Judges (parsed_program (text_in program.now) rs) (setup_of machine.now tools.now)
         text result) }
     // Only a source that failed is reported as failed.
     ensures device { result ≡ Err ReadFailed →
@@ -66,7 +66,7 @@ pub fn judge_file<F: Files>(
 ) -> Result<Verdict<Global>, CertificateFault>
     ensures judges { (rs : List Reading) → AreReadings (text_in program.now).lines rs →
         IfSome (F.bytes files.old (Some name.now))
-        (λ text. Judges (program_said (text_in program.now) rs)
+        (λ text. Judges (parsed_program (text_in program.now) rs)
         (setup_of shop.now.machine shop.now.tools) text result) }
     ensures keeps { KeepsFiles (F.bytes files.old) (F.bytes files.new) }
     // 901 is returned only where the file can't be opened or its source fails.

@@ -4,10 +4,10 @@ ghost use Rattle.std.specs.Prelude.{option_map};
 ghost use Rattle.ngc_machine_files.specs.Machine.{file_of};
 ghost use Rattle.ngc_machine_files.specs.Tools.{tools_of};
 ghost use Rattle.ngc_inputs.specs.Setups.{IfMachine, IfTools, KeepsFiles};
-ghost use Rattle.ngc_inputs.specs.Shops.{GivesPlaced, GivesShop, RefusesMachine, RefusesTools};
+ghost use Rattle.ngc_inputs.specs.Shops.{PlacedResultIs, ShopResultIs, RefusesMachine, RefusesTools};
 ghost use Rattle.ngc_origins.specs.Placed.{placed};
 ghost use Rattle.ngc_inputs.specs.Unread.{FailsByInput, OfMachine, OfTools, SourceFails};
-ghost use Rattle.ngc_inputs.specs.Unread.{TellsUnread, setup_input, shop_inputs};
+ghost use Rattle.ngc_inputs.specs.Unread.{ReportsUnread, setup_input, shop_inputs};
 
 use crate::fault::AnswerFault;
 use crate::files::Files;
@@ -48,7 +48,7 @@ pub fn bytes_of<F: Files>(alloc: Global, name: &str, files: &mut F) -> Result<Ve
     ensures counts { OnOk result (F.failures files.new ≡ F.failures files.old) }
     // It fails to be read only if it can't be opened, its source fails, or it is too long.
     ensures unread { IfErr result
-        (TellsUnread (SourceFails F.R.remaining F.R.failures) (F.bytes files.old (Some name.now))
+        (ReportsUnread (SourceFails F.R.remaining F.R.failures) (F.bytes files.old (Some name.now))
         (F.failures files.old) (F.failures files.new)) }
 {
     let mut source = open_file(Some(name), files)?;
@@ -143,7 +143,7 @@ pub fn read_shop<F: Files>(
     tools: Option<&str>,
     files: &mut F,
 ) -> Result<Shop, AnswerFault>
-    ensures said { GivesShop (F.bytes files.old) (option_map (λ n. n.now) machine.entry)
+    ensures said { ShopResultIs (F.bytes files.old) (option_map (λ n. n.now) machine.entry)
         (option_map (λ n. n.now) tools.entry) result }
     ensures keeps { KeepsFiles (F.bytes files.old) (F.bytes files.new) }
     // The first file that isn't read can't be opened, its source fails, or it is too long.
@@ -164,7 +164,7 @@ pub fn read_placed<F: Files>(
     origins: &Origins,
     files: &mut F,
 ) -> Result<Shop, AnswerFault>
-    ensures said { GivesPlaced (F.bytes files.old) (option_map (λ n. n.now) machine.entry)
+    ensures said { PlacedResultIs (F.bytes files.old) (option_map (λ n. n.now) machine.entry)
         (option_map (λ n. n.now) tools.entry) origins.now result }
     ensures keeps { KeepsFiles (F.bytes files.old) (F.bytes files.new) }
     // The first file that isn't read can't be opened, its source fails, or it is too long.

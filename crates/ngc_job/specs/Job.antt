@@ -68,7 +68,7 @@ IsRefusedAt program setup On (At line e) = (off : List Command) ×
     (meaning program setup false ≡ Ok off) × (meaning program setup true ≡ Err (At line e))
 
 -- the result is the job of the program, or why it has none
-abbrev pub GivesJob : {X : Type 0} → (X → JobData) → Program → Setup → Result X JobFault → Type 0
-GivesJob view program setup (Ok x) = IsJobOf program setup (view x)
-GivesJob view program setup (Err refusal) =
+abbrev pub JobResultIs : {X : Type 0} → (X → JobData) → Program → Setup → Result X JobFault → Type 0
+JobResultIs view program setup (Ok x) = IsJobOf program setup (view x)
+JobResultIs view program setup (Err refusal) =
     IsRefusedAt program setup refusal.setting refusal.fault

@@ -5,8 +5,8 @@ ghost use Rattle.ngc_line_reader.specs.ProgramView.{text_in};
 ghost use Rattle.ngc_machine_files.specs.Machine.{file_of};
 ghost use Rattle.ngc_machine_files.specs.Tools.{tools_of};
 ghost use Rattle.ngc_canonical.specs.Interpreter.{setup_of};
-ghost use Rattle.ngc_canonical.specs.Meaning.{program_said};
-ghost use Rattle.ngc_job.specs.Job.{GivesJob, IsJob, commands_in};
+ghost use Rattle.ngc_canonical.specs.Meaning.{parsed_program};
+ghost use Rattle.ngc_job.specs.Job.{JobResultIs, IsJob, commands_in};
 
 use ngc_canonical::{ProgramFault, has_deleted_lines, interpret};
 use ngc_certificate_text::Setting;
@@ -75,7 +75,7 @@ impl<A: Allocator> Job<A> {
         A: Copy,
         // This holds for all readings of the lines: each line has exactly one.
         ensures { (rs : List Reading) → AreReadings (text_in program.now).lines rs →
-            GivesJob (λ j. j) (program_said (text_in program.now) rs) (setup_of machine tools)
+            JobResultIs (λ j. j) (parsed_program (text_in program.now) rs) (setup_of machine tools)
             result }
     {
         let off = match interpret(alloc, program, &machine, &tools, false) {

@@ -9,7 +9,7 @@ use Rattle.ngc_line_reader.specs.Letter.{letter_of}
 use Rattle.ngc_line_reader.specs.Text.{text, columns}
 use Rattle.ngc_line_reader.specs.Grammar.{bare, plus, Real, number, parameter, bracket, close, next, Item, word, setting, comment, Reading, Reads, spelling}
 use Rattle.ngc_line_reader.specs.Scan.{number_at, operator_at, real_at, rest_at}
-use Rattle.ngc_line_reader.specs.ScanLine.{fault_at, word_at, value_behind, setting_at, other_item_at, item_at, items_at, line_number_at, text_at}
+use Rattle.ngc_line_reader.specs.ScanLine.{fault_at, word_at, value_after, setting_at, other_item_at, item_at, items_at, line_number_at, text_at}
 use Rattle.ngc_line_reader.specs.ReadLine.{line_read}
 
 abbrev whole : List ℕ → Real
@@ -62,49 +62,49 @@ bracket_row = refl
 
 -- the first fault from the left, and its column
 two_points : line_read (codes "G0 X1.2.3") ≡ Err (fault_at BadNumber 4)
-unfolding text_at line_number_at items_at item_at other_item_at word_at setting_at value_behind real_at rest_at operator_at number_at letter_of
+unfolding text_at line_number_at items_at item_at other_item_at word_at setting_at value_after real_at rest_at operator_at number_at letter_of
 two_points = refl
 
 comment_parts_digits : line_read (codes "G0 X1(a)2") ≡ Err (fault_at BadNumber 9)
-unfolding text_at line_number_at items_at item_at other_item_at word_at setting_at value_behind real_at rest_at operator_at number_at letter_of
+unfolding text_at line_number_at items_at item_at other_item_at word_at setting_at value_after real_at rest_at operator_at number_at letter_of
 comment_parts_digits = refl
 
 comment_open : line_read (codes "G0 X12(b") ≡ Err (fault_at CommentNotClosed 7)
-unfolding text_at line_number_at items_at item_at other_item_at word_at setting_at value_behind real_at rest_at operator_at number_at letter_of
+unfolding text_at line_number_at items_at item_at other_item_at word_at setting_at value_after real_at rest_at operator_at number_at letter_of
 comment_open = refl
 
 comment_in_comment : line_read (codes "(a(b") ≡ Err (fault_at CommentNested 1)
-unfolding text_at line_number_at items_at item_at other_item_at word_at setting_at value_behind real_at rest_at operator_at number_at letter_of
+unfolding text_at line_number_at items_at item_at other_item_at word_at setting_at value_after real_at rest_at operator_at number_at letter_of
 comment_in_comment = refl
 
 sign_of_a_parameter : line_read (codes "G0 X-#1") ≡ Err (fault_at BadNumber 4)
-unfolding text_at line_number_at items_at item_at other_item_at word_at setting_at value_behind real_at rest_at operator_at number_at letter_of
+unfolding text_at line_number_at items_at item_at other_item_at word_at setting_at value_after real_at rest_at operator_at number_at letter_of
 sign_of_a_parameter = refl
 
 sign_of_a_bracket : line_read (codes "G0 X-[1]") ≡ Err (fault_at BadNumber 4)
-unfolding text_at line_number_at items_at item_at other_item_at word_at setting_at value_behind real_at rest_at operator_at number_at letter_of
+unfolding text_at line_number_at items_at item_at other_item_at word_at setting_at value_after real_at rest_at operator_at number_at letter_of
 sign_of_a_bracket = refl
 
 bracket_open : line_read (codes "G0 X[1+2") ≡ Err (fault_at Bracket 4)
-unfolding text_at line_number_at items_at item_at other_item_at word_at setting_at value_behind real_at rest_at operator_at number_at letter_of
+unfolding text_at line_number_at items_at item_at other_item_at word_at setting_at value_after real_at rest_at operator_at number_at letter_of
 bracket_open = refl
 
 six_digits : line_read (codes "/N123456 G0") ≡ Err (fault_at BadLineNumber 2)
-unfolding text_at line_number_at items_at item_at other_item_at word_at setting_at value_behind real_at rest_at operator_at number_at letter_of
+unfolding text_at line_number_at items_at item_at other_item_at word_at setting_at value_after real_at rest_at operator_at number_at letter_of
 six_digits = refl
 
 number_not_in_front : line_read (codes "G0 N1") ≡ Err (fault_at BadWord 4)
-unfolding text_at line_number_at items_at item_at other_item_at word_at setting_at value_behind real_at rest_at operator_at number_at letter_of
+unfolding text_at line_number_at items_at item_at other_item_at word_at setting_at value_after real_at rest_at operator_at number_at letter_of
 number_not_in_front = refl
 
 too_large : line_read (codes "G0 X1000000001") ≡ Err (fault_at TooLarge 4)
-unfolding text_at line_number_at items_at item_at other_item_at word_at setting_at value_behind real_at rest_at operator_at number_at letter_of
+unfolding text_at line_number_at items_at item_at other_item_at word_at setting_at value_after real_at rest_at operator_at number_at letter_of
 too_large = refl
 
 unknown_in_an_item : line_read (codes "G0 X 1 ? 2") ≡ Err (fault_at UnknownCharacter 8)
-unfolding text_at line_number_at items_at item_at other_item_at word_at setting_at value_behind real_at rest_at operator_at number_at letter_of
+unfolding text_at line_number_at items_at item_at other_item_at word_at setting_at value_after real_at rest_at operator_at number_at letter_of
 unknown_in_an_item = refl
 
 index_without_value : line_read (codes "#1 2") ≡ Err (fault_at BadNumber 1)
-unfolding text_at line_number_at items_at item_at other_item_at word_at setting_at value_behind real_at rest_at operator_at number_at letter_of
+unfolding text_at line_number_at items_at item_at other_item_at word_at setting_at value_after real_at rest_at operator_at number_at letter_of
 index_without_value = refl

@@ -17,8 +17,8 @@ use Rattle.ngc_line_reader.specs.Shown.{ShowsReading, items_of}
 use Rattle.ngc_line_reader.specs.Tokens.{symbols}
 use Rattle.ngc_line_reader.specs.Symbols.{symbols_from}
 use Rattle.ngc_line_reader.proofs.KeptSymbols.{loads_back}
-use Rattle.ngc_line_reader.specs.Kept.{AllKept, LineKept, by_numbers, by_symbols, SymbolsKept, symbols_kept_of, is_numbered, numbered_words, kept_of}
-use Rattle.ngc_line_reader.specs.Kept.{LiesWithin, Keeps, AreWithin, AreKept, parts_at, said_in, line_said, line_kept}
+use Rattle.ngc_line_reader.specs.Kept.{AllKept, StoredLine, by_numbers, by_symbols, SymbolsKept, symbols_kept_of, is_numbered, numbered_words, stored_contents}
+use Rattle.ngc_line_reader.specs.Kept.{LiesWithin, Keeps, AreWithin, AreKept, parts_at, parsed_in, parsed_line, line_kept}
 use Rattle.ngc_line_reader.specs.Grammar.{behind}
 use Rattle.ngc_line_reader.specs.Held.{all_tokens, words_from, settings_from}
 use Rattle.ngc_line_reader.specs.Words.{pairs_of, number_words, SaysNumbers, SaysDeleted}
@@ -48,7 +48,7 @@ within_after all ends behind e is w h = subst (λ (l : List LineEnd). AreWithin 
 same_kept : (old new : AllKept) (ends : List LineEnd) → Keeps old new → AreWithin old ends → map (line_kept new) ends ≡ map (line_kept old) ends
 same_kept old new [] keeps w = refl
 same_kept old new (e ∷ ends) keeps w =
-    ap (λ (p : LineKept). Some (e.parts.deleted, p) ∷ map (line_kept new) ends) (keeps e.parts.kept w.0).1
+    ap (λ (p : StoredLine). Some (e.parts.deleted, p) ∷ map (line_kept new) ends) (keeps e.parts.kept w.0).1
     ∙ ap (λ l. line_kept old e ∷ l) (same_kept old new ends keeps w.1)
 
 -- the stored contents of the lines stay unchanged
@@ -59,21 +59,21 @@ kept_stays old new lines ends keeps w h = h ∙ sym (same_kept old new ends keep
 -- and one more line is stored
 pub kept_after : (all : AllKept) (lines after : List Line) (ends behind : List LineEnd) (line : Line) (e : LineEnd) → after ≡ lines ++ (line ∷ []) →
     behind ≡ ends ++ (e ∷ []) → AreKept all lines ends
-    → line_said line ≡ line_kept all e → AreKept all after behind
+    → parsed_line line ≡ line_kept all e → AreKept all after behind
 kept_after all lines after ends behind line e a b h same =
-    ap (map line_said) a
-    ∙ map-push line_said lines line
-    ∙ ap (λ l. l ++ (line_said line ∷ [])) h
+    ap (map parsed_line) a
+    ∙ map-push parsed_line lines line
+    ∙ ap (λ l. l ++ (parsed_line line ∷ [])) h
     ∙ ap (λ x. map (line_kept all) ends ++ (x ∷ [])) same
     ∙ sym (map-push (line_kept all) ends e)
     ∙ sym (ap (map (line_kept all)) b)
 
 -- a line that was read is stored
 pub reading_kept : (all : AllKept) (number : ℕ) (bytes : List ℕ) (reading : HeldLine) (e : LineEnd) → line_read bytes ≡ Ok (said_of reading) →
-    parts_at all e.parts.kept ≡ kept_of (parts_of reading) → e.parts.deleted ≡ reading.deleted
-    → line_said (line_of number bytes) ≡ line_kept all e
+    parts_at all e.parts.kept ≡ stored_contents (parts_of reading) → e.parts.deleted ≡ reading.deleted
+    → parsed_line (line_of number bytes) ≡ line_kept all e
 reading_kept all number bytes reading e read parts deleted =
-    ap said_in read ∙ ap (λ (p : LineKept). Some (reading.deleted, p)) (sym parts) ∙ ap (λ (d : Bool). Some (d, parts_at all e.parts.kept)) (sym deleted)
+    ap parsed_in read ∙ ap (λ (p : StoredLine). Some (reading.deleted, p)) (sym parts) ∙ ap (λ (d : Bool). Some (d, parts_at all e.parts.kept)) (sym deleted)
 
 within_at : (all : AllKept) (ends : List LineEnd) (i : ℕ) (e : LineEnd) → AreWithin all ends → slice_get ends i ≡ Some e → LiesWithin all e.parts.kept
 within_at all [] i e w is = absurd (cc is)
@@ -88,10 +88,10 @@ kept_within all ends i e w h is = within_at all ends i e w (slice_get_read ends 
 -- the line at an index has these stored contents
 said_at : (all : AllKept) (lines : List Line) (ends : List LineEnd) (i : ℕ) (l : Line) (e : LineEnd) → AreKept all lines ends → slice_get lines i ≡ Some l →
     slice_get ends i ≡ Some e
-    → line_said l ≡ line_kept all e
+    → parsed_line l ≡ line_kept all e
 said_at all lines ends i l e kept at end =
     same_Some _ _ (
-    sym (slice_get-map line_said lines i ∙ ap (option_map line_said) at)
+    sym (slice_get-map parsed_line lines i ∙ ap (option_map parsed_line) at)
     ∙ ap (λ xs. slice_get xs i) kept
     ∙ slice_get-map (line_kept all) ends i
     ∙ ap (option_map (line_kept all)) end)
@@ -101,7 +101,7 @@ by_test : (b : Bool) (ws : List Word) (k kept : SymbolsKept) → (if b then by_n
 by_test true ws k kept is = absurd (cc is)
 by_test false ws k kept is = (refl, cc is)
 
-symbols_are : (said : Parts) (kept : SymbolsKept) → kept_of said ≡ by_symbols kept → (is_numbered said ≡ false) × (symbols_kept_of said ≡ kept)
+symbols_are : (said : Parts) (kept : SymbolsKept) → stored_contents said ≡ by_symbols kept → (is_numbered said ≡ false) × (symbols_kept_of said ≡ kept)
 symbols_are said kept is = by_test (is_numbered said) (numbered_words said.words said.tokens) (symbols_kept_of said) kept is
 
 -- and one that is stored as numbers has none
@@ -109,11 +109,11 @@ by_other_test : (b : Bool) (ws kept : List Word) (k : SymbolsKept) → (if b the
 by_other_test true ws kept k is = (refl, cc is)
 by_other_test false ws kept k is = absurd (cc is)
 
-numbers_are : (said : Parts) (kept : List Word) → kept_of said ≡ by_numbers kept → (is_numbered said ≡ true) × (numbered_words said.words said.tokens ≡ kept)
+numbers_are : (said : Parts) (kept : List Word) → stored_contents said ≡ by_numbers kept → (is_numbered said ≡ true) × (numbered_words said.words said.tokens ≡ kept)
 numbers_are said kept is = by_other_test (is_numbered said) (numbered_words said.words said.tokens) kept (symbols_kept_of said) is
 
 -- the loaded contents are those of a reading
-items_are : (said : Parts) (kept : SymbolsKept) (parts : Parts) → kept_of said ≡ by_symbols kept → parts.words ≡ kept.words → parts.settings ≡ kept.settings →
+items_are : (said : Parts) (kept : SymbolsKept) (parts : Parts) → stored_contents said ≡ by_symbols kept → parts.words ≡ kept.words → parts.settings ≡ kept.settings →
     symbols parts.tokens ≡ symbols_from kept.kinds kept.numbers → items_of parts ≡ items_of said
 items_are said kept parts is words settings marks =
     let same : symbols_kept_of said ≡ kept = (symbols_are said kept is).1 in
@@ -124,30 +124,30 @@ items_are said kept parts is words settings marks =
     λ i. record { words = w i; settings = s i; symbols = m i }
 
 -- the contents of a line that is stored
-record SaysKept (bytes : List ℕ) (d : Bool) (kept : LineKept) : Type 0 where
+record SaysKept (bytes : List ℕ) (d : Bool) (kept : StoredLine) : Type 0 where
   said : Said
   takes : TakesText (place_in (columns bytes)) (text bytes) said
   deletes : said.deleted ≡ d
-  keeps : kept_of said.parts ≡ kept
+  keeps : stored_contents said.parts ≡ kept
 
-said_from : (bytes : List ℕ) (found : Result Said LineFault) (d : Bool) (kept : LineKept) → text_at (place_in (columns bytes)) (text bytes) ≡ found
-    → said_in found ≡ Some (d, kept) → SaysKept bytes d kept
-said_from bytes (Err fault) d kept is same = absurd (cc same)
-said_from bytes (Ok s) d kept is same =
-    let pair : (s.deleted, kept_of s.parts) ≡ (d, kept) = same_Some _ _ same in
+parsed_from : (bytes : List ℕ) (found : Result Said LineFault) (d : Bool) (kept : StoredLine) → text_at (place_in (columns bytes)) (text bytes) ≡ found
+    → parsed_in found ≡ Some (d, kept) → SaysKept bytes d kept
+parsed_from bytes (Err fault) d kept is same = absurd (cc same)
+parsed_from bytes (Ok s) d kept is same =
+    let pair : (s.deleted, stored_contents s.parts) ≡ (d, kept) = same_Some _ _ same in
     record {
       said = s;
       takes = text_takes (place_in (columns bytes)) (text bytes) s is;
-      deletes = ap (λ (x : Bool × LineKept). x.0) pair;
-      keeps = ap (λ (x : Bool × LineKept). x.1) pair;
+      deletes = ap (λ (x : Bool × StoredLine). x.0) pair;
+      keeps = ap (λ (x : Bool × StoredLine). x.1) pair;
     }
 
-says_kept : (bytes : List ℕ) (long : Bool) (d : Bool) (kept : LineKept) → nat_le 257 (length bytes) ≡ long → said_in (line_read bytes) ≡ Some (d, kept)
+says_kept : (bytes : List ℕ) (long : Bool) (d : Bool) (kept : StoredLine) → nat_le 257 (length bytes) ≡ long → parsed_in (line_read bytes) ≡ Some (d, kept)
     → SaysKept bytes d kept
 says_kept bytes true d kept is same = absurd (cc (is, same))
-says_kept bytes false d kept is same = said_from bytes (text_at (place_in (columns bytes)) (text bytes)) d kept refl (rw is at same)
+says_kept bytes false d kept is same = parsed_from bytes (text_at (place_in (columns bytes)) (text bytes)) d kept refl (rw is at same)
 
-pub shown_line : (bytes : List ℕ) (kept : SymbolsKept) (d deleted : Bool) (parts : Parts) → said_in (line_read bytes) ≡ Some (d, by_symbols kept)
+pub shown_line : (bytes : List ℕ) (kept : SymbolsKept) (d deleted : Bool) (parts : Parts) → parsed_in (line_read bytes) ≡ Some (d, by_symbols kept)
     → deleted ≡ d → parts.words ≡ kept.words → parts.settings ≡ kept.settings → symbols parts.tokens ≡ symbols_from kept.kinds kept.numbers →
     ShowsReading bytes deleted parts
 shown_line bytes kept d deleted parts same out words settings marks =
@@ -164,7 +164,7 @@ shown_line bytes kept d deleted parts same out words settings marks =
     }
 
 -- whether block delete skips a line is stored
-pub deleted_line : (bytes : List ℕ) (d : Bool) (kept : LineKept) → said_in (line_read bytes) ≡ Some (d, kept) → SaysDeleted bytes d
+pub deleted_line : (bytes : List ℕ) (d : Bool) (kept : StoredLine) → parsed_in (line_read bytes) ≡ Some (d, kept) → SaysDeleted bytes d
 deleted_line bytes d kept same =
     let k = says_kept bytes (nat_le 257 (length bytes)) d kept refl same in
     record {
@@ -184,7 +184,7 @@ true_same : (m n : ℕ) → m ≡ n → (m == n) ≡ true
 true_same m n h = grind (arith, nat_tests)
 
 -- words that are stored with their numbers are a line's words
-pub numbered_line : (bytes : List ℕ) (d : Bool) (ws : List Word) → said_in (line_read bytes) ≡ Some (d, by_numbers ws) → SaysNumbers bytes (Some (pairs_of ws))
+pub numbered_line : (bytes : List ℕ) (d : Bool) (ws : List Word) → parsed_in (line_read bytes) ≡ Some (d, by_numbers ws) → SaysNumbers bytes (Some (pairs_of ws))
 numbered_line bytes d ws same =
     let k = says_kept bytes (nat_le 257 (length bytes)) d (by_numbers ws) refl same in
     let w = k.takes in
@@ -204,7 +204,7 @@ numbered_line bytes d ws same =
     }
 
 -- a line that is stored as symbols has other values than numbers
-pub symbols_line : (bytes : List ℕ) (d : Bool) (kept : SymbolsKept) → said_in (line_read bytes) ≡ Some (d, by_symbols kept) → SaysNumbers bytes None
+pub symbols_line : (bytes : List ℕ) (d : Bool) (kept : SymbolsKept) → parsed_in (line_read bytes) ≡ Some (d, by_symbols kept) → SaysNumbers bytes None
 symbols_line bytes d kept same =
     let k = says_kept bytes (nat_le 257 (length bytes)) d (by_symbols kept) refl same in
     let w = k.takes in
@@ -220,13 +220,13 @@ symbols_line bytes d kept same =
 
 pub line_kept_is : (all : AllKept) (lines : List Line) (ends : List LineEnd) (i : ℕ) (e : LineEnd) (bytes : List ℕ) → AreKept all lines ends →
     i < length ends → e ≡ get_or ends i e
-    → option_map (λ (l : Line). l.bytes) (slice_get lines i) ≡ Some bytes → (line_kept all e ≡ said_in (line_read bytes))
+    → option_map (λ (l : Line). l.bytes) (slice_get lines i) ≡ Some bytes → (line_kept all e ≡ parsed_in (line_read bytes))
 line_kept_is all lines ends i e bytes kept h is b = by_line (slice_get lines i) refl b where
-  by_line : (x : Option Line) → slice_get lines i ≡ x → option_map (λ (l : Line). l.bytes) x ≡ Some bytes → line_kept all e ≡ said_in (line_read bytes)
+  by_line : (x : Option Line) → slice_get lines i ≡ x → option_map (λ (l : Line). l.bytes) x ≡ Some bytes → line_kept all e ≡ parsed_in (line_read bytes)
   by_line None at none = absurd (cc none)
   by_line (Some l) at same =
       sym (said_at all lines ends i l e kept at (slice_get_read ends (length ends) i e refl h is))
-      ∙ ap (λ (bs : List ℕ). said_in (line_read bs)) (same_Some _ _ same)
+      ∙ ap (λ (bs : List ℕ). parsed_in (line_read bs)) (same_Some _ _ same)
 
 pub is_ok_of : {X E : Type 0} (r : Result X E) (x : X) → r ≡ Ok x → IsOk r
 is_ok_of (Ok y) x is = refl

@@ -3,7 +3,7 @@ pub mod TokenLemmas
 -- Bytes and their letters.
 pub mod LetterLemmas
 -- No text has two readings.
-pub mod Unique
+pub mod UniqueReading
 -- No text has two readings: items, and the whole line.
 pub mod UniqueLine
 -- The number of leading digits.
@@ -13,7 +13,7 @@ pub mod Scanning
 -- A text that is written for a value is read as that value.
 pub mod ReadsBack
 -- A value that is read is written as the text.
-pub mod Takes
+pub mod ValueTexts
 -- A number's digits, rounded to millionths.
 pub mod Rounded
 -- One byte of a line's text.
@@ -43,7 +43,7 @@ pub mod KeptLines
 -- The lines of some bytes, and the first line feed among them.
 pub mod Feeds
 -- The lines of a file, one by one, and the result of the whole file.
-pub mod Walk
+pub mod LineWalk
 -- The result of reading a line or a piece of one.
 pub mod TakenPieces
 -- The effect of a piece on a reader.

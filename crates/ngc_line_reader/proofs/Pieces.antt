@@ -14,10 +14,10 @@ use Rattle.ngc_line_reader.specs.Program.{Line, split_lines}
 use Rattle.ngc_line_reader.specs.ProgramText.{Outcome}
 use Rattle.ngc_line_reader.specs.ProgramView.{lines_in, FaultIs}
 use Rattle.ngc_line_reader.specs.Pieces.{firm_lines}
-use Rattle.ngc_line_reader.specs.Load.{at_end, walked, ended, resumed, standing, IsOfLines, PartsLines, IsLoading, StepGives}
+use Rattle.ngc_line_reader.specs.Load.{at_end, walked, ended, resumed, standing, IsLineFault, PartsLines, IsLoading, StepResultIs}
 use Rattle.ngc_line_reader.specs.Reader.{outcome_by, fault_by, has_ended_by}
 use Rattle.ngc_line_reader.specs.ReaderView.{AnswerIs}
-use Rattle.ngc_line_reader.proofs.Walk.{walk_end}
+use Rattle.ngc_line_reader.proofs.LineWalk.{walk_end}
 use Rattle.ngc_line_reader.proofs.Feeds.{split_parts, firm_parts, firm_begun}
 
 -- a fault is its own
@@ -36,7 +36,7 @@ answer_self faults.Memory = tt
 answer_self faults.Device = refl
 
 -- a fault of lines is certain
-stands_as : (fault : ReadFault) (o : Outcome) → IsOfLines fault → FaultIs fault o → AnswerIs (Err fault) (standing o)
+stands_as : (fault : ReadFault) (o : Outcome) → IsLineFault fault → FaultIs fault o → AnswerIs (Err fault) (standing o)
 stands_as (faults.Line n f) o h is = ap standing is
 stands_as faults.NoEnd o h is = absurd (h.0 refl)
 stands_as faults.TooManyLines o h is = ap standing is
@@ -60,12 +60,12 @@ module _ {A : Type 0} where
   abbrev pub Leads : Loader A → Loader A → List ℕ → Result Step ReadFault → Type 0
   Leads old new piece result =
       (lines : List ℕ → List (List ℕ)) → PartsLines lines → (rest : List ℕ) →
-      StepGives result (resumed lines old (piece ++ rest)) (resumed lines new rest) (ended new.found)
+      StepResultIs result (resumed lines old (piece ++ rest)) (resumed lines new rest) (ended new.found)
 
   at_step : (old new : Loader A) (piece : List ℕ) (result other : Result Step ReadFault) → Leads old new piece result → result ≡ other →
       Leads old new piece other
   at_step old new piece result other leads e = λ lines parts rest.
-      subst (λ (r : Result Step ReadFault). StepGives r (resumed lines old (piece ++ rest)) (resumed lines new rest) (ended new.found)) e
+      subst (λ (r : Result Step ReadFault). StepResultIs r (resumed lines old (piece ++ rest)) (resumed lines new rest) (ended new.found)) e
       (leads lines parts rest)
 
   -- the piece's bytes, and no more
@@ -109,7 +109,7 @@ module _ {A : Type 0} where
   -- if it is refused
   module _ (state : State) (old new : Loader A) (piece : List ℕ) (result : Result Step ReadFault) (fault : ReadFault) (going : state ≡ Going)
       (leads : Leads old new piece result) (is : result ≡ Err fault) where
-    pub fault_answer : IsOfLines fault → AnswerIs (Err fault) (fault_by state old piece)
+    pub fault_answer : IsLineFault fault → AnswerIs (Err fault) (fault_by state old piece)
     fault_answer lines =
         let step = at_step old new piece result (Err fault) leads is firm_lines firm_parts [] in
         let here : AnswerIs (Err fault) (standing (resumed firm_lines old piece)) =

@@ -23,17 +23,17 @@ use Rattle.ngc_line_reader.specs.Tokens.{symbols_of, tokens_of, IsWithinLimit}
 use Rattle.ngc_line_reader.specs.Held.{all_tokens, token_count, words_from, settings_from, HoldsReading, IsItemWithinLimit, AllWithinLimit, item_words}
 use Rattle.ngc_line_reader.specs.Held.{word_count, WithinLimits}
 use Rattle.ngc_line_reader.specs.Scan.{◌>>=◌, Gives, begins, refusal, digits_at, after_digits, real_at}
-use Rattle.ngc_line_reader.specs.ScanLine.{Parts, no_parts, with_word, with_setting, word_at, value_behind, setting_at, is_comment_byte, after_comment}
+use Rattle.ngc_line_reader.specs.ScanLine.{Parts, no_parts, with_word, with_setting, word_at, value_after, setting_at, is_comment_byte, after_comment}
 use Rattle.ngc_line_reader.specs.ScanLine.{comment_at, start_fault, by_letter, other_item_at, item_at, located, items_at, numbered, line_number_at, Said}
 use Rattle.ngc_line_reader.specs.ScanLine.{said_of, after_slash, text_at}
 use Rattle.ngc_line_reader.specs.declared.letter.Letter.{Letter}
 use Rattle.ngc_line_reader.specs.Letter.{letter_byte, letter_of}
 use Rattle.ngc_line_reader.proofs.LetterLemmas.{letter_again, letter_is, low_no_letter, N_no_letter}
 use Rattle.ngc_line_reader.proofs.TokenLemmas.{length-tokens_of}
-use Rattle.ngc_line_reader.proofs.Unique.{NoDigit-Stops}
+use Rattle.ngc_line_reader.proofs.UniqueReading.{NoDigit-Stops}
 use Rattle.ngc_line_reader.proofs.UniqueLine.{item_not, end_text, end_stops, end_not, slash, number_not_slash}
 use Rattle.ngc_line_reader.proofs.ReadsBack.{begins_not, begins_stops, digits_again, real_again}
-use Rattle.ngc_line_reader.proofs.Takes.{bind_ok, chosen, done, ok_is, begins_is, digits_are, real_takes}
+use Rattle.ngc_line_reader.proofs.ValueTexts.{bind_ok, chosen, done, ok_is, begins_is, digits_are, real_takes}
 use Rattle.ngc_line_reader.proofs.LineItems.{items_step}
 
 -- the parts with these items added, before a text
@@ -125,9 +125,9 @@ word_again place room found letter v r h limit stops few fits =
     rw (below_64 (length found.words) few, real_again place v r room found.tokens h limit stops fits) refl
 
 value_again : (place : ℕ → ℕ) (room : ℕ) (found : Parts) (s : List ℕ) (index : List Token) (v : Real) (r : List ℕ) → IsReal v → IsWithinLimit v → Stops r
-    → length (real_text v ++ r) < room → value_behind place room found s index (61 ∷ (real_text v ++ r))
+    → length (real_text v ++ r) < room → value_after place room found s index (61 ∷ (real_text v ++ r))
     ≡ Ok (with_setting place found s index (index ++ tokens_of place v r), r)
-unfolding value_behind
+unfolding value_after
 value_again place room found s index v r h limit stops fits = rw (real_again place v r room index h limit stops fits) refl
 
 setting_again : (place : ℕ → ℕ) (room : ℕ) (found : Parts) (i v : Real) (r : List ℕ) → IsReal i → IsReal v → IsWithinLimit i → IsWithinLimit v → Stops r
@@ -299,8 +299,8 @@ record TakesValue (place : ℕ → ℕ) (found : Parts) (s : List ℕ) (index : 
   spelled : r ≡ 61 ∷ (real_text v ++ x.1)
 
 value_takes : (place : ℕ → ℕ) (room : ℕ) (found : Parts) (s : List ℕ) (index : List Token) (r : List ℕ) (x : Parts × List ℕ) →
-    value_behind place room found s index r ≡ Ok x → TakesValue place found s index r x
-unfolding value_behind
+    value_after place room found s index r ≡ Ok x → TakesValue place found s index r x
+unfolding value_after
 value_takes place room found s index r x e =
     elim (chosen (begins 61 r) _ (Err (refusal BadNumber r)) (done x) e) [
       | inl k ↦
@@ -322,7 +322,7 @@ setting_takes : (place : ℕ → ℕ) (room : ℕ) (found : Parts) (s : List ℕ
     TakesItem place found s x
 unfolding setting_at
 setting_takes place room found s x hash e =
-    let b = bind_ok (real_at place room found.tokens (drop 1 s)) (λ y. value_behind place room found s y.0 y.1) x e in
+    let b = bind_ok (real_at place room found.tokens (drop 1 s)) (λ y. value_after place room found s y.0 y.1) x e in
     let t = real_takes place room found.tokens (drop 1 s) b.0 b.1 in
     let u = value_takes place room found s b.0.0 b.0.1 x b.2 in
     let spelled : s ≡ item_text (setting t.v u.v) ++ x.1 =

@@ -14,12 +14,12 @@ use Rattle.ngc_line_reader.specs.Grammar.{Item, word, setting, comment, behind}
 use Rattle.ngc_line_reader.specs.Held.{token_count, words_from, word_count}
 use Rattle.ngc_line_reader.specs.Program.{Line}
 use Rattle.ngc_line_reader.specs.Scan.{◌>>=◌, begins, refusal, real_at}
-use Rattle.ngc_line_reader.specs.ScanLine.{Parts, no_parts, with_word, with_setting, word_at, value_behind, setting_at, comment_at, start_fault, by_letter}
+use Rattle.ngc_line_reader.specs.ScanLine.{Parts, no_parts, with_word, with_setting, word_at, value_after, setting_at, comment_at, start_fault, by_letter}
 use Rattle.ngc_line_reader.specs.ScanLine.{other_item_at, item_at, fault_at, located, items_at, line_number_at, Said, after_slash, text_at}
 use Rattle.ngc_line_reader.specs.ReadLine.{line_read}
 use Rattle.ngc_line_reader.specs.ProgramText.{HasReading, HaveReadings}
 use Rattle.ngc_line_reader.specs.Stored.{is_read}
-use Rattle.ngc_line_reader.proofs.Takes.{bind_ok, chosen, done, ok_is}
+use Rattle.ngc_line_reader.proofs.ValueTexts.{bind_ok, chosen, done, ok_is}
 use Rattle.ngc_line_reader.proofs.ReadLines.{located_ok, text_takes}
 
 -- after an item there are at most 64 words
@@ -44,9 +44,9 @@ word_few place room found letter s x e few =
 
 setting_few : (place : ℕ → ℕ) (room : ℕ) (found : Parts) (s : List ℕ) (x : Parts × List ℕ) → setting_at place room found s ≡ Ok x →
     length found.words ≡ length x.0.words
-unfolding setting_at value_behind
+unfolding setting_at value_after
 setting_few place room found s x e =
-    let b = bind_ok (real_at place room found.tokens (drop 1 s)) (λ y. value_behind place room found s y.0 y.1) x e in
+    let b = bind_ok (real_at place room found.tokens (drop 1 s)) (λ y. value_after place room found s y.0 y.1) x e in
     elim (chosen (begins 61 b.0.1) _ (Err (refusal BadNumber b.0.1)) (done x) b.2) [
       | inl k ↦
           let v = bind_ok (real_at place room b.0.0 (drop 1 b.0.1)) (λ y. Ok (with_setting place found s b.0.0 y.0, y.1)) x k.1 in

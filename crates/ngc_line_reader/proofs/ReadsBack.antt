@@ -19,7 +19,7 @@ use Rattle.ngc_line_reader.specs.Numbers.{written_value, numeral_value, is_negat
 use Rattle.ngc_line_reader.specs.Tokens.{token_at, tokens_of, rest_tokens, IsWithinLimit, IsRestWithinLimit}
 use Rattle.ngc_line_reader.specs.Scan.{begins, after_sign, digits_at, after_digits, decimals_at, after_decimals, whole_at, fraction_at, after_number}
 use Rattle.ngc_line_reader.specs.Scan.{value_fits, number_at, operator_at, real_at, rest_at}
-use Rattle.ngc_line_reader.proofs.Unique.{NoDigit, NoDigit-Stops, NoDigit-behind, body, body_not, numeral_not, heads, rest_stops}
+use Rattle.ngc_line_reader.proofs.UniqueReading.{NoDigit, NoDigit-Stops, NoDigit-behind, body, body_not, numeral_not, heads, rest_stops}
 use Rattle.ngc_line_reader.proofs.Scanning.{real_step, rest_step}
 
 -- digits are read up to the first other byte

@@ -28,15 +28,15 @@ use Rattle.ngc_line_reader.specs.Numbers.{written_value}
 use Rattle.ngc_line_reader.specs.Held.{word_count, item_words}
 use Rattle.ngc_line_reader.specs.Scan.{◌>>=◌, Gives, begins, begins_unknown, refusal, after_sign, digits_at, after_digits, whole_at, fraction_at, after_number}
 use Rattle.ngc_line_reader.specs.Scan.{value_fits, number_at, number_token, operator_at, real_at, rest_at}
-use Rattle.ngc_line_reader.specs.ScanLine.{Parts, no_parts, with_word, with_setting, word_at, value_behind, setting_at, after_comment, comment_at, start_fault}
+use Rattle.ngc_line_reader.specs.ScanLine.{Parts, no_parts, with_word, with_setting, word_at, value_after, setting_at, after_comment, comment_at, start_fault}
 use Rattle.ngc_line_reader.specs.ScanLine.{by_letter, other_item_at, item_at, fault_at, located, items_at, numbered, line_number_at, Said, said_of, after_slash}
 use Rattle.ngc_line_reader.specs.ScanLine.{text_at}
 use Rattle.ngc_line_reader.specs.Refused.{HasTooLarge, HasWords, WritesTooLarge, WritesManyWords}
 use Rattle.ngc_line_reader.proofs.LetterLemmas.{letter_bounds, letter_no_digit}
-use Rattle.ngc_line_reader.proofs.Unique.{NoDigit}
+use Rattle.ngc_line_reader.proofs.UniqueReading.{NoDigit}
 use Rattle.ngc_line_reader.proofs.UniqueLine.{slash}
 use Rattle.ngc_line_reader.proofs.Scanning.{nonempty}
-use Rattle.ngc_line_reader.proofs.Takes.{chosen, begins_is, numeral_of, numeral_parts, numeral_is, operator_takes, real_takes}
+use Rattle.ngc_line_reader.proofs.ValueTexts.{chosen, begins_is, numeral_of, numeral_parts, numeral_is, operator_takes, real_takes}
 use Rattle.ngc_line_reader.proofs.ReadLines.{letter_first, item_takes, step_words, located_ok, number_takes, slash_takes}
 
 abbrev err : {A E : Type 0} → E → Result A E
@@ -311,8 +311,8 @@ word_why place room found l s k first e =
     ]
 
 value_why : (place : ℕ → ℕ) (room : ℕ) (found : Parts) (s : List ℕ) (index : List Token) (r : List ℕ) (k : FaultKind) →
-    value_behind place room found s index r ≡ failed k → RealWhy k r
-unfolding value_behind
+    value_after place room found s index r ≡ failed k → RealWhy k r
+unfolding value_after
 value_why place room found s index r k e =
     elim (chosen (begins 61 r) _ (err (refusal BadNumber r)) (failed k) e) [
       | inl h ↦ elim (bind_err (real_at place room index (drop 1 r)) (λ x. parts_and (with_setting place found s index x.0) x.1) (OfItem k) h.1) [
@@ -326,7 +326,7 @@ setting_why : (place : ℕ → ℕ) (room : ℕ) (found : Parts) (s : List ℕ) 
     setting_at place room found s ≡ failed k → RealWhy k s
 unfolding setting_at
 setting_why place room found s k hash e =
-    elim (bind_err (real_at place room found.tokens (drop 1 s)) (λ x. value_behind place room found s x.0 x.1) (OfItem k) e) [
+    elim (bind_err (real_at place room found.tokens (drop 1 s)) (λ x. value_after place room found s x.0 x.1) (OfItem k) e) [
       | inl i ↦ real_same k s (35 ∷ drop 1 s) (begins_is 35 s hash) (real_why place room 35 found.tokens (drop 1 s) k (refl, λ q. omega arith) i)
       | inr i ↦
           let t = real_takes place room found.tokens (drop 1 s) i.0 i.1 in

@@ -22,16 +22,16 @@ use Rattle.ngc_line_reader.specs.ProgramText.{ProgramText, Outcome, fault_of, pr
 use Rattle.ngc_line_reader.specs.ProgramView.{lines_in, FaultIs, OutcomeIs}
 use Rattle.ngc_line_reader.specs.Pieces.{firm_lines, fault_so_far}
 use Rattle.ngc_line_reader.specs.Load.{phase_after, is_percent, is_blank, next_line, TakesLine, RefusedBy, at_percent, ended_in, walk, ended, walked, resumed}
-use Rattle.ngc_line_reader.specs.Load.{standing, PartsLines, NoFeed, IsLoading, StepGives, phase_room, room_behind}
+use Rattle.ngc_line_reader.specs.Load.{standing, PartsLines, HasNoLineFeed, IsLoading, StepResultIs, phase_space, space_after}
 use Rattle.ngc_line_reader.proofs.LinesInStore.{length-lines_from}
-use Rattle.ngc_line_reader.proofs.Walk.{walk_line, walk_refused, walk_percent, walk_program, walk_firm}
+use Rattle.ngc_line_reader.proofs.LineWalk.{walk_line, walk_refused, walk_percent, walk_program, walk_firm}
 use Rattle.ngc_line_reader.proofs.Feeds.{split_last, feedless_both}
 
 -- a line of more than 256 bytes is refused for that reason
 pub long_read : (bytes : List ℕ) → 256 < length bytes → line_read bytes ≡ Err (fault_at LineTooLong 257)
 long_read bytes h = let e : nat_le 257 (length bytes) ≡ true = grind (arith, nat_tests) in rw e refl
 
-phase_room_falls : (phase : Phase) (bytes : List ℕ) (x : Bool) → is_blank bytes ≡ x → phase_room (phase_after phase bytes) ≤ phase_room phase
+phase_room_falls : (phase : Phase) (bytes : List ℕ) (x : Bool) → is_blank bytes ≡ x → phase_space (phase_after phase bytes) ≤ phase_space phase
 phase_room_falls Start bytes true e = rw e (omega arith)
 phase_room_falls Start bytes false e = rw e (omega arith)
 phase_room_falls Marked bytes x e = omega arith
@@ -52,13 +52,13 @@ ends_at Marked done found b ls e p = walk_percent Marked done found b ls p
 ends_at Unmarked done found b ls e p = walk_percent Unmarked done found b ls p
 
 -- a step between equal outcomes
-step_is : (result : Result Step ReadFault) (a b c d : Outcome) (t : ProgramText) → a ≡ b → (result ≡ Ok More → c ≡ d) → StepGives result b d t →
-    StepGives result a c t
+step_is : (result : Result Step ReadFault) (a b c d : Outcome) (t : ProgramText) → a ≡ b → (result ≡ Ok More → c ≡ d) → StepResultIs result b d t →
+    StepResultIs result a c t
 step_is (Ok More) a b c d t e f h = e ∙ h ∙ sym (f refl)
 step_is (Ok End) a b c d t e f h = e ∙ h
 step_is (Err fault) a b c d t e f h = subst (λ (o : Outcome). FaultIs fault o) (sym e) h
 
-last_of : (cur : List ℕ) → NoFeed cur → 0 < length cur → split_lines (cur ++ []) ≡ cur ∷ []
+last_of : (cur : List ℕ) → HasNoLineFeed cur → 0 < length cur → split_lines (cur ++ []) ≡ cur ∷ []
 last_of [] h some = absurd (omega (arith, some))
 last_of (b ∷ cur) h some = ap split_lines (append-nil (b ∷ cur)) ∙ split_last b cur h
 
@@ -96,15 +96,15 @@ module _ {A : Type 0} where
   refused_line old bytes ls faults.Memory p r = tt
   refused_line old bytes ls faults.Device p r = absurd r
 
-  pub took_room : (old new : LinesSoFar A) (bytes : List ℕ) → TakesLine old new bytes → room_behind new + length bytes + 1 ≤ room_behind old
+  pub took_room : (old new : LinesSoFar A) (bytes : List ℕ) → TakesLine old new bytes → space_after new + length bytes + 1 ≤ space_after old
   took_room old new bytes t =
       let count : length (lines_in new.lines) ≡ length (lines_in old.lines) + 1 =
       ap length t.lines ∙ length-append (lines_in old.lines) (next_line old bytes ∷ []) in
-      let phase : phase_room new.phase ≡ phase_room (phase_after old.phase bytes) = ap phase_room t.phase in
+      let phase : phase_space new.phase ≡ phase_space (phase_after old.phase bytes) = ap phase_space t.phase in
       omega (arith, count, phase, phase_room_falls old.phase bytes (is_blank bytes) refl, t.few, t.short)
 
   -- the stored lines leave space for one more
-  pub line_room : (l : LinesSoFar A) → 257 ≤ room_behind l
+  pub line_room : (l : LinesSoFar A) → 257 ≤ space_after l
   line_room l = omega (arith, length-lines_from l.lines.bytes.items 0 l.lines.ends.items, l.lines.few)
 
   -- the first % line
@@ -118,7 +118,7 @@ module _ {A : Type 0} where
   ending_line old bytes ls p e = ends_at old.phase (length (lines_in old.lines)) (lines_in old.lines) bytes ls e p
 
   -- a line that is too long whatever follows
-  pub long_cut : (lines : List ℕ → List (List ℕ)) (l : Loader A) (piece rest : List ℕ) (fault : ReadFault) → PartsLines lines → IsLoading l → NoFeed piece →
+  pub long_cut : (lines : List ℕ → List (List ℕ)) (l : Loader A) (piece rest : List ℕ) (fault : ReadFault) → PartsLines lines → IsLoading l → HasNoLineFeed piece →
       256 < length l.cut.items + length piece
       → ((bytes : List ℕ) → 256 < length bytes → RefusedBy (fault_of (length (lines_in l.found.lines)) (next_line l.found bytes)) fault) →
       FaultIs fault (resumed lines l (piece ++ rest))
@@ -139,9 +139,9 @@ module _ {A : Type 0} where
 
   -- a line that is whole in a chunk
   pub whole_line : (lines : List ℕ → List (List ℕ)) (old new : Loader A) (result : Result Step ReadFault) (piece rest : List ℕ) → PartsLines lines →
-      old.cut.items ≡ [] → new.cut.items ≡ [] → NoFeed piece
-      → ((ls : List (List ℕ)) → StepGives result (walked old.found (piece ∷ ls)) (walked new.found ls) (ended new.found))
-      → StepGives result (resumed lines old (piece ++ (10 ∷ rest))) (resumed lines new rest) (ended new.found)
+      old.cut.items ≡ [] → new.cut.items ≡ [] → HasNoLineFeed piece
+      → ((ls : List (List ℕ)) → StepResultIs result (walked old.found (piece ∷ ls)) (walked new.found ls) (ended new.found))
+      → StepResultIs result (resumed lines old (piece ++ (10 ∷ rest))) (resumed lines new rest) (ended new.found)
   whole_line lines old new result piece rest parts e f feedless step =
       step_is result _ (walked old.found (piece ∷ lines rest)) _ (walked new.found (lines rest)) (ended new.found)
       (ap (λ (c : List ℕ). walked old.found (lines (c ++ (piece ++ (10 ∷ rest))))) e
@@ -151,10 +151,10 @@ module _ {A : Type 0} where
 
   -- a line that an earlier chunk began
   pub cut_line : (lines : List ℕ → List (List ℕ)) (old mid new : Loader A) (result : Result Step ReadFault) (piece rest : List ℕ) → PartsLines lines →
-      NoFeed mid.cut.items
+      HasNoLineFeed mid.cut.items
       → resumed lines old (piece ++ (10 ∷ rest)) ≡ resumed lines mid (10 ∷ rest) → OnOk result (new.cut.items ≡ [])
-      → ((ls : List (List ℕ)) → StepGives result (walked mid.found (mid.cut.items ∷ ls)) (walked new.found ls) (ended new.found))
-      → StepGives result (resumed lines old (piece ++ (10 ∷ rest))) (resumed lines new rest) (ended new.found)
+      → ((ls : List (List ℕ)) → StepResultIs result (walked mid.found (mid.cut.items ∷ ls)) (walked new.found ls) (ended new.found))
+      → StepResultIs result (resumed lines old (piece ++ (10 ∷ rest))) (resumed lines new rest) (ended new.found)
   cut_line lines old mid new result piece rest parts feedless same empty step =
       step_is result _ (walked mid.found (mid.cut.items ∷ lines rest)) _ (walked new.found (lines rest)) (ended new.found)
       (same ∙ ap (λ (ls : List (List ℕ)). walked mid.found ls) (parts.ends mid.cut.items rest feedless))
@@ -162,7 +162,7 @@ module _ {A : Type 0} where
       (step (lines rest))
 
   -- the last line, without a line feed
-  pub last_line : (l : Loader A) → NoFeed l.cut.items → 0 < length l.cut.items → resumed split_lines l [] ≡ walked l.found (l.cut.items ∷ [])
+  pub last_line : (l : Loader A) → HasNoLineFeed l.cut.items → 0 < length l.cut.items → resumed split_lines l [] ≡ walked l.found (l.cut.items ∷ [])
   last_line l h some = ap (λ (ls : List (List ℕ)). walked l.found ls) (last_of l.cut.items h some)
 
   pub outcome_after : (result : Result (Program A) ReadFault) (a b : Outcome) → a ≡ b → OutcomeIs result b → OutcomeIs result a
@@ -184,25 +184,25 @@ module _ {A : Type 0} where
 
   -- the step of the last line
   abbrev pub LastStep : Loader A → Loader A → Result Step ReadFault → Type 0
-  LastStep old new result = (ls : List (List ℕ)) → StepGives result (walked old.found (old.cut.items ∷ ls)) (walked new.found ls) (ended new.found)
+  LastStep old new result = (ls : List (List ℕ)) → StepResultIs result (walked old.found (old.cut.items ∷ ls)) (walked new.found ls) (ended new.found)
 
   step_at : (old new : Loader A) (result other : Result Step ReadFault) → LastStep old new result → result ≡ other
-      → StepGives other (walked old.found (old.cut.items ∷ [])) (walked new.found []) (ended new.found)
+      → StepResultIs other (walked old.found (old.cut.items ∷ [])) (walked new.found []) (ended new.found)
   step_at old new result other step e =
-      subst (λ (r : Result Step ReadFault). StepGives r (walked old.found (old.cut.items ∷ [])) (walked new.found []) (ended new.found)) e (step [])
+      subst (λ (r : Result Step ReadFault). StepResultIs r (walked old.found (old.cut.items ∷ [])) (walked new.found []) (ended new.found)) e (step [])
 
-  pub last_more : (old new : Loader A) (result : Result Step ReadFault) (out : Result (Program A) ReadFault) (x : Step) → NoFeed old.cut.items →
+  pub last_more : (old new : Loader A) (result : Result Step ReadFault) (out : Result (Program A) ReadFault) (x : Step) → HasNoLineFeed old.cut.items →
       0 < length old.cut.items
       → LastStep old new result → result ≡ Ok x → x ≡ More → OutcomeIs out (walked new.found []) → OutcomeIs out (resumed split_lines old [])
   last_more old new result out x feedless some step e f h =
       outcome_after out _ _ (last_line old feedless some ∙ step_at old new result (Ok More) step (e ∙ ap Ok f)) h
 
-  pub last_end : (old new : Loader A) (result : Result Step ReadFault) (t : ProgramText) (x : Step) → NoFeed old.cut.items → 0 < length old.cut.items
+  pub last_end : (old new : Loader A) (result : Result Step ReadFault) (t : ProgramText) (x : Step) → HasNoLineFeed old.cut.items → 0 < length old.cut.items
       → LastStep old new result → result ≡ Ok x → x ≡ End → t ≡ ended new.found → resumed split_lines old [] ≡ Ok t
   last_end old new result t x feedless some step e f h =
       last_line old feedless some ∙ step_at old new result (Ok End) step (e ∙ ap Ok f) ∙ ap Ok (sym h)
 
-  pub last_fault : (old new : Loader A) (result : Result Step ReadFault) (fault : ReadFault) → NoFeed old.cut.items → 0 < length old.cut.items
+  pub last_fault : (old new : Loader A) (result : Result Step ReadFault) (fault : ReadFault) → HasNoLineFeed old.cut.items → 0 < length old.cut.items
       → LastStep old new result → result ≡ Err fault → FaultIs fault (resumed split_lines old [])
   last_fault old new result fault feedless some step e =
       subst (λ (o : Outcome). FaultIs fault o) (sym (last_line old feedless some)) (step_at old new result (Err fault) step e)

@@ -4,7 +4,7 @@ use Rattle.std.specs.Prelude.{if◌then◌else◌}
 use Rattle.std.specs.List.{AllByRecursion}
 use Rattle.ngc_line_reader.specs.Grammar.{Item, word, setting, comment, Reading, behind, real_text, item_text, items_text, IsItem, IsLineNumber, OneReading}
 use Rattle.ngc_line_reader.specs.Grammar.{Stops}
-use Rattle.ngc_line_reader.proofs.Unique.{NoDigit-Stops, digits_unique, real_unique, heads, tails}
+use Rattle.ngc_line_reader.proofs.UniqueReading.{NoDigit-Stops, digits_unique, real_unique, heads, tails}
 use Rattle.ngc_line_reader.specs.declared.letter.Letter.{Letter}
 use Rattle.ngc_line_reader.specs.Letter.{letter_byte}
 use Rattle.ngc_line_reader.proofs.LetterLemmas.{letter_unique, letter_bounds, letter_no_digit, NoLetter, low_no_letter, N_no_letter}

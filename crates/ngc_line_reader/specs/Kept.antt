@@ -32,9 +32,9 @@ pub record SymbolsKept : Type 0 where
 
 -- the stored contents of a line: its words with the numbers that are their values, or with the
 -- symbols of their values
-pub data LineKept : Type 0 where
-  by_numbers : List Word → LineKept
-  by_symbols : SymbolsKept → LineKept
+pub data StoredLine : Type 0 where
+  by_numbers : List Word → StoredLine
+  by_symbols : SymbolsKept → StoredLine
 
 -- the number of a symbol, or 0
 abbrev pub number_in : Symbol → ℤ
@@ -64,8 +64,8 @@ symbols_kept_of p = record {
 }
 
 -- the stored contents for words, settings and tokens
-abbrev pub kept_of : Parts → LineKept
-kept_of p = if is_numbered p then by_numbers (numbered_words p.words p.tokens)
+abbrev pub stored_contents : Parts → StoredLine
+stored_contents p = if is_numbered p then by_numbers (numbered_words p.words p.tokens)
     else by_symbols (symbols_kept_of p)
 
 -- the stored contents of all lines
@@ -97,7 +97,7 @@ symbols_at all p = record {
 }
 
 -- the contents at a position
-abbrev pub parts_at : AllKept → Kept → LineKept
+abbrev pub parts_at : AllKept → Kept → StoredLine
 parts_at all (places.Numbers first count) =
     by_numbers (slice_range all.numbered first (first + count))
 parts_at all (places.Symbols p) = by_symbols (symbols_at all p)
@@ -142,17 +142,17 @@ abbrev pub AreWithin : AllKept → List LineEnd → Type 0
 AreWithin all ends = AllByRecursion (λ e. LiesWithin all e.parts.kept) ends
 
 -- whether block delete skips a line, and its stored contents
-abbrev pub said_in : Result Said LineFault → Option (Bool × LineKept)
-said_in (Ok said) = Some (said.deleted, kept_of said.parts)
-said_in (Err fault) = None
+abbrev pub parsed_in : Result Said LineFault → Option (Bool × StoredLine)
+parsed_in (Ok said) = Some (said.deleted, stored_contents said.parts)
+parsed_in (Err fault) = None
 
-abbrev pub line_said : Line → Option (Bool × LineKept)
-line_said line = said_in (line_read line.bytes)
+abbrev pub parsed_line : Line → Option (Bool × StoredLine)
+parsed_line line = parsed_in (line_read line.bytes)
 
 -- the stored contents of a line
-abbrev pub line_kept : AllKept → LineEnd → Option (Bool × LineKept)
+abbrev pub line_kept : AllKept → LineEnd → Option (Bool × StoredLine)
 line_kept all e = Some (e.parts.deleted, parts_at all e.parts.kept)
 
 -- the contents of each line are stored
 abbrev pub AreKept : AllKept → List Line → List LineEnd → Type 0
-AreKept all lines ends = map line_said lines ≡ map (line_kept all) ends
+AreKept all lines ends = map parsed_line lines ≡ map (line_kept all) ends

@@ -100,8 +100,8 @@ RefusedBy why faults.Memory = Unit {0}
 RefusedBy why faults.Device = ⊥
 
 -- no byte is a line feed
-abbrev pub NoFeed : List ℕ → Type 0
-NoFeed bytes = AllByRecursion (λ b. b ≢ 10) bytes
+abbrev pub HasNoLineFeed : List ℕ → Type 0
+HasNoLineFeed bytes = AllByRecursion (λ b. b ≢ 10) bytes
 
 -- the first line of some bytes begins in this way
 pub record GoesOn (lines : List ℕ → List (List ℕ)) (line rest : List ℕ) : Type 0 where
@@ -112,8 +112,8 @@ pub record GoesOn (lines : List ℕ → List (List ℕ)) (line rest : List ℕ) 
 -- A way to split bytes into lines: a line feed ends one, and one that is already too long continues
 -- with whatever follows.
 pub record PartsLines (lines : List ℕ → List (List ℕ)) : Type 0 where
-  pub ends : (line rest : List ℕ) → NoFeed line → lines (line ++ (10 ∷ rest)) ≡ line ∷ lines rest
-  pub long : (line rest : List ℕ) → NoFeed line → 256 < length line → GoesOn lines line rest
+  pub ends : (line rest : List ℕ) → HasNoLineFeed line → lines (line ++ (10 ∷ rest)) ≡ line ∷ lines rest
+  pub long : (line rest : List ℕ) → HasNoLineFeed line → 256 < length line → GoesOn lines line rest
 
 -- the result of these bytes after those so far, split into lines in this way
 abbrev pub resumed : {A : Type 0} → (List ℕ → List (List ℕ)) → Loader A → List ℕ → Outcome
@@ -129,32 +129,32 @@ standing (Err faults.Memory) = None
 standing (Err faults.Device) = None
 
 -- a fault of the lines so far, or lack of memory
-abbrev pub IsOfLines : ReadFault → Type 0
-IsOfLines fault = (fault ≢ faults.NoEnd) × (fault ≢ faults.Device)
+abbrev pub IsLineFault : ReadFault → Type 0
+IsLineFault fault = (fault ≢ faults.NoEnd) × (fault ≢ faults.Device)
 
 -- bytes that a line feed splits
 pub record IsSplit (bytes line behind : List ℕ) : Type 0 where
-  pub feedless : NoFeed line
+  pub feedless : HasNoLineFeed line
   pub parts : bytes ≡ line ++ (10 ∷ behind)
 
 pub record IsLoading {A : Type 0} (l : Loader A) : Type 0 where
-  pub feedless : NoFeed l.cut.items
+  pub feedless : HasNoLineFeed l.cut.items
   pub short : length l.cut.items ≤ 256
 
-abbrev pub phase_room : Phase → ℕ
-phase_room Start = 257
-phase_room Marked = 0
-phase_room Unmarked = 0
+abbrev pub phase_space : Phase → ℕ
+phase_space Start = 257
+phase_space Marked = 0
+phase_space Unmarked = 0
 
 -- the greatest number of further bytes
-abbrev pub room_behind : {A : Type 0} → LinesSoFar A → ℕ
-room_behind l = 257 * (100001 - length (lines_in l.lines)) + phase_room l.phase
+abbrev pub space_after : {A : Type 0} → LinesSoFar A → ℕ
+space_after l = 257 * (100001 - length (lines_in l.lines)) + phase_space l.phase
 
 abbrev pub room_of : {A : Type 0} → Loader A → ℕ
-room_of l = room_behind l.found - length l.cut.items
+room_of l = space_after l.found - length l.cut.items
 
 -- after a step the result of the text is still open, or certain
-abbrev pub StepGives : Result Step ReadFault → Outcome → Outcome → ProgramText → Type 0
-StepGives (Ok More) before after now = before ≡ after
-StepGives (Ok End) before after now = before ≡ Ok now
-StepGives (Err fault) before after now = FaultIs fault before
+abbrev pub StepResultIs : Result Step ReadFault → Outcome → Outcome → ProgramText → Type 0
+StepResultIs (Ok More) before after now = before ≡ after
+StepResultIs (Ok End) before after now = before ≡ Ok now
+StepResultIs (Err fault) before after now = FaultIs fault before

@@ -7,13 +7,13 @@ use Rattle.ngc_line_reader.specs.ProgramText.{first_fault}
 
 -- The lines that are certain whatever follows, after the beginning of a line: a line feed ends a
 -- line, and one of more than 256 bytes is already too long.
-abbrev pub firm_behind : List ℕ → List ℕ → List (List ℕ)
-firm_behind line [] = if nat_le (length line) 256 then [] else line ∷ []
-firm_behind line (b ∷ bytes) =
-    if b == 10 then line ∷ firm_behind [] bytes else firm_behind (line ++ (b ∷ [])) bytes
+abbrev pub certain_after : List ℕ → List ℕ → List (List ℕ)
+certain_after line [] = if nat_le (length line) 256 then [] else line ∷ []
+certain_after line (b ∷ bytes) =
+    if b == 10 then line ∷ certain_after [] bytes else certain_after (line ++ (b ∷ [])) bytes
 
 abbrev pub firm_lines : List ℕ → List (List ℕ)
-firm_lines bytes = firm_behind [] bytes
+firm_lines bytes = certain_after [] bytes
 
 -- the fault that is certain after these bytes: the first one of the lines that are read and certain
 abbrev pub fault_so_far : List ℕ → Option ReadFault

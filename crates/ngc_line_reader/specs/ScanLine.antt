@@ -69,16 +69,16 @@ word_at place room found letter s =
     Ok (with_word place found letter s x.0, x.1))
 
 -- a setting's value, after its index
-unfoldable pub value_behind : (ℕ → ℕ) → ℕ → Parts → List ℕ → List Token → List ℕ →
+unfoldable pub value_after : (ℕ → ℕ) → ℕ → Parts → List ℕ → List Token → List ℕ →
     Result (Parts × List ℕ) ItemRefusal
-value_behind place room found s index r =
+value_after place room found s index r =
     if begins 61 r
     then (real_at place room index (drop 1 r) >>= λ x.
     Ok (with_setting place found s index x.0, x.1)) else Err (refusal BadNumber r)
 
 unfoldable pub setting_at : (ℕ → ℕ) → ℕ → Parts → List ℕ → Result (Parts × List ℕ) ItemRefusal
 setting_at place room found s =
-    real_at place room found.tokens (drop 1 s) >>= λ x. value_behind place room found s x.0 x.1
+    real_at place room found.tokens (drop 1 s) >>= λ x. value_after place room found s x.0 x.1
 
 abbrev pub is_comment_byte : ℕ → Bool
 is_comment_byte b = not (b == 40) && not (b == 41)

@@ -26,8 +26,8 @@ abbrev pub items_of : Parts → Items
 items_of p = record { words = p.words; settings = p.settings; symbols = symbols p.tokens }
 
 -- the words, settings and symbols of a reading of these bytes
-abbrev pub items_said : List ℕ → Reading → Items
-items_said bytes r = record {
+abbrev pub parsed_items : List ℕ → Reading → Items
+parsed_items bytes r = record {
   words = words_from (place_in (columns bytes)) 0 r.items (behind 59 r.remark);
   settings = settings_from (place_in (columns bytes)) 0 r.items (behind 59 r.remark);
   symbols = symbols (all_tokens (place_in (columns bytes)) r.items (behind 59 r.remark));
@@ -36,7 +36,7 @@ items_said bytes r = record {
 -- these are the contents of a reading of these bytes
 pub record Shows (bytes : List ℕ) (deleted : Bool) (parts : Parts) (r : Reading) : Type 0 where
   pub deletes : deleted ≡ r.deleted
-  pub says : items_of parts ≡ items_said bytes r
+  pub says : items_of parts ≡ parsed_items bytes r
 
 -- The bytes have a reading, its numbers are in range, and these are its contents.
 pub record ShowsReading (bytes : List ℕ) (deleted : Bool) (parts : Parts) : Type 0 where

@@ -3,9 +3,9 @@ use Rattle.std.proofs.Common.{◌≡◌, ◌+◌, ◌<◌, ◌≤◌, ℕ, ℤ, 
 use Rattle.std.proofs.lemmas.List.{append_assoc, append-nil, drop_more}
 use Rattle.std.proofs.Math.ListN.{drop_of_length-le}
 use Rattle.std.specs.Io.KnownBytes.{Appends}
-use Rattle.ngc_text.specs.Written.{AppendsBeginning}
-use Rattle.ngc_text.proofs.Appended.{appends_both, begins_after}
-use Rattle.ngc_text.specs.Collected.{WritesFront}
+use Rattle.ngc_text.specs.Written.{AppendsPrefix}
+use Rattle.ngc_text.proofs.AppendedTexts.{appends_both, begins_after}
+use Rattle.ngc_text.specs.Collected.{WritesPrefix}
 use Rattle.ngc_commands.specs.declared.command.Command.{Command}
 use Rattle.ngc_listing.specs.Listing.{listing_line, listing_from}
 
@@ -14,7 +14,7 @@ abbrev pub Progress : Option (List ℕ) → Option (List ℕ) → List ℕ → L
 Progress old now chunk rest whole = (bs : List ℕ) × Appends old now bs × (whole ≡ bs ++ (chunk ++ rest))
 
 -- a prefix of the collected text is written
-pub wrote_front : (old mid new : Option (List ℕ)) (before after rest whole : List ℕ) → Progress old mid before rest whole → WritesFront mid new before after →
+pub wrote_front : (old mid new : Option (List ℕ)) (before after rest whole : List ℕ) → Progress old mid before rest whole → WritesPrefix mid new before after →
     Progress old new after rest whole
 wrote_front old mid new before after rest whole done front =
     let moved : before ++ rest ≡ front.0 ++ (after ++ rest) = ap (λ l. l ++ rest) front.2 ∙ append_assoc front.0 after rest in (
@@ -47,10 +47,10 @@ pub no_rest : (step : ℤ) (commands : List Command) (index : ℕ) → length co
 no_rest step commands index h = ap (listing_from index step) (drop_of_length-le commands h)
 
 -- a part of the collected text was written
-pub stopped : (old mid new : Option (List ℕ)) (chunk rest whole : List ℕ) → Progress old mid chunk rest whole → AppendsBeginning mid new chunk →
-    AppendsBeginning old new whole
+pub stopped : (old mid new : Option (List ℕ)) (chunk rest whole : List ℕ) → Progress old mid chunk rest whole → AppendsPrefix mid new chunk →
+    AppendsPrefix old new whole
 stopped old mid new chunk rest whole done part =
-    let P : List ℕ → Type 0 = λ text. AppendsBeginning old new text in
+    let P : List ℕ → Type 0 = λ text. AppendsPrefix old new text in
     subst P (sym done.2) (begins_after old mid new done.0 chunk rest done.1 part)
 
 -- all is written

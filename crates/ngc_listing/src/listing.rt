@@ -2,8 +2,8 @@ ghost use Rattle.std.specs.Prelude.{◌≡◌, ◌+◌, ◌≤◌, ◌++◌, len
 ghost use Rattle.std.specs.Io.KnownBytes.{Appends};
 ghost use Rattle.ngc_text.specs.Failures.{CountsFailure};
 ghost use Rattle.ngc_fixed_length.specs.Length.{IsStep};
-ghost use Rattle.ngc_text.specs.Written.{AppendsBeginning};
-ghost use Rattle.ngc_text.specs.Collected.{CHUNK_SIZE, HasLineRoom};
+ghost use Rattle.ngc_text.specs.Written.{AppendsPrefix};
+ghost use Rattle.ngc_text.specs.Collected.{CHUNK_SIZE, HasSpaceForLine};
 ghost use Rattle.ngc_commands.specs.Movement.{end_of};
 ghost use Rattle.ngc_listing.specs.Listing.{end_text, feed_text, turn_text, plane_text, arc_text};
 ghost use Rattle.ngc_listing.specs.Listing.{spindle_text, coolant_text, number_of_tool};
@@ -202,7 +202,7 @@ fn add_act(chunk: &mut Chunk, step: Nm, action: &Action)
 }
 
 fn add_line(chunk: &mut Chunk, step: Nm, index: usize, command: &Command)
-    requires room { HasLineRoom chunk.old }
+    requires room { HasSpaceForLine chunk.old }
     requires step { IsStep step }
     ensures { chunk.new ≡ chunk.old ++ listing_line step index command.now }
 {
@@ -222,12 +222,12 @@ pub fn write_list<W: Sink>(commands: &[Command], step: Nm, sink: &mut W) -> Resu
     ensures ok { OnOk result
         (Appends (W.written sink.old) (W.written sink.new) (listing step commands.now)) }
     ensures fault { OnErr result
-        (AppendsBeginning (W.written sink.old) (W.written sink.new) (listing step commands.now)) }
+        (AppendsPrefix (W.written sink.old) (W.written sink.new) (listing step commands.now)) }
     ensures counts { CountsFailure (W.failures sink.old) (W.failures sink.new) result }
 {
     let mut chunk = Chunk::new();
     for (index, command) in commands.iter().enumerate() {
-        match chunk.make_room(sink) {
+        match chunk.make_space(sink) {
             Ok(()) => {}
             Err(fault) => return Err(fault),
         }

@@ -5,10 +5,10 @@ pub mod Contents
 -- Range tests, and the facts that they prove.
 pub mod Ranges
 -- Files whose values are all in range.
-pub mod Good
+pub mod GoodFiles
 -- Files that consist of white space and comments only.
-pub mod Blank
+pub mod BlankFiles
 -- How names are stored.
-pub mod Named
+pub mod StoredNames
 -- The first element of a list, and the rest.
 pub mod PartLists

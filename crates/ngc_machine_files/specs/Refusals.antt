@@ -14,6 +14,6 @@ abbrev pub refuse_unless : Bool → FileFault → Result (Unit {0}) FileFault
 refuse_unless b e = if b then Ok tt else Err e
 
 -- the result, seen through a view, equals the definition's, unless memory was refused
-abbrev pub GivesFile : {X Y : Type 0} → (X → Y) → Result X FileFault → Result Y FileFault → Type 0
-GivesFile view (Ok x) says = says ≡ Ok (view x)
-GivesFile view (Err e) says = e ≢ Memory → says ≡ Err e
+abbrev pub FileResultIs : {X Y : Type 0} → (X → Y) → Result X FileFault → Result Y FileFault → Type 0
+FileResultIs view (Ok x) says = says ≡ Ok (view x)
+FileResultIs view (Err e) says = e ≢ Memory → says ≡ Err e

@@ -2,7 +2,7 @@ ghost use Rattle.std.specs.Prelude.{◌≡◌, IfOk, IsOk, option_map};
 ghost use Rattle.ngc_machine_files.specs.Machine.{file_of};
 ghost use Rattle.ngc_machine_files.specs.MachineText.{machine_file, values_in, values_of};
 ghost use Rattle.toml.specs.Errors.{IsBlank};
-ghost use Rattle.ngc_machine_files.specs.Refusals.{GivesFile};
+ghost use Rattle.ngc_machine_files.specs.Refusals.{FileResultIs};
 
 use crate::fault::FileFault;
 use crate::machine::Machine;
@@ -27,7 +27,7 @@ impl Machine<Global> {
     /// wrong kind or length. Otherwise it returns the first of the faults 261 to 267 that holds, or
     /// 900 if memory is refused.
     pub fn read(alloc: Global, bytes: &[u8]) -> Result<Machine<Global>, FileFault>
-        ensures file { GivesFile file_of result (machine_file bytes.now) }
+        ensures file { FileResultIs file_of result (machine_file bytes.now) }
         // A file of white space and comments only is reported as such even without memory.
         ensures blank { IsBlank bytes.now → result ≡ Err FileFault.Document }
     {

@@ -2,7 +2,7 @@ ghost use Rattle.std.specs.Prelude.{◌≡◌, IfOk, IsOk, option_map};
 ghost use Rattle.ngc_machine_files.specs.Tools.{tools_of};
 ghost use Rattle.ngc_machine_files.specs.ToolText.{tool_table, values_in, values_of};
 ghost use Rattle.toml.specs.Errors.{IsBlank};
-ghost use Rattle.ngc_machine_files.specs.Refusals.{GivesFile};
+ghost use Rattle.ngc_machine_files.specs.Refusals.{FileResultIs};
 
 use crate::fault::FileFault;
 use crate::tool_contents::ToolContents;
@@ -28,7 +28,7 @@ impl Tools<Global> {
     /// range, a tool's number that occurs twice or more than 1,000 tools, and 900 if memory is
     /// refused.
     pub fn read(alloc: Global, bytes: &[u8]) -> Result<Tools<Global>, FileFault>
-        ensures tools { GivesFile tools_of result (tool_table bytes.now) }
+        ensures tools { FileResultIs tools_of result (tool_table bytes.now) }
         // A file of white space and comments only is reported as such even without memory.
         ensures blank { IsBlank bytes.now → result ≡ Err FileFault.Document }
     {

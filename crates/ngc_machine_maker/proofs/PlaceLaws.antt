@@ -11,7 +11,7 @@ use Rattle.ngc_machine_maker.specs.declared.figures.Figures.{Figures}
 use Rattle.ngc_machine_maker.specs.declared.numbers.Steps.{Steps}
 use Rattle.ngc_machine_maker.specs.declared.rates.Rates.{Rates}
 use Rattle.ngc_machine_maker.specs.declared.scale.Scale.{Scale}
-use Rattle.ngc_machine_maker.specs.Asked.{IsTravelWithin, IsNoMoreThanAsked, scale_in}
+use Rattle.ngc_machine_maker.specs.Asked.{IsTravelWithin, IsWithinRequest, scale_in}
 use Rattle.ngc_machine_maker.specs.InFile.{IsAxisInFile, AreInFile, AreStepsWithin}
 use Rattle.ngc_machine_maker.specs.Numbers.{numbers_by}
 use Rattle.ngc_machine_maker.specs.Places.{low_of, high_of, coordinate}
@@ -117,7 +117,7 @@ abbrev scale_with : ℕ → ℕ → Scale
 scale_with steps step = record { steps = steps; step = step }
 
 pub numbers_as_asked : (f : Figures) (scale : Scale) (rates : Rates) (steps : Steps) (ring : Option ℕ) → scale.steps ≡ f.steps.millionths → AreSafe scale rates f
-    → AreNoFarther scale steps.travel f.travel → IsNoMoreThanAsked (numbers_by f scale rates steps ring) f
+    → AreNoFarther scale steps.travel f.travel → IsWithinRequest (numbers_by f scale rates steps ring) f
 numbers_as_asked f scale rates steps ring same r w =
     let own : scale ≡ scale_in (numbers_by f scale rates steps ring) f = ap (λ (n : ℕ). scale_with n scale.step) same in
     record {

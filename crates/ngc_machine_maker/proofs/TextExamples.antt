@@ -13,7 +13,7 @@ use Rattle.ngc_machine_maker.specs.declared.refusal.Stop.TheVariants as stops
 use Rattle.ngc_machine_maker.specs.Choices.{place_in, ring_in}
 use Rattle.ngc_machine_maker.specs.Decimals.{number_in}
 use Rattle.ngc_machine_maker.specs.File.{heading, scale_text, scale_after, steps_text, errors_text}
-use Rattle.ngc_machine_maker.specs.File.{step_lines, speed_lines, acceleration_lines, asked_lines, place_lines}
+use Rattle.ngc_machine_maker.specs.File.{step_lines, speed_lines, acceleration_lines, requested_lines, place_lines}
 use Rattle.ngc_machine_maker.specs.File.{file_text, notes_text}
 use Rattle.ngc_machine_maker.specs.Grbl.{lines_of, has_setting, value_of, setting, figures_in}
 use Rattle.ngc_machine_maker.specs.Options.{lengths_in, speeds_in, second_speed_in, frame_in}
@@ -45,12 +45,12 @@ small_numbers = record {
 -- 21 millionths per tick at 27,000 ticks per second are 15,309 steps per second squared: 19.136
 -- mm/s^2
 file_of_a_small_router : file_text small_numbers small_router ≡ codes "# Made by `ngc machine`. Lengths are nanometres, rates are millionths of a step in a\n# tick, three numbers are X, Y, Z, and remarks are in the units of a shop.\n\nversion = 2\nstep = 1250 # 0.00125 mm\nticks_per_second = 27000 # how often the controller may make steps\nmax_rate = 493827 # 1000 mm/min\naxis_rate = [493827, 493827, 296296] # X 1000, Y 1000, Z 599.999 mm/min\ncorner = 148148 # 300 mm/min\njump = 0 # 0 mm/min\nchange = 21 # 19.136 mm/s^2\nturn = 10973936 # 20 mm/s^2 on arcs at most\nlow = [0, 0, -45000000] # X 0, Y 0, Z -45 mm\nhigh = [300000000, 180000000, 0] # X 300, Y 180, Z 0 mm\nstart = [0, 0, 0] # X 0, Y 0, Z 0 mm\nhome28 = [0, 0, 0] # X 0, Y 0, Z 0 mm\nhome30 = [0, 0, 0] # X 0, Y 0, Z 0 mm\n"
-unfolding digits number_text length_text heading scale_after step_lines speed_lines acceleration_lines asked_lines place_lines line_text value_text remark_text
+unfolding digits number_text length_text heading scale_after step_lines speed_lines acceleration_lines requested_lines place_lines line_text value_text remark_text
 file_of_a_small_router = refl
 
 -- a ring and arcs at their feed have a line each, in this order
-lines_that_are_asked_for : asked_lines (record small_numbers { ring = Some 64; arc_feed = true }) ≡ codes "ring = 64 # how many commands are loaded and not done at most\narc_feed = 1 # arcs run at their feed at every place\n"
-unfolding digits asked_lines line_text value_text remark_text
+lines_that_are_asked_for : requested_lines (record small_numbers { ring = Some 64; arc_feed = true }) ≡ codes "ring = 64 # how many commands are loaded and not done at most\narc_feed = 1 # arcs run at their feed at every place\n"
+unfolding digits requested_lines line_text value_text remark_text
 lines_that_are_asked_for = refl
 
 no_note_of_a_small_router : notes_text small_numbers small_router ≡ codes ""

@@ -31,7 +31,7 @@ pub record IsTravelWithin (scale : Scale) (low high : ℤ) (length : Length) : T
   pub by_motor :
       unsigned_abs (high -ℤ low) * 1000000000000 ≤ length.nanometres * (scale.steps * scale.step)
 
-pub record IsNoMoreThanAsked (n : MachineNumbers) (f : Figures) : Type 0 where
+pub record IsWithinRequest (n : MachineNumbers) (f : Figures) : Type 0 where
   pub rates : AreSafe (scale_in n f) (rates_in n) f
   pub x : IsTravelWithin (scale_in n f) n.low.x n.high.x f.travel.x
   pub y : IsTravelWithin (scale_in n f) n.low.y n.high.y f.travel.y

@@ -66,8 +66,8 @@ abbrev pub arc_feed_line : Bool → List ℕ
 arc_feed_line arc_feed =
     if arc_feed then line_text (codes "arc_feed") (values.Number 1) remarks.ArcFeed else []
 
-unfoldable pub asked_lines : MachineNumbers → List ℕ
-asked_lines n = ring_line n.ring ++ arc_feed_line n.arc_feed
+unfoldable pub requested_lines : MachineNumbers → List ℕ
+requested_lines n = ring_line n.ring ++ arc_feed_line n.arc_feed
 
 abbrev pub place_line : List ℕ → PerAxis ℤ → List ℕ
 place_line key place = line_text key (values.Place place) (remarks.Place place)
@@ -80,7 +80,7 @@ place_lines n = place_line (codes "low") n.low ++ place_line (codes "high") n.hi
 -- the whole file
 abbrev pub file_text : MachineNumbers → Figures → List ℕ
 file_text n f = heading ++ scale_after (codes "# ") n f ++ step_lines n ++ speed_lines n
-    ++ acceleration_lines n ++ asked_lines n ++ place_lines n
+    ++ acceleration_lines n ++ requested_lines n ++ place_lines n
 
 -- the notes on it
 abbrev pub notes_text : MachineNumbers → Figures → List ℕ

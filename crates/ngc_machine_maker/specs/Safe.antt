@@ -21,8 +21,8 @@ IsNoFaster scale ticks rate speed =
     IsNoMore scale rate (speed.micrometres_a_minute * 1000000000) (60 * ticks)
 
 -- a change of the rate is no greater than an acceleration
-abbrev pub IsNoHarder : Scale → ℕ → ℕ → ℕ → Type 0
-IsNoHarder scale ticks change acceleration =
+abbrev pub IsNoGreaterAcceleration : Scale → ℕ → ℕ → ℕ → Type 0
+IsNoGreaterAcceleration scale ticks change acceleration =
     IsNoMore scale change (acceleration * 1000000000) (ticks * ticks)
 
 -- the same for an arc where it runs diagonally, which has twice its turn
@@ -37,7 +37,7 @@ pub record AreNoFaster (scale : Scale) (ticks : ℕ) (rates : PerAxis ℕ) (feed
   pub z : IsNoFaster scale ticks rates.z feed.z
 
 abbrev pub IsFollowedBy : Scale → ℕ → ℕ → Acceleration → Type 0
-IsFollowedBy scale ticks change a = IsNoHarder scale ticks change a.micrometres_a_second_squared
+IsFollowedBy scale ticks change a = IsNoGreaterAcceleration scale ticks change a.micrometres_a_second_squared
 
 -- rates and changes are no greater than requested, on each axis
 pub record AreSafe (scale : Scale) (rates : Rates) (f : Figures) : Type 0 where

@@ -4,12 +4,12 @@ ghost use Rattle.std.specs.Io.KnownBytes.{Appends};
 ghost use Rattle.ngc_text.specs.Collected.{CHUNK_SIZE};
 ghost use Rattle.ngc_text.specs.Failures.{CountsFailure};
 ghost use Rattle.ngc_text.specs.Millimetres.{size_text};
-ghost use Rattle.ngc_text.specs.Written.{AppendsBeginning};
+ghost use Rattle.ngc_text.specs.Written.{AppendsPrefix};
 ghost use Rattle.ngc_machine_maker.specs.Asked.{scale_in};
 ghost use Rattle.ngc_machine_maker.specs.File.{heading, direction_text, steps_text, errors_text};
 ghost use Rattle.ngc_machine_maker.specs.File.{scale_text, scale_after, step_lines, rate_line};
 ghost use Rattle.ngc_machine_maker.specs.File.{speed_lines, acceleration_lines, place_line};
-ghost use Rattle.ngc_machine_maker.specs.File.{ring_line, arc_feed_line, asked_lines, place_lines};
+ghost use Rattle.ngc_machine_maker.specs.File.{ring_line, arc_feed_line, requested_lines, place_lines};
 ghost use Rattle.ngc_machine_maker.specs.File.{file_text, notes_text};
 ghost use Rattle.ngc_machine_maker.specs.InFile.{AreInFile};
 ghost use Rattle.ngc_machine_maker.specs.Ranges.{IsScale};
@@ -199,10 +199,10 @@ fn add_arc_feed(chunk: &mut Chunk, arc_feed: bool)
 }
 
 // Adds the keys that are written only on request.
-#[tactic(auto, unfolding(crate::specs::File::asked_lines))]
-fn add_asked_lines(chunk: &mut Chunk, numbers: &MachineNumbers)
+#[tactic(auto, unfolding(crate::specs::File::requested_lines))]
+fn add_requested_lines(chunk: &mut Chunk, numbers: &MachineNumbers)
     requires { length chunk.old + 660 ≤ CHUNK_SIZE }
-    ensures text { chunk.new ≡ chunk.old ++ asked_lines numbers.now }
+    ensures text { chunk.new ≡ chunk.old ++ requested_lines numbers.now }
     ensures short { length chunk.new ≤ length chunk.old + 660 }
 {
     add_ring(chunk, numbers.ring);
@@ -243,7 +243,7 @@ fn add_file(chunk: &mut Chunk, numbers: &MachineNumbers, figures: &Figures)
     add_step_lines(chunk, numbers);
     add_speed_lines(chunk, numbers);
     add_acceleration_lines(chunk, numbers);
-    add_asked_lines(chunk, numbers);
+    add_requested_lines(chunk, numbers);
     add_place_lines(chunk, numbers);
 }
 
@@ -258,7 +258,7 @@ pub fn write_machine_file<W: Sink>(
     requires scale { IsScale (scale_in numbers.now figures.now) }
     ensures ok { OnOk result
         (Appends (W.written sink.old) (W.written sink.new) (file_text numbers.now figures.now)) }
-    ensures fault { OnErr result (AppendsBeginning (W.written sink.old) (W.written sink.new)
+    ensures fault { OnErr result (AppendsPrefix (W.written sink.old) (W.written sink.new)
         (file_text numbers.now figures.now)) }
     ensures counts { CountsFailure (W.failures sink.old) (W.failures sink.new) result }
 {
@@ -278,7 +278,7 @@ pub fn write_notes<W: Sink>(
     requires scale { IsScale (scale_in numbers.now figures.now) }
     ensures ok { OnOk result
         (Appends (W.written sink.old) (W.written sink.new) (notes_text numbers.now figures.now)) }
-    ensures fault { OnErr result (AppendsBeginning (W.written sink.old) (W.written sink.new)
+    ensures fault { OnErr result (AppendsPrefix (W.written sink.old) (W.written sink.new)
         (notes_text numbers.now figures.now)) }
     ensures counts { CountsFailure (W.failures sink.old) (W.failures sink.new) result }
 {

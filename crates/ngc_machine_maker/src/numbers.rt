@@ -3,7 +3,7 @@ ghost use Rattle.std.specs.Prelude.{◌≡◌, IfOk, IfSome};
 ghost use Rattle.ngc_machine_maker.specs.Numbers.{numbers_of, placed, numbers_by, ring_of};
 ghost use Rattle.ngc_machine_maker.specs.Ranges.{IsScale, AreAllRates, AreTravels, AreStops, IsRing};
 ghost use Rattle.ngc_machine_maker.specs.InFile.{AreInFile, ArePlacesInFile, AreStepsWithin};
-ghost use Rattle.ngc_machine_maker.specs.Asked.{IsNoMoreThanAsked, scale_in};
+ghost use Rattle.ngc_machine_maker.specs.Asked.{IsWithinRequest, scale_in};
 ghost use Rattle.ngc_machine_maker.specs.Safe.{AreNoFarther};
 
 use crate::figures::{Figures, PerAxis};
@@ -94,7 +94,7 @@ fn ring_of(ring: Option<u32>) -> Result<Option<u32>, FigureRefusal>
 pub fn numbers_of(figures: &Figures) -> Result<MachineNumbers, FigureRefusal>
     ensures value { result ≡ numbers_of figures.now }
     ensures range { IfOk result AreInFile }
-    ensures safe { IfOk result (λ numbers. IsNoMoreThanAsked numbers figures.now) }
+    ensures safe { IfOk result (λ numbers. IsWithinRequest numbers figures.now) }
     ensures scale { IfOk result (λ numbers. IsScale (scale_in numbers figures.now)) }
 {
     let scale = Scale::of(figures.steps)?;

@@ -6,7 +6,7 @@ ghost use Rattle.ngc_machine_maker.specs.Formulas.{chosen_ticks, ticks_of, corne
 ghost use Rattle.ngc_machine_maker.specs.Formulas.{limited_change, limited_turn, arcs_of};
 ghost use Rattle.ngc_machine_maker.specs.Formulas.{greatest_of, rates_of};
 ghost use Rattle.ngc_machine_maker.specs.Ranges.{IsScale, IsRate, AreRates, IsTurn, AreAllRates};
-ghost use Rattle.ngc_machine_maker.specs.Safe.{IsNoMore, IsNoFaster, IsNoHarder, IsNoHarderOnArcs};
+ghost use Rattle.ngc_machine_maker.specs.Safe.{IsNoMore, IsNoFaster, IsNoGreaterAcceleration, IsNoHarderOnArcs};
 ghost use Rattle.ngc_machine_maker.specs.Safe.{AreNoFaster, AreSafe};
 
 use crate::figures::{Acceleration, Axis, Figures, PerAxis, Speed};
@@ -83,7 +83,7 @@ fn change_of(scale: &Scale, ticks: u32, acceleration: u32) -> u128
     requires scale { IsScale scale.now }
     requires ticks { IsRate ticks }
     ensures value { result ≡ change_of scale.now ticks acceleration }
-    ensures safe { IsNoHarder scale.now ticks result acceleration }
+    ensures safe { IsNoGreaterAcceleration scale.now ticks result acceleration }
 {
     let amount = u128::from(acceleration) * 1_000_000_000;
     scale.steps_in(amount, u128::from(ticks) * u128::from(ticks))
@@ -169,7 +169,7 @@ fn limited_change(
     ensures value { result ≡ limited_change scale.now ticks accelerations.now }
     ensures range { IfOk result IsRate }
     ensures safe { IfOk result (λ change.
-        IsNoHarder scale.now ticks change (least accelerations.now)) }
+        IsNoGreaterAcceleration scale.now ticks change (least accelerations.now)) }
 {
     let change = change_of(scale, ticks, least(accelerations)).min(GREATEST_RATE);
     if change == 0 {

@@ -3,7 +3,7 @@ ghost use Rattle.std.specs.Prelude.{◌≡◌, ◌+◌, ◌≤◌, ◌++◌, dec
 ghost use Rattle.std.specs.Io.KnownBytes.{Appends};
 ghost use Rattle.ngc_text.specs.Collected.{CHUNK_SIZE};
 ghost use Rattle.ngc_text.specs.Failures.{CountsFailure};
-ghost use Rattle.ngc_text.specs.Written.{AppendsBeginning};
+ghost use Rattle.ngc_text.specs.Written.{AppendsPrefix};
 ghost use Rattle.ngc_machine_maker.specs.declared.refusal.FigureRefusal.TheVariants as refusals;
 ghost use Rattle.ngc_machine_maker.specs.Sentences.{axis_text, stop_text, field_text, refusal_text};
 ghost use Rattle.ngc_machine_maker.specs.Sentences.{refusal_line};
@@ -193,7 +193,7 @@ pub fn write_refusal<W: Sink>(refusal: FigureRefusal, sink: &mut W) -> Result<()
     ensures ok { OnOk result
         (Appends (W.written sink.old) (W.written sink.new) (refusal_line refusal)) }
     ensures fault { OnErr result
-        (AppendsBeginning (W.written sink.old) (W.written sink.new) (refusal_line refusal)) }
+        (AppendsPrefix (W.written sink.old) (W.written sink.new) (refusal_line refusal)) }
     ensures counts { CountsFailure (W.failures sink.old) (W.failures sink.new) result }
 {
     let mut chunk = Chunk::new();

@@ -27,7 +27,7 @@ use Rattle.ngc_certificate.specs.Chain.{first_cut, are_several}
 use Rattle.ngc_certificate.specs.PieceFault.{ArePiecesValid}
 use Rattle.ngc_certificate.specs.Valid.{AreClearFrom, IsValid}
 use Rattle.ngc_certificate.proofs.ArcEnds.{start_is_safe, end_is_safe}
-use Rattle.ngc_certificate.proofs.Truths.{both, le_of}
+use Rattle.ngc_certificate.proofs.TrueTests.{both, le_of}
 use Rattle.ngc_machine_model.proofs.SafePositions.{one_step}
 
 abbrev pub IsArcIfCurved : Way → Type 0

@@ -19,10 +19,10 @@ use Rattle.ngc_events.specs.declared.event.Event.TheVariants.{Load, Tick, Hold, 
 use Rattle.ngc_machine_model.specs.State.{Job, Queued, State, opening, loaded, command_at, path_steps, millionths}
 use Rattle.ngc_machine_model.specs.Step.{Outcome, Step, LoadCommand, MayTake, Rests, Finishes, Dwells, Serves, Travels, HeadTick, TickBy, without_head, after}
 use Rattle.ngc_machine_model.specs.Step.{place_after, ticks_of}
-use Rattle.ngc_machine_model.specs.RateRules.{GoesOnInto}
+use Rattle.ngc_machine_model.specs.RateRules.{PassesInto}
 use Rattle.ngc_machine_model.specs.Run.{Run, step_to, pulses}
 use Rattle.ngc_machine_model.specs.Progress.{is_tick}
-use Rattle.ngc_machine_model.proofs.Cases.{match_with}
+use Rattle.ngc_machine_model.proofs.TestCases.{match_with}
 use Rattle.ngc_machine_model.proofs.SafeRun.{RingFits}
 use Rattle.ngc_machine_model.proofs.RatesOfRun.{Fits, after_stays, event_keeps, goes_over, over_small}
 use Rattle.ngc_machine_model.proofs.Travel.{moved}
@@ -114,7 +114,7 @@ same_along axis path j k still jk kj kn = elim (cases_lt j k) [
 
 -- the distance that passes into the next motion
 over_slow : (job : Job) (axis : Axis) (moves : Action → Bool) (most : ℕ) → IsBoundOn job axis moves most → (l : Queued) (ls : List Queued) (over v : ℕ) →
-    (0 < over → GoesOnInto job v l ls) → over ≤ v → on_head moves ls over ≤ most
+    (0 < over → PassesInto job v l ls) → over ≤ v → on_head moves ls over ≤ most
 over_slow job axis moves most b l [] over v into h = omega arith
 over_slow job axis moves most b l (k ∷ ks) over v into h = elim (cases_Bool (moves k.command.action)) [
   | inl moving ↦

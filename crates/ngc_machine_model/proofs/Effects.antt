@@ -20,7 +20,7 @@ use Rattle.ngc_machine_model.specs.State.{Job, Queued, State, loaded, command_at
 use Rattle.ngc_machine_model.specs.Step.{Outcome, Step, LoadCommand, MayTake, Rests, Finishes, Dwells, Serves, Travels, HeadTick, TickBy, without_head, after}
 use Rattle.ngc_machine_model.specs.Step.{ending, ends_at, pulse, place_after, ticks_of}
 use Rattle.ngc_machine_model.specs.Run.{position_in}
-use Rattle.ngc_machine_model.proofs.Cases.{match_with}
+use Rattle.ngc_machine_model.proofs.TestCases.{match_with}
 use Rattle.ngc_machine_model.proofs.RatesOfRun.{Fits, GoesOver, goes_over, travel_small}
 
 -- the part of a state on which the remaining path depends

@@ -22,9 +22,9 @@ use Rattle.ngc_machine_model.specs.Reach.{rest}
 use Rattle.ngc_machine_model.specs.Step.{Outcome, Step, LoadCommand, MayTake, Rests, Finishes, Dwells, Serves, Travels, HeadTick, TickBy, without_head, after}
 use Rattle.ngc_machine_model.specs.Step.{ticks_of}
 use Rattle.ngc_machine_model.specs.Run.{Run}
-use Rattle.ngc_machine_model.specs.Progress.{IsFree, TravelsAtLeast, GoesOn, KeepGoing, is_tick, is_free, ComesToHead, has_head, free_ticks, ticks_for, least_rate}
+use Rattle.ngc_machine_model.specs.Progress.{IsFree, TravelsAtLeast, GoesOn, KeepGoing, is_tick, is_free, BecomesHead, has_head, free_ticks, ticks_for, least_rate}
 use Rattle.ngc_machine_model.specs.Headline.{EndsInTime, MachinesRunInTime}
-use Rattle.ngc_machine_model.proofs.Cases.{match_with}
+use Rattle.ngc_machine_model.proofs.TestCases.{match_with}
 use Rattle.ngc_machine_model.proofs.KeptPaths.{keep_paths}
 use Rattle.ngc_machine_model.proofs.RatesOfRun.{Fits, after_stays, event_keeps}
 use Rattle.ngc_machine_model.proofs.Travel.{moved}
@@ -240,7 +240,7 @@ run_bounded job k l old (e ∷ es) (o ∷ os) (new ∷ states) small f some leas
     (event_counts job k l old e o new f some shows r.0 g.0) (event_ahead job old e o new r.0) i
 
 -- command k is at the head only as this one
-shown : (k : ℕ) (l : Queued) (states : List State) → ((m : Queued) → ComesToHead k m states → m ≡ l) → All (λ (s : State). Shows k l s s.ring) states
+shown : (k : ℕ) (l : Queued) (states : List State) → ((m : Queued) → BecomesHead k m states → m ≡ l) → All (λ (s : State). Shows k l s s.ring) states
 shown k l states no_other i d lt = at (slice_index_or states i d).ring refl
   where
     at : (ring : List Queued) → (slice_index_or states i d).ring ≡ ring → Shows k l (slice_index_or states i d) ring

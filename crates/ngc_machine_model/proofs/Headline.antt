@@ -13,7 +13,7 @@ use Rattle.ngc_machine_model.proofs.Arcs.{are_arcs}
 use Rattle.ngc_machine_model.proofs.SafePositions.{positions_safe}
 use Rattle.ngc_machine_model.proofs.RatesOfRun.{rates_of_run}
 use Rattle.ngc_machine_model.proofs.AxisRules.{pulse_rules}
-use Rattle.ngc_machine_model.proofs.Way.{way_begins, way_ended}
+use Rattle.ngc_machine_model.proofs.ProgramPathLaws.{way_begins, way_ended}
 use Rattle.ngc_machine_model.proofs.Settings.{entries_at, setting_is_valid, setting_is_joined, setting_is_even}
 
 runs_safely : (machine : MachineFile) (commands : List Command) (entries : List Entry) → IsMachine machine → IsValid machine commands entries →

@@ -7,7 +7,7 @@ use Rattle.ngc_events.specs.declared.event.Event.{Event}
 use Rattle.ngc_machine_model.specs.State.{Job, Queued, State, opening, command_at}
 use Rattle.ngc_machine_model.specs.Step.{Outcome, MayTake}
 use Rattle.ngc_machine_model.specs.Run.{Run}
-use Rattle.ngc_machine_model.specs.Progress.{IsHead, ComesToHead}
+use Rattle.ngc_machine_model.specs.Progress.{IsHead, BecomesHead}
 use Rattle.ngc_machine_model.specs.Headline.{KeepPaths}
 use Rattle.ngc_machine_model.proofs.Rings.{RingAfter, stays, grows, shrinks, ring_after}
 
@@ -71,7 +71,7 @@ known_head k l m s known h =
     let e : Some m ≡ Some l = sym h.1 ∙ ap (slice_get s.ring) z ∙ known (omega (arith, d)) in cc
 
 no_other : (job : Job) (k : ℕ) (l m : Queued) (old : State) (es : List Event) (os : List Outcome) (states : List State) → Run job old es os states →
-    ComesToHead k l states → ComesToHead k m states → m ≡ l
+    BecomesHead k l states → BecomesHead k m states → m ≡ l
 no_other job k l m old es os [] r a b = absurd (omega (arith, a.2))
 no_other job k l m old [] [] (new ∷ states) r a b = absurd r
 no_other job k l m old [] (o ∷ os) (new ∷ states) r a b = absurd r
@@ -85,7 +85,7 @@ no_other job k l m old (e ∷ es) (o ∷ os) (new ∷ states) r a b =
       ]
     ]
   where
-    agree : (k : ℕ) (l m : Queued) (s : State) (states : List State) → AllByRecursion (IsKnown k l) (s ∷ states) → ComesToHead k m (s ∷ states) → m ≡ l
+    agree : (k : ℕ) (l m : Queued) (s : State) (states : List State) → AllByRecursion (IsKnown k l) (s ∷ states) → BecomesHead k m (s ∷ states) → m ≡ l
     agree k l m s states h c = let x = at_any (IsKnown k l) (IsHead k m) (s ∷ states) h c in known_head k l m x.0 x.1 x.2
 
 -- ---- the loaded commands are the job's, on paths that they may take
@@ -125,7 +125,7 @@ none_loaded : (job : Job) → AreCommands job (opening job.machine)
 none_loaded job i l e = cc
 
 loaded_as : (job : Job) (es : List Event) (os : List Outcome) (states : List State) (k : ℕ) (l : Queued) → Run job (opening job.machine) es os states →
-    ComesToHead k l states → IsLoadedAs job k l
+    BecomesHead k l states → IsLoadedAs job k l
 loaded_as job es os states k l r c =
     let x = at_any (AreCommands job) (IsHead k l) states (all_commands job (opening job.machine) es os states r (none_loaded job)) c in
     let d = x.2.0 in

@@ -1,5 +1,5 @@
 -- A test's two cases.
-pub mod Cases
+pub mod TestCases
 -- The ends of a motion's path, and the commands after the head.
 pub mod Heads
 -- Every state of a run is safe if a certificate is valid for the commands.
@@ -44,6 +44,6 @@ pub mod Arcs
 pub mod MotionPaths
 -- The positions of a run begin a path of the program, and when its end is reported they are a whole
 -- one.
-pub mod Way
+pub mod ProgramPathLaws
 -- Every run of an accepted program is safe.
 pub mod Headline

@@ -24,7 +24,7 @@ use Rattle.ngc_machine_model.specs.Step.{place_after, ticks_of}
 use Rattle.ngc_machine_model.specs.Run.{Run, step_to, pulses}
 use Rattle.ngc_machine_model.specs.Safety.{TickKeeps}
 use Rattle.ngc_machine_model.specs.Progress.{is_tick}
-use Rattle.ngc_machine_model.proofs.Cases.{match_with}
+use Rattle.ngc_machine_model.proofs.TestCases.{match_with}
 use Rattle.ngc_machine_model.proofs.SafeRun.{RingFits, one_more}
 use Rattle.ngc_machine_model.proofs.Heads.{next_at, has_ends}
 use Rattle.ngc_machine_model.proofs.RatesOfRun.{Fits, GoesOver, after_stays, event_keeps, flows_some, goes_over, over_small, none_over}

@@ -17,13 +17,13 @@ use Rattle.ngc_planner.specs.Bounds.{IsWithinBounds, IsMotion, bound_of, least_t
 use Rattle.ngc_planner.specs.Joints.{joint_before}
 use Rattle.ngc_planner.specs.Leg.{tick_bound}
 use Rattle.ngc_planner.specs.Reach.{ahead, reach as ramp_reach, free as ramp_free}
-use Rattle.ngc_planner.specs.Ramp.{RampState, MayTick, pace as ramp_pace, GoesOnInto as GoesOnLeg}
+use Rattle.ngc_planner.specs.Ramp.{RampState, MayTick, pace as ramp_pace, PassesInto as GoesOnLeg}
 use Rattle.ngc_planner.proofs.ArcFeedLaws.{no_less_by_place}
 use Rattle.ngc_planner.proofs.BoundLaws.{greatest_bound, may_travel_least}
 use Rattle.ngc_planner.proofs.RampLaws.{tick_bound_greatest}
 use Rattle.ngc_machine_model.specs.State.{Job, Queued, State, path_steps, millionths, place_before, effective}
-use Rattle.ngc_machine_model.specs.Reach.{stops, flows_into, leg_of, legs_behind, rest, reach, free}
-use Rattle.ngc_machine_model.specs.RateRules.{GoesOnInto, MayTravel, target, head_bound, pace}
+use Rattle.ngc_machine_model.specs.Reach.{stops, continues_into, leg_of, legs_after, rest, reach, free}
+use Rattle.ngc_machine_model.specs.RateRules.{PassesInto, MayTravel, target, head_bound, pace}
 use Rattle.ngc_machine_model.specs.Progress.{TravelsAtLeast}
 
 -- ---- after a command that continues into nothing
@@ -42,7 +42,7 @@ abbrev pub IsStop : Queued → Type 0
 IsStop l = (path_steps l ≡ 0) ⊎ (stops l.command.action ≡ true)
 
 -- so it continues into no command
-pub flows_nowhere : (l m : Queued) → IsStop l → flows_into l m ≡ false
+pub flows_nowhere : (l m : Queued) → IsStop l → continues_into l m ≡ false
 flows_nowhere l m (inl z) =
     off_by (nat_lt 0 (path_steps l)) (stops l.command.action) (nat_lt 0 (path_steps m)) (inl (le-ltb 0 (path_steps l) (omega (arith, z))))
 flows_nowhere l m (inr s) = off_by (nat_lt 0 (path_steps l)) (stops l.command.action) (nat_lt 0 (path_steps m)) (inr s)
@@ -52,11 +52,11 @@ unjoined_by true x xs others off none = ap (λ j. cond j (x.millionths + ahead x
 unjoined_by false x xs others off none = none refl
 
 -- and nothing is ahead of it
-pub unjoined : (job : Job) (k : ℕ) (l : Queued) (ls : List Queued) → IsStop l → ahead (legs_behind job k l ls) ≡ 0
+pub unjoined : (job : Job) (k : ℕ) (l : Queued) (ls : List Queued) → IsStop l → ahead (legs_after job k l ls) ≡ 0
 unjoined job k l [] stop = refl
 unjoined job k l (m ∷ ms) stop =
-    let behind = legs_behind job (suc k) m ms in
-    unjoined_by (nat_lt 0 (path_steps m)) (leg_of job k (flows_into l m) m) behind behind (flows_nowhere l m stop)
+    let behind = legs_after job (suc k) m ms in
+    unjoined_by (nat_lt 0 (path_steps m)) (leg_of job k (continues_into l m) m) behind behind (flows_nowhere l m stop)
     (λ b. unjoined job (suc k) m ms (inl (none_left (path_steps m) b)))
 
 -- ---- into the next command
@@ -67,26 +67,26 @@ never_by true v x xs others off none h = true≢false (sym h.0 ∙ off)
 never_by false v x xs others off none h = none refl h
 
 -- no rate continues after a stop
-never_goes_on : (job : Job) (k v : ℕ) (l : Queued) (ls : List Queued) → IsStop l → GoesOnLeg v (legs_behind job k l ls) → ⊥
+never_goes_on : (job : Job) (k v : ℕ) (l : Queued) (ls : List Queued) → IsStop l → GoesOnLeg v (legs_after job k l ls) → ⊥
 never_goes_on job k v l [] stop h = h
 never_goes_on job k v l (m ∷ ms) stop h =
-    let behind = legs_behind job (suc k) m ms in
-    never_by (nat_lt 0 (path_steps m)) v (leg_of job k (flows_into l m) m) behind behind (flows_nowhere l m stop)
+    let behind = legs_after job (suc k) m ms in
+    never_by (nat_lt 0 (path_steps m)) v (leg_of job k (continues_into l m) m) behind behind (flows_nowhere l m stop)
     (λ b. never_goes_on job (suc k) v m ms (inl (none_left (path_steps m) b))) h
 
-into_by : (b : Bool) (job : Job) (v : ℕ) (l m : Queued) (x : Leg) (xs others : List Leg) → IsMachine job.machine → x.joined ≡ flows_into l m →
+into_by : (b : Bool) (job : Job) (v : ℕ) (l m : Queued) (x : Leg) (xs others : List Leg) → IsMachine job.machine → x.joined ≡ continues_into l m →
     x.bound ≡ bound_of job.machine m.command.action (path_steps m) → (b ≡ false → GoesOnLeg v others → ⊥) → GoesOnLeg v (cond b (x ∷ xs) others) →
-    (flows_into l m ≡ true) × IsWithinBounds job.machine m.command.action (path_steps m) v
+    (continues_into l m ≡ true) × IsWithinBounds job.machine m.command.action (path_steps m) v
 into_by true job v l m x xs others machine on most none h =
     let low = h.1 in (sym on ∙ h.0, (greatest_bound job.machine m.command.action (path_steps m) v machine).0 (omega (arith, low, most)))
 into_by false job v l m x xs others machine on most none h = absurd (none refl h)
 
 -- a rate that continues into the next leg continues into the next command
-pub goes_into : (job : Job) (k v : ℕ) (l : Queued) (ls : List Queued) → IsMachine job.machine → GoesOnLeg v (legs_behind job k l ls) → GoesOnInto job v l ls
+pub goes_into : (job : Job) (k v : ℕ) (l : Queued) (ls : List Queued) → IsMachine job.machine → GoesOnLeg v (legs_after job k l ls) → PassesInto job v l ls
 goes_into job k v l [] machine h = h
 goes_into job k v l (m ∷ ms) machine h =
-    let behind = legs_behind job (suc k) m ms in
-    into_by (nat_lt 0 (path_steps m)) job v l m (leg_of job k (flows_into l m) m) behind behind machine refl refl
+    let behind = legs_after job (suc k) m ms in
+    into_by (nat_lt 0 (path_steps m)) job v l m (leg_of job k (continues_into l m) m) behind behind machine refl refl
     (λ b. never_goes_on job (suc k) v m ms (inl (none_left (path_steps m) b))) h
 
 -- ---- a tick
@@ -116,10 +116,10 @@ paced p q v way other have there e f g h less = omega (arith, h (omega arith))
 pub may_travel : (job : Job) (l : Queued) (ls : List Queued) (s : State) (r : RampState) (joined : Bool) (wish v : ℕ) → IsMachine job.machine →
     1 ≤ path_steps l →
     r.change ≡ job.machine.change → r.rate ≡ s.rate → r.rest ≡ rest l s → s.travelled ≤ millionths l → wish ≡ target job l s →
-    MayTick r wish (leg_of job s.done joined l) (legs_behind job (suc s.done) l ls) v → MayTravel job l ls s v
+    MayTick r wish (leg_of job s.done joined l) (legs_after job (suc s.done) l ls) v → MayTravel job l ls s v
 may_travel job l ls s r joined wish v machine some change rate left within aim may =
     let leg = leg_of job s.done joined l in
-    let legs = legs_behind job (suc s.done) l ls in
+    let legs = legs_after job (suc s.done) l ls in
     let bound : head_bound job l s ≡ tick_bound leg r.rest = same_bound job joined l s r.rest left within in
     let low = tick_bound_greatest leg r.rest in
     let same : pace job l s ≡ ramp_pace r wish leg =
@@ -149,7 +149,7 @@ no_greater a b c p q = omega arith
 -- while the machine is free it travels at least the least travel of a motion, whatever follows it
 pub travels_at_least : (job : Job) (l : Queued) (ls : List Queued) (s : State) (r : RampState) (joined : Bool) (wish v : ℕ) → IsMachine job.machine →
     IsMotion l.command.action → 1 ≤ path_steps l → r.change ≡ job.machine.change → r.rate ≡ s.rate → r.rest ≡ rest l s → s.travelled ≤ millionths l →
-    wish ≡ target job l s → MayTick r wish (leg_of job s.done joined l) (legs_behind job (suc s.done) l ls) v → TravelsAtLeast job (l ∷ ls) s v
+    wish ≡ target job l s → MayTick r wish (leg_of job s.done joined l) (legs_after job (suc s.done) l ls) v → TravelsAtLeast job (l ∷ ls) s v
 travels_at_least job l ls s r joined wish v machine moves steps change rate left within aim may = λ free some.
     let m = job.machine in
     let c = l.command in
@@ -170,10 +170,10 @@ few_by true x xs n p = omega arith
 few_by false x xs n p = omega arith
 
 -- there are no more legs than commands
-pub no_more_legs : (job : Job) (k : ℕ) (l : Queued) (ls : List Queued) → length (legs_behind job k l ls) ≤ length ls
+pub no_more_legs : (job : Job) (k : ℕ) (l : Queued) (ls : List Queued) → length (legs_after job k l ls) ≤ length ls
 no_more_legs job k l [] = omega arith
 no_more_legs job k l (m ∷ ms) =
-    few_by (nat_lt 0 (path_steps m)) (leg_of job k (flows_into l m) m) (legs_behind job (suc k) m ms) (length ms) (no_more_legs job (suc k) m ms)
+    few_by (nat_lt 0 (path_steps m)) (leg_of job k (continues_into l m) m) (legs_after job (suc k) m ms) (length ms) (no_more_legs job (suc k) m ms)
 
 -- the last of l and those after it
 abbrev pub last_behind : Queued → List Queued → Queued
@@ -186,25 +186,25 @@ more_by false x all some one e = e
 
 -- one more command adds its own leg, if it has one
 pub legs_more : (job : Job) (k : ℕ) (l : Queued) (ls : List Queued) (q : Queued) →
-    legs_behind job k l (ls ++ q ∷ []) ≡ legs_behind job k l ls ++ legs_behind job (k + length ls) (last_behind l ls) (q ∷ [])
-legs_more job k l [] q = let same : k ≡ k + 0 = omega arith in ap (λ n. legs_behind job n l (q ∷ [])) same
+    legs_after job k l (ls ++ q ∷ []) ≡ legs_after job k l ls ++ legs_after job (k + length ls) (last_behind l ls) (q ∷ [])
+legs_more job k l [] q = let same : k ≡ k + 0 = omega arith in ap (λ n. legs_after job n l (q ∷ [])) same
 legs_more job k l (m ∷ ms) q =
     let same : suc k + length ms ≡ k + length (m ∷ ms) = omega arith in
-    let behind = legs_more job (suc k) m ms q ∙ ap (λ n. legs_behind job (suc k) m ms ++ legs_behind job n (last_behind m ms) (q ∷ [])) same in
-    more_by (nat_lt 0 (path_steps m)) (leg_of job k (flows_into l m) m) (legs_behind job (suc k) m (ms ++ q ∷ [])) (legs_behind job (suc k) m ms)
-    (legs_behind job (k + length (m ∷ ms)) (last_behind l (m ∷ ms)) (q ∷ [])) behind
+    let behind = legs_more job (suc k) m ms q ∙ ap (λ n. legs_after job (suc k) m ms ++ legs_after job n (last_behind m ms) (q ∷ [])) same in
+    more_by (nat_lt 0 (path_steps m)) (leg_of job k (continues_into l m) m) (legs_after job (suc k) m (ms ++ q ∷ [])) (legs_after job (suc k) m ms)
+    (legs_after job (k + length (m ∷ ms)) (last_behind l (m ∷ ms)) (q ∷ [])) behind
 
 -- a motion with path steps has one
 pub one_more : (job : Job) (k : ℕ) (l : Queued) (ls : List Queued) (q : Queued) → 1 ≤ path_steps q →
-    legs_behind job k l (ls ++ q ∷ []) ≡ legs_behind job k l ls ++ leg_of job (k + length ls) (flows_into (last_behind l ls) q) q ∷ []
+    legs_after job k l (ls ++ q ∷ []) ≡ legs_after job k l ls ++ leg_of job (k + length ls) (continues_into (last_behind l ls) q) q ∷ []
 one_more job k l ls q some =
-    let x = leg_of job (k + length ls) (flows_into (last_behind l ls) q) q in
-    legs_more job k l ls q ∙ ap (λ b. legs_behind job k l ls ++ cond b (x ∷ []) []) (lt-ltb 0 (path_steps q) (omega (arith, some)))
+    let x = leg_of job (k + length ls) (continues_into (last_behind l ls) q) q in
+    legs_more job k l ls q ∙ ap (λ b. legs_after job k l ls ++ cond b (x ∷ []) []) (lt-ltb 0 (path_steps q) (omega (arith, some)))
 
 -- any other command has none
 pub none_more : (job : Job) (k : ℕ) (l : Queued) (ls : List Queued) (q : Queued) → path_steps q ≡ 0 →
-    legs_behind job k l (ls ++ q ∷ []) ≡ legs_behind job k l ls
+    legs_after job k l (ls ++ q ∷ []) ≡ legs_after job k l ls
 none_more job k l ls q none =
-    let x = leg_of job (k + length ls) (flows_into (last_behind l ls) q) q in
-    legs_more job k l ls q ∙ ap (λ b. legs_behind job k l ls ++ cond b (x ∷ []) []) (le-ltb 0 (path_steps q) (omega (arith, none)))
-    ∙ append-nil (legs_behind job k l ls)
+    let x = leg_of job (k + length ls) (continues_into (last_behind l ls) q) q in
+    legs_more job k l ls q ∙ ap (λ b. legs_after job k l ls ++ cond b (x ∷ []) []) (le-ltb 0 (path_steps q) (omega (arith, none)))
+    ∙ append-nil (legs_after job k l ls)

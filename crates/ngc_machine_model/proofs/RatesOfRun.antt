@@ -16,14 +16,14 @@ use Rattle.ngc_planner.specs.Bounds.{MayTurnOn, MayTurn}
 use Rattle.ngc_events.specs.declared.event.Event.{Event}
 use Rattle.ngc_events.specs.declared.event.Event.TheVariants.{Load, Tick, Hold, Resume, Override, StopSwitch, Start}
 use Rattle.ngc_machine_model.specs.State.{Job, Queued, State, opening, loaded, command_at, path_steps, millionths}
-use Rattle.ngc_machine_model.specs.Reach.{stops, flows_into}
-use Rattle.ngc_machine_model.specs.RateRules.{GoesOnInto, KeepsRateRules}
+use Rattle.ngc_machine_model.specs.Reach.{stops, continues_into}
+use Rattle.ngc_machine_model.specs.RateRules.{PassesInto, KeepsRateRules}
 use Rattle.ngc_machine_model.specs.Step.{Outcome, Step, LoadCommand, Rests, Finishes, Dwells, Serves, Travels, HeadTick, TickBy, without_head, after, ticks_of}
 use Rattle.ngc_machine_model.specs.Step.{place_after}
 use Rattle.ngc_fixed_length.specs.LinePath.{point}
 use Rattle.ngc_machine_model.specs.Run.{Run}
 use Rattle.ngc_machine_model.specs.Safety.{TickKeeps, EventKeeps, KeepRates}
-use Rattle.ngc_machine_model.proofs.Cases.{match_with}
+use Rattle.ngc_machine_model.proofs.TestCases.{match_with}
 
 -- less is travelled than the head has, or nothing
 abbrev pub Fits : List Queued → ℕ → Type 0
@@ -34,7 +34,7 @@ Fits (l ∷ ls) travelled = travelled ≤ millionths l - 1
 -- command
 abbrev pub GoesOver : Queued → List Queued → ℕ → Type 0
 GoesOver l [] over = over ≡ 0
-GoesOver l (k ∷ ks) over = 0 < over → (flows_into l k ≡ true) × (over < MILLION)
+GoesOver l (k ∷ ks) over = 0 < over → (continues_into l k ≡ true) × (over < MILLION)
 
 still_on : (machine : MachineFile) (w : Way) → MayTurnOn machine w 0
 still_on machine (Line b e) = tt
@@ -90,12 +90,12 @@ travel_fits true x y f g = f refl
 travel_fits false x y f g = g refl
 
 -- a command into which another continues has path steps
-pub flows_some : (l k : Queued) → flows_into l k ≡ true → 0 < path_steps k
+pub flows_some : (l k : Queued) → continues_into l k ≡ true → 0 < path_steps k
 flows_some l k h =
     let a = and_parts (nat_lt 0 (path_steps l)) (not (stops l.command.action) && nat_lt 0 (path_steps k)) h in
     ltb-true 0 (path_steps k) (and_parts (not (stops l.command.action)) (nat_lt 0 (path_steps k)) a.1).1
 
-over_by : (job : Job) (l : Queued) (ls : List Queued) (t v : ℕ) → v ≤ MILLION → t < millionths l → (millionths l < t + v → GoesOnInto job v l ls) →
+over_by : (job : Job) (l : Queued) (ls : List Queued) (t v : ℕ) → v ≤ MILLION → t < millionths l → (millionths l < t + v → PassesInto job v l ls) →
     GoesOver l ls (t + v - millionths l)
 over_by job l [] t v small short g = elim (cases_lt (millionths l) (t + v)) [
   | inl more ↦ absurd (g more)

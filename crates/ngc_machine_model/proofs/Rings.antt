@@ -10,7 +10,7 @@ use Rattle.ngc_events.specs.declared.event.Event.TheVariants.{Load, Tick, Hold, 
 use Rattle.ngc_machine_model.specs.State.{Job, Queued, State, loaded, command_at, path_steps, millionths}
 use Rattle.ngc_machine_model.specs.Step.{Outcome, Step, LoadCommand, MayTake, Rests, Finishes, Dwells, Serves, Travels, HeadTick, TickBy, without_head, place_after}
 use Rattle.ngc_machine_model.specs.Step.{ticks_of}
-use Rattle.ngc_machine_model.proofs.Cases.{match_with}
+use Rattle.ngc_machine_model.proofs.TestCases.{match_with}
 use Rattle.ngc_machine_model.proofs.RatesOfRun.{after_stays}
 
 -- a command was added after the others

@@ -17,7 +17,7 @@ use Rattle.ngc_machine_files.specs.Ranges.{IsAtMost}
 use Rattle.ngc_collision.specs.Body.{is_in_travel, is_below, nanometres_of}
 use Rattle.ngc_certificate_text.specs.Certificate.{Entry}
 use Rattle.ngc_certificate.specs.Valid.{IsValid}
-use Rattle.ngc_certificate.proofs.Truths.{and, le_test}
+use Rattle.ngc_certificate.proofs.TrueTests.{and, le_test}
 use Rattle.ngc_events.specs.declared.event.Event.{Event}
 use Rattle.ngc_machine_model.specs.State.{State, opening}
 use Rattle.ngc_machine_model.specs.Step.{Outcome}

@@ -27,7 +27,7 @@ use Rattle.ngc_machine_model.specs.Step.{Outcome, Step, LoadCommand, MayTake, Re
 use Rattle.ngc_machine_model.specs.Step.{place_after, ticks_of}
 use Rattle.ngc_machine_model.specs.Run.{Run}
 use Rattle.ngc_machine_model.specs.Safety.{AreSafe}
-use Rattle.ngc_machine_model.proofs.Cases.{match_with}
+use Rattle.ngc_machine_model.proofs.TestCases.{match_with}
 use Rattle.ngc_machine_model.proofs.Heads.{next_at}
 
 -- the loaded commands begin the remaining ones, each with a path that it may take

@@ -13,7 +13,7 @@ use Rattle.ngc_machine_model.specs.State.{Job, Queued, State, opening, path_step
 use Rattle.ngc_machine_model.specs.Step.{Outcome}
 use Rattle.ngc_machine_model.specs.Run.{Run}
 use Rattle.ngc_machine_model.specs.Safety.{IsSafeRun, KeepRates}
-use Rattle.ngc_machine_model.specs.Progress.{KeepGoing, ComesToHead, KeepsPath, free_ticks, least_rate}
+use Rattle.ngc_machine_model.specs.Progress.{KeepGoing, BecomesHead, KeepsPath, free_ticks, least_rate}
 use Rattle.ngc_machine_model.specs.Progress.{most_ticks, IsDoneInTime}
 
 abbrev pub job_of : MachineFile → List Command → Job
@@ -50,7 +50,7 @@ KeepRatesAlways = (job : Job) → IsMachine job.machine →
 abbrev pub KeepPaths : Type 0
 KeepPaths = (job : Job) (events : List Event) (outcomes : List Outcome) (states : List State) →
     Run job (opening job.machine) events outcomes states →
-    (k : ℕ) (l : Queued) → ComesToHead k l states → KeepsPath job k l states
+    (k : ℕ) (l : Queued) → BecomesHead k l states → KeepsPath job k l states
 
 -- On every machine within its ranges, in every run that keeps going, a motion with path steps and a
 -- least rate is done within a bounded number of free ticks.
@@ -59,7 +59,7 @@ EndsInTime = (job : Job) → IsMachine job.machine →
     (events : List Event) (outcomes : List Outcome) (states : List State) →
     Run job (opening job.machine) events outcomes states →
     KeepGoing job (opening job.machine) events states →
-    (k : ℕ) (l : Queued) → ComesToHead k l states → 1 ≤ path_steps l → 1 ≤ least_rate job l →
+    (k : ℕ) (l : Queued) → BecomesHead k l states → 1 ≤ path_steps l → 1 ≤ least_rate job l →
     free_ticks k (opening job.machine) events states ≤ most_ticks job l
 
 -- every run of a job that keeps going is done in time

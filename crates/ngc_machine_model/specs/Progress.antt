@@ -45,15 +45,15 @@ abbrev pub IsHead : ℕ → Queued → State → Type 0
 IsHead k l s = (s.done ≡ k) × (slice_get s.ring 0 ≡ Some l)
 
 -- it is in one of these states
-abbrev pub ComesToHead : ℕ → Queued → List State → Type 0
-ComesToHead k l states = Any (IsHead k l) states
+abbrev pub BecomesHead : ℕ → Queued → List State → Type 0
+BecomesHead k l states = Any (IsHead k l) states
 
 -- it is the job's command k, on a path that it may take, and command k is never at the head on
 -- another path
 pub record KeepsPath (job : Job) (k : ℕ) (l : Queued) (states : List State) : Type 0 where
   pub command : command_at job k ≡ Some l.command
   pub path : MayTake job l.command.action l.path
-  pub no_other : (m : Queued) → ComesToHead k m states → m ≡ l
+  pub no_other : (m : Queued) → BecomesHead k m states → m ≡ l
 
 -- ---- the resulting bound on ticks
 
@@ -98,5 +98,5 @@ most_ticks job l = ticks_for (millionths l) (least_rate job l)
 -- ticks
 abbrev pub IsDoneInTime : Job → List Event → List State → Type 0
 IsDoneInTime job events states =
-    (k : ℕ) (l : Queued) → ComesToHead k l states → 1 ≤ path_steps l →
+    (k : ℕ) (l : Queued) → BecomesHead k l states → 1 ≤ path_steps l →
     free_ticks k (opening job.machine) events states ≤ most_ticks job l

@@ -8,13 +8,13 @@ use Rattle.ngc_planner.specs.Bounds.{IsWithinBounds, bound_of}
 use Rattle.ngc_planner.specs.Joints.{joint_at, joint_before}
 use Rattle.ngc_machine_model.specs.State.{Job, Queued, State, path_steps, millionths}
 use Rattle.ngc_machine_model.specs.State.{place_before, effective}
-use Rattle.ngc_machine_model.specs.Reach.{flows_into, reach, free}
+use Rattle.ngc_machine_model.specs.Reach.{continues_into, reach, free}
 
 -- the axes continue into the next motion, and the rate is within its bounds too
-abbrev pub GoesOnInto : Job → ℕ → Queued → List Queued → Type 0
-GoesOnInto job v l [] = ⊥
-GoesOnInto job v l (k ∷ ks) =
-    (flows_into l k ≡ true) × IsWithinBounds job.machine k.command.action (path_steps k) v
+abbrev pub PassesInto : Job → ℕ → Queued → List Queued → Type 0
+PassesInto job v l [] = ⊥
+PassesInto job v l (k ∷ ks) =
+    (continues_into l k ≡ true) × IsWithinBounds job.machine k.command.action (path_steps k) v
 
 -- the rate v of a tick at whose start l is the head
 pub record KeepsRateRules (job : Job) (l : Queued) (ls : List Queued) (s : State) (v : ℕ) :
@@ -25,7 +25,7 @@ pub record KeepsRateRules (job : Job) (l : Queued) (ls : List Queued) (s : State
   -- the first tick on a motion, and the last
   pub enters : s.travelled ≡ 0 → v ≤ joint_before job.machine job.commands s.done
   pub leaves : millionths l ≤ s.travelled + v → v ≤ joint_at job.machine job.commands s.done
-  pub goes_on : millionths l < s.travelled + v → GoesOnInto job v l ls
+  pub goes_on : millionths l < s.travelled + v → PassesInto job v l ls
 
 -- the target rate at the grid point that the head's path has reached; 0 while the machine is held
 abbrev pub target : Job → Queued → State → ℕ

@@ -17,8 +17,8 @@ stops _ = false
 
 -- the axes continue from a loaded command into the next one without a stop if both are motions with
 -- path steps
-abbrev pub flows_into : Queued → Queued → Bool
-flows_into l k =
+abbrev pub continues_into : Queued → Queued → Bool
+continues_into l k =
     nat_lt 0 (path_steps l) && (not (stops l.command.action) && nat_lt 0 (path_steps k))
 
 -- command k as a leg: bound at its ends by its neighbours in the list of commands, loaded or not
@@ -32,11 +32,11 @@ leg_of job k joined l = record {
 }
 
 -- the legs of the commands loaded after l, the first of which is command k
-abbrev pub legs_behind : Job → ℕ → Queued → List Queued → List Leg
-legs_behind job k l [] = []
-legs_behind job k l (m ∷ ms) =
-    if nat_lt 0 (path_steps m) then leg_of job k (flows_into l m) m ∷ legs_behind job (suc k) m ms
-    else legs_behind job (suc k) m ms
+abbrev pub legs_after : Job → ℕ → Queued → List Queued → List Leg
+legs_after job k l [] = []
+legs_after job k l (m ∷ ms) =
+    if nat_lt 0 (path_steps m) then leg_of job k (continues_into l m) m ∷ legs_after job (suc k) m ms
+    else legs_after job (suc k) m ms
 
 -- the rest of the head
 abbrev pub rest : Queued → State → ℕ
@@ -44,9 +44,9 @@ rest l s = millionths l - s.travelled
 
 -- the distance that is loaded, up to the first stop
 abbrev pub reach : Job → Queued → List Queued → State → ℕ
-reach job l ls s = legs.reach (rest l s) (legs_behind job (suc s.done) l ls)
+reach job l ls s = legs.reach (rest l s) (legs_after job (suc s.done) l ls)
 
 -- the part of it before the first motion that the rate w may not enter
 abbrev pub free : Job → ℕ → Queued → List Queued → State → ℕ
 free job w l ls s =
-    legs.free w (rest l s) (leg_of job s.done false l) (legs_behind job (suc s.done) l ls)
+    legs.free w (rest l s) (leg_of job s.done false l) (legs_after job (suc s.done) l ls)

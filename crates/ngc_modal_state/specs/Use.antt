@@ -104,8 +104,8 @@ idle word used = is_some word && not used
 
 -- The letter of a word that is present and that nothing uses: of several the first in this order.
 -- F, S and T are always allowed.
-unfoldable pub idle_letter : Modes → Block → Option Letter
-idle_letter m b = first_where (
+unfoldable pub unused_letter : Modes → Block → Option Letter
+unused_letter m b = first_where (
     (idle b.axes.x (uses_axes m b), X) ∷
     (idle b.axes.y (uses_axes m b), Y) ∷
     (idle b.axes.z (uses_axes m b), Z) ∷
@@ -200,6 +200,6 @@ abbrev pub check : Modes → Block → Result (Unit {0}) ModalFault
 check m b =
     refuse_if (lacks_straight m b) WithoutStraightMotion >>
     refuse_if (claimed_twice m b) ClaimedTwice >>
-    refuse_of WithoutUse (idle_letter m b) >>
+    refuse_of WithoutUse (unused_letter m b) >>
     refuse_of WordMissing (missing_word m b) >>
     refuse_if (out_of_range b) OutOfRange

@@ -64,7 +64,7 @@ impl AxisWords {
 }
 
 impl Block {
-    ghost use Rattle.ngc_modal_state.specs.Use.{claimed_twice, idle_letter, lacks_axes, needs_feed};
+    ghost use Rattle.ngc_modal_state.specs.Use.{claimed_twice, unused_letter, lacks_axes, needs_feed};
     ghost use Rattle.ngc_modal_state.specs.Use.{missing_word, out_of_range, lacks_straight};
     ghost use Rattle.ngc_modal_state.specs.Use.{check as check_of, has_offsets};
 
@@ -81,9 +81,9 @@ impl Block {
     }
 
     // Returns the letter of a word that nothing uses, the first in this order.
-    #[tactic(auto, unfolding(crate::specs::Use::idle_letter))]
-    fn idle_letter(&self, modes: &Modes) -> Option<Letter>
-        ensures { result ≡ idle_letter modes.now self.now }
+    #[tactic(auto, unfolding(crate::specs::Use::unused_letter))]
+    fn unused_letter(&self, modes: &Modes) -> Option<Letter>
+        ensures { result ≡ unused_letter modes.now self.now }
     {
         let user = self.user(modes);
         let plane = self.plane_in_force(modes);
@@ -218,7 +218,7 @@ impl Block {
     fn is_plain(&self, modes: &Modes) -> bool
         ensures straight { result ≡ true → lacks_straight modes.now self.now ≡ false }
         ensures one_use { result ≡ true → claimed_twice modes.now self.now ≡ false }
-        ensures used { result ≡ true → idle_letter modes.now self.now ≡ None }
+        ensures used { result ≡ true → unused_letter modes.now self.now ≡ None }
         ensures there { result ≡ true → missing_word modes.now self.now ≡ None }
     {
         if self.has_rare_words() {
@@ -246,7 +246,7 @@ impl Block {
             if self.is_claimed_twice(modes) {
                 return Err(ModalFault::ClaimedTwice);
             }
-            if let Some(letter) = self.idle_letter(modes) {
+            if let Some(letter) = self.unused_letter(modes) {
                 return Err(ModalFault::WithoutUse(letter));
             }
             if let Some(word) = self.missing_word(modes) {

@@ -323,7 +323,7 @@ impl Block {
     /// Puts the line's effects in `effects`, in order of execution. It returns fault 210, or else
     /// the first of 206 to 209 that applies: a word is claimed twice, without use, missing or out
     /// of its range. After a fault the contents of `effects` are unspecified.
-    #[tactic(auto, using(crate::proofs::Standing::in_parts))]
+    #[tactic(auto, using(crate::proofs::PresentEffects::in_parts))]
     pub fn effects(
         &self,
         modes: &Modes,

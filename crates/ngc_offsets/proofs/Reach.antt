@@ -7,11 +7,11 @@ use Rattle.ngc_fixed_length.specs.Places.{plus, minus, zero_point}
 use Rattle.ngc_fixed_length.specs.declared.modes.System.{System}
 use Rattle.ngc_fixed_length.specs.declared.modes.System.TheVariants.{First, Second, Third, Fourth, Fifth, Sixth, Seventh, Eighth, Ninth}
 use Rattle.ngc_offsets.specs.Offsets.{Offsets}
-use Rattle.ngc_offsets.specs.Ranges.{OFFSET_LIMIT, SHIFT_LIMIT, MACHINE_LIMIT, IsWithin, AreInRange, IsKeptOrGiven, IsReachedFrom}
+use Rattle.ngc_offsets.specs.Ranges.{OFFSET_LIMIT, SHIFT_LIMIT, MACHINE_LIMIT, IsWithin, AreInRange, IsPresentOrNamed, IsReachedFrom}
 use Rattle.ngc_offsets.specs.Frames.{index, origin_of, shift_of}
 
 -- on one axis: p is the programmed coordinate of m, or a coordinate in range
-pub reach : (m s p : ℤ) → unsigned_abs s ≤ SHIFT_LIMIT → unsigned_abs m ≤ MACHINE_LIMIT → IsKeptOrGiven (m -ℤ s) p → unsigned_abs (p +ℤ s) ≤ MACHINE_LIMIT
+pub reach : (m s p : ℤ) → unsigned_abs s ≤ SHIFT_LIMIT → unsigned_abs m ≤ MACHINE_LIMIT → IsPresentOrNamed (m -ℤ s) p → unsigned_abs (p +ℤ s) ≤ MACHINE_LIMIT
 reach m s p small near kept = elim kept [ inl same ↦ omega (arith, ints) | inr given ↦ omega (arith, ints) ]
 
 pub IsWithin-plus : (place shift p : Point3) → IsWithin SHIFT_LIMIT shift → IsWithin MACHINE_LIMIT place → IsReachedFrom (minus place shift) p →

@@ -4,7 +4,9 @@ use Rattle.ngc_fixed_length.specs.Signed.{is_within}
 use Rattle.ngc_offsets.specs.declared.fault.Axis.{Axis}
 use Rattle.ngc_offsets.specs.declared.fault.FrameFault.{FrameFault}
 use Rattle.ngc_offsets.specs.declared.fault.FrameFault.TheVariants.{BeyondRange, NoSuchTool}
-use Rattle.ngc_offsets.specs.Ranges.{COORDINATE_LIMIT, OFFSET_LIMIT}
+use Rattle.ngc_offsets.specs.declared.fault.Quantity.{Quantity}
+use Rattle.ngc_offsets.specs.declared.fault.Quantity.TheVariants.{Coordinate, Offset}
+use Rattle.ngc_offsets.specs.Ranges.{limit_of}
 
 infixl 10 ◌>>=◌
 abbrev pub ◌>>=◌ : {A B : Type 0} → Result A FrameFault → (A → Result B FrameFault) →
@@ -12,18 +14,19 @@ abbrev pub ◌>>=◌ : {A B : Type 0} → Result A FrameFault → (A → Result 
 (Ok x) >>= f = f x
 (Err e) >>= f = Err e
 
--- a length whose size is at most the limit
-abbrev pub limited : Axis → ℕ → ℤ → Result ℤ FrameFault
-limited axis limit l = if is_within limit l then Ok l else Err (BeyondRange axis l limit)
+-- a length that is in the range of its quantity
+abbrev pub limited : Axis → Quantity → ℤ → Result ℤ FrameFault
+limited axis quantity l =
+    if is_within (limit_of quantity) l then Ok l else Err (BeyondRange axis quantity l)
 
 abbrev pub coordinate : Axis → ℤ → Result ℤ FrameFault
-coordinate axis c = limited axis COORDINATE_LIMIT c
+coordinate axis c = limited axis Coordinate c
 
 abbrev pub offset : Axis → ℤ → Result ℤ FrameFault
-offset axis o = limited axis OFFSET_LIMIT o
+offset axis o = limited axis Offset o
 
 abbrev pub number_of : FrameFault → ℕ
-number_of (BeyondRange axis at limit) = 221
+number_of (BeyondRange axis quantity at) = 221
 number_of NoSuchTool = 222
 
 -- a change is either made as the definition says, or refused, and then nothing changes

@@ -12,24 +12,24 @@ use Rattle.ngc_offsets.specs.Faults.{◌>>=◌, coordinate}
 use Rattle.ngc_offsets.specs.Frames.{to_machine, to_program}
 
 -- the coordinate on one axis: without a word it stays, and after G91 a word is added to it
-abbrev pub given_on_axis : Axis → Distance → ℤ → Option ℤ → Result ℤ FrameFault
-given_on_axis axis distance current None = Ok current
-given_on_axis axis Absolute current (Some l) = coordinate axis l
-given_on_axis axis Incremental current (Some l) = coordinate axis (current +ℤ l)
+abbrev pub named_on_axis : Axis → Distance → ℤ → Option ℤ → Result ℤ FrameFault
+named_on_axis axis distance current None = Ok current
+named_on_axis axis Absolute current (Some l) = coordinate axis l
+named_on_axis axis Incremental current (Some l) = coordinate axis (current +ℤ l)
 
-abbrev pub given_place : Distance → Point3 → AxisLengths → Result Point3 FrameFault
-given_place distance current given = do
-  x ← given_on_axis X distance current.x given.x
-  y ← given_on_axis Y distance current.y given.y
-  z ← given_on_axis Z distance current.z given.z
+abbrev pub named_point : Distance → Point3 → AxisLengths → Result Point3 FrameFault
+named_point distance current given = do
+  x ← named_on_axis X distance current.x given.x
+  y ← named_on_axis Y distance current.y given.y
+  z ← named_on_axis Z distance current.z given.z
   Ok (record { x = x; y = y; z = z })
 
 -- the machine place to which a line leads from the machine place where it begins
 abbrev pub target : Distance → Offsets → Point3 → AxisLengths → Result Point3 FrameFault
 target distance f place given = do
-  p ← given_place distance (to_program f place) given
+  p ← named_point distance (to_program f place) given
   Ok (to_machine f p)
 
 -- G53 takes the lengths as machine coordinates, in either distance mode
 abbrev pub machine_target : Point3 → AxisLengths → Result Point3 FrameFault
-machine_target place given = given_place Absolute place given
+machine_target place given = named_point Absolute place given

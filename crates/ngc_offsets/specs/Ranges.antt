@@ -2,6 +2,8 @@
 use Rattle.std.specs.Prelude.{ℕ, ◌≤◌, ◌≡◌, ◌⊎◌, ℤ, unsigned_abs, length, All}
 use Rattle.ngc_fixed_length.specs.declared.points.Point3.{Point3}
 use Rattle.ngc_offsets.specs.Offsets.{Offsets}
+use Rattle.ngc_offsets.specs.declared.fault.Quantity.{Quantity}
+use Rattle.ngc_offsets.specs.declared.fault.Quantity.TheVariants.{Coordinate, Offset}
 
 -- a programmed coordinate: at most a metre
 abbrev pub COORDINATE_LIMIT : ℕ
@@ -10,6 +12,11 @@ COORDINATE_LIMIT = 1000000000
 -- an origin, an axis offset or a tool length offset: at most four metres
 abbrev pub OFFSET_LIMIT : ℕ
 OFFSET_LIMIT = 4000000000
+
+-- the greatest size of a length of this quantity
+abbrev pub limit_of : Quantity → ℕ
+limit_of Coordinate = COORDINATE_LIMIT
+limit_of Offset = OFFSET_LIMIT
 
 -- the sum of an origin, an axis offset and a tool length offset
 abbrev pub SHIFT_LIMIT : ℕ
@@ -52,10 +59,10 @@ pub record AreInRange (f : Offsets) : Type 0 where
   pub length : IsOffset f.length
 
 -- a coordinate stays, or it is one in the range of programmed coordinates
-abbrev pub IsKeptOrGiven : ℤ → ℤ → Type 0
-IsKeptOrGiven current c = (c ≡ current) ⊎ IsCoordinate c
+abbrev pub IsPresentOrNamed : ℤ → ℤ → Type 0
+IsPresentOrNamed current c = (c ≡ current) ⊎ IsCoordinate c
 
 pub record IsReachedFrom (current p : Point3) : Type 0 where
-  pub x : IsKeptOrGiven current.x p.x
-  pub y : IsKeptOrGiven current.y p.y
-  pub z : IsKeptOrGiven current.z p.z
+  pub x : IsPresentOrNamed current.x p.x
+  pub y : IsPresentOrNamed current.y p.y
+  pub z : IsPresentOrNamed current.z p.z

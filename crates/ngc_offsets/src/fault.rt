@@ -1,5 +1,6 @@
 ghost use Rattle.std.specs.Prelude.{◌≡◌};
 
+use crate::range::{COORDINATE, OFFSET};
 use thiserror::Error;
 
 /// An axis of the machine.
@@ -10,13 +11,39 @@ pub enum Axis {
     Z,
 }
 
+/// What a length in a part program is, which decides its range.
+#[derive(Clone, Copy, Debug, PartialEq, Eq)]
+pub enum Quantity {
+    /// A programmed coordinate: at most 10^9 nm in size.
+    Coordinate,
+    /// An origin or an offset: at most 4*10^9 nm in size.
+    Offset,
+}
+
+impl Quantity {
+    ghost use Rattle.ngc_offsets.specs.Ranges.{limit_of};
+
+    /// Returns the greatest size of such a length, in nanometres.
+    pub fn limit(self) -> u64
+        ensures { result ≡ limit_of self }
+    {
+        match self {
+            Quantity::Coordinate => COORDINATE,
+            Quantity::Offset => OFFSET,
+        }
+    }
+}
+
 /// The reasons why a place or a change of the frames is refused.
 #[derive(Clone, Copy, Debug, PartialEq, Eq, Error)]
 pub enum FrameFault {
-    /// Fault 221: a coordinate over 10^9 nm in size, or an origin or offset over 4*10^9 nm. Both
-    /// are in nanometres.
+    /// Fault 221: a coordinate, or an origin or offset, is beyond its range. `at` is in nanometres.
     #[error("the coordinate or offset is beyond its range")]
-    BeyondRange { axis: Axis, at: i64, limit: u64 },
+    BeyondRange {
+        axis: Axis,
+        quantity: Quantity,
+        at: i64,
+    },
     /// Fault 222.
     #[error("the tool table has no such tool")]
     NoSuchTool,

@@ -7,7 +7,7 @@ ghost use Rattle.ngc_offsets.specs.Frames.{index, on_axis, new_origin as origin_
 ghost use Rattle.ngc_offsets.specs.Frames.{new_axis as axis_after, left_over as left_over_of};
 
 use crate::fault::{Axis, FrameFault};
-use crate::given::{AxisLengths, given_place};
+use crate::given::{AxisLengths, named_point};
 use crate::range::{coordinate, minus, offset, plus};
 use ngc_fixed_length::{Distance, Nm, Point3, System};
 use std::marker::Model;
@@ -230,7 +230,7 @@ impl Frames {
         ensures range { IfOk result IsMachinePlace }
     {
         let shift = self.shift();
-        let programmed = given_place(distance, &minus(&place, &shift), given)?;
+        let programmed = named_point(distance, &minus(&place, &shift), given)?;
         Ok(plus(&programmed, &shift))
     }
 

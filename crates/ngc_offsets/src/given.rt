@@ -1,6 +1,6 @@
 ghost use Rattle.std.specs.Prelude.{◌≡◌, IfOk};
-ghost use Rattle.ngc_offsets.specs.Ranges.{IsMachinePlace, IsKeptOrGiven, IsReachedFrom};
-ghost use Rattle.ngc_offsets.specs.Given.{given_on_axis as on_axis, given_place as place_given};
+ghost use Rattle.ngc_offsets.specs.Ranges.{IsMachinePlace, IsPresentOrNamed, IsReachedFrom};
+ghost use Rattle.ngc_offsets.specs.Given.{named_on_axis as on_axis, named_point as place_given};
 ghost use Rattle.ngc_offsets.specs.Given.{machine_target as target_in_machine};
 
 use crate::fault::{Axis, FrameFault};
@@ -16,14 +16,14 @@ pub struct AxisLengths {
 }
 
 // Returns the coordinate on one axis. Without a word the axis keeps its coordinate.
-fn given_on_axis(
+fn named_on_axis(
     axis: Axis,
     distance: Distance,
     current: Nm,
     given: Option<Nm>,
 ) -> Result<Nm, FrameFault>
     ensures value { result ≡ on_axis axis distance current given }
-    ensures range { IfOk result (λ c. IsKeptOrGiven current c) }
+    ensures range { IfOk result (λ c. IsPresentOrNamed current c) }
 {
     match given {
         None => Ok(current),
@@ -38,7 +38,7 @@ fn given_on_axis(
 
 /// Returns the place to which a line's lengths lead from the current place. A missing length keeps
 /// its coordinate.
-pub(crate) fn given_place(
+pub(crate) fn named_point(
     distance: Distance,
     current: &Point3,
     given: &AxisLengths,
@@ -46,9 +46,9 @@ pub(crate) fn given_place(
     ensures value { result ≡ place_given distance current.now given.now }
     ensures range { IfOk result (IsReachedFrom current.now) }
 {
-    let x = given_on_axis(Axis::X, distance, current.x, given.x)?;
-    let y = given_on_axis(Axis::Y, distance, current.y, given.y)?;
-    let z = given_on_axis(Axis::Z, distance, current.z, given.z)?;
+    let x = named_on_axis(Axis::X, distance, current.x, given.x)?;
+    let y = named_on_axis(Axis::Y, distance, current.y, given.y)?;
+    let z = named_on_axis(Axis::Z, distance, current.z, given.z)?;
     Ok(Point3 { x, y, z })
 }
 
@@ -59,5 +59,5 @@ pub fn machine_target(place: Point3, given: &AxisLengths) -> Result<Point3, Fram
     ensures value { result ≡ target_in_machine place given.now }
     ensures range { IsMachinePlace place → IfOk result IsMachinePlace }
 {
-    given_place(Distance::Absolute, &place, given)
+    named_point(Distance::Absolute, &place, given)
 }

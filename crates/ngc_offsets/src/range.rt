@@ -1,26 +1,25 @@
 ghost use Rattle.std.specs.Prelude.{◌≡◌, ◌≤◌, unsigned_abs, IfOk};
-ghost use Rattle.ngc_fixed_length.specs.Limits.{LENGTH_LIMIT};
 ghost use Rattle.ngc_fixed_length.specs.Places.{IsPlace, plus as sum_of, minus as difference_of};
-ghost use Rattle.ngc_offsets.specs.Ranges.{IsCoordinate, IsOffset};
+ghost use Rattle.ngc_offsets.specs.Ranges.{IsCoordinate, IsOffset, limit_of};
 ghost use Rattle.ngc_offsets.specs.Faults.{limited as limited_to, coordinate as coordinate_in};
 ghost use Rattle.ngc_offsets.specs.Faults.{offset as offset_in};
 
-use crate::fault::{Axis, FrameFault};
+use crate::fault::{Axis, FrameFault, Quantity};
 use ngc_fixed_length::{Nm, Point3};
 
 /// The greatest size of a programmed coordinate, in nanometres.
 pub const COORDINATE: u64 = 1_000_000_000;
 
-const OFFSET: u64 = 4_000_000_000;
+/// The greatest size of an origin or an offset, in nanometres.
+pub(crate) const OFFSET: u64 = 4_000_000_000;
 
-// Returns a length whose size is at most the limit, or `BeyondRange`.
-fn limited(axis: Axis, limit: u64, at: i64) -> Result<Nm, FrameFault>
-    requires { limit ≤ LENGTH_LIMIT }
-    ensures value { result ≡ limited_to axis limit at }
-    ensures range { IfOk result (λ l. unsigned_abs l ≤ limit) }
+// Returns a length that is in the range of its quantity, or `BeyondRange`.
+fn limited(axis: Axis, quantity: Quantity, at: i64) -> Result<Nm, FrameFault>
+    ensures value { result ≡ limited_to axis quantity at }
+    ensures range { IfOk result (λ l. unsigned_abs l ≤ limit_of quantity) }
 {
-    let beyond = FrameFault::BeyondRange { axis, at, limit };
-    if at.unsigned_abs() > limit {
+    let beyond = FrameFault::BeyondRange { axis, quantity, at };
+    if at.unsigned_abs() > quantity.limit() {
         return Err(beyond);
     }
     match Nm::from_nanometres(i128::from(at)) {
@@ -34,7 +33,7 @@ pub(crate) fn coordinate(axis: Axis, nanometres: i64) -> Result<Nm, FrameFault>
     ensures value { result ≡ coordinate_in axis nanometres }
     ensures range { IfOk result IsCoordinate }
 {
-    limited(axis, COORDINATE, nanometres)
+    limited(axis, Quantity::Coordinate, nanometres)
 }
 
 /// Returns an origin or an offset, or `BeyondRange` over 4*10^9 nm in size.
@@ -42,7 +41,7 @@ pub(crate) fn offset(axis: Axis, nanometres: i64) -> Result<Nm, FrameFault>
     ensures value { result ≡ offset_in axis nanometres }
     ensures range { IfOk result IsOffset }
 {
-    limited(axis, OFFSET, nanometres)
+    limited(axis, Quantity::Offset, nanometres)
 }
 
 /// Returns the sum of two points, axis by axis.

@@ -1,2 +1,2 @@
 -- The warnings of commands, one command further.
-pub mod Ahead
+pub mod WarningProgress

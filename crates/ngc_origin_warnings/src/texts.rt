@@ -1,6 +1,6 @@
 //! How an origin outside of the travel is warned of, in words and as a fact of a JSON document.
 ghost use Rattle.std.specs.Prelude.{◌≡◌, ◌+◌, ◌≤◌, ◌++◌, length};
-ghost use Rattle.ngc_text.specs.Collected.{CHUNK_SIZE, HasLineRoom};
+ghost use Rattle.ngc_text.specs.Collected.{CHUNK_SIZE, HasSpaceForLine};
 ghost use Rattle.ngc_origin_warnings.specs.Texts.{kind_text, lacking_text, origin_fact};
 ghost use Rattle.ngc_origin_warnings.specs.Texts.{origin_text, origin_words, place_fact};
 ghost use Rattle.ngc_origin_warnings.specs.Texts.{put_text, warning_text};
@@ -55,7 +55,7 @@ fn add_origin(chunk: &mut Chunk, origin: &Origin)
 }
 
 fn add_words(chunk: &mut Chunk, line: u32, origin: &Origin)
-    requires { HasLineRoom chunk.old }
+    requires { HasSpaceForLine chunk.old }
     ensures { chunk.new ≡ chunk.old ++ origin_words line origin.now }
 {
     add_origin(chunk, origin);
@@ -91,7 +91,7 @@ fn add_place_fact(chunk: &mut Chunk, origin: &Origin)
 }
 
 fn add_fact(chunk: &mut Chunk, line: u32, origin: &Origin)
-    requires { HasLineRoom chunk.old }
+    requires { HasSpaceForLine chunk.old }
     ensures { chunk.new ≡ chunk.old ++ origin_fact line origin.now }
 {
     chunk.add_text(b",\n{\"fact\":\"warning\",\"text\":\"");
@@ -107,7 +107,7 @@ fn add_fact(chunk: &mut Chunk, line: u32, origin: &Origin)
 /// Adds the warning of a line's motion from an origin, or nothing without one.
 #[tactic(auto, unfolding(crate::specs::Texts::warning_text))]
 pub(crate) fn add_warning(chunk: &mut Chunk, form: Form, line: u32, origin: &Option<Origin>)
-    requires { HasLineRoom chunk.old }
+    requires { HasSpaceForLine chunk.old }
     ensures { chunk.new ≡ chunk.old ++ warning_text form line origin.now }
 {
     match (form, origin) {

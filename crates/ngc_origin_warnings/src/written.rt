@@ -5,7 +5,7 @@ ghost use Rattle.ngc_certificate_text.specs.Collects.{Collects};
 ghost use Rattle.ngc_frames.specs.Walks.{WalksOver};
 ghost use Rattle.ngc_machine_files.specs.Machine.{file_of};
 ghost use Rattle.ngc_text.specs.Failures.{CountsFailure};
-ghost use Rattle.ngc_text.specs.Written.{AppendsBeginning};
+ghost use Rattle.ngc_text.specs.Written.{AppendsPrefix};
 ghost use Rattle.ngc_origin_warnings.specs.Texts.{warning_text};
 ghost use Rattle.ngc_origin_warnings.specs.Warnings.{new_origin, none_warned, origin_warnings};
 ghost use Rattle.ngc_origin_warnings.specs.Warnings.{warnings_from};
@@ -50,7 +50,7 @@ fn collect_warning<W: Sink>(
         (warning_text form line origin.now) }
     ensures counts { CountsFailure (W.failures sink.old) (W.failures sink.new) result }
 {
-    match chunk.make_room(sink) {
+    match chunk.make_space(sink) {
         Ok(()) => {
             add_warning(chunk, form, line, origin);
             Ok(())
@@ -109,7 +109,7 @@ pub fn write_origin_warnings<A: Allocator, W: Sink>(
         (origin_warnings form (file_of machine.now) tools.now history.now.start
         history.now.changes.items commands.now)) }
     ensures fault { OnErr result
-        (AppendsBeginning (W.written sink.old) (W.written sink.new)
+        (AppendsPrefix (W.written sink.old) (W.written sink.new)
         (origin_warnings form (file_of machine.now) tools.now history.now.start
         history.now.changes.items commands.now)) }
     ensures counts { CountsFailure (W.failures sink.old) (W.failures sink.new) result }

@@ -1,4 +1,4 @@
 -- Origins that are replaced one at a time, in the order of the systems, and their range.
-pub mod Placing
+pub mod ReplacedOrigins
 -- The origins that texts write, up to the first mistake.
-pub mod Said
+pub mod ReadOrigins

@@ -128,5 +128,5 @@ and_text (Ok origins) text = with_text origins text
 and_text (Err mistake) text = Err mistake
 
 -- the origins that these texts write, each for a system of its own, or the first mistake
-abbrev pub origins_said : List (List ℕ) → Result OriginList OriginMistake
-origins_said texts = fold and_text (Ok no_origins) texts
+abbrev pub parsed_origins : List (List ℕ) → Result OriginList OriginMistake
+parsed_origins texts = fold and_text (Ok no_origins) texts

@@ -96,8 +96,8 @@ fn with_text(origins: Origins, text: &[u8]) -> Result<Origins, OriginMistake>
 /// millimetres; or the first text that is no such origin.
 pub fn read_origins<'a>(list: &[&'a str]) -> Result<Origins, Refused<'a>>
     ensures { MatchResult result
-        (λ origins. spec.origins_said (map (λ t. t.now) list.now) ≡ Ok origins)
-        (λ refused. spec.origins_said (map (λ t. t.now) list.now) ≡ Err refused.mistake) }
+        (λ origins. spec.parsed_origins (map (λ t. t.now) list.now) ≡ Ok origins)
+        (λ refused. spec.parsed_origins (map (λ t. t.now) list.now) ≡ Err refused.mistake) }
 {
     let mut origins = Origins::none();
     for text in list {

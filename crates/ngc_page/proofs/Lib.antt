@@ -1,2 +1,2 @@
 -- A file in memory can always be read.
-pub mod Reading
+pub mod FileReading

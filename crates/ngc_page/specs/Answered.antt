@@ -4,16 +4,16 @@ use Rattle.std.specs.Prelude.{IfErr, Result}
 use Rattle.ngc_text.specs.declared.input_fault.InputFault.{InputFault}
 use Rattle.ngc_text.specs.declared.input_fault.InputFault.TheVariants.{Device}
 use Rattle.ngc_command_line.specs.declared.options.Options.{Options}
-use Rattle.ngc_simulator.specs.Answers.{ComesBy, Tells, status_of}
+use Rattle.ngc_simulator.specs.Answers.{ResultsBy, Tells, status_of}
 use Rattle.ngc_inputs.specs.Setups.{FileBytes}
 use Rattle.ngc_inputs.specs.Unread.{unread_by}
 use Rattle.ngc_simulator.specs.declared.done.Done.{Done}
 use Rattle.ngc_inputs.specs.declared.fault.AnswerFault.{AnswerFault}
 
 -- a file couldn't be opened, or reading it failed
-abbrev pub SaysUnreadable : Option InputFault → Type 0
-SaysUnreadable (Some Device) = Unit {0}
-SaysUnreadable _ = ⊥
+abbrev pub ReportsUnreadable : Option InputFault → Type 0
+ReportsUnreadable (Some Device) = Unit {0}
+ReportsUnreadable _ = ⊥
 
 -- the number of bytes of standard error that are stored
 abbrev pub LINES_KEPT : ℕ
@@ -25,9 +25,9 @@ pub record Told (files : FileBytes) (options : Options) (output errors : List �
     Type 0 where
   pub outcome : Result Done AnswerFault
   pub failed : ℕ
-  pub comes : ComesBy files options (Some []) (Some output) outcome
+  pub comes : ResultsBy files options (Some []) (Some output) outcome
   pub says : status ≡ status_of outcome
-  pub read : IfErr outcome (λ fault. ¬ SaysUnreadable (unread_by fault))
+  pub read : IfErr outcome (λ fault. ¬ ReportsUnreadable (unread_by fault))
   pub tells : Tells outcome
       (record { old = Some []; new = Some errors; failures = 0; failures_now = failed })
   pub keeps : 0 < failed → length errors ≡ LINES_KEPT
@@ -47,7 +47,7 @@ abbrev pub space : List ℕ → List ℕ → ℕ → Space
 space old new told = record { old = old; new = new; told = told }
 
 -- a text is handed over: as much of it as there is space for, and its whole length
-pub record HandsOver (space : Space) (text : List ℕ) : Type 0 where
+pub record Receives (space : Space) (text : List ℕ) : Type 0 where
   pub holds : Holds space.old space.new text
   pub told : space.told ≡ length text
 
@@ -57,8 +57,8 @@ pub record ToldIn (files : FileBytes) (options : Options) (output errors : Space
   pub text : List ℕ
   pub lines : List ℕ
   pub told : Told files options text lines status
-  pub text_handed : HandsOver output text
-  pub lines_handed : HandsOver errors lines
+  pub text_handed : Receives output text
+  pub lines_handed : Receives errors lines
 
 -- the same with options that request this
 pub record Answered (files : FileBytes) (Asks : Options → Type 0) (output errors : Space)

@@ -3,17 +3,17 @@ use Rattle.std.specs.Prelude.{◌≡◌, ◌⊎◌, ◌==◌, ℕ, Bool, true, f
 use Rattle.std.specs.Prelude.{if◌then◌else◌}
 use Rattle.std.specs.Str.{IsUtf8}
 use Rattle.ngc_command_line.specs.CommandLine.{FromGrbl}
-use Rattle.ngc_command_line.specs.Meant.{AsksForAdapt, AsksForCertify, AsksForCheck, AsksForDraw, AsksForList}
-use Rattle.ngc_command_line.specs.Meant.{AsksForMachine, AsksForReport, AsksForRun, AsksForShow}
+use Rattle.ngc_command_line.specs.Meant.{IsAdaptRequest, IsCertifyRequest, IsCheckRequest, IsDrawRequest, IsListRequest}
+use Rattle.ngc_command_line.specs.Meant.{IsMachineRequest, IsReportRequest, IsRunRequest, IsShowRequest}
 use Rattle.ngc_command_line.specs.declared.options.Format.{Format}
 use Rattle.ngc_command_line.specs.declared.options.Format.TheVariants.{One, Two}
 use Rattle.ngc_command_line.specs.declared.options.Options.{Options}
 use Rattle.ngc_command_line.specs.declared.options.Options.TheVariants as commands
 use Rattle.ngc_command_line.specs.declared.options.Recording.TheVariants.{Pulses}
 
-abbrev pub AsksReport : Bool → Bool → Options → Type 0
-AsksReport all json =
-    AsksForReport (codes "machine") (codes "tools") (Some (codes "program")) None all json
+abbrev pub RequestsReport : Bool → Bool → Options → Type 0
+RequestsReport all json =
+    IsReportRequest (codes "machine") (codes "tools") (Some (codes "program")) None all json
 
 -- the views by their numbers
 abbrev pub view_name : ℕ → List ℕ
@@ -21,40 +21,40 @@ view_name n =
     if n == 1 then codes "front" else if n == 2 then codes "side"
     else if n == 3 then codes "iso" else codes "top"
 
-abbrev pub AsksDraw : ℕ → Bool → Options → Type 0
-AsksDraw view delete =
-    AsksForDraw (codes "machine") (codes "tools") None (Some (codes "program"))
+abbrev pub RequestsDraw : ℕ → Bool → Options → Type 0
+RequestsDraw view delete =
+    IsDrawRequest (codes "machine") (codes "tools") None (Some (codes "program"))
     (Some (view_name view)) delete false false
 
-abbrev pub AsksList : Bool → Options → Type 0
-AsksList delete =
-    AsksForList (Some (codes "program")) (Some (codes "machine")) (Some (codes "tools")) delete
+abbrev pub RequestsList : Bool → Options → Type 0
+RequestsList delete =
+    IsListRequest (Some (codes "program")) (Some (codes "machine")) (Some (codes "tools")) delete
 
 -- the versions of a certificate's text
-abbrev pub format_asked : Bool → Format
-format_asked true = Two
-format_asked false = One
+abbrev pub requested_format : Bool → Format
+requested_format true = Two
+requested_format false = One
 
-abbrev pub AsksCertify : Bool → Options → Type 0
-AsksCertify second =
-    AsksForCertify (codes "machine") (codes "tools") (Some (codes "program")) None
-    (Some (format_asked second))
+abbrev pub RequestsCertify : Bool → Options → Type 0
+RequestsCertify second =
+    IsCertifyRequest (codes "machine") (codes "tools") (Some (codes "program")) None
+    (Some (requested_format second))
 
-abbrev pub AsksCheck : Options → Type 0
-AsksCheck =
-    AsksForCheck (codes "machine") (codes "tools") (codes "certificate") (Some (codes "program"))
+abbrev pub RequestsCheck : Options → Type 0
+RequestsCheck =
+    IsCheckRequest (codes "machine") (codes "tools") (codes "certificate") (Some (codes "program"))
 
 -- a run without events
-abbrev pub AsksPulses : Bool → Options → Type 0
-AsksPulses delete =
-    AsksForRun Pulses (codes "machine") (codes "tools") (codes "certificate") None
+abbrev pub RequestsPulses : Bool → Options → Type 0
+RequestsPulses delete =
+    IsRunRequest Pulses (codes "machine") (codes "tools") (codes "certificate") None
     (Some (codes "program")) delete None
 
-abbrev pub AsksShow : Options → Type 0
-AsksShow = AsksForShow (codes "machine") (Some (codes "tools")) false
+abbrev pub RequestsShow : Options → Type 0
+RequestsShow = IsShowRequest (codes "machine") (Some (codes "tools")) false
 
-abbrev pub AsksExplain : ℕ → Options → Type 0
-AsksExplain number options = options ≡ commands.Explain number
+abbrev pub RequestsExplain : ℕ → Options → Type 0
+RequestsExplain number options = options ≡ commands.Explain number
 
 -- the controls by their numbers
 abbrev pub control_name : ℕ → List ℕ
@@ -62,8 +62,8 @@ control_name n = if n == 1 then codes "grbl" else if n == 2 then codes "mach3"
     else if n == 3 then codes "fanuc" else codes "linuxcnc"
 
 -- a tool other than 0 is mounted at the start
-abbrev pub tool_asked : ℕ → Option ℕ
-tool_asked n = if n == 0 then None else Some n
+abbrev pub requested_tool : ℕ → Option ℕ
+requested_tool n = if n == 0 then None else Some n
 
 -- the codes of a text that isn't empty; one that isn't UTF-8 doesn't count as a list of codes
 abbrev pub AreCodes : List ℕ → Option (List ℕ) → Type 0
@@ -73,9 +73,9 @@ AreCodes text (Some drop) = (drop ≡ text) ⊎ (¬ IsUtf8 text × (drop ≡ cod
 pub record AsksAdapt (control tool : ℕ) (text : List ℕ) (options : Options) : Type 0 where
   pub drop : Option (List ℕ)
   pub are_codes : AreCodes text drop
-  pub asks : AsksForAdapt (control_name control) (Some (codes "machine")) (tool_asked tool) drop
+  pub asks : IsAdaptRequest (control_name control) (Some (codes "machine")) (requested_tool tool) drop
       (Some (codes "program")) options
 
 -- a machine file from a dump of GRBL's settings, which is the file `program`
-abbrev pub AsksMachine : Options → Type 0
-AsksMachine = AsksForMachine (FromGrbl (codes "program")) None None None
+abbrev pub RequestsMachine : Options → Type 0
+RequestsMachine = IsMachineRequest (FromGrbl (codes "program")) None None None

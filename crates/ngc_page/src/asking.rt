@@ -1,9 +1,9 @@
 //! The options of each call, as the command line reads them. The files are named `program`,
 //! `machine`, `tools` and `certificate`.
 ghost use Rattle.std.specs.Prelude.{◌≡◌, option_map};
-ghost use Rattle.ngc_page.specs.Asked.{AreCodes, AsksAdapt, AsksCertify, AsksCheck, AsksDraw};
-ghost use Rattle.ngc_page.specs.Asked.{AsksList, AsksMachine, AsksPulses, AsksReport, AsksShow};
-ghost use Rattle.ngc_page.specs.Asked.{control_name, format_asked, tool_asked, view_name};
+ghost use Rattle.ngc_page.specs.Asked.{AreCodes, AsksAdapt, RequestsCertify, RequestsCheck, RequestsDraw};
+ghost use Rattle.ngc_page.specs.Asked.{RequestsList, RequestsMachine, RequestsPulses, RequestsReport, RequestsShow};
+ghost use Rattle.ngc_page.specs.Asked.{control_name, requested_format, requested_tool, view_name};
 
 use ngc_command_line::{
     AdaptOptions, CertifyOptions, CheckOptions, DrawOptions, Format, ListOptions, MachineOptions,
@@ -13,7 +13,7 @@ use ngc_origins::Origins;
 
 /// Returns the options of a report.
 pub fn report_options(all: bool, json: bool) -> Options<'static>
-    ensures { AsksReport all json result }
+    ensures { RequestsReport all json result }
 {
     Options::Report(ReportOptions {
         machine: "machine",
@@ -39,7 +39,7 @@ fn view_name(view: u32) -> &'static str
 
 /// Returns the options of a picture without a certificate.
 pub fn draw_options(view: u32, delete: bool) -> Options<'static>
-    ensures { AsksDraw view delete result }
+    ensures { RequestsDraw view delete result }
 {
     Options::Draw(DrawOptions {
         machine: "machine",
@@ -56,7 +56,7 @@ pub fn draw_options(view: u32, delete: bool) -> Options<'static>
 
 /// Returns the options of a listing.
 pub fn list_options(delete: bool) -> Options<'static>
-    ensures { AsksList delete result }
+    ensures { RequestsList delete result }
 {
     Options::List(ListOptions {
         program: Some("program"),
@@ -67,29 +67,29 @@ pub fn list_options(delete: bool) -> Options<'static>
     })
 }
 
-fn format_asked(second: bool) -> Format
-    ensures { result ≡ format_asked second }
+fn requested_format(second: bool) -> Format
+    ensures { result ≡ requested_format second }
 {
     if second { Format::Two } else { Format::One }
 }
 
 /// Returns the options of a certificate, in version 2 of the text or in version 1.
 pub fn certify_options(second: bool) -> Options<'static>
-    ensures { AsksCertify second result }
+    ensures { RequestsCertify second result }
 {
     Options::Certify(CertifyOptions {
         machine: "machine",
         tools: "tools",
         program: Some("program"),
         cuts: 8,
-        format: format_asked(second),
+        format: requested_format(second),
         origins: Origins::none(),
     })
 }
 
 /// Returns the options of a check.
 pub fn check_options() -> Options<'static>
-    ensures { AsksCheck result }
+    ensures { RequestsCheck result }
 {
     Options::Check(CheckOptions {
         machine: "machine",
@@ -102,7 +102,7 @@ pub fn check_options() -> Options<'static>
 
 /// Returns the options of a run to the end that writes its pulses.
 pub fn pulses_options(delete: bool) -> Options<'static>
-    ensures { AsksPulses delete result }
+    ensures { RequestsPulses delete result }
 {
     Options::RunThrough(RunThroughOptions {
         recording: Recording::Pulses,
@@ -119,7 +119,7 @@ pub fn pulses_options(delete: bool) -> Options<'static>
 
 /// Returns the options of a setup sheet.
 pub fn show_options() -> Options<'static>
-    ensures { AsksShow result }
+    ensures { RequestsShow result }
 {
     Options::Show(ShowOptions {
         machine: "machine",
@@ -139,14 +139,14 @@ fn control_name(control: u32) -> &'static str
     }
 }
 
-fn tool_asked(tool: u16) -> Option<u16>
-    ensures { result ≡ tool_asked tool }
+fn requested_tool(tool: u16) -> Option<u16>
+    ensures { result ≡ requested_tool tool }
 {
     if tool == 0 { None } else { Some(tool) }
 }
 
 // Returns a text of codes. A text that isn't UTF-8 is refused, because it isn't a list of codes.
-fn codes_asked(text: &[u8]) -> Option<&str>
+fn requested_codes(text: &[u8]) -> Option<&str>
     ensures { AreCodes text.now (option_map (λ codes. codes.now) result) }
 {
     if text.is_empty() {
@@ -165,8 +165,8 @@ pub fn adapt_options(control: u32, tool: u16, drop: &[u8]) -> Options<'_>
     Options::Adapt(AdaptOptions {
         from: control_name(control),
         machine: Some("machine"),
-        tool: tool_asked(tool),
-        drop: codes_asked(drop),
+        tool: requested_tool(tool),
+        drop: requested_codes(drop),
         program: Some("program"),
     })
 }
@@ -174,7 +174,7 @@ pub fn adapt_options(control: u32, tool: u16, drop: &[u8]) -> Options<'_>
 /// Returns the options to make a machine file from a dump of GRBL's settings, which is the file
 /// `program`.
 pub fn machine_options() -> Options<'static>
-    ensures { AsksMachine result }
+    ensures { RequestsMachine result }
 {
     Options::Machine(MachineOptions {
         grbl: Some("program"),

@@ -9,8 +9,8 @@
 
 ghost use Rattle.std.specs.Prelude.{[]};
 ghost use Rattle.ngc_page.specs.Answered.{Answered, space};
-ghost use Rattle.ngc_page.specs.Asked.{AsksAdapt, AsksCertify, AsksCheck, AsksDraw, AsksExplain};
-ghost use Rattle.ngc_page.specs.Asked.{AsksList, AsksMachine, AsksPulses, AsksReport, AsksShow};
+ghost use Rattle.ngc_page.specs.Asked.{AsksAdapt, RequestsCertify, RequestsCheck, RequestsDraw, RequestsExplain};
+ghost use Rattle.ngc_page.specs.Asked.{RequestsList, RequestsMachine, RequestsPulses, RequestsReport, RequestsShow};
 ghost use Rattle.ngc_page.specs.Passed.{passed};
 
 mod answering;
@@ -44,7 +44,7 @@ pub extern "C" fn ngc_report(
     errors: &mut [u8],
     lengths: &mut Lengths,
 ) -> u32
-    ensures { Answered (passed program.now machine.now tools.now []) (AsksReport all json)
+    ensures { Answered (passed program.now machine.now tools.now []) (RequestsReport all json)
         (space output.old output.new lengths.new.output)
         (space errors.old errors.new lengths.new.errors) result }
 {
@@ -75,7 +75,7 @@ pub extern "C" fn ngc_draw(
     errors: &mut [u8],
     lengths: &mut Lengths,
 ) -> u32
-    ensures { Answered (passed program.now machine.now tools.now []) (AsksDraw view delete)
+    ensures { Answered (passed program.now machine.now tools.now []) (RequestsDraw view delete)
         (space output.old output.new lengths.new.output)
         (space errors.old errors.new lengths.new.errors) result }
 {
@@ -103,7 +103,7 @@ pub extern "C" fn ngc_list(
     errors: &mut [u8],
     lengths: &mut Lengths,
 ) -> u32
-    ensures { Answered (passed program.now machine.now tools.now []) (AsksList delete)
+    ensures { Answered (passed program.now machine.now tools.now []) (RequestsList delete)
         (space output.old output.new lengths.new.output)
         (space errors.old errors.new lengths.new.errors) result }
 {
@@ -132,7 +132,7 @@ pub extern "C" fn ngc_certify(
     errors: &mut [u8],
     lengths: &mut Lengths,
 ) -> u32
-    ensures { Answered (passed program.now machine.now tools.now []) (AsksCertify second)
+    ensures { Answered (passed program.now machine.now tools.now []) (RequestsCertify second)
         (space output.old output.new lengths.new.output)
         (space errors.old errors.new lengths.new.errors) result }
 {
@@ -160,7 +160,7 @@ pub extern "C" fn ngc_check(
     errors: &mut [u8],
     lengths: &mut Lengths,
 ) -> u32
-    ensures { Answered (passed program.now machine.now tools.now certificate.now) AsksCheck
+    ensures { Answered (passed program.now machine.now tools.now certificate.now) RequestsCheck
         (space output.old output.new lengths.new.output)
         (space errors.old errors.new lengths.new.errors) result }
 {
@@ -190,7 +190,7 @@ pub extern "C" fn ngc_pulses(
     errors: &mut [u8],
     lengths: &mut Lengths,
 ) -> u32
-    ensures { Answered (passed program.now machine.now tools.now certificate.now) (AsksPulses delete)
+    ensures { Answered (passed program.now machine.now tools.now certificate.now) (RequestsPulses delete)
         (space output.old output.new lengths.new.output)
         (space errors.old errors.new lengths.new.errors) result }
 {
@@ -216,7 +216,7 @@ pub extern "C" fn ngc_show(
     errors: &mut [u8],
     lengths: &mut Lengths,
 ) -> u32
-    ensures { Answered (passed [] machine.now tools.now []) AsksShow
+    ensures { Answered (passed [] machine.now tools.now []) RequestsShow
         (space output.old output.new lengths.new.output)
         (space errors.old errors.new lengths.new.errors) result }
 {
@@ -274,7 +274,7 @@ pub extern "C" fn ngc_machine(
     errors: &mut [u8],
     lengths: &mut Lengths,
 ) -> u32
-    ensures { Answered (passed settings.now [] [] []) AsksMachine
+    ensures { Answered (passed settings.now [] [] []) RequestsMachine
         (space output.old output.new lengths.new.output)
         (space errors.old errors.new lengths.new.errors) result }
 {
@@ -299,7 +299,7 @@ pub extern "C" fn ngc_explain(
     errors: &mut [u8],
     lengths: &mut Lengths,
 ) -> u32
-    ensures { Answered (passed [] [] [] []) (AsksExplain number)
+    ensures { Answered (passed [] [] [] []) (RequestsExplain number)
         (space output.old output.new lengths.new.output)
         (space errors.old errors.new lengths.new.errors) result }
 {

@@ -16,15 +16,15 @@ unfolding value_within
 number_is p n h = within (numeral_value n) h
 
 -- a number in front
-in_front : {A : Type 0} (letter : Letter) (n : Numeral) (x : Option (List (Letter × ℤ))) (ws : List (Letter × ℤ))
+prefixed : {A : Type 0} (letter : Letter) (n : Numeral) (x : Option (List (Letter × ℤ))) (ws : List (Letter × ℤ))
     → ((xs : List (Letter × ℤ)) → x ≡ Some xs → (letter, numeral_value n) ∷ xs ≡ ws → A) → with_number letter (number n) x ≡ Some ws → A
-in_front letter n None ws further none = absurd (cc none)
-in_front letter n (Some xs) ws further some = further xs refl (same_Some _ _ some)
+prefixed letter n None ws further none = absurd (cc none)
+prefixed letter n (Some xs) ws further some = further xs refl (same_Some _ _ some)
 
 words_are : (p : Parameters) (items : List Item) (ws : List (Letter × ℤ)) → AllWithinLimit items → number_words items ≡ Some ws → words_of p items ≡ Ok ws
 words_are p [] ws limit is = ap (λ (l : List (Letter × ℤ)). Ok l) (same_Some _ _ is)
 words_are p (word letter (number n) ∷ items) ws limit is =
-    in_front letter n (number_words items) ws
+    prefixed letter n (number_words items) ws
     (λ xs some same. rw (number_is p n limit.0, words_are p items xs limit.1 some) (ap (λ (l : List (Letter × ℤ)). Ok l) same)) is
 words_are p (word letter (parameter index) ∷ items) ws limit is = absurd (cc is)
 words_are p (word letter (bracket first rest) ∷ items) ws limit is = absurd (cc is)
@@ -33,7 +33,7 @@ words_are p (comment bytes ∷ items) ws limit is = words_are p items ws limit.1
 
 nothing_set : (p : Parameters) (items : List Item) (ws : List (Letter × ℤ)) → number_words items ≡ Some ws → settings_of p items ≡ Ok []
 nothing_set p [] ws is = refl
-nothing_set p (word letter (number n) ∷ items) ws is = in_front letter n (number_words items) ws (λ xs some same. nothing_set p items xs some) is
+nothing_set p (word letter (number n) ∷ items) ws is = prefixed letter n (number_words items) ws (λ xs some same. nothing_set p items xs some) is
 nothing_set p (word letter (parameter index) ∷ items) ws is = absurd (cc is)
 nothing_set p (word letter (bracket first rest) ∷ items) ws is = absurd (cc is)
 nothing_set p (setting index value ∷ items) ws is = absurd (cc is)

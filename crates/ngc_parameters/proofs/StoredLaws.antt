@@ -7,7 +7,7 @@ use Rattle.ngc_line_reader.specs.declared.token.Token.{Token}
 use Rattle.ngc_line_reader.specs.declared.line.RawWord.{RawWord}
 use Rattle.ngc_line_reader.specs.declared.line.RawSetting.{RawSetting}
 use Rattle.ngc_line_reader.specs.ScanLine.{Parts}
-use Rattle.ngc_line_reader.specs.Shown.{Items, items_of, items_said}
+use Rattle.ngc_line_reader.specs.Shown.{Items, items_of, parsed_items}
 use Rattle.ngc_line_reader.specs.Text.{columns, place_in}
 use Rattle.ngc_line_reader.specs.Grammar.{Real, Item, word, setting, comment, Reading, behind, real_text, items_text}
 use Rattle.ngc_line_reader.specs.declared.token.Symbol.{Symbol}
@@ -201,7 +201,7 @@ tokens_said bytes r = all_tokens (place_in (columns bytes)) r.items (behind 59 r
 said_at : (bytes : List ℕ) (r : Reading) → At (tokens_said bytes r) 0 (tokens_said bytes r)
 said_at bytes r = record { within = omega arith; are = refl }
 
-line_words : (p : Parameters) (bytes : List ℕ) (parts : Parts) (r : Reading) → items_of parts ≡ items_said bytes r → AllWithinLimit r.items →
+line_words : (p : Parameters) (bytes : List ℕ) (parts : Parts) (r : Reading) → items_of parts ≡ parsed_items bytes r → AllWithinLimit r.items →
     words_on p parts.tokens parts.words ≡ words_of p r.items
 line_words p bytes parts r h limit =
     same_words p parts.tokens (tokens_said bytes r) [] parts.words (ap (λ (x : Items). x.symbols) h)
@@ -209,7 +209,7 @@ line_words p bytes parts r h limit =
     ∙ words_are p (tokens_said bytes r) (place_in (columns bytes)) r.items (behind 59 r.remark) 0 [] limit (said_at bytes r)
     ∙ all_found (words_of p r.items)
 
-line_settings : (p : Parameters) (bytes : List ℕ) (parts : Parts) (r : Reading) → items_of parts ≡ items_said bytes r → AllWithinLimit r.items →
+line_settings : (p : Parameters) (bytes : List ℕ) (parts : Parts) (r : Reading) → items_of parts ≡ parsed_items bytes r → AllWithinLimit r.items →
     settings_on p parts.tokens parts.settings ≡ settings_of p r.items
 line_settings p bytes parts r h limit =
     same_settings p parts.tokens (tokens_said bytes r) [] parts.settings (ap (λ (x : Items). x.symbols) h)
@@ -217,13 +217,13 @@ line_settings p bytes parts r h limit =
     ∙ settings_are p (tokens_said bytes r) (place_in (columns bytes)) r.items (behind 59 r.remark) 0 [] limit (said_at bytes r)
     ∙ all_found (settings_of p r.items)
 
-line_found : (p : Parameters) (bytes : List ℕ) (parts : Parts) (r : Reading) → items_of parts ≡ items_said bytes r → AllWithinLimit r.items →
+line_found : (p : Parameters) (bytes : List ℕ) (parts : Parts) (r : Reading) → items_of parts ≡ parsed_items bytes r → AllWithinLimit r.items →
     values_on p parts ≡ line_values p r.items
 line_found p bytes parts r h limit = rw (line_words p bytes parts r h limit, line_settings p bytes parts r h limit) refl
 
 -- the computed values are those of the line's reading
 pub line_is : {X : Type 0} (p : Parameters) (parts : Parts) (view : X → List (Letter × ℤ) × List (ℕ × ℤ)) (result : Result X EvalFault) →
     Gives view result (values_on p parts)
-    → (bytes : List ℕ) (r : Reading) → items_of parts ≡ items_said bytes r → AllWithinLimit r.items → Gives view result (line_values p r.items)
+    → (bytes : List ℕ) (r : Reading) → items_of parts ≡ parsed_items bytes r → AllWithinLimit r.items → Gives view result (line_values p r.items)
 line_is p parts view result g bytes r h limit =
     subst (λ (found : Result (List (Letter × ℤ) × List (ℕ × ℤ)) EvalFault). Gives view result found) (line_found p bytes parts r h limit) g

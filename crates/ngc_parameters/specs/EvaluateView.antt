@@ -18,9 +18,9 @@ abbrev pub before_of : Option (ℤ × Operator) → Before
 before_of None = nothing
 before_of (Some x) = left x.0 x.1
 
-abbrev pub GivesValue : Result (ℤ × Bor (List Token)) EvalFault → Found → Type 0
-GivesValue (Ok x) found = found ≡ Ok (x.0, symbols x.1.now)
-GivesValue (Err e) found = found ≡ Err e
+abbrev pub ValueResultIs : Result (ℤ × Bor (List Token)) EvalFault → Found → Type 0
+ValueResultIs (Ok x) found = found ≡ Ok (x.0, symbols x.1.now)
+ValueResultIs (Err e) found = found ≡ Err e
 
 -- a value, with the remaining symbols
 abbrev pub with_rest : List Symbol → Result ℤ EvalFault → Found

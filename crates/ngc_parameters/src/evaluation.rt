@@ -5,7 +5,7 @@ ghost use Rattle.ngc_parameters.specs.Meaning.{apply as applied, from_number as 
 ghost use Rattle.ngc_parameters.specs.Meaning.{Before, joined as joined_with};
 ghost use Rattle.ngc_parameters.specs.Evaluate.{symbol_value as value_found};
 ghost use Rattle.ngc_parameters.specs.Evaluate.{symbols_with as with_found};
-ghost use Rattle.ngc_parameters.specs.EvaluateView.{GivesValue, held, before_of, with_rest};
+ghost use Rattle.ngc_parameters.specs.EvaluateView.{ValueResultIs, held, before_of, with_rest};
 ghost use Rattle.ngc_line_reader.specs.Grammar.{Real};
 ghost use Rattle.ngc_line_reader.specs.declared.token.Symbol.{Symbol};
 ghost use Rattle.ngc_line_reader.specs.Tokens.{symbols_of, symbols, IsWithinLimit};
@@ -73,7 +73,7 @@ pub fn value_at<'a>(
 ) -> Result<(Value, &'a [Token]), EvalFault>
     requires steps { length s.now < steps }
     requires all { length parameters.now ≡ 5161 }
-    ensures value { GivesValue result
+    ensures value { ValueResultIs result
         (value_found steps room (held parameters.now) (symbols s.now)) }
     ensures shorter { IfOk result (λ x. length x.1.now < length s.now) }
     ensures not_memory { IfErr result (λ e. e ≢ EvalFault.Memory) }
@@ -122,7 +122,7 @@ fn value_with<'a>(
 ) -> Result<(Value, &'a [Token]), EvalFault>
     requires steps { length s.now < steps }
     requires all { length parameters.now ≡ 5161 }
-    ensures value { GivesValue result
+    ensures value { ValueResultIs result
         (with_found steps room (held parameters.now) (before_of before) term (symbols s.now)) }
     ensures shorter { IfOk result (λ x. length x.1.now < length s.now) }
     ensures not_memory { IfErr result (λ e. e ≢ EvalFault.Memory) }
@@ -168,11 +168,11 @@ fn value_with<'a>(
 pub fn evaluate<'a>(parameters: &[Value], s: &'a [Token]) -> Result<(Value, &'a [Token]), EvalFault>
     requires all { length parameters.now ≡ 5161 }
     requires short { length s.now ≤ 256 }
-    ensures computed { GivesValue result
+    ensures computed { ValueResultIs result
         (value_found (length s.now + 1) 16 (held parameters.now) (symbols s.now)) }
     ensures tree { (v : Real) (rest : List Symbol) → IsWithinLimit v →
         symbols s.now ≡ symbols_of v ++ rest →
-        GivesValue result (with_rest rest (value_of (held parameters.now) v)) }
+        ValueResultIs result (with_rest rest (value_of (held parameters.now) v)) }
     ensures not_memory { IfErr result (λ e. e ≢ EvalFault.Memory) }
 {
     value_at(s.len() + 1, 16, parameters, s)

@@ -3,7 +3,7 @@ ghost use Rattle.std.specs.Prelude.{◌==◌, if◌then◌else◌};
 ghost use Rattle.ngc_line_reader.specs.Grammar.{Reading};
 ghost use Rattle.ngc_line_reader.specs.Scan.{Gives};
 ghost use Rattle.ngc_line_reader.specs.Held.{Holds, AllWithinLimit};
-ghost use Rattle.ngc_line_reader.specs.Shown.{view_parts, items_of, items_said};
+ghost use Rattle.ngc_line_reader.specs.Shown.{view_parts, items_of, parsed_items};
 ghost use Rattle.ngc_parameters.specs.EvaluateView.{held};
 ghost use Rattle.ngc_parameters.specs.Meaning.{after_settings};
 ghost use Rattle.ngc_parameters.specs.Stored.{parameters_of, changes_of, line_values, value_from};
@@ -175,7 +175,7 @@ impl<A: Allocator> Store<A> {
     /// `values` are unspecified.
     pub fn read(&self, line: LineView<'_>, values: &mut LineValues) -> Result<(), EvalFault>
         ensures value { (bytes : List ℕ) (r : Reading) →
-            items_of (view_parts line.entry) ≡ items_said bytes r → AllWithinLimit r.items →
+            items_of (view_parts line.entry) ≡ parsed_items bytes r → AllWithinLimit r.items →
             Gives (λ _. values_in values.new) result
             (line_values (parameters_of self.now) r.items) }
         ensures not_memory { IfErr result (λ e. e ≢ EvalFault.Memory) }

@@ -29,7 +29,7 @@ use Rattle.ngc_place.specs.Inside.{along, steps_along, step_height, least_of, gr
 use Rattle.ngc_place.specs.declared.round.PlaneAxis.{PlaneAxis}
 use Rattle.ngc_place.specs.declared.round.PlaneAxis.TheVariants.{U, V}
 use Rattle.ngc_place.proofs.Rounded.{nearest_up, below_up, above_up, scale_by, sum_up}
-use Rattle.ngc_place.proofs.Rising.{IsUnder, Rises, least_up, greatest_up}
+use Rattle.ngc_place.proofs.PathBoxes.{IsUnder, Rises, least_up, greatest_up}
 
 -- ---- points of a plane
 

@@ -26,7 +26,7 @@ use Rattle.ngc_certificate.specs.DerivedBox.{derived_box, line_box}
 use Rattle.ngc_certificate.specs.PieceFault.{piece_fault, fault_from, pieces_fault, at_piece}
 use Rattle.ngc_certificate.specs.Made.{line_piece, line_pieces_from, pieces_of}
 use Rattle.ngc_certificate.proofs.NoFault.{some_none, map_none, both_none}
-use Rattle.ngc_certificate.proofs.Truths.{le_test, both, and, no_truth}
+use Rattle.ngc_certificate.proofs.TrueTests.{le_test, both, and, no_truth}
 use Rattle.ngc_place.specs.Holds.{is_clear, pieces_clear}
 
 -- ---- one piece

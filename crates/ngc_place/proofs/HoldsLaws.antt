@@ -26,15 +26,15 @@ use Rattle.ngc_certificate_text.specs.declared.piece.Piece.{Piece}
 use Rattle.ngc_certificate_text.specs.Certificate.{Entry}
 use Rattle.ngc_certificate.specs.DerivedBox.{line_box}
 use Rattle.ngc_certificate.specs.PieceFault.{pieces_fault, place_fault}
-use Rattle.ngc_certificate.specs.Made.{tries, powers_of_two, pieces_of, cleared, with_pieces, unless_met, MayFind, IsMadeFrom, from_start, join_settings}
-use Rattle.ngc_certificate.proofs.Truths.{both, and, no_truth}
+use Rattle.ngc_certificate.specs.Made.{tries, powers_of_two, pieces_of, cleared, with_pieces, unless_met, MayFindPieces, IsMadeFrom, from_start, join_settings}
+use Rattle.ngc_certificate.proofs.TrueTests.{both, and, no_truth}
 use Rattle.ngc_place.specs.Shifts.{shifted, way_shifted, end_moves, actions_shifted}
 use Rattle.ngc_commands.specs.Reached.{after, at_start}
 use Rattle.ngc_commands.specs.declared.reached.Reached.{Reached}
 use Rattle.ngc_place.specs.Holds.{action_clear, over, is_clear, pieces_clear, way_clear, place_clear, holds_from, holds, HoldsIsMade, HoldsIsCertified, HoldsWithin}
 use Rattle.ngc_place.proofs.Rounded.{scale_by, sum_up}
-use Rattle.ngc_place.proofs.Within.{clear_within, unmet_within}
-use Rattle.ngc_place.proofs.Rising.{IsUnder, WayRises, within_over, line_rises, place_rises, stays}
+use Rattle.ngc_place.proofs.ClearBoxes.{clear_within, unmet_within}
+use Rattle.ngc_place.proofs.PathBoxes.{IsUnder, WayRises, within_over, line_rises, place_rises, stays}
 use Rattle.ngc_place.proofs.ArcShifts.{arc_rises}
 use Rattle.ngc_place.proofs.ClearPieces.{line_passes, arc_passes}
 
@@ -218,7 +218,7 @@ line_cleared machine most tool p q least greatest h =
     found_mapped (pieces_of machine.step w) (find (λ c. is_none (pieces_fault machine tool w (pieces_of machine.step w c))) (tries most)) passes
 
 way_found : (machine : MachineFile) (most : ℕ) (tool : Option Tool) (w : Way) (found : Option (List Piece)) → 1 ≤ most → most ≤ 65535 →
-    IsTrue (way_clear machine most tool w w) → MayFind machine most tool w found → IsFound found
+    IsTrue (way_clear machine most tool w w) → MayFindPieces machine most tool w found → IsFound found
 way_found machine most tool (Line p q) found least greatest h may =
     let c = line_cleared machine most tool p q least greatest h in (c.0, may ∙ c.1)
 way_found machine most tool (Arc a) found least greatest h may = (pieces_of machine.step (Arc a) 1, may.whole (arc_passes machine tool a h))

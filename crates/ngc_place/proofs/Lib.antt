@@ -1,9 +1,9 @@
 -- Rounding is monotonic.
 pub mod Rounded
 -- If a box of points is clear, each box within it is clear.
-pub mod Within
+pub mod ClearBoxes
 -- The boxes of a path rise with its ends.
-pub mod Rising
+pub mod PathBoxes
 -- The swept box of an arc that moves as a whole.
 pub mod ArcShifts
 -- The clear pieces of a line are not refused.
@@ -16,10 +16,10 @@ pub mod Quotients
 -- The tests of the pieces of a line and of the commands of a program, in order.
 pub mod Tests
 -- Intervals that grow on one side and then on the other are the longest.
-pub mod Growth
+pub mod GrowingIntervals
 -- Worked programs on a mill with steps of 0.01 mm, by computing the definitions.
 mod Examples
 -- The marks of a program's commands, in order.
-pub mod Marked
+pub mod MarkLaws
 -- The shifts that are tried, in order.
-pub mod Tried
+pub mod TriedShifts

@@ -17,7 +17,7 @@ use Rattle.ngc_place.specs.declared.axis.Axis.{Axis}
 use Rattle.ngc_place.specs.declared.axis.Axis.TheVariants.{X, Y, Z}
 use Rattle.ngc_place.specs.declared.interval.Interval.{Interval}
 use Rattle.ngc_place.specs.declared.programs.Program.{Program as Marked}
-use Rattle.ngc_place.proofs.Growth.{both_law, found_law, hold_within}
+use Rattle.ngc_place.proofs.GrowingIntervals.{both_law, found_law, hold_within}
 use Rattle.ngc_shifted_program.specs.Shifted.{AreMoved, Executed, MoveAt, executed_at}
 use Rattle.ngc_place_report.specs.Certified.{EndsAreCertified, IsCertified, IsCertifiedAt, ShiftsAreCertified}
 use Rattle.ngc_place_report.specs.Findings.{IsFinding, IsMarkedAlong}

@@ -3,7 +3,7 @@ ghost use Rattle.std.specs.Prelude.{◌≡◌, ◌≤◌, List, true, IfOk, IfSo
 ghost use Rattle.ngc_line_reader.specs.Grammar.{Reading};
 ghost use Rattle.ngc_line_reader.specs.ProgramText.{AreReadings};
 ghost use Rattle.ngc_line_reader.specs.ProgramView.{text_in};
-ghost use Rattle.ngc_canonical.specs.Meaning.{program_said};
+ghost use Rattle.ngc_canonical.specs.Meaning.{parsed_program};
 ghost use Rattle.ngc_place.specs.Longest.{IsInLimit};
 ghost use Rattle.ngc_place.specs.Shifts.{SHIFT_LIMIT, IsShift, along as shift_along};
 ghost use Rattle.ngc_place_report.specs.Findings as spec;
@@ -60,7 +60,7 @@ fn move_at_ends<A: Allocator + Copy>(
 ) -> Result<bool, AllocError>
     requires { IsInLimit interval }
     ensures { (rs : List Reading) → AreReadings (text_in program.now).lines rs →
-        IfOk result (λ yes. spec.MoveAtEnds (program_said (text_in program.now) rs) job.now system
+        IfOk result (λ yes. spec.MoveAtEnds (parsed_program (text_in program.now) rs) job.now system
         axis programs.entry.off programs.entry.on interval yes) }
 {
     let low = shift(axis, interval.from);
@@ -84,7 +84,7 @@ fn finding_along<A: Allocator + Copy>(
 ) -> Result<Finding, AllocError>
     requires { 1 ≤ cuts }
     ensures { (rs : List Reading) → AreReadings (text_in program.now).lines rs →
-        IfOk result (λ finding. spec.IsFinding (program_said (text_in program.now) rs) job.now
+        IfOk result (λ finding. spec.IsFinding (parsed_program (text_in program.now) rs) job.now
         system axis cuts programs.entry.off programs.entry.on finding) }
 {
     let interval = match interval_along(job, system, axis, programs, cuts) {
@@ -119,7 +119,7 @@ fn find_along<A: Allocator + Copy>(
 ) -> Result<AlongAxis, AllocError>
     requires { 1 ≤ cuts }
     ensures { (rs : List Reading) → AreReadings (text_in program.now).lines rs →
-        IfOk result (λ a. spec.IsAlongAxis (program_said (text_in program.now) rs) job.now system
+        IfOk result (λ a. spec.IsAlongAxis (parsed_program (text_in program.now) rs) job.now system
         axis cuts a) }
 {
     let step = shift(axis, 1);
@@ -164,7 +164,7 @@ pub fn find_placement<A: Allocator + Copy>(
     requires { 1 ≤ cuts }
     // This holds for all readings of the lines: each line has exactly one.
     ensures { (rs : List Reading) → AreReadings (text_in program.now).lines rs →
-        IfOk result (λ p. spec.IsPlacement (program_said (text_in program.now) rs) job.now system
+        IfOk result (λ p. spec.IsPlacement (parsed_program (text_in program.now) rs) job.now system
         here cuts p) }
 {
     let x = find_along(alloc, program, job, system, Axis::X, cuts)?;

@@ -2,7 +2,7 @@
 ghost use Rattle.std.specs.Prelude.{◌≡◌, OnErr, OnOk};
 ghost use Rattle.std.specs.Io.KnownBytes.{Appends};
 ghost use Rattle.ngc_text.specs.Failures.{CountsFailure};
-ghost use Rattle.ngc_text.specs.Written.{AppendsBeginning};
+ghost use Rattle.ngc_text.specs.Written.{AppendsPrefix};
 ghost use Rattle.ngc_machine_files.specs.Machine.{file_of};
 ghost use Rattle.ngc_place_report.specs.Texts.{document_text, words_text};
 
@@ -34,7 +34,7 @@ pub fn write_words<A: Allocator, W: Sink>(
 ) -> Result<(), WriteFault>
     ensures ok { OnOk result (Appends (W.written sink.old) (W.written sink.new)
         (words_text (file_of machine.now) system placement.now)) }
-    ensures fault { OnErr result (AppendsBeginning (W.written sink.old) (W.written sink.new)
+    ensures fault { OnErr result (AppendsPrefix (W.written sink.old) (W.written sink.new)
         (words_text (file_of machine.now) system placement.now)) }
     ensures counts { CountsFailure (W.failures sink.old) (W.failures sink.new) result }
 {
@@ -61,7 +61,7 @@ pub fn write_document<A: Allocator, W: Sink>(
 ) -> Result<(), WriteFault>
     ensures ok { OnOk result (Appends (W.written sink.old) (W.written sink.new)
         (document_text (file_of machine.now) system placement.now)) }
-    ensures fault { OnErr result (AppendsBeginning (W.written sink.old) (W.written sink.new)
+    ensures fault { OnErr result (AppendsPrefix (W.written sink.old) (W.written sink.new)
         (document_text (file_of machine.now) system placement.now)) }
     ensures counts { CountsFailure (W.failures sink.old) (W.failures sink.new) result }
 {

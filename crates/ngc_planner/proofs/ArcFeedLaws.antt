@@ -31,7 +31,7 @@ use Rattle.ngc_planner.specs.Headings.{is_level}
 use Rattle.ngc_planner.specs.Caps.{STEPS_LIMIT, cap_of}
 use Rattle.ngc_planner.specs.Bounds.{IsMotion, aimed_at}
 use Rattle.ngc_planner.proofs.BoundLaws.{target_some, step_within}
-use Rattle.ngc_planner.specs.ArcFeed.{farther_out, place_cap, rise, sloped_length, sloped_cap, feed_cap_at, arc_cap_at, way_cap_at, cap_at, target_on}
+use Rattle.ngc_planner.specs.ArcFeed.{axis_distance, place_cap, rise, sloped_length, sloped_cap, feed_cap_at, arc_cap_at, way_cap_at, cap_at, target_on}
 use Rattle.ngc_planner.specs.ArcFeed.{is_minute_feed, has_minute_feed, is_arc, is_by_place}
 use Rattle.ngc_planner.specs.ArcFeed.{PlacesKeepFeed, KeepsSlopedFeed, ArcsKeepFeed, IsNoLessByPlace, IsSameElsewhere}
 
@@ -209,7 +209,7 @@ length_some flat step n a is helix same few small =
 pub arcs_keep_feed : ArcsKeepFeed
 arcs_keep_feed machine a n f v p ranges is few low =
     let step = step_within machine ranges in
-    keeps_by (is_level a) machine.ticks_per_second (unsigned_abs machine.step) (outer_radius a) n (rise a) (farther_out machine.step a p) f v
+    keeps_by (is_level a) machine.ticks_per_second (unsigned_abs machine.step) (outer_radius a) n (rise a) (axis_distance machine.step a p) f v
     step.0 step.1 (radius_some a is) few
     (far_height (height a.plane a.start) (height a.plane a.end) (near_height a.plane a.start is.start) (near_height a.plane a.end is.end))
     (level_rise (height a.plane a.start) (height a.plane a.end)) low

@@ -16,13 +16,13 @@ use Rattle.ngc_commands.specs.declared.movement.Pace.TheVariants as paces
 use Rattle.ngc_commands.specs.declared.movement.Way.{Way}
 use Rattle.ngc_commands.specs.declared.movement.Way.TheVariants as ways
 use Rattle.ngc_fixed_length.specs.declared.points.StepPos.{StepPos}
-use Rattle.ngc_planner.specs.ArcFeed.{farther_out, target_on}
+use Rattle.ngc_planner.specs.ArcFeed.{axis_distance, target_on}
 use Rattle.ngc_planner.specs.Braking.{braking, braking_terms}
 use Rattle.ngc_planner.specs.Caps.{cap_of}
 use Rattle.ngc_planner.specs.Bounds.{turn_rate, bound_of, target_at, least_travel}
 use Rattle.ngc_planner.specs.Joints.{joint_of}
 use Rattle.ngc_planner.specs.Reach.{reach, free}
-use Rattle.ngc_planner.specs.Room.{has_room}
+use Rattle.ngc_planner.specs.Room.{can_brake}
 use Rattle.ngc_planner.specs.declared.leg.Leg.{Leg}
 
 abbrev pub at : ℤ → ℤ → ℤ → Point3
@@ -130,16 +130,16 @@ free_slow : free 20000 7 (leg 1000000 400000 50000 false) (leg 2000000 400000 50
 free_slow = refl
 
 -- from 60,000 to 50,000 within the leg, but not to 0
-room_at_corner : has_room 60000 1000 610000 (leg 1000000 400000 50000 false) (leg 2000000 400000 50000 true ∷ []) ≡ true
+room_at_corner : can_brake 60000 1000 610000 (leg 1000000 400000 50000 false) (leg 2000000 400000 50000 true ∷ []) ≡ true
 unfolding braking_terms
 room_at_corner = refl
 
-no_room_at_corner : has_room 60000 1000 600000 (leg 1000000 400000 50000 false) (leg 2000000 400000 50000 true ∷ []) ≡ false
+no_room_at_corner : can_brake 60000 1000 600000 (leg 1000000 400000 50000 false) (leg 2000000 400000 50000 true ∷ []) ≡ false
 unfolding braking_terms
 no_room_at_corner = refl
 
 -- the known path ends after 1.6 path steps
-no_room_to_stop : has_room 60000 1000 610000 (leg 1000000 400000 50000 false) (leg 1000000 400000 50000 true ∷ []) ≡ false
+no_room_to_stop : can_brake 60000 1000 610000 (leg 1000000 400000 50000 false) (leg 1000000 400000 50000 true ∷ []) ≡ false
 unfolding braking_terms
 no_room_to_stop = refl
 
@@ -353,8 +353,8 @@ unfolding whole_root whole_root_above
 helix_inverse = refl
 
 -- two of the coordinates are in the plane
-out_zx : farther_out (pos 10000) (record round { plane = ZX }) (step_at (pos 300) (pos 700) (negsuc 399)) ≡ 4000000
+out_zx : axis_distance (pos 10000) (record round { plane = ZX }) (step_at (pos 300) (pos 700) (negsuc 399)) ≡ 4000000
 out_zx = refl
 
-out_yz : farther_out (pos 10000) (record round { plane = YZ; centre = record { u = pos 1000000; v = pos 0 } }) (step_at (pos 700) (negsuc 299) (pos 200)) ≡ 4000000
+out_yz : axis_distance (pos 10000) (record round { plane = YZ; centre = record { u = pos 1000000; v = pos 0 } }) (step_at (pos 700) (negsuc 299) (pos 200)) ≡ 4000000
 out_yz = refl

@@ -26,8 +26,8 @@ use Rattle.ngc_planner.specs.Headings.{is_level}
 
 -- the distance of a grid point from an arc's centre, along the axis of the plane on which it is
 -- greater
-abbrev pub farther_out : ℤ → ArcShape → StepPos → ℕ
-farther_out step a p =
+abbrev pub axis_distance : ℤ → ArcShape → StepPos → ℕ
+axis_distance step a p =
     max (distance a.centre.u (seen step a p).u) (distance a.centre.v (seen step a p).v)
 
 -- The cap at a place m nanometres from the centre, at f nanometres per minute. At a point of a
@@ -67,7 +67,7 @@ sloped_cap flat length cap = cap * flat / length
 abbrev pub feed_cap_at : MachineFile → ArcShape → ℕ → Feed → StepPos → ℕ
 feed_cap_at m a n (PerMinute f) p =
     let cap = place_cap m.ticks_per_second (unsigned_abs m.step) (outer_radius a)
-    (farther_out m.step a p) f in
+    (axis_distance m.step a p) f in
     if is_level a then cap
     else sloped_cap (n * unsigned_abs m.step) (length_along m.step (Arc a) n) cap
 feed_cap_at m a n (Inverse f) p = 0
@@ -140,7 +140,7 @@ ArcsKeepFeed =
     IsMachine machine → IsArc a → n ≤ STEPS_LIMIT →
     v ≤ feed_cap_at machine a n (PerMinute f) p →
     KeepsSlopedFeed machine.ticks_per_second (unsigned_abs machine.step) (outer_radius a) n
-    (rise a) (farther_out machine.step a p) f v
+    (rise a) (axis_distance machine.step a p) f v
 
 -- the target at a place is at least the target without a place
 abbrev pub IsNoLessByPlace : Type 0

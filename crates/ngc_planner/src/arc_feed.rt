@@ -5,7 +5,7 @@ ghost use Rattle.ngc_fixed_length.specs.Length.{IsStep};
 ghost use Rattle.ngc_fixed_length.specs.Limits.{MILLION};
 ghost use Rattle.ngc_machine_files.specs.Machine.{file_of};
 ghost use Rattle.ngc_commands.specs.declared.movement.Way.TheVariants as ways;
-ghost use Rattle.ngc_planner.specs.ArcFeed.{farther_out, place_cap, rise, sloped_length};
+ghost use Rattle.ngc_planner.specs.ArcFeed.{axis_distance, place_cap, rise, sloped_length};
 ghost use Rattle.ngc_planner.specs.ArcFeed.{length_along, helix_length, sloped_cap, feed_cap_at};
 ghost use Rattle.ngc_planner.specs.ArcFeed.{arc_cap_at, way_cap_at, cap_at, target_on};
 ghost use Rattle.ngc_planner.specs.ArcFeed.{is_minute_feed, has_minute_feed, is_arc, is_by_place};
@@ -31,9 +31,9 @@ fn distance(coordinate: Nm, steps: i32, step: Nm) -> u64
 
 /// Returns the distance of a grid point from an arc's centre, along the axis of the plane on which
 /// it is greater, in nanometres.
-fn farther_out(step: Nm, arc: &Arc, position: &StepPos) -> u64
+fn axis_distance(step: Nm, arc: &Arc, position: &StepPos) -> u64
     requires { IsStep step }
-    ensures value { result ≡ farther_out step arc.now position.now }
+    ensures value { result ≡ axis_distance step arc.now position.now }
     ensures arc { IsArc arc.now }
 {
     let (u, v) = match arc.plane() {
@@ -46,17 +46,17 @@ fn farther_out(step: Nm, arc: &Arc, position: &StepPos) -> u64
 }
 
 /// Returns the cap at a place of an arc of a radius, at a feed in nanometres per minute. The place
-/// is `farther_out` nanometres from the centre along one axis.
-fn place_cap(ticks_per_second: u32, step: u64, radius: u64, farther_out: u64, feed: u64) -> u128
+/// is `axis_distance` nanometres from the centre along one axis.
+fn place_cap(ticks_per_second: u32, step: u64, radius: u64, axis_distance: u64, feed: u64) -> u128
     requires ticks { 1 ≤ ticks_per_second }
     requires step_least { 1 ≤ step }
     requires step_greatest { step ≤ 50000 }
     requires radius_least { 1 ≤ radius }
     requires radius_greatest { radius ≤ 2000020000 }
-    ensures value { result ≡ place_cap ticks_per_second step radius farther_out feed }
+    ensures value { result ≡ place_cap ticks_per_second step radius axis_distance feed }
     ensures bound { result < 2 ^ 79 }
 {
-    let out = farther_out.saturating_sub(step).min(radius);
+    let out = axis_distance.saturating_sub(step).min(radius);
     u128::from(feed) * 1_000_000 * u128::from(out)
         / (60 * u128::from(ticks_per_second) * u128::from(step) * u128::from(radius))
 }
@@ -146,7 +146,7 @@ fn feed_cap_at<A: Allocator>(
                 machine.ticks_per_second,
                 machine.step.nanometres().unsigned_abs(),
                 arc.outer_radius(),
-                farther_out(machine.step, arc, position),
+                axis_distance(machine.step, arc, position),
                 *feed,
             );
             if is_level(arc) {

@@ -1,7 +1,7 @@
 -- A text that is written in pieces, from the text of each piece.
 pub mod WrittenLaws
 -- Texts that are added in order.
-pub mod Added
+pub mod JoinedTexts
 -- Times of uses are written in order.
 pub mod UseTimeLaws
 -- The text of an accepted program, from its machine, tools and commands.

@@ -4,8 +4,8 @@ use Rattle.std.specs.Prelude.{decimal}
 use Rattle.std.proofs.KnownBytes.{Appends-nil}
 use Rattle.std.proofs.lemmas.List.{append_assoc, append-nil}
 use Rattle.std.specs.Io.KnownBytes.{Appends}
-use Rattle.ngc_text.proofs.Appended.{appends_both}
-use Rattle.ngc_text.specs.Written.{AppendsBeginning}
+use Rattle.ngc_text.proofs.AppendedTexts.{appends_both}
+use Rattle.ngc_text.specs.Written.{AppendsPrefix}
 use Rattle.ngc_machine_files.specs.declared.tools.Tool.{Tool}
 use Rattle.ngc_report.specs.Words.{tool_text}
 use Rattle.ngc_report.specs.declared.form.Form.{Form}
@@ -33,9 +33,9 @@ less_left old now next one left before all is h wrote = record {
 }
 
 pub breaks_off : (old now next : Option (List ℕ)) (one left before all : List ℕ) → before ≡ one ++ left → IsLeft old now before all →
-    AppendsBeginning now next one → AppendsBeginning old next all
+    AppendsPrefix now next one → AppendsPrefix old next all
 breaks_off old now next one left before all is h wrote =
-    let P : List ℕ → Type 0 = λ l. AppendsBeginning old next l in
+    let P : List ℕ → Type 0 = λ l. AppendsPrefix old next l in
     let whole : (h.front ++ one) ++ left ≡ all = append_assoc h.front one left ∙ ap (λ l. h.front ++ l) (sym is) ∙ h.splits in
     subst P whole (begins_first old next (h.front ++ one) left (begins_last old now next h.front one h.wrote wrote))
 
@@ -63,9 +63,9 @@ pub time_appended : (old new : Option (List ℕ)) (form : Form) (tool : Option T
     Appends old new (use_time form tool b)
 time_appended old new form tool a b wrote same even = appends_as old new (use_time form tool a) (use_time form tool b) (same_time form tool a b same even) wrote
 
-pub time_begun : (old new : Option (List ℕ)) (form : Form) (tool : Option Tool) (a b : RunTime) → AppendsBeginning old new (use_time form tool a) →
+pub time_begun : (old new : Option (List ℕ)) (form : Form) (tool : Option Tool) (a b : RunTime) → AppendsPrefix old new (use_time form tool a) →
     a.ticks ≡ b.ticks → a.ticks_per_second ≡ b.ticks_per_second →
-    AppendsBeginning old new (use_time form tool b)
+    AppendsPrefix old new (use_time form tool b)
 time_begun old new form tool a b wrote same even = begins_as old new (use_time form tool a) (use_time form tool b) (same_time form tool a b same even) wrote
 
 -- ---- the lines

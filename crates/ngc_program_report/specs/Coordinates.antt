@@ -35,9 +35,9 @@ abbrev pub history_of : Frame → List FrameChange → History
 history_of start changes = record { start = start; changes = changes }
 
 -- the path of the reported command, if it is a motion
-abbrev pub told_way : List Command → Option ℕ → Option Way
-told_way commands None = None
-told_way commands (Some k) = option_and_then (λ c. way_of c.action) (slice_get commands k)
+abbrev pub refused_path : List Command → Option ℕ → Option Way
+refused_path commands None = None
+refused_path commands (Some k) = option_and_then (λ c. way_of c.action) (slice_get commands k)
 
 unfoldable pub motion_text : Form → Bool → FrameInForce → Point3 → Point3 → List ℕ
 motion_text Words given f from to = motion_words given f from to

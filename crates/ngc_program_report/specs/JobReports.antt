@@ -5,7 +5,7 @@ use Rattle.std.specs.List.{list_all}
 use Rattle.std.specs.Io.KnownBytes.{Appends, Keeps}
 use Rattle.ngc_origins.specs.Texts.{OriginList}
 use Rattle.ngc_text.specs.Failures.{Rises}
-use Rattle.ngc_text.specs.Written.{AppendsBeginning}
+use Rattle.ngc_text.specs.Written.{AppendsPrefix}
 use Rattle.ngc_line_reader.specs.Grammar.{Reading}
 use Rattle.ngc_line_reader.specs.Program.{Line}
 use Rattle.ngc_line_reader.specs.ProgramText.{AreReadings}
@@ -121,7 +121,7 @@ abbrev pub Tells : (List ℕ → Type 0) → Option (List ℕ) → Option (List 
 Tells IsText old new (Ok u) = (text : List ℕ) × IsText text × Appends old new text
 Tells IsText old new (Err faults.Memory) = Keeps old new
 Tells IsText old new (Err (faults.Write fault)) =
-    (text : List ℕ) × IsText text × AppendsBeginning old new text
+    (text : List ℕ) × IsText text × AppendsPrefix old new text
 
 -- the sink's count of failures rose if a write failed, and is unchanged otherwise
 abbrev pub FailsByWriting : Result (Unit {0}) ReportFault → ℕ → ℕ → Type 0

@@ -32,10 +32,12 @@ use Rattle.ngc_report.specs.Warnings.{warning_lines}
 use Rattle.ngc_report.specs.declared.form.Form.{Form}
 use Rattle.ngc_report.specs.declared.form.Form.TheVariants.{Words, Json}
 use Rattle.ngc_word_warnings.specs.Spelling.{word_warnings}
+use Rattle.ngc_lowest_tips.specs.Texts.{tips_text}
+use Rattle.ngc_lowest_tips.specs.Tips.{lowest_tips}
 use Rattle.ngc_origin_warnings.specs.Warnings.{origin_warnings}
 use Rattle.ngc_setup_sheet.specs.Sheets.{warning_facts, warnings_text}
 use Rattle.ngc_program_report.specs.declared.run_time.RunTime.{RunTime}
-use Rattle.ngc_program_report.specs.Coordinates.{History, coordinates_text, line_of, told_way}
+use Rattle.ngc_program_report.specs.Coordinates.{History, coordinates_text, line_of, refused_path}
 use Rattle.ngc_program_report.specs.Met.{met_at}
 use Rattle.ngc_program_report.specs.Times.{ProgramTimeData, seconds_text, time_text, uses_text}
 
@@ -92,15 +94,16 @@ abbrev pub is_on : Setting → Bool
 is_on Off = false
 is_on On = true
 
--- warnings at a setting: for the commands there, for the words of the program's lines, and for the
--- origins from which it moves
+-- the lowest heights at a setting, and the warnings: for the commands there, for the words of the
+-- program's lines, and for the origins from which it moves
 abbrev pub remarks : Form → Setting → Setup → History → List Command → List Line → List ℕ
 remarks form s setup h commands lines =
-    report_text form (warning_lines setup.machine commands)
+    tips_text form (lowest_tips h.start h.changes commands)
+    ++ (report_text form (warning_lines setup.machine commands)
     ++ (word_warnings form (is_on s) setup.machine commands lines
-    ++ origin_warnings form setup.machine setup.tools h.start h.changes commands)
+    ++ origin_warnings form setup.machine setup.tools h.start h.changes commands))
 
--- what fits at a setting, the time there, and the warnings
+-- what fits at a setting, the time there, the lowest heights, and the warnings
 abbrev pub setting_text : Form → OriginList → Bool → Bool → Setting → Setup → List Command →
     List Entry → ProgramTimeData → History → List Line → List ℕ
 setting_text form origins first named s setup commands motions time h lines =
@@ -142,14 +145,14 @@ abbrev pub ending : Form → ℕ → List ℕ
 ending form number = hint form number ++ closing form
 
 -- the command that a refusal reports, or none if the start point isn't clear
-abbrev pub told_command : Option ℕ → ℕ → Option ℕ
-told_command None k = Some k
-told_command (Some fixture) k = None
+abbrev pub refused_command : Option ℕ → ℕ → Option ℕ
+refused_command None k = Some k
+refused_command (Some fixture) k = None
 
 -- the program line of the reported command
-abbrev pub told_number : List Command → Option ℕ → Option ℕ
-told_number commands None = None
-told_number commands (Some k) = option_map (λ c. c.line) (slice_get commands k)
+abbrev pub refused_number : List Command → Option ℕ → Option ℕ
+refused_number commands None = None
+refused_number commands (Some k) = option_map (λ c. c.line) (slice_get commands k)
 
 abbrev pub quoted_if : Form → Option ℕ → List Line → List ℕ
 quoted_if form None lines = []
@@ -160,8 +163,8 @@ abbrev pub cause_text : Form → OriginList → MachineFile → List Command →
     List Line → FrameInForce → List ℕ
 cause_text form origins machine commands told fixture lines frame =
     report_text form (refusal_lines machine commands told fixture)
-    ++ (quoted_if form (told_number commands told) lines
-    ++ (coordinates_text form origins frame (told_way commands told) ++ ending form 304))
+    ++ (quoted_if form (refused_number commands told) lines
+    ++ (coordinates_text form origins frame (refused_path commands told) ++ ending form 304))
 
 -- the obstacle of command `k` at a setting
 abbrev pub refusal_text : Form → OriginList → Bool → Setting → MachineFile → List Command → ℕ →
@@ -169,7 +172,7 @@ abbrev pub refusal_text : Form → OriginList → Bool → Setting → MachineFi
 refusal_text form origins named s machine commands k lines frame =
     heading form origins true named s
     ++ cause_text form origins machine commands
-    (told_command (place_fault machine None (grid machine.step machine.start)) k)
+    (refused_command (place_fault machine None (grid machine.step machine.start)) k)
     (met_at machine commands k) lines frame
 
 -- the obstacle of command `k`, and its coordinates in the program
@@ -179,7 +182,7 @@ command_refusal form origins machine commands h k =
     report_text form (scene_lines machine k None (scene_at machine commands k))
     ++ coordinates_text form origins
     (frame_in_force h.start h.changes (line_of (slice_get commands k)))
-    (told_way commands (Some k))
+    (refused_path commands (Some k))
 
 -- those of commands in order
 abbrev pub command_refusals : Form → OriginList → MachineFile → List Command → History →

@@ -49,8 +49,8 @@ pub record ProgramTimeData : Type 0 where
 
 -- the ticks of the reported uses; the part before the first change is one of them if something
 -- moves there
-abbrev pub ticks_told : List Command → List ℕ → List ℕ
-ticks_told commands parts = if moves (use_of None commands) then parts else drop 1 parts
+abbrev pub ticks_counted : List Command → List ℕ → List ℕ
+ticks_counted commands parts = if moves (use_of None commands) then parts else drop 1 parts
 
 -- the tool's number, or null without a tool
 unfoldable pub tool_value : Option Tool → List ℕ
@@ -81,4 +81,4 @@ use_times form whole (u ∷ us) (n ∷ ns) =
 -- the lines of a program
 abbrev pub uses_text : Form → List Command → ProgramTimeData → List ℕ
 uses_text form commands time =
-    use_times form time.whole (tool_uses commands) (ticks_told commands time.parts)
+    use_times form time.whole (tool_uses commands) (ticks_counted commands time.parts)

@@ -5,8 +5,8 @@ ghost use Rattle.ngc_certificate_text.specs.Collects.{Collects};
 ghost use Rattle.ngc_collision.specs.Inside.{place_of};
 ghost use Rattle.ngc_commands.specs.Movement.{start_of};
 ghost use Rattle.ngc_text.specs.Failures.{CountsFailure};
-ghost use Rattle.ngc_text.specs.Written.{AppendsBeginning};
-ghost use Rattle.ngc_program_report.specs.Coordinates.{coordinates_text, motion_text, told_way};
+ghost use Rattle.ngc_text.specs.Written.{AppendsPrefix};
+ghost use Rattle.ngc_program_report.specs.Coordinates.{coordinates_text, motion_text, refused_path};
 ghost use Rattle.ngc_program_report.specs.Coordinates.{line_of, way_of};
 
 use ngc_collision::Place;
@@ -36,8 +36,8 @@ fn way_of(action: &Action) -> Option<Way>
 }
 
 /// Returns the path of the reported command, or `None` if it isn't a motion.
-pub(crate) fn told_way(commands: &[Command], told: Option<usize>) -> Option<Way>
-    ensures { result ≡ told_way commands.now told }
+pub(crate) fn refused_path(commands: &[Command], told: Option<usize>) -> Option<Way>
+    ensures { result ≡ refused_path commands.now told }
 {
     match told {
         None => None,
@@ -117,7 +117,7 @@ pub(crate) fn write_coordinates<W: Sink>(
         (Appends (W.written output.old) (W.written output.new)
         (coordinates_text form origins.now frame.now way.now)) }
     ensures fault { OnErr result
-        (AppendsBeginning (W.written output.old) (W.written output.new)
+        (AppendsPrefix (W.written output.old) (W.written output.new)
         (coordinates_text form origins.now frame.now way.now)) }
     ensures counts { CountsFailure (W.failures output.old) (W.failures output.new) result }
 {

@@ -4,7 +4,7 @@ ghost use Rattle.std.specs.List.{list_any};
 ghost use Rattle.std.specs.Io.KnownBytes.{Appends};
 ghost use Rattle.ngc_text.specs.Collected.{CHUNK_SIZE};
 ghost use Rattle.ngc_text.specs.Failures.{CountsFailure};
-ghost use Rattle.ngc_text.specs.Written.{AppendsBeginning};
+ghost use Rattle.ngc_text.specs.Written.{AppendsPrefix};
 ghost use Rattle.ngc_report.specs.Forms.{opening};
 ghost use Rattle.ngc_program_report.specs.FaultTexts.{earlier_words, delete_words, fault_words};
 ghost use Rattle.ngc_program_report.specs.FaultTexts.{line_value, truth, fault_fact, fault_line};
@@ -29,7 +29,7 @@ fn write_quote<W: Sink>(
         (Appends (W.written output.old) (W.written output.new)
         (fault_quote form text.now fault.now)) }
     ensures fault { OnErr result
-        (AppendsBeginning (W.written output.old) (W.written output.new)
+        (AppendsPrefix (W.written output.old) (W.written output.new)
         (fault_quote form text.now fault.now)) }
     ensures counts { CountsFailure (W.failures output.old) (W.failures output.new) result }
 {
@@ -134,7 +134,7 @@ fn write_fault<W: Sink>(
         (Appends (W.written output.old) (W.written output.new)
         (fault_quote form text.now fault.now ++ fault_line form fault.now earlier only_on)) }
     ensures fault { OnErr result
-        (AppendsBeginning (W.written output.old) (W.written output.new)
+        (AppendsPrefix (W.written output.old) (W.written output.new)
         (fault_quote form text.now fault.now ++ fault_line form fault.now earlier only_on)) }
     ensures counts { CountsFailure (W.failures output.old) (W.failures output.new) result }
 {
@@ -178,7 +178,7 @@ fn write_new<W: Sink>(
         (Appends (W.written output.old) (W.written output.new)
         (fault_text form text.now only_on others.now fault.now earlier)) }
     ensures fault { OnErr result
-        (AppendsBeginning (W.written output.old) (W.written output.new)
+        (AppendsPrefix (W.written output.old) (W.written output.new)
         (fault_text form text.now only_on others.now fault.now earlier)) }
     ensures counts { CountsFailure (W.failures output.old) (W.failures output.new) result }
 {
@@ -202,7 +202,7 @@ fn write_list<W: Sink>(
         (Appends (W.written output.old) (W.written output.new)
         (list_text form text.now only_on others.now false faults.now)) }
     ensures fault { OnErr result
-        (AppendsBeginning (W.written output.old) (W.written output.new)
+        (AppendsPrefix (W.written output.old) (W.written output.new)
         (list_text form text.now only_on others.now false faults.now)) }
     ensures counts { CountsFailure (W.failures output.old) (W.failures output.new) result }
 {
@@ -243,7 +243,7 @@ pub fn write_faults<W: Sink>(
         (Appends (W.written output.old) (W.written output.new)
         (faults_text form text.now first.now off.now on.now)) }
     ensures fault { OnErr result
-        (AppendsBeginning (W.written output.old) (W.written output.new)
+        (AppendsPrefix (W.written output.old) (W.written output.new)
         (faults_text form text.now first.now off.now on.now)) }
     ensures counts { CountsFailure (W.failures output.old) (W.failures output.new) result }
 {

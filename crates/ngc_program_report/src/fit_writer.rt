@@ -3,10 +3,11 @@ ghost use Rattle.std.specs.Prelude.{◌≡◌, ◌++◌, OnOk, OnErr, true, fals
 ghost use Rattle.std.specs.Io.KnownBytes.{Appends};
 ghost use Rattle.ngc_canonical.specs.Interpreter.{setup_of};
 ghost use Rattle.ngc_text.specs.Failures.{CountsFailure};
-ghost use Rattle.ngc_text.specs.Written.{AppendsBeginning};
+ghost use Rattle.ngc_text.specs.Written.{AppendsPrefix};
 ghost use Rattle.ngc_machine_files.specs.Machine.{file_of};
 ghost use Rattle.ngc_report.specs.Forms.{closing};
 ghost use Rattle.ngc_line_reader.specs.ProgramView.{text_in};
+ghost use Rattle.ngc_lowest_tips.specs.Tips.{lowest_tips};
 ghost use Rattle.ngc_program_report.specs.Coordinates.{history_of};
 ghost use Rattle.ngc_program_report.specs.Texts.{accepted_text, duration_text, is_on, remarks};
 ghost use Rattle.ngc_program_report.specs.Texts.{setting_text, shop_text, takes_line};
@@ -22,6 +23,7 @@ use ngc_checker::Accepted;
 use ngc_commands::Command;
 use ngc_frames::FrameHistory;
 use ngc_line_reader::Program;
+use ngc_lowest_tips::{LowestTip, write_lowest_tips};
 use ngc_machine_files::{Machine, Tools};
 use ngc_origin_warnings::write_origin_warnings;
 use ngc_origins::Origins;
@@ -35,7 +37,7 @@ fn write_takes_line<W: Sink>(form: Form, time: &RunTime, output: &mut W) -> Resu
     ensures ok { OnOk result
         (Appends (W.written output.old) (W.written output.new) (takes_line form time.now)) }
     ensures fault { OnErr result
-        (AppendsBeginning (W.written output.old) (W.written output.new)
+        (AppendsPrefix (W.written output.old) (W.written output.new)
         (takes_line form time.now)) }
     ensures counts { CountsFailure (W.failures output.old) (W.failures output.new) result }
 {
@@ -55,7 +57,7 @@ fn write_duration<A: Allocator, W: Sink>(
         (Appends (W.written output.old) (W.written output.new)
         (duration_text form commands.now time.now)) }
     ensures fault { OnErr result
-        (AppendsBeginning (W.written output.old) (W.written output.new)
+        (AppendsPrefix (W.written output.old) (W.written output.new)
         (duration_text form commands.now time.now)) }
     ensures counts { CountsFailure (W.failures output.old) (W.failures output.new) result }
 {
@@ -73,7 +75,7 @@ pub(crate) fn is_on(setting: Setting) -> bool
     }
 }
 
-// Writes the warnings at a setting.
+// Writes the lowest heights and the warnings at a setting.
 fn write_remarks<A: Allocator, W: Sink>(
     form: Form,
     program: &Program<A>,
@@ -82,26 +84,30 @@ fn write_remarks<A: Allocator, W: Sink>(
     tools: &Tools<A>,
     history: &FrameHistory<A>,
     commands: &[Command],
+    tips: &[LowestTip],
     output: &mut W,
 ) -> Result<(), WriteFault>
+    requires tips { tips.now
+        ≡ lowest_tips history.now.start history.now.changes.items commands.now }
     ensures ok { OnOk result
         (Appends (W.written output.old) (W.written output.new)
         (remarks form setting (setup_of machine.now tools.now)
         (history_of history.now.start history.now.changes.items) commands.now
         (text_in program.now).lines)) }
     ensures fault { OnErr result
-        (AppendsBeginning (W.written output.old) (W.written output.new)
+        (AppendsPrefix (W.written output.old) (W.written output.new)
         (remarks form setting (setup_of machine.now tools.now)
         (history_of history.now.start history.now.changes.items) commands.now
         (text_in program.now).lines)) }
     ensures counts { CountsFailure (W.failures output.old) (W.failures output.new) result }
 {
+    write_lowest_tips(form, tips, output)?;
     write_warnings(form, machine, commands, output)?;
     write_word_warnings(form, is_on(setting), program, machine, commands, output)?;
     write_origin_warnings(form, machine, tools.tools(), history, commands, output)
 }
 
-// Writes what fits at a setting, the time there, and the warnings.
+// Writes what fits at a setting, the time there, the lowest heights, and the warnings.
 fn write_setting<A: Allocator, M: MotionList, W: Sink>(
     form: Form,
     origins: &Origins,
@@ -115,15 +121,18 @@ fn write_setting<A: Allocator, M: MotionList, W: Sink>(
     motions: &M,
     time: &ProgramTime<A>,
     history: &FrameHistory<A>,
+    tips: &[LowestTip],
     output: &mut W,
 ) -> Result<(), WriteFault>
+    requires tips { tips.now
+        ≡ lowest_tips history.now.start history.now.changes.items commands.now }
     ensures ok { OnOk result
         (Appends (W.written output.old) (W.written output.new)
         (setting_text form origins.now first named setting (setup_of machine.now tools.now)
         commands.now (M.entries motions.now) time.now
         (history_of history.now.start history.now.changes.items) (text_in program.now).lines)) }
     ensures fault { OnErr result
-        (AppendsBeginning (W.written output.old) (W.written output.new)
+        (AppendsPrefix (W.written output.old) (W.written output.new)
         (setting_text form origins.now first named setting (setup_of machine.now tools.now)
         commands.now (M.entries motions.now) time.now
         (history_of history.now.start history.now.changes.items) (text_in program.now).lines)) }
@@ -133,7 +142,7 @@ fn write_setting<A: Allocator, M: MotionList, W: Sink>(
     write_fit(form, machine, commands, motions, output)?;
     write_duration(form, commands, time, output)?;
     write_remarks(
-        form, program, setting, machine, tools, history, commands, output,
+        form, program, setting, machine, tools, history, commands, tips, output,
     )
 }
 
@@ -148,7 +157,7 @@ fn write_shop<A: Allocator, W: Sink>(
         (Appends (W.written output.old) (W.written output.new)
         (shop_text form (setup_of machine.now tools.now))) }
     ensures fault { OnErr result
-        (AppendsBeginning (W.written output.old) (W.written output.new)
+        (AppendsPrefix (W.written output.old) (W.written output.new)
         (shop_text form (setup_of machine.now tools.now))) }
     ensures counts { CountsFailure (W.failures output.old) (W.failures output.new) result }
 {
@@ -170,7 +179,7 @@ fn write_fit_end<A: Allocator, W: Sink>(
         (Appends (W.written output.old) (W.written output.new)
         (shop_text form (setup_of machine.now tools.now) ++ closing form)) }
     ensures fault { OnErr result
-        (AppendsBeginning (W.written output.old) (W.written output.new)
+        (AppendsPrefix (W.written output.old) (W.written output.new)
         (shop_text form (setup_of machine.now tools.now) ++ closing form)) }
     ensures counts { CountsFailure (W.failures output.old) (W.failures output.new) result }
 {
@@ -187,8 +196,11 @@ pub(crate) fn write_once<A: Allocator, M: MotionList, W: Sink>(
     motions: &M,
     time: &ProgramTime<A>,
     history: &FrameHistory<A>,
+    tips: &[LowestTip],
     output: &mut W,
 ) -> Result<(), WriteFault>
+    requires tips { tips.now
+        ≡ lowest_tips history.now.start history.now.changes.items accepted.now.off }
     ensures ok { OnOk result
         (Appends (W.written output.old) (W.written output.new)
         (accepted_text form origins.now false accepted.now
@@ -197,7 +209,7 @@ pub(crate) fn write_once<A: Allocator, M: MotionList, W: Sink>(
         (history_of history.now.start history.now.changes.items)
         (text_in program.now).lines)) }
     ensures fault { OnErr result
-        (AppendsBeginning (W.written output.old) (W.written output.new)
+        (AppendsPrefix (W.written output.old) (W.written output.new)
         (accepted_text form origins.now false accepted.now
         (record { off = M.entries motions.now; on = M.entries motions.now }) time.now time.now
         (history_of history.now.start history.now.changes.items)
@@ -220,6 +232,7 @@ pub(crate) fn write_once<A: Allocator, M: MotionList, W: Sink>(
         motions,
         time,
         history,
+        tips,
         output,
     )?;
     write_fit_end(form, machine, tools, output)
@@ -237,8 +250,14 @@ pub(crate) fn write_both<A: Allocator, M: MotionList, W: Sink>(
     on_time: &ProgramTime<A>,
     off_history: &FrameHistory<A>,
     on_history: &FrameHistory<A>,
+    off_tips: &[LowestTip],
+    on_tips: &[LowestTip],
     output: &mut W,
 ) -> Result<(), WriteFault>
+    requires off_tips { off_tips.now
+        ≡ lowest_tips off_history.now.start off_history.now.changes.items accepted.now.off }
+    requires on_tips { on_tips.now
+        ≡ lowest_tips on_history.now.start on_history.now.changes.items accepted.now.on }
     ensures ok { OnOk result
         (Appends (W.written output.old) (W.written output.new)
         (accepted_text form origins.now true accepted.now
@@ -247,7 +266,7 @@ pub(crate) fn write_both<A: Allocator, M: MotionList, W: Sink>(
         (history_of on_history.now.start on_history.now.changes.items)
         (text_in program.now).lines)) }
     ensures fault { OnErr result
-        (AppendsBeginning (W.written output.old) (W.written output.new)
+        (AppendsPrefix (W.written output.old) (W.written output.new)
         (accepted_text form origins.now true accepted.now
         (record { off = M.entries off_motions.now; on = M.entries on_motions.now }) off_time.now
         on_time.now (history_of off_history.now.start off_history.now.changes.items)
@@ -270,6 +289,7 @@ pub(crate) fn write_both<A: Allocator, M: MotionList, W: Sink>(
         off_motions,
         off_time,
         off_history,
+        off_tips,
         output,
     )?;
     let on = accepted.commands(true);
@@ -286,6 +306,7 @@ pub(crate) fn write_both<A: Allocator, M: MotionList, W: Sink>(
         on_motions,
         on_time,
         on_history,
+        on_tips,
         output,
     )?;
     write_fit_end(form, machine, tools, output)

@@ -1,8 +1,8 @@
 //! A job with the frames of its commands, from one execution at each setting of block delete.
 ghost use Rattle.std.specs.Prelude.{◌≡◌, List, IfOk};
 ghost use Rattle.ngc_canonical.specs.Interpreter.{setup_of};
-ghost use Rattle.ngc_canonical.specs.Meaning.{program_said};
-ghost use Rattle.ngc_job.specs.Job.{GivesJob};
+ghost use Rattle.ngc_canonical.specs.Meaning.{parsed_program};
+ghost use Rattle.ngc_job.specs.Job.{JobResultIs};
 ghost use Rattle.ngc_line_reader.specs.Grammar.{Reading};
 ghost use Rattle.ngc_line_reader.specs.ProgramText.{AreReadings};
 ghost use Rattle.ngc_line_reader.specs.ProgramView.{text_in};
@@ -62,7 +62,7 @@ pub fn framed_job<A: Allocator + Copy>(
 ) -> Result<FramedJob<A>, JobFault>
     // This holds for all readings of the lines: each line has exactly one.
     ensures job { (rs : List Reading) → AreReadings (text_in program.now).lines rs →
-        GivesJob (λ f. f.job) (program_said (text_in program.now) rs) (setup_of machine tools)
+        JobResultIs (λ f. f.job) (parsed_program (text_in program.now) rs) (setup_of machine tools)
         result }
     ensures frames { IfOk result (λ f. IsFramed f (text_in program.now).lines) }
 {

@@ -1,5 +1,6 @@
 //! The reports of jobs that fit, and of those that don't.
-ghost use Rattle.std.specs.Prelude.{◌≡◌, ◌≤◌, List, is_some, Err, IfOk, OnErr, OnOk, true};
+ghost use Rattle.std.specs.Prelude.{◌≡◌, ◌≤◌, List, is_some, Err, IfErr, IfOk, OnErr, OnOk};
+ghost use Rattle.std.specs.Prelude.{true};
 ghost use Rattle.std.specs.Io.KnownBytes.{Appends};
 ghost use Rattle.ngc_certificate.specs.Made.{IsMade};
 ghost use Rattle.ngc_certificate.specs.Uncleared.{AreUncleared};
@@ -11,9 +12,10 @@ ghost use Rattle.ngc_certificate_text.specs.Certificate.{AreEntries};
 ghost use Rattle.ngc_checker.specs.Accepted.{commands_at};
 ghost use Rattle.ngc_job.specs.Job.{commands_in};
 ghost use Rattle.ngc_text.specs.Failures.{CountsFailure};
-ghost use Rattle.ngc_text.specs.Written.{AppendsBeginning};
+ghost use Rattle.ngc_text.specs.Written.{AppendsPrefix};
 ghost use Rattle.ngc_line_reader.specs.Program.{Line};
 ghost use Rattle.ngc_line_reader.specs.ProgramView.{text_in};
+ghost use Rattle.ngc_lowest_tips.specs.Tips.{lowest_tips};
 ghost use Rattle.ngc_program_report.specs.Framed.{IsFramed};
 ghost use Rattle.ngc_program_report.specs.JobReports.{FailsByWriting, IsFitText, IsFrameAt};
 ghost use Rattle.ngc_program_report.specs.JobReports.{IsRefusalText, IsRefusalsText};
@@ -32,9 +34,10 @@ use ngc_certificate::{
 };
 use ngc_checker::Accepted;
 use ngc_commands::Command;
-use ngc_frames::FrameInForce;
+use ngc_frames::{FrameHistory, FrameInForce};
 use ngc_job::Job;
 use ngc_line_reader::Program;
+use ngc_lowest_tips::{LowestTip, lowest_tips};
 use ngc_origins::Origins;
 use ngc_report::{Form, ReportFault};
 use ngc_text::{Sink, WriteFault};
@@ -57,13 +60,32 @@ fn motions_at<'a, A: Allocator>(
         .motions(commands, accepted.machine().step)
 }
 
+// Returns the lowest heights of an accepted program, at a setting of block delete. If memory runs
+// out, that is 900.
+fn tips_at<A: Allocator + Copy>(
+    alloc: A,
+    history: &FrameHistory<A>,
+    accepted: &Accepted<A>,
+    block_delete: bool,
+) -> Result<Vec<LowestTip, A>, ReportFault>
+    ensures are { IfOk result (λ v. v.items
+        ≡ lowest_tips history.now.start history.now.changes.items
+        (commands_at block_delete accepted.now)) }
+    ensures memory { IfErr result (λ fault. fault ≡ ReportFault.Memory) }
+{
+    match lowest_tips(alloc, history, accepted.commands(block_delete)) {
+        Ok(tips) => Ok(tips),
+        Err(_) => Err(ReportFault::Memory),
+    }
+}
+
 /// Writes the report of a job with plans of its motions: its extent and margins, the use of each
-/// tool, the time, and the warnings about its commands, the words of the program and the origins
-/// from which it moves. The plans are those of the job's commands, and their motions are valid for
-/// it. The frames are those of the program.
+/// tool, the time, the lowest heights, and the warnings about its commands, the words of the program
+/// and the origins from which it moves. The plans are those of the job's commands, and their
+/// motions are valid for it. The frames are those of the program.
 ///
-/// Nothing is written before the time is computed, and nothing if memory runs out (900). If a write
-/// fails (902), a prefix is written.
+/// Nothing is written before the time and the lowest heights are computed, and nothing if memory
+/// runs out (900). If a write fails (902), a prefix is written.
 pub fn report_fit<A: Allocator + Copy, W: Sink>(
     alloc: A,
     program: &Program<A>,
@@ -98,13 +120,25 @@ pub fn report_fit<A: Allocator + Copy, W: Sink>(
     let accepted = accept(job, plans);
     let (off_time, accepted) = time_of(alloc, accepted, false)?;
     if !apart {
+        let tips = tips_at(alloc, &off, &accepted, false)?;
         let motions = motions_at(&accepted, plans, Setting::Off);
         write_once(
-            form, origins, program, &accepted, &motions, &off_time, &off, output,
+            form,
+            origins,
+            program,
+            &accepted,
+            &motions,
+            &off_time,
+            &off,
+            tips.as_slice(),
+            output,
         )?;
         return Ok(());
     }
     let (on_time, accepted) = time_of(alloc, accepted, true)?;
+    let on_history = frames_or(&off, &on);
+    let off_tips = tips_at(alloc, &off, &accepted, false)?;
+    let on_tips = tips_at(alloc, on_history, &accepted, true)?;
     let off_motions = motions_at(&accepted, plans, Setting::Off);
     let on_motions = motions_at(&accepted, plans, Setting::On);
     write_both(
@@ -117,7 +151,9 @@ pub fn report_fit<A: Allocator + Copy, W: Sink>(
         &off_time,
         &on_time,
         &off,
-        frames_or(&off, &on),
+        on_history,
+        off_tips.as_slice(),
+        on_tips.as_slice(),
         output,
     )?;
     Ok(())
@@ -148,7 +184,7 @@ fn report_first<A: Allocator, W: Sink>(
         (first_text job.now form origins.now setting command
         (text_in program.now).lines frame.now)) }
     ensures fault { OnErr result
-        (AppendsBeginning (W.written output.old) (W.written output.new)
+        (AppendsPrefix (W.written output.old) (W.written output.new)
         (first_text job.now form origins.now setting command
         (text_in program.now).lines frame.now)) }
     ensures counts { CountsFailure (W.failures output.old) (W.failures output.new) result }

@@ -5,21 +5,21 @@ ghost use Rattle.ngc_canonical.specs.Faults.{fault_number};
 ghost use Rattle.ngc_certificate.specs.PieceFault.{place_fault};
 ghost use Rattle.ngc_certificate_text.specs.Collects.{Collects};
 ghost use Rattle.ngc_text.specs.Failures.{CountsFailure};
-ghost use Rattle.ngc_text.specs.Written.{AppendsBeginning};
+ghost use Rattle.ngc_text.specs.Written.{AppendsPrefix};
 ghost use Rattle.ngc_fixed_length.specs.Grid.{grid};
 ghost use Rattle.ngc_line_reader.specs.ProgramView.{text_in};
 ghost use Rattle.ngc_machine_files.specs.Machine.{file_of};
 ghost use Rattle.ngc_frames.specs.Walks.{WalksOver};
 ghost use Rattle.ngc_refused_values.specs.Texts.{value_line};
 ghost use Rattle.ngc_report.specs.Marks.{named_line};
-ghost use Rattle.ngc_report.specs.Scenes.{StandsBehind};
+ghost use Rattle.ngc_report.specs.Scenes.{StandsAfter};
 ghost use Rattle.ngc_program_report.specs.Coordinates.{coordinates_text, history_of};
 ghost use Rattle.ngc_program_report.specs.Texts.{all_refusals, cause_text, command_refusal};
 ghost use Rattle.ngc_program_report.specs.Texts.{command_refusals, ending, is_on, quoted_if, refusal_text};
 ghost use Rattle.ngc_program_report.specs.Texts.{refusals_text, refused_line, rejection_text};
-ghost use Rattle.ngc_program_report.specs.Texts.{setting_refusals, told_command, told_number};
+ghost use Rattle.ngc_program_report.specs.Texts.{setting_refusals, refused_command, refused_number};
 
-use crate::coordinates::{collect_coordinates, line_of, told_way, write_coordinates};
+use crate::coordinates::{collect_coordinates, line_of, refused_path, write_coordinates};
 use crate::fit_writer::is_on;
 use crate::met::met_at;
 use crate::report_frame::{write_ending, write_heading};
@@ -39,8 +39,8 @@ use ngc_text::{Chunk, Sink, WriteFault, write_all};
 use std::alloc::Allocator;
 
 // Returns the command that a refusal reports, or `None` if the start point isn't clear.
-fn told_command<A: Allocator>(machine: &Machine<A>, command: u32) -> Option<usize>
-    ensures { result ≡ told_command
+fn refused_command<A: Allocator>(machine: &Machine<A>, command: u32) -> Option<usize>
+    ensures { result ≡ refused_command
         (place_fault (file_of machine.now) None
         (grid (file_of machine.now).step (file_of machine.now).start)) command }
 {
@@ -51,8 +51,8 @@ fn told_command<A: Allocator>(machine: &Machine<A>, command: u32) -> Option<usiz
 }
 
 // Returns the program line of the reported command.
-fn told_number(commands: &[Command], told: Option<usize>) -> Option<u32>
-    ensures { result ≡ told_number commands.now told }
+fn refused_number(commands: &[Command], told: Option<usize>) -> Option<u32>
+    ensures { result ≡ refused_number commands.now told }
 {
     match told {
         None => None,
@@ -63,7 +63,7 @@ fn told_number(commands: &[Command], told: Option<usize>) -> Option<u32>
     }
 }
 
-fn write_told_line<A: Allocator, W: Sink>(
+fn write_refused_line<A: Allocator, W: Sink>(
     form: Form,
     program: &Program<A>,
     number: Option<u32>,
@@ -73,7 +73,7 @@ fn write_told_line<A: Allocator, W: Sink>(
         (Appends (W.written output.old) (W.written output.new)
         (quoted_if form number (text_in program.now).lines)) }
     ensures fault { OnErr result
-        (AppendsBeginning (W.written output.old) (W.written output.new)
+        (AppendsPrefix (W.written output.old) (W.written output.new)
         (quoted_if form number (text_in program.now).lines)) }
     ensures counts { CountsFailure (W.failures output.old) (W.failures output.new) result }
 {
@@ -95,7 +95,7 @@ fn write_way_end<W: Sink>(
         (Appends (W.written output.old) (W.written output.new)
         (coordinates_text form origins.now frame.now way.now ++ ending form 304)) }
     ensures fault { OnErr result
-        (AppendsBeginning (W.written output.old) (W.written output.new)
+        (AppendsPrefix (W.written output.old) (W.written output.new)
         (coordinates_text form origins.now frame.now way.now ++ ending form 304)) }
     ensures counts { CountsFailure (W.failures output.old) (W.failures output.new) result }
 {
@@ -118,12 +118,12 @@ fn write_cause_end<A: Allocator, W: Sink>(
         (quoted_if form number (text_in program.now).lines
         ++ (coordinates_text form origins.now frame.now way.now ++ ending form 304))) }
     ensures fault { OnErr result
-        (AppendsBeginning (W.written output.old) (W.written output.new)
+        (AppendsPrefix (W.written output.old) (W.written output.new)
         (quoted_if form number (text_in program.now).lines
         ++ (coordinates_text form origins.now frame.now way.now ++ ending form 304))) }
     ensures counts { CountsFailure (W.failures output.old) (W.failures output.new) result }
 {
-    write_told_line(form, program, number, output)?;
+    write_refused_line(form, program, number, output)?;
     write_way_end(form, origins, frame, way, output)
 }
 
@@ -144,14 +144,14 @@ fn write_cause<A: Allocator, W: Sink>(
         (cause_text form origins.now (file_of machine.now) commands.now told fixture
         (text_in program.now).lines frame.now)) }
     ensures fault { OnErr result
-        (AppendsBeginning (W.written output.old) (W.written output.new)
+        (AppendsPrefix (W.written output.old) (W.written output.new)
         (cause_text form origins.now (file_of machine.now) commands.now told fixture
         (text_in program.now).lines frame.now)) }
     ensures counts { CountsFailure (W.failures output.old) (W.failures output.new) result }
 {
     write_refusal(form, machine, commands, told, fixture, output)?;
-    let number = told_number(commands, told);
-    let way = told_way(commands, told);
+    let number = refused_number(commands, told);
+    let way = refused_path(commands, told);
     write_cause_end(form, origins, program, number, frame, &way, output)
 }
 
@@ -173,13 +173,13 @@ pub(crate) fn write_refused<A: Allocator, W: Sink>(
         (refusal_text form origins.now named setting (file_of machine.now) commands.now command
         (text_in program.now).lines frame.now)) }
     ensures fault { OnErr result
-        (AppendsBeginning (W.written output.old) (W.written output.new)
+        (AppendsPrefix (W.written output.old) (W.written output.new)
         (refusal_text form origins.now named setting (file_of machine.now) commands.now command
         (text_in program.now).lines frame.now)) }
     ensures counts { CountsFailure (W.failures output.old) (W.failures output.new) result }
 {
     write_heading(form, origins, true, named, setting, output)?;
-    let told = told_command(machine, command);
+    let told = refused_command(machine, command);
     let fixture = met_at(machine, commands, command as usize);
     write_cause(
         form, origins, program, machine, commands, told, fixture, frame, output,
@@ -208,12 +208,12 @@ fn collect_refusal<A: Allocator, W: Sink>(
     walk: &mut FrameWalk,
     output: &mut W,
 ) -> Result<(), WriteFault>
-    requires standing { StandsBehind (file_of machine.now) commands.now standing.old }
+    requires standing { StandsAfter (file_of machine.now) commands.now standing.old }
     requires walk { WalksOver history.now.start history.now.changes.items walk.old }
     ensures text { Collects (W.written output.old) (W.written output.new) chunk.old chunk.new result
         (command_refusal form origins.now (file_of machine.now) commands.now
         (history_of history.now.start history.now.changes.items) command) }
-    ensures standing { StandsBehind (file_of machine.now) commands.now standing.new }
+    ensures standing { StandsAfter (file_of machine.now) commands.now standing.new }
     ensures walk { WalksOver history.now.start history.now.changes.items walk.new }
     ensures counts { CountsFailure (W.failures output.old) (W.failures output.new) result }
 {
@@ -222,7 +222,7 @@ fn collect_refusal<A: Allocator, W: Sink>(
         Err(fault) => return Err(fault),
     }
     let frame = walk.in_force(history, line_of(commands, command));
-    let way = told_way(commands, Some(command));
+    let way = refused_path(commands, Some(command));
     collect_coordinates(chunk, form, origins, &frame, &way, output)
 }
 
@@ -304,7 +304,7 @@ fn write_obstacles<A: Allocator, W: Sink>(
         (all_refusals form origins.now (file_of machine.now) commands.now
         (history_of history.now.start history.now.changes.items) indices.now)) }
     ensures fault { OnErr result
-        (AppendsBeginning (W.written output.old) (W.written output.new)
+        (AppendsPrefix (W.written output.old) (W.written output.new)
         (all_refusals form origins.now (file_of machine.now) commands.now
         (history_of history.now.start history.now.changes.items) indices.now)) }
     ensures counts { CountsFailure (W.failures output.old) (W.failures output.new) result }
@@ -336,7 +336,7 @@ fn write_setting_refusals<A: Allocator, W: Sink>(
         (setting_refusals form origins.now first named setting (file_of machine.now) commands.now
         (history_of history.now.start history.now.changes.items) indices.now)) }
     ensures fault { OnErr result
-        (AppendsBeginning (W.written output.old) (W.written output.new)
+        (AppendsPrefix (W.written output.old) (W.written output.new)
         (setting_refusals form origins.now first named setting (file_of machine.now) commands.now
         (history_of history.now.start history.now.changes.items) indices.now)) }
     ensures counts { CountsFailure (W.failures output.old) (W.failures output.new) result }
@@ -361,7 +361,7 @@ pub(crate) fn write_all_once<A: Allocator, W: Sink>(
         (history_of history.now.start history.now.changes.items)
         (history_of history.now.start history.now.changes.items) indices.now indices.now)) }
     ensures fault { OnErr result
-        (AppendsBeginning (W.written output.old) (W.written output.new)
+        (AppendsPrefix (W.written output.old) (W.written output.new)
         (refusals_text form origins.now false (file_of machine.now) commands.now commands.now
         (history_of history.now.start history.now.changes.items)
         (history_of history.now.start history.now.changes.items) indices.now indices.now)) }
@@ -402,7 +402,7 @@ pub(crate) fn write_all_both<A: Allocator, W: Sink>(
         (history_of on_history.now.start on_history.now.changes.items) off_indices.now
         on_indices.now)) }
     ensures fault { OnErr result
-        (AppendsBeginning (W.written output.old) (W.written output.new)
+        (AppendsPrefix (W.written output.old) (W.written output.new)
         (refusals_text form origins.now true (file_of machine.now) off.now on.now
         (history_of off_history.now.start off_history.now.changes.items)
         (history_of on_history.now.start on_history.now.changes.items) off_indices.now
@@ -460,7 +460,7 @@ fn write_rejection_end<A: Allocator, W: Sink>(
         ++ (value_line form (is_on setting) number fault.now (text_in program.now).lines
         ++ ending form (fault_number fault.now)))) }
     ensures fault { OnErr result
-        (AppendsBeginning (W.written output.old) (W.written output.new)
+        (AppendsPrefix (W.written output.old) (W.written output.new)
         (named_line form number fault.now (text_in program.now).lines
         ++ (value_line form (is_on setting) number fault.now (text_in program.now).lines
         ++ ending form (fault_number fault.now)))) }
@@ -488,7 +488,7 @@ pub fn write_rejection<A: Allocator, W: Sink>(
         (rejection_text form origins.now named setting number fault.now
         (text_in program.now).lines)) }
     ensures fault { OnErr result
-        (AppendsBeginning (W.written output.old) (W.written output.new)
+        (AppendsPrefix (W.written output.old) (W.written output.new)
         (rejection_text form origins.now named setting number fault.now
         (text_in program.now).lines)) }
     ensures counts { CountsFailure (W.failures output.old) (W.failures output.new) result }

@@ -1,9 +1,9 @@
 //! The text before and after the reports of programs.
 ghost use Rattle.std.specs.Prelude.{◌≡◌, ◌+◌, ◌≤◌, ◌++◌, length, OnOk, OnErr};
 ghost use Rattle.std.specs.Io.KnownBytes.{Appends};
-ghost use Rattle.ngc_text.specs.Collected.{CHUNK_SIZE, HasLineRoom};
+ghost use Rattle.ngc_text.specs.Collected.{CHUNK_SIZE, HasSpaceForLine};
 ghost use Rattle.ngc_text.specs.Failures.{CountsFailure};
-ghost use Rattle.ngc_text.specs.Written.{AppendsBeginning};
+ghost use Rattle.ngc_text.specs.Written.{AppendsPrefix};
 ghost use Rattle.ngc_report.specs.Forms.{closing, opening};
 ghost use Rattle.ngc_program_report.specs.Texts.{ending, heading, hint, origins_text};
 ghost use Rattle.ngc_program_report.specs.Texts.{setting_line};
@@ -85,7 +85,7 @@ pub(crate) fn write_heading<W: Sink>(
         (Appends (W.written output.old) (W.written output.new) (heading form origins.now
         first named setting)) }
     ensures fault { OnErr result
-        (AppendsBeginning (W.written output.old) (W.written output.new)
+        (AppendsPrefix (W.written output.old) (W.written output.new)
         (heading form origins.now first named setting)) }
     ensures counts { CountsFailure (W.failures output.old) (W.failures output.new) result }
 {
@@ -93,7 +93,7 @@ pub(crate) fn write_heading<W: Sink>(
 }
 
 fn add_hint_words(chunk: &mut Chunk, number: u16)
-    requires { HasLineRoom chunk.old }
+    requires { HasSpaceForLine chunk.old }
     ensures text { chunk.new ≡ chunk.old ++ hint Form.Words number }
     ensures short { length chunk.new ≤ length chunk.old + 100 }
 {
@@ -103,7 +103,7 @@ fn add_hint_words(chunk: &mut Chunk, number: u16)
 }
 
 fn add_fault_fact(chunk: &mut Chunk, number: u16)
-    requires { HasLineRoom chunk.old }
+    requires { HasSpaceForLine chunk.old }
     ensures text { chunk.new ≡ chunk.old ++ hint Form.Json number }
     ensures short { length chunk.new ≤ length chunk.old + 100 }
 {
@@ -113,7 +113,7 @@ fn add_fault_fact(chunk: &mut Chunk, number: u16)
 }
 
 fn add_hint(chunk: &mut Chunk, form: Form, number: u16)
-    requires { HasLineRoom chunk.old }
+    requires { HasSpaceForLine chunk.old }
     ensures text { chunk.new ≡ chunk.old ++ hint form number }
     ensures short { length chunk.new ≤ length chunk.old + 100 }
 {
@@ -138,7 +138,7 @@ pub fn write_ending<W: Sink>(form: Form, number: u16, output: &mut W) -> Result<
     ensures ok { OnOk result
         (Appends (W.written output.old) (W.written output.new) (ending form number)) }
     ensures fault { OnErr result
-        (AppendsBeginning (W.written output.old) (W.written output.new) (ending form number)) }
+        (AppendsPrefix (W.written output.old) (W.written output.new) (ending form number)) }
     ensures counts { CountsFailure (W.failures output.old) (W.failures output.new) result }
 {
     ending_of(form, number).write_out(output)

@@ -2,10 +2,10 @@
 ghost use Rattle.std.specs.Prelude.{◌≡◌, ◌+◌, ◌≤◌, ◌++◌, length, OnOk, OnErr};
 ghost use Rattle.std.specs.Io.KnownBytes.{Appends};
 ghost use Rattle.ngc_text.specs.Failures.{CountsFailure};
-ghost use Rattle.ngc_text.specs.Written.{AppendsBeginning};
+ghost use Rattle.ngc_text.specs.Written.{AppendsPrefix};
 ghost use Rattle.ngc_text.specs.Collected.{CHUNK_SIZE};
 ghost use Rattle.ngc_report.specs.Words.{tool_text};
-ghost use Rattle.ngc_program_report.specs.Times.{ticks_told, tool_value, use_time, use_time_fact};
+ghost use Rattle.ngc_program_report.specs.Times.{ticks_counted, tool_value, use_time, use_time_fact};
 ghost use Rattle.ngc_program_report.specs.Times.{use_time_words, uses_text};
 
 use crate::program_time::ProgramTime;
@@ -90,7 +90,7 @@ fn write_use_time<W: Sink>(
     ensures ok { OnOk result
         (Appends (W.written output.old) (W.written output.new) (use_time form tool.now time.now)) }
     ensures fault { OnErr result
-        (AppendsBeginning (W.written output.old) (W.written output.new)
+        (AppendsPrefix (W.written output.old) (W.written output.new)
         (use_time form tool.now time.now)) }
     ensures counts { CountsFailure (W.failures output.old) (W.failures output.new) result }
 {
@@ -98,8 +98,8 @@ fn write_use_time<W: Sink>(
 }
 
 // Returns the ticks of the reported uses.
-fn ticks_told<'a>(commands: &[Command], parts: &'a [u128]) -> &'a [u128]
-    ensures { result.now ≡ ticks_told commands.now parts.now }
+fn ticks_counted<'a>(commands: &[Command], parts: &'a [u128]) -> &'a [u128]
+    ensures { result.now ≡ ticks_counted commands.now parts.now }
 {
     if ToolUse::of(None, commands).moves() {
         return parts;
@@ -121,12 +121,12 @@ pub(crate) fn write_use_times<A: Allocator, W: Sink>(
         (Appends (W.written output.old) (W.written output.new)
         (uses_text form commands.now time.now)) }
     ensures fault { OnErr result
-        (AppendsBeginning (W.written output.old) (W.written output.new)
+        (AppendsPrefix (W.written output.old) (W.written output.new)
         (uses_text form commands.now time.now)) }
     ensures counts { CountsFailure (W.failures output.old) (W.failures output.new) result }
 {
     let mut uses = ToolUses::new(commands);
-    let mut left = ticks_told(commands, time.parts.as_slice());
+    let mut left = ticks_counted(commands, time.parts.as_slice());
     while let Some(one) = uses.next_use() {
         let Some((ticks, later)) = left.split_first() else {
             return Ok(());

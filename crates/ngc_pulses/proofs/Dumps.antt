@@ -9,7 +9,7 @@ use Rattle.ngc_pulses.specs.declared.axis_step.Directions.{Directions}
 use Rattle.ngc_pulses.specs.declared.axis_step.Steps.{Steps}
 use Rattle.ngc_pulses.specs.Vcd.{axis_step, steps_of, directions_after, tick_changes, changes, dumped, stamp, vcd, header, all_down}
 use Rattle.ngc_pulses.specs.Dumping.{DumpState, first_state, step_between, pulses_over, tick_text, after_tick, ticks_text, after_ticks, closing_text}
-use Rattle.ngc_pulses.proofs.Adding.{dumped-append}
+use Rattle.ngc_pulses.proofs.AddedChanges.{dumped-append}
 
 -- ---- ticks that stay
 

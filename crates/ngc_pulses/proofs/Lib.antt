@@ -1,12 +1,12 @@
 -- Changes, added in order.
-pub mod Adding
+pub mod AddedChanges
 -- A dump from tick to tick is that of all pulses.
 pub mod Dumps
 -- A dump after a tick with a pulse.
-pub mod Stepped
+pub mod DumpSteps
 -- Text that is collected and written, part by part.
-pub mod Repeating
+pub mod CollectedText
 -- Samples from tick to tick are those of all pulses.
-pub mod Sampled
+pub mod SampleLaws
 -- Hardware reads the pulses from samples.
 pub mod ReadBack

@@ -1,6 +1,6 @@
 ghost use Rattle.std.specs.Prelude.{◌≡◌, ◌+◌, ◌≤◌, ◌^◌, ◌++◌, length};
 ghost use Rattle.ngc_machine_files.specs.Ranges.{IsRate};
-ghost use Rattle.ngc_text.specs.Collected.{CHUNK_SIZE, HasLineRoom};
+ghost use Rattle.ngc_text.specs.Collected.{CHUNK_SIZE, HasSpaceForLine};
 ghost use Rattle.ngc_pulses.specs.Dumping.{after_tick, closing_text, first_state, tick_text};
 ghost use Rattle.ngc_pulses.specs.Vcd.{header};
 
@@ -82,7 +82,7 @@ impl PulseDump {
 
     /// Adds the header, for which there must be space.
     pub fn open(&self, chunk: &mut Chunk)
-        requires { HasLineRoom chunk.old }
+        requires { HasSpaceForLine chunk.old }
         ensures { chunk.new ≡ chunk.old ++ header }
     {
         chunk.add_text(HEADER);
@@ -99,7 +99,7 @@ impl PulseDump {
     /// Adds the changes of a tick whose pulse leads to a position, in steps.
     pub fn step_to(&mut self, position: StepPos, chunk: &mut Chunk)
         requires few { self.old.ticks ≤ 2 ^ 126 }
-        requires room { HasLineRoom chunk.old }
+        requires room { HasSpaceForLine chunk.old }
         ensures state { self.new ≡ after_tick self.old (Some position) }
         ensures text { chunk.new ≡ chunk.old ++ tick_text self.old (Some position) }
     {
@@ -114,7 +114,7 @@ impl PulseDump {
     /// Adds the last time: that at which a next tick would set its steps.
     pub fn close(&self, chunk: &mut Chunk)
         requires few { self.now.ticks ≤ 2 ^ 126 }
-        requires room { HasLineRoom chunk.old }
+        requires room { HasSpaceForLine chunk.old }
         ensures { chunk.new ≡ chunk.old ++ closing_text self.now }
     {
         self.stamps.stamp(2 * self.ticks + 2, chunk);

@@ -1,7 +1,7 @@
 ghost use Rattle.std.specs.Prelude.{◌≡◌, ◌≤◌, ◌++◌, min, replicate, OnOk, OnErr};
-ghost use Rattle.ngc_text.specs.Collected.{HasLineRoom, WritesFront};
+ghost use Rattle.ngc_text.specs.Collected.{HasSpaceForLine, WritesPrefix};
 ghost use Rattle.ngc_text.specs.Failures.{CountsFailure};
-ghost use Rattle.ngc_text.specs.Written.{AppendsBeginning};
+ghost use Rattle.ngc_text.specs.Written.{AppendsPrefix};
 
 use ngc_text::{Chunk, Sink, WriteFault};
 
@@ -15,7 +15,7 @@ fn next_length(left: u128) -> usize
 }
 
 fn add_repeated(byte: u8, count: usize, chunk: &mut Chunk)
-    requires room { HasLineRoom chunk.old }
+    requires room { HasSpaceForLine chunk.old }
     requires few { count ≤ 512 }
     ensures { chunk.new ≡ chunk.old ++ replicate count byte }
 {
@@ -31,18 +31,18 @@ pub(crate) fn write_repeated<W: Sink>(
     chunk: &mut Chunk,
     sink: &mut W,
 ) -> Result<(), WriteFault>
-    ensures room { OnOk result (HasLineRoom chunk.new) }
+    ensures room { OnOk result (HasSpaceForLine chunk.new) }
     ensures text { OnOk result
-        (WritesFront (W.written sink.old) (W.written sink.new) (chunk.old ++ replicate count byte)
+        (WritesPrefix (W.written sink.old) (W.written sink.new) (chunk.old ++ replicate count byte)
         chunk.new) }
     ensures fault { OnErr result
-        (AppendsBeginning (W.written sink.old) (W.written sink.new)
+        (AppendsPrefix (W.written sink.old) (W.written sink.new)
         (chunk.old ++ replicate count byte)) }
     ensures failures { CountsFailure (W.failures sink.old) (W.failures sink.new) result }
 {
     let mut left = count;
     'pieces: while left > 0 {
-        match chunk.make_room(sink) {
+        match chunk.make_space(sink) {
             Ok(()) => {}
             Err(fault) => return Err(fault),
         }
@@ -50,5 +50,5 @@ pub(crate) fn write_repeated<W: Sink>(
         add_repeated(byte, length, chunk);
         left -= length as u128;
     }
-    chunk.make_room(sink)
+    chunk.make_space(sink)
 }

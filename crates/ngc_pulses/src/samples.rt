@@ -1,8 +1,8 @@
 //! The pulses of a run as bytes that hardware plays.
 ghost use Rattle.std.specs.Prelude.{◌≡◌, ◌+◌, ◌≤◌, ◌^◌, ◌++◌, OnOk, OnErr};
-ghost use Rattle.ngc_text.specs.Collected.{HasLineRoom, WritesFront};
+ghost use Rattle.ngc_text.specs.Collected.{HasSpaceForLine, WritesPrefix};
 ghost use Rattle.ngc_text.specs.Failures.{CountsFailure};
-ghost use Rattle.ngc_text.specs.Written.{AppendsBeginning};
+ghost use Rattle.ngc_text.specs.Written.{AppendsPrefix};
 ghost use Rattle.ngc_pulses.specs.Samples.{bit, level_bits, levels_in, step_bits, switched};
 ghost use Rattle.ngc_pulses.specs.Sampling.{after_sample, changed_by, changed_bytes};
 ghost use Rattle.ngc_pulses.specs.Sampling.{first_samples, is_rest, rest_bytes};
@@ -180,11 +180,11 @@ impl PulseSamples {
         ensures state { OnOk result
             (self.new ≡ after_sample self.old (record { position = position; switch = switch })) }
         ensures text { OnOk result
-            (WritesFront (W.written sink.old) (W.written sink.new)
+            (WritesPrefix (W.written sink.old) (W.written sink.new)
             (chunk.old ++ sample_text self.old (record { position = position; switch = switch }))
             chunk.new) }
         ensures fault { OnErr result
-            (AppendsBeginning (W.written sink.old) (W.written sink.new)
+            (AppendsPrefix (W.written sink.old) (W.written sink.new)
             (chunk.old ++ sample_text self.old (record { position = position; switch = switch }))) }
         ensures failures { CountsFailure (W.failures sink.old) (W.failures sink.new) result }
     {
@@ -202,7 +202,7 @@ impl PulseSamples {
 
     // Adds a tick with no uncounted rests before it.
     fn change(&mut self, position: Option<StepPos>, switch: Switch, chunk: &mut Chunk)
-        requires room { HasLineRoom chunk.old }
+        requires room { HasSpaceForLine chunk.old }
         ensures state { self.new
             ≡ changed_by self.old (record { position = position; switch = switch }) }
         ensures text { chunk.new ≡ chunk.old
@@ -241,12 +241,12 @@ impl PulseSamples {
     ) -> Result<(), WriteFault>
         requires { self.old.resting ≤ 2 ^ 126 }
         ensures state { OnOk result (self.new ≡ record self.old { resting = 0 }) }
-        ensures room { OnOk result (HasLineRoom chunk.new) }
+        ensures room { OnOk result (HasSpaceForLine chunk.new) }
         ensures text { OnOk result
-            (WritesFront (W.written sink.old) (W.written sink.new)
+            (WritesPrefix (W.written sink.old) (W.written sink.new)
             (chunk.old ++ rest_bytes self.old) chunk.new) }
         ensures fault { OnErr result
-            (AppendsBeginning (W.written sink.old) (W.written sink.new)
+            (AppendsPrefix (W.written sink.old) (W.written sink.new)
             (chunk.old ++ rest_bytes self.old)) }
         ensures failures { CountsFailure (W.failures sink.old) (W.failures sink.new) result }
     {

@@ -1,2 +1,2 @@
 -- The last word so far, one line further.
-pub mod Further
+pub mod LastWordSteps

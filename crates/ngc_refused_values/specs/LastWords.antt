@@ -43,14 +43,14 @@ word_of kind said = find (λ w. is_of kind said.tokens w) said.words
 -- ---- the last of them
 
 -- the word of a line, unless block delete takes the line out
-abbrev pub word_said : Kind → Bool → ℕ → Said → Option LastWord
-word_said kind deletes number said =
+abbrev pub parsed_word : Kind → Bool → ℕ → Said → Option LastWord
+parsed_word kind deletes number said =
     if deletes && said.deleted then None
     else option_map (λ w. record { line = number; number = written_number said.parts.tokens w })
     (word_of kind said.parts)
 
 abbrev pub word_read : Kind → Bool → ℕ → Result Said LineFault → Option LastWord
-word_read kind deletes number (Ok said) = word_said kind deletes number said
+word_read kind deletes number (Ok said) = parsed_word kind deletes number said
 word_read kind deletes number (Err fault) = None
 
 abbrev pub word_in : Kind → Bool → Line → Option LastWord

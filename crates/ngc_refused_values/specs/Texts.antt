@@ -4,11 +4,13 @@ use Rattle.std.specs.Prelude.{Option, Some, None, Bool, if◌then◌else◌}
 use Rattle.std.specs.Fmt.{signed_decimal}
 use Rattle.std.specs.Int.{abs_diff}
 use Rattle.ngc_text.specs.Millimetres.{sign_text}
-use Rattle.ngc_offsets.specs.Ranges.{COORDINATE_LIMIT}
+use Rattle.ngc_offsets.specs.Ranges.{limit_of}
 use Rattle.ngc_offsets.specs.declared.fault.Axis.{Axis}
 use Rattle.ngc_offsets.specs.declared.fault.Axis.TheVariants.{X, Y, Z}
 use Rattle.ngc_offsets.specs.declared.fault.FrameFault.{FrameFault}
 use Rattle.ngc_offsets.specs.declared.fault.FrameFault.TheVariants.{BeyondRange, NoSuchTool}
+use Rattle.ngc_offsets.specs.declared.fault.Quantity.{Quantity}
+use Rattle.ngc_offsets.specs.declared.fault.Quantity.TheVariants.{Coordinate, Offset}
 use Rattle.ngc_arc_geometry.specs.declared.fault.ArcFault.{ArcFault}
 use Rattle.ngc_arc_geometry.specs.declared.fault.ArcFault.TheVariants.{RadiiDiffer}
 use Rattle.ngc_line_reader.specs.Program.{Line}
@@ -56,35 +58,36 @@ axis_text Z = codes "Z"
 unfoldable pub far_text : ℤ → List ℕ
 far_text z = sign_text z ++ shift_text (unsigned_abs z)
 
-abbrev pub kind_text : ℕ → List ℕ
-kind_text limit = if limit == COORDINATE_LIMIT then [] else codes "The origin or offset of "
+abbrev pub quantity_text : Quantity → List ℕ
+quantity_text Coordinate = []
+quantity_text Offset = codes "The origin or offset of "
 
 unfoldable pub inches_phrase : Option ℕ → List ℕ
 inches_phrase None = []
 inches_phrase (Some line) = codes " Lengths are in inches since line " ++ decimal line ++ codes "."
 
-unfoldable pub far_phrase : Option ℕ → Axis → ℤ → ℕ → List ℕ
-far_phrase inches axis at limit =
-    kind_text limit ++ axis_text axis ++ codes " is at " ++ far_text at
-    ++ codes " mm, but the limit is " ++ shift_text limit ++ codes " mm either way."
+unfoldable pub far_phrase : Option ℕ → Axis → Quantity → ℤ → List ℕ
+far_phrase inches axis quantity at =
+    quantity_text quantity ++ axis_text axis ++ codes " is at " ++ far_text at
+    ++ codes " mm, but the limit is " ++ shift_text (limit_of quantity) ++ codes " mm either way."
     ++ inches_phrase inches
 
 unfoldable pub inches_fact : Option ℕ → List ℕ
 inches_fact None = []
 inches_fact (Some line) = codes ",\"inches_since\":" ++ decimal line
 
-unfoldable pub far_values : Option ℕ → Axis → ℤ → ℕ → List ℕ
-far_values inches axis at limit =
+unfoldable pub far_values : Option ℕ → Axis → Quantity → ℤ → List ℕ
+far_values inches axis quantity at =
     codes ",\"axis\":\"" ++ axis_text axis ++ codes "\",\"at\":" ++ signed_decimal at
-    ++ codes ",\"limit\":" ++ decimal limit ++ inches_fact inches
+    ++ codes ",\"limit\":" ++ decimal (limit_of quantity) ++ inches_fact inches
 
-abbrev pub far_line : Form → Option ℕ → Axis → ℤ → ℕ → List ℕ
-far_line Words inches axis at limit = words_of (far_phrase inches axis at limit)
-far_line Json inches axis at limit =
-    fact_of (far_phrase inches axis at limit) (far_values inches axis at limit)
+abbrev pub far_line : Form → Option ℕ → Axis → Quantity → ℤ → List ℕ
+far_line Words inches axis quantity at = words_of (far_phrase inches axis quantity at)
+far_line Json inches axis quantity at =
+    fact_of (far_phrase inches axis quantity at) (far_values inches axis quantity at)
 
 abbrev pub frame_line : Form → Option ℕ → FrameFault → List ℕ
-frame_line form inches (BeyondRange axis at limit) = far_line form inches axis at limit
+frame_line form inches (BeyondRange axis quantity at) = far_line form inches axis quantity at
 frame_line form inches NoSuchTool = []
 
 -- ---- a canned cycle

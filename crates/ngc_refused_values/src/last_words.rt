@@ -5,7 +5,7 @@ ghost use Rattle.ngc_line_reader.specs.ProgramView.{text_in};
 ghost use Rattle.ngc_line_reader.specs.ReadLine.{line_read};
 ghost use Rattle.ngc_line_reader.specs.ScanLine.{parts_of, said_of};
 ghost use Rattle.ngc_refused_values.specs.LastWords.{is_of, last_word, may_be, word_of};
-ghost use Rattle.ngc_refused_values.specs.LastWords.{word_read, word_said};
+ghost use Rattle.ngc_refused_values.specs.LastWords.{word_read, parsed_word};
 
 use crate::said::has_letter;
 use ngc_line_reader::{Letter, Line, Program, RawWord, Token, read_line};
@@ -63,8 +63,8 @@ fn word_of(kind: Kind, line: &Line) -> Option<RawWord>
         .copied()
 }
 
-fn word_said(kind: Kind, deletes: bool, number: u32, line: &Line) -> Option<LastWord>
-    ensures { result ≡ word_said kind deletes number (said_of line.now) }
+fn parsed_word(kind: Kind, deletes: bool, number: u32, line: &Line) -> Option<LastWord>
+    ensures { result ≡ parsed_word kind deletes number (said_of line.now) }
 {
     if deletes && line.deleted {
         return None;
@@ -82,7 +82,7 @@ fn word_read(kind: Kind, deletes: bool, number: u32, bytes: &[u8]) -> Option<Las
     ensures { result ≡ word_read kind deletes number (line_read bytes.now) }
 {
     match read_line(bytes) {
-        Ok(line) => word_said(kind, deletes, number, &line),
+        Ok(line) => parsed_word(kind, deletes, number, &line),
         Err(_) => None,
     }
 }

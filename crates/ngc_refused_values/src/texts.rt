@@ -4,12 +4,12 @@ ghost use Rattle.std.specs.Fmt.{signed_decimal};
 ghost use Rattle.std.specs.Io.KnownBytes.{Appends};
 ghost use Rattle.ngc_text.specs.Collected.{CHUNK_SIZE};
 ghost use Rattle.ngc_text.specs.Failures.{CountsFailure};
-ghost use Rattle.ngc_text.specs.Written.{AppendsBeginning};
+ghost use Rattle.ngc_text.specs.Written.{AppendsPrefix};
 ghost use Rattle.ngc_line_reader.specs.ProgramView.{text_in};
 ghost use Rattle.ngc_report.specs.Words.{shift_text, thousandths_text};
 ghost use Rattle.ngc_refused_values.specs.Texts.{arc_line, axis_text, cycle_line, cycle_phrase};
 ghost use Rattle.ngc_refused_values.specs.Texts.{far_line, far_phrase, far_text, far_values};
-ghost use Rattle.ngc_refused_values.specs.Texts.{frame_line, inches_fact, inches_phrase, kind_text};
+ghost use Rattle.ngc_refused_values.specs.Texts.{frame_line, inches_fact, inches_phrase, quantity_text};
 ghost use Rattle.ngc_refused_values.specs.Texts.{near_text, radii_line, radii_phrase, radii_values};
 ghost use Rattle.ngc_refused_values.specs.Texts.{selection_line, selection_phrase, selection_text};
 ghost use Rattle.ngc_refused_values.specs.Texts.{selection_values, value_line};
@@ -19,7 +19,7 @@ use crate::values::{inches_since, selected_tool};
 use ngc_arc_geometry::ArcFault;
 use ngc_canonical::Fault;
 use ngc_line_reader::Program;
-use ngc_offsets::{Axis, COORDINATE, FrameFault};
+use ngc_offsets::{Axis, FrameFault, Quantity};
 use ngc_report::Form;
 use ngc_text::{Chunk, Sink, WriteFault};
 use std::alloc::Allocator;
@@ -124,13 +124,14 @@ fn add_axis(chunk: &mut Chunk, axis: Axis)
     }
 }
 
-fn add_kind(chunk: &mut Chunk, limit: u64)
+fn add_quantity(chunk: &mut Chunk, quantity: Quantity)
     requires { length chunk.old + 24 ≤ CHUNK_SIZE }
-    ensures text { chunk.new ≡ chunk.old ++ kind_text limit }
+    ensures text { chunk.new ≡ chunk.old ++ quantity_text quantity }
     ensures short { length chunk.new ≤ length chunk.old + 24 }
 {
-    if limit != COORDINATE {
-        chunk.add_text(b"The origin or offset of ");
+    match quantity {
+        Quantity::Coordinate => {}
+        Quantity::Offset => chunk.add_text(b"The origin or offset of "),
     }
 }
 
@@ -151,17 +152,17 @@ fn add_inches_phrase(chunk: &mut Chunk, inches: Option<u32>)
 }
 
 #[tactic(auto, unfolding(crate::specs::Texts::far_phrase))]
-fn add_far_phrase(chunk: &mut Chunk, inches: Option<u32>, axis: Axis, at: i64, limit: u64)
+fn add_far_phrase(chunk: &mut Chunk, inches: Option<u32>, axis: Axis, quantity: Quantity, at: i64)
     requires { length chunk.old + 300 ≤ CHUNK_SIZE }
-    ensures text { chunk.new ≡ chunk.old ++ far_phrase inches axis at limit }
+    ensures text { chunk.new ≡ chunk.old ++ far_phrase inches axis quantity at }
     ensures short { length chunk.new ≤ length chunk.old + 260 }
 {
-    add_kind(chunk, limit);
+    add_quantity(chunk, quantity);
     add_axis(chunk, axis);
     chunk.add_text(b" is at ");
     add_far(chunk, at);
     chunk.add_text(b" mm, but the limit is ");
-    add_size(chunk, limit);
+    add_size(chunk, quantity.limit());
     chunk.add_text(b" mm either way.");
     add_inches_phrase(chunk, inches);
 }
@@ -190,9 +191,9 @@ fn add_nanometres(chunk: &mut Chunk, nanometres: i64)
 }
 
 #[tactic(auto, unfolding(crate::specs::Texts::far_values))]
-fn add_far_values(chunk: &mut Chunk, inches: Option<u32>, axis: Axis, at: i64, limit: u64)
+fn add_far_values(chunk: &mut Chunk, inches: Option<u32>, axis: Axis, quantity: Quantity, at: i64)
     requires { length chunk.old + 260 ≤ CHUNK_SIZE }
-    ensures text { chunk.new ≡ chunk.old ++ far_values inches axis at limit }
+    ensures text { chunk.new ≡ chunk.old ++ far_values inches axis quantity at }
     ensures short { length chunk.new ≤ length chunk.old + 200 }
 {
     chunk.add_text(b",\"axis\":\"");
@@ -200,24 +201,31 @@ fn add_far_values(chunk: &mut Chunk, inches: Option<u32>, axis: Axis, at: i64, l
     chunk.add_text(b"\",\"at\":");
     add_nanometres(chunk, at);
     chunk.add_text(b",\"limit\":");
-    chunk.add_number(limit);
+    chunk.add_number(quantity.limit());
     add_inches_fact(chunk, inches);
 }
 
-fn add_far_line(chunk: &mut Chunk, form: Form, inches: Option<u32>, axis: Axis, at: i64, limit: u64)
+fn add_far_line(
+    chunk: &mut Chunk,
+    form: Form,
+    inches: Option<u32>,
+    axis: Axis,
+    quantity: Quantity,
+    at: i64,
+)
     requires { length chunk.old + 600 ≤ CHUNK_SIZE }
-    ensures { chunk.new ≡ chunk.old ++ far_line form inches axis at limit }
+    ensures { chunk.new ≡ chunk.old ++ far_line form inches axis quantity at }
 {
     match form {
         Form::Words => {
-            add_far_phrase(chunk, inches, axis, at, limit);
+            add_far_phrase(chunk, inches, axis, quantity, at);
             chunk.add_text(b"\n");
         }
         Form::Json => {
             begin_fact(chunk);
-            add_far_phrase(chunk, inches, axis, at, limit);
+            add_far_phrase(chunk, inches, axis, quantity, at);
             chunk.add_text(b"\"");
-            add_far_values(chunk, inches, axis, at, limit);
+            add_far_values(chunk, inches, axis, quantity, at);
             chunk.add_text(b"}");
         }
     }
@@ -228,8 +236,8 @@ fn add_frame_line(chunk: &mut Chunk, form: Form, inches: Option<u32>, fault: &Fr
     ensures { chunk.new ≡ chunk.old ++ frame_line form inches fault.now }
 {
     match fault {
-        FrameFault::BeyondRange { axis, at, limit } => {
-            add_far_line(chunk, form, inches, *axis, *at, *limit);
+        FrameFault::BeyondRange { axis, quantity, at } => {
+            add_far_line(chunk, form, inches, *axis, *quantity, *at);
         }
         FrameFault::NoSuchTool => {}
     }
@@ -389,7 +397,7 @@ pub fn write_values<A: Allocator, W: Sink>(
         (Appends (W.written sink.old) (W.written sink.new)
         (value_line form deletes number fault.now (text_in program.now).lines)) }
     ensures fault { OnErr result
-        (AppendsBeginning (W.written sink.old) (W.written sink.new)
+        (AppendsPrefix (W.written sink.old) (W.written sink.new)
         (value_line form deletes number fault.now (text_in program.now).lines)) }
     ensures counts { CountsFailure (W.failures sink.old) (W.failures sink.new) result }
 {

@@ -1,7 +1,7 @@
 -- The motions of a use, if there may be fewer.
 use Rattle.std.proofs.Common.{◌≡◌, ℕ, ◌+◌, ◌-◌, ◌≤◌, inl, inr, List, [], ◌∷◌, ◌++◌, length, drop, take, min, ap, sym, ◌∙◌, arith}
 use Rattle.std.proofs.lemmas.List.{drop-take, take_all, drop_all, drop-drop, length-drop}
-use Rattle.ngc_text.proofs.Firsts.{enough}
+use Rattle.ngc_text.proofs.ListPrefixes.{enough}
 use Rattle.ngc_machine_files.specs.Machine.{MachineFile}
 use Rattle.ngc_certificate_text.specs.Certificate.{Entry}
 use Rattle.ngc_report.specs.Nearing.{nearest}

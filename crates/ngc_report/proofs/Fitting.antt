@@ -26,7 +26,7 @@ use Rattle.ngc_report.specs.Reports.{use_lines, is_line_inside, ArePiecesInTrave
 use Rattle.ngc_report.specs.Rooms.{room, is_inside, is_inside_on}
 use Rattle.ngc_report.specs.Uses.{tool_uses}
 use Rattle.ngc_report.specs.declared.uses.ToolUse.{ToolUse}
-use Rattle.ngc_report.proofs.Holding.{in_right, in_first, at_itself}
+use Rattle.ngc_report.proofs.ExtentHoldsPoints.{in_right, in_first, at_itself}
 use Rattle.ngc_report.proofs.Tests.{room_law}
 
 -- ---- the boxes of all pieces

@@ -5,24 +5,24 @@ pub mod Tests
 -- How far a command must move to be clear of an obstacle.
 pub mod ShiftLaws
 -- Every point that a program may reach lies in its extent.
-pub mod Holding
+pub mod ExtentHoldsPoints
 -- A program that fits stays inside the travel.
 pub mod Fitting
 -- The part of an extent that lies within the travel.
-pub mod Within
+pub mod ExtentInTravel
 -- The result over a list, one element further.
 pub mod Folds
 -- The reported part of a list of lines, when other lines follow them.
-pub mod Ahead
+pub mod ReportPrefix
 -- The motions of a use, if there may be fewer.
 pub mod Cuts
 -- The line with a number, found one by one.
 pub mod Lines
 -- The commands concerned, counted one by one.
-pub mod Counts
+pub mod CommandCounts
 -- The first line of a text, and lines by their number.
-pub mod Splits
+pub mod LinesByNumber
 -- The machine's state some commands further.
 pub mod Causes
 -- A difference of two coordinates fits in 64 bits.
-mod Apart
+mod DifferenceRange

@@ -13,7 +13,7 @@ use Rattle.ngc_machine_files.specs.declared.parts.Part.{Part}
 use Rattle.ngc_machine_files.specs.declared.tools.Tool.{Tool}
 use Rattle.ngc_collision.specs.Body.{Solid, are_apart, bodies, filled, span, stacked}
 use Rattle.ngc_report.specs.Shifts.{whole_steps, is_beside, is_past, is_passed, shifts_of, no_shifts, longest, shifts_past}
-use Rattle.ngc_report.specs.Shifts.{toward, signed, moved, ShiftTells, ShiftClears}
+use Rattle.ngc_report.specs.Shifts.{toward, signed, moved, ShiftIsReported, ShiftClears}
 use Rattle.ngc_report.specs.Shifts.{opposite, room_on, shift_inside, ShiftStaysInside}
 use Rattle.ngc_report.specs.Printed.{PrintedIsEnough}
 use Rattle.ngc_report.specs.Rooms.{is_inside_on, room}
@@ -197,7 +197,7 @@ tells s n some tool b f axis side =
 positive : (s : ℕ) → IsStep (pos s) → 0 < s
 positive s k = omega (arith, ints, k.least)
 
-pub tells_law : ShiftTells
+pub tells_law : ShiftIsReported
 tells_law (pos s) tool b f axis side n k = tells s n (positive s k) tool b f axis side
 tells_law (negsuc m) tool b f axis side n k = absurd (omega (arith, ints, k.least))
 

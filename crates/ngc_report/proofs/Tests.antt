@@ -3,9 +3,9 @@ use Rattle.std.proofs.Common.{◌≡◌, ◌∙◌, ap, refl, sym, arith, true, 
 use Rattle.std.specs.Prelude.{Bool, ◌&&◌, ◌||◌, int_le}
 use Rattle.std.specs.Int.{int_max}
 use Rattle.std.proofs.lemmas.Int.{ints, clamps}
-use Rattle.ngc_report.specs.Gaps.{GapTells}
-use Rattle.ngc_report.specs.Margins.{narrower, TightestTells}
-use Rattle.ngc_report.specs.Rooms.{RoomTells}
+use Rattle.ngc_report.specs.Gaps.{GapIsReported}
+use Rattle.ngc_report.specs.Margins.{narrower, TightestIsReported}
+use Rattle.ngc_report.specs.Rooms.{SpaceIsReported}
 use Rattle.ngc_report.specs.declared.margins.Margin.{Margin}
 
 pub le_of : (a b : ℤ) → int_le a b ≡ true → a ≤ℤ b
@@ -41,14 +41,14 @@ flat false false true s t u = refl
 flat false false false true t u = refl
 flat false false false false t u = refl
 
-pub room_law : RoomTells
+pub room_law : SpaceIsReported
 room_law m b =
     simp le_sub
     (pairs (int_le m.low.x (b.low.x *ℤ m.step)) (int_le (b.high.x *ℤ m.step) m.high.x) (int_le m.low.y (b.low.y *ℤ m.step))
     (int_le (b.high.y *ℤ m.step) m.high.y)
     (int_le m.low.z (b.low.z *ℤ m.step)) (int_le (b.high.z *ℤ m.step) m.high.z))
 
-pub gap_law : GapTells
+pub gap_law : GapIsReported
 gap_law f b =
     simp (le_max, le_sub)
     (flat (int_le b.high.x f.low.x) (int_le f.high.x b.low.x) (int_le b.high.y f.low.y) (int_le f.high.y b.low.y) (int_le b.high.z f.low.z)
@@ -63,7 +63,7 @@ triples false q r s t u = refl
 triples true false r s t u = refl
 triples true true r s t u = refl
 
-pub tightest_law : TightestTells
+pub tightest_law : TightestIsReported
 tightest_law r =
     simp least_left
     (triples (int_le (pos 0) r.x.below) (int_le (pos 0) r.x.above) (int_le (pos 0) r.y.below) (int_le (pos 0) r.y.above) (int_le (pos 0) r.z.below)

@@ -17,5 +17,5 @@ gap f b =
     (axis_gap b.low.z b.high.z f.low.z f.high.z))
 
 -- the gap isn't below 0 exactly if they are apart
-abbrev pub GapTells : Type 0
-GapTells = (f : Fixture) (b : Solid) → int_le (pos 0) (gap f b) ≡ are_apart f b
+abbrev pub GapIsReported : Type 0
+GapIsReported = (f : Fixture) (b : Solid) → int_le (pos 0) (gap f b) ≡ are_apart f b

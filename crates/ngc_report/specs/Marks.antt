@@ -218,12 +218,12 @@ abbrev pub fact_sentence : Fault → Option WrittenWord → List ℕ
 fact_sentence fault word =
     codes ",\n{\"fact\":\"reason\",\"text\":\"" ++ phrase fault word ++ codes "\"}"
 
-abbrev pub told_by : Form → Fault → Option WrittenWord → List ℕ
-told_by Words fault word = words_sentence fault word
-told_by Json fault word = fact_sentence fault word
+abbrev pub content_by : Form → Fault → Option WrittenWord → List ℕ
+content_by Words fault word = words_sentence fault word
+content_by Json fault word = fact_sentence fault word
 
 unfoldable pub sentence : Form → Fault → Option WrittenWord → List ℕ
-sentence form fault word = if has_phrase fault word then told_by form fault word else []
+sentence form fault word = if has_phrase fault word then content_by form fault word else []
 
 -- both below the line with this number, or nothing if there is none
 abbrev pub named_below : Form → ℕ → Fault → Option (List ℕ) → List ℕ

@@ -27,7 +27,7 @@ use Rattle.ngc_report.specs.declared.nearest.Nearest.{Nearest}
 use Rattle.ngc_report.specs.declared.margins.Axis.{Axis}
 use Rattle.ngc_report.specs.declared.margins.Axis.TheVariants.{X, Y, Z}
 use Rattle.ngc_report.specs.declared.scene.Scene.{Scene}
-use Rattle.ngc_report.specs.declared.travel.AxisRoom.{AxisRoom}
+use Rattle.ngc_report.specs.declared.travel.AxisSpace.{AxisSpace}
 use Rattle.ngc_report.specs.declared.uses.ToolUse.{ToolUse}
 use Rattle.ngc_report.specs.declared.warnings.Concern.TheVariants.{NoTool}
 
@@ -39,7 +39,7 @@ Tells form old new before after result told =
     Collects old new before after result (report_text form told)
 
 -- the extent of a program along each axis
-abbrev pub along : Axis → ℤ → ℤ → ℤ → AxisRoom → Line
+abbrev pub along : Axis → ℤ → ℤ → ℤ → AxisSpace → Line
 along axis step low high r =
     lines.Along (record { axis = axis; low = low *ℤ step; high = high *ℤ step; room = r })
 
@@ -127,16 +127,16 @@ start_lines_if machine true = start_lines machine None
 
 -- the extent of a program at a setting, without a certificate; if nothing is refused, each position
 -- lies within the travel
-abbrev pub told_extent : MachineFile → List Command → Bool → List ℕ → GridBox
-told_extent machine commands false [] = extent_in_travel machine commands
-told_extent machine commands _ _ = extent machine commands
+abbrev pub reported_extent : MachineFile → List Command → Bool → List ℕ → GridBox
+reported_extent machine commands false [] = extent_in_travel machine commands
+reported_extent machine commands _ _ = extent machine commands
 
 -- the lines of a setting at which these commands are refused, and perhaps the start, before those
 -- of the commands
 abbrev pub refusals_head : MachineFile → List Command → Bool → List ℕ → List Line
 refusals_head machine commands start ks =
     verdict_line machine commands start ks
-    ∷ (alongs machine (told_extent machine commands start ks) ++ start_lines_if machine start)
+    ∷ (alongs machine (reported_extent machine commands start ks) ++ start_lines_if machine start)
 
 -- a setting at which the program fits never has a negative margin
 abbrev pub SettingStaysInside : Type 0

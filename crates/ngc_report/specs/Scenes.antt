@@ -109,7 +109,7 @@ obstacle machine scene None =
     else Some (obstacles.Travel (tightest (room machine scene.in_pieces)))
 
 -- the machine's state after the first of these commands
-pub record StandsBehind (machine : MachineFile) (commands : List Command) (s : Standing) :
+pub record StandsAfter (machine : MachineFile) (commands : List Command) (s : Standing) :
     Type 0 where
   pub within : s.count ≤ length commands
   pub stands : s.reached ≡ standing machine (take s.count commands)

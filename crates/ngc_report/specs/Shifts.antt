@@ -17,7 +17,7 @@ use Rattle.ngc_report.specs.declared.margins.Side.{Side}
 use Rattle.ngc_report.specs.declared.margins.Side.TheVariants.{Below, Above}
 use Rattle.ngc_report.specs.declared.shifts.AxisShift.{AxisShift}
 use Rattle.ngc_report.specs.declared.shifts.Shifts.{Shifts}
-use Rattle.ngc_report.specs.declared.travel.AxisRoom.{AxisRoom}
+use Rattle.ngc_report.specs.declared.travel.AxisSpace.{AxisSpace}
 use Rattle.ngc_report.specs.declared.travel.Room.{Room}
 
 -- the least number of whole steps, in nanometres, that isn't less than a length; 0 if that is below
@@ -120,8 +120,8 @@ is_passed axis side f b = is_beside axis f b || is_past axis side f b
 
 -- A number of steps is at least the distance exactly if, after a shift by that many, each part of
 -- the tool is past the fixture or beside it.
-abbrev pub ShiftTells : Type 0
-ShiftTells = (step : ℤ) (tool : Option Tool) (b : GridBox) (f : Fixture) (axis : Axis) (side : Side)
+abbrev pub ShiftIsReported : Type 0
+ShiftIsReported = (step : ℤ) (tool : Option Tool) (b : GridBox) (f : Fixture) (axis : Axis) (side : Side)
     (n : ℕ) → IsStep step →
     nat_le (toward axis side (shifts_past step tool b f)) (n * unsigned_abs step)
     ≡ list_all (is_passed axis side f) (bodies tool (span step (moved axis side n b)))
@@ -135,7 +135,7 @@ ShiftClears =
 
 -- ---- inside the travel
 
-abbrev pub room_on : Axis → Room → AxisRoom
+abbrev pub room_on : Axis → Room → AxisSpace
 room_on X r = r.x
 room_on Y r = r.y
 room_on Z r = r.z
@@ -145,7 +145,7 @@ if_fits shift left = if int_le (pos shift) left then Some shift else None
 
 -- the least shift, away from a side, after which a box lies within the travel along an axis; none
 -- if it is too long for the travel
-abbrev pub shift_inside : ℤ → Side → AxisRoom → Option ℕ
+abbrev pub shift_inside : ℤ → Side → AxisSpace → Option ℕ
 shift_inside step Below r = if_fits (whole_steps step (neg_ℤ r.below)) r.above
 shift_inside step Above r = if_fits (whole_steps step (neg_ℤ r.above)) r.below
 

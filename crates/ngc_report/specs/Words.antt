@@ -31,12 +31,12 @@ use Rattle.ngc_report.specs.declared.warnings.Warning.{Warning}
 -- ---- lengths
 
 -- the margin on a side of the travel, or the distance beyond it
-abbrev pub room_words : ℤ → List ℕ
-room_words (pos n) = codes " mm left"
-room_words (negsuc n) = codes " mm too far"
+abbrev pub space_words : ℤ → List ℕ
+space_words (pos n) = codes " mm left"
+space_words (negsuc n) = codes " mm too far"
 
-unfoldable pub room_text : ℤ → List ℕ
-room_text z = size_text (unsigned_abs z) ++ room_words z
+unfoldable pub space_text : ℤ → List ℕ
+space_text z = size_text (unsigned_abs z) ++ space_words z
 
 unfoldable pub place_text : Point3 → List ℕ
 place_text p =
@@ -75,8 +75,8 @@ nearest_text (Some n) name = codes "; nearest fixture " ++ decimal n.fixture ++ 
 abbrev pub along_text : Along → List ℕ
 along_text a =
     axis_text a.axis ++ codes " from " ++ mm_text a.low ++ codes " to " ++ mm_text a.high
-    ++ codes ", " ++ room_text a.room.below ++ codes " below and " ++
-    room_text a.room.above ++ codes " above.\n"
+    ++ codes ", " ++ space_text a.room.below ++ codes " below and " ++
+    space_text a.room.above ++ codes " above.\n"
 
 abbrev pub use_text : ToolUse → List ℕ
 use_text u =
@@ -109,7 +109,7 @@ obstacle_text None =
     codes "No side of the travel and no fixture is in the way of the whole: a box of the certificate is too large.\n"
 obstacle_text (Some (Travel m)) =
     codes "It leaves the travel " ++ side_text m.side ++ axis_text m.axis ++ codes ": "
-    ++ room_text m.left ++ codes ".\n"
+    ++ space_text m.left ++ codes ".\n"
 obstacle_text (Some (Fixture m)) = met_text m
 
 -- a distance in millimetres, with at most three decimals, rounded up so that it is enough

@@ -7,7 +7,7 @@ ghost use Rattle.ngc_report.specs.Shifts.{room_on};
 use crate::margins::{Axis, Margin, Side};
 use crate::scene::{Met, Obstacle, Scene};
 use crate::shifts::{Shifts, shift_inside};
-use crate::travel::{AxisRoom, Room};
+use crate::travel::{AxisSpace, Room};
 use ngc_machine_files::{Machine, Name};
 use std::alloc::Allocator;
 
@@ -38,7 +38,7 @@ pub enum Clearing {
     Travel(Inward),
 }
 
-fn room_on(axis: Axis, room: &Room) -> AxisRoom
+fn room_on(axis: Axis, room: &Room) -> AxisSpace
     ensures { result ≡ room_on axis room.now }
 {
     match axis {

@@ -2,7 +2,7 @@
 ghost use Rattle.std.specs.Prelude.{◌≡◌, ◌+◌, ◌≤◌, ◌++◌, codes, decimal, length};
 ghost use Rattle.std.specs.Fmt.{signed_decimal};
 ghost use Rattle.ngc_collision.specs.Inside.{place_of};
-ghost use Rattle.ngc_text.specs.Collected.{CHUNK_SIZE, HasLineRoom};
+ghost use Rattle.ngc_text.specs.Collected.{CHUNK_SIZE, HasSpaceForLine};
 ghost use Rattle.ngc_report.specs.Facts.{name_fact, tool_fact, triple, nearest_fact, along_fact};
 ghost use Rattle.ngc_report.specs.Facts.{use_fact};
 ghost use Rattle.ngc_report.specs.Facts.{side_fact, start_fact, command_fact, over_fact};
@@ -82,7 +82,7 @@ fn add_triple(chunk: &mut Chunk, place: &Place)
 }
 
 fn add_distance(chunk: &mut Chunk, nearest: &Nearest, name: &Name)
-    requires { HasLineRoom chunk.old }
+    requires { HasSpaceForLine chunk.old }
     ensures { chunk.new ≡ chunk.old
         ++ (codes ",\"nearest_fixture\":" ++ decimal nearest.now.fixture
         ++ name_fact (codes "fixture_name") name.now ++ codes ",\"distance\":"
@@ -98,7 +98,7 @@ fn add_distance(chunk: &mut Chunk, nearest: &Nearest, name: &Name)
 
 #[tactic(auto, unfolding(crate::specs::Facts::nearest_fact))]
 fn add_nearest(chunk: &mut Chunk, nearest: &Option<Nearest>, name: &Name)
-    requires { HasLineRoom chunk.old }
+    requires { HasSpaceForLine chunk.old }
     ensures { chunk.new ≡ chunk.old ++ nearest_fact nearest.now name.now }
 {
     match nearest {
@@ -108,7 +108,7 @@ fn add_nearest(chunk: &mut Chunk, nearest: &Option<Nearest>, name: &Name)
 }
 
 fn add_along(chunk: &mut Chunk, along: &Along)
-    requires { HasLineRoom chunk.old }
+    requires { HasSpaceForLine chunk.old }
     ensures { chunk.new ≡ chunk.old ++ along_fact along.now }
 {
     chunk.add_text(b",\n{\"fact\":\"extent\",\"axis\":\"");
@@ -125,7 +125,7 @@ fn add_along(chunk: &mut Chunk, along: &Along)
 }
 
 fn add_use(chunk: &mut Chunk, one: &ToolUse)
-    requires { HasLineRoom chunk.old }
+    requires { HasSpaceForLine chunk.old }
     ensures { chunk.new ≡ chunk.old ++ use_fact one.now }
 {
     chunk.add_text(b",\n{\"fact\":\"use\",\"tool\":");
@@ -147,7 +147,7 @@ fn add_use(chunk: &mut Chunk, one: &ToolUse)
 }
 
 fn add_start(chunk: &mut Chunk, scene: &Scene)
-    requires { HasLineRoom chunk.old }
+    requires { HasSpaceForLine chunk.old }
     ensures { chunk.new ≡ chunk.old ++ start_fact scene.now }
 {
     chunk.add_text(b",\n{\"fact\":\"start\",\"at\":");
@@ -156,7 +156,7 @@ fn add_start(chunk: &mut Chunk, scene: &Scene)
 }
 
 fn add_command(chunk: &mut Chunk, command: usize, scene: &Scene)
-    requires { HasLineRoom chunk.old }
+    requires { HasSpaceForLine chunk.old }
     ensures { chunk.new ≡ chunk.old ++ command_fact command scene.now }
 {
     chunk.add_text(b",\n{\"fact\":\"command\",\"index\":");
@@ -183,7 +183,7 @@ fn side_name(side: Side) -> &'static [u8]
 }
 
 fn add_travel(chunk: &mut Chunk, margin: &Margin)
-    requires { HasLineRoom chunk.old }
+    requires { HasSpaceForLine chunk.old }
     ensures { chunk.new ≡ chunk.old ++ travel_fact margin.now }
 {
     chunk.add_text(b",\n{\"fact\":\"obstacle\",\"kind\":\"travel\",\"axis\":\"");
@@ -210,7 +210,7 @@ fn add_over(chunk: &mut Chunk, over: &Option<i64>)
 }
 
 fn add_fixture(chunk: &mut Chunk, met: &Met)
-    requires { HasLineRoom chunk.old }
+    requires { HasSpaceForLine chunk.old }
     ensures { chunk.new ≡ chunk.old ++ fixture_fact met.now }
 {
     chunk.add_text(b",\n{\"fact\":\"obstacle\",\"kind\":\"fixture\",\"fixture\":");
@@ -226,7 +226,7 @@ fn add_fixture(chunk: &mut Chunk, met: &Met)
 
 #[tactic(auto, unfolding(crate::specs::Facts::obstacle_fact))]
 fn add_obstacle(chunk: &mut Chunk, obstacle: &Option<Obstacle>)
-    requires { HasLineRoom chunk.old }
+    requires { HasSpaceForLine chunk.old }
     ensures { chunk.new ≡ chunk.old ++ obstacle_fact obstacle.now }
 {
     match obstacle {
@@ -252,7 +252,7 @@ fn add_distances(chunk: &mut Chunk, x: u128, y: u128, z: u128)
 }
 
 fn add_passed(chunk: &mut Chunk, passed: &Passed)
-    requires { HasLineRoom chunk.old }
+    requires { HasSpaceForLine chunk.old }
     ensures { chunk.new ≡ chunk.old ++ passed_fact passed.now }
 {
     let shifts = &passed.shifts;
@@ -281,7 +281,7 @@ fn add_shift(chunk: &mut Chunk, shift: Option<u128>)
 }
 
 fn add_inward(chunk: &mut Chunk, inward: &Inward)
-    requires { HasLineRoom chunk.old }
+    requires { HasSpaceForLine chunk.old }
     ensures { chunk.new ≡ chunk.old ++ inward_fact inward.now }
 {
     chunk.add_text(b",\n{\"fact\":\"clear\",\"kind\":\"travel\",\"direction\":\"");
@@ -293,7 +293,7 @@ fn add_inward(chunk: &mut Chunk, inward: &Inward)
 
 #[tactic(auto, unfolding(crate::specs::Facts::clearing_fact))]
 fn add_clearing(chunk: &mut Chunk, clearing: &Option<Clearing>)
-    requires { HasLineRoom chunk.old }
+    requires { HasSpaceForLine chunk.old }
     ensures { chunk.new ≡ chunk.old ++ clearing_fact clearing.now }
 {
     match clearing {
@@ -304,7 +304,7 @@ fn add_clearing(chunk: &mut Chunk, clearing: &Option<Clearing>)
 }
 
 fn add_warning(chunk: &mut Chunk, warning: &Warning)
-    requires { HasLineRoom chunk.old }
+    requires { HasSpaceForLine chunk.old }
     ensures { chunk.new ≡ chunk.old ++ warning_fact warning.now }
 {
     chunk.add_text(b",\n{\"fact\":\"warning\",\"text\":\"");
@@ -318,7 +318,7 @@ fn add_warning(chunk: &mut Chunk, warning: &Warning)
 
 // Adds that a program fits, and the motions on which only the spindle nose was tested.
 fn add_nose(chunk: &mut Chunk, nose: &Warning)
-    requires { HasLineRoom chunk.old }
+    requires { HasSpaceForLine chunk.old }
     ensures { chunk.new ≡ chunk.old ++ nose_fact nose.now }
 {
     chunk.add_text(b",\n{\"fact\":\"verdict\",\"fits\":true,\"tested\":\"nose\",\"motions\":");
@@ -332,7 +332,7 @@ fn add_nose(chunk: &mut Chunk, nose: &Warning)
 
 #[tactic(auto, unfolding(crate::specs::Facts::fits_fact))]
 fn add_fits(chunk: &mut Chunk, nose: &Option<Warning>)
-    requires { HasLineRoom chunk.old }
+    requires { HasSpaceForLine chunk.old }
     ensures { chunk.new ≡ chunk.old ++ fits_fact nose.now }
 {
     match nose {
@@ -344,7 +344,7 @@ fn add_fits(chunk: &mut Chunk, nose: &Option<Warning>)
 /// Adds the fact of a line.
 #[tactic(auto, unfolding(crate::specs::Facts::line_fact))]
 pub(crate) fn add_fact(chunk: &mut Chunk, line: &Line)
-    requires { HasLineRoom chunk.old }
+    requires { HasSpaceForLine chunk.old }
     ensures { chunk.new ≡ chunk.old ++ line_fact line.now }
 {
     match line {

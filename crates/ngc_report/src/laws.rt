@@ -2,12 +2,12 @@
 ghost use Rattle.ngc_report.specs.Extents.{ExtentHoldsPaths, ExtentHoldsStart};
 ghost use Rattle.ngc_report.specs.Extents.{FitExtentHoldsPieces, FitExtentHoldsStart};
 ghost use Rattle.ngc_report.specs.Extents.{ExtentInTravelHolds};
-ghost use Rattle.ngc_report.specs.Gaps.{GapTells};
-ghost use Rattle.ngc_report.specs.Margins.{TightestTells};
+ghost use Rattle.ngc_report.specs.Gaps.{GapIsReported};
+ghost use Rattle.ngc_report.specs.Margins.{TightestIsReported};
 ghost use Rattle.ngc_report.specs.Printed.{PrintedIsEnough};
 ghost use Rattle.ngc_report.specs.Reports.{FitStaysInside, SettingStaysInside};
-ghost use Rattle.ngc_report.specs.Rooms.{RoomTells};
-ghost use Rattle.ngc_report.specs.Shifts.{ShiftClears, ShiftStaysInside, ShiftTells};
+ghost use Rattle.ngc_report.specs.Rooms.{SpaceIsReported};
+ghost use Rattle.ngc_report.specs.Shifts.{ShiftClears, ShiftStaysInside, ShiftIsReported};
 
 /// States that the extent of a program holds the start point and each point of each path that a
 /// motion may take.
@@ -39,19 +39,19 @@ pub fn fit_stays_inside()
 
 /// States that a box lies within the travel exactly if no margin on either side of an axis is
 /// negative.
-pub fn room_tells()
-    ensures { RoomTells }
+pub fn space_is_reported()
+    ensures { SpaceIsReported }
 {}
 
 /// States that a box lies within the travel exactly if it does so on the side with the least
 /// margin.
-pub fn tightest_tells()
-    ensures { TightestTells }
+pub fn tightest_is_reported()
+    ensures { TightestIsReported }
 {}
 
 /// States that a box is apart from a fixture exactly if the gap between them isn't below zero.
-pub fn gap_tells()
-    ensures { GapTells }
+pub fn gap_is_reported()
+    ensures { GapIsReported }
 {}
 
 /// States that a number of steps is at least the reported distance in a direction exactly if, after
@@ -59,7 +59,7 @@ pub fn gap_tells()
 /// tool's body doesn't meet the fixture after a move by the reported distance or by more. The
 /// distance that is printed in words isn't less than that.
 pub fn shift_clears()
-    ensures tells { ShiftTells }
+    ensures tells { ShiftIsReported }
     ensures clears { ShiftClears }
     ensures printed { PrintedIsEnough }
 {}

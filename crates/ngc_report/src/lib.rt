@@ -87,7 +87,7 @@ pub use report_fault::ReportFault;
 pub use scene::{Met, Obstacle, Scene};
 pub use shifts::{AxisShift, Shifts};
 pub use source_lines::write_source_line;
-pub use travel::{AxisRoom, Room};
+pub use travel::{AxisSpace, Room};
 pub use uses::{ToolUse, ToolUses};
 pub use warned::write_warnings;
 pub use warnings::{Concern, Warning};

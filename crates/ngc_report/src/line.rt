@@ -2,7 +2,7 @@ use crate::clearing::Clearing;
 use crate::margins::Axis;
 use crate::nearest::Nearest;
 use crate::scene::{Obstacle, Scene};
-use crate::travel::AxisRoom;
+use crate::travel::AxisSpace;
 use crate::uses::ToolUse;
 use crate::warnings::Warning;
 use ngc_machine_files::Name;
@@ -13,7 +13,7 @@ pub struct Along {
     pub axis: Axis,
     pub low: i64,
     pub high: i64,
-    pub room: AxisRoom,
+    pub room: AxisSpace,
 }
 
 /// A line of a report.

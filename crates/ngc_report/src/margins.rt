@@ -2,7 +2,7 @@
 ghost use Rattle.std.specs.Prelude.{◌≡◌};
 ghost use Rattle.ngc_report.specs.Margins.{narrower, axis_margin, tightest};
 
-use crate::travel::{AxisRoom, Room};
+use crate::travel::{AxisSpace, Room};
 
 /// An axis of the machine.
 #[derive(Clone, Copy)]
@@ -34,7 +34,7 @@ fn narrower(one: Margin, other: Margin) -> Margin
     if other.left < one.left { other } else { one }
 }
 
-fn axis_margin(axis: Axis, room: &AxisRoom) -> Margin
+fn axis_margin(axis: Axis, room: &AxisSpace) -> Margin
     ensures { result ≡ axis_margin axis room.now }
 {
     let below = Margin {

@@ -3,12 +3,12 @@ ghost use Rattle.std.specs.Prelude.{◌≡◌, ◌+◌, ◌≤◌, ◌++◌, len
 ghost use Rattle.std.specs.Option.{option_map, option_or};
 ghost use Rattle.std.specs.Io.KnownBytes.{Appends};
 ghost use Rattle.ngc_text.specs.Failures.{CountsFailure};
-ghost use Rattle.ngc_text.specs.Written.{AppendsBeginning};
+ghost use Rattle.ngc_text.specs.Written.{AppendsPrefix};
 ghost use Rattle.ngc_line_reader.specs.Letter.{letter_byte};
 ghost use Rattle.ngc_line_reader.specs.Program.{lines_of};
 ghost use Rattle.ngc_line_reader.specs.ProgramView.{text_in};
 ghost use Rattle.ngc_line_reader.specs.ScanLine.{parts_of};
-ghost use Rattle.ngc_text.specs.Collected.{CHUNK_SIZE, HasLineRoom};
+ghost use Rattle.ngc_text.specs.Collected.{CHUNK_SIZE, HasSpaceForLine};
 ghost use Rattle.ngc_report.specs.Quotes.{bytes_with};
 ghost use Rattle.ngc_report.specs.Marks.{number_of, written_number, is_wanted, fits, first_word};
 ghost use Rattle.ngc_report.specs.Marks.{named_word, mark_of, mark_if, letter_text, unknown_text};
@@ -424,7 +424,7 @@ fn has_phrase(fault: &Fault, word: &Option<WrittenWord>) -> bool
 }
 
 fn add_words(chunk: &mut Chunk, fault: &Fault, word: &Option<WrittenWord>)
-    requires { HasLineRoom chunk.old }
+    requires { HasSpaceForLine chunk.old }
     ensures { chunk.new ≡ chunk.old ++ words_sentence fault.now word.now }
 {
     add_phrase(chunk, fault, word);
@@ -432,7 +432,7 @@ fn add_words(chunk: &mut Chunk, fault: &Fault, word: &Option<WrittenWord>)
 }
 
 fn add_fact(chunk: &mut Chunk, fault: &Fault, word: &Option<WrittenWord>)
-    requires { HasLineRoom chunk.old }
+    requires { HasSpaceForLine chunk.old }
     ensures { chunk.new ≡ chunk.old ++ fact_sentence fault.now word.now }
 {
     chunk.add_text(b",\n{\"fact\":\"reason\",\"text\":\"");
@@ -442,7 +442,7 @@ fn add_fact(chunk: &mut Chunk, fault: &Fault, word: &Option<WrittenWord>)
 
 #[tactic(auto, unfolding(crate::specs::Marks::sentence))]
 fn add_sentence(chunk: &mut Chunk, form: Form, fault: &Fault, word: &Option<WrittenWord>)
-    requires { HasLineRoom chunk.old }
+    requires { HasSpaceForLine chunk.old }
     ensures { chunk.new ≡ chunk.old ++ sentence form fault.now word.now }
 {
     if !has_phrase(fault, word) {
@@ -514,7 +514,7 @@ pub fn write_named<A: Allocator, W: Sink>(
         (Appends (W.written sink.old) (W.written sink.new)
         (named_line form number fault.now (text_in program.now).lines)) }
     ensures fault { OnErr result
-        (AppendsBeginning (W.written sink.old) (W.written sink.new)
+        (AppendsPrefix (W.written sink.old) (W.written sink.new)
         (named_line form number fault.now (text_in program.now).lines)) }
     ensures counts { CountsFailure (W.failures sink.old) (W.failures sink.new) result }
 {
@@ -548,7 +548,7 @@ pub fn write_named_source<W: Sink>(
         (Appends (W.written sink.old) (W.written sink.new)
         (named_quote form number fault.now (bytes_with number (lines_of text.now)))) }
     ensures fault { OnErr result
-        (AppendsBeginning (W.written sink.old) (W.written sink.new)
+        (AppendsPrefix (W.written sink.old) (W.written sink.new)
         (named_quote form number fault.now (bytes_with number (lines_of text.now)))) }
     ensures counts { CountsFailure (W.failures sink.old) (W.failures sink.new) result }
 {

@@ -3,7 +3,7 @@ ghost use Rattle.std.specs.Prelude.{◌≡◌, ◌+◌, ◌*◌, ◌++◌, ◌�
 ghost use Rattle.std.specs.Option.{option_map};
 ghost use Rattle.std.specs.Io.KnownBytes.{Appends};
 ghost use Rattle.ngc_text.specs.Failures.{CountsFailure};
-ghost use Rattle.ngc_text.specs.Written.{AppendsBeginning};
+ghost use Rattle.ngc_text.specs.Written.{AppendsPrefix};
 ghost use Rattle.ngc_line_reader.specs.ProgramView.{text_in};
 ghost use Rattle.ngc_text.specs.Collected.{CHUNK_SIZE};
 ghost use Rattle.ngc_report.specs.Quotes.{line_with, escaped, fact_quote, quote, quoted};
@@ -90,7 +90,7 @@ pub fn write_line<A: Allocator, W: Sink>(
         (Appends (W.written sink.old) (W.written sink.new)
         (quoted form number (text_in program.now).lines)) }
     ensures fault { OnErr result
-        (AppendsBeginning (W.written sink.old) (W.written sink.new)
+        (AppendsPrefix (W.written sink.old) (W.written sink.new)
         (quoted form number (text_in program.now).lines)) }
     ensures counts { CountsFailure (W.failures sink.old) (W.failures sink.new) result }
 {

@@ -3,13 +3,13 @@ ghost use Rattle.std.specs.Prelude.{◌≡◌, ◌≤◌, length, take, None};
 ghost use Rattle.ngc_text.specs.Failures.{CountsFailure};
 ghost use Rattle.ngc_machine_files.specs.Machine.{file_of};
 ghost use Rattle.ngc_report.specs.Reports.{Tells, refusals_head, scene_lines, start_lines_if};
-ghost use Rattle.ngc_report.specs.Reports.{told_extent, verdict_line};
-ghost use Rattle.ngc_report.specs.Scenes.{StandsBehind, scene_at, standing as standing_behind};
+ghost use Rattle.ngc_report.specs.Reports.{reported_extent, verdict_line};
+ghost use Rattle.ngc_report.specs.Scenes.{StandsAfter, scene_at, standing as standing_behind};
 
 use crate::bounds::{extent, extent_in_travel};
 use crate::form::Form;
 use crate::line::Line;
-use crate::report::{alongs, fit_line, tell_all, tell_scene, tell_start};
+use crate::report::{alongs, fit_line, write_all_reasons, write_scene, write_start_point};
 use crate::scene::{Scene, scene_of, standing};
 use ngc_commands::{Command, Reached};
 use ngc_fixed_length::GridBox;
@@ -27,7 +27,7 @@ pub struct Standing {
 impl Standing {
     /// Returns the state at the start.
     pub fn first<A: Allocator>(machine: &Machine<A>, commands: &[Command]) -> Standing
-        ensures { StandsBehind (file_of machine.now) commands.now result }
+        ensures { StandsAfter (file_of machine.now) commands.now result }
     {
         Standing {
             count: 0,
@@ -37,11 +37,11 @@ impl Standing {
 
     /// Returns the state after `count` commands.
     fn at<A: Allocator>(&self, machine: &Machine<A>, commands: &[Command], count: usize) -> Standing
-        requires last { StandsBehind (file_of machine.now) commands.now self.now }
+        requires last { StandsAfter (file_of machine.now) commands.now self.now }
         requires count { count ≤ length commands.now }
         ensures reached { result.reached ≡ standing_behind (file_of machine.now)
             (take count commands.now) }
-        ensures stands { StandsBehind (file_of machine.now) commands.now result }
+        ensures stands { StandsAfter (file_of machine.now) commands.now result }
     {
         if count < self.count {
             let reached = standing(machine, &commands[..count]);
@@ -58,9 +58,9 @@ impl Standing {
         commands: &[Command],
         command: usize,
     ) -> Option<Scene>
-        requires { StandsBehind (file_of machine.now) commands.now self.old }
+        requires { StandsAfter (file_of machine.now) commands.now self.old }
         ensures scene { result ≡ scene_at (file_of machine.now) commands.now command }
-        ensures stands { StandsBehind (file_of machine.now) commands.now self.new }
+        ensures stands { StandsAfter (file_of machine.now) commands.now self.new }
     {
         match commands.get(command) {
             None => None,
@@ -72,7 +72,7 @@ impl Standing {
     }
 }
 
-fn tell_start_if<A: Allocator, W: Sink>(
+fn write_start_if<A: Allocator, W: Sink>(
     chunk: &mut Chunk,
     form: Form,
     machine: &Machine<A>,
@@ -84,9 +84,9 @@ fn tell_start_if<A: Allocator, W: Sink>(
     ensures counts { CountsFailure (W.failures sink.old) (W.failures sink.new) result }
 {
     if start {
-        tell_start(chunk, form, machine, None, sink)
+        write_start_point(chunk, form, machine, None, sink)
     } else {
-        tell_all(chunk, form, &[], sink)
+        write_all_reasons(chunk, form, &[], sink)
     }
 }
 
@@ -105,13 +105,13 @@ fn verdict<A: Allocator>(
     }
 }
 
-fn told_extent<A: Allocator>(
+fn reported_extent<A: Allocator>(
     machine: &Machine<A>,
     commands: &[Command],
     start: bool,
     indices: &[u32],
 ) -> GridBox
-    ensures { result ≡ told_extent (file_of machine.now) commands.now start indices.now }
+    ensures { result ≡ reported_extent (file_of machine.now) commands.now start indices.now }
 {
     if start || !indices.is_empty() {
         extent(machine, commands)
@@ -138,7 +138,7 @@ pub fn collect_refusals_head<A: Allocator, W: Sink>(
         (refusals_head (file_of machine.now) commands.now start indices.now) }
     ensures counts { CountsFailure (W.failures sink.old) (W.failures sink.new) result }
 {
-    match tell_all(
+    match write_all_reasons(
         chunk,
         form,
         &[verdict(machine, commands, start, indices)],
@@ -147,12 +147,12 @@ pub fn collect_refusals_head<A: Allocator, W: Sink>(
         Ok(()) => {}
         Err(fault) => return Err(fault),
     }
-    let sides = alongs(machine, &told_extent(machine, commands, start, indices));
-    match tell_all(chunk, form, &sides, sink) {
+    let sides = alongs(machine, &reported_extent(machine, commands, start, indices));
+    match write_all_reasons(chunk, form, &sides, sink) {
         Ok(()) => {}
         Err(fault) => return Err(fault),
     }
-    tell_start_if(chunk, form, machine, start, sink)
+    write_start_if(chunk, form, machine, start, sink)
 }
 
 /// Adds the report of a refused command, by its index from 0: what it does, its obstacle, and how
@@ -169,13 +169,13 @@ pub fn collect_refused_command<A: Allocator, W: Sink>(
     command: usize,
     sink: &mut W,
 ) -> Result<(), WriteFault>
-    requires { StandsBehind (file_of machine.now) commands.now standing.old }
+    requires { StandsAfter (file_of machine.now) commands.now standing.old }
     ensures told { Tells form (W.written sink.old) (W.written sink.new) chunk.old chunk.new result
         (scene_lines (file_of machine.now) command None
         (scene_at (file_of machine.now) commands.now command)) }
-    ensures stands { StandsBehind (file_of machine.now) commands.now standing.new }
+    ensures stands { StandsAfter (file_of machine.now) commands.now standing.new }
     ensures counts { CountsFailure (W.failures sink.old) (W.failures sink.new) result }
 {
     let scene = standing.scene(machine, commands, command);
-    tell_scene(chunk, form, machine, command, None, &scene, sink)
+    write_scene(chunk, form, machine, command, None, &scene, sink)
 }

@@ -3,10 +3,10 @@ ghost use Rattle.std.specs.Prelude.{◌≡◌, ◌++◌, min, OnOk, OnErr};
 ghost use Rattle.std.specs.Io.KnownBytes.{Appends};
 ghost use Rattle.ngc_text.specs.Failures.{CountsFailure};
 ghost use Rattle.ngc_fixed_length.specs.Length.{IsStep};
-ghost use Rattle.ngc_text.specs.Written.{AppendsBeginning};
+ghost use Rattle.ngc_text.specs.Written.{AppendsPrefix};
 ghost use Rattle.ngc_certificate_text.specs.Collects.{Collects};
 ghost use Rattle.ngc_machine_files.specs.Machine.{file_of};
-ghost use Rattle.ngc_text.specs.Collected.{HasLineRoom};
+ghost use Rattle.ngc_text.specs.Collected.{HasSpaceForLine};
 ghost use Rattle.ngc_report.specs.Reports.{Tells, motions_in, along, alongs, use_lines, fit_lines};
 ghost use Rattle.ngc_report.specs.Reports.{start_lines, scene_lines, cause_lines, refusal_lines};
 ghost use Rattle.ngc_report.specs.Reports.{fit_line, near_line};
@@ -21,7 +21,7 @@ use crate::line::{Along, Line};
 use crate::margins::Axis;
 use crate::nearest::{Nearest, nearest_name};
 use crate::scene::Scene;
-use crate::travel::{AxisRoom, Room};
+use crate::travel::{AxisSpace, Room};
 use crate::uses::{ToolUse, ToolUses};
 use crate::warnings::{Concern, warning_about};
 use crate::words::add_line;
@@ -34,7 +34,7 @@ use std::alloc::Allocator;
 
 #[tactic(auto, unfolding(crate::specs::Forms::spelled))]
 fn add_spelled(chunk: &mut Chunk, form: Form, line: &Line)
-    requires { HasLineRoom chunk.old }
+    requires { HasSpaceForLine chunk.old }
     ensures { chunk.new ≡ chunk.old ++ spelled form line.now }
 {
     match form {
@@ -48,7 +48,7 @@ fn tell<W: Sink>(chunk: &mut Chunk, form: Form, line: &Line, sink: &mut W) -> Re
         (spelled form line.now) }
     ensures counts { CountsFailure (W.failures sink.old) (W.failures sink.new) result }
 {
-    match chunk.make_room(sink) {
+    match chunk.make_space(sink) {
         Ok(()) => {}
         Err(fault) => return Err(fault),
     }
@@ -56,7 +56,7 @@ fn tell<W: Sink>(chunk: &mut Chunk, form: Form, line: &Line, sink: &mut W) -> Re
     Ok(())
 }
 
-pub(crate) fn tell_all<W: Sink>(
+pub(crate) fn write_all_reasons<W: Sink>(
     chunk: &mut Chunk,
     form: Form,
     lines: &[Line],
@@ -75,7 +75,7 @@ pub(crate) fn tell_all<W: Sink>(
     Ok(())
 }
 
-fn along(axis: Axis, step: Nm, low: i32, high: i32, room: AxisRoom) -> Line
+fn along(axis: Axis, step: Nm, low: i32, high: i32, room: AxisSpace) -> Line
     requires { IsStep step }
     ensures { result ≡ along axis step low high room }
 {
@@ -115,7 +115,7 @@ fn near_line<A: Allocator>(machine: &Machine<A>, nearest: &Option<Nearest>) -> L
     Line::Near(*nearest, nearest_name(machine, nearest))
 }
 
-fn tell_uses<A: Allocator, M: MotionList, W: Sink>(
+fn write_uses<A: Allocator, M: MotionList, W: Sink>(
     chunk: &mut Chunk,
     form: Form,
     machine: &Machine<A>,
@@ -133,7 +133,7 @@ fn tell_uses<A: Allocator, M: MotionList, W: Sink>(
         let end = first + motions_up_to(&one, motions.count() - first);
         let nearest = Nearest::over(machine, &one.tool, motions, first, end);
         let lines = [Line::Use(one), near_line(machine, &nearest)];
-        match tell_all(chunk, form, &lines, sink) {
+        match write_all_reasons(chunk, form, &lines, sink) {
             Ok(()) => {}
             Err(fault) => return Err(fault),
         }
@@ -149,7 +149,7 @@ pub(crate) fn fit_line<A: Allocator>(machine: &Machine<A>, commands: &[Command])
     Line::Fits(warning_about(machine, Concern::NoTool, commands))
 }
 
-fn tell_fit<A: Allocator, M: MotionList, W: Sink>(
+fn write_fit_figures<A: Allocator, M: MotionList, W: Sink>(
     chunk: &mut Chunk,
     form: Form,
     machine: &Machine<A>,
@@ -161,11 +161,11 @@ fn tell_fit<A: Allocator, M: MotionList, W: Sink>(
         (fit_lines (file_of machine.now) commands.now (M.entries motions.now)) }
     ensures counts { CountsFailure (W.failures sink.old) (W.failures sink.new) result }
 {
-    match tell_all(chunk, form, &[fit_line(machine, commands)], sink) {
+    match write_all_reasons(chunk, form, &[fit_line(machine, commands)], sink) {
         Ok(()) => {}
         Err(fault) => return Err(fault),
     }
-    match tell_all(
+    match write_all_reasons(
         chunk,
         form,
         &alongs(machine, &fit_extent(machine, motions)),
@@ -174,10 +174,10 @@ fn tell_fit<A: Allocator, M: MotionList, W: Sink>(
         Ok(()) => {}
         Err(fault) => return Err(fault),
     }
-    tell_uses(chunk, form, machine, commands, motions, sink)
+    write_uses(chunk, form, machine, commands, motions, sink)
 }
 
-pub(crate) fn tell_start<A: Allocator, W: Sink>(
+pub(crate) fn write_start_point<A: Allocator, W: Sink>(
     chunk: &mut Chunk,
     form: Form,
     machine: &Machine<A>,
@@ -190,7 +190,7 @@ pub(crate) fn tell_start<A: Allocator, W: Sink>(
 {
     let scene = Scene::start(machine);
     let cause = scene.obstacle(machine, fixture);
-    tell_all(
+    write_all_reasons(
         chunk,
         form,
         &[Line::Start(scene), Line::InTheWay(cause)],
@@ -198,7 +198,7 @@ pub(crate) fn tell_start<A: Allocator, W: Sink>(
     )
 }
 
-pub(crate) fn tell_scene<A: Allocator, W: Sink>(
+pub(crate) fn write_scene<A: Allocator, W: Sink>(
     chunk: &mut Chunk,
     form: Form,
     machine: &Machine<A>,
@@ -212,7 +212,7 @@ pub(crate) fn tell_scene<A: Allocator, W: Sink>(
     ensures counts { CountsFailure (W.failures sink.old) (W.failures sink.new) result }
 {
     match scene {
-        None => tell_all(chunk, form, &[], sink),
+        None => write_all_reasons(chunk, form, &[], sink),
         Some(scene) => {
             let cause = scene.obstacle(machine, fixture);
             let clearing = Clearing::of(machine, scene, &cause);
@@ -221,12 +221,12 @@ pub(crate) fn tell_scene<A: Allocator, W: Sink>(
                 Line::InTheWay(cause),
                 Line::Clear(clearing),
             ];
-            tell_all(chunk, form, &lines, sink)
+            write_all_reasons(chunk, form, &lines, sink)
         }
     }
 }
 
-fn tell_cause<A: Allocator, W: Sink>(
+fn write_cause_words<A: Allocator, W: Sink>(
     chunk: &mut Chunk,
     form: Form,
     machine: &Machine<A>,
@@ -240,15 +240,15 @@ fn tell_cause<A: Allocator, W: Sink>(
     ensures counts { CountsFailure (W.failures sink.old) (W.failures sink.new) result }
 {
     match command {
-        None => tell_start(chunk, form, machine, fixture, sink),
+        None => write_start_point(chunk, form, machine, fixture, sink),
         Some(command) => {
             let scene = Scene::at(machine, commands, command);
-            tell_scene(chunk, form, machine, command, fixture, &scene, sink)
+            write_scene(chunk, form, machine, command, fixture, &scene, sink)
         }
     }
 }
 
-fn tell_refusal<A: Allocator, W: Sink>(
+fn write_refusal_words<A: Allocator, W: Sink>(
     chunk: &mut Chunk,
     form: Form,
     machine: &Machine<A>,
@@ -261,11 +261,11 @@ fn tell_refusal<A: Allocator, W: Sink>(
         (refusal_lines (file_of machine.now) commands.now command fixture) }
     ensures counts { CountsFailure (W.failures sink.old) (W.failures sink.new) result }
 {
-    match tell_all(chunk, form, &[Line::Refused], sink) {
+    match write_all_reasons(chunk, form, &[Line::Refused], sink) {
         Ok(()) => {}
         Err(fault) => return Err(fault),
     }
-    match tell_all(
+    match write_all_reasons(
         chunk,
         form,
         &alongs(machine, &extent(machine, commands)),
@@ -274,7 +274,7 @@ fn tell_refusal<A: Allocator, W: Sink>(
         Ok(()) => {}
         Err(fault) => return Err(fault),
     }
-    tell_cause(chunk, form, machine, commands, command, fixture, sink)
+    write_cause_words(chunk, form, machine, commands, command, fixture, sink)
 }
 
 /// Writes the report of a program that fits, whose certificate has these motions: its extent along
@@ -293,13 +293,13 @@ pub fn write_fit<A: Allocator, M: MotionList, W: Sink>(
         (report_text form (fit_lines (file_of machine.now) commands.now
         (M.entries motions.now)))) }
     ensures fault { OnErr result
-        (AppendsBeginning (W.written sink.old) (W.written sink.new)
+        (AppendsPrefix (W.written sink.old) (W.written sink.new)
         (report_text form (fit_lines (file_of machine.now) commands.now
         (M.entries motions.now)))) }
     ensures counts { CountsFailure (W.failures sink.old) (W.failures sink.new) result }
 {
     let mut chunk = Chunk::new();
-    match tell_fit(&mut chunk, form, machine, commands, motions, sink) {
+    match write_fit_figures(&mut chunk, form, machine, commands, motions, sink) {
         Ok(()) => chunk.write_out(sink),
         Err(fault) => Err(fault),
     }
@@ -322,12 +322,12 @@ pub fn write_refusal<A: Allocator, W: Sink>(
         (Appends (W.written sink.old) (W.written sink.new)
         (report_text form (refusal_lines (file_of machine.now) commands.now command fixture))) }
     ensures fault { OnErr result
-        (AppendsBeginning (W.written sink.old) (W.written sink.new)
+        (AppendsPrefix (W.written sink.old) (W.written sink.new)
         (report_text form (refusal_lines (file_of machine.now) commands.now command fixture))) }
     ensures counts { CountsFailure (W.failures sink.old) (W.failures sink.new) result }
 {
     let mut chunk = Chunk::new();
-    match tell_refusal(&mut chunk, form, machine, commands, command, fixture, sink) {
+    match write_refusal_words(&mut chunk, form, machine, commands, command, fixture, sink) {
         Ok(()) => chunk.write_out(sink),
         Err(fault) => Err(fault),
     }

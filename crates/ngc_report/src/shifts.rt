@@ -8,7 +8,7 @@ ghost use Rattle.ngc_report.specs.Shifts.{if_fits, shift_inside};
 
 use crate::gaps::rise;
 use crate::margins::Side;
-use crate::travel::AxisRoom;
+use crate::travel::AxisSpace;
 use ngc_collision::{Place, Solid};
 use ngc_fixed_length::{GridBox, Nm};
 use ngc_machine_files::{Fixture, Tool};
@@ -157,7 +157,7 @@ fn if_fits(shift: u128, left: i64) -> Option<u128>
 /// the travel along an axis, or `None` if it is too long for the travel.
 ///
 /// The step is 500 to 50,000 nm.
-pub(crate) fn shift_inside(step: Nm, side: Side, room: &AxisRoom) -> Option<u128>
+pub(crate) fn shift_inside(step: Nm, side: Side, room: &AxisSpace) -> Option<u128>
     requires { IsStep step }
     ensures { result ≡ shift_inside step side room.now }
 {

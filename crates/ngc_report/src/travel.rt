@@ -4,7 +4,7 @@ ghost use Rattle.ngc_fixed_length.specs.Boxes.{grid_above, grid_below};
 ghost use Rattle.ngc_fixed_length.specs.Length.{IsStep};
 ghost use Rattle.ngc_machine_files.specs.Machine.{file_of};
 ghost use Rattle.ngc_report.specs.Extents.{travel_box};
-ghost use Rattle.ngc_report.specs.Rooms.{axis_room};
+ghost use Rattle.ngc_report.specs.Rooms.{axis_space};
 
 use ngc_fixed_length::{GridBox, Nm, StepPos, nanometres_at};
 use ngc_machine_files::Machine;
@@ -13,7 +13,7 @@ use std::alloc::Allocator;
 /// The margins between a box and the travel limits along an axis, in nanometres. If the box leaves
 /// the travel, a margin is below zero by that distance.
 #[derive(Clone, Copy)]
-pub struct AxisRoom {
+pub struct AxisSpace {
     pub below: i64,
     pub above: i64,
 }
@@ -22,9 +22,9 @@ pub struct AxisRoom {
 /// whole number of steps.
 #[derive(Clone, Copy)]
 pub struct Room {
-    pub x: AxisRoom,
-    pub y: AxisRoom,
-    pub z: AxisRoom,
+    pub x: AxisSpace,
+    pub y: AxisSpace,
+    pub z: AxisSpace,
 }
 
 // Returns the first grid point that isn't below a coordinate, in steps.
@@ -61,31 +61,31 @@ pub(crate) fn travel_box<A: Allocator>(machine: &Machine<A>) -> GridBox
     }
 }
 
-fn room_below(step: Nm, low: i32, least: Nm) -> i64
+fn space_below(step: Nm, low: i32, least: Nm) -> i64
     requires { IsStep step }
     ensures { result ≡ (low *ℤ step) -ℤ least }
 {
     nanometres_at(step, low) - least.nanometres()
 }
 
-fn room_above(step: Nm, high: i32, greatest: Nm) -> i64
+fn space_above(step: Nm, high: i32, greatest: Nm) -> i64
     requires { IsStep step }
     ensures { result ≡ greatest -ℤ (high *ℤ step) }
 {
     greatest.nanometres() - nanometres_at(step, high)
 }
 
-fn axis_room(step: Nm, low: i32, high: i32, least: Nm, greatest: Nm) -> AxisRoom
+fn axis_space(step: Nm, low: i32, high: i32, least: Nm, greatest: Nm) -> AxisSpace
     requires { IsStep step }
-    ensures { result ≡ axis_room step low high least greatest }
+    ensures { result ≡ axis_space step low high least greatest }
 {
-    AxisRoom {
-        below: room_below(step, low, least),
-        above: room_above(step, high, greatest),
+    AxisSpace {
+        below: space_below(step, low, least),
+        above: space_above(step, high, greatest),
     }
 }
 
-impl AxisRoom {
+impl AxisSpace {
     ghost use Rattle.ngc_report.specs.Rooms.{is_inside_on};
 
     /// Returns whether the box stays within the travel on both sides of the axis.
@@ -105,9 +105,9 @@ impl Room {
     {
         let (low, high) = (&bounds.low, &bounds.high);
         Room {
-            x: axis_room(machine.step, low.x, high.x, machine.low.x, machine.high.x),
-            y: axis_room(machine.step, low.y, high.y, machine.low.y, machine.high.y),
-            z: axis_room(machine.step, low.z, high.z, machine.low.z, machine.high.z),
+            x: axis_space(machine.step, low.x, high.x, machine.low.x, machine.high.x),
+            y: axis_space(machine.step, low.y, high.y, machine.low.y, machine.high.y),
+            z: axis_space(machine.step, low.z, high.z, machine.low.z, machine.high.z),
         }
     }
 

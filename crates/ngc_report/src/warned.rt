@@ -2,7 +2,7 @@
 ghost use Rattle.std.specs.Prelude.{OnOk, OnErr};
 ghost use Rattle.std.specs.Io.KnownBytes.{Appends};
 ghost use Rattle.ngc_text.specs.Failures.{CountsFailure};
-ghost use Rattle.ngc_text.specs.Written.{AppendsBeginning};
+ghost use Rattle.ngc_text.specs.Written.{AppendsPrefix};
 ghost use Rattle.ngc_machine_files.specs.Machine.{file_of};
 ghost use Rattle.ngc_report.specs.Reports.{Tells};
 ghost use Rattle.ngc_report.specs.Warnings.{warned, traverse_lines, motion_lines, warning_lines};
@@ -10,14 +10,14 @@ ghost use Rattle.ngc_report.specs.Forms.{report_text};
 
 use crate::form::Form;
 use crate::line::Line;
-use crate::report::tell_all;
+use crate::report::write_all_reasons;
 use crate::warnings::{Concern, warning_about};
 use ngc_commands::Command;
 use ngc_machine_files::Machine;
 use ngc_text::{Chunk, Sink, WriteFault};
 use std::alloc::Allocator;
 
-fn tell_warned<A: Allocator, W: Sink>(
+fn write_warned<A: Allocator, W: Sink>(
     chunk: &mut Chunk,
     form: Form,
     machine: &Machine<A>,
@@ -30,12 +30,12 @@ fn tell_warned<A: Allocator, W: Sink>(
     ensures counts { CountsFailure (W.failures sink.old) (W.failures sink.new) result }
 {
     match warning_about(machine, concern, commands) {
-        None => tell_all(chunk, form, &[], sink),
-        Some(warning) => tell_all(chunk, form, &[Line::Warned(warning)], sink),
+        None => write_all_reasons(chunk, form, &[], sink),
+        Some(warning) => write_all_reasons(chunk, form, &[Line::Warned(warning)], sink),
     }
 }
 
-fn tell_traverses<A: Allocator, W: Sink>(
+fn write_traverses<A: Allocator, W: Sink>(
     chunk: &mut Chunk,
     form: Form,
     machine: &Machine<A>,
@@ -46,14 +46,14 @@ fn tell_traverses<A: Allocator, W: Sink>(
         (traverse_lines (file_of machine.now) commands.now) }
     ensures counts { CountsFailure (W.failures sink.old) (W.failures sink.new) result }
 {
-    match tell_warned(chunk, form, machine, Concern::LowHome, commands, sink) {
+    match write_warned(chunk, form, machine, Concern::LowHome, commands, sink) {
         Ok(()) => {}
         Err(fault) => return Err(fault),
     }
-    tell_warned(chunk, form, machine, Concern::LowAcross, commands, sink)
+    write_warned(chunk, form, machine, Concern::LowAcross, commands, sink)
 }
 
-fn tell_motions<A: Allocator, W: Sink>(
+fn write_motion_warnings<A: Allocator, W: Sink>(
     chunk: &mut Chunk,
     form: Form,
     machine: &Machine<A>,
@@ -64,18 +64,18 @@ fn tell_motions<A: Allocator, W: Sink>(
         (motion_lines (file_of machine.now) commands.now) }
     ensures counts { CountsFailure (W.failures sink.old) (W.failures sink.new) result }
 {
-    match tell_warned(chunk, form, machine, Concern::FastFeed, commands, sink) {
+    match write_warned(chunk, form, machine, Concern::FastFeed, commands, sink) {
         Ok(()) => {}
         Err(fault) => return Err(fault),
     }
-    match tell_warned(chunk, form, machine, Concern::NearlyFull, commands, sink) {
+    match write_warned(chunk, form, machine, Concern::NearlyFull, commands, sink) {
         Ok(()) => {}
         Err(fault) => return Err(fault),
     }
-    tell_traverses(chunk, form, machine, commands, sink)
+    write_traverses(chunk, form, machine, commands, sink)
 }
 
-fn tell_warnings<A: Allocator, W: Sink>(
+fn write_command_warnings<A: Allocator, W: Sink>(
     chunk: &mut Chunk,
     form: Form,
     machine: &Machine<A>,
@@ -86,15 +86,15 @@ fn tell_warnings<A: Allocator, W: Sink>(
         (warning_lines (file_of machine.now) commands.now) }
     ensures counts { CountsFailure (W.failures sink.old) (W.failures sink.new) result }
 {
-    match tell_warned(chunk, form, machine, Concern::NoTool, commands, sink) {
+    match write_warned(chunk, form, machine, Concern::NoTool, commands, sink) {
         Ok(()) => {}
         Err(fault) => return Err(fault),
     }
-    match tell_warned(chunk, form, machine, Concern::IdleSpindle, commands, sink) {
+    match write_warned(chunk, form, machine, Concern::IdleSpindle, commands, sink) {
         Ok(()) => {}
         Err(fault) => return Err(fault),
     }
-    tell_motions(chunk, form, machine, commands, sink)
+    write_motion_warnings(chunk, form, machine, commands, sink)
 }
 
 /// Writes the warnings about a program. They are: motions without a tool that leave the height of
@@ -118,12 +118,12 @@ pub fn write_warnings<A: Allocator, W: Sink>(
         (Appends (W.written sink.old) (W.written sink.new)
         (report_text form (warning_lines (file_of machine.now) commands.now))) }
     ensures fault { OnErr result
-        (AppendsBeginning (W.written sink.old) (W.written sink.new)
+        (AppendsPrefix (W.written sink.old) (W.written sink.new)
         (report_text form (warning_lines (file_of machine.now) commands.now))) }
     ensures counts { CountsFailure (W.failures sink.old) (W.failures sink.new) result }
 {
     let mut chunk = Chunk::new();
-    match tell_warnings(&mut chunk, form, machine, commands, sink) {
+    match write_command_warnings(&mut chunk, form, machine, commands, sink) {
         Ok(()) => chunk.write_out(sink),
         Err(fault) => Err(fault),
     }

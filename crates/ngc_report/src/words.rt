@@ -1,9 +1,9 @@
 //! How the lines of a report are written.
 ghost use Rattle.std.specs.Prelude.{◌≡◌, ◌+◌, ◌≤◌, ◌++◌, codes, decimal, length};
-ghost use Rattle.ngc_text.specs.Collected.{CHUNK_SIZE, HasLineRoom};
+ghost use Rattle.ngc_text.specs.Collected.{CHUNK_SIZE, HasSpaceForLine};
 ghost use Rattle.ngc_collision.specs.Inside.{place_of};
 ghost use Rattle.ngc_text.specs.Millimetres.{mm_text};
-ghost use Rattle.ngc_report.specs.Words.{room_words, room_text, place_text, axis_text, side_text};
+ghost use Rattle.ngc_report.specs.Words.{space_words, space_text, place_text, axis_text, side_text};
 ghost use Rattle.ngc_report.specs.Words.{bracketed, called_text, nearest_text, along_text, use_text};
 ghost use Rattle.ngc_report.specs.Words.{command_text, over_text, met_text, obstacle_text};
 ghost use Rattle.ngc_report.specs.Words.{concern_text, warning_text, nose_text, fits_text};
@@ -38,8 +38,8 @@ fn add_coordinate(chunk: &mut Chunk, coordinate: i64)
     chunk.add_millimetres(i128::from(coordinate));
 }
 
-fn room_words(nanometres: i64) -> &'static [u8]
-    ensures text { result.now ≡ room_words nanometres }
+fn space_words(nanometres: i64) -> &'static [u8]
+    ensures text { result.now ≡ space_words nanometres }
     ensures short { length result.now ≤ 11 }
 {
     if nanometres < 0 {
@@ -50,14 +50,14 @@ fn room_words(nanometres: i64) -> &'static [u8]
 }
 
 /// Adds the margin on a side, or the distance beyond it.
-#[tactic(auto, unfolding(crate::specs::Words::room_text))]
-fn add_room(chunk: &mut Chunk, nanometres: i64)
+#[tactic(auto, unfolding(crate::specs::Words::space_text))]
+fn add_space(chunk: &mut Chunk, nanometres: i64)
     requires { length chunk.old + 58 ≤ CHUNK_SIZE }
-    ensures text { chunk.new ≡ chunk.old ++ room_text nanometres }
+    ensures text { chunk.new ≡ chunk.old ++ space_text nanometres }
     ensures short { length chunk.new ≤ length chunk.old + 58 }
 {
     chunk.add_size(u128::from(nanometres.unsigned_abs()));
-    chunk.add_text(room_words(nanometres));
+    chunk.add_text(space_words(nanometres));
 }
 
 #[tactic(auto, unfolding(crate::specs::Words::place_text))]
@@ -137,7 +137,7 @@ fn add_tool(chunk: &mut Chunk, tool: &Option<Tool>)
 }
 
 fn add_distance(chunk: &mut Chunk, nearest: &Nearest, name: &Name)
-    requires { HasLineRoom chunk.old }
+    requires { HasSpaceForLine chunk.old }
     ensures { chunk.new ≡ chunk.old
         ++ (codes "; nearest fixture " ++ decimal nearest.now.fixture ++ bracketed name.now
         ++ codes ", " ++ mm_text nearest.now.distance ++ codes " away.\n") }
@@ -152,7 +152,7 @@ fn add_distance(chunk: &mut Chunk, nearest: &Nearest, name: &Name)
 
 #[tactic(auto, unfolding(crate::specs::Words::nearest_text))]
 fn add_nearest(chunk: &mut Chunk, nearest: &Option<Nearest>, name: &Name)
-    requires { HasLineRoom chunk.old }
+    requires { HasSpaceForLine chunk.old }
     ensures { chunk.new ≡ chunk.old ++ nearest_text nearest.now name.now }
 {
     match nearest {
@@ -162,7 +162,7 @@ fn add_nearest(chunk: &mut Chunk, nearest: &Option<Nearest>, name: &Name)
 }
 
 fn add_along(chunk: &mut Chunk, along: &Along)
-    requires { HasLineRoom chunk.old }
+    requires { HasSpaceForLine chunk.old }
     ensures { chunk.new ≡ chunk.old ++ along_text along.now }
 {
     chunk.add_text(axis_name(along.axis));
@@ -171,14 +171,14 @@ fn add_along(chunk: &mut Chunk, along: &Along)
     chunk.add_text(b" to ");
     chunk.add_millimetres(i128::from(along.high));
     chunk.add_text(b", ");
-    add_room(chunk, along.room.below);
+    add_space(chunk, along.room.below);
     chunk.add_text(b" below and ");
-    add_room(chunk, along.room.above);
+    add_space(chunk, along.room.above);
     chunk.add_text(b" above.\n");
 }
 
 fn add_use(chunk: &mut Chunk, one: &ToolUse)
-    requires { HasLineRoom chunk.old }
+    requires { HasSpaceForLine chunk.old }
     ensures { chunk.new ≡ chunk.old ++ use_text one.now }
 {
     chunk.add_text(b"With ");
@@ -200,7 +200,7 @@ fn add_use(chunk: &mut Chunk, one: &ToolUse)
 }
 
 fn add_start(chunk: &mut Chunk, scene: &Scene)
-    requires { HasLineRoom chunk.old }
+    requires { HasSpaceForLine chunk.old }
     ensures { chunk.new ≡ chunk.old
         ++ (codes "The start is refused, at " ++ place_text (place_of scene.now.from)
         ++ codes ".\n") }
@@ -211,7 +211,7 @@ fn add_start(chunk: &mut Chunk, scene: &Scene)
 }
 
 fn add_command(chunk: &mut Chunk, command: usize, scene: &Scene)
-    requires { HasLineRoom chunk.old }
+    requires { HasSpaceForLine chunk.old }
     ensures { chunk.new ≡ chunk.old ++ command_text command scene.now }
 {
     chunk.add_text(b"Command ");
@@ -228,16 +228,16 @@ fn add_command(chunk: &mut Chunk, command: usize, scene: &Scene)
 }
 
 fn add_side(chunk: &mut Chunk, margin: &Margin)
-    requires { HasLineRoom chunk.old }
+    requires { HasSpaceForLine chunk.old }
     ensures { chunk.new ≡ chunk.old
         ++ (codes "It leaves the travel " ++ side_text margin.now.side ++ axis_text margin.now.axis
-        ++ codes ": " ++ room_text margin.now.left ++ codes ".\n") }
+        ++ codes ": " ++ space_text margin.now.left ++ codes ".\n") }
 {
     chunk.add_text(b"It leaves the travel ");
     chunk.add_text(side_name(margin.side));
     chunk.add_text(axis_name(margin.axis));
     chunk.add_text(b": ");
-    add_room(chunk, margin.left);
+    add_space(chunk, margin.left);
     chunk.add_text(b".\n");
 }
 
@@ -263,7 +263,7 @@ fn add_over(chunk: &mut Chunk, over: &Option<i64>)
 }
 
 fn add_fixture(chunk: &mut Chunk, met: &Met)
-    requires { HasLineRoom chunk.old }
+    requires { HasSpaceForLine chunk.old }
     ensures { chunk.new ≡ chunk.old ++ met_text met.now }
 {
     chunk.add_text(b"It meets fixture ");
@@ -277,7 +277,7 @@ fn add_fixture(chunk: &mut Chunk, met: &Met)
 
 #[tactic(auto, unfolding(crate::specs::Words::obstacle_text))]
 fn add_obstacle(chunk: &mut Chunk, obstacle: &Option<Obstacle>)
-    requires { HasLineRoom chunk.old }
+    requires { HasSpaceForLine chunk.old }
     ensures { chunk.new ≡ chunk.old ++ obstacle_text obstacle.now }
 {
     match obstacle {
@@ -301,7 +301,7 @@ fn add_shift(chunk: &mut Chunk, shift: u128)
 }
 
 fn add_passed(chunk: &mut Chunk, passed: &Passed)
-    requires { HasLineRoom chunk.old }
+    requires { HasSpaceForLine chunk.old }
     ensures { chunk.new ≡ chunk.old ++ passed_text passed.now }
 {
     chunk.add_text(b"It is clear of fixture ");
@@ -333,7 +333,7 @@ pub(crate) fn away(side: Side) -> &'static [u8]
 }
 
 fn add_too_long(chunk: &mut Chunk, axis: Axis)
-    requires { HasLineRoom chunk.old }
+    requires { HasSpaceForLine chunk.old }
     ensures { chunk.new ≡ chunk.old
         ++ (codes "It is too long for the travel along " ++ axis_text axis ++ codes ".\n") }
 {
@@ -343,7 +343,7 @@ fn add_too_long(chunk: &mut Chunk, axis: Axis)
 }
 
 fn add_moved(chunk: &mut Chunk, axis: Axis, side: Side, shift: u128)
-    requires { HasLineRoom chunk.old }
+    requires { HasSpaceForLine chunk.old }
     ensures { chunk.new ≡ chunk.old
         ++ (codes "It is inside the travel along " ++ axis_text axis ++ codes " if it moves by "
         ++ shift_text shift ++ codes " mm in " ++ axis_text axis ++ away_text side ++ codes ".\n") }
@@ -360,7 +360,7 @@ fn add_moved(chunk: &mut Chunk, axis: Axis, side: Side, shift: u128)
 
 #[tactic(auto, unfolding(crate::specs::Words::inward_text))]
 fn add_inward(chunk: &mut Chunk, inward: &Inward)
-    requires { HasLineRoom chunk.old }
+    requires { HasSpaceForLine chunk.old }
     ensures { chunk.new ≡ chunk.old ++ inward_text inward.now.axis inward.now.side inward.now.shift }
 {
     match inward.shift {
@@ -371,7 +371,7 @@ fn add_inward(chunk: &mut Chunk, inward: &Inward)
 
 #[tactic(auto, unfolding(crate::specs::Words::clearing_text))]
 fn add_clearing(chunk: &mut Chunk, clearing: &Option<Clearing>)
-    requires { HasLineRoom chunk.old }
+    requires { HasSpaceForLine chunk.old }
     ensures { chunk.new ≡ chunk.old ++ clearing_text clearing.now }
 {
     match clearing {
@@ -397,7 +397,7 @@ pub(crate) fn concern_words(concern: Concern) -> &'static [u8]
 }
 
 fn add_warning(chunk: &mut Chunk, warning: &Warning)
-    requires { HasLineRoom chunk.old }
+    requires { HasSpaceForLine chunk.old }
     ensures { chunk.new ≡ chunk.old ++ warning_text warning.now }
 {
     chunk.add_text(b"warning: ");
@@ -411,7 +411,7 @@ fn add_warning(chunk: &mut Chunk, warning: &Warning)
 
 // Adds that a program fits, and the motions on which only the spindle nose was tested.
 fn add_nose(chunk: &mut Chunk, nose: &Warning)
-    requires { HasLineRoom chunk.old }
+    requires { HasSpaceForLine chunk.old }
     ensures { chunk.new ≡ chunk.old ++ nose_text nose.now }
 {
     chunk.add_text(
@@ -427,7 +427,7 @@ fn add_nose(chunk: &mut Chunk, nose: &Warning)
 
 #[tactic(auto, unfolding(crate::specs::Words::fits_text))]
 fn add_fits(chunk: &mut Chunk, nose: &Option<Warning>)
-    requires { HasLineRoom chunk.old }
+    requires { HasSpaceForLine chunk.old }
     ensures { chunk.new ≡ chunk.old ++ fits_text nose.now }
 {
     match nose {
@@ -441,7 +441,7 @@ fn add_fits(chunk: &mut Chunk, nose: &Option<Warning>)
 /// Adds the text of a line.
 #[tactic(auto, unfolding(crate::specs::Words::line_text))]
 pub(crate) fn add_line(chunk: &mut Chunk, line: &Line)
-    requires { HasLineRoom chunk.old }
+    requires { HasSpaceForLine chunk.old }
     ensures { chunk.new ≡ chunk.old ++ line_text line.now }
 {
     match line {

@@ -205,20 +205,20 @@ fn follow_in_row(
 fn tell(rt: &HostRuntime, name: &str, row: &Row, found: &Outcome) -> io::Result<()> {
     println!(rt; "{name}:{}: ngc {}", row.line, row.words)?;
     println!(rt; "  status {}, and {} is wanted", found.status, row.status)?;
-    tell_text(rt, "its output is", found.output.as_slice())?;
-    tell_text(rt, "its errors are", found.errors.as_slice())?;
+    print_failure(rt, "its output is", found.output.as_slice())?;
+    print_failure(rt, "its errors are", found.errors.as_slice())?;
     for text in row.texts.iter() {
         match text.role {
-            Role::Is => tell_text(rt, "wanted is", text.bytes.as_slice())?,
-            Role::Has => tell_text(rt, "wanted are parts", text.bytes.as_slice())?,
-            Role::Lacks => tell_text(rt, "not wanted are", text.bytes.as_slice())?,
+            Role::Is => print_failure(rt, "wanted is", text.bytes.as_slice())?,
+            Role::Has => print_failure(rt, "wanted are parts", text.bytes.as_slice())?,
+            Role::Lacks => print_failure(rt, "not wanted are", text.bytes.as_slice())?,
             Role::File | Role::Shared => {}
         }
     }
     Ok(())
 }
 
-fn tell_text(rt: &HostRuntime, what: &str, bytes: &[u8]) -> io::Result<()> {
+fn print_failure(rt: &HostRuntime, what: &str, bytes: &[u8]) -> io::Result<()> {
     match std::str::from_utf8(bytes) {
         Ok(text) => println!(rt; "  {what} {text:?}"),
         Err(_) => println!(rt; "  {what} {bytes:?}"),

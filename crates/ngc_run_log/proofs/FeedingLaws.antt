@@ -4,7 +4,7 @@ use Rattle.std.specs.Prelude.{MatchBool, nat_lt, slice_get}
 use Rattle.std.proofs.lemmas.Bool.Decides.{nat_tests}
 use Rattle.std.proofs.lemmas.List.{append_assoc, length-append, length-replicate, replicate_more}
 use Rattle.std.proofs.lemmas.Option.{slice_get_within}
-use Rattle.ngc_text.specs.Written.{AppendsBeginning}
+use Rattle.ngc_text.specs.Written.{AppendsPrefix}
 use Rattle.ngc_commands.specs.declared.command.Command.{Command}
 use Rattle.ngc_events.specs.declared.event.Event.{Event}
 use Rattle.ngc_events.specs.declared.event.Event.TheVariants.{Load, Tick, Hold, Resume, Override, StopSwitch, Start}
@@ -19,12 +19,12 @@ use Rattle.ngc_machine_model.specs.Run.{Run}
 use Rattle.ngc_machine_model.specs.Progress.{GoesOn, is_tick}
 use Rattle.ngc_machine_model.specs.Stretch.{last_state, Stretch}
 use Rattle.ngc_run_through.specs.declared.recorder.Recorder.{Recorder}
-use Rattle.ngc_run_log.specs.Feeding.{AreBegun, AreGiven, IsFed, IsFedShort, IsLoaded, loads_first}
+use Rattle.ngc_run_log.specs.Feeding.{AreBegun, AreSent, IsFed, IsFedShort, IsLoaded, loads_first}
 use Rattle.ngc_run_through.specs.Policy.{can_load}
 use Rattle.ngc_run_through.specs.Recording.{HasFew, IsCutShort, IsRecorded, Records}
 use Rattle.ngc_run_through.specs.Tracing.{trace_text}
-use Rattle.ngc_run_log.proofs.Turns.{turns_left}
-use Rattle.ngc_run_through.proofs.Joined.{begun_behind, few_recorded, none_recorded, one_step, records_joined, same_lengths, stretches_joined}
+use Rattle.ngc_run_log.proofs.EventProgress.{turns_left}
+use Rattle.ngc_run_through.proofs.RunParts.{begun_behind, few_recorded, none_recorded, one_step, records_joined, same_lengths, stretches_joined}
 
 match_map : {P Q R S : Type 0} (b : Bool) → (P → R) → (Q → S) → MatchBool b P Q → MatchBool b R S
 match_map true f g p = f p
@@ -38,8 +38,8 @@ match_false {Q} P b is q = subst (λ c. MatchBool c P Q) (sym is) q
 
 -- ---- two lists of events in order
 
-pub given_joined : (feeds : Bool) (job : Job) (s : State) (es fs gs hs : List Event) (xs ys : List State) → AreGiven feeds job s es gs xs →
-    AreGiven feeds job (last_state s xs) fs hs ys → AreGiven feeds job s (es ++ fs) (gs ++ hs) (xs ++ ys)
+pub given_joined : (feeds : Bool) (job : Job) (s : State) (es fs gs hs : List Event) (xs ys : List State) → AreSent feeds job s es gs xs →
+    AreSent feeds job (last_state s xs) fs hs ys → AreSent feeds job s (es ++ fs) (gs ++ hs) (xs ++ ys)
 given_joined feeds job s [] fs [] hs [] ys p q = q
 given_joined feeds job s [] fs [] hs (x ∷ xs) ys p q = absurd p
 given_joined feeds job s (e ∷ es) fs [] hs xs ys p q = absurd p
@@ -49,7 +49,7 @@ given_joined feeds job s (e ∷ es) fs (g ∷ gs) hs (x ∷ xs) ys p q =
     match_map (loads_first feeds job s e) (λ r. (r.0, given_joined feeds job x (e ∷ es) fs gs hs xs ys r.1 q))
     (λ r. (r.0, given_joined feeds job x es fs gs hs xs ys r.1 q)) p
 
-pub begun_joined : (feeds : Bool) (job : Job) (s : State) (es fs gs hs : List Event) (xs ys : List State) → AreGiven feeds job s es gs xs →
+pub begun_joined : (feeds : Bool) (job : Job) (s : State) (es fs gs hs : List Event) (xs ys : List State) → AreSent feeds job s es gs xs →
     AreBegun feeds job (last_state s xs) fs hs ys → AreBegun feeds job s (es ++ fs) (gs ++ hs) (xs ++ ys)
 begun_joined feeds job s [] fs [] hs [] ys p q = q
 begun_joined feeds job s [] fs [] hs (x ∷ xs) ys p q = absurd p
@@ -60,7 +60,7 @@ begun_joined feeds job s (e ∷ es) fs (g ∷ gs) hs (x ∷ xs) ys p q =
     match_map (loads_first feeds job s e) (λ r. (r.0, begun_joined feeds job x (e ∷ es) fs gs hs xs ys r.1 q))
     (λ r. (r.0, begun_joined feeds job x es fs gs hs xs ys r.1 q)) p
 
-pub begun_all : (feeds : Bool) (job : Job) (s : State) (es gs : List Event) (xs : List State) → AreGiven feeds job s es gs xs → AreBegun feeds job s es gs xs
+pub begun_all : (feeds : Bool) (job : Job) (s : State) (es gs : List Event) (xs : List State) → AreSent feeds job s es gs xs → AreBegun feeds job s es gs xs
 begun_all feeds job s [] [] [] p = tt
 begun_all feeds job s [] [] (x ∷ xs) p = absurd p
 begun_all feeds job s (e ∷ es) [] xs p = absurd p
@@ -75,7 +75,7 @@ none_loads : (a b : Bool) → a ≡ false → (a && b) ≡ false
 none_loads a b h = ap (λ c. c && b) h
 
 pub plain_given : (feeds : Bool) (job : Job) (e : Event) (n : ℕ) (s : State) (os : List Outcome) (xs : List State) → (is_tick e && feeds) ≡ false →
-    Run job s (replicate n e) os xs → AreGiven feeds job s (replicate n e) (replicate n e) xs
+    Run job s (replicate n e) os xs → AreSent feeds job s (replicate n e) (replicate n e) xs
 plain_given feeds job e zero s [] [] plain r = tt
 plain_given feeds job e zero s [] (x ∷ xs) plain r = absurd r
 plain_given feeds job e zero s (o ∷ os) xs plain r = absurd r
@@ -104,7 +104,7 @@ plain_fed feeds job s t a b x y e n plain done = record {
   given = replicate n e;
   outcomes = done.outcomes;
   stretch = done.stretch;
-  are_given = plain_given feeds job e n s done.outcomes done.stretch.states plain done.stretch.runs;
+  are_sent = plain_given feeds job e n s done.outcomes done.stretch.states plain done.stretch.runs;
   records = done.records;
 }
 
@@ -126,19 +126,19 @@ nothing_fed_yet feeds job s a x = record {
   given = [];
   outcomes = [];
   stretch = record { states = []; runs = tt; goes_on = tt; last = refl };
-  are_given = tt;
+  are_sent = tt;
   records = none_recorded a x;
 }
 
 pub fed_both : (feeds : Bool) (job : Job) (s t u : State) (a b c : Recorder) (x y z : Option (List ℕ)) (es fs : List Event) → IsFed feeds job s t a b x y es →
     IsFed feeds job t u b c y z fs → IsFed feeds job s u a c x z (es ++ fs)
 fed_both feeds job s t u a b c x y z es fs p q =
-    let G : State → Type 0 = λ k. AreGiven feeds job k fs q.given q.stretch.states in
+    let G : State → Type 0 = λ k. AreSent feeds job k fs q.given q.stretch.states in
     record {
       given = p.given ++ q.given;
       outcomes = p.outcomes ++ q.outcomes;
       stretch = stretches_joined job s t u p.given q.given p.outcomes q.outcomes p.stretch q.stretch;
-      are_given = given_joined feeds job s es fs p.given q.given p.stretch.states q.stretch.states p.are_given (subst G p.stretch.last q.are_given);
+      are_sent = given_joined feeds job s es fs p.given q.given p.stretch.states q.stretch.states p.are_sent (subst G p.stretch.last q.are_sent);
       records = records_joined p.given q.given p.outcomes q.outcomes a b c x y z p.records q.records;
     }
 
@@ -162,7 +162,7 @@ fed_cut feeds job s t a b x y z es fs more p q =
       reached = q.reached;
       stretch = stretches_joined job s t q.reached p.given q.given p.outcomes q.outcomes p.stretch q.stretch;
       are_begun =
-          begun_joined feeds job s es (fs ++ more) p.given q.given p.stretch.states q.stretch.states p.are_given
+          begun_joined feeds job s es (fs ++ more) p.given q.given p.stretch.states q.stretch.states p.are_sent
           (subst G p.stretch.last (begun_longer feeds job t fs more q.given q.stretch.states q.are_begun));
       begun = begun_behind p.given p.outcomes q.outcomes a b x y z p.records q.begun;
     }
@@ -245,8 +245,8 @@ none_loaded_yet job s a x = record {
 }
 
 -- one more is taken
-load_gives : (job : Job) (t u : State) (sent given : List Event) (states : List State) → can_load job t ≡ true → AreGiven true job u (Tick ∷ sent) given states →
-    AreGiven true job t (Tick ∷ sent) (Load ∷ given) (u ∷ states)
+load_gives : (job : Job) (t u : State) (sent given : List Event) (states : List State) → can_load job t ≡ true → AreSent true job u (Tick ∷ sent) given states →
+    AreSent true job t (Tick ∷ sent) (Load ∷ given) (u ∷ states)
 load_gives job t u sent given states possible g = match_true _ (loads_first true job t Tick) possible (refl, g)
 
 load_begins : (job : Job) (t u : State) (sent given : List Event) (states : List State) → can_load job t ≡ true → AreBegun true job u (Tick ∷ sent) given states →
@@ -262,8 +262,8 @@ record IsLoadedBy (job : Job) (old new : State) (before after : Recorder) (writt
   outcomes : List Outcome
   stretch : Stretch job old new events outcomes
   records : Records events outcomes before after written now
-  given : (sent given : List Event) (states : List State) → AreGiven true job new (Tick ∷ sent) given states →
-      AreGiven true job old (Tick ∷ sent) (events ++ given) (stretch.states ++ states)
+  given : (sent given : List Event) (states : List State) → AreSent true job new (Tick ∷ sent) given states →
+      AreSent true job old (Tick ∷ sent) (events ++ given) (stretch.states ++ states)
   begun : (sent given : List Event) (states : List State) → AreBegun true job new (Tick ∷ sent) given states →
       AreBegun true job old (Tick ∷ sent) (events ++ given) (stretch.states ++ states)
 
@@ -293,8 +293,8 @@ load_more job at s t u a b c x y z k r same p does goes recorded small =
     with_events job s u a c x z k (p.outcomes ++ Ok r ∷ []) (replicate k Load ++ Load ∷ []) more (omega (arith, small)) both
     (records_joined (replicate k Load) (Load ∷ []) p.outcomes (Ok r ∷ []) a b c x y z p.records recorded)
     (λ sent given ys g.
-    let E : List Event → Type 0 = λ es. AreGiven true job s (Tick ∷ sent) es (p.stretch.states ++ (u ∷ ys)) in
-    let Y : List State → Type 0 = λ l. AreGiven true job s (Tick ∷ sent) ((replicate k Load ++ Load ∷ []) ++ given) l in
+    let E : List Event → Type 0 = λ es. AreSent true job s (Tick ∷ sent) es (p.stretch.states ++ (u ∷ ys)) in
+    let Y : List State → Type 0 = λ l. AreSent true job s (Tick ∷ sent) ((replicate k Load ++ Load ∷ []) ++ given) l in
     subst Y (sym (append_assoc p.stretch.states (u ∷ []) ys))
     (subst E (one_behind k given) (p.given sent (Load ∷ given) (u ∷ ys) (load_gives job t u sent given ys possible g))))
     (λ sent given ys g.
@@ -305,8 +305,8 @@ load_more job at s t u a b c x y z k r same p does goes recorded small =
   where
     with_events : (job : Job) (s u : State) (a c : Recorder) (x z : Option (List ℕ)) (k : ℕ) (outcomes : List Outcome) (events : List Event) →
         events ≡ replicate (k + 1) Load → k + 1 ≤ 1024 → (stretch : Stretch job s u events outcomes) → Records events outcomes a c x z →
-        ((sent given : List Event) (states : List State) → AreGiven true job u (Tick ∷ sent) given states →
-        AreGiven true job s (Tick ∷ sent) (events ++ given) (stretch.states ++ states)) →
+        ((sent given : List Event) (states : List State) → AreSent true job u (Tick ∷ sent) given states →
+        AreSent true job s (Tick ∷ sent) (events ++ given) (stretch.states ++ states)) →
         ((sent given : List Event) (states : List State) → AreBegun true job u (Tick ∷ sent) given states →
         AreBegun true job s (Tick ∷ sent) (events ++ given) (stretch.states ++ states)) → IsLoaded job s u a c x z (k + 1)
     with_events job s u a c x z k outcomes events is few stretch records given begun =
@@ -333,12 +333,12 @@ tick_fed job at s t u a b c x y z k o same p full does goes recorded =
       given = replicate k Load ++ Tick ∷ [];
       outcomes = p.outcomes ++ o ∷ [];
       stretch = stretches_joined job s t u (replicate k Load) (Tick ∷ []) p.outcomes (o ∷ []) p.stretch one;
-      are_given = p.given [] (Tick ∷ []) (u ∷ []) (match_false _ (loads_first true job t Tick) full (refl, tt));
+      are_sent = p.given [] (Tick ∷ []) (u ∷ []) (match_false _ (loads_first true job t Tick) full (refl, tt));
       records = records_joined (replicate k Load) (Tick ∷ []) p.outcomes (o ∷ []) a b c x y z p.records recorded;
     }
 
 pub tick_cut : (job at : Job) (s t u : State) (a b : Recorder) (x y z : Option (List ℕ)) (k : ℕ) (o : Outcome) → at ≡ job → IsLoaded job s t a b x y k →
-    can_load job t ≡ false → Step at t Tick o u → GoesOn at t Tick u → AppendsBeginning y z (b.chunk ++ trace_text b.trace (o ∷ [])) →
+    can_load job t ≡ false → Step at t Tick o u → GoesOn at t Tick u → AppendsPrefix y z (b.chunk ++ trace_text b.trace (o ∷ [])) →
     IsFedShort true job s a x z (Tick ∷ [])
 tick_cut job at s t u a b x y z k o same p full does goes wrote =
     let S : Job → Type 0 = λ j. Step j t Tick o u in
@@ -355,7 +355,7 @@ tick_cut job at s t u a b x y z k o same p full does goes wrote =
 
 -- a load that comes before it, and then a write fails
 pub load_cut : (job at : Job) (s t u : State) (a b : Recorder) (x y z : Option (List ℕ)) (k : ℕ) (r : Reply) → at ≡ job → IsLoaded job s t a b x y k →
-    Step at t Load (Ok r) u → GoesOn at t Load u → AppendsBeginning y z (b.chunk ++ trace_text b.trace (Ok r ∷ [])) →
+    Step at t Load (Ok r) u → GoesOn at t Load u → AppendsPrefix y z (b.chunk ++ trace_text b.trace (Ok r ∷ [])) →
     IsFedShort true job s a x z (Tick ∷ [])
 load_cut job at s t u a b x y z k r same p does goes wrote =
     let S : Job → Type 0 = λ j. Step j t Load (Ok r) u in

@@ -1,5 +1,5 @@
 -- One more event of a line, and one more line.
-pub mod Turns
+pub mod EventProgress
 -- A run that continues from piece to piece of its events' text.
 pub mod LiveLaws
 -- The lines of a piece, in order.

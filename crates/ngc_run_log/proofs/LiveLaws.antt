@@ -4,8 +4,8 @@ use Rattle.std.proofs.lemmas.List.{append_assoc, append-nil}
 use Rattle.std.proofs.lemmas.Grind.{flat_map-append}
 use Rattle.std.proofs.KnownBytes.{Appends-nil}
 use Rattle.std.specs.Io.KnownBytes.{Appends}
-use Rattle.ngc_text.specs.Written.{AppendsBeginning}
-use Rattle.ngc_text.proofs.Appended.{appends_both, begins_after}
+use Rattle.ngc_text.specs.Written.{AppendsPrefix}
+use Rattle.ngc_text.proofs.AppendedTexts.{appends_both, begins_after}
 use Rattle.ngc_fixed_length.specs.declared.points.StepPos.{StepPos}
 use Rattle.ngc_checker.specs.Accepted.{AcceptedData, IsAccepted, commands_at}
 use Rattle.ngc_commands.specs.Movement.{actions_of, ways_of, AreJoined}
@@ -22,7 +22,7 @@ use Rattle.ngc_machine_model.specs.Safety.{start_of_job}
 use Rattle.ngc_machine_model.specs.Stretch.{Stretch}
 use Rattle.ngc_pulses.specs.declared.samples.Switch.{Switch}
 use Rattle.ngc_pulses.specs.Sampling.{SampleState, SampleTick, after_samples, first_samples, rest_bytes, samples_text, settled}
-use Rattle.ngc_pulses.proofs.Sampled.{after_samples-append, after_settled, samples_text-append, whole_settled}
+use Rattle.ngc_pulses.proofs.SampleLaws.{after_samples-append, after_settled, samples_text-append, whole_settled}
 use Rattle.ngc_run_log.specs.declared.live_form.LiveForm.{LiveForm}
 use Rattle.ngc_run_log.specs.declared.live_form.LiveForm.TheVariants as live
 use Rattle.ngc_run_through.specs.declared.recorder.Recorder.{Recorder}
@@ -37,15 +37,15 @@ use Rattle.ngc_run_log.specs.Living.{form_of, first_paused, paused, LiveData, Is
 use Rattle.ngc_run_through.specs.Log.{log, text_of}
 use Rattle.ngc_run_through.specs.Times.{ticks_after, timed_log}
 use Rattle.ngc_run_through.proofs.Timed.{ticks_after-append, timed_log-append}
-use Rattle.ngc_run_log.specs.Feeding.{AreBegun, AreGiven, IsFed, IsFedShort}
+use Rattle.ngc_run_log.specs.Feeding.{AreBegun, AreSent, IsFed, IsFedShort}
 use Rattle.ngc_run_through.specs.Recording.{HasFew}
 use Rattle.ngc_run_through.specs.Runs.{IsRun}
 use Rattle.ngc_run_through.specs.Switching.{AreSwitches}
 use Rattle.ngc_run_through.specs.Tracing.{last_text, opening_text, sample_in, samples_in, ticks_of, trace_after, trace_of, whole_text}
-use Rattle.ngc_run_through.proofs.Comes.{all_begun, all_written, in_time_of, opens_of, safe_of, some_begun}
-use Rattle.ngc_run_through.proofs.Forms.{are_switches, IsTraceOf, text_of_run}
+use Rattle.ngc_run_through.proofs.RunResults.{all_begun, all_written, in_time_of, opens_of, safe_of, some_begun}
+use Rattle.ngc_run_through.proofs.ResultForms.{are_switches, IsTraceOf, text_of_run}
 use Rattle.ngc_run_log.proofs.FeedingLaws.{begun_joined, begun_all, given_joined}
-use Rattle.ngc_run_through.proofs.Joined.{stretches_joined}
+use Rattle.ngc_run_through.proofs.RunParts.{stretches_joined}
 
 -- ---- the trace that continues
 
@@ -179,8 +179,8 @@ runs_on form live t arriving o lines more first x y z s a b h same trace chunk d
     let given : List Event = h.given ++ done.given in
     let stretch : Stretch job (opening job.machine) t given (os ++ ps) =
     stretches_joined job (opening job.machine) live.state t h.given done.given os ps (stretch_of form live lines first x h) done.stretch in
-    let G : State → Type 0 = λ k. AreGiven live.feeds job k (events_of more) done.given done.stretch.states in
-    let E : List Event → Type 0 = λ es. AreGiven live.feeds job (opening job.machine) es given (h.run.states ++ done.stretch.states) in
+    let G : State → Type 0 = λ k. AreSent live.feeds job k (events_of more) done.given done.stretch.states in
+    let E : List Event → Type 0 = λ es. AreSent live.feeds job (opening job.machine) es given (h.run.states ++ done.stretch.states) in
     let on : trace_from live.paused s ≡ behind form live s os = goes_on form live lines first x s h same in
     let now : Appends x z (whole_text (behind form live s os) ps) =
     all_written (behind form live s os) a b x y z done.given ps (trace ∙ on) (chunk ∙ ap opening_text on) done.records wrote in
@@ -188,10 +188,10 @@ runs_on form live t arriving o lines more first x y z s a b h same trace chunk d
       given = given;
       outcomes = os ++ ps;
       run = run_over job t given (os ++ ps) h.ready.safe h.ready.in_time stretch;
-      are_given =
+      are_sent =
           subst E (sym (events_both lines more))
           (given_joined live.feeds job (opening job.machine) (events_of lines) (events_of more) h.given done.given h.run.states done.stretch.states
-          h.are_given (subst G h.reached done.are_given));
+          h.are_sent (subst G h.reached done.are_sent));
       written =
           subst (Appends first z) (text_with form live lines first x s h given ps stretch.states same stretch.runs)
           (appends_both first x z (whole_text (began form job s) os) (whole_text (behind form live s os) ps) (wrote_before form live lines first x s h same) now);
@@ -232,7 +232,7 @@ breaks : (form : LiveForm) (live : LiveData) (t : State) (lines more : List Even
     (given : List Event) (ps : List Outcome) → (h : HasRun form live lines first x) → s.list.now ≡ live.switches →
     Begins text (lines ++ more) → (stretch : Stretch live.job live.state t given ps) →
     AreBegun live.feeds live.job live.state (events_of more) given stretch.states →
-    AppendsBeginning x z (whole_text (behind form live s h.outcomes) ps) → IsBrokenLive form live.feeds live.job text first z
+    AppendsPrefix x z (whole_text (behind form live s h.outcomes) ps) → IsBrokenLive form live.feeds live.job text first z
 breaks form live t lines more first x z s text given ps h same begins stretch are wrote =
     let job : Job = live.job in
     let os : List Outcome = h.outcomes in
@@ -242,7 +242,7 @@ breaks form live t lines more first x z s text given ps h same begins stretch ar
     let E : List Event → Type 0 = λ es. AreBegun live.feeds job (opening job.machine) es (h.given ++ given) (h.run.states ++ stretch.states) in
     let old : List ℕ = whole_text (began form job s) os in
     let now : List ℕ = whole_text (behind form live s os) ps in
-    let P : List ℕ → Type 0 = λ l. AppendsBeginning first z l in
+    let P : List ℕ → Type 0 = λ l. AppendsPrefix first z l in
     record {
       lines = lines ++ more;
       begins = begins;
@@ -252,7 +252,7 @@ breaks form live t lines more first x z s text given ps h same begins stretch ar
       are_begun =
           subst E (sym (events_both lines more))
           (begun_joined live.feeds job (opening job.machine) (events_of lines) (events_of more) h.given given h.run.states stretch.states
-          h.are_given (subst G h.reached are));
+          h.are_sent (subst G h.reached are));
       written =
           subst P (ap (λ l. old ++ l) (append-nil now) ∙ text_with form live lines first x s h (h.given ++ given) ps whole.states same whole.runs)
           (begins_after first x z old now [] (wrote_before form live lines first x s h same) wrote);
@@ -274,13 +274,13 @@ broken_within form live job feeds lines more first x z s a text h same trace chu
 pub broken_behind : (form : LiveForm) (live : LiveData) (job : Job) (feeds : Bool) (t : State) (lines more : List EventLine) (first x y z : Option (List ℕ))
     (s : Switches) (a b : Recorder) (text : List ℕ) → HasRun form live lines first x → s.list.now ≡ live.switches → a.trace ≡ trace_from live.paused s →
     a.chunk ≡ opening_text (trace_from live.paused s) → Begins text (lines ++ more) → IsFed live.feeds live.job live.state t a b x y (events_of more) →
-    AppendsBeginning y z (b.chunk ++ last_text b.trace) → job ≡ live.job → feeds ≡ live.feeds → IsBrokenLive form feeds job text first z
+    AppendsPrefix y z (b.chunk ++ last_text b.trace) → job ≡ live.job → feeds ≡ live.feeds → IsBrokenLive form feeds job text first z
 broken_behind form live job feeds t lines more first x y z s a b text h same trace chunk begins done wrote is are =
     let on : trace_from live.paused s ≡ behind form live s h.outcomes = goes_on form live lines first x s h same in
     subst (λ k. IsBrokenLive form k job text first z) (sym are)
     (subst (λ (j : Job). IsBrokenLive form live.feeds j text first z) (sym is)
     (breaks form live t lines more first x z s text done.given done.outcomes h same begins done.stretch
-    (begun_all live.feeds live.job live.state (events_of more) done.given done.stretch.states done.are_given)
+    (begun_all live.feeds live.job live.state (events_of more) done.given done.stretch.states done.are_sent)
     (all_begun (behind form live s h.outcomes) a b x y z done.given done.outcomes (trace ∙ on) (chunk ∙ ap opening_text on) done.records wrote)))
 
 -- ---- nothing is fed yet
@@ -315,7 +315,7 @@ nothing_fed form a block_delete live position commands xs written ok job opens p
       has_run = record {
         given = [];
         outcomes = [];
-        are_given = tt;
+        are_sent = tt;
         run = record { states = []; runs = tt; is_safe = safe [] [] [] tt; goes_on = tt; in_time = in_time [] [] [] tt tt };
         written = subst (Appends written written) (sym (no_text form live.job)) (Appends-nil written);
         reached = opens_of a block_delete live.job live.state job opens;

@@ -1,7 +1,7 @@
 -- A ring that is fed: loads come before each tick while one is possible. Our own.
 use Rattle.std.specs.Prelude.{◌≡◌, ℕ, ◌≤◌, List, [], ◌∷◌, ◌++◌, replicate, Option, Bool, true, ◌&&◌}
 use Rattle.std.specs.Prelude.{MatchBool}
-use Rattle.ngc_text.specs.Written.{AppendsBeginning}
+use Rattle.ngc_text.specs.Written.{AppendsPrefix}
 use Rattle.ngc_events.specs.declared.event.Event.{Event}
 use Rattle.ngc_events.specs.declared.event.Event.TheVariants.{Load, Tick}
 use Rattle.ngc_machine_model.specs.State.{Job, State}
@@ -20,16 +20,16 @@ loads_first feeds job s event = (is_tick event && feeds) && can_load job s
 
 -- The events that the machine processes for the sent ones, each in the state before it: the sent
 -- events, and the loads that come before ticks.
-abbrev pub AreGiven : Bool → Job → State → List Event → List Event → List State → Type 0
-AreGiven feeds job s [] [] [] = Unit {0}
-AreGiven feeds job s [] [] (t ∷ states) = ⊥
-AreGiven feeds job s (e ∷ sent) [] states = ⊥
-AreGiven feeds job s [] (g ∷ given) states = ⊥
-AreGiven feeds job s (e ∷ sent) (g ∷ given) [] = ⊥
-AreGiven feeds job s (e ∷ sent) (g ∷ given) (t ∷ states) =
+abbrev pub AreSent : Bool → Job → State → List Event → List Event → List State → Type 0
+AreSent feeds job s [] [] [] = Unit {0}
+AreSent feeds job s [] [] (t ∷ states) = ⊥
+AreSent feeds job s (e ∷ sent) [] states = ⊥
+AreSent feeds job s [] (g ∷ given) states = ⊥
+AreSent feeds job s (e ∷ sent) (g ∷ given) [] = ⊥
+AreSent feeds job s (e ∷ sent) (g ∷ given) (t ∷ states) =
     MatchBool (loads_first feeds job s e)
-    ((g ≡ Load) × AreGiven feeds job t (e ∷ sent) given states)
-    ((g ≡ e) × AreGiven feeds job t sent given states)
+    ((g ≡ Load) × AreSent feeds job t (e ∷ sent) given states)
+    ((g ≡ e) × AreSent feeds job t sent given states)
 
 -- a prefix of them
 abbrev pub AreBegun : Bool → Job → State → List Event → List Event → List State → Type 0
@@ -49,7 +49,7 @@ pub record IsFed (feeds : Bool) (job : Job) (old new : State) (before after : Re
   pub given : List Event
   pub outcomes : List Outcome
   pub stretch : Stretch job old new given outcomes
-  pub are_given : AreGiven feeds job old sent given stretch.states
+  pub are_sent : AreSent feeds job old sent given stretch.states
   pub records : Records given outcomes before after written now
 
 -- the machine processed a prefix of them, and then a write failed
@@ -60,7 +60,7 @@ pub record IsFedShort (feeds : Bool) (job : Job) (old : State) (before : Recorde
   pub reached : State
   pub stretch : Stretch job old reached given outcomes
   pub are_begun : AreBegun feeds job old sent given stretch.states
-  pub begun : AppendsBeginning written now (before.chunk ++ trace_text before.trace outcomes)
+  pub begun : AppendsPrefix written now (before.chunk ++ trace_text before.trace outcomes)
 
 -- the machine processed `count` loads that come before a tick, whatever follows the tick
 pub record IsLoaded (job : Job) (old new : State) (before after : Recorder)
@@ -70,8 +70,8 @@ pub record IsLoaded (job : Job) (old new : State) (before after : Recorder)
   pub stretch : Stretch job old new (replicate count Load) outcomes
   pub records : Records (replicate count Load) outcomes before after written now
   pub given : (sent given : List Event) (states : List State) →
-      AreGiven true job new (Tick ∷ sent) given states →
-      AreGiven true job old (Tick ∷ sent) (replicate count Load ++ given) (stretch.states ++ states)
+      AreSent true job new (Tick ∷ sent) given states →
+      AreSent true job old (Tick ∷ sent) (replicate count Load ++ given) (stretch.states ++ states)
   pub begun : (sent given : List Event) (states : List State) →
       AreBegun true job new (Tick ∷ sent) given states →
       AreBegun true job old (Tick ∷ sent) (replicate count Load ++ given) (stretch.states ++ states)

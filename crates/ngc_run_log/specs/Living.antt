@@ -2,7 +2,7 @@
 use Rattle.std.specs.Prelude.{◌≡◌, ◌⊎◌, ℕ, List, ◌++◌, Option, Result, Ok, Err, Bool}
 use Rattle.std.specs.Io.KnownBytes.{Appends, Consumes}
 use Rattle.ngc_text.specs.Failures.{Rises}
-use Rattle.ngc_text.specs.Written.{AppendsBeginning}
+use Rattle.ngc_text.specs.Written.{AppendsPrefix}
 use Rattle.ngc_fixed_length.specs.declared.points.StepPos.{StepPos}
 use Rattle.ngc_machine_files.specs.MachineRanges.{IsMachine}
 use Rattle.ngc_commands.specs.Movement.{actions_of, ways_of, AreJoined}
@@ -28,7 +28,7 @@ use Rattle.ngc_run_through.specs.declared.text_state.TextState.TheVariants as te
 use Rattle.ngc_run_through.specs.declared.trace.Form.{Form}
 use Rattle.ngc_run_through.specs.declared.trace.Form.TheVariants as forms
 use Rattle.ngc_run_through.specs.Forms.{text_as}
-use Rattle.ngc_run_log.specs.Feeding.{AreBegun, AreGiven, IsFed, IsFedShort}
+use Rattle.ngc_run_log.specs.Feeding.{AreBegun, AreSent, IsFed, IsFedShort}
 use Rattle.ngc_run_through.specs.Runs.{IsRun}
 use Rattle.ngc_run_through.specs.Switching.{AreSwitches}
 use Rattle.ngc_run_through.specs.Times.{ticks_after}
@@ -82,7 +82,7 @@ pub record HasRun (form : LiveForm) (live : LiveData) (lines : List EventLine)
   pub given : List Event
   pub outcomes : List Outcome
   pub run : IsRun live.job given outcomes
-  pub are_given : AreGiven live.feeds live.job (opening live.job.machine) (events_of lines) given
+  pub are_sent : AreSent live.feeds live.job (opening live.job.machine) (events_of lines) given
       run.states
   pub written : Appends first now (text_as (form_of form) live.job given outcomes run.states)
   pub reached : live.state ≡ last_state (opening live.job.machine) run.states
@@ -115,7 +115,7 @@ pub record IsBrokenLive (form : LiveForm) (feeds : Bool) (job : Job) (text : Lis
   pub outcomes : List Outcome
   pub run : IsRun job given outcomes
   pub are_begun : AreBegun feeds job (opening job.machine) (events_of lines) given run.states
-  pub written : AppendsBeginning first now (text_as (form_of form) job given outcomes run.states)
+  pub written : AppendsPrefix first now (text_as (form_of form) job given outcomes run.states)
 
 -- the result for the text that has arrived, with the piece that was fed last
 abbrev pub Feeds : LiveForm → LiveData → List ℕ → Option (List ℕ) → Option (List ℕ) →

@@ -116,7 +116,7 @@ fn takes_loads(feeds: bool, event: Event) -> bool
 
 /// Processes the event of a line the number of times that the line says. If the ring is fed, loads
 /// come before each tick while one is possible.
-pub(crate) fn give_line<A: Allocator + Copy, W: Sink>(
+pub(crate) fn send_line<A: Allocator + Copy, W: Sink>(
     controller: &mut Controller<ArcPath, A>,
     feeds: bool,
     line: &EventLine,

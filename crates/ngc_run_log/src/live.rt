@@ -11,7 +11,7 @@ ghost use Rattle.ngc_run_log.specs.declared.live_form.LiveForm.{LiveForm as Writ
 ghost use Rattle.ngc_run_through.specs.Recording.{HasFew};
 ghost use Rattle.ngc_text.specs.Failures.{CountsFailure};
 
-use crate::feeding::give_line;
+use crate::feeding::send_line;
 use crate::live_fault::LiveFault;
 use crate::live_form::LiveForm;
 use ngc_checker::Accepted;
@@ -86,7 +86,7 @@ fn ended(taken: Result<(), EventsFault>) -> Result<(), LiveFault>
 }
 
 // Processes the events of the lines that a piece completes, up to a line that isn't an event.
-fn give_lines<A: Allocator + Copy, W: Sink>(
+fn send_lines<A: Allocator + Copy, W: Sink>(
     controller: &mut Controller<ArcPath, A>,
     feeds_ring: bool,
     lines: &mut EventLines,
@@ -115,7 +115,7 @@ fn give_lines<A: Allocator + Copy, W: Sink>(
     'lines: loop {
         match lines.take(left) {
             Ok(Some((line, rest))) => {
-                match give_line(controller, feeds_ring, &line, recorder, sink) {
+                match send_line(controller, feeds_ring, &line, recorder, sink) {
                     Ok(()) => {}
                     Err(fault) => return Err(fault),
                 }
@@ -192,7 +192,7 @@ impl<A: Allocator + Copy> LiveRun<A> {
         };
         let trace = Trace::going_on(&self.paused, switches);
         let mut recorder = Recorder::new(trace, self.controller.position());
-        let taken = match give_lines(
+        let taken = match send_lines(
             &mut self.controller,
             self.feeds_ring,
             &mut self.lines,

@@ -4,10 +4,10 @@ ghost use Rattle.ngc_machine_model.specs.Headline.{job_of, RunsInTime, RunsSafel
 ghost use Rattle.ngc_machine_model.specs.State.{opening};
 ghost use Rattle.ngc_checker.specs.Accepted.{commands_at};
 ghost use Rattle.ngc_text.specs.Failures.{CountsFailure};
-ghost use Rattle.ngc_run_through.specs.Forms.{ComesAs, IsTracedRun, IsUntracedRun, PulsesCome};
-ghost use Rattle.ngc_run_through.specs.Forms.{SamplesCome, TimesCome};
+ghost use Rattle.ngc_run_through.specs.Forms.{ResultsAs, IsTracedRun, IsUntracedRun, PulsesResult};
+ghost use Rattle.ngc_run_through.specs.Forms.{SamplesResult, TimesResult};
 ghost use Rattle.ngc_run_through.specs.Recording.{HasFew, IsCutShort, IsRecorded};
-ghost use Rattle.ngc_run_through.specs.Runs.{ComesTo, FailsByWriting};
+ghost use Rattle.ngc_run_through.specs.Runs.{ResultsIn, FailsByWriting};
 ghost use Rattle.ngc_run_through.specs.Tracing.{ticks_of};
 
 use ngc_checker::Accepted;
@@ -110,7 +110,7 @@ fn run_as<A: Allocator + Copy, W: Sink>(
     form: Form,
     sink: &mut W,
 ) -> Result<Report, RunFault>
-    ensures comes { ComesAs form (job_of accepted.machine (commands_at block_delete accepted))
+    ensures comes { ResultsAs form (job_of accepted.machine (commands_at block_delete accepted))
         lines.now (W.written sink.old) (W.written sink.new) result }
     ensures counts { FailsByWriting result (W.failures sink.old) (W.failures sink.new) }
 {
@@ -144,7 +144,7 @@ pub fn run<A: Allocator + Copy, W: Sink>(
     lines: &[EventLine],
     sink: &mut W,
 ) -> Result<Report, RunFault>
-    ensures comes { ComesTo (job_of accepted.machine (commands_at block_delete accepted)) lines.now
+    ensures comes { ResultsIn (job_of accepted.machine (commands_at block_delete accepted)) lines.now
         (W.written sink.old) (W.written sink.new) result }
     ensures counts { FailsByWriting result (W.failures sink.old) (W.failures sink.new) }
 {
@@ -161,7 +161,7 @@ pub fn write_timed_log<A: Allocator + Copy, W: Sink>(
     lines: &[EventLine],
     sink: &mut W,
 ) -> Result<Report, RunFault>
-    ensures comes { TimesCome (job_of accepted.machine (commands_at block_delete accepted)) lines.now
+    ensures comes { TimesResult (job_of accepted.machine (commands_at block_delete accepted)) lines.now
         (W.written sink.old) (W.written sink.new) result }
     ensures counts { FailsByWriting result (W.failures sink.old) (W.failures sink.new) }
 {
@@ -179,7 +179,7 @@ pub fn write_pulses<A: Allocator + Copy, W: Sink>(
     lines: &[EventLine],
     sink: &mut W,
 ) -> Result<Report, RunFault>
-    ensures comes { PulsesCome (job_of accepted.machine (commands_at block_delete accepted))
+    ensures comes { PulsesResult (job_of accepted.machine (commands_at block_delete accepted))
         lines.now (W.written sink.old) (W.written sink.new) result }
     ensures counts { FailsByWriting result (W.failures sink.old) (W.failures sink.new) }
 {
@@ -198,7 +198,7 @@ pub fn write_samples<A: Allocator + Copy, W: Sink>(
     inverted: u8,
     sink: &mut W,
 ) -> Result<Report, RunFault>
-    ensures comes { SamplesCome inverted
+    ensures comes { SamplesResult inverted
         (job_of accepted.machine (commands_at block_delete accepted)) lines.now
         (W.written sink.old) (W.written sink.new) result }
     ensures counts { FailsByWriting result (W.failures sink.old) (W.failures sink.new) }

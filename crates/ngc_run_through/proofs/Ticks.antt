@@ -23,8 +23,8 @@ use Rattle.ngc_machine_model.specs.Reach.{rest}
 use Rattle.ngc_machine_model.specs.Step.{Outcome, Step, MayTake, Rests, Finishes, Dwells, Serves, Travels, HeadTick, TickBy, without_head, after, ending, pulse}
 use Rattle.ngc_machine_model.specs.Step.{place_after, ticks_of}
 use Rattle.ngc_machine_model.specs.Progress.{IsFree, TravelsAtLeast, GoesOn}
-use Rattle.ngc_machine_model.proofs.Cases.{match_with}
-use Rattle.ngc_run_through.specs.Stretches.{IsUntouched, is_stop, LeavesBy, TellsBy}
+use Rattle.ngc_machine_model.proofs.TestCases.{match_with}
+use Rattle.ngc_run_through.specs.Stretches.{IsUntouched, is_stop, LeavesBy, ReportsBy}
 
 -- the head is done if a command ended
 abbrev pub HasLeft : Option Ending → State → State → Type 0
@@ -41,7 +41,7 @@ pub record Goes (ring : List Queued) (old : State) (o : Outcome) (new : State) :
   pub travelled : new.travelled ≤ STEPS_LIMIT * MILLION
   pub leaves : LeavesBy ended old new
   pub left : HasLeft ended old new
-  pub tells : TellsBy ended ring (o ∷ [])
+  pub tells : ReportsBy ended ring (o ∷ [])
 
 -- ---- the machine is free
 
@@ -69,7 +69,7 @@ goes_by : (ring : List Queued) (old new : State) (o : Outcome) (v x m : ℕ) (p 
     is_stop e ≡ false → old.stopped ≡ false → x ≤ STEPS_LIMIT * MILLION → MILLION ≤ x → v ≤ MILLION → old.travelled ≤ STEPS_LIMIT * MILLION → 1 ≤ m →
     min m (x - old.travelled) ≤ v →
     (b ≡ false → old.travelled + v < x) →
-    TellsBy (Some e) ring (o ∷ []) →
+    ReportsBy (Some e) ring (o ∷ []) →
     o ≡ Ok (Ticked p (if b then Some e else None)) →
     new ≡ (if b then without_head (old.travelled + v - x) (record old { rate = v; position = q })
     else record old { rate = v; position = q; travelled = old.travelled + v }) →
@@ -110,7 +110,7 @@ motion_runs _ s h = let e = h.1 in cc
 
 -- and it isn't the program's end
 motion_goes : (a : Action) (e : Ending) (l : Queued) (ls : List Queued) (outcomes : List Outcome) → IsMotion l.command.action →
-    TellsBy (Some e) (l ∷ ls) outcomes
+    ReportsBy (Some e) (l ∷ ls) outcomes
 motion_goes a e l ls outcomes motion = λ end. (let is = motion.1 in cc)
 
 travel_goes : (job : Job) (l : Queued) (ls : List Queued) (old : State) (o : Outcome) (new : State) → IsMachine job.machine →

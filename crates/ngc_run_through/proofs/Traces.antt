@@ -6,11 +6,11 @@ use Rattle.ngc_events.specs.declared.reply.Reply.TheVariants.{Loaded, Ticked, He
 use Rattle.ngc_machine_model.specs.Step.{Outcome}
 use Rattle.ngc_pulses.specs.Dumping.{ticks_text, after_ticks}
 use Rattle.ngc_pulses.specs.declared.samples.Switch.{Switch}
-use Rattle.ngc_text.specs.Written.{AppendsBeginning}
+use Rattle.ngc_text.specs.Written.{AppendsPrefix}
 use Rattle.ngc_fixed_length.specs.declared.points.StepPos.{StepPos}
 use Rattle.ngc_events.specs.declared.reply.Ending.{Ending}
 use Rattle.ngc_pulses.specs.Sampling.{SampleState, sample_text, samples_text, after_samples}
-use Rattle.ngc_pulses.proofs.Sampled.{samples_text-append, after_samples-append, few_rest}
+use Rattle.ngc_pulses.proofs.SampleLaws.{samples_text-append, after_samples-append, few_rest}
 use Rattle.ngc_pulses.proofs.Dumps.{ticks_text-append, after_ticks-append, ticks_after}
 use Rattle.ngc_run_through.specs.declared.trace.Trace.{Trace}
 use Rattle.ngc_run_through.specs.declared.trace.Trace.TheVariants.{Log, Times, Pulses, Samples, Untold}
@@ -88,9 +88,9 @@ few_ticks Untold os = omega arith
 -- ---- a sampled tick
 
 pub sampled_begun : (s : SampleState) (switch : Switch) (p : Option StepPos) (ending : Option Ending) (o : Outcome) (x y : Option (List ℕ)) (a : List ℕ) →
-    o ≡ Ok (Ticked p ending) → AppendsBeginning x y (a ++ sample_text s (record { position = p; switch = switch })) →
-    AppendsBeginning x y (a ++ samples_text s (sampled switch o))
+    o ≡ Ok (Ticked p ending) → AppendsPrefix x y (a ++ sample_text s (record { position = p; switch = switch })) →
+    AppendsPrefix x y (a ++ samples_text s (sampled switch o))
 sampled_begun s switch p ending o x y a is wrote =
-    let P : Outcome → Type 0 = λ k. AppendsBeginning x y (a ++ samples_text s (sampled switch k)) in
-    let Q : List ℕ → Type 0 = λ l. AppendsBeginning x y (a ++ l) in
+    let P : Outcome → Type 0 = λ k. AppendsPrefix x y (a ++ samples_text s (sampled switch k)) in
+    let Q : List ℕ → Type 0 = λ l. AppendsPrefix x y (a ++ l) in
     subst P (sym is) (subst Q (sym (append-nil (sample_text s (record { position = p; switch = switch })))) wrote)

@@ -2,7 +2,7 @@
 use Rattle.std.proofs.Common.{◌≡◌, ◌≤◌, ℕ, suc, List, [], ◌∷◌, ◌++◌, length, Option, Some, Bool, true, false, ap, sym, subst, ◌∙◌, arith, refl}
 use Rattle.std.specs.Prelude.{slice_get}
 use Rattle.std.specs.Io.KnownBytes.{Appends}
-use Rattle.ngc_text.specs.Written.{AppendsBeginning}
+use Rattle.ngc_text.specs.Written.{AppendsPrefix}
 use Rattle.ngc_machine_files.specs.MachineRanges.{IsMachine}
 use Rattle.ngc_commands.specs.declared.command.Command.{Command}
 use Rattle.ngc_commands.specs.Sequence.{HasEnd}
@@ -25,7 +25,7 @@ use Rattle.ngc_machine_model.specs.Stretch.{last_state, Stretch}
 use Rattle.ngc_run_through.specs.Forms.{IsTracedThrough, IsTracedOff}
 use Rattle.ngc_run_through.specs.Stretches.{IsUntouched, GoesBy, BreaksOff, Finishes}
 use Rattle.ngc_run_through.proofs.Policy.{none_is_next}
-use Rattle.ngc_run_through.proofs.Comes.{AreNew, all_written, all_begun, some_begun, reports}
+use Rattle.ngc_run_through.proofs.RunResults.{AreNew, all_written, all_begun, some_begun, reports}
 
 -- before the first event
 pub opening_untouched : (job : Job) (s : State) → IsMachine job.machine → s ≡ opening job.machine → IsUntouched job s
@@ -99,7 +99,7 @@ through_traced trace n count old new a b x y z report are_new safe in_time has_e
 -- all is done, and then a write failed
 pub through_unwritten : (trace : Trace) (n count : ℕ) (old new : ControllerData) (a b : Recorder) (x y z : Option (List ℕ)) → AreNew trace old.job old.state a →
     RunsSafely old.job → RunsInTime old.job →
-    Finishes n count count old new a b x y → AppendsBeginning y z (b.chunk ++ last_text b.trace) → IsTracedOff trace old.job x z
+    Finishes n count count old new a b x y → AppendsPrefix y z (b.chunk ++ last_text b.trace) → IsTracedOff trace old.job x z
 through_unwritten trace n count old new a b x y z are_new safe in_time ended wrote =
     let s : GoesBy n count count old new a b x y = ended.goes in
     let r = opens_runs old.job old.state new.state s.events s.outcomes safe in_time are_new.opens s.stretch s.follows in

@@ -1,7 +1,7 @@
 -- The result of a run that is written in one of the forms. Our own.
 use Rattle.std.specs.Prelude.{◌≡◌, ℕ, List, ◌++◌, length, Option, None, Ok, Err, Result}
 use Rattle.std.specs.Io.KnownBytes.{Appends, Keeps}
-use Rattle.ngc_text.specs.Written.{AppendsBeginning}
+use Rattle.ngc_text.specs.Written.{AppendsPrefix}
 use Rattle.ngc_events.specs.declared.event.Event.{Event}
 use Rattle.ngc_events.specs.declared.event.EventLine.{EventLine}
 use Rattle.ngc_machine_model.specs.State.{Job, State, opening}
@@ -23,7 +23,7 @@ use Rattle.ngc_machine_model.specs.Stretch.{last_state}
 use Rattle.ngc_run_through.specs.Policy.{next_event}
 use Rattle.ngc_run_through.specs.Switching.{switches}
 use Rattle.ngc_run_through.specs.Runs.{IsRun, Reports}
-use Rattle.ngc_run_through.specs.Through.{IsSmoothRun, TellsEnd}
+use Rattle.ngc_run_through.specs.Through.{IsSmoothRun, ReportsEnd}
 
 -- The log of a run's outcomes, without ticks or with them, or the dump or the samples of its ticks'
 -- pulses. These are the pulses that a safe run bounds.
@@ -54,14 +54,14 @@ pub record IsUnwrittenRun (form : Form) (job : Job) (lines : List EventLine)
   pub are_first : events_of lines ≡ given ++ left
   pub outcomes : List Outcome
   pub run : IsRun job given outcomes
-  pub written : AppendsBeginning old new (text_as form job given outcomes run.states)
+  pub written : AppendsPrefix old new (text_as form job given outcomes run.states)
 
 -- If memory runs out, nothing was written.
-abbrev pub ComesAs : Form → Job → List EventLine → Option (List ℕ) → Option (List ℕ) →
+abbrev pub ResultsAs : Form → Job → List EventLine → Option (List ℕ) → Option (List ℕ) →
     Result Report RunFault → Type 0
-ComesAs form job lines old new (Ok report) = IsWrittenRun form job lines old new report
-ComesAs form job lines old new (Err (Write fault)) = IsUnwrittenRun form job lines old new
-ComesAs form job lines old new (Err Memory) = Keeps old new
+ResultsAs form job lines old new (Ok report) = IsWrittenRun form job lines old new report
+ResultsAs form job lines old new (Err (Write fault)) = IsUnwrittenRun form job lines old new
+ResultsAs form job lines old new (Err Memory) = Keeps old new
 
 -- ---- through the program
 
@@ -74,7 +74,7 @@ pub record IsWrittenThrough (form : Form) (job : Job) (old new : Option (List �
   pub smooth : IsSmoothRun job events outcomes
   pub done : (last_state (opening job.machine) smooth.run.states).done ≡ length job.commands
   pub ended : next_event job (last_state (opening job.machine) smooth.run.states) ≡ None
-  pub told : TellsEnd outcomes
+  pub told : ReportsEnd outcomes
   pub written : Appends old new (text_as form job events outcomes smooth.run.states)
   pub reports : Reports job events outcomes report
 
@@ -83,43 +83,43 @@ pub record IsWrittenOff (form : Form) (job : Job) (old new : Option (List ℕ)) 
   pub given : List Event
   pub outcomes : List Outcome
   pub smooth : IsSmoothRun job given outcomes
-  pub written : AppendsBeginning old new (text_as form job given outcomes smooth.run.states)
+  pub written : AppendsPrefix old new (text_as form job given outcomes smooth.run.states)
 
-abbrev pub GoesThroughAs : Form → Job → Option (List ℕ) → Option (List ℕ) →
+abbrev pub RunsToEndAs : Form → Job → Option (List ℕ) → Option (List ℕ) →
     Result Report RunFault → Type 0
-GoesThroughAs form job old new (Ok report) = IsWrittenThrough form job old new report
-GoesThroughAs form job old new (Err (Write fault)) = IsWrittenOff form job old new
-GoesThroughAs form job old new (Err Memory) = Keeps old new
+RunsToEndAs form job old new (Ok report) = IsWrittenThrough form job old new report
+RunsToEndAs form job old new (Err (Write fault)) = IsWrittenOff form job old new
+RunsToEndAs form job old new (Err Memory) = Keeps old new
 
 -- ---- the log with ticks
 
-abbrev pub TimesCome : Job → List EventLine → Option (List ℕ) → Option (List ℕ) →
+abbrev pub TimesResult : Job → List EventLine → Option (List ℕ) → Option (List ℕ) →
     Result Report RunFault → Type 0
-TimesCome = ComesAs Times
+TimesResult = ResultsAs Times
 
-abbrev pub TimesGoThrough : Job → Option (List ℕ) → Option (List ℕ) →
+abbrev pub TimesRunToEnd : Job → Option (List ℕ) → Option (List ℕ) →
     Result Report RunFault → Type 0
-TimesGoThrough = GoesThroughAs Times
+TimesRunToEnd = RunsToEndAs Times
 
 -- ---- the pulses
 
-abbrev pub PulsesCome : Job → List EventLine → Option (List ℕ) → Option (List ℕ) →
+abbrev pub PulsesResult : Job → List EventLine → Option (List ℕ) → Option (List ℕ) →
     Result Report RunFault → Type 0
-PulsesCome = ComesAs Pulses
+PulsesResult = ResultsAs Pulses
 
-abbrev pub PulsesGoThrough : Job → Option (List ℕ) → Option (List ℕ) →
+abbrev pub PulsesRunToEnd : Job → Option (List ℕ) → Option (List ℕ) →
     Result Report RunFault → Type 0
-PulsesGoThrough = GoesThroughAs Pulses
+PulsesRunToEnd = RunsToEndAs Pulses
 
 -- ---- the samples, with the bits of a mask inverted
 
-abbrev pub SamplesCome : ℕ → Job → List EventLine → Option (List ℕ) → Option (List ℕ) →
+abbrev pub SamplesResult : ℕ → Job → List EventLine → Option (List ℕ) → Option (List ℕ) →
     Result Report RunFault → Type 0
-SamplesCome inverted = ComesAs (Samples inverted)
+SamplesResult inverted = ResultsAs (Samples inverted)
 
-abbrev pub SamplesGoThrough : ℕ → Job → Option (List ℕ) → Option (List ℕ) →
+abbrev pub SamplesRunToEnd : ℕ → Job → Option (List ℕ) → Option (List ℕ) →
     Result Report RunFault → Type 0
-SamplesGoThrough inverted = GoesThroughAs (Samples inverted)
+SamplesRunToEnd inverted = RunsToEndAs (Samples inverted)
 
 -- ---- intermediate results, from a trace on
 
@@ -137,7 +137,7 @@ pub record IsUntracedRun (trace : Trace) (job : Job) (lines : List EventLine)
   pub are_first : events_of lines ≡ given ++ left
   pub outcomes : List Outcome
   pub run : IsRun job given outcomes
-  pub written : AppendsBeginning old new (whole_text trace outcomes)
+  pub written : AppendsPrefix old new (whole_text trace outcomes)
 
 pub record IsTracedThrough (trace : Trace) (job : Job) (old new : Option (List ℕ))
     (report : Report) : Type 0 where
@@ -146,7 +146,7 @@ pub record IsTracedThrough (trace : Trace) (job : Job) (old new : Option (List �
   pub smooth : IsSmoothRun job events outcomes
   pub done : (last_state (opening job.machine) smooth.run.states).done ≡ length job.commands
   pub ended : next_event job (last_state (opening job.machine) smooth.run.states) ≡ None
-  pub told : TellsEnd outcomes
+  pub told : ReportsEnd outcomes
   pub written : Appends old new (whole_text trace outcomes)
   pub reports : Reports job events outcomes report
 
@@ -154,4 +154,4 @@ pub record IsTracedOff (trace : Trace) (job : Job) (old new : Option (List ℕ))
   pub given : List Event
   pub outcomes : List Outcome
   pub smooth : IsSmoothRun job given outcomes
-  pub written : AppendsBeginning old new (whole_text trace outcomes)
+  pub written : AppendsPrefix old new (whole_text trace outcomes)

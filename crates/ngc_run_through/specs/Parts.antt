@@ -11,8 +11,8 @@ use Rattle.ngc_machine_model.specs.Stretch.{last_state, Stretch}
 use Rattle.ngc_controller.specs.Controller.{ControllerData}
 use Rattle.ngc_run_through.specs.declared.recorder.Recorder.{Recorder}
 use Rattle.ngc_run_through.specs.Policy.{next_event}
-use Rattle.ngc_run_through.specs.Stretches.{GoesBy, TellsDone}
-use Rattle.ngc_run_through.specs.Through.{IsSmoothRun, TellsEnd}
+use Rattle.ngc_run_through.specs.Stretches.{GoesBy, ReportsDone}
+use Rattle.ngc_run_through.specs.Through.{IsSmoothRun, ReportsEnd}
 
 -- ---- parts of a program
 
@@ -33,13 +33,13 @@ pub record IsPart (job : Job) (old new : State) (n : ℕ) (events : List Event)
   pub ticks : n ≡ count_by is_tick events
 
 -- parts in order
-abbrev pub GoesInParts : Job → State → List ℕ → List Event → List Outcome → State → Type 0
-GoesInParts job old [] events outcomes new = (events ≡ []) × (outcomes ≡ []) × (new ≡ old)
-GoesInParts job old (n ∷ ns) events outcomes new =
+abbrev pub RunsInParts : Job → State → List ℕ → List Event → List Outcome → State → Type 0
+RunsInParts job old [] events outcomes new = (events ≡ []) × (outcomes ≡ []) × (new ≡ old)
+RunsInParts job old (n ∷ ns) events outcomes new =
     (first : List Event) × (later : List Event) × (told : List Outcome) × (more : List Outcome) ×
     (mid : State) ×
     (events ≡ first ++ later) × (outcomes ≡ told ++ more) × IsPart job old mid n first told ×
-    GoesInParts job mid ns later more new
+    RunsInParts job mid ns later more new
 
 -- A run by itself through all commands has `n` ticks, and its parts have these `times`. The end is
 -- reported last, and no event comes next.
@@ -49,9 +49,9 @@ pub record IsTimedThrough (job : Job) (n : ℕ) (times : List ℕ) : Type 0 wher
   pub smooth : IsSmoothRun job events outcomes
   pub done : (last_state (opening job.machine) smooth.run.states).done ≡ length job.commands
   pub ended : next_event job (last_state (opening job.machine) smooth.run.states) ≡ None
-  pub told : TellsEnd outcomes
+  pub told : ReportsEnd outcomes
   pub ticks : n ≡ count_by is_tick events
-  pub parts : GoesInParts job (opening job.machine) times events outcomes
+  pub parts : RunsInParts job (opening job.machine) times events outcomes
       (last_state (opening job.machine) smooth.run.states)
 
 -- ---- intermediate results
@@ -60,12 +60,12 @@ pub record IsTimedThrough (job : Job) (n : ℕ) (times : List ℕ) : Type 0 wher
 pub record FinishesPart (count unloaded : ℕ) (old new : ControllerData) (before after : Recorder) :
     Type 0 where
   pub goes : GoesBy (count * 2 ^ 103) (min count unloaded) count old new before after None None
-  pub told : unloaded < count → TellsDone old.job new.state.done goes.outcomes
+  pub told : unloaded < count → ReportsDone old.job new.state.done goes.outcomes
 
 -- `does` more commands are done, in parts
 pub record GoesParted (n loads does : ℕ) (old new : ControllerData) (before after : Recorder)
     (parts : List ℕ) : Type 0 where
   pub goes : GoesBy n loads does old new before after None None
-  pub parted : GoesInParts old.job old.state parts goes.events goes.outcomes new.state
+  pub parted : RunsInParts old.job old.state parts goes.events goes.outcomes new.state
   pub told : 0 < does → new.state.done ≡ length old.job.commands →
-      TellsDone old.job new.state.done goes.outcomes
+      ReportsDone old.job new.state.done goes.outcomes

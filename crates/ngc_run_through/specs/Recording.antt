@@ -1,7 +1,7 @@
 -- The recorded result of a part of a run. Our own.
 use Rattle.std.specs.Prelude.{◌≡◌, ℕ, ◌+◌, ◌≤◌, List, ◌++◌, length, count_by, Option}
 use Rattle.std.specs.Io.KnownBytes.{Appends}
-use Rattle.ngc_text.specs.Written.{AppendsBeginning}
+use Rattle.ngc_text.specs.Written.{AppendsPrefix}
 use Rattle.ngc_events.specs.declared.event.Event.{Event}
 use Rattle.ngc_machine_model.specs.State.{Job, State}
 use Rattle.ngc_machine_model.specs.Step.{Outcome}
@@ -61,4 +61,4 @@ pub record IsCutShort (job : Job) (old : State) (before : Recorder) (written now
   pub outcomes : List Outcome
   pub reached : State
   pub stretch : Stretch job old reached given outcomes
-  pub begun : AppendsBeginning written now (before.chunk ++ trace_text before.trace outcomes)
+  pub begun : AppendsPrefix written now (before.chunk ++ trace_text before.trace outcomes)

@@ -4,7 +4,7 @@ use Rattle.std.specs.Prelude.{Result, Bool, true, false}
 use Rattle.std.specs.Io.KnownBytes.{Appends, Keeps}
 use Rattle.ngc_fixed_length.specs.declared.points.StepPos.{StepPos}
 use Rattle.ngc_text.specs.Failures.{Rises}
-use Rattle.ngc_text.specs.Written.{AppendsBeginning}
+use Rattle.ngc_text.specs.Written.{AppendsPrefix}
 use Rattle.ngc_events.specs.declared.event.Event.{Event}
 use Rattle.ngc_events.specs.declared.event.EventLine.{EventLine}
 use Rattle.ngc_machine_model.specs.State.{Job, State, opening}
@@ -60,15 +60,15 @@ pub record IsBrokenRun (job : Job) (lines : List EventLine) (old new : Option (L
   pub are_first : events_of lines ≡ given ++ left
   pub outcomes : List Outcome
   pub run : IsRun job given outcomes
-  pub logged : AppendsBeginning old new (log outcomes)
+  pub logged : AppendsPrefix old new (log outcomes)
 
 -- The result of a run, with the bytes of its sink where they are known. If memory runs out, nothing
 -- was written.
-abbrev pub ComesTo : Job → List EventLine → Option (List ℕ) → Option (List ℕ) →
+abbrev pub ResultsIn : Job → List EventLine → Option (List ℕ) → Option (List ℕ) →
     Result Report RunFault → Type 0
-ComesTo job lines old new (Ok report) = IsLoggedRun job lines old new report
-ComesTo job lines old new (Err (Write fault)) = IsBrokenRun job lines old new
-ComesTo job lines old new (Err Memory) = Keeps old new
+ResultsIn job lines old new (Ok report) = IsLoggedRun job lines old new report
+ResultsIn job lines old new (Err (Write fault)) = IsBrokenRun job lines old new
+ResultsIn job lines old new (Err Memory) = Keeps old new
 
 -- the sink's count of failures rose if a write failed, and is unchanged otherwise
 abbrev pub FailsByWriting : Result Report RunFault → ℕ → ℕ → Type 0

@@ -3,7 +3,7 @@ use Rattle.std.specs.Prelude.{◌≡◌, ℕ, suc, slice_get, ◌+◌, ◌-◌, 
 use Rattle.std.specs.Prelude.{◌++◌, length, count_by, Option, None, Some, Ok, Err, Bool, true}
 use Rattle.std.specs.Prelude.{false}
 use Rattle.std.specs.List.{AllByRecursion}
-use Rattle.ngc_text.specs.Written.{AppendsBeginning}
+use Rattle.ngc_text.specs.Written.{AppendsPrefix}
 use Rattle.ngc_machine_files.specs.MachineRanges.{IsMachine}
 use Rattle.ngc_commands.specs.declared.command.Action.TheVariants as actions
 use Rattle.ngc_commands.specs.declared.command.Command.{Command}
@@ -26,7 +26,7 @@ use Rattle.ngc_machine_model.specs.Stretch.{Stretch}
 use Rattle.ngc_run_through.specs.Policy.{FollowPolicy}
 use Rattle.ngc_run_through.specs.Recording.{Records}
 use Rattle.ngc_run_through.specs.Runs.{is_refusal}
-use Rattle.ngc_run_through.specs.Through.{IsLoadTickOrStart, TellsEnd}
+use Rattle.ngc_run_through.specs.Through.{IsLoadTickOrStart, ReportsEnd}
 
 -- The override is 100 percent. The loaded commands are the job's next ones, each on its path, and
 -- the finished part of the head is within bounds.
@@ -85,7 +85,7 @@ pub record IsGivenLast (event : Event) (old : ControllerData) (before : Recorder
   pub reached : State
   pub step : Step old.job old.state event outcome reached
   pub goes_on : GoesOn old.job old.state event reached
-  pub begun : AppendsBeginning written now (before.chunk ++ trace_text before.trace (outcome ∷ []))
+  pub begun : AppendsPrefix written now (before.chunk ++ trace_text before.trace (outcome ∷ []))
 
 -- ---- several events
 
@@ -117,7 +117,7 @@ pub record BreaksOff (old : ControllerData) (before : Recorder) (written now : O
   pub none_refused : count_by is_refusal outcomes ≡ 0
   pub stretch : Stretch old.job old.state reached events outcomes
   pub follows : FollowPolicy old.job old.state events stretch.states
-  pub begun : AppendsBeginning written now (before.chunk ++ trace_text before.trace outcomes)
+  pub begun : AppendsPrefix written now (before.chunk ++ trace_text before.trace outcomes)
 
 -- ---- the result of a tick
 
@@ -141,11 +141,11 @@ LeavesBy None old new = Works old new
 LeavesBy (Some ending) old new = new.stopped ≡ is_stop ending
 
 -- if the head that ended is the program's end, that is reported last
-abbrev pub TellsBy : Option Ending → List Queued → List Outcome → Type 0
-TellsBy None ring outcomes = Unit {0}
-TellsBy (Some ending) [] outcomes = Unit {0}
-TellsBy (Some ending) (l ∷ ls) outcomes =
-    l.command.action ≡ actions.End → (ending ≡ End) × TellsEnd outcomes
+abbrev pub ReportsBy : Option Ending → List Queued → List Outcome → Type 0
+ReportsBy None ring outcomes = Unit {0}
+ReportsBy (Some ending) [] outcomes = Unit {0}
+ReportsBy (Some ending) (l ∷ ls) outcomes =
+    l.command.action ≡ actions.End → (ending ≡ End) × ReportsEnd outcomes
 
 abbrev pub does_in : Option Ending → ℕ
 does_in None = 0
@@ -155,7 +155,7 @@ pub record TicksBy (old new : ControllerData) (before after : Recorder)
     (written now : Option (List ℕ)) (ending : Option Ending) : Type 0 where
   pub goes : GoesBy 1 0 (does_in ending) old new before after written now
   pub leaves : LeavesBy ending old.state new.state
-  pub tells : TellsBy ending old.state.ring goes.outcomes
+  pub tells : ReportsBy ending old.state.ring goes.outcomes
 
 -- ---- after an ending
 
@@ -166,21 +166,21 @@ pub record GoesBehind (ending : Ending) (old new : ControllerData) (before after
   pub nothing : is_stop ending ≡ false → goes.outcomes ≡ []
 
 -- the head is done
-abbrev pub TellsHead : List Queued → List Outcome → Type 0
-TellsHead [] outcomes = Unit {0}
-TellsHead (l ∷ ls) outcomes = l.command.action ≡ actions.End → TellsEnd outcomes
+abbrev pub ReportsHead : List Queued → List Outcome → Type 0
+ReportsHead [] outcomes = Unit {0}
+ReportsHead (l ∷ ls) outcomes = l.command.action ≡ actions.End → ReportsEnd outcomes
 
 pub record FinishesHead (old new : ControllerData) (before after : Recorder)
     (written now : Option (List ℕ)) : Type 0 where
   pub goes : GoesBy (2 ^ 102) 0 1 old new before after written now
-  pub told : TellsHead old.state.ring goes.outcomes
+  pub told : ReportsHead old.state.ring goes.outcomes
 
 -- the last command that is done
-abbrev pub TellsDone : Job → ℕ → List Outcome → Type 0
-TellsDone job done outcomes = (k : ℕ) (c : Command) → suc k ≡ done → command_at job k ≡ Some c →
-    c.action ≡ actions.End → TellsEnd outcomes
+abbrev pub ReportsDone : Job → ℕ → List Outcome → Type 0
+ReportsDone job done outcomes = (k : ℕ) (c : Command) → suc k ≡ done → command_at job k ≡ Some c →
+    c.action ≡ actions.End → ReportsEnd outcomes
 
 pub record Finishes (n loads does : ℕ) (old new : ControllerData) (before after : Recorder)
     (written now : Option (List ℕ)) : Type 0 where
   pub goes : GoesBy n loads does old new before after written now
-  pub told : 0 < does → TellsDone old.job new.state.done goes.outcomes
+  pub told : 0 < does → ReportsDone old.job new.state.done goes.outcomes

@@ -3,7 +3,7 @@ use Rattle.std.specs.Prelude.{◌≡◌, ℕ, List, [], ◌∷◌, ◌++◌, len
 use Rattle.std.specs.Prelude.{Err, Result}
 use Rattle.std.specs.List.{AllByRecursion}
 use Rattle.std.specs.Io.KnownBytes.{Appends, Keeps}
-use Rattle.ngc_text.specs.Written.{AppendsBeginning}
+use Rattle.ngc_text.specs.Written.{AppendsPrefix}
 use Rattle.ngc_events.specs.declared.event.Event.{Event}
 use Rattle.ngc_events.specs.declared.event.Event.TheVariants.{Load, Tick, Hold, Resume, Override}
 use Rattle.ngc_events.specs.declared.event.Event.TheVariants.{StopSwitch, Start}
@@ -38,8 +38,8 @@ pub record IsSmoothRun (job : Job) (events : List Event) (outcomes : List Outcom
   pub none_refused : count_by is_refusal outcomes ≡ 0
 
 -- the last outcome reports the program's end
-abbrev pub TellsEnd : List Outcome → Type 0
-TellsEnd outcomes =
+abbrev pub ReportsEnd : List Outcome → Type 0
+ReportsEnd outcomes =
     (before : List Outcome) × (outcomes ≡ before ++ Ok (Ticked None (Some End)) ∷ [])
 
 -- Every command is done at the end, the end is reported last, no event comes next, and what was
@@ -50,7 +50,7 @@ pub record IsLoggedThrough (job : Job) (old new : Option (List ℕ)) (report : R
   pub smooth : IsSmoothRun job events outcomes
   pub done : (last_state (opening job.machine) smooth.run.states).done ≡ length job.commands
   pub ended : next_event job (last_state (opening job.machine) smooth.run.states) ≡ None
-  pub told : TellsEnd outcomes
+  pub told : ReportsEnd outcomes
   pub logged : Appends old new (log outcomes)
   pub reports : Reports job events outcomes report
 
@@ -60,11 +60,11 @@ pub record IsBrokenOff (job : Job) (old new : Option (List ℕ)) : Type 0 where
   pub given : List Event
   pub outcomes : List Outcome
   pub smooth : IsSmoothRun job given outcomes
-  pub logged : AppendsBeginning old new (log outcomes)
+  pub logged : AppendsPrefix old new (log outcomes)
 
 -- The result of the run, with the bytes of its sink where they are known. If memory runs out,
 -- nothing was written.
-abbrev pub GoesThrough : Job → Option (List ℕ) → Option (List ℕ) → Result Report RunFault → Type 0
-GoesThrough job old new (Ok report) = IsLoggedThrough job old new report
-GoesThrough job old new (Err (Write fault)) = IsBrokenOff job old new
-GoesThrough job old new (Err Memory) = Keeps old new
+abbrev pub RunsToEnd : Job → Option (List ℕ) → Option (List ℕ) → Result Report RunFault → Type 0
+RunsToEnd job old new (Ok report) = IsLoggedThrough job old new report
+RunsToEnd job old new (Err (Write fault)) = IsBrokenOff job old new
+RunsToEnd job old new (Err Memory) = Keeps old new

@@ -1,6 +1,6 @@
 //! The text of a log.
 ghost use Rattle.std.specs.Prelude.{◌≡◌, ◌+◌, ◌≤◌, ◌++◌, length};
-ghost use Rattle.ngc_text.specs.Collected.{CHUNK_SIZE, HasLineRoom};
+ghost use Rattle.ngc_text.specs.Collected.{CHUNK_SIZE, HasSpaceForLine};
 ghost use Rattle.ngc_run_through.specs.Log.{numbered_line, ending_text, position_text, switch_text};
 ghost use Rattle.ngc_run_through.specs.Log.{text_of};
 ghost use Rattle.ngc_run_through.specs.Times.{time_text, timed_ending, timed_position, timed_text};
@@ -82,7 +82,7 @@ fn add_reply(chunk: &mut Chunk, reply: &Reply)
 /// Adds the log's text for an outcome: nothing, one line, or two lines if a command ended with the
 /// step.
 pub(crate) fn add_outcome(chunk: &mut Chunk, outcome: &Result<Reply, EventFault>)
-    requires { HasLineRoom chunk.old }
+    requires { HasSpaceForLine chunk.old }
     ensures text { chunk.new ≡ chunk.old ++ text_of outcome.now }
     ensures short { length chunk.new ≤ length chunk.old + 200 }
 {
@@ -144,7 +144,7 @@ fn add_timed_reply(chunk: &mut Chunk, ticks: u64, reply: &Reply)
 /// Adds the log's text for an outcome, as `add_outcome` does; each line begins with the number of
 /// ticks so far.
 pub(crate) fn add_timed_outcome(chunk: &mut Chunk, ticks: u64, outcome: &Result<Reply, EventFault>)
-    requires { HasLineRoom chunk.old }
+    requires { HasSpaceForLine chunk.old }
     ensures text { chunk.new ≡ chunk.old ++ timed_text ticks outcome.now }
     ensures short { length chunk.new ≤ length chunk.old + 300 }
 {

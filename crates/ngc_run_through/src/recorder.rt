@@ -5,7 +5,7 @@ ghost use Rattle.std.specs.Io.KnownBytes.{Appends};
 ghost use Rattle.ngc_events.specs.declared.event.Event.TheVariants.{Tick};
 ghost use Rattle.ngc_events.specs.declared.reply.Reply.TheVariants.{Ticked};
 ghost use Rattle.ngc_text.specs.Failures.{CountsFailure};
-ghost use Rattle.ngc_text.specs.Written.{AppendsBeginning};
+ghost use Rattle.ngc_text.specs.Written.{AppendsPrefix};
 ghost use Rattle.ngc_run_through.specs.Pauses.{paused_at};
 ghost use Rattle.ngc_run_through.specs.Recording.{HasFew, Records};
 ghost use Rattle.ngc_run_through.specs.Tracing.{last_text, opening_text, trace_text};
@@ -62,7 +62,7 @@ impl<'s> Recorder<'s> {
             (Records (event ∷ []) (outcome.now ∷ []) self.old self.new (W.written sink.old)
             (W.written sink.new)) }
         ensures fault { OnErr result
-            (AppendsBeginning (W.written sink.old) (W.written sink.new)
+            (AppendsPrefix (W.written sink.old) (W.written sink.new)
             (self.old.chunk ++ trace_text self.old.trace (outcome.now ∷ []))) }
         ensures failures { CountsFailure (W.failures sink.old) (W.failures sink.new) result }
     {
@@ -114,7 +114,7 @@ impl<'s> Recorder<'s> {
             (Appends (W.written sink.old) (W.written sink.new)
             (self.entry.chunk ++ last_text self.entry.trace)) }
         ensures fault { OnErr result
-            (AppendsBeginning (W.written sink.old) (W.written sink.new)
+            (AppendsPrefix (W.written sink.old) (W.written sink.new)
             (self.entry.chunk ++ last_text self.entry.trace)) }
         ensures failures { CountsFailure (W.failures sink.old) (W.failures sink.new) result }
     {

@@ -8,15 +8,15 @@ ghost use Rattle.ngc_commands.specs.Sequence.{COMMAND_LIMIT};
 ghost use Rattle.ngc_checker.specs.Accepted.{commands_at};
 ghost use Rattle.ngc_text.specs.Failures.{CountsFailure};
 ghost use Rattle.ngc_machine_files.specs.MachineRanges.{IsMachine};
-ghost use Rattle.ngc_run_through.specs.Forms.{GoesThroughAs, IsTracedThrough, IsTracedOff};
-ghost use Rattle.ngc_run_through.specs.Forms.{PulsesGoThrough, SamplesGoThrough, TimesGoThrough};
+ghost use Rattle.ngc_run_through.specs.Forms.{RunsToEndAs, IsTracedThrough, IsTracedOff};
+ghost use Rattle.ngc_run_through.specs.Forms.{PulsesRunToEnd, SamplesRunToEnd, TimesRunToEnd};
 ghost use Rattle.ngc_run_through.specs.Policy.{next_event};
 ghost use Rattle.ngc_run_through.specs.Recording.{HasFew};
 ghost use Rattle.ngc_run_through.specs.Runs.{FailsByWriting};
 ghost use Rattle.ngc_run_through.specs.Stretches.{IsUntouched, IsGiven, Coasts, IsGivenLast, GoesBy};
 ghost use Rattle.ngc_run_through.specs.Stretches.{BreaksOff, TicksBy, GoesBehind, FinishesHead};
 ghost use Rattle.ngc_run_through.specs.Stretches.{Finishes, ending_in, is_stop};
-ghost use Rattle.ngc_run_through.specs.Through.{GoesThrough};
+ghost use Rattle.ngc_run_through.specs.Through.{RunsToEnd};
 ghost use Rattle.ngc_run_through.specs.Tracing.{ticks_of};
 
 use crate::recorder::Recorder;
@@ -154,7 +154,7 @@ fn coast<A: Allocator + Copy>(controller: &mut Controller<ArcPath, A>, recorder:
 }
 
 // Starts again if a command ended by a stop.
-fn go_on_behind<A: Allocator + Copy, W: Sink>(
+fn continue_after<A: Allocator + Copy, W: Sink>(
     ending: Ending,
     controller: &mut Controller<ArcPath, A>,
     recorder: &mut Recorder,
@@ -203,7 +203,7 @@ fn finish_head<A: Allocator + Copy, W: Sink>(
             Err(fault) => return Err(fault),
         };
         if let Some(ending) = ended {
-            return go_on_behind(ending, controller, recorder, sink);
+            return continue_after(ending, controller, recorder, sink);
         }
         coast(controller, recorder);
     }
@@ -341,7 +341,7 @@ fn go_on<A: Allocator + Copy, W: Sink>(
 }
 
 // Goes through all `count` commands.
-fn go_through<A: Allocator + Copy, W: Sink>(
+fn run_to_end<A: Allocator + Copy, W: Sink>(
     controller: &mut Controller<ArcPath, A>,
     count: usize,
     trace: Trace<'_>,
@@ -370,14 +370,14 @@ fn go_through<A: Allocator + Copy, W: Sink>(
 }
 
 // Runs an accepted program through to its end and writes the run in a form.
-fn go_through_as<A: Allocator + Copy, W: Sink>(
+fn run_to_end_as<A: Allocator + Copy, W: Sink>(
     alloc: A,
     accepted: Accepted<A>,
     block_delete: bool,
     form: Form,
     sink: &mut W,
 ) -> Result<Report, RunFault>
-    ensures goes_through { GoesThroughAs form
+    ensures runs_to_end { RunsToEndAs form
         (job_of accepted.machine (commands_at block_delete accepted)) (W.written sink.old)
         (W.written sink.new) result }
     ensures counts { FailsByWriting result (W.failures sink.old) (W.failures sink.new) }
@@ -397,7 +397,7 @@ fn go_through_as<A: Allocator + Copy, W: Sink>(
         list: kept.as_slice(),
     };
     let trace = Trace::new(form, ticks_per_second, controller.position(), switches);
-    match go_through(&mut controller, count, trace, sink) {
+    match run_to_end(&mut controller, count, trace, sink) {
         Ok(report) => Ok(report),
         Err(fault) => Err(RunFault::Write(fault)),
     }
@@ -413,11 +413,11 @@ pub fn run_through<A: Allocator + Copy, W: Sink>(
     block_delete: bool,
     sink: &mut W,
 ) -> Result<Report, RunFault>
-    ensures goes_through { GoesThrough (job_of accepted.machine (commands_at block_delete accepted))
+    ensures runs_to_end { RunsToEnd (job_of accepted.machine (commands_at block_delete accepted))
         (W.written sink.old) (W.written sink.new) result }
     ensures counts { FailsByWriting result (W.failures sink.old) (W.failures sink.new) }
 {
-    go_through_as(alloc, accepted, block_delete, Form::Log, sink)
+    run_to_end_as(alloc, accepted, block_delete, Form::Log, sink)
 }
 
 /// Runs an accepted program through to its end as [`run_through`] does, and writes the log with
@@ -429,12 +429,12 @@ pub fn write_timed_log_through<A: Allocator + Copy, W: Sink>(
     block_delete: bool,
     sink: &mut W,
 ) -> Result<Report, RunFault>
-    ensures goes_through { TimesGoThrough
+    ensures runs_to_end { TimesRunToEnd
         (job_of accepted.machine (commands_at block_delete accepted)) (W.written sink.old)
         (W.written sink.new) result }
     ensures counts { FailsByWriting result (W.failures sink.old) (W.failures sink.new) }
 {
-    go_through_as(alloc, accepted, block_delete, Form::Times, sink)
+    run_to_end_as(alloc, accepted, block_delete, Form::Times, sink)
 }
 
 /// Runs an accepted program through to its end as [`run_through`] does, and writes the pulses of
@@ -446,12 +446,12 @@ pub fn write_pulses_through<A: Allocator + Copy, W: Sink>(
     block_delete: bool,
     sink: &mut W,
 ) -> Result<Report, RunFault>
-    ensures goes_through { PulsesGoThrough
+    ensures runs_to_end { PulsesRunToEnd
         (job_of accepted.machine (commands_at block_delete accepted)) (W.written sink.old)
         (W.written sink.new) result }
     ensures counts { FailsByWriting result (W.failures sink.old) (W.failures sink.new) }
 {
-    go_through_as(alloc, accepted, block_delete, Form::Pulses, sink)
+    run_to_end_as(alloc, accepted, block_delete, Form::Pulses, sink)
 }
 
 /// Runs an accepted program through to its end as [`run_through`] does, and writes the samples of
@@ -464,10 +464,10 @@ pub fn write_samples_through<A: Allocator + Copy, W: Sink>(
     inverted: u8,
     sink: &mut W,
 ) -> Result<Report, RunFault>
-    ensures goes_through { SamplesGoThrough inverted
+    ensures runs_to_end { SamplesRunToEnd inverted
         (job_of accepted.machine (commands_at block_delete accepted)) (W.written sink.old)
         (W.written sink.new) result }
     ensures counts { FailsByWriting result (W.failures sink.old) (W.failures sink.new) }
 {
-    go_through_as(alloc, accepted, block_delete, Form::Samples(inverted), sink)
+    run_to_end_as(alloc, accepted, block_delete, Form::Samples(inverted), sink)
 }

@@ -3,9 +3,9 @@ ghost use Rattle.std.specs.Prelude.{◌≡◌, ◌≤◌, ◌+◌, ◌^◌, ◌+
 ghost use Rattle.std.specs.Prelude.{OnErr};
 ghost use Rattle.ngc_events.specs.declared.reply.Reply.TheVariants.{Ticked};
 ghost use Rattle.ngc_machine_files.specs.Ranges.{IsRate};
-ghost use Rattle.ngc_text.specs.Collected.{HasLineRoom, WritesFront};
+ghost use Rattle.ngc_text.specs.Collected.{HasSpaceForLine, WritesPrefix};
 ghost use Rattle.ngc_text.specs.Failures.{CountsFailure};
-ghost use Rattle.ngc_text.specs.Written.{AppendsBeginning};
+ghost use Rattle.ngc_text.specs.Written.{AppendsPrefix};
 ghost use Rattle.ngc_pulses.specs.Dumping.{after_tick, closing_text, tick_text};
 ghost use Rattle.ngc_pulses.specs.Sampling.{after_samples, rest_bytes, samples_text};
 ghost use Rattle.ngc_run_through.specs.Pauses.{paused_at, trace_from};
@@ -64,7 +64,7 @@ fn rest_for(dump: &mut PulseDump, count: u64)
 // Adds a tick whose pulse leads to a position, or one without.
 fn add_tick(dump: &mut PulseDump, position: Option<StepPos>, chunk: &mut Chunk)
     requires few { dump.old.ticks ≤ 2 ^ 126 }
-    requires room { HasLineRoom chunk.old }
+    requires room { HasSpaceForLine chunk.old }
     ensures state { dump.new ≡ after_tick dump.old position }
     ensures text { chunk.new ≡ chunk.old ++ tick_text dump.old position }
 {
@@ -77,7 +77,7 @@ fn add_tick(dump: &mut PulseDump, position: Option<StepPos>, chunk: &mut Chunk)
 // Adds the changes of an outcome's tick, if it is one.
 fn add_changes(dump: &mut PulseDump, outcome: &Result<Reply, EventFault>, chunk: &mut Chunk)
     requires few { dump.old.ticks ≤ 2 ^ 126 }
-    requires room { HasLineRoom chunk.old }
+    requires room { HasSpaceForLine chunk.old }
     ensures state { dump.new ≡ dump_after dump.old (outcome.now ∷ []) }
     ensures text { chunk.new ≡ chunk.old ++ dump_text dump.old (outcome.now ∷ []) }
 {
@@ -93,14 +93,14 @@ fn write_outcome<W: Sink>(
     sink: &mut W,
 ) -> Result<(), WriteFault>
     ensures text { OnOk result
-        (WritesFront (W.written sink.old) (W.written sink.new)
+        (WritesPrefix (W.written sink.old) (W.written sink.new)
         (chunk.old ++ log (outcome.now ∷ [])) chunk.new) }
     ensures fault { OnErr result
-        (AppendsBeginning (W.written sink.old) (W.written sink.new)
+        (AppendsPrefix (W.written sink.old) (W.written sink.new)
         (chunk.old ++ log (outcome.now ∷ []))) }
     ensures failures { CountsFailure (W.failures sink.old) (W.failures sink.new) result }
 {
-    match chunk.make_room(sink) {
+    match chunk.make_space(sink) {
         Ok(()) => {}
         Err(fault) => return Err(fault),
     }
@@ -135,14 +135,14 @@ fn write_timed<W: Sink>(
 ) -> Result<(), WriteFault>
     ensures state { OnOk result (ticks.new ≡ ticks_after ticks.old (outcome.now ∷ [])) }
     ensures text { OnOk result
-        (WritesFront (W.written sink.old) (W.written sink.new)
+        (WritesPrefix (W.written sink.old) (W.written sink.new)
         (chunk.old ++ timed_log ticks.old (outcome.now ∷ [])) chunk.new) }
     ensures fault { OnErr result
-        (AppendsBeginning (W.written sink.old) (W.written sink.new)
+        (AppendsPrefix (W.written sink.old) (W.written sink.new)
         (chunk.old ++ timed_log ticks.old (outcome.now ∷ []))) }
     ensures failures { CountsFailure (W.failures sink.old) (W.failures sink.new) result }
 {
-    match chunk.make_room(sink) {
+    match chunk.make_space(sink) {
         Ok(()) => {}
         Err(fault) => return Err(fault),
     }
@@ -161,14 +161,14 @@ fn write_changes<W: Sink>(
     requires { dump.old.ticks ≤ 2 ^ 126 }
     ensures state { OnOk result (dump.new ≡ dump_after dump.old (outcome.now ∷ [])) }
     ensures text { OnOk result
-        (WritesFront (W.written sink.old) (W.written sink.new)
+        (WritesPrefix (W.written sink.old) (W.written sink.new)
         (chunk.old ++ dump_text dump.old (outcome.now ∷ [])) chunk.new) }
     ensures fault { OnErr result
-        (AppendsBeginning (W.written sink.old) (W.written sink.new)
+        (AppendsPrefix (W.written sink.old) (W.written sink.new)
         (chunk.old ++ dump_text dump.old (outcome.now ∷ []))) }
     ensures failures { CountsFailure (W.failures sink.old) (W.failures sink.new) result }
 {
-    match chunk.make_room(sink) {
+    match chunk.make_space(sink) {
         Ok(()) => {}
         Err(fault) => return Err(fault),
     }
@@ -180,14 +180,14 @@ fn write_changes<W: Sink>(
 fn close_dump<W: Sink>(dump: &PulseDump, chunk: &mut Chunk, sink: &mut W) -> Result<(), WriteFault>
     requires { dump.now.ticks ≤ 2 ^ 126 }
     ensures text { OnOk result
-        (WritesFront (W.written sink.old) (W.written sink.new)
+        (WritesPrefix (W.written sink.old) (W.written sink.new)
         (chunk.old ++ closing_text dump.now) chunk.new) }
     ensures fault { OnErr result
-        (AppendsBeginning (W.written sink.old) (W.written sink.new)
+        (AppendsPrefix (W.written sink.old) (W.written sink.new)
         (chunk.old ++ closing_text dump.now)) }
     ensures failures { CountsFailure (W.failures sink.old) (W.failures sink.new) result }
 {
-    match chunk.make_room(sink) {
+    match chunk.make_space(sink) {
         Ok(()) => {}
         Err(fault) => return Err(fault),
     }
@@ -207,10 +207,10 @@ fn write_sample<W: Sink>(
     ensures state { OnOk result
         (samples.new ≡ after_samples samples.old (sampled switch (Ok reply.now))) }
     ensures text { OnOk result
-        (WritesFront (W.written sink.old) (W.written sink.new)
+        (WritesPrefix (W.written sink.old) (W.written sink.new)
         (chunk.old ++ samples_text samples.old (sampled switch (Ok reply.now))) chunk.new) }
     ensures fault { OnErr result
-        (AppendsBeginning (W.written sink.old) (W.written sink.new)
+        (AppendsPrefix (W.written sink.old) (W.written sink.new)
         (chunk.old ++ samples_text samples.old (sampled switch (Ok reply.now)))) }
     ensures failures { CountsFailure (W.failures sink.old) (W.failures sink.new) result }
 {
@@ -232,10 +232,10 @@ fn write_tick<W: Sink>(
     ensures state { OnOk result
         (samples.new ≡ after_samples samples.old (sampled switch outcome.now)) }
     ensures text { OnOk result
-        (WritesFront (W.written sink.old) (W.written sink.new)
+        (WritesPrefix (W.written sink.old) (W.written sink.new)
         (chunk.old ++ samples_text samples.old (sampled switch outcome.now)) chunk.new) }
     ensures fault { OnErr result
-        (AppendsBeginning (W.written sink.old) (W.written sink.new)
+        (AppendsPrefix (W.written sink.old) (W.written sink.new)
         (chunk.old ++ samples_text samples.old (sampled switch outcome.now))) }
     ensures failures { CountsFailure (W.failures sink.old) (W.failures sink.new) result }
 {
@@ -290,7 +290,7 @@ impl<'s> Trace<'s> {
 
     /// Adds the text before that of the first event.
     pub(crate) fn open(&self, chunk: &mut Chunk)
-        requires { HasLineRoom chunk.old }
+        requires { HasSpaceForLine chunk.old }
         ensures { chunk.new ≡ chunk.old ++ opening_text self.now }
     {
         match self {
@@ -332,10 +332,10 @@ impl<'s> Trace<'s> {
         requires few { ticks_of self.old ≤ 2 ^ 126 }
         ensures trace { OnOk result (self.new ≡ trace_after self.old (outcome.now ∷ [])) }
         ensures text { OnOk result
-            (WritesFront (W.written sink.old) (W.written sink.new)
+            (WritesPrefix (W.written sink.old) (W.written sink.new)
             (chunk.old ++ trace_text self.old (outcome.now ∷ [])) chunk.new) }
         ensures fault { OnErr result
-            (AppendsBeginning (W.written sink.old) (W.written sink.new)
+            (AppendsPrefix (W.written sink.old) (W.written sink.new)
             (chunk.old ++ trace_text self.old (outcome.now ∷ []))) }
         ensures failures { CountsFailure (W.failures sink.old) (W.failures sink.new) result }
     {
@@ -357,10 +357,10 @@ impl<'s> Trace<'s> {
     ) -> Result<(), WriteFault>
         requires few { ticks_of self.old ≤ 2 ^ 126 }
         ensures text { OnOk result
-            (WritesFront (W.written sink.old) (W.written sink.new)
+            (WritesPrefix (W.written sink.old) (W.written sink.new)
             (chunk.old ++ last_text self.old) chunk.new) }
         ensures fault { OnErr result
-            (AppendsBeginning (W.written sink.old) (W.written sink.new)
+            (AppendsPrefix (W.written sink.old) (W.written sink.new)
             (chunk.old ++ last_text self.old)) }
         ensures failures { CountsFailure (W.failures sink.old) (W.failures sink.new) result }
     {

@@ -1,10 +1,10 @@
 -- The written part of a list of lines, when other lines follow them.
-pub mod Ahead
+pub mod SheetPrefix
 -- The remaining text, one step further.
-pub mod Steps
+pub mod RemainingText
 -- Lines of which only the warnings are written, in a style.
-pub mod Alone
+pub mod WarningsAlone
 -- Values and tables, and the trees that they represent.
 pub mod Values
 -- The lines of a file, in order.
-pub mod Seeking
+pub mod LineSearch

@@ -23,9 +23,9 @@ abbrev pub line_of : List ℕ → List ℕ
 line_of [] = []
 line_of (b ∷ bytes) = if b == 10 then [] else b ∷ line_of bytes
 
-abbrev pub behind_line : List ℕ → List ℕ
-behind_line [] = []
-behind_line (b ∷ bytes) = if b == 10 then bytes else behind_line bytes
+abbrev pub rest_after_line : List ℕ → List ℕ
+rest_after_line [] = []
+rest_after_line (b ∷ bytes) = if b == 10 then bytes else rest_after_line bytes
 
 -- the bytes after spaces and tabs
 abbrev pub unindented : List ℕ → List ℕ

@@ -6,7 +6,7 @@ mod figures;
 mod line;
 mod lines;
 mod mistake;
-mod mistake_spelling;
+mod mistake_syntax;
 mod mistaken;
 mod mistakes;
 mod quoted;

@@ -4,12 +4,12 @@ ghost use Rattle.std.specs.Io.KnownBytes.{Appends, Keeps};
 ghost use Rattle.toml.specs.Errors.{IsBlank};
 ghost use Rattle.toml.specs.View.{view};
 ghost use Rattle.ngc_text.specs.Failures.{CountsFailure};
-ghost use Rattle.ngc_text.specs.Written.{AppendsBeginning};
+ghost use Rattle.ngc_text.specs.Written.{AppendsPrefix};
 ghost use Rattle.ngc_setup_sheet.specs.Mistakes.{machine_mistake_in, tools_mistake_in, in_document};
 ghost use Rattle.ngc_setup_sheet.specs.Mistakes.{machine_mistake_text, tools_mistake_text};
 
 use crate::mistake::Mistake;
-use crate::mistake_spelling::text;
+use crate::mistake_syntax::text;
 use crate::mistakes::{machine_mistake_in, tools_mistake_in};
 use ngc_machine_files::{FileFault, read_tree};
 use ngc_text::{Sink, WriteFault};
@@ -49,7 +49,7 @@ pub fn write_machine_mistake<W: Sink>(
         (Appends (W.written sink.old) (W.written sink.new) (machine_mistake_text bytes.now fault) ⊎
         Keeps (W.written sink.old) (W.written sink.new)) }
     ensures fault { OnErr result
-        (AppendsBeginning (W.written sink.old) (W.written sink.new)
+        (AppendsPrefix (W.written sink.old) (W.written sink.new)
         (machine_mistake_text bytes.now fault)) }
     // A file with only white space and comments takes no memory.
     ensures blank { IsBlank bytes.now →
@@ -75,7 +75,7 @@ pub fn write_tools_mistake<W: Sink>(
         (Appends (W.written sink.old) (W.written sink.new) (tools_mistake_text bytes.now fault) ⊎
         Keeps (W.written sink.old) (W.written sink.new)) }
     ensures fault { OnErr result
-        (AppendsBeginning (W.written sink.old) (W.written sink.new)
+        (AppendsPrefix (W.written sink.old) (W.written sink.new)
         (tools_mistake_text bytes.now fault)) }
     ensures blank { IsBlank bytes.now →
         OnOk result (Appends (W.written sink.old) (W.written sink.new)

@@ -3,7 +3,7 @@ ghost use Rattle.std.specs.Prelude.{◌≡◌};
 ghost use Rattle.toml.specs.View.{view, items_view};
 ghost use Rattle.ngc_setup_sheet.specs.Asks.{unknown_in};
 ghost use Rattle.ngc_setup_sheet.specs.Mistakes.{keys_of, complaint, table_mistake, items_at};
-ghost use Rattle.ngc_setup_sheet.specs.Mistakes.{numbered, first_in, is_again, stands_again};
+ghost use Rattle.ngc_setup_sheet.specs.Mistakes.{numbered, first_in, is_again, is_repeated};
 ghost use Rattle.ngc_setup_sheet.specs.Mistakes.{first_again, machine_mistake_in, first_tool};
 ghost use Rattle.ngc_setup_sheet.specs.Mistakes.{tool_mistake, tools_mistake_in, first_fixture};
 
@@ -118,8 +118,8 @@ fn is_again(value: &Value, other: &Value) -> bool
     }
 }
 
-fn stands_again(value: &Value, behind: &[Value]) -> bool
-    ensures { result ≡ stands_again (view value.now) (items_view behind.now) }
+fn is_repeated(value: &Value, behind: &[Value]) -> bool
+    ensures { result ≡ is_repeated (view value.now) (items_view behind.now) }
 {
     for other in behind {
         if is_again(value, other) {
@@ -133,7 +133,7 @@ fn first_again(section: Section, values: &[Value]) -> Option<Mistake>
     ensures { result ≡ first_again section 0 (items_view values.now) }
 {
     for (i, value) in values.iter().enumerate() {
-        if stands_again(value, &values[i + 1..]) {
+        if is_repeated(value, &values[i + 1..]) {
             return Some(Mistake::Refused(numbered(section, i), Rule::NumberOnce));
         }
     }

@@ -1,7 +1,7 @@
 //! The line of a file that has a key.
 ghost use Rattle.std.specs.Prelude.{◌≡◌, ◌+◌, ◌≤◌, ◌++◌, length};
 ghost use Rattle.ngc_text.specs.Collected.{CHUNK_SIZE};
-ghost use Rattle.ngc_setup_sheet.specs.Quoted.{line_of, behind_line, lines_of, unindented};
+ghost use Rattle.ngc_setup_sheet.specs.Quoted.{line_of, rest_after_line, lines_of, unindented};
 ghost use Rattle.ngc_setup_sheet.specs.Quoted.{ends_key, begins, gives, sought, quote_from};
 ghost use Rattle.ngc_setup_sheet.specs.Quoted.{header_text, headers, quote_of};
 
@@ -11,7 +11,7 @@ use ngc_text::Chunk;
 /// Returns the first line and the bytes after it.
 fn split_line(bytes: &[u8]) -> (&[u8], &[u8])
     ensures line { result.0.now ≡ line_of bytes.now }
-    ensures behind { result.1.now ≡ behind_line bytes.now }
+    ensures behind { result.1.now ≡ rest_after_line bytes.now }
 {
     for (i, byte) in bytes.iter().enumerate() {
         if *byte == b'\n' {

@@ -2,7 +2,7 @@
 ghost use Rattle.std.specs.Prelude.{◌≡◌, ◌++◌, flat_map, OnOk, OnErr};
 ghost use Rattle.std.specs.Io.KnownBytes.{Appends};
 ghost use Rattle.ngc_text.specs.Failures.{CountsFailure};
-ghost use Rattle.ngc_text.specs.Written.{AppendsBeginning};
+ghost use Rattle.ngc_text.specs.Written.{AppendsPrefix};
 ghost use Rattle.ngc_machine_files.specs.Machine.{file_of};
 ghost use Rattle.ngc_setup_sheet.specs.Reaches.{IsReach};
 ghost use Rattle.ngc_setup_sheet.specs.Sheets.{fixture_lines, fixtures_from, tool_lines, sheet};
@@ -90,7 +90,7 @@ pub fn write_sheet<A: Allocator, W: Sink>(
         (Appends (W.written sink.old) (W.written sink.new)
         (sheet_text (file_of machine.now) tools.now)) }
     ensures fault { OnErr result
-        (AppendsBeginning (W.written sink.old) (W.written sink.new)
+        (AppendsPrefix (W.written sink.old) (W.written sink.new)
         (sheet_text (file_of machine.now) tools.now)) }
     ensures counts { CountsFailure (W.failures sink.old) (W.failures sink.new) result }
 {

@@ -1,6 +1,6 @@
 //! How lines are written.
 ghost use Rattle.std.specs.Prelude.{◌≡◌, ◌+◌, ◌≤◌, ◌++◌, codes, decimal, length};
-ghost use Rattle.ngc_text.specs.Collected.{CHUNK_SIZE, HasLineRoom};
+ghost use Rattle.ngc_text.specs.Collected.{CHUNK_SIZE, HasSpaceForLine};
 ghost use Rattle.ngc_text.specs.Millimetres.{mm_text};
 ghost use Rattle.ngc_setup_sheet.specs.Spelling.{thousandths_text, span_text, place_text};
 ghost use Rattle.ngc_setup_sheet.specs.Spelling.{system_text, origin_text, fact_text};
@@ -233,7 +233,7 @@ fn add_warning(chunk: &mut Chunk, warning: &Warning)
 
 /// Adds a line with a fact.
 fn add_fact(chunk: &mut Chunk, told: &Fact, figure: &Figure)
-    requires { HasLineRoom chunk.old }
+    requires { HasSpaceForLine chunk.old }
     ensures { chunk.new ≡ chunk.old
         ++ (fact_text told.now ++ figure_text figure.now ++ codes "\n") }
 {
@@ -243,7 +243,7 @@ fn add_fact(chunk: &mut Chunk, told: &Fact, figure: &Figure)
 }
 
 fn add_warned(chunk: &mut Chunk, warning: &Warning)
-    requires { HasLineRoom chunk.old }
+    requires { HasSpaceForLine chunk.old }
     ensures { chunk.new ≡ chunk.old
         ++ (codes "warning: " ++ warning_text warning.now ++ codes "\n") }
 {
@@ -253,7 +253,7 @@ fn add_warned(chunk: &mut Chunk, warning: &Warning)
 }
 
 fn add_warning_object(chunk: &mut Chunk, warning: &Warning)
-    requires { HasLineRoom chunk.old }
+    requires { HasSpaceForLine chunk.old }
     ensures { chunk.new ≡ chunk.old ++ warning_object warning.now }
 {
     chunk.add_text(b",\n{\"fact\":\"warning\",\"text\":\"");
@@ -262,7 +262,7 @@ fn add_warning_object(chunk: &mut Chunk, warning: &Warning)
 }
 
 fn add_warning_remark(chunk: &mut Chunk, warning: &Warning)
-    requires { HasLineRoom chunk.old }
+    requires { HasSpaceForLine chunk.old }
     ensures { chunk.new ≡ chunk.old ++ warning_remark warning.now }
 {
     chunk.add_text(b"# Warning: ");
@@ -286,7 +286,7 @@ fn add_bracketed(chunk: &mut Chunk, name: &Name)
 
 /// Adds the heading of a fixture or a tool.
 fn add_heading<I: Integer>(chunk: &mut Chunk, kind: &[u8], number: I, name: &Name)
-    requires room { HasLineRoom chunk.old }
+    requires room { HasSpaceForLine chunk.old }
     requires kind { length kind.now ≤ 20 }
     ensures { chunk.new ≡ chunk.old
         ++ (kind.now ++ I.text number ++ bracketed name.now ++ codes "\n") }
@@ -299,7 +299,7 @@ fn add_heading<I: Integer>(chunk: &mut Chunk, kind: &[u8], number: I, name: &Nam
 
 /// Adds the text of a line.
 pub(crate) fn add_line(chunk: &mut Chunk, line: &Line)
-    requires { HasLineRoom chunk.old }
+    requires { HasSpaceForLine chunk.old }
     ensures { chunk.new ≡ chunk.old ++ line_text line.now }
 {
     match line {

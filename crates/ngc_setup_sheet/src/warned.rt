@@ -2,7 +2,7 @@
 ghost use Rattle.std.specs.Prelude.{◌≡◌, ◌++◌, flat_map, OnOk, OnErr};
 ghost use Rattle.std.specs.Io.KnownBytes.{Appends};
 ghost use Rattle.ngc_text.specs.Failures.{CountsFailure};
-ghost use Rattle.ngc_text.specs.Written.{AppendsBeginning};
+ghost use Rattle.ngc_text.specs.Written.{AppendsPrefix};
 ghost use Rattle.ngc_machine_files.specs.Machine.{file_of};
 ghost use Rattle.ngc_setup_sheet.specs.Reaches.{IsReach};
 ghost use Rattle.ngc_setup_sheet.specs.Sheets.{fixtures_from, tool_lines, sheet, warnings_text};
@@ -97,7 +97,7 @@ pub fn write_warnings<A: Allocator, W: Sink>(
         (Appends (W.written sink.old) (W.written sink.new)
         (warnings_text (file_of machine.now) tools.now)) }
     ensures fault { OnErr result
-        (AppendsBeginning (W.written sink.old) (W.written sink.new)
+        (AppendsPrefix (W.written sink.old) (W.written sink.new)
         (warnings_text (file_of machine.now) tools.now)) }
     ensures counts { CountsFailure (W.failures sink.old) (W.failures sink.new) result }
 {
@@ -123,7 +123,7 @@ pub fn write_warning_facts<A: Allocator, W: Sink>(
         (Appends (W.written sink.old) (W.written sink.new)
         (warning_facts (file_of machine.now) tools.now)) }
     ensures fault { OnErr result
-        (AppendsBeginning (W.written sink.old) (W.written sink.new)
+        (AppendsPrefix (W.written sink.old) (W.written sink.new)
         (warning_facts (file_of machine.now) tools.now)) }
     ensures counts { CountsFailure (W.failures sink.old) (W.failures sink.new) result }
 {
@@ -149,7 +149,7 @@ pub fn write_warning_remarks<A: Allocator, W: Sink>(
         (Appends (W.written sink.old) (W.written sink.new)
         (warning_remarks (file_of machine.now) tools.now)) }
     ensures fault { OnErr result
-        (AppendsBeginning (W.written sink.old) (W.written sink.new)
+        (AppendsPrefix (W.written sink.old) (W.written sink.new)
         (warning_remarks (file_of machine.now) tools.now)) }
     ensures counts { CountsFailure (W.failures sink.old) (W.failures sink.new) result }
 {

@@ -1,7 +1,7 @@
 //! How lines are written.
 ghost use Rattle.std.specs.Prelude.{◌≡◌, ◌∷◌, []};
 ghost use Rattle.ngc_text.specs.Failures.{CountsFailure};
-ghost use Rattle.ngc_text.specs.Collected.{HasLineRoom};
+ghost use Rattle.ngc_text.specs.Collected.{HasSpaceForLine};
 ghost use Rattle.ngc_certificate_text.specs.Collects.{Collects};
 ghost use Rattle.ngc_setup_sheet.specs.Sheets.{is_warning, as_fact, as_remark};
 ghost use Rattle.ngc_setup_sheet.specs.Spelling.{line_text};
@@ -27,7 +27,7 @@ fn write_line<W: Sink>(chunk: &mut Chunk, line: &Line, sink: &mut W) -> Result<(
         (line_text line.now) }
     ensures counts { CountsFailure (W.failures sink.old) (W.failures sink.new) result }
 {
-    match chunk.make_room(sink) {
+    match chunk.make_space(sink) {
         Ok(()) => {}
         Err(fault) => return Err(fault),
     }

@@ -3,7 +3,7 @@ ghost use Rattle.std.specs.Prelude.{◌≡◌, List, Bool, true, false, IfOk, Ma
 ghost use Rattle.ngc_line_reader.specs.Grammar.{Reading};
 ghost use Rattle.ngc_line_reader.specs.ProgramText.{AreReadings};
 ghost use Rattle.ngc_line_reader.specs.ProgramView.{text_in};
-ghost use Rattle.ngc_canonical.specs.Meaning.{program_said};
+ghost use Rattle.ngc_canonical.specs.Meaning.{parsed_program};
 ghost use Rattle.ngc_place.specs.Marks.{AreMarks};
 ghost use Rattle.ngc_place.specs.Shifts.{IsShift};
 ghost use Rattle.ngc_shifted_program.specs.Shifted as spec;
@@ -41,7 +41,7 @@ pub fn executed_at<A: Allocator + Copy>(
 ) -> Result<Option<Job<A>>, AllocError>
     ensures { (rs : List Reading) → AreReadings (text_in program.now).lines rs →
         IfOk result (λ found. option_map (λ j. spec.executed_of j) found
-        ≡ spec.executed_at (program_said (text_in program.now) rs) job.now system by.now) }
+        ≡ spec.executed_at (parsed_program (text_in program.now) rs) job.now system by.now) }
 {
     let machine = match with_shifted_origin(alloc, job.machine(), system, by)? {
         Some(machine) => machine,
@@ -99,11 +99,11 @@ pub fn move_at<A: Allocator + Copy>(
     requires { IsShift by.now }
     ensures yes { (rs : List Reading) → AreReadings (text_in program.now).lines rs →
         IfOk result (λ yes. yes ≡ true →
-        spec.MoveAt (program_said (text_in program.now) rs) job.now system programs.entry.off
+        spec.MoveAt (parsed_program (text_in program.now) rs) job.now system programs.entry.off
         programs.entry.on by.now) }
     ensures no { (rs : List Reading) → AreReadings (text_in program.now).lines rs →
         IfOk result (λ yes. yes ≡ false →
-        spec.MoveAt (program_said (text_in program.now) rs) job.now system programs.entry.off
+        spec.MoveAt (parsed_program (text_in program.now) rs) job.now system programs.entry.off
         programs.entry.on by.now → ⊥) }
 {
     let shifted = match executed_at(alloc, program, job, system, by)? {

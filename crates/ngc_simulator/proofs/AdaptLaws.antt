@@ -15,7 +15,7 @@ use Rattle.ngc_simulator.specs.Answers.{AdaptsOn}
 use Rattle.ngc_inputs.specs.Faults.{answer_status}
 use Rattle.ngc_simulator.specs.Making.{Makes, OnDump}
 use Rattle.ngc_inputs.specs.Setups.{FileBytes, KeepsFiles}
-use Rattle.ngc_inputs.specs.Shops.{GivesShop}
+use Rattle.ngc_inputs.specs.Shops.{ShopResultIs}
 use Rattle.ngc_inputs.specs.Unread.{Input, unread_by}
 use Rattle.ngc_inputs.proofs.JobLaws.{keeps_same, if_known}
 use Rattle.ngc_inputs.proofs.SetupLaws.{on_setup, of_file}
@@ -25,7 +25,7 @@ use Rattle.ngc_line_reader.specs.ProgramText.{ProgramText, program_of, AreReadin
 use Rattle.ngc_canonical.specs.declared.fault.ProgramFault.{ProgramFault}
 use Rattle.ngc_canonical.specs.declared.fault.ProgramFault.TheVariants.{At, Memory}
 use Rattle.ngc_canonical.specs.State.{Setup}
-use Rattle.ngc_canonical.specs.Meaning.{meaning, program_said}
+use Rattle.ngc_canonical.specs.Meaning.{meaning, parsed_program}
 use Rattle.ngc_certificate_text.specs.declared.piece.Setting.{Setting}
 use Rattle.ngc_certificate_text.specs.declared.piece.Setting.TheVariants.{Off, On}
 use Rattle.ngc_job.specs.Job.{JobData, IsJobOf, IsRefusedAt, commands_in}
@@ -33,7 +33,7 @@ use Rattle.ngc_inputs.specs.declared.fault.AnswerFault.TheVariants as answers
 use Rattle.ngc_simulator.specs.Adapting.{IsUnderstood, HasFault, IsSetupFor, IsRequest, IsLeft, Adapts, AdaptsTo, AdaptFails, refused_text}
 
 abbrev is_job_understood : (setup : Setup) (bytes : List ℕ) (text : ProgramText) (j : JobData) → program_of bytes ≡ Ok text → (have : HaveReadings text.lines) →
-    IsJobOf (program_said text have.readings) setup j → IsUnderstood setup bytes
+    IsJobOf (parsed_program text have.readings) setup j → IsUnderstood setup bytes
 is_job_understood setup bytes text j is_text have job = record {
   off = j.off;
   off_means = record { text = text; is_text = is_text; readings = have.readings; are_readings = have.are; means = job.off };
@@ -44,19 +44,19 @@ is_job_understood setup bytes text j is_text have job = record {
 -- the text of a source that is known has a job
 pub understood : (setup : Setup) (known : Option (List ℕ)) (bytes : List ℕ) (text : ProgramText) (j : JobData) → known ≡ Some bytes →
     IfSome known (λ b. program_of b ≡ Ok text) → HaveReadings text.lines
-    → ((rs : List Reading) → AreReadings text.lines rs → IsJobOf (program_said text rs) setup j) → IsUnderstood setup bytes
+    → ((rs : List Reading) → AreReadings text.lines rs → IsJobOf (parsed_program text rs) setup j) → IsUnderstood setup bytes
 understood setup known bytes text j is_known is_text have job =
     is_job_understood setup bytes text j (subst (λ (k : Option (List ℕ)). IfSome k (λ b. program_of b ≡ Ok text)) is_known is_text) have
     (job have.readings have.are)
 
 refused_by : (setup : Setup) (bytes : List ℕ) (text : ProgramText) (s : Setting) (fault : ProgramFault) → program_of bytes ≡ Ok text →
     (have : HaveReadings text.lines)
-    → IsRefusedAt (program_said text have.readings) setup s fault → HasFault setup bytes (answers.Program fault)
+    → IsRefusedAt (parsed_program text have.readings) setup s fault → HasFault setup bytes (answers.Program fault)
 refused_by setup bytes text s Memory is_text have refused = record {
   block_delete = false;
   lists = (
     record {
-      says = meaning (program_said text have.readings) setup false;
+      says = meaning (parsed_program text have.readings) setup false;
       meaning = record { text = text; is_text = is_text; readings = have.readings; are_readings = have.are; means = refl };
       fails = tt;
     },
@@ -89,7 +89,7 @@ refused_by setup bytes text On (At line e) is_text have refused = record {
 -- the text of a source that is known is refused
 pub not_understood : (setup : Setup) (known : Option (List ℕ)) (bytes : List ℕ) (text : ProgramText) (s : Setting) (fault : ProgramFault) →
     known ≡ Some bytes → IfSome known (λ b. program_of b ≡ Ok text) → HaveReadings text.lines
-    → ((rs : List Reading) → AreReadings text.lines rs → IsRefusedAt (program_said text rs) setup s fault) → HasFault setup bytes (answers.Program fault)
+    → ((rs : List Reading) → AreReadings text.lines rs → IsRefusedAt (parsed_program text rs) setup s fault) → HasFault setup bytes (answers.Program fault)
 not_understood setup known bytes text s fault is_known is_text have refused =
     refused_by setup bytes text s fault (subst (λ (k : Option (List ℕ)). IfSome k (λ b. program_of b ≡ Ok text)) is_known is_text) have
     (refused have.readings have.are)
@@ -130,7 +130,7 @@ told_none fails bytes files old new why none same = subst (Told fails bytes file
 -- on the machine and the file that are named
 pub adapted_files : (bytes after : FileBytes) (options : AdaptOptions) (shop : Shop) (request : Request) (items file : List ℕ)
     (old new : Option (List ℕ)) (outcome : Result Notes AnswerFault)
-    → GivesShop bytes (option_map (λ n. n.now) options.machine) None (Ok shop) → KeepsFiles bytes after
+    → ShopResultIs bytes (option_map (λ n. n.now) options.machine) None (Ok shop) → KeepsFiles bytes after
     → IfSome (after (option_map (λ n. n.now) options.program)) (λ b. items ≡ b) → file ≡ items
     → IsRequest options (file_of shop.machine) request → Adapts (file_of shop.machine) request file old new outcome
     → AdaptsOn bytes options old new outcome

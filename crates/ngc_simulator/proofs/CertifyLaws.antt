@@ -2,7 +2,7 @@
 use Rattle.std.proofs.Common.{◌≡◌, ℕ, List, Option, true, Ok, Err, refl, ap₂, subst, sym}
 use Rattle.std.specs.Prelude.{Result}
 use Rattle.std.specs.Io.KnownBytes.{Appends}
-use Rattle.ngc_text.specs.Written.{AppendsBeginning}
+use Rattle.ngc_text.specs.Written.{AppendsPrefix}
 use Rattle.ngc_text.specs.declared.writing.WriteFault.{WriteFault}
 use Rattle.ngc_line_reader.specs.ProgramText.{ProgramText, program_of, HaveReadings}
 use Rattle.ngc_canonical.specs.State.{Setup}
@@ -10,7 +10,7 @@ use Rattle.ngc_commands.specs.declared.command.Command.{Command}
 use Rattle.ngc_certificate_text.specs.Certificate.{Entry, CertificateData}
 use Rattle.ngc_certificate_text.specs.Joined.{Item, Parted, Joined, IsJoined}
 use Rattle.ngc_certificate_text.specs.JoinedFirst.{joined_first}
-use Rattle.ngc_certificate_text.specs.Spelling.{joined_spelling, parted_spelling}
+use Rattle.ngc_certificate_text.specs.Spelling.{version_2_text, version_1_text}
 use Rattle.ngc_certificate.specs.Common.{IsCommonBeginning, IsJoinedOf}
 use Rattle.ngc_certificate.specs.declared.fault.MakeFault.TheVariants.{Memory}
 use Rattle.ngc_job.specs.Job.{JobData, commands_in}
@@ -28,19 +28,19 @@ data_of off on = record { off = off; on = on }
 -- ---- version 1
 
 pub parted_written : (format : Format) (off on : List Command) (off_entries on_entries own_off own_on : List Entry) (old new : Option (List ℕ)) → format ≡ One →
-    off_entries ≡ own_off → on_entries ≡ own_on → Appends old new (parted_spelling (data_of off_entries on_entries)) →
+    off_entries ≡ own_off → on_entries ≡ own_on → Appends old new (version_1_text (data_of off_entries on_entries)) →
     WritesForm (IsWrittenAs format off on (data_of own_off own_on)) old new (Ok tt)
 parted_written format off on off_entries on_entries own_off own_on old new is off_are on_are wrote =
     subst (λ (f : Format). WritesForm (IsWrittenAs f off on (data_of own_off own_on)) old new (Ok tt)) (sym is)
-    (Parted (data_of own_off own_on), refl, subst (λ (c : CertificateData). Appends old new (parted_spelling c)) (ap₂ data_of off_are on_are) wrote)
+    (Parted (data_of own_off own_on), refl, subst (λ (c : CertificateData). Appends old new (version_1_text c)) (ap₂ data_of off_are on_are) wrote)
 
 pub parted_stopped : (format : Format) (off on : List Command) (off_entries on_entries own_off own_on : List Entry) (old new : Option (List ℕ))
     (fault : WriteFault) → format ≡ One →
-    off_entries ≡ own_off → on_entries ≡ own_on → AppendsBeginning old new (parted_spelling (data_of off_entries on_entries)) →
+    off_entries ≡ own_off → on_entries ≡ own_on → AppendsPrefix old new (version_1_text (data_of off_entries on_entries)) →
     WritesForm (IsWrittenAs format off on (data_of own_off own_on)) old new (Err (answers.Write fault))
 parted_stopped format off on off_entries on_entries own_off own_on old new fault is off_are on_are wrote =
     subst (λ (f : Format). WritesForm (IsWrittenAs f off on (data_of own_off own_on)) old new (Err (answers.Write fault))) (sym is)
-    (Parted (data_of own_off own_on), refl, subst (λ (c : CertificateData). AppendsBeginning old new (parted_spelling c)) (ap₂ data_of off_are on_are) wrote)
+    (Parted (data_of own_off own_on), refl, subst (λ (c : CertificateData). AppendsPrefix old new (version_1_text c)) (ap₂ data_of off_are on_are) wrote)
 
 -- ---- version 2
 
@@ -50,22 +50,22 @@ joined_of off on off_entries on_entries n common joined = record { common = n; i
 
 pub joined_written : (off on : List Command) (off_entries on_entries : List Entry) (n : ℕ) (items : List Item) (old new : Option (List ℕ)) →
     IsCommonBeginning off on (data_of off_entries on_entries) n → IsJoined (joined_first n off_entries on_entries) →
-    items ≡ joined_first n off_entries on_entries → Appends old new (joined_spelling items) →
+    items ≡ joined_first n off_entries on_entries → Appends old new (version_2_text items) →
     WritesForm (IsJoinedOf off on (data_of off_entries on_entries)) old new (Ok tt)
 joined_written off on off_entries on_entries n items old new common joined are wrote = (
   Joined (joined_first n off_entries on_entries),
   joined_of off on off_entries on_entries n common joined,
-  subst (λ (l : List Item). Appends old new (joined_spelling l)) are wrote,
+  subst (λ (l : List Item). Appends old new (version_2_text l)) are wrote,
 )
 
 pub joined_stopped : (off on : List Command) (off_entries on_entries : List Entry) (n : ℕ) (items : List Item) (old new : Option (List ℕ)) (fault : WriteFault) →
     IsCommonBeginning off on (data_of off_entries on_entries) n → IsJoined (joined_first n off_entries on_entries) →
-    items ≡ joined_first n off_entries on_entries → AppendsBeginning old new (joined_spelling items) →
+    items ≡ joined_first n off_entries on_entries → AppendsPrefix old new (version_2_text items) →
     WritesForm (IsJoinedOf off on (data_of off_entries on_entries)) old new (Err (answers.Write fault))
 joined_stopped off on off_entries on_entries n items old new fault common joined are wrote = (
   Joined (joined_first n off_entries on_entries),
   joined_of off on off_entries on_entries n common joined,
-  subst (λ (l : List Item). AppendsBeginning old new (joined_spelling l)) are wrote,
+  subst (λ (l : List Item). AppendsPrefix old new (version_2_text l)) are wrote,
 )
 
 -- the same for equal commands and motions

@@ -4,7 +4,7 @@ use Rattle.std.proofs.Common.{sym, ◌∙◌, true, false}
 use Rattle.std.specs.Option.{is_some}
 use Rattle.std.specs.Prelude.{MatchOption, option_map, slice_get}
 use Rattle.std.specs.Io.KnownBytes.{Appends, Keeps}
-use Rattle.ngc_text.specs.Written.{AppendsBeginning}
+use Rattle.ngc_text.specs.Written.{AppendsPrefix}
 use Rattle.ngc_line_reader.specs.Grammar.{Reading}
 use Rattle.ngc_line_reader.specs.ProgramText.{AreReadings, ProgramText, program_of, HaveReadings}
 use Rattle.ngc_fixed_length.specs.Grid.{grid}
@@ -14,12 +14,12 @@ use Rattle.ngc_commands.specs.declared.command.Command.{Command}
 use Rattle.ngc_canonical.specs.declared.fault.ProgramFault.{ProgramFault}
 use Rattle.ngc_canonical.specs.Interpreter.{setup_of}
 use Rattle.ngc_canonical.specs.State.{Setup}
-use Rattle.ngc_canonical.specs.Meaning.{meaning, program_said, with_readings}
+use Rattle.ngc_canonical.specs.Meaning.{meaning, parsed_program, with_readings}
 use Rattle.ngc_frames.specs.Changes.{frame_changes, start_frame}
 use Rattle.ngc_frames.specs.declared.change.FrameChange.{FrameChange}
 use Rattle.ngc_frames.specs.declared.frame.Frame.{Frame}
 use Rattle.ngc_certificate_text.specs.Certificate.{CertificateData, Entry, entries_at}
-use Rattle.ngc_certificate_text.specs.Said.{certificate_said}
+use Rattle.ngc_certificate_text.specs.Said.{parsed_certificate}
 use Rattle.ngc_certificate_text.specs.declared.piece.Setting.TheVariants.{Off}
 use Rattle.ngc_certificate.specs.Made.{from_start, join_settings}
 use Rattle.ngc_certificate.specs.PieceFault.{place_fault}
@@ -37,12 +37,12 @@ use Rattle.ngc_drawing.specs.declared.origin.WorkOrigin.{WorkOrigin}
 use Rattle.ngc_drawing.specs.declared.refusal.RefusedMotion.{RefusedMotion}
 use Rattle.ngc_drawing.specs.declared.view.View.{View}
 use Rattle.ngc_simulator.specs.Answers.{DrawsFrom, certificate_input, certificate_inputs, draw_inputs, program_input}
-use Rattle.ngc_simulator.specs.Drawing.{Draws, DrawsGiven, DrawsProgram, IsFirstRefused, IsGivenRefusal, IsPicture, fault_at, origin_shown, refusal_answer, work_origin}
+use Rattle.ngc_simulator.specs.Drawing.{Draws, DrawsNamed, DrawsProgram, IsFirstRefused, IsNamedRefusal, IsPicture, fault_at, origin_shown, refusal_answer, work_origin}
 use Rattle.ngc_simulator.specs.Drawing.{look_of, setting_of}
 use Rattle.ngc_inputs.specs.Faults.{of_picture}
 use Rattle.ngc_simulator.specs.Lists.{IsMeaning, IsRefused}
 use Rattle.ngc_inputs.specs.Setups.{FileBytes, KeepsFiles, KeepsNamed}
-use Rattle.ngc_inputs.specs.Shops.{GivesPlaced}
+use Rattle.ngc_inputs.specs.Shops.{PlacedResultIs}
 use Rattle.ngc_inputs.specs.Unread.{Input, shop_inputs}
 use Rattle.ngc_inputs.specs.declared.fault.AnswerFault.{AnswerFault}
 use Rattle.ngc_inputs.specs.declared.fault.AnswerFault.TheVariants as answers
@@ -65,7 +65,7 @@ is_meaning setup bytes block_delete text says is_text have means = record {
 pub refused_program : (setup : Setup) (bytes : List ℕ) (block_delete : Bool) (text : ProgramText) (fault : ProgramFault)
     → program_of bytes ≡ Ok text → HaveReadings text.lines → FailsSo text setup block_delete fault → IsRefused setup bytes block_delete fault
 refused_program setup bytes block_delete text fault is_text have fails = record {
-  says = meaning (program_said text have.readings) setup block_delete;
+  says = meaning (parsed_program text have.readings) setup block_delete;
   meaning = record {
     text = text;
     is_text = is_text;
@@ -135,7 +135,7 @@ pub drawing_stopped : (setup : Setup) (bytes : List ℕ) (block_delete : Bool) (
     → given ≡ commands → found ≡ entries → program_of bytes ≡ Ok text → HaveReadings text.lines →
     Means text setup block_delete (Ok commands) → IsShown given refusal
     → IsInForce setup text block_delete given refusal w
-    → AppendsBeginning old new (picture_text look setup.machine given found refusal w) → (fault ≡ Memory → Keeps old new)
+    → AppendsPrefix old new (picture_text look setup.machine given found refusal w) → (fault ≡ Memory → Keeps old new)
     → Draws setup bytes block_delete look entries IsShown old new (Err (of_picture fault))
 drawing_stopped setup bytes block_delete look entries IsShown old new text commands given found refusal w Memory same same_found
     is_text have means shows force wrote keeps = keeps refl
@@ -189,9 +189,9 @@ first_of machine commands place (Some fixture) ks first at is h are said = absur
 pub given_fault : (setup : Setup) (bytes given_text : List ℕ) (block_delete : Bool) (look : Look) (known : Option (List ℕ)) (text : ProgramText)
     (commands given : List Command)
     (c : CertificateData) (fault : CheckFault)
-    → given ≡ commands → program_of bytes ≡ Ok text → HaveReadings text.lines → Means text setup block_delete (Ok commands) → certificate_said given_text ≡ Ok c
+    → given ≡ commands → program_of bytes ≡ Ok text → HaveReadings text.lines → Means text setup block_delete (Ok commands) → parsed_certificate given_text ≡ Ok c
     → Err fault ≡ refusal_answer (fault_at setup.machine (setting_of block_delete) given c)
-    → DrawsGiven setup bytes given_text block_delete look known known (Err (answers.Check fault))
+    → DrawsNamed setup bytes given_text block_delete look known known (Err (answers.Check fault))
 given_fault setup bytes given_text block_delete look known text commands given c fault same is_text have means said answers = (
   (
     commands,
@@ -204,10 +204,10 @@ given_fault setup bytes given_text block_delete look known text commands given c
 )
 
 pub given_stopped : (setup : Setup) (bytes text : List ℕ) (block_delete : Bool) (look : Look) (old new : Option (List ℕ)) (c : CertificateData)
-    (fault : DrawFault) → certificate_said text ≡ Ok c
-    → Draws setup bytes block_delete look (entries_at (setting_of block_delete) c) (IsGivenRefusal setup.machine (setting_of block_delete) c) old new
+    (fault : DrawFault) → parsed_certificate text ≡ Ok c
+    → Draws setup bytes block_delete look (entries_at (setting_of block_delete) c) (IsNamedRefusal setup.machine (setting_of block_delete) c) old new
     (Err (of_picture fault))
-    → DrawsGiven setup bytes text block_delete look old new (Err (of_picture fault))
+    → DrawsNamed setup bytes text block_delete look old new (Err (of_picture fault))
 given_stopped setup bytes text block_delete look old new c Memory said draws = (c, said, draws)
 given_stopped setup bytes text block_delete look old new c Write said draws = (c, said, draws)
 
@@ -216,13 +216,13 @@ given_stopped setup bytes text block_delete look old new c Write said draws = (c
 From : FileBytes → DrawOptions → View → Option (List ℕ) → Option (List ℕ) → Result (Unit {0}) AnswerFault → Setup → List ℕ → Option (List ℕ) → Type 0
 From bytes options view old new outcome setup text named =
     MatchOption named (DrawsProgram setup text options.delete (look_of options view) old new outcome) (λ name.
-    IfSome (bytes (Some name)) (λ given. DrawsGiven setup text given options.delete (look_of options view) old new outcome))
+    IfSome (bytes (Some name)) (λ given. DrawsNamed setup text given options.delete (look_of options view) old new outcome))
 
 -- where no certificate is named
 pub plain_files : (bytes after : FileBytes) (options : DrawOptions) (view : View) (shop : Shop) (old new : Option (List ℕ))
     (outcome : Result (Unit {0}) AnswerFault) (P : List ℕ → Type 0)
     → option_map (λ n. n.now) options.certificate ≡ None
-    → GivesPlaced bytes (Some options.machine.now) (Some options.tools.now) options.origins (Ok shop) → KeepsFiles bytes after
+    → PlacedResultIs bytes (Some options.machine.now) (Some options.tools.now) options.origins (Ok shop) → KeepsFiles bytes after
     → IfSome (after (option_map (λ n. n.now) options.program)) P
     → ((a : List ℕ) → P a → DrawsProgram (setup_of shop.machine shop.tools) a options.delete (look_of options view) old new outcome)
     → DrawsFrom bytes options view old new outcome
@@ -246,9 +246,9 @@ plain_files bytes after options view shop old new outcome P is_none said keeps p
 pub given_files : (bytes after later : FileBytes) (options : DrawOptions) (name : List ℕ) (view : View) (shop : Shop) (old new : Option (List ℕ))
     (outcome : Result (Unit {0}) AnswerFault) (P Q : List ℕ → Type 0)
     → option_map (λ n. n.now) options.certificate ≡ Some name
-    → GivesPlaced bytes (Some options.machine.now) (Some options.tools.now) options.origins (Ok shop) → KeepsFiles bytes after → KeepsNamed after later
+    → PlacedResultIs bytes (Some options.machine.now) (Some options.tools.now) options.origins (Ok shop) → KeepsFiles bytes after → KeepsNamed after later
     → IfSome (after (option_map (λ n. n.now) options.program)) P → IfSome (later (Some name)) Q
-    → ((a b : List ℕ) → P a → Q b → DrawsGiven (setup_of shop.machine shop.tools) a b options.delete (look_of options view) old new outcome)
+    → ((a b : List ℕ) → P a → Q b → DrawsNamed (setup_of shop.machine shop.tools) a b options.delete (look_of options view) old new outcome)
     → DrawsFrom bytes options view old new outcome
 unfolding From
 given_files bytes after later options name view shop old new outcome P Q is_some said keeps named p q on =
@@ -258,7 +258,7 @@ given_files bytes after later options name view shop old new outcome P Q is_some
     said.0 said.1
     (subst (λ (given : Option (List ℕ)). IfSome (bytes (option_map (λ n. n.now) options.program))
     (λ text. From bytes options view old new outcome (setup_of shop.machine shop.tools) text given)) (sym is_some)
-    (on_two_files _ _ _ _ P Q (λ a b. DrawsGiven (setup_of shop.machine shop.tools) a b options.delete (look_of options view) old new outcome)
+    (on_two_files _ _ _ _ P Q (λ a b. DrawsNamed (setup_of shop.machine shop.tools) a b options.delete (look_of options view) old new outcome)
     (keeps (option_map (λ n. n.now) options.program)) (named name ∙ keeps (Some name)) on p q))
 
 -- ---- which file isn't read

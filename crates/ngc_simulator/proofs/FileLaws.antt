@@ -13,7 +13,7 @@ use Rattle.ngc_inputs.specs.Faults.{OrOfReading}
 use Rattle.ngc_inputs.specs.Jobs.{Certifies, Checks}
 use Rattle.ngc_simulator.specs.Lists.{Lists}
 use Rattle.ngc_inputs.specs.Setups.{FileBytes, KeepsFiles, KeepsNamed}
-use Rattle.ngc_inputs.specs.Shops.{GivesPlaced}
+use Rattle.ngc_inputs.specs.Shops.{PlacedResultIs}
 use Rattle.ngc_inputs.specs.declared.fault.AnswerFault.{AnswerFault}
 use Rattle.ngc_inputs.specs.declared.fault.AnswerFault.TheVariants as answers
 use Rattle.ngc_inputs.specs.declared.setup.Shop.{Shop}
@@ -28,7 +28,7 @@ or_of_reading Of _ of = of
 
 pub listed : (bytes after : FileBytes) (options : ListOptions) (shop : Shop) (source : Option (List ℕ)) (old new : Option (List ℕ))
     (outcome : Result (Unit {0}) AnswerFault)
-    → GivesPlaced bytes (option_map (λ n. n.now) options.machine) (option_map (λ n. n.now) options.tools) options.origins (Ok shop) → KeepsFiles bytes after
+    → PlacedResultIs bytes (option_map (λ n. n.now) options.machine) (option_map (λ n. n.now) options.tools) options.origins (Ok shop) → KeepsFiles bytes after
     → source ≡ after (option_map (λ n. n.now) options.program)
     → IfSome source (λ text. Lists (setup_of shop.machine shop.tools) text options.delete old new outcome) → ListsOn bytes options old new outcome
 listed bytes after options shop source old new outcome said keeps is lists =
@@ -39,7 +39,7 @@ listed bytes after options shop source old new outcome said keeps is lists =
 
 pub certified_files : (bytes after : FileBytes) (options : CertifyOptions) (shop : Shop) (source : Option (List ℕ)) (old new : Option (List ℕ))
     (outcome : Result (Unit {0}) AnswerFault)
-    → GivesPlaced bytes (Some options.machine.now) (Some options.tools.now) options.origins (Ok shop) → KeepsFiles bytes after
+    → PlacedResultIs bytes (Some options.machine.now) (Some options.tools.now) options.origins (Ok shop) → KeepsFiles bytes after
     → source ≡ after (option_map (λ n. n.now) options.program)
     → IfSome source (λ text. Certifies (setup_of shop.machine shop.tools) text options.cuts options.format old new outcome) →
     CertifiesOn bytes options old new outcome
@@ -57,7 +57,7 @@ both_files bytes first second known source P is_first is_second p =
 
 pub checked_files : (bytes after later : FileBytes) (options : CheckOptions) (shop : Shop) (known source : Option (List ℕ)) (old new : Option (List ℕ))
     (outcome : Result (Unit {0}) AnswerFault)
-    → GivesPlaced bytes (Some options.machine.now) (Some options.tools.now) options.origins (Ok shop) → KeepsFiles bytes after → KeepsNamed after later
+    → PlacedResultIs bytes (Some options.machine.now) (Some options.tools.now) options.origins (Ok shop) → KeepsFiles bytes after → KeepsNamed after later
     → known ≡ after (option_map (λ n. n.now) options.program) → source ≡ later (Some options.certificate.now)
     → IfSome known (λ text. IfSome source (λ certificate. Checks (setup_of shop.machine shop.tools) text certificate old new outcome))
     → ChecksOn bytes options old new outcome
@@ -76,7 +76,7 @@ all_known (Some bytes) P on = on bytes
 
 -- a program that isn't read stops the run before the certificate
 pub unread_files : (bytes after : FileBytes) (options : CheckOptions) (shop : Shop) (source known : Option (List ℕ)) (fault : ReadFault)
-    → GivesPlaced bytes (Some options.machine.now) (Some options.tools.now) options.origins (Ok shop) → KeepsFiles bytes after
+    → PlacedResultIs bytes (Some options.machine.now) (Some options.tools.now) options.origins (Ok shop) → KeepsFiles bytes after
     → source ≡ after (option_map (λ n. n.now) options.program)
     → IfSome source (λ text. FaultIs fault (program_of text)) → ChecksOn bytes options known known (Err (answers.Read fault))
 unread_files bytes after options shop source known fault said keeps is unread =

@@ -3,7 +3,7 @@ mod AdaptLaws
 -- The result of listing a file, from the results of its parts.
 pub mod ListLaws
 -- The text that the second sink takes.
-pub mod Told
+pub mod ReportSink
 -- The result of a run on the files that it names, from the results of its parts.
 pub mod FileLaws
 -- The result of making a machine file, from the results of its parts.

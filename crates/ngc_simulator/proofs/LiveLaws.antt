@@ -19,7 +19,7 @@ use Rattle.ngc_inputs.specs.Faults.{FailsWith, OfLiving, of_live, of_run}
 use Rattle.ngc_inputs.specs.Judging.{IsVerdict, Verdict}
 use Rattle.ngc_simulator.specs.Lives.{Lives, LivesAt}
 use Rattle.ngc_inputs.specs.Setups.{FileBytes, KeepsFiles, KeepsNamed}
-use Rattle.ngc_inputs.specs.Shops.{GivesPlaced}
+use Rattle.ngc_inputs.specs.Shops.{PlacedResultIs}
 use Rattle.ngc_inputs.specs.declared.fault.AnswerFault.{AnswerFault}
 use Rattle.ngc_inputs.specs.declared.fault.AnswerFault.TheVariants as answers
 use Rattle.ngc_inputs.specs.declared.setup.Shop.{Shop}
@@ -93,7 +93,7 @@ output_failed (live.Write e) old new rises = rises
 
 pub lived_files : (bytes after later : FileBytes) (options : LiveOptions) (form : LiveForm) (shop : Shop) (old new : Option (List ℕ))
     (outcome : Result (Unit {0}) AnswerFault) (P Q : List ℕ → Type 0)
-    → GivesPlaced bytes (Some options.machine.now) (Some options.tools.now) options.origins (Ok shop) → KeepsFiles bytes after → KeepsNamed after later
+    → PlacedResultIs bytes (Some options.machine.now) (Some options.tools.now) options.origins (Ok shop) → KeepsFiles bytes after → KeepsNamed after later
     → IfSome (after (Some options.program.now)) P → IfSome (later (Some options.certificate.now)) Q
     → ((a b : List ℕ) → P a → Q b →
     (rest : Option (List ℕ)) × Lives form options.feed_ring (setup_of shop.machine shop.tools) a b options.delete (bytes None) rest old new outcome)

@@ -4,7 +4,7 @@ use Rattle.std.specs.Io.KnownBytes.{Keeps}
 use Rattle.ngc_machine_files.specs.Machine.{MachineFile}
 use Rattle.ngc_machine_files.specs.MachineText.{machine_file}
 use Rattle.ngc_command_line.specs.declared.options.MachineOptions.{MachineOptions}
-use Rattle.ngc_simulator.specs.Answers.{MachineComes, MakesOn}
+use Rattle.ngc_simulator.specs.Answers.{MachineResult, MakesOn}
 use Rattle.ngc_simulator.specs.Making.{AreAskedKeys, IsNotRead, IsUnmade, MakeFails, with_remarks}
 use Rattle.ngc_inputs.specs.Setups.{FileBytes}
 use Rattle.ngc_inputs.specs.Unread.{unread_by}
@@ -13,7 +13,7 @@ use Rattle.ngc_inputs.specs.declared.fault.AnswerFault.TheVariants as answers
 
 pub make_failed : (bytes : FileBytes) (options : MachineOptions) (dump : Option (List ℕ)) (old new : Option (List ℕ)) (fault : AnswerFault) →
     MakeFails options dump old new fault
-    → MakesOn bytes options old new (Err fault) → MachineComes bytes options old new (Err fault)
+    → MakesOn bytes options old new (Err fault) → MachineResult bytes options old new (Err fault)
 make_failed bytes options dump old new answers.NoFigures fails made = absurd fails
 make_failed bytes options dump old new (answers.Input e) fails made = absurd fails
 make_failed bytes options dump old new _ fails made = made

@@ -2,14 +2,14 @@
 use Rattle.std.proofs.Common.{◌≡◌, ℕ, List, Option, Some, None, Result, Ok, Err, IfSome, ap, refl, subst, sym, ◌∙◌}
 use Rattle.std.specs.Prelude.{option_map}
 use Rattle.std.specs.Io.KnownBytes.{Appends}
-use Rattle.ngc_text.specs.Written.{AppendsBeginning}
+use Rattle.ngc_text.specs.Written.{AppendsPrefix}
 use Rattle.ngc_text.specs.declared.writing.WriteFault.{WriteFault}
 use Rattle.ngc_fixed_length.specs.declared.modes.System.{System}
 use Rattle.ngc_line_reader.specs.Grammar.{Reading}
 use Rattle.ngc_line_reader.specs.ProgramText.{ProgramText, program_of, AreReadings, HaveReadings}
 use Rattle.ngc_machine_files.specs.Machine.{MachineFile}
 use Rattle.ngc_canonical.specs.Interpreter.{setup_of}
-use Rattle.ngc_canonical.specs.Meaning.{program_said}
+use Rattle.ngc_canonical.specs.Meaning.{parsed_program}
 use Rattle.ngc_canonical.specs.State.{Setup}
 use Rattle.ngc_job.specs.Job.{JobData}
 use Rattle.ngc_canonical.specs.declared.fault.ProgramFault.{ProgramFault}
@@ -22,7 +22,7 @@ use Rattle.ngc_place_report.specs.declared.placement.Here.{Here}
 use Rattle.ngc_place_report.specs.declared.placement.Placement.{Placement}
 use Rattle.ngc_inputs.specs.Jobs.{refused_at}
 use Rattle.ngc_inputs.specs.Setups.{FileBytes, KeepsFiles}
-use Rattle.ngc_inputs.specs.Shops.{GivesPlaced}
+use Rattle.ngc_inputs.specs.Shops.{PlacedResultIs}
 use Rattle.ngc_inputs.specs.declared.fault.AnswerFault.{AnswerFault}
 use Rattle.ngc_inputs.specs.declared.fault.AnswerFault.TheVariants as answers
 use Rattle.ngc_inputs.specs.declared.setup.Shop.{Shop}
@@ -35,11 +35,11 @@ use Rattle.ngc_simulator.specs.declared.place_request.PlaceRequest.{PlaceRequest
 -- a program that was read and has this job, and what was found of it
 module _ (setup : Setup) (bytes : List ℕ) (request : PlaceRequest) (text : ProgramText) (j : JobData) (here : Here) (p : Placement)
     (is_text : program_of bytes ≡ Ok text) (have : HaveReadings text.lines) (is_job : IsJobFor text setup j) (is_here : IsHere j request.cuts here)
-    (found : (rs : List Reading) → AreReadings text.lines rs → IsPlacement (program_said text rs) j request.system here request.cuts p) where
+    (found : (rs : List Reading) → AreReadings text.lines rs → IsPlacement (parsed_program text rs) j request.system here request.cuts p) where
   place_text : (machine : MachineFile) → machine ≡ j.machine → IsPlaceText setup bytes request (placement_text request.form machine request.system p)
   place_text machine is = record {
-    program = program_said text have.readings;
-    is_program = record { text = text; is_text = is_text; readings = have.readings; are_readings = have.are; is_said = refl };
+    program = parsed_program text have.readings;
+    is_program = record { text = text; is_text = is_text; readings = have.readings; are_readings = have.are; is_parsed = refl };
     job = j;
     is_job = is_job have.readings have.are;
     here = here;
@@ -54,7 +54,7 @@ module _ (setup : Setup) (bytes : List ℕ) (request : PlaceRequest) (text : Pro
   told_placed machine old new is wrote = (placement_text request.form machine request.system p, place_text machine is, wrote)
 
   pub placed_stopped : (machine : MachineFile) (old new : Option (List ℕ)) (fault : WriteFault) → machine ≡ j.machine
-      → AppendsBeginning old new (placement_text request.form machine request.system p) → PlaceWritten setup bytes request old new (Err (answers.Write fault))
+      → AppendsPrefix old new (placement_text request.form machine request.system p) → PlaceWritten setup bytes request old new (Err (answers.Write fault))
   placed_stopped machine old new fault is wrote = (placement_text request.form machine request.system p, place_text machine is, wrote)
 
 -- a program that has no job
@@ -88,7 +88,7 @@ placing_asked options system shop request source old new outcome is written =
 
 pub placed_files : (bytes after : FileBytes) (options : PlaceOptions) (system : System) (shop : Shop) (source : Option (List ℕ)) (old new : Option (List ℕ))
     (outcome : Result (Unit {0}) AnswerFault)
-    → GivesPlaced bytes (Some options.machine.now) (Some options.tools.now) options.origins (Ok shop) → KeepsFiles bytes after
+    → PlacedResultIs bytes (Some options.machine.now) (Some options.tools.now) options.origins (Ok shop) → KeepsFiles bytes after
     → source ≡ after (option_map (λ n. n.now) options.program)
     → IfSome source (λ text. PlaceWritten (setup_of shop.machine shop.tools) text (place_request options system) old new outcome)
     → PlaceWrittenOn bytes options system old new outcome

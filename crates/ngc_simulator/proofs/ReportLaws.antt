@@ -5,12 +5,12 @@ use Rattle.std.specs.Prelude.{is_some, option_map, slice_get}
 use Rattle.ngc_frames.specs.Changes.{frame_changes, start_frame}
 use Rattle.ngc_frames.specs.InForce.{frame_in_force}
 use Rattle.std.specs.Io.KnownBytes.{Appends, Keeps}
-use Rattle.ngc_text.specs.Written.{AppendsBeginning}
+use Rattle.ngc_text.specs.Written.{AppendsPrefix}
 use Rattle.ngc_text.specs.declared.writing.WriteFault.{WriteFault}
 use Rattle.ngc_line_reader.specs.Grammar.{Reading}
 use Rattle.ngc_line_reader.specs.ProgramText.{ProgramText, program_of, AreReadings, HaveReadings}
 use Rattle.ngc_canonical.specs.Interpreter.{setup_of}
-use Rattle.ngc_canonical.specs.Meaning.{Program as ProgramLines, has_deleted, program_said, with_readings}
+use Rattle.ngc_canonical.specs.Meaning.{Program as ProgramLines, has_deleted, parsed_program, with_readings}
 use Rattle.ngc_canonical.specs.State.{Setup}
 use Rattle.ngc_commands.specs.declared.command.Command.{Command}
 use Rattle.ngc_canonical.specs.declared.fault.Fault.{Fault}
@@ -36,7 +36,7 @@ use Rattle.ngc_program_report.specs.Texts.{commands_of, fault_text, fits_text, i
 use Rattle.ngc_program_report.specs.declared.request.ReportRequest.{ReportRequest}
 use Rattle.ngc_certificate.specs.Uncleared.{AreUncleared}
 use Rattle.ngc_inputs.specs.Setups.{FileBytes, KeepsFiles}
-use Rattle.ngc_inputs.specs.Shops.{GivesPlaced}
+use Rattle.ngc_inputs.specs.Shops.{PlacedResultIs}
 use Rattle.ngc_report.specs.declared.report_fault.ReportFault.{ReportFault}
 use Rattle.ngc_report.specs.declared.report_fault.ReportFault.TheVariants as faults
 use Rattle.ngc_program_report.specs.JobReports.{FailsByWriting}
@@ -52,7 +52,7 @@ use Rattle.ngc_inputs.proofs.SetupLaws.{of_file, on_placed}
 -- the reports of a program that was read and has this job
 module _ (setup : Setup) (bytes : List ℕ) (request : ReportRequest) (text : ProgramText) (j : JobData) (is_text : program_of bytes ≡ Ok text)
     (have : HaveReadings text.lines) (is_job : IsJobFor text setup j) where
-  abbrev the_job : IsJobOf (program_said text have.readings) setup j
+  abbrev the_job : IsJobOf (parsed_program text have.readings) setup j
   the_job = is_job have.readings have.are
 
   same_setup : setup_in j ≡ setup
@@ -60,8 +60,8 @@ module _ (setup : Setup) (bytes : List ℕ) (request : ReportRequest) (text : Pr
     the_setup : MachineFile → List Tool → Setup
     the_setup m tools = record { machine = m; tools = tools }
 
-  frames_as : (s : Setting) (h : History) → IsHistoryAt j s text.lines h → h ≡ frames_of setup (program_said text have.readings).lines s
-  frames_as s h is = is have.readings have.are ∙ ap (λ (of : Setup). frames_of of (program_said text have.readings).lines s) same_setup
+  frames_as : (s : Setting) (h : History) → IsHistoryAt j s text.lines h → h ≡ frames_of setup (parsed_program text have.readings).lines s
+  frames_as s h is = is have.readings have.are ∙ ap (λ (of : Setup). frames_of of (parsed_program text have.readings).lines s) same_setup
 
   fit_report : (c : CertificateData) (t : List ℕ) → IsMadeOf j request.cuts c → IsFitText j c request.form request.origins text.lines t → IsFitReport setup bytes request t
   fit_report c t made is = record {
@@ -74,9 +74,9 @@ module _ (setup : Setup) (bytes : List ℕ) (request : ReportRequest) (text : Pr
     tells = is.tells
         ∙ ap (λ (d : Bool). fits_text request.form request.origins d (setup_in j) j.off (commands_in true j) c is.off_time is.on_time
         is.off_frames is.on_frames text.lines) the_job.apart
-        ∙ ap (λ (s : Setup). fits_text request.form request.origins (has_deleted (program_said text have.readings).lines) s j.off (commands_in true j) c
+        ∙ ap (λ (s : Setup). fits_text request.form request.origins (has_deleted (parsed_program text have.readings).lines) s j.off (commands_in true j) c
         is.off_time is.on_time is.off_frames is.on_frames text.lines) same_setup
-        ∙ ap₂ (λ (off_h on_h : History). fits_text request.form request.origins (has_deleted (program_said text have.readings).lines) setup j.off
+        ∙ ap₂ (λ (off_h on_h : History). fits_text request.form request.origins (has_deleted (parsed_program text have.readings).lines) setup j.off
         (commands_in true j) c is.off_time is.on_time off_h on_h text.lines)
         (frames_as Off is.off_frames is.off_executed) (frames_as On is.on_frames is.on_executed);
   }
@@ -117,7 +117,7 @@ module _ (setup : Setup) (bytes : List ℕ) (request : ReportRequest) (text : Pr
     tells = is.tells
         ∙ ap (λ (cs : List Command). refusal_text request.form request.origins (is_some j.on) s j.machine cs k text.lines is.frame) (at_setting s)
         ∙ ap (λ (d : Bool). refusal_text request.form request.origins d s j.machine (commands_of s j.off (commands_in true j)) k text.lines is.frame) the_job.apart
-        ∙ ap (λ (m : MachineFile). refusal_text request.form request.origins (has_deleted (program_said text have.readings).lines) s m
+        ∙ ap (λ (m : MachineFile). refusal_text request.form request.origins (has_deleted (parsed_program text have.readings).lines) s m
         (commands_of s j.off (commands_in true j)) k text.lines is.frame) the_job.machine;
   }
 
@@ -136,9 +136,9 @@ module _ (setup : Setup) (bytes : List ℕ) (request : ReportRequest) (text : Pr
     on_begins = λ start. is.on_begins (subst IsStartClear (sym the_job.machine) start);
     tells = is.tells
         ∙ ap (λ (d : Bool). refusals_text request.form request.origins d j.machine j.off (commands_in true j) is.off_frames is.on_frames is.off_ks is.on_ks) the_job.apart
-        ∙ ap (λ (m : MachineFile). refusals_text request.form request.origins (has_deleted (program_said text have.readings).lines) m j.off (commands_in true j)
+        ∙ ap (λ (m : MachineFile). refusals_text request.form request.origins (has_deleted (parsed_program text have.readings).lines) m j.off (commands_in true j)
         is.off_frames is.on_frames is.off_ks is.on_ks) the_job.machine
-        ∙ ap₂ (λ (off_h on_h : History). refusals_text request.form request.origins (has_deleted (program_said text have.readings).lines) setup.machine j.off
+        ∙ ap₂ (λ (off_h on_h : History). refusals_text request.form request.origins (has_deleted (parsed_program text have.readings).lines) setup.machine j.off
         (commands_in true j) off_h on_h is.off_ks is.on_ks)
         (frames_as Off is.off_frames is.off_executed) (frames_as On is.on_frames is.on_executed);
   }
@@ -165,15 +165,15 @@ same_text bytes text program is_text is = cc (sym is_text ∙ is.is_text)
 
 -- what holds of a text's program with each of its readings holds of the program that a file's text is
 of_program : (bytes : List ℕ) (text : ProgramText) (program : ProgramLines) (P : ProgramLines → Type 0) → program_of bytes ≡ Ok text → IsProgram bytes program
-    → ((rs : List Reading) → AreReadings text.lines rs → P (program_said text rs)) → P program
+    → ((rs : List Reading) → AreReadings text.lines rs → P (parsed_program text rs)) → P program
 of_program bytes text program P is_text is on =
     let same : text ≡ is.text = same_text bytes text program is_text is in
-    subst P (sym is.is_said)
-    (subst (λ (t : ProgramText). (rs : List Reading) → AreReadings t.lines rs → P (program_said t rs)) same on is.readings is.are_readings)
+    subst P (sym is.is_parsed)
+    (subst (λ (t : ProgramText). (rs : List Reading) → AreReadings t.lines rs → P (parsed_program t rs)) same on is.readings is.are_readings)
 
 -- whether a line begins with `/`
 abbrev pub Finds : ProgramText → Bool → Type 0
-Finds text found = (rs : List Reading) → AreReadings text.lines rs → found ≡ has_deleted (program_said text rs).lines
+Finds text found = (rs : List Reading) → AreReadings text.lines rs → found ≡ has_deleted (parsed_program text rs).lines
 
 -- ---- a program that is refused
 
@@ -203,9 +203,9 @@ module _ (setup : Setup) (bytes : List ℕ) (request : ReportRequest) (text : Pr
   )
 
   pub rejection_stopped : (found : Bool) (e : Fault) (old new : Option (List ℕ)) (stopped : WriteFault) → fault ≡ programs.At number e → Finds text found
-      → AppendsBeginning old new (rejection_text request.form request.origins found s number e text.lines) → Reports setup bytes request old new (Err (answers.Write stopped))
+      → AppendsPrefix old new (rejection_text request.form request.origins found s number e text.lines) → Reports setup bytes request old new (Err (answers.Write stopped))
   rejection_stopped found e old new stopped is is_found wrote =
-      (whole_rejection, inr (inr (s, fault, rejection)), subst (AppendsBeginning old new) (rejection_is found e is is_found) wrote)
+      (whole_rejection, inr (inr (s, fault, rejection)), subst (AppendsPrefix old new) (rejection_is found e is is_found) wrote)
 
 -- a program that has no job: memory ran out, and nothing is written, or it is refused at a line
 pub rejected : (setup : Setup) (bytes : List ℕ) (request : ReportRequest) (text : ProgramText) (s : Setting) (fault : ProgramFault) (told : AnswerFault)
@@ -239,7 +239,7 @@ asked options shop request source old new outcome is reports =
 
 pub reported_files : (bytes after : FileBytes) (options : ReportOptions) (shop : Shop) (source : Option (List ℕ)) (old new : Option (List ℕ))
     (outcome : Result (Unit {0}) AnswerFault)
-    → GivesPlaced bytes (Some options.machine.now) (Some options.tools.now) options.origins (Ok shop) → KeepsFiles bytes after
+    → PlacedResultIs bytes (Some options.machine.now) (Some options.tools.now) options.origins (Ok shop) → KeepsFiles bytes after
     → source ≡ after (option_map (λ n. n.now) options.program)
     → IfSome source (λ text. Reports (setup_of shop.machine shop.tools) text (request_of options) old new outcome) → ReportsOn bytes options old new outcome
 reported_files bytes after options shop source old new outcome said keeps is reports =

@@ -5,8 +5,8 @@ use Rattle.ngc_canonical.specs.Interpreter.{setup_of}
 use Rattle.ngc_canonical.specs.Meaning.{Program as ProgramLines, meaning}
 use Rattle.ngc_canonical.specs.State.{Setup}
 use Rattle.ngc_certificate_text.specs.Certificate.{CertificateData}
-use Rattle.ngc_certificate_text.specs.Given.{GivesCertificate}
-use Rattle.ngc_certificate_text.specs.Said.{certificate_said}
+use Rattle.ngc_certificate_text.specs.Given.{CertificateResultIs}
+use Rattle.ngc_certificate_text.specs.Said.{parsed_certificate}
 use Rattle.ngc_certificate_text.specs.declared.certificate.Certificate.{Certificate}
 use Rattle.ngc_certificate_text.specs.declared.fault.CertificateFault.{CertificateFault}
 use Rattle.ngc_certificate_text.specs.declared.fault.CertificateFault.TheVariants as certificates
@@ -14,8 +14,8 @@ use Rattle.ngc_checker.specs.Accepted.{AcceptedData, Answers, Keeps as CheckerKe
 use Rattle.ngc_checker.specs.declared.fault.CheckFault.{CheckFault}
 use Rattle.ngc_command_line.specs.declared.options.RunOptions.{RunOptions}
 use Rattle.ngc_command_line.specs.declared.options.RunThroughOptions.{RunThroughOptions}
-use Rattle.ngc_events.specs.Events.{events_said}
-use Rattle.ngc_events.specs.Given.{GivesEvents}
+use Rattle.ngc_events.specs.Events.{parsed_events}
+use Rattle.ngc_events.specs.Given.{EventsResultIs}
 use Rattle.ngc_events.specs.declared.event.EventLine.{EventLine}
 use Rattle.ngc_events.specs.declared.fault.EventsFault.{EventsFault}
 use Rattle.ngc_events.specs.declared.fault.EventsFault.TheVariants as texts
@@ -30,7 +30,7 @@ use Rattle.ngc_inputs.specs.Jobs.{IsNoCertificate}
 use Rattle.ngc_inputs.specs.Judging.{IsVerdict, Verdict}
 use Rattle.ngc_simulator.specs.Running.{IsAcceptedJob, RunsOver, RunsWhole, AreNoEvents, Runs, RunsThrough, RecordsRun, RecordsThrough}
 use Rattle.ngc_inputs.specs.Setups.{FileBytes, KeepsFiles, KeepsNamed}
-use Rattle.ngc_inputs.specs.Shops.{GivesPlaced}
+use Rattle.ngc_inputs.specs.Shops.{PlacedResultIs}
 use Rattle.ngc_inputs.specs.declared.fault.AnswerFault.{AnswerFault}
 use Rattle.ngc_inputs.specs.declared.fault.AnswerFault.TheVariants as answers
 use Rattle.ngc_program_report.specs.declared.run_time.RunTime.{RunTime}
@@ -40,21 +40,21 @@ use Rattle.ngc_inputs.proofs.SetupLaws.{on_placed}
 
 -- ---- of the verdict on two files, and of events
 
-no_events : (A : Type 0) (events : List ℕ) (fault : EventsFault) → GivesEvents {A = A} (Err fault) (events_said events) → AreNoEvents events fault
+no_events : (A : Type 0) (events : List ℕ) (fault : EventsFault) → EventsResultIs {A = A} (Err fault) (parsed_events events) → AreNoEvents events fault
 no_events A events (texts.BadLine line) says = says
 no_events A events texts.TooManyLines says = says
 no_events A events texts.Memory says = tt
 
 pub events_refused : (A : Type 0) (writing : Writing) (setup : Setup) (bytes text events : List ℕ) (block_delete : Bool) (known : Option (List ℕ))
     (verdict : Verdict) (fault : EventsFault)
-    → IsVerdict setup bytes text verdict → GivesEvents {A = A} (Err fault) (events_said events)
+    → IsVerdict setup bytes text verdict → EventsResultIs {A = A} (Err fault) (parsed_events events)
     → Runs writing setup bytes text events block_delete known known (Err (answers.Events fault))
 events_refused A writing setup bytes text events block_delete known verdict fault is says =
     (((is.program, is.certificate, is.given), no_events A events fault says), keeps_same known)
 
 pub run_refused : (writing : Writing) (setup : Setup) (bytes text events : List ℕ) (block_delete : Bool) (known : Option (List ℕ))
     (lines : List EventLine) (verdict : Verdict) (fault : CheckFault)
-    → IsVerdict setup bytes text verdict → verdict ≡ Err fault → events_said events ≡ Ok lines
+    → IsVerdict setup bytes text verdict → verdict ≡ Err fault → parsed_events events ≡ Ok lines
     → Runs writing setup bytes text events block_delete known known (Err (answers.Check fault))
 run_refused writing setup bytes text events block_delete known lines verdict fault is refuses are_lines = (
   record {
@@ -88,7 +88,7 @@ accepted_job setup bytes text block_delete verdict a is accepts =
 
 pub ran_over : (writing : Writing) (setup : Setup) (bytes text events : List ℕ) (block_delete : Bool) (old new : Option (List ℕ))
     (lines given_lines : List EventLine) (verdict : Verdict) (a : AcceptedData) (result : Result Report RunFault)
-    → IsVerdict setup bytes text verdict → verdict ≡ Ok a → events_said events ≡ Ok lines
+    → IsVerdict setup bytes text verdict → verdict ≡ Ok a → parsed_events events ≡ Ok lines
     → given_lines ≡ lines → RecordsRun writing (job_of a.machine (commands_at block_delete a)) given_lines old new result
     → RunsOver writing setup bytes text events block_delete old new result
 ran_over writing setup bytes text events block_delete old new lines given_lines verdict a result is accepts are_lines same comes = record {
@@ -114,7 +114,7 @@ run_over writing setup bytes text events slice items block_delete old new outcom
     subst (λ es. Runs writing setup bytes text es block_delete old new outcome) (same ∙ read) runs
 
 pub no_certificate : (A : Type 0) (view : Certificate A → CertificateData) (text : List ℕ) (fault : CertificateFault) →
-    GivesCertificate view (Err fault) (certificate_said text)
+    CertificateResultIs view (Err fault) (parsed_certificate text)
     → IsNoCertificate text fault
 no_certificate A view text certificates.WrongHeader says = says
 no_certificate A view text (certificates.BadLine line) says = says
@@ -149,7 +149,7 @@ on_files first second third known source events P Q R S is_first is_second is_th
 -- of what was read: the shop, then the program, the certificate and the events
 pub ran_files : (bytes after later last : FileBytes) (options : RunOptions) (writing : Writing) (shop : Shop) (old new : Option (List ℕ)) (outcome : Result Report AnswerFault)
     (P Q R : List ℕ → Type 0)
-    → GivesPlaced bytes (Some options.machine.now) (Some options.tools.now) options.origins (Ok shop) → KeepsFiles bytes after → KeepsNamed after later → KeepsFiles later last
+    → PlacedResultIs bytes (Some options.machine.now) (Some options.tools.now) options.origins (Ok shop) → KeepsFiles bytes after → KeepsNamed after later → KeepsFiles later last
     → IfSome (after (option_map (λ n. n.now) options.program)) P → IfSome (later (Some options.certificate.now)) Q → IfSome (last (Some options.events.now)) R
     → ((a b e : List ℕ) → P a → Q b → R e → Runs writing (setup_of shop.machine shop.tools) a b e options.delete old new outcome)
     → RunsOn bytes options writing old new outcome
@@ -188,7 +188,7 @@ pub went_through : (writing : Writing) (setup : Setup) (bytes text : List ℕ) (
 went_through writing setup bytes text block_delete old new verdict a result is accepts goes = record {
   job = job_of a.machine (commands_at block_delete a);
   accepted = accepted_job setup bytes text block_delete verdict a is accepts;
-  goes_through = goes;
+  runs_to_end = goes;
 }
 
 pub through_failed : (writing : Writing) (setup : Setup) (bytes text : List ℕ) (block_delete : Bool) (old new : Option (List ℕ)) (fault : RunFault)
@@ -214,7 +214,7 @@ on_two_files first second known source P Q S is_first is_second on p q =
 -- of what was read: the shop, then the program and the certificate
 pub went_files : (bytes after later : FileBytes) (options : RunThroughOptions) (writing : Writing) (shop : Shop) (old new : Option (List ℕ)) (outcome : Result Report AnswerFault)
     (P Q : List ℕ → Type 0)
-    → GivesPlaced bytes (Some options.machine.now) (Some options.tools.now) options.origins (Ok shop) → KeepsFiles bytes after → KeepsNamed after later
+    → PlacedResultIs bytes (Some options.machine.now) (Some options.tools.now) options.origins (Ok shop) → KeepsFiles bytes after → KeepsNamed after later
     → IfSome (after (option_map (λ n. n.now) options.program)) P → IfSome (later (Some options.certificate.now)) Q
     → ((a b : List ℕ) → P a → Q b → RunsThrough writing (setup_of shop.machine shop.tools) a b options.delete old new outcome)
     → RunsThroughOn bytes options writing old new outcome
@@ -229,7 +229,7 @@ went_files bytes after later options writing shop old new outcome P Q said keeps
 
 -- the time that is reported for it
 pub run_timed : (bytes : FileBytes) (options : RunThroughOptions) (shop : Shop) (report : Report) (time : RunTime)
-    → GivesPlaced bytes (Some options.machine.now) (Some options.tools.now) options.origins (Ok shop)
+    → PlacedResultIs bytes (Some options.machine.now) (Some options.tools.now) options.origins (Ok shop)
     → time.ticks ≡ report.ticks → time.ticks_per_second ≡ shop.machine.ticks_per_second → IsTimeOn bytes options report time
 run_timed bytes options shop report time said ticks per_second =
     on_placed bytes (Some options.machine.now) (Some options.tools.now) options.origins (setup_of shop.machine shop.tools) (λ setup. IsTimeOf setup report time)

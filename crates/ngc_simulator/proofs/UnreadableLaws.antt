@@ -2,7 +2,7 @@
 use Rattle.std.proofs.Common.{◌≡◌, ℕ, List, ◌++◌, Option, Some, None, true, Result, Ok, Err, IfSome, ap, inl, inr, subst, sym, ◌∙◌}
 use Rattle.std.specs.Prelude.{IsSome, option_map}
 use Rattle.std.specs.Io.KnownBytes.{Appends, Keeps}
-use Rattle.ngc_text.specs.Written.{AppendsBeginning}
+use Rattle.ngc_text.specs.Written.{AppendsPrefix}
 use Rattle.ngc_text.specs.declared.writing.WriteFault.{WriteFault}
 use Rattle.ngc_canonical.specs.Interpreter.{setup_of}
 use Rattle.ngc_command_line.specs.declared.options.ReportOptions.{ReportOptions}
@@ -10,13 +10,13 @@ use Rattle.ngc_line_reader.specs.ProgramText.{program_of}
 use Rattle.ngc_line_reader.specs.ProgramView.{FaultIs}
 use Rattle.ngc_line_reader.specs.declared.program.fault.ReadFault.{ReadFault}
 use Rattle.ngc_report.specs.declared.form.Form.{Form}
-use Rattle.ngc_simulator.specs.AllFaults.{TellsFaults}
-use Rattle.ngc_simulator.specs.Answers.{ReportComes, ReportsOn, UnreadableOn, form_asked, request_of}
+use Rattle.ngc_simulator.specs.AllFaults.{ReportsFaults}
+use Rattle.ngc_simulator.specs.Answers.{ReportResult, ReportsOn, UnreadableOn, requested_form, request_of}
 use Rattle.ngc_inputs.specs.Faults.{OfCertifying, OfTelling}
 use Rattle.ngc_simulator.specs.Reporting.{Reports}
 use Rattle.ngc_inputs.specs.Setups.{FileBytes, KeepsFiles}
-use Rattle.ngc_inputs.specs.Shops.{GivesPlaced}
-use Rattle.ngc_simulator.specs.Unreadable.{TellsUnreadable, is_of_text, unreadable_text}
+use Rattle.ngc_inputs.specs.Shops.{PlacedResultIs}
+use Rattle.ngc_simulator.specs.Unreadable.{ReportsUnreadableFile, is_of_text, unreadable_text}
 use Rattle.ngc_inputs.specs.declared.fault.AnswerFault.{AnswerFault}
 use Rattle.ngc_inputs.specs.declared.fault.AnswerFault.TheVariants as answers
 use Rattle.ngc_inputs.specs.declared.setup.Shop.{Shop}
@@ -38,7 +38,7 @@ kept_keeps (Some xs) (Some ys) None kept again = absurd again
 kept_keeps (Some xs) (Some ys) (Some zs) kept again = again ∙ kept
 
 tells_behind : (form : Form) (name : Option (List ℕ)) (bytes : List ℕ) (old mid new : Option (List ℕ)) (answer : AnswerFault)
-    → Keeps old mid → TellsUnreadable form name bytes mid new answer → TellsUnreadable form name bytes old new answer
+    → Keeps old mid → ReportsUnreadableFile form name bytes mid new answer → ReportsUnreadableFile form name bytes old new answer
 tells_behind form name bytes old mid new (answers.Read e) kept (is, inl again) = (is, inl (kept_keeps old mid new kept again))
 tells_behind form name bytes old mid new (answers.Read e) kept (is, inr (named, of_text, wrote)) =
     (is, inr (named, of_text, kept_appends old mid new _ kept wrote))
@@ -50,20 +50,20 @@ tells_behind form name bytes old mid new _ kept tells = absurd tells
 
 -- where its bytes are known and the fault is theirs
 abbrev pub TellsKnown : Form → Option (List ℕ) → Option (List ℕ) → Option (List ℕ) → Option (List ℕ) → ReadFault → AnswerFault → Type 0
-TellsKnown form name known old new fault answer = IfSome known (λ bytes. FaultIs fault (program_of bytes) → TellsUnreadable form name bytes old new answer)
+TellsKnown form name known old new fault answer = IfSome known (λ bytes. FaultIs fault (program_of bytes) → ReportsUnreadableFile form name bytes old new answer)
 
 pub told_begun : (form : Form) (name known : Option (List ℕ)) (items slice : List ℕ) (old new : Option (List ℕ)) (fault : ReadFault) (stopped : WriteFault) →
     slice ≡ items → IfSome known (λ bytes. items ≡ bytes)
-    → IsSome name → is_of_text fault ≡ true → AppendsBeginning old new (unreadable_text form fault slice) →
+    → IsSome name → is_of_text fault ≡ true → AppendsPrefix old new (unreadable_text form fault slice) →
     TellsKnown form name known old new fault (answers.Write stopped)
 told_begun form name known items slice old new fault stopped same read named of_text wrote =
-    carried known items slice (λ bytes. FaultIs fault (program_of bytes) → TellsUnreadable form name bytes old new (answers.Write stopped)) same read
+    carried known items slice (λ bytes. FaultIs fault (program_of bytes) → ReportsUnreadableFile form name bytes old new (answers.Write stopped)) same read
     (λ is. (fault, named, of_text, is, wrote))
 
 -- ---- on the files that the command line names
 
 module _ (bytes after : FileBytes) (options : ReportOptions) (shop : Shop) (source old : Option (List ℕ))
-    (said : GivesPlaced bytes (Some options.machine.now) (Some options.tools.now) options.origins (Ok shop)) (keeps : KeepsFiles bytes after)
+    (said : PlacedResultIs bytes (Some options.machine.now) (Some options.tools.now) options.origins (Ok shop)) (keeps : KeepsFiles bytes after)
     (is_source : source ≡ after (option_map (λ n. n.now) options.program)) where
   abbrev Known : (List ℕ → Type 0) → Type 0
   Known P = IfSome (bytes (option_map (λ n. n.now) options.program)) P
@@ -80,7 +80,7 @@ module _ (bytes after : FileBytes) (options : ReportOptions) (shop : Shop) (sour
       (λ setup. Known (λ text. Reports setup text (request_of options) old new outcome)) said.0 said.1 reports
 
   abbrev Tells : Option (List ℕ) → AnswerFault → List ℕ → Type 0
-  Tells new answer text = TellsUnreadable (form_asked options.json) (option_map (λ n. n.now) options.program) text old new answer
+  Tells new answer text = ReportsUnreadableFile (requested_form options.json) (option_map (λ n. n.now) options.program) text old new answer
 
   unreadable_on : (new : Option (List ℕ)) (answer : AnswerFault) → Known (Tells new answer) → UnreadableOn bytes options old new answer
   unreadable_on new answer tells =
@@ -89,7 +89,7 @@ module _ (bytes after : FileBytes) (options : ReportOptions) (shop : Shop) (sour
 
   -- where nothing is written besides the report
   pub reported_comes : (new : Option (List ℕ)) (fault : AnswerFault) → OfCertifying fault → IfSome source (Reported new (Err fault)) →
-      ReportComes bytes options old new (Err fault)
+      ReportResult bytes options old new (Err fault)
   reported_comes new (answers.Read e) of reports =
       inr (inr (inl (
         tt,
@@ -107,29 +107,29 @@ module _ (bytes after : FileBytes) (options : ReportOptions) (shop : Shop) (sour
   -- where the fault of the program is written
   pub told_comes : (later : FileBytes) (name : List ℕ) (mid new : Option (List ℕ)) (fault : ReadFault) (answer : AnswerFault) → OfTelling answer
       → option_map (λ n. n.now) options.program ≡ Some name → KeepsFiles after later → IfSome source (Reported mid (Err (answers.Read fault)))
-      → TellsKnown (form_asked options.json) (Some name) (later (Some name)) mid new fault answer → ReportComes bytes options old new (Err answer)
+      → TellsKnown (requested_form options.json) (Some name) (later (Some name)) mid new fault answer → ReportResult bytes options old new (Err answer)
   told_comes later name mid new fault answer of named keeps_later reports tells = inr (inr (inl (
     of,
     unreadable_on new answer
         (both_known _ (Reported mid (Err (answers.Read fault))) (λ text. FaultIs fault (program_of text) →
-        TellsUnreadable (form_asked options.json) (Some name) text mid new answer) (Tells new answer)
+        ReportsUnreadableFile (requested_form options.json) (Some name) text mid new answer) (Tells new answer)
         (λ text r told.
-        tells_behind (form_asked options.json) _ text old mid new answer r.1
-        (subst (λ (n : Option (List ℕ)). TellsUnreadable (form_asked options.json) n text mid new answer) (sym named) (told r.0)))
+        tells_behind (requested_form options.json) _ text old mid new answer r.1
+        (subst (λ (n : Option (List ℕ)). ReportsUnreadableFile (requested_form options.json) n text mid new answer) (sym named) (told r.0)))
         (known (Reported mid (Err (answers.Read fault))) reports)
-        (subst (λ (n : Option (List ℕ)). TellsKnown (form_asked options.json) (Some name) (bytes n) mid new fault answer) (sym named)
+        (subst (λ (n : Option (List ℕ)). TellsKnown (requested_form options.json) (Some name) (bytes n) mid new fault answer) (sym named)
         (of_file (bytes (Some name)) (later (Some name)) (λ text. FaultIs fault (program_of text) →
-        TellsUnreadable (form_asked options.json) (Some name) text mid new answer) (keeps_later (Some name) ∙ keeps (Some name)) tells))),
+        ReportsUnreadableFile (requested_form options.json) (Some name) text mid new answer) (keeps_later (Some name) ∙ keeps (Some name)) tells))),
   )))
 
   abbrev ToldAll : Option (List ℕ) → AnswerFault → List ℕ → Type 0
-  ToldAll new fault text = TellsFaults (setup_of shop.machine shop.tools) (form_asked options.json) text old new fault
+  ToldAll new fault text = ReportsFaults (setup_of shop.machine shop.tools) (requested_form options.json) text old new fault
 
   -- where all faults are written
-  pub faults_comes : (new : Option (List ℕ)) (fault : AnswerFault) → options.all ≡ true → IfSome source (ToldAll new fault) → ReportComes bytes options old new (Err fault)
+  pub faults_comes : (new : Option (List ℕ)) (fault : AnswerFault) → options.all ≡ true → IfSome source (ToldAll new fault) → ReportResult bytes options old new (Err fault)
   faults_comes new fault all tells = inr (inr (inr (
     all,
     on_placed bytes (Some options.machine.now) (Some options.tools.now) options.origins (setup_of shop.machine shop.tools)
-        (λ setup. Known (λ text. TellsFaults setup (form_asked options.json) text old new fault)) said.0 said.1
+        (λ setup. Known (λ text. ReportsFaults setup (requested_form options.json) text old new fault)) said.0 said.1
         (known (ToldAll new fault) tells),
   )))

@@ -2,7 +2,7 @@
 use Rattle.std.specs.Prelude.{◌≡◌, ℕ, Bool, true, false, List, ◌++◌, codes, Option, Some, None, replicate}
 use Rattle.std.specs.Prelude.{[], ◌∷◌, is_some, option_map, Result, Ok, Err, if◌then◌else◌}
 use Rattle.std.specs.Io.KnownBytes.{Appends, Keeps}
-use Rattle.ngc_text.specs.Written.{AppendsBeginning}
+use Rattle.ngc_text.specs.Written.{AppendsPrefix}
 use Rattle.ngc_adapt_moves.specs.declared.places.Homes.{Homes}
 use Rattle.ngc_adapt_program.specs.declared.request.Request.{Request}
 use Rattle.ngc_adapt_program.specs.Requests.{control_named, dropped_codes}
@@ -29,8 +29,8 @@ homes_of m =
     }
 
 -- the homes are known where a machine file is named
-abbrev pub homes_asked : Bool → MachineFile → Option Homes
-homes_asked named machine = if named then Some (homes_of machine) else None
+abbrev pub requested_homes : Bool → MachineFile → Option Homes
+requested_homes named machine = if named then Some (homes_of machine) else None
 
 -- which codes may be dropped
 abbrev pub AreDropped : Option (List ℕ) → List (Option ℕ) → Type 0
@@ -47,7 +47,7 @@ pub record IsAsked (options : AdaptOptions) (asked : Request) : Type 0 where
 pub record IsRequest (options : AdaptOptions) (machine : MachineFile) (request : Request) : Type 0
   where
     pub asked : IsAsked options request
-    pub homes : request.homes ≡ homes_asked (is_some options.machine) machine
+    pub homes : request.homes ≡ requested_homes (is_some options.machine) machine
 
 -- the machine, and a table of the tools that a text names
 pub record IsSetupFor (machine : MachineFile) (text : List ℕ) (setup : Setup) : Type 0 where
@@ -121,7 +121,7 @@ AdaptsTo machine text report left old new false told =
 abbrev pub AdaptFails : List ℕ → Option (List ℕ) → Option (List ℕ) → AnswerFault → Type 0
 AdaptFails text old new (answers.Tools e) = Keeps old new × Refuses e (tool_table (table_text (tools_named text)))
 AdaptFails text old new answers.Memory = Keeps old new
-AdaptFails text old new (answers.Write e) = AppendsBeginning old new text
+AdaptFails text old new (answers.Write e) = AppendsPrefix old new text
 AdaptFails text old new _ = ⊥
 
 abbrev pub Adapts : MachineFile → Request → List ℕ → Option (List ℕ) → Option (List ℕ) →

@@ -1,7 +1,7 @@
 -- The result of writing all faults of a program. Our own.
 use Rattle.std.specs.Prelude.{◌≡◌, ◌⊎◌, List, [], ◌∷◌, ℕ, Option, Some, None, Bool, true, false}
 use Rattle.std.specs.Io.KnownBytes.{Appends, Keeps}
-use Rattle.ngc_text.specs.Written.{AppendsBeginning}
+use Rattle.ngc_text.specs.Written.{AppendsPrefix}
 use Rattle.ngc_line_reader.specs.declared.program.fault.ReadFault.TheVariants.{Device}
 use Rattle.ngc_all_faults.specs.Faults.{AreFaults}
 use Rattle.ngc_all_faults.specs.declared.search.TheConstants.{MOST_FAULTS}
@@ -59,12 +59,12 @@ pub record BrokenFaults (setup : Setup) (form : Form) (bytes : List ℕ)
   pub first : TextFault
   pub text : List ℕ
   pub is_report : IsFaultsReport setup form bytes setting first text
-  pub wrote : AppendsBeginning old new text
+  pub wrote : AppendsPrefix old new text
 
 -- If the file can't be read once more, nothing is written.
-abbrev pub TellsFaults : Setup → Form → List ℕ → Option (List ℕ) → Option (List ℕ) → AnswerFault →
+abbrev pub ReportsFaults : Setup → Form → List ℕ → Option (List ℕ) → Option (List ℕ) → AnswerFault →
     Type 0
-TellsFaults setup form bytes old new (answers.Write e) = BrokenFaults setup form bytes old new
-TellsFaults setup form bytes old new fault =
+ReportsFaults setup form bytes old new (answers.Write e) = BrokenFaults setup form bytes old new
+ReportsFaults setup form bytes old new fault =
     ((fault ≡ answers.Read Device) × Keeps old new) ⊎
     ToldFaults setup form bytes old new fault

@@ -21,7 +21,7 @@ use Rattle.ngc_fault_texts.specs.Numbers.{is_fault}
 use Rattle.ngc_fault_texts.specs.Told.{Tells as TellsFault}
 use Rattle.ngc_fault_texts.specs.declared.telling.ExplainFault.TheVariants.{Unknown, Write}
 use Rattle.ngc_text.specs.Failures.{Rises}
-use Rattle.ngc_text.specs.Written.{AppendsBeginning}
+use Rattle.ngc_text.specs.Written.{AppendsPrefix}
 use Rattle.ngc_run_through.specs.declared.report.Report.{Report}
 use Rattle.ngc_inputs.specs.declared.fault.AnswerFault.{AnswerFault}
 use Rattle.ngc_inputs.specs.declared.fault.AnswerFault.TheVariants as answers
@@ -37,7 +37,7 @@ use Rattle.ngc_simulator.specs.declared.writing.Writing.{Writing}
 use Rattle.ngc_simulator.specs.Writing.{writing_named}
 use Rattle.ngc_simulator.specs.Lists.{Lists}
 use Rattle.ngc_drawing.specs.declared.view.View.{View}
-use Rattle.ngc_simulator.specs.Drawing.{DrawsGiven, DrawsProgram, look_of, view_named}
+use Rattle.ngc_simulator.specs.Drawing.{DrawsNamed, DrawsProgram, look_of, view_named}
 use Rattle.ngc_simulator.specs.Showing.{Shows}
 use Rattle.ngc_report.specs.declared.form.Form.{Form}
 use Rattle.ngc_report.specs.declared.form.Form.TheVariants.{Words, Json}
@@ -54,10 +54,10 @@ use Rattle.ngc_simulator.specs.Running.{Runs, RunsThrough}
 use Rattle.ngc_canonical.specs.State.{Setup}
 use Rattle.ngc_inputs.specs.Setups.{FileBytes, OnPlaced, OnSetup}
 use Rattle.ngc_inputs.specs.Shops.{RefusesShop}
-use Rattle.ngc_simulator.specs.Mistaken.{TellsRefusal}
+use Rattle.ngc_simulator.specs.Mistaken.{ReportsRefusal}
 use Rattle.ngc_program_report.specs.Times.{time_line}
-use Rattle.ngc_simulator.specs.Unreadable.{TellsUnreadable}
-use Rattle.ngc_simulator.specs.AllFaults.{TellsFaults}
+use Rattle.ngc_simulator.specs.Unreadable.{ReportsUnreadableFile}
+use Rattle.ngc_simulator.specs.AllFaults.{ReportsFaults}
 use Rattle.ngc_inputs.specs.Unread.{Input, OfProgram, OfCertificate, OfEvents, OfSource, shop_inputs}
 use Rattle.ngc_adapt_program.specs.declared.request.Request.{Request}
 use Rattle.ngc_adapt_program.specs.Requests.{control_named, dropped_codes}
@@ -122,7 +122,7 @@ DrawsFrom bytes options view old new outcome =
     MatchOption (option_map (λ name. name.now) options.certificate)
     (DrawsProgram setup text options.delete (look_of options view) old new outcome) (λ certificate.
     IfSome (bytes (Some certificate))
-    (λ given. DrawsGiven setup text given options.delete (look_of options view) old new
+    (λ given. DrawsNamed setup text given options.delete (look_of options view) old new
     outcome))))
 
 abbrev pub ShowsOn : FileBytes → ShowOptions → Option (List ℕ) → Option (List ℕ) →
@@ -132,15 +132,15 @@ ShowsOn bytes options old new outcome =
     (λ setup. Shows options.warnings setup old new outcome)
 
 -- the form that is requested of a report
-abbrev pub form_asked : Bool → Form
-form_asked false = Words
-form_asked true = Json
+abbrev pub requested_form : Bool → Form
+requested_form false = Words
+requested_form true = Json
 
 abbrev pub request_of : ReportOptions → ReportRequest
 request_of options = record {
   cuts = options.cuts;
   all = options.all;
-  form = form_asked options.json;
+  form = requested_form options.json;
   origins = options.origins;
   some_cuts = options.some_cuts;
 }
@@ -167,22 +167,22 @@ Comes Stops MayFail Does (Ok (RunThrough time)) = ⊥
 Comes Stops MayFail Does (Ok (WithNotes notes)) = ⊥
 Comes Stops MayFail Does (Err fault) = Stops fault ⊎ (MayFail fault × Does (Err fault))
 
-abbrev pub ListComes : FileBytes → ListOptions → Option (List ℕ) → Option (List ℕ) →
+abbrev pub ListResult : FileBytes → ListOptions → Option (List ℕ) → Option (List ℕ) →
     Result Done AnswerFault → Type 0
-ListComes bytes options old new outcome =
+ListResult bytes options old new outcome =
     Comes (StopsEarly bytes (option_map (λ name. name.now) options.machine)
     (option_map (λ name. name.now) options.tools) old new) OfListing
     (ListsOn bytes options old new) outcome
 
-abbrev pub CertifyComes : FileBytes → CertifyOptions → Option (List ℕ) → Option (List ℕ) →
+abbrev pub CertifyResult : FileBytes → CertifyOptions → Option (List ℕ) → Option (List ℕ) →
     Result Done AnswerFault → Type 0
-CertifyComes bytes options old new outcome =
+CertifyResult bytes options old new outcome =
     Comes (StopsEarly bytes (Some options.machine.now) (Some options.tools.now) old new)
     OfCertifying (CertifiesOn bytes options old new) outcome
 
-abbrev pub CheckComes : FileBytes → CheckOptions → Option (List ℕ) → Option (List ℕ) →
+abbrev pub CheckResult : FileBytes → CheckOptions → Option (List ℕ) → Option (List ℕ) →
     Result Done AnswerFault → Type 0
-CheckComes bytes options old new outcome =
+CheckResult bytes options old new outcome =
     Comes (StopsEarly bytes (Some options.machine.now) (Some options.tools.now) old new)
     (OrOfReading OfChecking) (ChecksOn bytes options old new) outcome
 
@@ -202,26 +202,26 @@ WithReport Does (Ok u) = (report : Report) × Does (Ok report)
 WithReport Does (Err fault) = Does (Err fault)
 
 -- a form that isn't known is rejected before a file is read
-abbrev pub RunComes : FileBytes → RunOptions → Option Writing → Option (List ℕ) →
+abbrev pub RunResult : FileBytes → RunOptions → Option Writing → Option (List ℕ) →
     Option (List ℕ) → Result Done AnswerFault → Type 0
-RunComes bytes options None old new outcome =
+RunResult bytes options None old new outcome =
     (outcome ≡ Err answers.UnknownForm) × Keeps old new
-RunComes bytes options (Some writing) old new outcome =
+RunResult bytes options (Some writing) old new outcome =
     Comes (StopsEarly bytes (Some options.machine.now) (Some options.tools.now) old new)
     (OrOfReading OfRunning) (WithReport (RunsOn bytes options writing old new)) outcome
 
 -- a view that isn't known is rejected before a file is read
-abbrev pub DrawComes : FileBytes → DrawOptions → Option View → Option (List ℕ) → Option (List ℕ) →
+abbrev pub DrawResult : FileBytes → DrawOptions → Option View → Option (List ℕ) → Option (List ℕ) →
     Result Done AnswerFault → Type 0
-DrawComes bytes options None old new outcome = (outcome ≡ Err answers.UnknownView) × Keeps old new
-DrawComes bytes options (Some view) old new outcome =
+DrawResult bytes options None old new outcome = (outcome ≡ Err answers.UnknownView) × Keeps old new
+DrawResult bytes options (Some view) old new outcome =
     Comes (StopsEarly bytes (Some options.machine.now) (Some options.tools.now) old new)
     (OrOfReading OfDrawing) (DrawsFrom bytes options view old new) outcome
 
-abbrev pub ShowComes : FileBytes → ShowOptions → Option (List ℕ) → Option (List ℕ) →
+abbrev pub ShowResult : FileBytes → ShowOptions → Option (List ℕ) → Option (List ℕ) →
     Result Done AnswerFault → Type 0
-ShowComes bytes options old new outcome =
-    Comes (TellsRefusal Words bytes (Some options.machine.now)
+ShowResult bytes options old new outcome =
+    Comes (ReportsRefusal Words bytes (Some options.machine.now)
     (option_map (λ name. name.now) options.tools) old new) OfWriting
     (ShowsOn bytes options old new) outcome
 
@@ -232,7 +232,7 @@ UnreadableOn bytes options old new fault =
     OnPlaced bytes (Some options.machine.now) (Some options.tools.now) options.origins
     (λ setup.
     IfSome (bytes (option_map (λ name. name.now) options.program)) (λ text.
-    TellsUnreadable (form_asked options.json)
+    ReportsUnreadableFile (requested_form options.json)
     (option_map (λ name. name.now) options.program) text old new fault))
 
 -- the result of writing all faults of a program, where all are requested
@@ -242,7 +242,7 @@ FaultsOn bytes options old new fault = (options.all ≡ true) ×
     OnPlaced bytes (Some options.machine.now) (Some options.tools.now) options.origins
     (λ setup.
     IfSome (bytes (option_map (λ name. name.now) options.program)) (λ text.
-    TellsFaults setup (form_asked options.json) text old new fault))
+    ReportsFaults setup (requested_form options.json) text old new fault))
 
 -- the report of a program that is read; otherwise its fault, or all of them
 abbrev pub ReportFails : FileBytes → ReportOptions → Option (List ℕ) → Option (List ℕ) →
@@ -252,13 +252,13 @@ ReportFails bytes options old new fault =
     ((OfTelling fault × UnreadableOn bytes options old new fault)
     ⊎ FaultsOn bytes options old new fault)
 
-abbrev pub ReportComes : FileBytes → ReportOptions → Option (List ℕ) → Option (List ℕ) →
+abbrev pub ReportResult : FileBytes → ReportOptions → Option (List ℕ) → Option (List ℕ) →
     Result Done AnswerFault → Type 0
-ReportComes bytes options old new (Ok Quietly) = ReportsOn bytes options old new (Ok tt)
-ReportComes bytes options old new (Ok (RunThrough time)) = ⊥
-ReportComes bytes options old new (Ok (WithNotes notes)) = ⊥
-ReportComes bytes options old new (Err fault) =
-    TellsRefusal (form_asked options.json) bytes (Some options.machine.now)
+ReportResult bytes options old new (Ok Quietly) = ReportsOn bytes options old new (Ok tt)
+ReportResult bytes options old new (Ok (RunThrough time)) = ⊥
+ReportResult bytes options old new (Ok (WithNotes notes)) = ⊥
+ReportResult bytes options old new (Err fault) =
+    ReportsRefusal (requested_form options.json) bytes (Some options.machine.now)
     (Some options.tools.now) old new fault ⊎ ReportFails bytes options old new fault
 
 -- what is requested of `place`, where the system is known
@@ -266,7 +266,7 @@ abbrev pub place_request : PlaceOptions → System → PlaceRequest
 place_request options system = record {
   system = system;
   cuts = options.cuts;
-  form = form_asked options.json;
+  form = requested_form options.json;
   some_cuts = options.some_cuts;
 }
 
@@ -279,18 +279,18 @@ PlaceWrittenOn bytes options system old new outcome =
     (λ text. PlaceWritten setup text (place_request options system) old new outcome))
 
 -- a system that isn't known is rejected before a file is read
-abbrev pub PlaceComes : FileBytes → PlaceOptions → Option System → Option (List ℕ) →
+abbrev pub PlaceResult : FileBytes → PlaceOptions → Option System → Option (List ℕ) →
     Option (List ℕ) → Result Done AnswerFault → Type 0
-PlaceComes bytes options None old new outcome =
+PlaceResult bytes options None old new outcome =
     (outcome ≡ Err answers.UnknownSystem) × Keeps old new
-PlaceComes bytes options (Some system) old new outcome =
-    Comes (TellsRefusal (form_asked options.json) bytes (Some options.machine.now)
+PlaceResult bytes options (Some system) old new outcome =
+    Comes (ReportsRefusal (requested_form options.json) bytes (Some options.machine.now)
     (Some options.tools.now) old new) OfCertifying (PlaceWrittenOn bytes options system old new)
     outcome
 
 -- the system that is named, G54 without a name
-abbrev pub system_asked : PlaceOptions → Option System
-system_asked options = system_named (option_map (λ name. name.now) options.system)
+abbrev pub requested_system : PlaceOptions → Option System
+requested_system options = system_named (option_map (λ name. name.now) options.system)
 
 -- the run's ticks, and the ticks per second of its machine
 pub record IsTimeOf (setup : Setup) (report : Report) (time : RunTime) : Type 0 where
@@ -304,23 +304,23 @@ IsTimeOn bytes options report time = OnPlaced bytes (Some options.machine.now)
 
 -- the program reports the time of a run to the end; a form that isn't known is rejected before a
 -- file is read
-abbrev pub RunThroughComes : FileBytes → RunThroughOptions → Option Writing → Option (List ℕ) →
+abbrev pub RunThroughResult : FileBytes → RunThroughOptions → Option Writing → Option (List ℕ) →
     Option (List ℕ) → Result Done AnswerFault → Type 0
-RunThroughComes bytes options None old new outcome =
+RunThroughResult bytes options None old new outcome =
     (outcome ≡ Err answers.UnknownForm) × Keeps old new
-RunThroughComes bytes options (Some writing) old new (Ok Quietly) = ⊥
-RunThroughComes bytes options (Some writing) old new (Ok (WithNotes notes)) = ⊥
-RunThroughComes bytes options (Some writing) old new (Ok (RunThrough time)) =
+RunThroughResult bytes options (Some writing) old new (Ok Quietly) = ⊥
+RunThroughResult bytes options (Some writing) old new (Ok (WithNotes notes)) = ⊥
+RunThroughResult bytes options (Some writing) old new (Ok (RunThrough time)) =
     (report : Report) × RunsThroughOn bytes options writing old new (Ok report) ×
     IsTimeOn bytes options report time
-RunThroughComes bytes options (Some writing) old new (Err fault) =
+RunThroughResult bytes options (Some writing) old new (Err fault) =
     StopsEarly bytes (Some options.machine.now) (Some options.tools.now) old new fault
     ⊎ (OrOfReading OfRunning fault × RunsThroughOn bytes options writing old new (Err fault))
 
 -- ---- events on standard input
 
-abbrev pub live_asked : LiveOptions → Option LiveForm
-live_asked options =
+abbrev pub requested_live : LiveOptions → Option LiveForm
+requested_live options =
     live_named (option_map (λ name. name.now) options.output) options.inverted
 
 abbrev pub LivesOnFiles : FileBytes → LiveOptions → LiveForm → Option (List ℕ) →
@@ -334,10 +334,10 @@ LivesOnFiles bytes options form old new outcome =
     Lives form options.feed_ring setup text certificate options.delete (bytes None) rest old new outcome)))
 
 -- a form that isn't known is rejected before a file is read
-abbrev pub LiveComes : FileBytes → LiveOptions → Option LiveForm → Option (List ℕ) →
+abbrev pub LiveResult : FileBytes → LiveOptions → Option LiveForm → Option (List ℕ) →
     Option (List ℕ) → Result Done AnswerFault → Type 0
-LiveComes bytes options None old new outcome = (outcome ≡ Err answers.UnknownForm) × Keeps old new
-LiveComes bytes options (Some form) old new outcome =
+LiveResult bytes options None old new outcome = (outcome ≡ Err answers.UnknownForm) × Keeps old new
+LiveResult bytes options (Some form) old new outcome =
     Comes (StopsEarly bytes (Some options.machine.now) (Some options.tools.now) old new)
     (OrOfReading OfLiving) (LivesOnFiles bytes options form old new) outcome
 
@@ -358,12 +358,12 @@ AdaptsOn bytes options old new outcome =
     (request : Request) × IsRequest options setup.machine request
     × Adapts setup.machine request file old new outcome))
 
-abbrev pub AdaptComes : FileBytes → AdaptOptions → Option (List ℕ) → Option (List ℕ) →
+abbrev pub AdaptResult : FileBytes → AdaptOptions → Option (List ℕ) → Option (List ℕ) →
     Result Done AnswerFault → Type 0
-AdaptComes bytes options old new (Ok Quietly) = ⊥
-AdaptComes bytes options old new (Ok (RunThrough time)) = ⊥
-AdaptComes bytes options old new (Ok (WithNotes notes)) = AdaptsOn bytes options old new (Ok notes)
-AdaptComes bytes options old new (Err fault) =
+AdaptResult bytes options old new (Ok Quietly) = ⊥
+AdaptResult bytes options old new (Ok (RunThrough time)) = ⊥
+AdaptResult bytes options old new (Ok (WithNotes notes)) = AdaptsOn bytes options old new (Ok notes)
+AdaptResult bytes options old new (Err fault) =
     (NoRequest options fault × Keeps old new)
     ⊎ StopsEarly bytes (option_map (λ name. name.now) options.machine) None old new fault
     ⊎ AdaptsOn bytes options old new (Err fault)
@@ -377,65 +377,65 @@ MakesOn bytes options old new outcome =
     × OnDump bytes (option_map (λ name. name.now) options.grbl)
     (λ dump. Makes options dump old new outcome)
 
-abbrev pub MachineComes : FileBytes → MachineOptions → Option (List ℕ) → Option (List ℕ) →
+abbrev pub MachineResult : FileBytes → MachineOptions → Option (List ℕ) → Option (List ℕ) →
     Result Done AnswerFault → Type 0
-MachineComes bytes options old new (Ok Quietly) = ⊥
-MachineComes bytes options old new (Ok (RunThrough time)) = ⊥
-MachineComes bytes options old new (Ok (WithNotes notes)) = MakesOn bytes options old new (Ok notes)
-MachineComes bytes options old new (Err answers.NoFigures) =
+MachineResult bytes options old new (Ok Quietly) = ⊥
+MachineResult bytes options old new (Ok (RunThrough time)) = ⊥
+MachineResult bytes options old new (Ok (WithNotes notes)) = MakesOn bytes options old new (Ok notes)
+MachineResult bytes options old new (Err answers.NoFigures) =
     (has_source options ≡ false) × Keeps old new
-MachineComes bytes options old new (Err (answers.Input e)) = Keeps old new
-MachineComes bytes options old new (Err fault) = MakesOn bytes options old new (Err fault)
+MachineResult bytes options old new (Err (answers.Input e)) = Keeps old new
+MachineResult bytes options old new (Err fault) = MakesOn bytes options old new (Err fault)
 
 -- `explain` reads no file, and neither do `help` and `version`
-abbrev pub ExplainComes : ℕ → Option (List ℕ) → Option (List ℕ) → Result Done AnswerFault → Type 0
-ExplainComes number old new (Ok Quietly) = TellsFault number old new (Ok tt)
-ExplainComes number old new (Ok (RunThrough time)) = ⊥
-ExplainComes number old new (Ok (WithNotes notes)) = ⊥
-ExplainComes number old new (Err answers.UnknownFault) =
+abbrev pub ExplainResult : ℕ → Option (List ℕ) → Option (List ℕ) → Result Done AnswerFault → Type 0
+ExplainResult number old new (Ok Quietly) = TellsFault number old new (Ok tt)
+ExplainResult number old new (Ok (RunThrough time)) = ⊥
+ExplainResult number old new (Ok (WithNotes notes)) = ⊥
+ExplainResult number old new (Err answers.UnknownFault) =
     TellsFault number old new (Err Unknown) × (is_fault number ≡ false)
-ExplainComes number old new (Err (answers.Write fault)) =
+ExplainResult number old new (Err (answers.Write fault)) =
     TellsFault number old new (Err (Write fault))
-ExplainComes number old new (Err fault) = ⊥
+ExplainResult number old new (Err fault) = ⊥
 
-abbrev pub HelpComes : Option (List ℕ) → Option (List ℕ) → Result Done AnswerFault → Type 0
-HelpComes old new (Ok Quietly) = Guides old new (Ok tt)
-HelpComes old new (Ok (RunThrough time)) = ⊥
-HelpComes old new (Ok (WithNotes notes)) = ⊥
-HelpComes old new (Err fault) = Guides old new (Err fault)
+abbrev pub HelpResult : Option (List ℕ) → Option (List ℕ) → Result Done AnswerFault → Type 0
+HelpResult old new (Ok Quietly) = Guides old new (Ok tt)
+HelpResult old new (Ok (RunThrough time)) = ⊥
+HelpResult old new (Ok (WithNotes notes)) = ⊥
+HelpResult old new (Err fault) = Guides old new (Err fault)
 
-abbrev pub VersionComes : Option (List ℕ) → Option (List ℕ) → Result Done AnswerFault → Type 0
-VersionComes old new (Ok Quietly) = Appends old new version_text
-VersionComes old new (Ok (RunThrough time)) = ⊥
-VersionComes old new (Ok (WithNotes notes)) = ⊥
-VersionComes old new (Err (answers.Write fault)) = AppendsBeginning old new version_text
-VersionComes old new (Err fault) = ⊥
+abbrev pub VersionResult : Option (List ℕ) → Option (List ℕ) → Result Done AnswerFault → Type 0
+VersionResult old new (Ok Quietly) = Appends old new version_text
+VersionResult old new (Ok (RunThrough time)) = ⊥
+VersionResult old new (Ok (WithNotes notes)) = ⊥
+VersionResult old new (Err (answers.Write fault)) = AppendsPrefix old new version_text
+VersionResult old new (Err fault) = ⊥
 
-abbrev pub ComesBy : FileBytes → Options → Option (List ℕ) → Option (List ℕ) →
+abbrev pub ResultsBy : FileBytes → Options → Option (List ℕ) → Option (List ℕ) →
     Result Done AnswerFault → Type 0
-ComesBy bytes (commands.List options) old new outcome = ListComes bytes options old new outcome
-ComesBy bytes (commands.Certify options) old new outcome =
-    CertifyComes bytes options old new outcome
-ComesBy bytes (commands.Check options) old new outcome = CheckComes bytes options old new outcome
-ComesBy bytes (commands.Run options) old new outcome =
-    RunComes bytes options (run_writing options) old new outcome
-ComesBy bytes (commands.RunThrough options) old new outcome =
-    RunThroughComes bytes options (run_through_writing options) old new outcome
-ComesBy bytes (commands.Live options) old new outcome =
-    LiveComes bytes options (live_asked options) old new outcome
-ComesBy bytes (commands.Draw options) old new outcome =
-    DrawComes bytes options (view_named (option_map (λ name. name.now) options.view))
+ResultsBy bytes (commands.List options) old new outcome = ListResult bytes options old new outcome
+ResultsBy bytes (commands.Certify options) old new outcome =
+    CertifyResult bytes options old new outcome
+ResultsBy bytes (commands.Check options) old new outcome = CheckResult bytes options old new outcome
+ResultsBy bytes (commands.Run options) old new outcome =
+    RunResult bytes options (run_writing options) old new outcome
+ResultsBy bytes (commands.RunThrough options) old new outcome =
+    RunThroughResult bytes options (run_through_writing options) old new outcome
+ResultsBy bytes (commands.Live options) old new outcome =
+    LiveResult bytes options (requested_live options) old new outcome
+ResultsBy bytes (commands.Draw options) old new outcome =
+    DrawResult bytes options (view_named (option_map (λ name. name.now) options.view))
     old new outcome
-ComesBy bytes (commands.Show options) old new outcome = ShowComes bytes options old new outcome
-ComesBy bytes (commands.Report options) old new outcome = ReportComes bytes options old new outcome
-ComesBy bytes (commands.Place options) old new outcome =
-    PlaceComes bytes options (system_asked options) old new outcome
-ComesBy bytes (commands.Adapt options) old new outcome = AdaptComes bytes options old new outcome
-ComesBy bytes (commands.Machine options) old new outcome =
-    MachineComes bytes options old new outcome
-ComesBy bytes (commands.Explain number) old new outcome = ExplainComes number old new outcome
-ComesBy bytes (commands.Help command) old new outcome = HelpComes old new outcome
-ComesBy bytes commands.Version old new outcome = VersionComes old new outcome
+ResultsBy bytes (commands.Show options) old new outcome = ShowResult bytes options old new outcome
+ResultsBy bytes (commands.Report options) old new outcome = ReportResult bytes options old new outcome
+ResultsBy bytes (commands.Place options) old new outcome =
+    PlaceResult bytes options (requested_system options) old new outcome
+ResultsBy bytes (commands.Adapt options) old new outcome = AdaptResult bytes options old new outcome
+ResultsBy bytes (commands.Machine options) old new outcome =
+    MachineResult bytes options old new outcome
+ResultsBy bytes (commands.Explain number) old new outcome = ExplainResult number old new outcome
+ResultsBy bytes (commands.Help command) old new outcome = HelpResult old new outcome
+ResultsBy bytes commands.Version old new outcome = VersionResult old new outcome
 
 -- the files of a command, in the order in which they are read
 abbrev pub program_input : Option (List ℕ) → Input
@@ -539,12 +539,12 @@ inputs_of (commands.Check options) = check_inputs options
 inputs_of (commands.Run options) = run_inputs options (run_writing options)
 inputs_of (commands.RunThrough options) =
     run_through_inputs options (run_through_writing options)
-inputs_of (commands.Live options) = live_inputs options (live_asked options)
+inputs_of (commands.Live options) = live_inputs options (requested_live options)
 inputs_of (commands.Draw options) =
     draw_inputs options (view_named (option_map (λ name. name.now) options.view))
 inputs_of (commands.Show options) = show_inputs options
 inputs_of (commands.Report options) = report_inputs options
-inputs_of (commands.Place options) = place_inputs options (system_asked options)
+inputs_of (commands.Place options) = place_inputs options (requested_system options)
 inputs_of (commands.Adapt options) = adapt_inputs options
 inputs_of (commands.Machine options) = machine_inputs options
 inputs_of (commands.Explain number) = []
@@ -573,7 +573,7 @@ status_of (Err fault) = answer_status fault
 abbrev pub Takes : Taking → List ℕ → Type 0
 Takes sink text =
     (Appends sink.old sink.new text × (sink.failures_now ≡ sink.failures)) ⊎
-    (AppendsBeginning sink.old sink.new text × Rises sink.failures sink.failures_now)
+    (AppendsPrefix sink.old sink.new text × Rises sink.failures sink.failures_now)
 
 -- the commands that print nothing on standard error when they are done
 abbrev pub IsQuiet : Options → Type 0
@@ -613,7 +613,7 @@ pub record Given : Type 1 where
 pub record Answers (files : Given) (options : Options) (output errors : Taking) (status : ℕ) :
     Type 0 where
   pub outcome : Result Done AnswerFault
-  pub comes : ComesBy files.bytes options output.old output.new outcome
+  pub comes : ResultsBy files.bytes options output.old output.new outcome
   pub unread : FailsByInput files.fails files.bytes
       (inputs_of options) files.failures files.failures_now outcome
   pub counts : FailsByOutput outcome output.failures output.failures_now

@@ -3,7 +3,7 @@ use Rattle.std.specs.Prelude.{◌≡◌, ℕ, List, [], Option, Some, None, Resu
 use Rattle.std.specs.Prelude.{Err, Bool, codes, if◌then◌else◌, slice_get}
 use Rattle.std.specs.Str.{bytes_eq}
 use Rattle.std.specs.Io.KnownBytes.{Appends, Keeps}
-use Rattle.ngc_text.specs.Written.{AppendsBeginning}
+use Rattle.ngc_text.specs.Written.{AppendsPrefix}
 use Rattle.ngc_line_reader.specs.ProgramText.{program_of}
 use Rattle.ngc_line_reader.specs.ProgramView.{FaultIs}
 use Rattle.ngc_machine_files.specs.Machine.{MachineFile}
@@ -19,7 +19,7 @@ use Rattle.ngc_frames.specs.declared.frame.Frame.{Frame}
 use Rattle.ngc_certificate_text.specs.declared.piece.Setting.{Setting}
 use Rattle.ngc_certificate_text.specs.declared.piece.Setting.TheVariants.{Off, On}
 use Rattle.ngc_certificate_text.specs.Certificate.{CertificateData, Entry, entries_at}
-use Rattle.ngc_certificate_text.specs.Said.{certificate_said}
+use Rattle.ngc_certificate_text.specs.Said.{parsed_certificate}
 use Rattle.ngc_certificate.specs.declared.fault.MakeFault.TheVariants.{NotCleared}
 use Rattle.ngc_certificate.specs.declared.fault.PieceFault.{PieceFault}
 use Rattle.ngc_certificate.specs.declared.fault.PieceFault.TheVariants as pieces
@@ -153,7 +153,7 @@ Draws setup bytes block_delete look entries IsShown old new (Ok u) = (text : Lis
     IsPicture setup bytes block_delete look entries IsShown text × Appends old new text
 Draws setup bytes block_delete look entries IsShown old new (Err (answers.Write fault)) =
     (text : List ℕ) × IsPicture setup bytes block_delete look entries IsShown text ×
-    AppendsBeginning old new text
+    AppendsPrefix old new text
 Draws setup bytes block_delete look entries IsShown old new (Err answers.Memory) = Keeps old new
 Draws setup bytes block_delete look entries IsShown old new (Err (answers.Program fault)) =
     IsRefused setup bytes block_delete fault × Keeps old new
@@ -168,25 +168,25 @@ DrawsProgram setup bytes block_delete look old new outcome =
     Draws setup bytes block_delete look [] (IsMadeRefusal setup.machine) old new outcome
 
 -- what a certificate refuses of commands
-abbrev pub IsGivenRefusal : MachineFile → Setting → CertificateData → List Command →
+abbrev pub IsNamedRefusal : MachineFile → Setting → CertificateData → List Command →
     Option RefusedMotion → Type 0
-IsGivenRefusal machine s c commands refusal =
+IsNamedRefusal machine s c commands refusal =
     refusal_answer (fault_at machine s commands c) ≡ Ok refusal
 
 -- Of a program's file, a certificate's file and a sink. A fault of the certificate that isn't drawn
 -- is returned.
-abbrev pub DrawsGiven : Setup → List ℕ → List ℕ → Bool → Look → Option (List ℕ) → Option (List ℕ) →
+abbrev pub DrawsNamed : Setup → List ℕ → List ℕ → Bool → Look → Option (List ℕ) → Option (List ℕ) →
     Result (Unit {0}) AnswerFault → Type 0
-DrawsGiven setup bytes text block_delete look old new (Err (answers.Certificate fault)) =
+DrawsNamed setup bytes text block_delete look old new (Err (answers.Certificate fault)) =
     IsNoCertificate text fault × Keeps old new
-DrawsGiven setup bytes text block_delete look old new (Err (answers.Check fault)) =
+DrawsNamed setup bytes text block_delete look old new (Err (answers.Check fault)) =
     ((commands : List Command) × (c : CertificateData) ×
-    IsMeaning setup bytes block_delete (Ok commands) × (certificate_said text ≡ Ok c)
+    IsMeaning setup bytes block_delete (Ok commands) × (parsed_certificate text ≡ Ok c)
     × (refusal_answer (fault_at setup.machine (setting_of block_delete) commands c) ≡ Err fault)) ×
     Keeps old new
-DrawsGiven setup bytes text block_delete look old new (Err (answers.Read fault)) =
+DrawsNamed setup bytes text block_delete look old new (Err (answers.Read fault)) =
     FaultIs fault (program_of bytes) × Keeps old new
-DrawsGiven setup bytes text block_delete look old new outcome =
-    (c : CertificateData) × (certificate_said text ≡ Ok c)
+DrawsNamed setup bytes text block_delete look old new outcome =
+    (c : CertificateData) × (parsed_certificate text ≡ Ok c)
     × Draws setup bytes block_delete look (entries_at (setting_of block_delete) c)
-    (IsGivenRefusal setup.machine (setting_of block_delete) c) old new outcome
+    (IsNamedRefusal setup.machine (setting_of block_delete) c) old new outcome

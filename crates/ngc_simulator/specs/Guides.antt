@@ -1,7 +1,7 @@
 -- The output where help or the version is requested.
 use Rattle.std.specs.Prelude.{ℕ, List, Option, Result, Ok, Err, codes}
 use Rattle.std.specs.Io.KnownBytes.{Appends, Keeps}
-use Rattle.ngc_text.specs.Written.{AppendsBeginning}
+use Rattle.ngc_text.specs.Written.{AppendsPrefix}
 use Rattle.ngc_inputs.specs.declared.fault.AnswerFault.{AnswerFault}
 use Rattle.ngc_inputs.specs.declared.fault.AnswerFault.TheVariants as answers
 
@@ -15,5 +15,5 @@ abbrev pub Guides : Option (List ℕ) → Option (List ℕ) → Result (Unit {0}
 Guides old new (Ok u) = (text : List ℕ) × Appends old new text
 Guides old new (Err answers.UnknownCommand) = Keeps old new
 Guides old new (Err answers.Memory) = Keeps old new
-Guides old new (Err (answers.Write fault)) = (text : List ℕ) × AppendsBeginning old new text
+Guides old new (Err (answers.Write fault)) = (text : List ℕ) × AppendsPrefix old new text
 Guides old new (Err _) = ⊥

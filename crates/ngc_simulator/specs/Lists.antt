@@ -1,14 +1,14 @@
 -- The result of listing a program.
 use Rattle.std.specs.Prelude.{◌≡◌, ℕ, List, Option, Result, Ok, Err, Bool}
 use Rattle.std.specs.Io.KnownBytes.{Appends, Keeps}
-use Rattle.ngc_text.specs.Written.{AppendsBeginning}
+use Rattle.ngc_text.specs.Written.{AppendsPrefix}
 use Rattle.ngc_line_reader.specs.Grammar.{Reading}
 use Rattle.ngc_line_reader.specs.ProgramText.{ProgramText, program_of, AreReadings}
 use Rattle.ngc_line_reader.specs.ProgramView.{FaultIs}
 use Rattle.ngc_commands.specs.declared.command.Command.{Command}
 use Rattle.ngc_canonical.specs.declared.fault.ProgramFault.{ProgramFault}
 use Rattle.ngc_canonical.specs.State.{Setup}
-use Rattle.ngc_canonical.specs.Meaning.{meaning, program_said, Fails}
+use Rattle.ngc_canonical.specs.Meaning.{meaning, parsed_program, Fails}
 use Rattle.ngc_inputs.specs.declared.fault.AnswerFault.{AnswerFault}
 use Rattle.ngc_inputs.specs.declared.fault.AnswerFault.TheVariants as answers
 use Rattle.ngc_listing.specs.Listing.{listing}
@@ -21,7 +21,7 @@ pub record IsMeaning (setup : Setup) (bytes : List ℕ) (block_delete : Bool)
   pub is_text : program_of bytes ≡ Ok text
   pub readings : List Reading
   pub are_readings : AreReadings text.lines readings
-  pub means : meaning (program_said text readings) setup block_delete ≡ says
+  pub means : meaning (parsed_program text readings) setup block_delete ≡ says
 
 -- the listing of what a file means
 pub record IsListing (setup : Setup) (bytes : List ℕ) (block_delete : Bool) (text : List ℕ) :
@@ -49,5 +49,5 @@ Lists setup bytes block_delete old new (Err (answers.Read fault)) =
 Lists setup bytes block_delete old new (Err (answers.Program fault)) =
     IsRefused setup bytes block_delete fault × Keeps old new
 Lists setup bytes block_delete old new (Err (answers.Write fault)) =
-    (text : List ℕ) × IsListing setup bytes block_delete text × AppendsBeginning old new text
+    (text : List ℕ) × IsListing setup bytes block_delete text × AppendsPrefix old new text
 Lists setup bytes block_delete old new (Err _) = ⊥

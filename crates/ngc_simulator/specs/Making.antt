@@ -3,7 +3,7 @@ use Rattle.std.specs.Prelude.{◌≡◌, ◌⊎◌, ℕ, ◌&&◌, ◌||◌, not
 use Rattle.std.specs.Prelude.{Some, None, is_some, option_map, Result, Ok, Err, IsOk, IfSome}
 use Rattle.std.specs.Prelude.{if◌then◌else◌}
 use Rattle.std.specs.Io.KnownBytes.{Appends, Keeps}
-use Rattle.ngc_text.specs.Written.{AppendsBeginning}
+use Rattle.ngc_text.specs.Written.{AppendsPrefix}
 use Rattle.ngc_command_line.specs.declared.options.MachineOptions.{MachineOptions}
 use Rattle.ngc_machine_files.specs.Machine.{MachineFile}
 use Rattle.ngc_machine_files.specs.MachineText.{machine_file}
@@ -79,8 +79,8 @@ pub record IsAskedFor (options : MachineOptions) (dump : Option (List ℕ))
   pub chosen : asked ≡ with_choices choices given
 
 -- figures that are refused leave the output unchanged, and the notes say why
-abbrev pub TellsRefusal : FigureRefusal → Option (List ℕ) → Option (List ℕ) → Notes → Type 0
-TellsRefusal refusal old new notes = Keeps old new × (notes.is_written ≡ false)
+abbrev pub ReportsRefusal : FigureRefusal → Option (List ℕ) → Option (List ℕ) → Notes → Type 0
+ReportsRefusal refusal old new notes = Keeps old new × (notes.is_written ≡ false)
     × (notes.text.items ≡ refusal_line refusal)
 
 -- a text isn't read as a machine file, with the reader's fault
@@ -117,16 +117,16 @@ abbrev pub WritesNumbers : Figures → Result MachineNumbers FigureRefusal → O
 WritesNumbers figures (Ok numbers) old new notes =
     ((text : List ℕ) × IsMadeText (file_text numbers figures) text × Appends old new text)
     × (notes.is_written ≡ true) × (notes.text.items ≡ notes_text numbers figures)
-WritesNumbers figures (Err refusal) old new notes = TellsRefusal refusal old new notes
+WritesNumbers figures (Err refusal) old new notes = ReportsRefusal refusal old new notes
 
 abbrev pub MakesFile : Result Figures FigureRefusal → Option (List ℕ) → Option (List ℕ) → Notes → Type 0
 MakesFile (Ok figures) old new notes = WritesNumbers figures (numbers_of figures) old new notes
-MakesFile (Err refusal) old new notes = TellsRefusal refusal old new notes
+MakesFile (Err refusal) old new notes = ReportsRefusal refusal old new notes
 
 -- the keys of the requested machine file
 pub record AreAskedKeys (options : MachineOptions) (dump : Option (List ℕ)) (keys : List ℕ) : Type 0 where
   pub figures : Figures
-  pub are_asked : IsAskedFor options dump (Ok figures)
+  pub are_requested : IsAskedFor options dump (Ok figures)
   pub numbers : MachineNumbers
   pub are_numbers : numbers_of figures ≡ Ok numbers
   pub are_keys : keys ≡ file_text numbers figures
@@ -140,7 +140,7 @@ MakeFails options dump old new (answers.Machine e) = Keeps old new
     × ((keys : List ℕ) × AreAskedKeys options dump keys × IsUnread keys e)
 MakeFails options dump old new (answers.Write e) =
     (keys text : List ℕ) × AreAskedKeys options dump keys × IsMadeText keys text
-    × AppendsBeginning old new text
+    × AppendsPrefix old new text
 MakeFails options dump old new _ = ⊥
 
 abbrev pub Makes : MachineOptions → Option (List ℕ) → Option (List ℕ) → Option (List ℕ) →

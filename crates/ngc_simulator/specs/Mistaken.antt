@@ -2,7 +2,7 @@
 use Rattle.std.specs.Prelude.{◌≡◌, ◌≢◌, ◌⊎◌, ℕ, List, ◌++◌, Option, Some, Result, Ok, Err, IfSome}
 use Rattle.std.specs.Prelude.{IsSomeAnd}
 use Rattle.std.specs.Io.KnownBytes.{Appends, Keeps}
-use Rattle.ngc_text.specs.Written.{AppendsBeginning}
+use Rattle.ngc_text.specs.Written.{AppendsPrefix}
 use Rattle.ngc_machine_files.specs.Faults.{number_of as file_number}
 use Rattle.ngc_machine_files.specs.declared.fault.FileFault.{FileFault}
 use Rattle.ngc_machine_files.specs.declared.fault.FileFault.TheVariants.{Memory}
@@ -15,7 +15,7 @@ use Rattle.ngc_inputs.specs.declared.fault.AnswerFault.TheVariants as answers
 use Rattle.ngc_inputs.specs.declared.setup.Shop.{Shop}
 use Rattle.ngc_program_report.specs.Texts.{ending}
 use Rattle.ngc_inputs.specs.Setups.{FileBytes}
-use Rattle.ngc_inputs.specs.Shops.{GivesPlaced, GivesShop, RefusesShop}
+use Rattle.ngc_inputs.specs.Shops.{PlacedResultIs, ShopResultIs, RefusesShop}
 use Rattle.ngc_origins.specs.Texts.{OriginList}
 
 -- a document has the fault's number alone
@@ -23,14 +23,14 @@ abbrev pub fault_document : ℕ → List ℕ
 fault_document number = opening Json ++ ending Json number
 
 -- the report of a file's mistake: a text in words, or a document
-abbrev pub told_text : Form → (List ℕ → FileFault → List ℕ) → List ℕ → FileFault → List ℕ
-told_text Words text bytes e = text bytes e
-told_text Json text bytes e = fault_document (file_number e)
+abbrev pub reported_text : Form → (List ℕ → FileFault → List ℕ) → List ℕ → FileFault → List ℕ
+reported_text Words text bytes e = text bytes e
+reported_text Json text bytes e = fault_document (file_number e)
 
 -- P of that, where the file is known; lack of memory isn't its mistake
 abbrev pub OfText : Form → (List ℕ → FileFault → List ℕ) → FileFault → Option (List ℕ) →
     (List ℕ → Type 0) → Type 0
-OfText form text e known P = (e ≢ Memory) × IfSome known (λ bytes. P (told_text form text bytes e))
+OfText form text e known P = (e ≢ Memory) × IfSome known (λ bytes. P (reported_text form text bytes e))
 
 -- the same for the refused one of two files
 abbrev pub OfMistake : Form → FileBytes → Option (List ℕ) → Option (List ℕ) → AnswerFault →
@@ -43,35 +43,35 @@ OfMistake form bytes machine tools fault P = ⊥
 
 -- For a file that is refused its mistake is written, or nothing if memory ran out; if the sink
 -- failed, a prefix of it is written. A file that isn't read leaves the output unchanged.
-abbrev pub TellsRefusal : Form → FileBytes → Option (List ℕ) → Option (List ℕ) → Option (List ℕ) →
+abbrev pub ReportsRefusal : Form → FileBytes → Option (List ℕ) → Option (List ℕ) → Option (List ℕ) →
     Option (List ℕ) → AnswerFault → Type 0
-TellsRefusal form bytes machine tools old new (answers.Write fault) =
+ReportsRefusal form bytes machine tools old new (answers.Write fault) =
     (refused : AnswerFault) × RefusesShop bytes machine tools refused ×
-    OfMistake form bytes machine tools refused (AppendsBeginning old new)
-TellsRefusal form bytes machine tools old new fault =
+    OfMistake form bytes machine tools refused (AppendsPrefix old new)
+ReportsRefusal form bytes machine tools old new fault =
     RefusesShop bytes machine tools fault ×
     (Keeps old new ⊎ OfMistake form bytes machine tools fault (Appends old new))
 
 -- the two files' machine and tools, with nothing written, or the report in their place
-abbrev pub GivesTold : Form → FileBytes → Option (List ℕ) → Option (List ℕ) → Option (List ℕ) →
+abbrev pub ReportResultIs : Form → FileBytes → Option (List ℕ) → Option (List ℕ) → Option (List ℕ) →
     Option (List ℕ) → Result Shop AnswerFault → Type 0
-GivesTold form bytes machine tools old new (Ok shop) =
-    GivesShop bytes machine tools (Ok shop) × (new ≡ old)
-GivesTold form bytes machine tools old new (Err fault) =
-    TellsRefusal form bytes machine tools old new fault
+ReportResultIs form bytes machine tools old new (Ok shop) =
+    ShopResultIs bytes machine tools (Ok shop) × (new ≡ old)
+ReportResultIs form bytes machine tools old new (Err fault) =
+    ReportsRefusal form bytes machine tools old new fault
 
 -- the same with these origins in place of the machine's
-abbrev pub GivesPlacedTold : Form → FileBytes → Option (List ℕ) → Option (List ℕ) → OriginList →
+abbrev pub PlacedReportResultIs : Form → FileBytes → Option (List ℕ) → Option (List ℕ) → OriginList →
     Option (List ℕ) → Option (List ℕ) → Result Shop AnswerFault → Type 0
-GivesPlacedTold form bytes machine tools origins old new (Ok shop) =
-    GivesPlaced bytes machine tools origins (Ok shop) × (new ≡ old)
-GivesPlacedTold form bytes machine tools origins old new (Err fault) =
-    TellsRefusal form bytes machine tools old new fault
+PlacedReportResultIs form bytes machine tools origins old new (Ok shop) =
+    PlacedResultIs bytes machine tools origins (Ok shop) × (new ≡ old)
+PlacedReportResultIs form bytes machine tools origins old new (Err fault) =
+    ReportsRefusal form bytes machine tools old new fault
 
 -- the result of writing one file's mistake, where the file may not be readable again
-abbrev pub TellsMistake : ((List ℕ → Type 0) → Type 0) → Option (List ℕ) → Option (List ℕ) →
+abbrev pub ReportsMistake : ((List ℕ → Type 0) → Type 0) → Option (List ℕ) → Option (List ℕ) →
     Result (Unit {0}) AnswerFault → Type 0
-TellsMistake Of old new (Ok u) = Keeps old new ⊎ Of (Appends old new)
-TellsMistake Of old new (Err (answers.Write fault)) = Of (AppendsBeginning old new)
-TellsMistake Of old new (Err (answers.Input fault)) = Keeps old new
-TellsMistake Of old new (Err fault) = ⊥
+ReportsMistake Of old new (Ok u) = Keeps old new ⊎ Of (Appends old new)
+ReportsMistake Of old new (Err (answers.Write fault)) = Of (AppendsPrefix old new)
+ReportsMistake Of old new (Err (answers.Input fault)) = Keeps old new
+ReportsMistake Of old new (Err fault) = ⊥

@@ -1,7 +1,7 @@
 -- The result of finding at which shifts of an origin a program fits. Our own.
 use Rattle.std.specs.Prelude.{◌≡◌, ℕ, List, Option, Result, Ok, Err, slice_get}
 use Rattle.std.specs.Io.KnownBytes.{Appends, Keeps}
-use Rattle.ngc_text.specs.Written.{AppendsBeginning}
+use Rattle.ngc_text.specs.Written.{AppendsPrefix}
 use Rattle.ngc_fixed_length.specs.declared.modes.System.{System}
 use Rattle.ngc_line_reader.specs.ProgramText.{program_of}
 use Rattle.ngc_line_reader.specs.ProgramView.{FaultIs}
@@ -61,5 +61,5 @@ PlaceWritten setup bytes request old new (Err (answers.Refused s fault)) =
     WhyNotMade setup bytes request.cuts (answers.Refused s fault) × Keeps old new
 PlaceWritten setup bytes request old new (Err (answers.Make Memory)) = Keeps old new
 PlaceWritten setup bytes request old new (Err (answers.Write fault)) =
-    (text : List ℕ) × IsPlaceText setup bytes request text × AppendsBeginning old new text
+    (text : List ℕ) × IsPlaceText setup bytes request text × AppendsPrefix old new text
 PlaceWritten setup bytes request old new (Err _) = ⊥

@@ -2,7 +2,7 @@
 use Rattle.std.specs.Prelude.{◌≡◌, ◌⊎◌, ℕ, List, Option}
 use Rattle.std.specs.Prelude.{Result, Ok, Err, Bool, true, false, slice_get}
 use Rattle.std.specs.Io.KnownBytes.{Appends, Keeps}
-use Rattle.ngc_text.specs.Written.{AppendsBeginning}
+use Rattle.ngc_text.specs.Written.{AppendsPrefix}
 use Rattle.ngc_line_reader.specs.ProgramText.{program_of}
 use Rattle.ngc_line_reader.specs.ProgramView.{FaultIs}
 use Rattle.ngc_commands.specs.declared.command.Command.{Command}
@@ -120,5 +120,5 @@ Reports setup bytes request old new (Err (answers.Make (NotCleared s k))) =
     (text : List ℕ) × IsRefusalReport setup bytes request s k text × Appends old new text
 Reports setup bytes request old new (Err (answers.Make Memory)) = Keeps old new
 Reports setup bytes request old new (Err (answers.Write fault)) =
-    (text : List ℕ) × IsReport setup bytes request text × AppendsBeginning old new text
+    (text : List ℕ) × IsReport setup bytes request text × AppendsPrefix old new text
 Reports setup bytes request old new (Err _) = ⊥

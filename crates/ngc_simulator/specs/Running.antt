@@ -10,7 +10,7 @@ use Rattle.ngc_certificate_text.specs.Certificate.{CertificateData}
 use Rattle.ngc_checker.specs.declared.fault.CheckFault.{CheckFault}
 use Rattle.ngc_checker.specs.Accepted.{IsFirst}
 use Rattle.ngc_checker.specs.FirstRefusal.{first_refusal}
-use Rattle.ngc_events.specs.Events.{events_said}
+use Rattle.ngc_events.specs.Events.{parsed_events}
 use Rattle.ngc_events.specs.declared.event.EventLine.{EventLine}
 use Rattle.ngc_events.specs.declared.fault.EventsFault.{EventsFault}
 use Rattle.ngc_events.specs.declared.fault.EventsFault.TheVariants as texts
@@ -19,30 +19,30 @@ use Rattle.ngc_machine_model.specs.Headline.{job_of}
 use Rattle.ngc_run_through.specs.declared.report.Report.{Report}
 use Rattle.ngc_run_through.specs.declared.report.RunFault.{RunFault}
 use Rattle.ngc_run_through.specs.declared.report.RunFault.TheVariants as runs
-use Rattle.ngc_run_through.specs.Forms.{PulsesCome, PulsesGoThrough, SamplesCome, SamplesGoThrough}
-use Rattle.ngc_run_through.specs.Forms.{TimesCome, TimesGoThrough}
-use Rattle.ngc_run_through.specs.Runs.{ComesTo}
-use Rattle.ngc_run_through.specs.Through.{GoesThrough}
+use Rattle.ngc_run_through.specs.Forms.{PulsesResult, PulsesRunToEnd, SamplesResult, SamplesRunToEnd}
+use Rattle.ngc_run_through.specs.Forms.{TimesResult, TimesRunToEnd}
+use Rattle.ngc_run_through.specs.Runs.{ResultsIn}
+use Rattle.ngc_run_through.specs.Through.{RunsToEnd}
 use Rattle.ngc_inputs.specs.declared.fault.AnswerFault.{AnswerFault}
 use Rattle.ngc_inputs.specs.declared.fault.AnswerFault.TheVariants as answers
 use Rattle.ngc_simulator.specs.declared.writing.Writing.{Writing}
 use Rattle.ngc_simulator.specs.declared.writing.Writing.TheVariants.{Log, Times, Dump, Samples}
-use Rattle.ngc_inputs.specs.Jobs.{AreGiven, IsNoCertificate}
+use Rattle.ngc_inputs.specs.Jobs.{AreSent, IsNoCertificate}
 
 -- the result of a run over events by its output, and the result of a run to the end
 abbrev pub RecordsRun : Writing → Job → List EventLine → Option (List ℕ) → Option (List ℕ) →
     Result Report RunFault → Type 0
-RecordsRun Log = ComesTo
-RecordsRun Times = TimesCome
-RecordsRun Dump = PulsesCome
-RecordsRun (Samples inverted) = SamplesCome inverted
+RecordsRun Log = ResultsIn
+RecordsRun Times = TimesResult
+RecordsRun Dump = PulsesResult
+RecordsRun (Samples inverted) = SamplesResult inverted
 
 abbrev pub RecordsThrough : Writing → Job → Option (List ℕ) → Option (List ℕ) →
     Result Report RunFault → Type 0
-RecordsThrough Log = GoesThrough
-RecordsThrough Times = TimesGoThrough
-RecordsThrough Dump = PulsesGoThrough
-RecordsThrough (Samples inverted) = SamplesGoThrough inverted
+RecordsThrough Log = RunsToEnd
+RecordsThrough Times = TimesRunToEnd
+RecordsThrough Dump = PulsesRunToEnd
+RecordsThrough (Samples inverted) = SamplesRunToEnd inverted
 
 -- The job of a program's file at a setting of block delete: the commands that the program means
 -- there. Neither it nor a certificate's file is refused.
@@ -50,7 +50,7 @@ pub record IsAcceptedJob (setup : Setup) (bytes text : List ℕ) (block_delete :
     Type 0 where
   pub program : ProgramLines
   pub certificate : CertificateData
-  pub given : AreGiven bytes text program certificate
+  pub given : AreSent bytes text program certificate
   pub none_refused : first_refusal program setup certificate ≡ None
   pub commands : List Command
   pub means : meaning program setup block_delete ≡ Ok commands
@@ -63,28 +63,28 @@ pub record RunsOver (writing : Writing) (setup : Setup) (bytes text events : Lis
   pub job : Job
   pub accepted : IsAcceptedJob setup bytes text block_delete job
   pub lines : List EventLine
-  pub are_lines : events_said events ≡ Ok lines
+  pub are_lines : parsed_events events ≡ Ok lines
   pub comes : RecordsRun writing job lines old new result
 
 -- a program's file and a certificate's file are read
 abbrev pub AreRead : List ℕ → List ℕ → Type 0
 AreRead bytes text =
-    (program : ProgramLines) × (c : CertificateData) × AreGiven bytes text program c
+    (program : ProgramLines) × (c : CertificateData) × AreSent bytes text program c
 
 -- a text isn't a list of events, apart from lack of memory
 abbrev pub AreNoEvents : List ℕ → EventsFault → Type 0
-AreNoEvents events (texts.BadLine line) = events_said events ≡ Err (texts.BadLine line)
-AreNoEvents events texts.TooManyLines = events_said events ≡ Err texts.TooManyLines
+AreNoEvents events (texts.BadLine line) = parsed_events events ≡ Err (texts.BadLine line)
+AreNoEvents events texts.TooManyLines = parsed_events events ≡ Err texts.TooManyLines
 AreNoEvents events texts.Memory = Unit {0}
 
 -- the first refusal of the two files, where the events are read
 pub record IsRefusedRun (setup : Setup) (bytes text events : List ℕ) (fault : CheckFault) :
     Type 0 where
   pub lines : List EventLine
-  pub are_lines : events_said events ≡ Ok lines
+  pub are_lines : parsed_events events ≡ Ok lines
   pub program : ProgramLines
   pub certificate : CertificateData
-  pub given : AreGiven bytes text program certificate
+  pub given : AreSent bytes text program certificate
   pub first : IsFirst fault (first_refusal program setup certificate)
 
 -- the run of an accepted job to its end, its output, and its result
@@ -93,13 +93,13 @@ pub record RunsWhole (writing : Writing) (setup : Setup) (bytes text : List ℕ)
     Type 0 where
   pub job : Job
   pub accepted : IsAcceptedJob setup bytes text block_delete job
-  pub goes_through : RecordsThrough writing job old new result
+  pub runs_to_end : RecordsThrough writing job old new result
 
 -- the first refusal of the two files
 pub record IsRefusedWhole (setup : Setup) (bytes text : List ℕ) (fault : CheckFault) : Type 0 where
   pub program : ProgramLines
   pub certificate : CertificateData
-  pub given : AreGiven bytes text program certificate
+  pub given : AreSent bytes text program certificate
   pub first : IsFirst fault (first_refusal program setup certificate)
 
 -- Of a program's file, a certificate's file, an events file and a sink: the log or the pulses of

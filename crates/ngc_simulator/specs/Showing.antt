@@ -4,7 +4,7 @@ use Rattle.std.specs.Io.KnownBytes.{Appends}
 use Rattle.ngc_canonical.specs.State.{Setup}
 use Rattle.ngc_machine_files.specs.Machine.{MachineFile}
 use Rattle.ngc_machine_files.specs.declared.tools.Tool.{Tool}
-use Rattle.ngc_text.specs.Written.{AppendsBeginning}
+use Rattle.ngc_text.specs.Written.{AppendsPrefix}
 use Rattle.ngc_setup_sheet.specs.Sheets.{sheet_text, warnings_text}
 use Rattle.ngc_inputs.specs.declared.fault.AnswerFault.{AnswerFault}
 
@@ -19,4 +19,4 @@ abbrev pub Shows : Bool → Setup → Option (List ℕ) → Option (List ℕ) �
 Shows warnings setup old new (Ok u) =
     Appends old new (shown_text warnings setup.machine setup.tools)
 Shows warnings setup old new (Err fault) =
-    AppendsBeginning old new (shown_text warnings setup.machine setup.tools)
+    AppendsPrefix old new (shown_text warnings setup.machine setup.tools)

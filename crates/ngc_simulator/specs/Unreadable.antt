@@ -1,7 +1,7 @@
 -- The report of a program that can't be read. Our own.
 use Rattle.std.specs.Prelude.{◌≡◌, ◌⊎◌, ℕ, List, [], ◌++◌, codes, Option, IsSome, Bool, true, false}
 use Rattle.std.specs.Io.KnownBytes.{Appends, Keeps}
-use Rattle.ngc_text.specs.Written.{AppendsBeginning}
+use Rattle.ngc_text.specs.Written.{AppendsPrefix}
 use Rattle.ngc_line_reader.specs.Program.{lines_of}
 use Rattle.ngc_line_reader.specs.ProgramText.{program_of}
 use Rattle.ngc_line_reader.specs.ProgramView.{FaultIs}
@@ -40,15 +40,15 @@ is_of_text _ = true
 -- The program has this fault, which is reported for a named file only, since standard input isn't
 -- read again. If the sink failed, a prefix of the report is written. If the file isn't read again,
 -- as when it is too long or memory runs out, nothing is written.
-abbrev pub TellsUnreadable : Form → Option (List ℕ) → List ℕ → Option (List ℕ) → Option (List ℕ) →
+abbrev pub ReportsUnreadableFile : Form → Option (List ℕ) → List ℕ → Option (List ℕ) → Option (List ℕ) →
     AnswerFault → Type 0
-TellsUnreadable form name bytes old new (answers.Read fault) =
+ReportsUnreadableFile form name bytes old new (answers.Read fault) =
     FaultIs fault (program_of bytes)
     × (Keeps old new ⊎
     (IsSome name × (is_of_text fault ≡ true) ×
     Appends old new (unreadable_text form fault bytes)))
-TellsUnreadable form name bytes old new (answers.Write e) =
+ReportsUnreadableFile form name bytes old new (answers.Write e) =
     (fault : ReadFault) × IsSome name × (is_of_text fault ≡ true) ×
     FaultIs fault (program_of bytes) ×
-    AppendsBeginning old new (unreadable_text form fault bytes)
-TellsUnreadable form name bytes old new _ = ⊥
+    AppendsPrefix old new (unreadable_text form fault bytes)
+ReportsUnreadableFile form name bytes old new _ = ⊥

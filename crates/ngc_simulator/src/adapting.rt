@@ -8,10 +8,10 @@ ghost use Rattle.ngc_machine_files.specs.Tools.{tools_of};
 ghost use Rattle.ngc_simulator.specs.Adapting.{Adapts, IsAsked, IsRequest, Understands};
 ghost use Rattle.ngc_simulator.specs.Adapting.{homes_of};
 ghost use Rattle.ngc_simulator.specs.Adapting.{IsOfProgram, IsTableFault, refused_text};
-ghost use Rattle.ngc_simulator.specs.Answers.{AdaptComes, NoRequest, adapt_inputs};
+ghost use Rattle.ngc_simulator.specs.Answers.{AdaptResult, NoRequest, adapt_inputs};
 ghost use Rattle.ngc_inputs.specs.Faults.{FailsByOutput, answer_status};
 ghost use Rattle.ngc_inputs.specs.Setups.{KeepsNamed};
-ghost use Rattle.ngc_inputs.specs.Unread.{FailsByInput, SourceFails, TellsUnread};
+ghost use Rattle.ngc_inputs.specs.Unread.{FailsByInput, SourceFails, ReportsUnread};
 
 use crate::done::{Done, Notes};
 use ngc_adapt::{MOST_DROPPED, Options};
@@ -117,7 +117,7 @@ fn adapt<W: Sink>(
 
 // Returns the request of the options, without a machine: 724 for a control that isn't known, and
 // 725 if the codes to drop aren't a list of M codes.
-fn asked_by(options: &AdaptOptions<'_>) -> Result<Request, AnswerFault>
+fn requested_by(options: &AdaptOptions<'_>) -> Result<Request, AnswerFault>
     ensures { MatchResult result (IsAsked options.now) (NoRequest options.now) }
 {
     let Some(dialect) = control_named(options.from) else {
@@ -180,7 +180,7 @@ fn source_bytes<F: Files>(
         (λ bytes. IfOk result (λ v. v.items ≡ bytes)) }
     ensures counts { OnOk result (F.failures files.new ≡ F.failures files.old) }
     ensures unread { IfErr result
-        (TellsUnread (SourceFails F.R.remaining F.R.failures)
+        (ReportsUnread (SourceFails F.R.remaining F.R.failures)
         (F.bytes files.old (option_map (λ n. n.now) name.entry))
         (F.failures files.old) (F.failures files.new)) }
 {
@@ -195,13 +195,13 @@ pub(crate) fn adapt_files<F: Files, W: Sink>(
     files: &mut F,
     output: &mut W,
 ) -> Result<Done, AnswerFault>
-    ensures comes { AdaptComes (F.bytes files.old) options.now (W.written output.old)
+    ensures comes { AdaptResult (F.bytes files.old) options.now (W.written output.old)
         (W.written output.new) result }
     ensures unread { FailsByInput (SourceFails F.R.remaining F.R.failures) (F.bytes files.old)
         (adapt_inputs options.now) (F.failures files.old) (F.failures files.new) result }
     ensures sink { FailsByOutput result (W.failures output.old) (W.failures output.new) }
 {
-    let asked = asked_by(options)?;
+    let asked = requested_by(options)?;
     let shop = read_shop(alloc, options.machine, None, files)?;
     let file = source_bytes(alloc, options.program, files)?;
     let request = request_on(&shop.machine, options, &asked);

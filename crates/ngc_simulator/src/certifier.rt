@@ -5,7 +5,7 @@ ghost use Rattle.ngc_certificate.specs.Plans.{both_planned};
 ghost use Rattle.ngc_certificate_text.specs.Certificate.{AreEntries};
 ghost use Rattle.ngc_text.specs.Failures.{Rises};
 ghost use Rattle.ngc_line_reader.specs.declared.program.fault.ReadFault.TheVariants.{Device};
-ghost use Rattle.ngc_simulator.specs.Answers.{CertifyComes, certify_inputs};
+ghost use Rattle.ngc_simulator.specs.Answers.{CertifyResult, certify_inputs};
 ghost use Rattle.ngc_inputs.specs.Faults.{FailsByOutput, OfCertifying};
 ghost use Rattle.ngc_inputs.specs.Jobs.{Certifies, IsMadeOf, IsUnmade, IsWrittenAs, refused_at};
 ghost use Rattle.ngc_inputs.specs.Unread.{FailsByInput, SourceFails};
@@ -165,7 +165,7 @@ pub(crate) fn certify_files<F: Files, W: Sink>(
     output: &mut W,
 ) -> Result<Done, AnswerFault>
     requires { 1 ≤ options.now.cuts }
-    ensures comes { CertifyComes (F.bytes files.old) options.now (W.written output.old)
+    ensures comes { CertifyResult (F.bytes files.old) options.now (W.written output.old)
         (W.written output.new) result }
     ensures unread { FailsByInput (SourceFails F.R.remaining F.R.failures) (F.bytes files.old)
         (certify_inputs options.now) (F.failures files.old) (F.failures files.new) result }

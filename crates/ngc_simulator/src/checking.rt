@@ -4,7 +4,7 @@ ghost use Rattle.ngc_certificate_text.specs.declared.fault.CertificateFault.TheV
 ghost use Rattle.ngc_text.specs.Failures.{Rises};
 ghost use Rattle.ngc_line_reader.specs.ProgramText.{program_of, HaveReadings};
 ghost use Rattle.ngc_line_reader.specs.ProgramView.{text_in};
-ghost use Rattle.ngc_simulator.specs.Answers.{CheckComes, check_inputs};
+ghost use Rattle.ngc_simulator.specs.Answers.{CheckResult, check_inputs};
 ghost use Rattle.ngc_inputs.specs.Faults.{FailsByOutput, OfChecking};
 ghost use Rattle.ngc_inputs.specs.Jobs.{Checks};
 ghost use Rattle.ngc_inputs.specs.Unread.{FailsByInput, SourceFails};
@@ -56,7 +56,7 @@ pub(crate) fn check_files<F: Files, W: Sink>(
     files: &mut F,
     output: &mut W,
 ) -> Result<Done, AnswerFault>
-    ensures comes { CheckComes (F.bytes files.old) options.now (W.written output.old)
+    ensures comes { CheckResult (F.bytes files.old) options.now (W.written output.old)
         (W.written output.new) result }
     ensures unread { FailsByInput (SourceFails F.R.remaining F.R.failures) (F.bytes files.old)
         (check_inputs options.now) (F.failures files.old) (F.failures files.new) result }

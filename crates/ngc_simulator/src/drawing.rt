@@ -4,12 +4,12 @@ ghost use Rattle.std.specs.Prelude.{option_map};
 ghost use Rattle.ngc_canonical.specs.Interpreter.{setup_of};
 ghost use Rattle.ngc_commands.specs.Sequence.{COMMAND_LIMIT};
 ghost use Rattle.ngc_certificate_text.specs.Contents.{said_of};
-ghost use Rattle.ngc_certificate_text.specs.Said.{certificate_said};
+ghost use Rattle.ngc_certificate_text.specs.Said.{parsed_certificate};
 ghost use Rattle.ngc_line_reader.specs.ProgramText.{program_of, HaveReadings};
 ghost use Rattle.ngc_line_reader.specs.ProgramView.{text_in};
 ghost use Rattle.ngc_machine_files.specs.Machine.{file_of};
 ghost use Rattle.ngc_inputs.specs.Faults.{FailsByOutput, OfDrawing};
-ghost use Rattle.ngc_simulator.specs.Drawing.{DrawsGiven, DrawsProgram, IsFirstRefused, IsMadeRefusal};
+ghost use Rattle.ngc_simulator.specs.Drawing.{DrawsNamed, DrawsProgram, IsFirstRefused, IsMadeRefusal};
 ghost use Rattle.ngc_simulator.specs.Drawing.{drawn_refusal, fault_at, line_or_last, shown_line};
 ghost use Rattle.ngc_simulator.specs.Drawing.{origin_shown, work_of};
 ghost use Rattle.ngc_offsets.specs.Frames.{index};
@@ -263,8 +263,8 @@ pub fn draw_certified<A: Allocator + Copy, W: Sink>(
     // For any files from which the program and the certificate were read.
     ensures draws { (bytes text : List ℕ) → program_of bytes ≡ Ok (text_in program.now) →
         HaveReadings (text_in program.now).lines →
-        certificate_said text ≡ Ok (said_of certificate.now) →
-        DrawsGiven (setup_of machine.now tools.now) bytes text block_delete look
+        parsed_certificate text ≡ Ok (said_of certificate.now) →
+        DrawsNamed (setup_of machine.now tools.now) bytes text block_delete look
         (W.written output.old) (W.written output.new) result }
     ensures sink { FailsByOutput result (W.failures output.old) (W.failures output.new) }
     ensures faults { IfErr result OfDrawing }

@@ -1,6 +1,6 @@
 //! Pictures of programs, from the files that the command line names.
 ghost use Rattle.std.specs.Prelude.{◌≡◌, Ok, Some, option_map};
-ghost use Rattle.ngc_simulator.specs.Answers.{DrawComes, draw_inputs};
+ghost use Rattle.ngc_simulator.specs.Answers.{DrawResult, draw_inputs};
 ghost use Rattle.ngc_simulator.specs.Drawing.{view_named};
 ghost use Rattle.ngc_inputs.specs.Faults.{FailsByOutput};
 ghost use Rattle.ngc_inputs.specs.Unread.{FailsByInput, SourceFails};
@@ -22,7 +22,7 @@ fn draw_plain<F: Files, W: Sink>(
     output: &mut W,
 ) -> Result<Done, AnswerFault>
     requires { options.now.certificate ≡ None }
-    ensures comes { DrawComes (F.bytes files.old) options.now (Some view) (W.written output.old)
+    ensures comes { DrawResult (F.bytes files.old) options.now (Some view) (W.written output.old)
         (W.written output.new) result }
     ensures unread { FailsByInput (SourceFails F.R.remaining F.R.failures) (F.bytes files.old)
         (draw_inputs options.now (Some view)) (F.failures files.old) (F.failures files.new) result }
@@ -62,7 +62,7 @@ fn draw_with<F: Files, W: Sink>(
     output: &mut W,
 ) -> Result<Done, AnswerFault>
     requires { option_map (λ name. name.now) options.now.certificate ≡ Some certificate.now }
-    ensures comes { DrawComes (F.bytes files.old) options.now (Some view) (W.written output.old)
+    ensures comes { DrawResult (F.bytes files.old) options.now (Some view) (W.written output.old)
         (W.written output.new) result }
     ensures unread { FailsByInput (SourceFails F.R.remaining F.R.failures) (F.bytes files.old)
         (draw_inputs options.now (Some view)) (F.failures files.old) (F.failures files.new) result }
@@ -101,7 +101,7 @@ pub(crate) fn draw_files<F: Files, W: Sink>(
     files: &mut F,
     output: &mut W,
 ) -> Result<Done, AnswerFault>
-    ensures comes { DrawComes (F.bytes files.old) options.now
+    ensures comes { DrawResult (F.bytes files.old) options.now
         (view_named (option_map (λ name. name.now) options.now.view)) (W.written output.old)
         (W.written output.new) result }
     ensures unread { FailsByInput (SourceFails F.R.remaining F.R.failures) (F.bytes files.old)

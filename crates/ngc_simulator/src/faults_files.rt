@@ -3,7 +3,7 @@ ghost use Rattle.std.specs.Prelude.{◌≡◌, [], ◌∷◌, IfErr, IfSome, Non
 ghost use Rattle.std.specs.Prelude.{option_map};
 ghost use Rattle.ngc_canonical.specs.Interpreter.{setup_of};
 ghost use Rattle.ngc_simulator.specs.Answers.{program_input};
-ghost use Rattle.ngc_simulator.specs.AllFaults.{TellsFaults, answer_of, first_among};
+ghost use Rattle.ngc_simulator.specs.AllFaults.{ReportsFaults, answer_of, first_among};
 ghost use Rattle.ngc_simulator.specs.AllFaults.{is_of_text};
 ghost use Rattle.ngc_inputs.specs.Faults.{FailsByOutput};
 ghost use Rattle.ngc_inputs.specs.Setups.{KeepsFiles};
@@ -56,14 +56,14 @@ fn answer_of(setting: Setting, fault: TextFault) -> AnswerFault
 // Writes the faults of a text, if it has any, and returns the first. If memory runs out, nothing is
 // written.
 #[tactic(auto, using(crate::proofs::FaultsLaws::answered_read))]
-fn tell_text<W: Sink>(
+fn print_failure<W: Sink>(
     alloc: Global,
     form: Form,
     text: &[u8],
     shop: &Shop,
     output: &mut W,
 ) -> Result<(), AnswerFault>
-    ensures told { IfErr result (TellsFaults (setup_of shop.now.machine shop.now.tools) form
+    ensures told { IfErr result (ReportsFaults (setup_of shop.now.machine shop.now.tools) form
         text.now (W.written output.old) (W.written output.new)) }
     ensures silent { OnOk result (W.written output.new ≡ W.written output.old) }
     ensures read { IfErr result (λ fault. unread_by fault ≡ None) }
@@ -89,7 +89,7 @@ fn tell_text<W: Sink>(
     }
 }
 
-fn tell_named<F: Files, W: Sink>(
+fn report_named<F: Files, W: Sink>(
     alloc: Global,
     form: Form,
     name: &str,
@@ -98,7 +98,7 @@ fn tell_named<F: Files, W: Sink>(
     output: &mut W,
 ) -> Result<(), AnswerFault>
     ensures told { IfSome (F.bytes files.old (Some name.now)) (λ bytes. IfErr result
-        (TellsFaults (setup_of shop.now.machine shop.now.tools) form bytes
+        (ReportsFaults (setup_of shop.now.machine shop.now.tools) form bytes
         (W.written output.old) (W.written output.new))) }
     ensures silent { OnOk result (W.written output.new ≡ W.written output.old) }
     ensures keeps { KeepsFiles (F.bytes files.old) (F.bytes files.new) }
@@ -111,13 +111,13 @@ fn tell_named<F: Files, W: Sink>(
         Err(InputFault::Device) => return Err(AnswerFault::Read(ReadFault::Device)),
         Err(InputFault::Memory | InputFault::TooLong) => return Ok(()),
     };
-    tell_text(alloc, form, text.as_slice(), shop, output)
+    print_failure(alloc, form, text.as_slice(), shop, output)
 }
 
 /// Writes all faults of a named program if all are requested, and returns the first: its lines that
 /// can't be read and those that are refused. Nothing is written for a program without a fault, or
 /// if its file is too long or memory runs out.
-pub(crate) fn tell_faults<F: Files, W: Sink>(
+pub(crate) fn report_all_faults<F: Files, W: Sink>(
     alloc: Global,
     options: &ReportOptions<'_>,
     form: Form,
@@ -127,7 +127,7 @@ pub(crate) fn tell_faults<F: Files, W: Sink>(
 ) -> Result<(), AnswerFault>
     ensures told { IfSome (F.bytes files.old (option_map (λ n. n.now) options.now.program))
         (λ bytes. IfErr result
-        (TellsFaults (setup_of shop.now.machine shop.now.tools) form bytes
+        (ReportsFaults (setup_of shop.now.machine shop.now.tools) form bytes
         (W.written output.old) (W.written output.new))) }
     ensures all { IfErr result (λ _. options.now.all ≡ true) }
     ensures silent { OnOk result (W.written output.new ≡ W.written output.old) }
@@ -141,7 +141,7 @@ pub(crate) fn tell_faults<F: Files, W: Sink>(
         return Ok(());
     }
     match options.program {
-        Some(name) => tell_named(alloc, form, name, shop, files, output),
+        Some(name) => report_named(alloc, form, name, shop, files, output),
         None => Ok(()),
     }
 }

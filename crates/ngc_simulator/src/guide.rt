@@ -2,7 +2,7 @@
 ghost use Rattle.std.specs.Prelude.{OnErr, OnOk};
 ghost use Rattle.std.specs.Io.KnownBytes.{Appends};
 ghost use Rattle.ngc_text.specs.Failures.{CountsFailure};
-ghost use Rattle.ngc_text.specs.Written.{AppendsBeginning};
+ghost use Rattle.ngc_text.specs.Written.{AppendsPrefix};
 ghost use Rattle.ngc_inputs.specs.Faults.{FailsByOutput};
 ghost use Rattle.ngc_simulator.specs.Guides.{Guides, version_text};
 
@@ -31,7 +31,7 @@ pub(crate) fn write_help<W: Sink>(
 pub(crate) fn write_version<W: Sink>(output: &mut W) -> Result<(), WriteFault>
     ensures ok { OnOk result (Appends (W.written output.old) (W.written output.new) version_text) }
     ensures fault { OnErr result
-        (AppendsBeginning (W.written output.old) (W.written output.new) version_text) }
+        (AppendsPrefix (W.written output.old) (W.written output.new) version_text) }
     ensures counts { CountsFailure (W.failures output.old) (W.failures output.new) result }
 {
     write_all(output, b"ngc 0.1.0\n")

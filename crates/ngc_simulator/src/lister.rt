@@ -2,7 +2,7 @@ ghost use Rattle.std.specs.Prelude.{◌≡◌, IfErr, IfSome, Err};
 ghost use Rattle.ngc_canonical.specs.Interpreter.{setup_of};
 ghost use Rattle.ngc_text.specs.Failures.{Rises};
 ghost use Rattle.ngc_line_reader.specs.declared.program.fault.ReadFault.TheVariants.{Device};
-ghost use Rattle.ngc_simulator.specs.Answers.{ListComes, list_inputs};
+ghost use Rattle.ngc_simulator.specs.Answers.{ListResult, list_inputs};
 ghost use Rattle.ngc_inputs.specs.Faults.{FailsByOutput, OfListing};
 ghost use Rattle.ngc_simulator.specs.Lists.{Lists};
 ghost use Rattle.ngc_inputs.specs.Unread.{FailsByInput, SourceFails};
@@ -52,7 +52,7 @@ pub(crate) fn list_files<F: Files, W: Sink>(
     files: &mut F,
     output: &mut W,
 ) -> Result<Done, AnswerFault>
-    ensures comes { ListComes (F.bytes files.old) options.now (W.written output.old)
+    ensures comes { ListResult (F.bytes files.old) options.now (W.written output.old)
         (W.written output.new) result }
     ensures unread { FailsByInput (SourceFails F.R.remaining F.R.failures) (F.bytes files.old)
         (list_inputs options.now) (F.failures files.old) (F.failures files.new) result }

@@ -2,7 +2,7 @@
 ghost use Rattle.std.specs.Prelude.{◌≡◌, ℕ, List, IfErr, Err, Some, option_map};
 ghost use Rattle.ngc_canonical.specs.State.{Setup};
 ghost use Rattle.ngc_text.specs.Failures.{Rises};
-ghost use Rattle.ngc_simulator.specs.Answers.{LiveComes, live_asked, live_inputs};
+ghost use Rattle.ngc_simulator.specs.Answers.{LiveResult, requested_live, live_inputs};
 ghost use Rattle.ngc_inputs.specs.Faults.{FailsByOutput, OfLiving};
 ghost use Rattle.ngc_inputs.specs.Judging.{IsVerdict};
 ghost use Rattle.ngc_simulator.specs.Lives.{Lives, live_named};
@@ -77,7 +77,7 @@ fn live_files<F: Files, W: Sink>(
     files: &mut F,
     output: &mut W,
 ) -> Result<Done, AnswerFault>
-    ensures comes { LiveComes (F.bytes files.old) options.now (Some form) (W.written output.old)
+    ensures comes { LiveResult (F.bytes files.old) options.now (Some form) (W.written output.old)
         (W.written output.new) result }
     ensures unread { FailsByInput (SourceFails F.R.remaining F.R.failures) (F.bytes files.old)
         (live_inputs options.now (Some form)) (F.failures files.old) (F.failures files.new) result }
@@ -106,16 +106,16 @@ fn live_files<F: Files, W: Sink>(
 }
 
 /// Makes a live run in the requested form. The form is looked up before a file is read.
-pub(crate) fn live_asked<F: Files, W: Sink>(
+pub(crate) fn requested_live<F: Files, W: Sink>(
     alloc: Global,
     options: &LiveOptions<'_>,
     files: &mut F,
     output: &mut W,
 ) -> Result<Done, AnswerFault>
-    ensures comes { LiveComes (F.bytes files.old) options.now (live_asked options.now)
+    ensures comes { LiveResult (F.bytes files.old) options.now (requested_live options.now)
         (W.written output.old) (W.written output.new) result }
     ensures unread { FailsByInput (SourceFails F.R.remaining F.R.failures) (F.bytes files.old)
-        (live_inputs options.now (live_asked options.now)) (F.failures files.old)
+        (live_inputs options.now (requested_live options.now)) (F.failures files.old)
         (F.failures files.new) result }
     ensures sink { FailsByOutput result (W.failures output.old) (W.failures output.new) }
 {

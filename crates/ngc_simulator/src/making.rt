@@ -8,7 +8,7 @@ ghost use Rattle.ngc_machine_maker.specs.File.{file_text};
 ghost use Rattle.ngc_machine_maker.specs.InFile.{AreInFile};
 ghost use Rattle.ngc_machine_maker.specs.Ranges.{IsScale};
 ghost use Rattle.ngc_machine_maker.specs.Sentences.{refusal_line};
-ghost use Rattle.ngc_simulator.specs.Answers.{MachineComes, machine_inputs};
+ghost use Rattle.ngc_simulator.specs.Answers.{MachineResult, machine_inputs};
 ghost use Rattle.ngc_inputs.specs.Faults.{FailsByOutput};
 ghost use Rattle.ngc_setup_sheet.specs.Sheets.{warning_remarks};
 ghost use Rattle.ngc_simulator.specs.Making.{AreChoices, AreFigures, IsAskedFor, IsMadeText};
@@ -92,7 +92,7 @@ fn choices_of<'a>(options: &MachineOptions<'a>) -> Choices<'a>
 }
 
 // Returns the requested figures: of a dump of GRBL's settings, or of the options.
-fn figures_asked(
+fn requested_figures(
     options: &MachineOptions<'_>,
     dump: Option<&[u8]>,
 ) -> Result<Figures, FigureRefusal>
@@ -204,7 +204,7 @@ fn make<W: Sink>(
         (W.written output.new) result }
     ensures sink { FailsByOutput result (W.failures output.old) (W.failures output.new) }
 {
-    let figures = match figures_asked(options, dump) {
+    let figures = match requested_figures(options, dump) {
         Ok(figures) => figures,
         Err(refusal) => return refused(alloc, refusal),
     };
@@ -232,7 +232,7 @@ pub(crate) fn machine_files<F: Files, W: Sink>(
     files: &mut F,
     output: &mut W,
 ) -> Result<Done, AnswerFault>
-    ensures comes { MachineComes (F.bytes files.old) options.now (W.written output.old)
+    ensures comes { MachineResult (F.bytes files.old) options.now (W.written output.old)
         (W.written output.new) result }
     ensures unread { FailsByInput (SourceFails F.R.remaining F.R.failures) (F.bytes files.old)
         (machine_inputs options.now) (F.failures files.old) (F.failures files.new) result }

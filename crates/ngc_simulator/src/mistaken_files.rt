@@ -3,13 +3,13 @@ ghost use Rattle.std.specs.Prelude.{◌≡◌, ◌≢◌, IfErr, IsSomeAnd, None
 ghost use Rattle.std.specs.Prelude.{option_map};
 ghost use Rattle.std.specs.Io.KnownBytes.{Appends};
 ghost use Rattle.ngc_text.specs.Failures.{CountsFailure};
-ghost use Rattle.ngc_text.specs.Written.{AppendsBeginning};
+ghost use Rattle.ngc_text.specs.Written.{AppendsPrefix};
 ghost use Rattle.ngc_machine_files.specs.Faults.{number_of as file_number};
 ghost use Rattle.ngc_machine_files.specs.declared.fault.FileFault.TheVariants.{Memory};
 ghost use Rattle.ngc_report.specs.declared.form.Form.TheVariants.{Words};
 ghost use Rattle.ngc_setup_sheet.specs.Mistakes.{machine_mistake_text, tools_mistake_text};
 ghost use Rattle.ngc_inputs.specs.Faults.{FailsByOutput};
-ghost use Rattle.ngc_simulator.specs.Mistaken.{GivesPlacedTold, GivesTold, OfText, TellsMistake};
+ghost use Rattle.ngc_simulator.specs.Mistaken.{PlacedReportResultIs, ReportResultIs, OfText, ReportsMistake};
 ghost use Rattle.ngc_simulator.specs.Mistaken.{fault_document};
 ghost use Rattle.ngc_inputs.specs.Setups.{KeepsFiles};
 ghost use Rattle.ngc_inputs.specs.Unread.{FailsByInput, OfMachine, OfTools, SourceFails};
@@ -28,7 +28,7 @@ fn write_fault_document<W: Sink>(number: u16, output: &mut W) -> Result<(), Writ
     ensures ok { OnOk result
         (Appends (W.written output.old) (W.written output.new) (fault_document number)) }
     ensures fault { OnErr result
-        (AppendsBeginning (W.written output.old) (W.written output.new) (fault_document number)) }
+        (AppendsPrefix (W.written output.old) (W.written output.new) (fault_document number)) }
     ensures counts { CountsFailure (W.failures output.old) (W.failures output.new) result }
 {
     write_all(output, opening(Form::Json))?;
@@ -36,8 +36,8 @@ fn write_fault_document<W: Sink>(number: u16, output: &mut W) -> Result<(), Writ
 }
 
 // Writes a document with the fault's number, or nothing if memory ran out.
-fn tell_number<W: Sink>(fault: FileFault, output: &mut W) -> Result<(), AnswerFault>
-    ensures tells { TellsMistake (λ P. (fault ≢ Memory) × P (fault_document (file_number fault)))
+fn report_number<W: Sink>(fault: FileFault, output: &mut W) -> Result<(), AnswerFault>
+    ensures tells { ReportsMistake (λ P. (fault ≢ Memory) × P (fault_document (file_number fault)))
         (W.written output.old) (W.written output.new) result }
     ensures unread { IfErr result (λ fault. unread_by fault ≡ None) }
     ensures sink { FailsByOutput result (W.failures output.old) (W.failures output.new) }
@@ -51,14 +51,14 @@ fn tell_number<W: Sink>(fault: FileFault, output: &mut W) -> Result<(), AnswerFa
 
 // Writes the mistake in the file's bytes, which are read once more. Nothing is written if memory
 // runs out.
-fn tell_machine_words<F: Files, W: Sink>(
+fn report_machine_words<F: Files, W: Sink>(
     alloc: Global,
     name: &str,
     fault: FileFault,
     files: &mut F,
     output: &mut W,
 ) -> Result<(), AnswerFault>
-    ensures tells { TellsMistake
+    ensures tells { ReportsMistake
         (OfText Words machine_mistake_text fault (F.bytes files.old (Some name.now)))
         (W.written output.old) (W.written output.new) result }
     ensures keeps { KeepsFiles (F.bytes files.old) (F.bytes files.new) }
@@ -79,14 +79,14 @@ fn tell_machine_words<F: Files, W: Sink>(
     Ok(())
 }
 
-fn tell_tools_words<F: Files, W: Sink>(
+fn report_tools_words<F: Files, W: Sink>(
     alloc: Global,
     name: &str,
     fault: FileFault,
     files: &mut F,
     output: &mut W,
 ) -> Result<(), AnswerFault>
-    ensures tells { TellsMistake
+    ensures tells { ReportsMistake
         (OfText Words tools_mistake_text fault (F.bytes files.old (Some name.now)))
         (W.written output.old) (W.written output.new) result }
     ensures keeps { KeepsFiles (F.bytes files.old) (F.bytes files.new) }
@@ -106,7 +106,7 @@ fn tell_tools_words<F: Files, W: Sink>(
     Ok(())
 }
 
-fn tell_machine_mistake<F: Files, W: Sink>(
+fn report_machine_mistake<F: Files, W: Sink>(
     alloc: Global,
     form: Form,
     name: &str,
@@ -114,7 +114,7 @@ fn tell_machine_mistake<F: Files, W: Sink>(
     files: &mut F,
     output: &mut W,
 ) -> Result<(), AnswerFault>
-    ensures tells { TellsMistake
+    ensures tells { ReportsMistake
         (OfText form machine_mistake_text fault (F.bytes files.old (Some name.now)))
         (W.written output.old) (W.written output.new) result }
     ensures keeps { KeepsFiles (F.bytes files.old) (F.bytes files.new) }
@@ -124,12 +124,12 @@ fn tell_machine_mistake<F: Files, W: Sink>(
     ensures sink { FailsByOutput result (W.failures output.old) (W.failures output.new) }
 {
     match form {
-        Form::Words => tell_machine_words(alloc, name, fault, files, output),
-        Form::Json => tell_number(fault, output),
+        Form::Words => report_machine_words(alloc, name, fault, files, output),
+        Form::Json => report_number(fault, output),
     }
 }
 
-fn tell_tools_mistake<F: Files, W: Sink>(
+fn report_tools_mistake<F: Files, W: Sink>(
     alloc: Global,
     form: Form,
     name: &str,
@@ -137,7 +137,7 @@ fn tell_tools_mistake<F: Files, W: Sink>(
     files: &mut F,
     output: &mut W,
 ) -> Result<(), AnswerFault>
-    ensures tells { TellsMistake
+    ensures tells { ReportsMistake
         (OfText form tools_mistake_text fault (F.bytes files.old (Some name.now)))
         (W.written output.old) (W.written output.new) result }
     ensures keeps { KeepsFiles (F.bytes files.old) (F.bytes files.new) }
@@ -146,8 +146,8 @@ fn tell_tools_mistake<F: Files, W: Sink>(
     ensures sink { FailsByOutput result (W.failures output.old) (W.failures output.new) }
 {
     match form {
-        Form::Words => tell_tools_words(alloc, name, fault, files, output),
-        Form::Json => tell_number(fault, output),
+        Form::Words => report_tools_words(alloc, name, fault, files, output),
+        Form::Json => report_number(fault, output),
     }
 }
 
@@ -155,7 +155,7 @@ fn tell_tools_mistake<F: Files, W: Sink>(
 /// none. Where it refuses a file, the file's mistake is written first, in words, or as a document
 /// that has the fault's number alone: 901 where the file isn't read a second time, 902 where the
 /// write fails.
-pub(crate) fn read_shop_telling<F: Files, W: Sink>(
+pub(crate) fn read_shop_reporting<F: Files, W: Sink>(
     alloc: Global,
     form: Form,
     machine: &str,
@@ -163,7 +163,7 @@ pub(crate) fn read_shop_telling<F: Files, W: Sink>(
     files: &mut F,
     output: &mut W,
 ) -> Result<Shop, AnswerFault>
-    ensures said { GivesTold form (F.bytes files.old) (Some machine.now)
+    ensures said { ReportResultIs form (F.bytes files.old) (Some machine.now)
         (option_map (λ n. n.now) tools.entry) (W.written output.old) (W.written output.new) result }
     ensures keeps { KeepsFiles (F.bytes files.old) (F.bytes files.new) }
     // The first file that isn't read can't be opened, its source fails, or it is too long.
@@ -175,11 +175,11 @@ pub(crate) fn read_shop_telling<F: Files, W: Sink>(
     match (read_shop(alloc, Some(machine), tools, files), tools) {
         (Ok(shop), _) => Ok(shop),
         (Err(AnswerFault::Machine(fault)), _) => {
-            tell_machine_mistake(alloc, form, machine, fault, files, output)?;
+            report_machine_mistake(alloc, form, machine, fault, files, output)?;
             Err(AnswerFault::Machine(fault))
         }
         (Err(AnswerFault::Tools(fault)), Some(tools)) => {
-            tell_tools_mistake(alloc, form, tools, fault, files, output)?;
+            report_tools_mistake(alloc, form, tools, fault, files, output)?;
             Err(AnswerFault::Tools(fault))
         }
         (Err(fault), _) => Err(fault),
@@ -187,8 +187,8 @@ pub(crate) fn read_shop_telling<F: Files, W: Sink>(
 }
 
 /// Returns the machine, with these origins in place of its own, and its tools, or the fault for
-/// which there are none, as `read_shop_telling` does.
-pub(crate) fn read_placed_telling<F: Files, W: Sink>(
+/// which there are none, as `read_shop_reporting` does.
+pub(crate) fn read_placed_reporting<F: Files, W: Sink>(
     alloc: Global,
     form: Form,
     machine: &str,
@@ -197,7 +197,7 @@ pub(crate) fn read_placed_telling<F: Files, W: Sink>(
     files: &mut F,
     output: &mut W,
 ) -> Result<Shop, AnswerFault>
-    ensures said { GivesPlacedTold form (F.bytes files.old) (Some machine.now)
+    ensures said { PlacedReportResultIs form (F.bytes files.old) (Some machine.now)
         (option_map (λ n. n.now) tools.entry) origins.now (W.written output.old)
         (W.written output.new) result }
     ensures keeps { KeepsFiles (F.bytes files.old) (F.bytes files.new) }
@@ -207,7 +207,7 @@ pub(crate) fn read_placed_telling<F: Files, W: Sink>(
         (F.failures files.old) (F.failures files.new) result }
     ensures sink { FailsByOutput result (W.failures output.old) (W.failures output.new) }
 {
-    match read_shop_telling(alloc, form, machine, tools, files, output) {
+    match read_shop_reporting(alloc, form, machine, tools, files, output) {
         Ok(shop) => Ok(shop.with_origins(origins)),
         Err(fault) => Err(fault),
     }

@@ -3,7 +3,7 @@ ghost use Rattle.std.specs.Prelude.{◌≡◌, ◌≤◌, Err, IfErr, IfOk, IfSo
 ghost use Rattle.std.specs.Prelude.{slice_get};
 ghost use Rattle.std.specs.Io.KnownBytes.{Appends};
 ghost use Rattle.ngc_text.specs.Failures.{CountsFailure, Rises};
-ghost use Rattle.ngc_text.specs.Written.{AppendsBeginning};
+ghost use Rattle.ngc_text.specs.Written.{AppendsPrefix};
 ghost use Rattle.ngc_line_reader.specs.declared.program.fault.ReadFault.TheVariants.{Device};
 ghost use Rattle.ngc_machine_files.specs.Machine.{file_of};
 ghost use Rattle.ngc_canonical.specs.Interpreter.{setup_of};
@@ -12,15 +12,15 @@ ghost use Rattle.ngc_program_report.specs.Coordinates.{line_of};
 ghost use Rattle.ngc_program_report.specs.Texts.{is_on};
 ghost use Rattle.ngc_inputs.specs.Faults.{FailsByOutput, OfCertifying};
 ghost use Rattle.ngc_inputs.specs.Unread.{FailsByInput, SourceFails};
-ghost use Rattle.ngc_simulator.specs.Answers.{PlaceComes, place_inputs, place_request};
-ghost use Rattle.ngc_simulator.specs.Answers.{system_asked};
+ghost use Rattle.ngc_simulator.specs.Answers.{PlaceResult, place_inputs, place_request};
+ghost use Rattle.ngc_simulator.specs.Answers.{requested_system};
 ghost use Rattle.ngc_simulator.specs.Placing.{IsHere, PlaceWritten, placement_text};
 
 use crate::certifier::{plans_for, refused};
 use crate::done::Done;
-use crate::mistaken_files::read_placed_telling;
+use crate::mistaken_files::read_placed_reporting;
 use crate::place_request::PlaceRequest;
-use crate::reporting_files::form_asked;
+use crate::reporting_files::requested_form;
 use ngc_certificate::{MakeFault, Setting};
 use ngc_command_line::PlaceOptions;
 use ngc_commands::Command;
@@ -85,7 +85,7 @@ fn write_placement<A: Allocator, W: Sink>(
 ) -> Result<(), WriteFault>
     ensures ok { OnOk result (Appends (W.written output.old) (W.written output.new)
         (placement_text form (file_of machine.now) system placement.now)) }
-    ensures fault { OnErr result (AppendsBeginning (W.written output.old) (W.written output.new)
+    ensures fault { OnErr result (AppendsPrefix (W.written output.old) (W.written output.new)
         (placement_text form (file_of machine.now) system placement.now)) }
     ensures counts { CountsFailure (W.failures output.old) (W.failures output.new) result }
 {
@@ -142,7 +142,7 @@ fn request_of(options: &PlaceOptions<'_>, system: System) -> PlaceRequest
     PlaceRequest {
         system,
         cuts: options.cuts,
-        form: form_asked(options.json),
+        form: requested_form(options.json),
     }
 }
 
@@ -155,7 +155,7 @@ fn place_named<F: Files, W: Sink>(
     files: &mut F,
     output: &mut W,
 ) -> Result<Done, AnswerFault>
-    ensures comes { PlaceComes (F.bytes files.old) options.now (Some system)
+    ensures comes { PlaceResult (F.bytes files.old) options.now (Some system)
         (W.written output.old) (W.written output.new) result }
     ensures unread { FailsByInput (SourceFails F.R.remaining F.R.failures) (F.bytes files.old)
         (place_inputs options.now (Some system)) (F.failures files.old) (F.failures files.new)
@@ -166,7 +166,7 @@ fn place_named<F: Files, W: Sink>(
     let form = request.form;
     let (machine, tools) = (options.machine, Some(options.tools));
     let origins = &options.origins;
-    let shop = read_placed_telling(alloc, form, machine, tools, origins, files, output)?;
+    let shop = read_placed_reporting(alloc, form, machine, tools, origins, files, output)?;
     let mut source = open_file(options.program, files)?;
     place_program(
         alloc,
@@ -186,10 +186,10 @@ pub(crate) fn place_files<F: Files, W: Sink>(
     files: &mut F,
     output: &mut W,
 ) -> Result<Done, AnswerFault>
-    ensures comes { PlaceComes (F.bytes files.old) options.now (system_asked options.now)
+    ensures comes { PlaceResult (F.bytes files.old) options.now (requested_system options.now)
         (W.written output.old) (W.written output.new) result }
     ensures unread { FailsByInput (SourceFails F.R.remaining F.R.failures) (F.bytes files.old)
-        (place_inputs options.now (system_asked options.now)) (F.failures files.old)
+        (place_inputs options.now (requested_system options.now)) (F.failures files.old)
         (F.failures files.new) result }
     ensures sink { FailsByOutput result (W.failures output.old) (W.failures output.new) }
 {

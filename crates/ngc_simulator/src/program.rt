@@ -1,5 +1,5 @@
 ghost use Rattle.std.specs.Prelude.{◌≡◌};
-ghost use Rattle.ngc_simulator.specs.Answers.{Answers, ComesBy, IsQuiet, inputs_of};
+ghost use Rattle.ngc_simulator.specs.Answers.{Answers, ResultsBy, IsQuiet, inputs_of};
 ghost use Rattle.ngc_inputs.specs.Faults.{FailsByOutput};
 ghost use Rattle.ngc_simulator.specs.Status.{IsStatus};
 ghost use Rattle.ngc_inputs.specs.Unread.{FailsByInput, SourceFails};
@@ -11,13 +11,13 @@ use crate::done::Done;
 use crate::drawing_files::draw_files;
 use crate::guide::{write_help, write_version};
 use crate::lister::list_files;
-use crate::living::live_asked;
+use crate::living::requested_live;
 use crate::making::machine_files;
 use crate::placing::place_files;
 use crate::reporting_files::report_files;
-use crate::running::run_asked;
+use crate::running::requested_run;
 use crate::showing::show_files;
-use crate::through::run_through_asked;
+use crate::through::requested_run_through;
 use ngc_command_line::Options;
 use ngc_fault_texts::{ExplainFault, explain};
 use ngc_inputs::{AnswerFault, Files, add_fault_line};
@@ -31,7 +31,7 @@ fn run_command<F: Files, W: Sink>(
     files: &mut F,
     output: &mut W,
 ) -> Result<Done, AnswerFault>
-    ensures comes { ComesBy (F.bytes files.old) options.now (W.written output.old)
+    ensures comes { ResultsBy (F.bytes files.old) options.now (W.written output.old)
         (W.written output.new) result }
     ensures unread { FailsByInput (SourceFails F.R.remaining F.R.failures) (F.bytes files.old)
         (inputs_of options.now) (F.failures files.old) (F.failures files.new) result }
@@ -41,9 +41,9 @@ fn run_command<F: Files, W: Sink>(
         Options::List(options) => list_files(alloc, options, files, output),
         Options::Certify(options) => certify_files(alloc, options, files, output),
         Options::Check(options) => check_files(alloc, options, files, output),
-        Options::Run(options) => run_asked(alloc, options, files, output),
-        Options::RunThrough(options) => run_through_asked(alloc, options, files, output),
-        Options::Live(options) => live_asked(alloc, options, files, output),
+        Options::Run(options) => requested_run(alloc, options, files, output),
+        Options::RunThrough(options) => requested_run_through(alloc, options, files, output),
+        Options::Live(options) => requested_live(alloc, options, files, output),
         Options::Draw(options) => draw_files(alloc, options, files, output),
         Options::Show(options) => show_files(alloc, options, files, output),
         Options::Report(options) => report_files(alloc, options, files, output),

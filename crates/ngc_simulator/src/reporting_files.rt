@@ -1,14 +1,14 @@
 //! The report of a program, from the files that the command line names.
 ghost use Rattle.std.specs.Prelude.{◌≡◌};
-ghost use Rattle.ngc_simulator.specs.Answers.{ReportComes, form_asked, report_inputs, request_of};
+ghost use Rattle.ngc_simulator.specs.Answers.{ReportResult, requested_form, report_inputs, request_of};
 ghost use Rattle.ngc_inputs.specs.Faults.{FailsByOutput};
 ghost use Rattle.ngc_inputs.specs.Unread.{FailsByInput, SourceFails};
 
 use crate::done::Done;
-use crate::faults_files::tell_faults;
-use crate::mistaken_files::read_placed_telling;
+use crate::faults_files::report_all_faults;
+use crate::mistaken_files::read_placed_reporting;
 use crate::reporting::report_program;
-use crate::unread_files::tell_unreadable;
+use crate::unread_files::report_unreadable;
 use ngc_command_line::ReportOptions;
 use ngc_inputs::{AnswerFault, Files, open_file};
 use ngc_program_report::ReportRequest;
@@ -17,8 +17,8 @@ use ngc_text::Sink;
 use std::alloc::Global;
 
 /// Returns the form that is requested: a document or words.
-pub(crate) fn form_asked(json: bool) -> Form
-    ensures { result ≡ form_asked json }
+pub(crate) fn requested_form(json: bool) -> Form
+    ensures { result ≡ requested_form json }
 {
     if json { Form::Json } else { Form::Words }
 }
@@ -29,7 +29,7 @@ fn request_of(options: &ReportOptions<'_>) -> ReportRequest
     ReportRequest {
         cuts: options.cuts,
         all: options.all,
-        form: form_asked(options.json),
+        form: requested_form(options.json),
         origins: options.origins,
     }
 }
@@ -44,7 +44,7 @@ pub(crate) fn report_files<F: Files, W: Sink>(
     files: &mut F,
     output: &mut W,
 ) -> Result<Done, AnswerFault>
-    ensures comes { ReportComes (F.bytes files.old) options.now (W.written output.old)
+    ensures comes { ReportResult (F.bytes files.old) options.now (W.written output.old)
         (W.written output.new) result }
     ensures unread { FailsByInput (SourceFails F.R.remaining F.R.failures) (F.bytes files.old)
         (report_inputs options.now) (F.failures files.old) (F.failures files.new) result }
@@ -54,8 +54,8 @@ pub(crate) fn report_files<F: Files, W: Sink>(
     let form = request.form;
     let (machine, tools) = (options.machine, Some(options.tools));
     let origins = &options.origins;
-    let shop = read_placed_telling(alloc, form, machine, tools, origins, files, output)?;
-    tell_faults(alloc, options, form, &shop, files, output)?;
+    let shop = read_placed_reporting(alloc, form, machine, tools, origins, files, output)?;
+    report_all_faults(alloc, options, form, &shop, files, output)?;
     let mut source = open_file(options.program, files)?;
     let fault = match report_program(
         alloc,
@@ -75,7 +75,7 @@ pub(crate) fn report_files<F: Files, W: Sink>(
     };
     match fault {
         AnswerFault::Read(fault) => {
-            let told = tell_unreadable(alloc, form, name, fault, files, output);
+            let told = report_unreadable(alloc, form, name, fault, files, output);
             Err(told)
         }
         _ => Err(fault),

@@ -3,7 +3,7 @@ ghost use Rattle.ngc_canonical.specs.State.{Setup};
 ghost use Rattle.ngc_machine_model.specs.Headline.{job_of};
 ghost use Rattle.ngc_checker.specs.Accepted.{commands_at};
 ghost use Rattle.ngc_run_through.specs.Runs.{FailsByWriting};
-ghost use Rattle.ngc_simulator.specs.Answers.{RunComes, run_inputs, run_writing};
+ghost use Rattle.ngc_simulator.specs.Answers.{RunResult, run_inputs, run_writing};
 ghost use Rattle.ngc_inputs.specs.Faults.{FailsByOutput, OfRunning};
 ghost use Rattle.ngc_inputs.specs.Judging.{IsVerdict};
 ghost use Rattle.ngc_simulator.specs.Running.{Runs, RecordsRun};
@@ -87,7 +87,7 @@ fn run_files<F: Files, W: Sink>(
     files: &mut F,
     output: &mut W,
 ) -> Result<Done, AnswerFault>
-    ensures comes { RunComes (F.bytes files.old) options.now (Some writing)
+    ensures comes { RunResult (F.bytes files.old) options.now (Some writing)
         (W.written output.old) (W.written output.new) result }
     ensures unread { FailsByInput (SourceFails F.R.remaining F.R.failures) (F.bytes files.old)
         (run_inputs options.now (Some writing)) (F.failures files.old) (F.failures files.new) result }
@@ -115,13 +115,13 @@ fn run_files<F: Files, W: Sink>(
 }
 
 /// Makes a run in the requested form. The form is looked up before a file is read.
-pub(crate) fn run_asked<F: Files, W: Sink>(
+pub(crate) fn requested_run<F: Files, W: Sink>(
     alloc: Global,
     options: &RunOptions<'_>,
     files: &mut F,
     output: &mut W,
 ) -> Result<Done, AnswerFault>
-    ensures comes { RunComes (F.bytes files.old) options.now (run_writing options.now)
+    ensures comes { RunResult (F.bytes files.old) options.now (run_writing options.now)
         (W.written output.old) (W.written output.new) result }
     ensures unread { FailsByInput (SourceFails F.R.remaining F.R.failures) (F.bytes files.old)
         (run_inputs options.now (run_writing options.now)) (F.failures files.old)

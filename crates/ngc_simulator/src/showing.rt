@@ -2,15 +2,15 @@
 ghost use Rattle.std.specs.Prelude.{OnErr, OnOk};
 ghost use Rattle.std.specs.Io.KnownBytes.{Appends};
 ghost use Rattle.ngc_text.specs.Failures.{CountsFailure};
-ghost use Rattle.ngc_text.specs.Written.{AppendsBeginning};
+ghost use Rattle.ngc_text.specs.Written.{AppendsPrefix};
 ghost use Rattle.ngc_machine_files.specs.Machine.{file_of};
-ghost use Rattle.ngc_simulator.specs.Answers.{ShowComes, show_inputs};
+ghost use Rattle.ngc_simulator.specs.Answers.{ShowResult, show_inputs};
 ghost use Rattle.ngc_inputs.specs.Faults.{FailsByOutput};
 ghost use Rattle.ngc_simulator.specs.Showing.{shown_text};
 ghost use Rattle.ngc_inputs.specs.Unread.{FailsByInput, SourceFails};
 
 use crate::done::Done;
-use crate::mistaken_files::read_shop_telling;
+use crate::mistaken_files::read_shop_reporting;
 use ngc_command_line::ShowOptions;
 use ngc_inputs::{AnswerFault, Files};
 use ngc_machine_files::{Machine, Tool};
@@ -30,7 +30,7 @@ fn write_shown<W: Sink>(
         (Appends (W.written output.old) (W.written output.new)
         (shown_text warnings (file_of machine.now) tools.now)) }
     ensures fault { OnErr result
-        (AppendsBeginning (W.written output.old) (W.written output.new)
+        (AppendsPrefix (W.written output.old) (W.written output.new)
         (shown_text warnings (file_of machine.now) tools.now)) }
     ensures counts { CountsFailure (W.failures output.old) (W.failures output.new) result }
 {
@@ -49,14 +49,14 @@ pub(crate) fn show_files<F: Files, W: Sink>(
     files: &mut F,
     output: &mut W,
 ) -> Result<Done, AnswerFault>
-    ensures comes { ShowComes (F.bytes files.old) options.now (W.written output.old)
+    ensures comes { ShowResult (F.bytes files.old) options.now (W.written output.old)
         (W.written output.new) result }
     ensures unread { FailsByInput (SourceFails F.R.remaining F.R.failures) (F.bytes files.old)
         (show_inputs options.now) (F.failures files.old) (F.failures files.new) result }
     ensures sink { FailsByOutput result (W.failures output.old) (W.failures output.new) }
 {
     let (machine, tools) = (options.machine, options.tools);
-    let shop = read_shop_telling(alloc, Form::Words, machine, tools, files, output)?;
+    let shop = read_shop_reporting(alloc, Form::Words, machine, tools, files, output)?;
     write_shown(options.warnings, &shop.machine, shop.tools.tools(), output)?;
     Ok(Done::Quietly)
 }

@@ -2,7 +2,7 @@
 ghost use Rattle.std.specs.Prelude.{◌≡◌, [], ◌∷◌, Err, IfSome, OnErr, OnOk, Some};
 ghost use Rattle.std.specs.Io.KnownBytes.{Appends};
 ghost use Rattle.ngc_text.specs.Failures.{CountsFailure};
-ghost use Rattle.ngc_text.specs.Written.{AppendsBeginning};
+ghost use Rattle.ngc_text.specs.Written.{AppendsPrefix};
 ghost use Rattle.ngc_line_reader.specs.ProgramText.{program_of};
 ghost use Rattle.ngc_line_reader.specs.ProgramView.{FaultIs};
 ghost use Rattle.ngc_line_reader.specs.declared.program.fault.ReadFault.TheVariants.{Device};
@@ -10,7 +10,7 @@ ghost use Rattle.ngc_simulator.specs.Answers.{program_input};
 ghost use Rattle.ngc_inputs.specs.Faults.{FailsWith, OfTelling};
 ghost use Rattle.ngc_inputs.specs.Setups.{KeepsFiles};
 ghost use Rattle.ngc_inputs.specs.Unread.{FailsByInput, SourceFails};
-ghost use Rattle.ngc_simulator.specs.Unreadable.{TellsUnreadable, is_of_text, marked_fault};
+ghost use Rattle.ngc_simulator.specs.Unreadable.{ReportsUnreadableFile, is_of_text, marked_fault};
 ghost use Rattle.ngc_simulator.specs.Unreadable.{unreadable_line, unreadable_text};
 
 use ngc_inputs::{AnswerFault, Files, bytes_of};
@@ -48,7 +48,7 @@ fn write_marked_fault<W: Sink>(
     ensures ok { OnOk result
         (Appends (W.written output.old) (W.written output.new) (marked_fault form fault text.now)) }
     ensures fault { OnErr result
-        (AppendsBeginning (W.written output.old) (W.written output.new)
+        (AppendsPrefix (W.written output.old) (W.written output.new)
         (marked_fault form fault text.now)) }
     ensures counts { CountsFailure (W.failures output.old) (W.failures output.new) result }
 {
@@ -73,7 +73,7 @@ fn write_unreadable<W: Sink>(
         (Appends (W.written output.old) (W.written output.new)
         (unreadable_text form fault text.now)) }
     ensures fault { OnErr result
-        (AppendsBeginning (W.written output.old) (W.written output.new)
+        (AppendsPrefix (W.written output.old) (W.written output.new)
         (unreadable_text form fault text.now)) }
     ensures counts { CountsFailure (W.failures output.old) (W.failures output.new) result }
 {
@@ -86,7 +86,7 @@ fn write_unreadable<W: Sink>(
 /// Writes why the program of a named file can't be read, with the line at fault, and returns the
 /// fault: 901 if the file, which is read once more, isn't read a second time, and 902 if the write
 /// fails. Nothing is written if memory runs out.
-pub(crate) fn tell_unreadable<F: Files, W: Sink>(
+pub(crate) fn report_unreadable<F: Files, W: Sink>(
     alloc: Global,
     form: Form,
     name: &str,
@@ -96,7 +96,7 @@ pub(crate) fn tell_unreadable<F: Files, W: Sink>(
 ) -> AnswerFault
     ensures tells { IfSome (F.bytes files.old (Some name.now))
         (λ bytes. FaultIs fault (program_of bytes) →
-        TellsUnreadable form (Some name.now) bytes (W.written output.old)
+        ReportsUnreadableFile form (Some name.now) bytes (W.written output.old)
         (W.written output.new) result) }
     ensures keeps { KeepsFiles (F.bytes files.old) (F.bytes files.new) }
     // For either of the two sources of the file that failed.

@@ -16,7 +16,7 @@ use Rattle.ngc_step_kernel.specs.Course.{course_at, IsPlan}
 use Rattle.ngc_step_kernel.specs.PlaneCourse.{laid, FollowsInPlane}
 use Rattle.ngc_step_kernel.specs.Round.{round_points, seen_height}
 use Rattle.ngc_step_kernel.specs.UnitPath.{IsUnitPath}
-use Rattle.ngc_step_kernel.proofs.Lifting.{lifts}
+use Rattle.ngc_step_kernel.proofs.LiftedCourses.{lifts}
 
 height_seen : (plane : Plane) (s : ℤ) (p : Point3) → seen_height plane (grid s p) ≡ nearest (height plane p) s
 height_seen XY s p = refl

@@ -17,7 +17,7 @@ use Rattle.ngc_step_kernel.specs.Spots.{IsSpot, straight_moves}
 use Rattle.ngc_step_kernel.specs.View.{squared, place_of, way_from, IsMoved, IsInReach, quadrants_left}
 use Rattle.ngc_step_kernel.proofs.EntryLemmas.{is_way}
 use Rattle.ngc_step_kernel.proofs.JointLemmas.{joint_near}
-use Rattle.ngc_step_kernel.proofs.RollsLemmas.{told_before}
+use Rattle.ngc_step_kernel.proofs.RollsLemmas.{reported_before}
 use Rattle.ngc_step_kernel.proofs.OnRim.{about_on, small_on, spots_on, axis_apart, around_small}
 
 pub some_root : (n r : ℕ) → 0 < n → n ≤ r * r → 0 < r
@@ -114,7 +114,7 @@ amount None = 0
 amount (Some n) = suc n
 
 begun_before : (s e : Spoke) (q : ℕ) → q ≡ 0 → is_before s e ≡ true → IsBeforeEnd 0 q s e
-begun_before s e q none told = inr (sym none, told_before s e told)
+begun_before s e q none told = inr (sym none, reported_before s e told)
 
 pub some_left : (n : ℕ) (short before : Bool) (q : ℕ) (s e : Spoke) → before ≡ is_before s e → quadrants_left n short before ≡ Some q → IsBeforeEnd 0 q s e
 some_left zero true true q s e told h = begun_before s e q (omega (arith, ap amount h)) (sym told)

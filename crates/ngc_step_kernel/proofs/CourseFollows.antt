@@ -35,7 +35,7 @@ use Rattle.ngc_step_kernel.proofs.TinyArcs.{IsTiny, tiny_seen}
 use Rattle.ngc_step_kernel.proofs.AroundLemmas.{some_root}
 use Rattle.ngc_step_kernel.proofs.ViewLemmas.{squared_is}
 use Rattle.ngc_step_kernel.proofs.TinyPoints.{small_leeway}
-use Rattle.ngc_step_kernel.proofs.Together.{together}
+use Rattle.ngc_step_kernel.proofs.CourseParts.{together}
 
 by_parts : (a : ArcShape) (g s r o left : ℕ) (from to joint entry : Spot) (first last : Spoke) (p : Plan) →
     IsRoundSetting a g s r o left (p.rolled - p.entered) from to joint entry first last → IsPlan p →

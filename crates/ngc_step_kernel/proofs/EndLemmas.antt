@@ -16,7 +16,7 @@ use Rattle.ngc_fixed_length.specs.declared.points.StepPos.{StepPos}
 use Rattle.ngc_fixed_length.proofs.Nearest.{nearest_near}
 use Rattle.ngc_step_kernel.specs.declared.round.Vector2.{Vector2}
 use Rattle.ngc_step_kernel.specs.declared.spot.Spot.{Spot}
-use Rattle.ngc_step_kernel.specs.Round.{turned, in_space, seen_spot, seen_height}
+use Rattle.ngc_step_kernel.specs.Round.{turned, in_space, grid_point_in_plane, seen_height}
 use Rattle.ngc_step_kernel.specs.UnitPath.{IsUnitPath}
 use Rattle.ngc_step_kernel.specs.View.{way_between, IsRadius, IsNearestSpot, IsInReach}
 use Rattle.ngc_step_kernel.proofs.ViewLemmas.{first_side, second_side}
@@ -35,13 +35,13 @@ turned_near Clockwise c z g some =
     omega (arith, ints, nearest_near z g some, neg_scaled n g, neg_is c, neg_is (z -ℤ c), neg_is (n *ℤ pos g))
 
 nearest_seen : (g : ℕ) (plane : Plane) (t : Turn) (c : Point2) (p : Point3) → 0 < g →
-    IsNearestSpot g (record { u = c.u; v = turned t c.v }) (way_between t c (in_plane plane p)) (seen_spot plane t (grid (pos g) p))
+    IsNearestSpot g (record { u = c.u; v = turned t c.v }) (way_between t c (in_plane plane p)) (grid_point_in_plane plane t (grid (pos g) p))
 nearest_seen g XY t c p some = record { u = spot_near c.u p.x g some; v = turned_near t c.v p.y g some }
 nearest_seen g ZX t c p some = record { u = spot_near c.u p.z g some; v = turned_near t c.v p.x g some }
 nearest_seen g YZ t c p some = record { u = spot_near c.u p.y g some; v = turned_near t c.v p.z g some }
 
 pub end_seen : (s : ℤ) (plane : Plane) (t : Turn) (c : Point2) (p : Point3) → IsStep s →
-    IsNearestSpot (unsigned_abs s) (record { u = c.u; v = turned t c.v }) (way_between t c (in_plane plane p)) (seen_spot plane t (grid s p))
+    IsNearestSpot (unsigned_abs s) (record { u = c.u; v = turned t c.v }) (way_between t c (in_plane plane p)) (grid_point_in_plane plane t (grid s p))
 end_seen (pos g) plane t c p step = nearest_seen g plane t c p (omega (arith, ints, step.least))
 end_seen (negsuc n) plane t c p step = absurd (omega (arith, ints, step.least))
 
@@ -61,13 +61,13 @@ turned_twice : (t : Turn) (z : ℤ) → turned t (turned t z) ≡ z
 turned_twice Counterclockwise z = refl
 turned_twice Clockwise z = let e = neg_is z in let f = neg_is (neg_ℤ z) in omega (arith, ints, e, f)
 
-pub seen_back : (plane : Plane) (t : Turn) (p : StepPos) → in_space plane t (seen_spot plane t p) (seen_height plane p) ≡ p
+pub seen_back : (plane : Plane) (t : Turn) (p : StepPos) → in_space plane t (grid_point_in_plane plane t p) (seen_height plane p) ≡ p
 seen_back XY t p = ap (λ (z : ℤ). record { x = p.x; y = z; z = p.z }) (turned_twice t p.y)
 seen_back ZX t p = ap (λ (z : ℤ). record { x = z; y = p.y; z = p.z }) (turned_twice t p.x)
 seen_back YZ t p = ap (λ (z : ℤ). record { x = p.x; y = p.y; z = z }) (turned_twice t p.z)
 
 pub unit_back : (plane : Plane) (t : Turn) (p q : StepPos) (start end : Spot) (low high : ℤ) (n : ℕ) (path : List StepPos) →
-    start ≡ seen_spot plane t p → end ≡ seen_spot plane t q → low ≡ seen_height plane p → high ≡ seen_height plane q →
+    start ≡ grid_point_in_plane plane t p → end ≡ grid_point_in_plane plane t q → low ≡ seen_height plane p → high ≡ seen_height plane q →
     IsUnitPath (in_space plane t start low) (in_space plane t end high) n path → IsUnitPath p q n path
 unit_back plane t p q start end low high n path hs he hl hh h =
     let a : in_space plane t start low ≡ p = rw (hs, hl) (seen_back plane t p) in

@@ -13,7 +13,7 @@ use Rattle.ngc_circle_walk.specs.Around.{around, way_to}
 use Rattle.ngc_circle_walk.specs.Entering.{IsEntry}
 use Rattle.ngc_circle_walk.specs.Wheel.{square, rolled, CanRoll}
 use Rattle.ngc_circle_walk.proofs.Rays.{square_le, from_squares}
-use Rattle.ngc_circle_walk.proofs.Turns.{square_around}
+use Rattle.ngc_circle_walk.proofs.QuadrantTurns.{square_around}
 use Rattle.ngc_arc_geometry.proofs.Squares.{square_sum}
 use Rattle.ngc_step_kernel.specs.declared.round.Vector2.{Vector2}
 use Rattle.ngc_step_kernel.specs.declared.spot.Spot.{Spot}

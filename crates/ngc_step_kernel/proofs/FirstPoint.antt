@@ -2,10 +2,10 @@
 use Rattle.std.proofs.Common.{ℕ, ◌+◌, ◌*◌, ◌≤◌, inl, inr, sym, subst, arith}
 use Rattle.std.proofs.lemmas.Int.{ints}
 use Rattle.ngc_circle_walk.specs.declared.spoke.Spoke.{Spoke}
-use Rattle.ngc_circle_walk.proofs.Beginnings.{IsBound, IsSmallSize, small_stands, small_enters, large_stands, large_enters}
+use Rattle.ngc_circle_walk.proofs.WheelStart.{IsBound, IsSmallSize, small_stands, small_enters, large_stands, large_enters}
 use Rattle.ngc_circle_walk.proofs.NearEnd.{IsRim, limit_of}
 use Rattle.ngc_arc_geometry.specs.Shape.{ArcShape}
-use Rattle.ngc_circle_laws.proofs.Begins.{Begins, stands, enters}
+use Rattle.ngc_circle_laws.proofs.FirstPoints.{Begins, stands, enters}
 use Rattle.ngc_step_kernel.specs.declared.spot.Spot.{Spot}
 use Rattle.ngc_step_kernel.specs.Entered.{is_steep, IsEnteredFrom}
 use Rattle.ngc_step_kernel.specs.View.{view_of, way_from}

@@ -3,7 +3,7 @@
 use Rattle.std.proofs.Common.{◌≡◌, ℕ, suc, negsuc, neg_ℤ, ◌+◌, ◌*◌, ◌<◌, ◌≤◌, ℤ, pos, ◌+ℤ◌, ◌-ℤ◌, ◌*ℤ◌, unsigned_abs, arith, ap, sym, ◌∙◌}
 use Rattle.std.proofs.lemmas.Int.{ints, unsigned_abs-mul}
 use borrow.Author.Differences.{neg_is}
-use Rattle.ngc_circle_walk.proofs.Joins.{IsJoint}
+use Rattle.ngc_circle_walk.proofs.JointMoves.{IsJoint}
 use Rattle.ngc_circle_walk.proofs.Entry.{joint_below}
 use Rattle.ngc_step_kernel.specs.declared.round.Vector2.{Vector2}
 use Rattle.ngc_step_kernel.specs.declared.spot.Spot.{Spot}

@@ -17,7 +17,7 @@ use Rattle.ngc_arc_geometry.specs.ArcBand.{spread}
 use Rattle.ngc_arc_geometry.specs.Shape.{ArcShape, start_of}
 use Rattle.ngc_arc_geometry.specs.Swept.{least, greatest, other_points, margin, low_at, high_at, start_height, end_height, grid_at, swept_box}
 use Rattle.ngc_circle_laws.specs.Hull.{first_of, second_of, IsNearHull}
-use Rattle.ngc_circle_laws.proofs.Crosses.{neg_times}
+use Rattle.ngc_circle_laws.proofs.CrossProducts.{neg_times}
 use Rattle.ngc_step_kernel.specs.declared.spot.Spot.{Spot}
 use Rattle.ngc_step_kernel.specs.Line.{toward, line_place}
 use Rattle.ngc_step_kernel.specs.PlaneCourse.{laid}

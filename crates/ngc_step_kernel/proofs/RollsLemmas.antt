@@ -48,8 +48,8 @@ counted_back Diagonal m q left all h e = omega (arith, h, e)
 counted_back Inward m q left all h e = omega (arith, h, e)
 counted_back Over m q left all h e = omega (arith, h, e)
 
-pub told_before : (s e : Spoke) → is_before s e ≡ true → s.y * e.x < s.x * e.y
-told_before s e h = elim (cases_lt (s.y * e.x) (s.x * e.y)) [
+pub reported_before : (s e : Spoke) → is_before s e ≡ true → s.y * e.x < s.x * e.y
+reported_before s e h = elim (cases_lt (s.y * e.x) (s.x * e.y)) [
   | inl fine ↦ fine
   | inr more ↦ absurd (grind (arith, h, more))
 ]
@@ -74,7 +74,7 @@ before_on g limit s e w v r quadrants left m k pace rim b paces rims here roll t
         | inl some ↦ inl (omega (arith, count, some))
         | inr told ↦ elim (cases_lt 0 m) [
           | inl some ↦ inl (omega (arith, count, some))
-          | inr none ↦ inr (omega (arith, count, none), subst (λ (z : Spoke). z.y * e.x < z.x * e.y) there (told_before v e told))
+          | inr none ↦ inr (omega (arith, count, none), subst (λ (z : Spoke). z.y * e.x < z.x * e.y) there (reported_before v e told))
         ]
       ];
     }

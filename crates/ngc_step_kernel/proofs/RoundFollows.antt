@@ -26,7 +26,7 @@ use Rattle.ngc_step_kernel.proofs.PartsFollow.{first_by_arc, first_short, by_end
 use Rattle.ngc_step_kernel.proofs.FirstPoints.{first_part, first_by_end}
 use Rattle.ngc_step_kernel.proofs.RoundParts.{laid_placed}
 use Rattle.ngc_step_kernel.proofs.Settings.{IsSetting, sizes}
-use Rattle.ngc_step_kernel.proofs.Together.{HasParts, passes_round}
+use Rattle.ngc_step_kernel.proofs.CourseParts.{HasParts, passes_round}
 
 -- the wheel's points in the plane are the spokes' positions
 pub rounded_is : (g limit left : ℕ) (from joint entry to : Spot) (first last : Spoke) (p : Plan) (k : ℕ) →

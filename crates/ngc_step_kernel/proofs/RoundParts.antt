@@ -15,7 +15,7 @@ use Rattle.ngc_circle_walk.specs.Bounds.{IsBelow, IsAbove}
 use Rattle.ngc_circle_walk.specs.Quadrants.{quadrants_to}
 use Rattle.ngc_circle_walk.specs.Rolling.{spoke_at, quadrant_at}
 use Rattle.ngc_circle_walk.specs.Wheel.{is_before, next_roll, rolled}
-use Rattle.ngc_circle_walk.proofs.Beginnings.{IsSmallSize, more_limit, twice_high}
+use Rattle.ngc_circle_walk.proofs.WheelStart.{IsSmallSize, more_limit, twice_high}
 use Rattle.ngc_circle_walk.proofs.CircleLaws.{rim_of}
 use Rattle.ngc_circle_walk.proofs.NearEnd.{limit_of}
 use Rattle.ngc_circle_walk.proofs.OneRoll.{next_is_due}
@@ -26,9 +26,9 @@ use Rattle.ngc_arc_geometry.specs.Shape.{ArcShape, start_of, end_of}
 use Rattle.ngc_arc_geometry.specs.Radii.{inner_radius, outer_radius}
 use Rattle.ngc_circle_laws.specs.ArcWalk.{IsWalk, IsBeforeEnd}
 use Rattle.ngc_circle_laws.specs.Placed.{mirrored, placed, first_axis}
-use Rattle.ngc_circle_laws.proofs.Boxed.{IsEnd}
+use Rattle.ngc_circle_laws.proofs.ArcBoxes.{IsEnd}
 use Rattle.ngc_circle_laws.proofs.Circuit.{IsCircuit}
-use Rattle.ngc_circle_laws.proofs.Ends.{IsLast}
+use Rattle.ngc_circle_laws.proofs.LastPoints.{IsLast}
 use Rattle.ngc_circle_laws.proofs.Followed.{at_most_four}
 use Rattle.ngc_circle_laws.proofs.SmallCircuit.{IsSmallCircuit}
 use Rattle.ngc_circle_laws.proofs.Walks.{few_on, ends_there}
@@ -45,7 +45,7 @@ use Rattle.ngc_step_kernel.proofs.RoundWalk.{walks}
 use Rattle.ngc_step_kernel.proofs.Settings.{IsSetting, IsInside, HasJoint, sizes, has_joint}
 use Rattle.ngc_step_kernel.proofs.StraightParts.{inner_root, outer_root}
 use Rattle.ngc_step_kernel.proofs.ViewLemmas.{squared_is}
-use Rattle.ngc_circle_laws.proofs.Passing.{at_most_one}
+use Rattle.ngc_circle_laws.proofs.PassedQuadrants.{at_most_one}
 
 -- ---- the position of a wheel's point in the plane
 

@@ -8,7 +8,7 @@ use Rattle.ngc_fixed_length.specs.declared.points.Point2.{Point2}
 use Rattle.ngc_circle_walk.specs.declared.spoke.Spoke.{Spoke}
 use Rattle.ngc_circle_walk.specs.Rolling.{spoke_at, quadrant_at}
 use Rattle.ngc_circle_walk.specs.Wheel.{next_roll}
-use Rattle.ngc_circle_walk.proofs.Beginnings.{twice_low}
+use Rattle.ngc_circle_walk.proofs.WheelStart.{twice_low}
 use Rattle.ngc_circle_walk.proofs.NearEnd.{IsRay, limit_of}
 use Rattle.ngc_circle_walk.proofs.Rays.{square_le}
 use Rattle.ngc_circle_walk.proofs.SmallCircles.{IsSlim}
@@ -17,7 +17,7 @@ use Rattle.ngc_arc_geometry.specs.Radii.{squared_distance}
 use Rattle.ngc_arc_geometry.specs.ArcBand.{leeway, spread, IsWithin}
 use Rattle.ngc_circle_laws.specs.Hull.{IsNearHull}
 use Rattle.ngc_circle_laws.proofs.Circuit.{below_on, above_on}
-use Rattle.ngc_circle_laws.proofs.Ends.{large_last, small_last}
+use Rattle.ngc_circle_laws.proofs.LastPoints.{large_last, small_last}
 use Rattle.ngc_circle_laws.proofs.Followed.{large_keeps, small_keeps}
 use Rattle.ngc_circle_laws.proofs.Lengths.{large_length, small_length, large_few, small_few}
 use Rattle.ngc_circle_laws.proofs.Lifts.{some_leeway}

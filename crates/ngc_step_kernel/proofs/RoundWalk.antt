@@ -17,9 +17,9 @@ use Rattle.ngc_circle_walk.proofs.Wheeling.{first_spoke, wheel_rolls}
 use Rattle.ngc_arc_geometry.specs.Shape.{ArcShape, start_of, end_of}
 use Rattle.ngc_circle_laws.specs.ArcWalk.{IsWalk, IsBeforeEnd}
 use Rattle.ngc_circle_laws.specs.Placed.{mirrored, placed, turned_by}
-use Rattle.ngc_circle_laws.proofs.Begins.{Begins}
-use Rattle.ngc_circle_laws.proofs.Counts.{IsCounted, placed_at, quadrants_counted, counted_turn}
-use Rattle.ngc_circle_laws.proofs.Crosses.{four_on}
+use Rattle.ngc_circle_laws.proofs.FirstPoints.{Begins}
+use Rattle.ngc_circle_laws.proofs.QuadrantCounts.{IsCounted, placed_at, quadrants_counted, counted_turn}
+use Rattle.ngc_circle_laws.proofs.CrossProducts.{four_on}
 use Rattle.ngc_step_kernel.specs.Entered.{way_cross}
 use Rattle.ngc_step_kernel.specs.View.{view_of, way_between, place_of, quadrants_left}
 use Rattle.ngc_step_kernel.proofs.AroundLemmas.{amount}

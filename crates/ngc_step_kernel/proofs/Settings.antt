@@ -13,15 +13,15 @@ use Rattle.ngc_circle_walk.specs.declared.spoke.Quadrant.TheVariants.{First, Sec
 use Rattle.ngc_circle_walk.specs.declared.spoke.Spoke.{Spoke}
 use Rattle.ngc_circle_walk.specs.Around.{around, way_to}
 use Rattle.ngc_circle_walk.specs.Wheel.{square}
-use Rattle.ngc_circle_walk.proofs.Beginnings.{IsNearJoint}
+use Rattle.ngc_circle_walk.proofs.WheelStart.{IsNearJoint}
 use Rattle.ngc_circle_walk.proofs.Entry.{joint_above}
 use Rattle.ngc_circle_walk.specs.Quadrants.{following}
-use Rattle.ngc_circle_walk.proofs.Turns.{cross_same, cross_next}
+use Rattle.ngc_circle_walk.proofs.QuadrantTurns.{cross_same, cross_next}
 use Rattle.ngc_circle_walk.proofs.Rays.{square_le, from_squares}
 use Rattle.ngc_arc_geometry.specs.Shape.{ArcShape, start_of, end_of}
 use Rattle.ngc_arc_geometry.specs.Radii.{lo, inner_radius, outer_radius, IsArc}
-use Rattle.ngc_circle_laws.proofs.Begins.{IsJoined, IsSteep, small_across, steep_is, flat_is, into, from}
-use Rattle.ngc_circle_laws.proofs.Joined.{IsMovedTo, some_spoke, moved_same, moved_opposite, moved_before, four_ways, not_opposite}
+use Rattle.ngc_circle_laws.proofs.FirstPoints.{IsJoined, IsSteep, small_across, steep_is, flat_is, into, from}
+use Rattle.ngc_circle_laws.proofs.JointQuadrant.{IsMovedTo, some_spoke, moved_same, moved_opposite, moved_before, four_ways, not_opposite}
 use Rattle.ngc_step_kernel.specs.declared.round.Vector2.{Vector2}
 use Rattle.ngc_step_kernel.specs.declared.spot.Spot.{Spot}
 use Rattle.ngc_step_kernel.specs.About.{IsAbout}

@@ -15,7 +15,7 @@ use Rattle.ngc_step_kernel.specs.declared.spot.Spot.{Spot}
 use Rattle.ngc_step_kernel.specs.declared.view.View.{View}
 use Rattle.ngc_step_kernel.proofs.AroundLemmas.{some_root as positive_root, IsJointOf, joint_of}
 use Rattle.ngc_step_kernel.proofs.EntryLemmas.{IsJoined, joined, rolled_near, can_enter, one_beside, none_beside, entered_from, stood_from}
-use Rattle.ngc_step_kernel.proofs.Existing.{some_spoke, some_entry, some_moved, some_root}
+use Rattle.ngc_step_kernel.proofs.ExistingPoints.{some_spoke, some_entry, some_moved, some_root}
 use Rattle.ngc_step_kernel.proofs.OnRim.{about_rolls}
 use Rattle.ngc_step_kernel.proofs.ViewLemmas.{first_side, second_side}
 

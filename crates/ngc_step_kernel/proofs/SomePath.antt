@@ -31,7 +31,7 @@ use Rattle.ngc_step_kernel.specs.Course.{round_at, course_at, IsPlan}
 use Rattle.ngc_step_kernel.specs.Entered.{way_cross}
 use Rattle.ngc_step_kernel.specs.PlaneCourse.{laid, FollowsInPlane}
 use Rattle.ngc_step_kernel.specs.Plans.{IsRoundPlan}
-use Rattle.ngc_step_kernel.specs.Round.{turned, seen_spot, seen_height, round_points}
+use Rattle.ngc_step_kernel.specs.Round.{turned, grid_point_in_plane, seen_height, round_points}
 use Rattle.ngc_step_kernel.specs.Spots.{straight_moves, IsSpot}
 use Rattle.ngc_step_kernel.specs.View.{squared, place_of, view_of, quadrants_left, IsView, IsNearestSpot}
 use Rattle.ngc_step_kernel.specs.declared.plan.Plan.{Plan}
@@ -39,11 +39,11 @@ use Rattle.ngc_step_kernel.specs.declared.spot.Spot.{Spot}
 use Rattle.ngc_step_kernel.specs.declared.view.View.{View}
 use Rattle.ngc_step_kernel.proofs.ArcPaths.{arc_path}
 use Rattle.ngc_step_kernel.proofs.AroundLemmas.{IsBegun, begun_of, begun_small, begun_spots, begun_apart, reach_begun, some_left}
-use Rattle.ngc_step_kernel.proofs.BentGiven.{bent_seen}
+use Rattle.ngc_step_kernel.proofs.JointPlanGiven.{bent_seen}
 use Rattle.ngc_step_kernel.proofs.CourseFollows.{straight_seen, round_seen, wide_seen}
 use Rattle.ngc_step_kernel.proofs.CourseLemmas.{straight_plan, bent_plan, round_plan}
 use Rattle.ngc_step_kernel.proofs.EndLemmas.{end_seen, nearest_reach, unit_back}
-use Rattle.ngc_step_kernel.proofs.Existing.{some_spoke, some_rolls}
+use Rattle.ngc_step_kernel.proofs.ExistingPoints.{some_spoke, some_rolls}
 use Rattle.ngc_step_kernel.proofs.JointLemmas.{reach_apart}
 use Rattle.ngc_step_kernel.proofs.Settings.{some_way}
 use Rattle.ngc_step_kernel.proofs.SomeEntry.{IsCircle, IsAtJoint, HasEntered, radius_root, circle_bound, some_joint, some_begin}
@@ -73,17 +73,17 @@ place_within z (negsuc n) step small = absurd (omega (arith, ints, step.least))
 grid_within : (s : ℤ) (p : Point3) → IsStep s → IsNear p → IsInRange (grid s p)
 grid_within s p step near = record { x = place_within p.x s step near.x; y = place_within p.y s step near.y; z = place_within p.z s step near.z }
 
-spot_within : (plane : Plane) (t : Turn) (p : StepPos) → IsInRange p → IsSpot (seen_spot plane t p)
+spot_within : (plane : Plane) (t : Turn) (p : StepPos) → IsInRange p → IsSpot (grid_point_in_plane plane t p)
 spot_within XY t p h = record { u = h.x; v = turned_within t p.y 200000000 h.y }
 spot_within ZX t p h = record { u = h.z; v = turned_within t p.x 200000000 h.x }
 spot_within YZ t p h = record { u = h.y; v = turned_within t p.z 200000000 h.z }
 
 -- the grid points of its ends
 abbrev start_spot : ℤ → ArcShape → Spot
-start_spot s a = seen_spot a.plane a.turn (grid s a.start)
+start_spot s a = grid_point_in_plane a.plane a.turn (grid s a.start)
 
 abbrev end_spot : ℤ → ArcShape → Spot
-end_spot s a = seen_spot a.plane a.turn (grid s a.end)
+end_spot s a = grid_point_in_plane a.plane a.turn (grid s a.end)
 
 -- an arc, its view about its centre, and the grid points of its ends
 record IsSeen (a : ArcShape) (g : ℕ) (v : View) (from to : Spot) : Type 0 where

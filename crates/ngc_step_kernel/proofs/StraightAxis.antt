@@ -3,7 +3,7 @@
 use Rattle.std.proofs.Common.{◌≡◌, ℕ, zero, suc, ◌-◌, ◌*◌, ◌≤◌, ◌⊎◌, inl, inr, min, max, ℤ, pos, ◌+ℤ◌, ◌-ℤ◌, ◌*ℤ◌, ◌≤ℤ◌, unsigned_abs, arith, ap, ◌∙◌}
 use Rattle.std.proofs.lemmas.Int.{ints, by_lt_z}
 use Rattle.ngc_fixed_length.specs.Grid.{distance}
-use Rattle.ngc_circle_walk.proofs.Joins.{no_farther_up, no_farther_down}
+use Rattle.ngc_circle_walk.proofs.JointMoves.{no_farther_up, no_farther_down}
 use Rattle.ngc_step_kernel.specs.Line.{toward}
 use Rattle.ngc_step_kernel.specs.Spots.{straight_place}
 use Rattle.ngc_step_kernel.proofs.LineLemmas.{scale-sum}

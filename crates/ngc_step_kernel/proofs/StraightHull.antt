@@ -12,7 +12,7 @@ use Rattle.ngc_arc_geometry.specs.ArcSides.{IsByAnEnd}
 use Rattle.ngc_arc_geometry.specs.Swept.{least, greatest, other_points}
 use Rattle.ngc_arc_geometry.proofs.Squares.{first_within, second_within}
 use Rattle.ngc_circle_laws.specs.Hull.{first_of, second_of, IsNearHull}
-use Rattle.ngc_circle_laws.proofs.Boxed.{IsInHull, start_held, end_held}
+use Rattle.ngc_circle_laws.proofs.ArcBoxes.{IsInHull, start_held, end_held}
 use Rattle.ngc_step_kernel.specs.declared.spot.Spot.{Spot}
 use Rattle.ngc_step_kernel.specs.PlaneCourse.{laid}
 use Rattle.ngc_step_kernel.specs.Round.{turned}

@@ -17,7 +17,7 @@ pub record IsStraightPlan (start end : Spot) (p : Plan) : Type 0 where
   pub rolled : p.rolled ≡ 0
 
 -- through a joint
-pub record IsBentPlan (start joint end : Spot) (p : Plan) : Type 0 where
+pub record IsJointPlan (start joint end : Spot) (p : Plan) : Type 0 where
   pub starts : p.start ≡ start
   pub joins : p.joint ≡ joint
   pub enters : p.entry ≡ joint

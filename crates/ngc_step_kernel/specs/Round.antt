@@ -41,10 +41,10 @@ move_in_space ZX t m h = record { x = turned_move t m.v; y = h; z = m.u }
 move_in_space YZ t m h = record { x = h; y = m.u; z = turned_move t m.v }
 
 -- the same point, in the plane's coordinates
-abbrev pub seen_spot : Plane → Turn → StepPos → Spot
-seen_spot XY t p = record { u = p.x; v = turned t p.y }
-seen_spot ZX t p = record { u = p.z; v = turned t p.x }
-seen_spot YZ t p = record { u = p.y; v = turned t p.z }
+abbrev pub grid_point_in_plane : Plane → Turn → StepPos → Spot
+grid_point_in_plane XY t p = record { u = p.x; v = turned t p.y }
+grid_point_in_plane ZX t p = record { u = p.z; v = turned t p.x }
+grid_point_in_plane YZ t p = record { u = p.y; v = turned t p.z }
 
 abbrev pub seen_height : Plane → StepPos → ℤ
 seen_height XY p = p.z

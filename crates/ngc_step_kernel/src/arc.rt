@@ -54,7 +54,7 @@ ghost use Rattle.ngc_fixed_length.specs.LinePath.{point};
 ghost use Rattle.ngc_arc_geometry.specs.ArcPath.{IsArcPath};
 ghost use Rattle.ngc_step_kernel.specs.Move.{moved};
 ghost use Rattle.ngc_step_kernel.specs.Course.{IsPlan};
-ghost use Rattle.ngc_step_kernel.specs.Round.{in_space, move_in_space, seen_spot, seen_height};
+ghost use Rattle.ngc_step_kernel.specs.Round.{in_space, move_in_space, grid_point_in_plane, seen_height};
 ghost use Rattle.ngc_step_kernel.specs.Round.{round_points};
 ghost use Rattle.ngc_step_kernel.specs.Spots.{IsSpot};
 
@@ -94,7 +94,7 @@ fn move_in_space(plane: Plane, turn: Turn, m: PlaneMove, w: AxisMove) -> Move
 /// Returns a grid point's coordinates in an arc's plane.
 fn spot(plane: Plane, turn: Turn, p: &StepPos) -> Spot
     requires { IsInRange p.now }
-    ensures value { result ≡ seen_spot plane turn p.now }
+    ensures value { result ≡ grid_point_in_plane plane turn p.now }
     ensures range { IsSpot result }
 {
     let (u, v) = match plane {

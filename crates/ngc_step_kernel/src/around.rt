@@ -158,7 +158,7 @@ impl Plan {
         let entry = Entry::of(view, joint, step, circle, limit);
         let last = view.end.spoke();
         match quadrants_left(view, &entry.spoke, &last) {
-            None => Plan::by_joint(start, joint, end, step),
+            None => Plan::through_joint(start, joint, end, step),
             Some(quadrants) => Plan::round::<W>(
                 start,
                 joint,

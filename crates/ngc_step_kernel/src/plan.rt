@@ -27,7 +27,7 @@ impl Plan {
     ghost use Rattle.ngc_circle_walk.specs.Wheel.{IsSmall};
     ghost use Rattle.ngc_circle_laws.specs.ArcWalk.{IsBeforeEnd};
     ghost use Rattle.ngc_step_kernel.specs.Course.{IsPlan, round_at};
-    ghost use Rattle.ngc_step_kernel.specs.Plans.{IsRoundPlan, IsBentPlan, IsStraightPlan};
+    ghost use Rattle.ngc_step_kernel.specs.Plans.{IsRoundPlan, IsJointPlan, IsStraightPlan};
     ghost use Rattle.ngc_step_kernel.specs.Spots.{IsSpot, straight_moves};
 
     /// Returns the straight plan from start to end.
@@ -58,7 +58,7 @@ impl Plan {
     }
 
     /// Returns the plan straight to a joint, and straight from there to the end.
-    pub(crate) fn by_joint(start: Spot, joint: Spot, end: Spot, step: u64) -> Plan
+    pub(crate) fn through_joint(start: Spot, joint: Spot, end: Spot, step: u64) -> Plan
         requires start { IsSpot start }
         requires joint { IsSpot joint }
         requires end { IsSpot end }
@@ -67,7 +67,7 @@ impl Plan {
         requires joins { straight_moves start joint ≤ 30000000 }
         requires ends { straight_moves joint end ≤ 30000000 }
         ensures plan { IsPlan result }
-        ensures bent { IsBentPlan start joint end result }
+        ensures bent { IsJointPlan start joint end result }
         ensures start { result.start ≡ start }
         ensures end { result.end ≡ end }
     {

@@ -2,8 +2,8 @@ ghost use Rattle.std.specs.Prelude.{◌≡◌, ◌+◌, ◌≤◌, ◌++◌, ℕ
 ghost use Rattle.std.specs.Prelude.{◌-◌, OnOk, OnErr};
 ghost use Rattle.std.specs.Io.KnownBytes.{Appends};
 ghost use Rattle.ngc_text.specs.Failures.{CountsFailure};
-ghost use Rattle.ngc_text.specs.Written.{AppendsBeginning};
-ghost use Rattle.ngc_text.specs.Collected.{CHUNK_SIZE, HasLineRoom, WritesFront};
+ghost use Rattle.ngc_text.specs.Written.{AppendsPrefix};
+ghost use Rattle.ngc_text.specs.Collected.{CHUNK_SIZE, HasSpaceForLine, WritesPrefix};
 
 use crate::{Sink, WriteFault, write_all};
 use itoa::Integer;
@@ -17,7 +17,7 @@ const MOST_DIGITS: usize = 40;
 
 /// Collects text and writes it in large pieces: one system call for each line would be too slow.
 ///
-/// It holds at most 16,384 bytes. `make_room` leaves 512 of them free, enough for a line.
+/// It holds at most 16,384 bytes. `make_space` leaves 512 of them free, enough for a line.
 #[derive(Drop)]
 pub struct Chunk {
     // An array and a length, because an `ArrayVec` wipes what is removed from it.
@@ -34,7 +34,7 @@ impl Model for Chunk {
 }
 
 // Formats a number so that its text ends at the end of `room`, and returns where it begins.
-fn spell_at_end<I: Integer>(number: I, room: &mut [u8; MOST_DIGITS]) -> usize
+fn format_at_end<I: Integer>(number: I, room: &mut [u8; MOST_DIGITS]) -> usize
     ensures text { drop result room.new ≡ I.text number }
     ensures length { length room.new ≡ 40 }
     ensures within { result ≤ 40 }
@@ -50,7 +50,7 @@ fn spell<I: Integer>(number: I, room: &mut [u8; 2 * MOST_DIGITS]) -> usize
     let Some(front) = room.first_chunk_mut::<MOST_DIGITS>() else {
         unreachable!()
     };
-    spell_at_end(number, front)
+    format_at_end(number, front)
 }
 
 impl Chunk {
@@ -111,7 +111,7 @@ impl Chunk {
         ensures ok { OnOk result (Appends (W.written sink.old) (W.written sink.new) self.old) }
         ensures empty { OnOk result (self.new ≡ []) }
         ensures fault { OnErr result
-            (AppendsBeginning (W.written sink.old) (W.written sink.new) self.old) }
+            (AppendsPrefix (W.written sink.old) (W.written sink.new) self.old) }
         ensures counts { CountsFailure (W.failures sink.old) (W.failures sink.new) result }
     {
         match write_all(sink, &self.bytes[..self.len]) {
@@ -126,12 +126,12 @@ impl Chunk {
     /// Frees space for a line of 512 bytes, by writing the collected text if necessary.
     ///
     /// After a fault a prefix of it is written, and the sink has counted the failure.
-    pub fn make_room<W: Sink>(&mut self, sink: &mut W) -> Result<(), WriteFault>
-        ensures room { OnOk result (HasLineRoom self.new) }
+    pub fn make_space<W: Sink>(&mut self, sink: &mut W) -> Result<(), WriteFault>
+        ensures room { OnOk result (HasSpaceForLine self.new) }
         ensures ok { OnOk result
-            (WritesFront (W.written sink.old) (W.written sink.new) self.old self.new) }
+            (WritesPrefix (W.written sink.old) (W.written sink.new) self.old self.new) }
         ensures fault { OnErr result
-            (AppendsBeginning (W.written sink.old) (W.written sink.new) self.old) }
+            (AppendsPrefix (W.written sink.old) (W.written sink.new) self.old) }
         ensures counts { CountsFailure (W.failures sink.old) (W.failures sink.new) result }
     {
         if self.len <= MOST_BEFORE_A_LINE {

@@ -1,7 +1,7 @@
 ghost use Rattle.std.specs.Prelude.{◌≡◌, OnOk, OnErr};
 ghost use Rattle.std.specs.Io.KnownBytes.{Appends};
 ghost use Rattle.ngc_text.specs.Failures.{CountsFailure};
-ghost use Rattle.ngc_text.specs.Written.{AppendsBeginning};
+ghost use Rattle.ngc_text.specs.Written.{AppendsPrefix};
 
 use crate::device::Sink;
 use thiserror::Error;
@@ -25,7 +25,7 @@ impl WriteFault {
 pub fn write_all<W: Sink>(sink: &mut W, text: &[u8]) -> Result<(), WriteFault>
     ensures ok { OnOk result (Appends (W.written sink.old) (W.written sink.new) text.now) }
     ensures fault { OnErr result
-        (AppendsBeginning (W.written sink.old) (W.written sink.new) text.now) }
+        (AppendsPrefix (W.written sink.old) (W.written sink.new) text.now) }
     ensures counts { CountsFailure (W.failures sink.old) (W.failures sink.new) result }
 {
     let mut done = 0;

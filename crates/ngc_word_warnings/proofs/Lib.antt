@@ -1,2 +1,2 @@
 -- The mistakes over lines, one line further.
-pub mod Further
+pub mod MistakeSteps

@@ -2,13 +2,13 @@ use Rattle.std.proofs.Common.{◌∙◌, ap, subst, sym}
 use Rattle.clap.specs.Words.{App, fault_of, is_simple, is_simple_and_free, subcommand_of}
 use Rattle.clap.specs.Walk.{texts}
 use Rattle.ngc_command_line.specs.Meant.{AreOptions}
-use Rattle.ngc_command_line.proofs.Found.{found_from_parts}
-use Rattle.ngc_command_line.proofs.Simple.{ngc_is_free, ngc_is_simple, taken_is_memory}
-use Rattle.ngc_command_line.proofs.Spelled.{adapt_read, adapt_taken, certify_read, certify_taken, check_read, check_taken, draw_read, draw_taken, help_read, help_taken, list_read, machine_read, machine_taken}
-use Rattle.ngc_command_line.proofs.Spelled.{list_taken, live_read, live_taken, place_read, place_taken, report_read, report_taken, run_read, run_taken, show_read, show_taken, version_read, version_taken}
-use Rattle.ngc_command_line.proofs.Spelled.{adapt_origins, certify_origins, check_origins, draw_origins, help_origins, list_origins, live_origins}
-use Rattle.ngc_command_line.proofs.Spelled.{machine_origins, place_origins, report_origins, run_origins, show_origins, version_origins, wrong_origins}
-use Rattle.ngc_command_line.proofs.Whole.{taken_is_whole}
+use Rattle.ngc_command_line.proofs.FoundSubcommand.{found_from_parts}
+use Rattle.ngc_command_line.proofs.SimpleCommand.{ngc_is_free, ngc_is_simple, taken_is_memory}
+use Rattle.ngc_command_line.proofs.OptionsReadBack.{adapt_read, adapt_taken, certify_read, certify_taken, check_read, check_taken, draw_read, draw_taken, help_read, help_taken, list_read, machine_read, machine_taken}
+use Rattle.ngc_command_line.proofs.OptionsReadBack.{list_taken, live_read, live_taken, place_read, place_taken, report_read, report_taken, run_read, run_taken, show_read, show_taken, version_read, version_taken}
+use Rattle.ngc_command_line.proofs.OptionsReadBack.{adapt_origins, certify_origins, check_origins, draw_origins, help_origins, list_origins, live_origins}
+use Rattle.ngc_command_line.proofs.OptionsReadBack.{machine_origins, place_origins, report_origins, run_origins, show_origins, version_origins, wrong_origins}
+use Rattle.ngc_command_line.proofs.RequiredValues.{taken_is_whole}
 use Rattle.ngc_command_line.proofs.read_options.Goals as goal
 
 pub options_of-requires : goal.options_of-requires

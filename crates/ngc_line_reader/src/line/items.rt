@@ -100,7 +100,7 @@ pub(crate) fn short_word<'a>(
 }
 
 // Reads a setting, and returns the rest.
-#[tactic(auto, unfolding(crate::specs::ScanLine::setting_at, crate::specs::ScanLine::value_behind))]
+#[tactic(auto, unfolding(crate::specs::ScanLine::setting_at, crate::specs::ScanLine::value_after))]
 fn setting_at<'a>(
     columns: &[u16],
     room: usize,

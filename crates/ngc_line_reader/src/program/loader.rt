@@ -6,9 +6,9 @@ ghost use Rattle.ngc_line_reader.specs.ScanLine.{said_of};
 ghost use Rattle.ngc_line_reader.specs.ProgramView.{text_in, lines_in, FaultIs, OutcomeIs};
 ghost use Rattle.ngc_line_reader.specs.Stored.{line_of};
 ghost use Rattle.ngc_line_reader.specs.Load.{is_percent as is_percent_line, number_in, ended};
-ghost use Rattle.ngc_line_reader.specs.Load.{next_line, TakesLine, RefusedBy, StepGives, walked};
-ghost use Rattle.ngc_line_reader.specs.Load.{resumed, standing, IsOfLines, PartsLines, IsLoading};
-ghost use Rattle.ngc_line_reader.specs.Load.{IsSplit, NoFeed, room_behind, room_of};
+ghost use Rattle.ngc_line_reader.specs.Load.{next_line, TakesLine, RefusedBy, StepResultIs, walked};
+ghost use Rattle.ngc_line_reader.specs.Load.{resumed, standing, IsLineFault, PartsLines, IsLoading};
+ghost use Rattle.ngc_line_reader.specs.Load.{IsSplit, HasNoLineFeed, space_after, room_of};
 ghost use Rattle.ngc_line_reader.specs.Pieces.{firm_lines, fault_so_far};
 ghost use Rattle.ngc_line_reader.specs.Program.{split_lines};
 
@@ -27,14 +27,14 @@ const LINES: usize = 100_000;
 
 /// The line that was read, and a buffer for its text: made once for all lines.
 #[derive(Drop)]
-pub(crate) struct LineRoom {
+pub(crate) struct LineBuffer {
     pub(crate) line: Line,
     pub(crate) scratch: Scratch,
 }
 
-impl LineRoom {
-    pub(crate) fn new() -> LineRoom {
-        LineRoom {
+impl LineBuffer {
+    pub(crate) fn new() -> LineBuffer {
+        LineBuffer {
             line: Line::empty(),
             scratch: Scratch::new(),
         }
@@ -64,7 +64,7 @@ pub struct Loader<A: Allocator> {
 
 // Returns the first line of some bytes, and the bytes after its line feed.
 fn split_line(bytes: &[u8]) -> Option<(&[u8], &[u8])>
-    ensures { MatchOption result (NoFeed bytes.now) (λ p. IsSplit bytes.now p.0.now p.1.now) }
+    ensures { MatchOption result (HasNoLineFeed bytes.now) (λ p. IsSplit bytes.now p.0.now p.1.now) }
 {
     let end = memchr(b'\n', bytes)?;
     let (line, rest) = bytes.split_at(end);
@@ -76,7 +76,7 @@ fn check_line(
     phase: Phase,
     done: usize,
     bytes: &[u8],
-    room: &mut LineRoom,
+    room: &mut LineBuffer,
 ) -> Result<u32, ReadFault>
     requires { done ≤ 100000 }
     ensures number { IfOk result (λ n. n ≡ number_in phase done) }
@@ -110,7 +110,7 @@ impl<A: Allocator> LinesSoFar<A> {
     }
 
     // Reads the next line, which is no `%` line.
-    fn read_line(&mut self, bytes: &[u8], room: &mut LineRoom) -> Result<(), ReadFault>
+    fn read_line(&mut self, bytes: &[u8], room: &mut LineBuffer) -> Result<(), ReadFault>
         ensures taken { OnOk result (TakesLine self.old self.new bytes.now) }
         ensures refused { IfErr result
             (λ e. RefusedBy
@@ -131,9 +131,9 @@ impl<A: Allocator> LinesSoFar<A> {
     // Handles a `%` line: the first one marks the file, a later one ends its text.
     fn take_percent(&mut self) -> Step
         ensures step { (ls : List (List ℕ)) (bytes : List ℕ) → is_percent_line bytes ≡ true →
-            StepGives (Ok result) (walked self.old (bytes ∷ ls)) (walked self.new ls)
+            StepResultIs (Ok result) (walked self.old (bytes ∷ ls)) (walked self.new ls)
             (ended self.new) }
-        ensures progress { result ≡ Step.More → room_behind self.new + 257 ≤ room_behind self.old }
+        ensures progress { result ≡ Step.More → space_after self.new + 257 ≤ space_after self.old }
     {
         match self.phase {
             Phase::Start => {
@@ -145,13 +145,13 @@ impl<A: Allocator> LinesSoFar<A> {
     }
 
     // Reads the next line.
-    fn take_line(&mut self, bytes: &[u8], room: &mut LineRoom) -> Result<Step, ReadFault>
+    fn take_line(&mut self, bytes: &[u8], room: &mut LineBuffer) -> Result<Step, ReadFault>
         ensures step { (ls : List (List ℕ)) →
-            StepGives result (walked self.old (bytes.now ∷ ls)) (walked self.new ls)
+            StepResultIs result (walked self.old (bytes.now ∷ ls)) (walked self.new ls)
             (ended self.new) }
-        ensures quiet { IfErr result (λ e. IsOfLines e) }
+        ensures quiet { IfErr result (λ e. IsLineFault e) }
         ensures progress { result ≡ Ok Step.More →
-            room_behind self.new + length bytes.now + 1 ≤ room_behind self.old }
+            space_after self.new + length bytes.now + 1 ≤ space_after self.old }
     {
         if is_percent(bytes) {
             return Ok(self.take_percent());
@@ -167,7 +167,7 @@ impl<A: Allocator> LinesSoFar<A> {
         ensures value { (bytes : List ℕ) → 256 < length bytes →
             RefusedBy (fault_of (length (lines_in self.now.lines)) (next_line self.now bytes))
             result }
-        ensures quiet { IsOfLines result }
+        ensures quiet { IsLineFault result }
     {
         if self.lines.len() >= LINES {
             return ReadFault::TooManyLines;
@@ -188,7 +188,7 @@ impl<A: Allocator> LinesSoFar<A> {
     }
 
     // Returns the program after the last line.
-    #[tactic(auto, using(crate::proofs::Walk::walk_end))]
+    #[tactic(auto, using(crate::proofs::LineWalk::walk_end))]
     fn finish(self) -> Result<Program<A>, ReadFault>
         ensures text { OutcomeIs result (walked self []) }
         ensures readings { IfOk result (λ p. HaveReadings (text_in p).lines) }
@@ -219,13 +219,13 @@ impl<A: Allocator> Loader<A> {
     // Adds a piece to the line that is cut.
     fn keep(&mut self, piece: &[u8]) -> Result<(), ReadFault>
         requires loading { IsLoading self.old }
-        requires feedless { NoFeed piece.now }
+        requires feedless { HasNoLineFeed piece.now }
         ensures step { (lines : List ℕ → List (List ℕ)) → PartsLines lines → (rest : List ℕ) →
             MatchResult result
             (λ _. resumed lines self.old (piece.now ++ rest) ≡ resumed lines self.new rest)
             (λ e. FaultIs e (resumed lines self.old (piece.now ++ rest))) }
         ensures loading { OnOk result (IsLoading self.new) }
-        ensures quiet { IfErr result (λ e. IsOfLines e) }
+        ensures quiet { IfErr result (λ e. IsLineFault e) }
         ensures progress { OnOk result (room_of self.new + length piece.now ≤ room_of self.old) }
     {
         match self.cut.try_extend_from_slice(piece) {
@@ -235,13 +235,13 @@ impl<A: Allocator> Loader<A> {
     }
 
     // Reads the line that is cut, which ends here.
-    fn end_cut(&mut self, room: &mut LineRoom) -> Result<Step, ReadFault>
+    fn end_cut(&mut self, room: &mut LineBuffer) -> Result<Step, ReadFault>
         requires { IsLoading self.old }
         ensures step { (ls : List (List ℕ)) →
-            StepGives result (walked self.old.found (self.old.cut.items ∷ ls))
+            StepResultIs result (walked self.old.found (self.old.cut.items ∷ ls))
             (walked self.new.found ls) (ended self.new.found) }
         ensures empty { OnOk result (self.new.cut.items ≡ []) }
-        ensures quiet { IfErr result (λ e. IsOfLines e) }
+        ensures quiet { IfErr result (λ e. IsLineFault e) }
         ensures progress { result ≡ Ok Step.More → room_of self.new + 1 ≤ room_of self.old }
     {
         match self.found.take_line(self.cut.as_slice(), room) {
@@ -254,14 +254,14 @@ impl<A: Allocator> Loader<A> {
     }
 
     // Reads a line that ends with this piece and a line feed.
-    fn end_line(&mut self, piece: &[u8], room: &mut LineRoom) -> Result<Step, ReadFault>
+    fn end_line(&mut self, piece: &[u8], room: &mut LineBuffer) -> Result<Step, ReadFault>
         requires loading { IsLoading self.old }
-        requires feedless { NoFeed piece.now }
+        requires feedless { HasNoLineFeed piece.now }
         ensures step { (lines : List ℕ → List (List ℕ)) → PartsLines lines → (rest : List ℕ) →
-            StepGives result (resumed lines self.old (piece.now ++ (10 ∷ rest)))
+            StepResultIs result (resumed lines self.old (piece.now ++ (10 ∷ rest)))
             (resumed lines self.new rest) (ended self.new.found) }
         ensures loading { OnOk result (IsLoading self.new) }
-        ensures quiet { IfErr result (λ e. IsOfLines e) }
+        ensures quiet { IfErr result (λ e. IsLineFault e) }
         ensures progress { result ≡ Ok Step.More →
             room_of self.new + length piece.now + 1 ≤ room_of self.old }
     {
@@ -275,13 +275,13 @@ impl<A: Allocator> Loader<A> {
     }
 
     /// Reads more bytes of the file.
-    pub(crate) fn feed(&mut self, chunk: &[u8], room: &mut LineRoom) -> Result<Step, ReadFault>
+    pub(crate) fn feed(&mut self, chunk: &[u8], room: &mut LineBuffer) -> Result<Step, ReadFault>
         requires { IsLoading self.old }
         ensures step { (lines : List ℕ → List (List ℕ)) → PartsLines lines → (rest : List ℕ) →
-            StepGives result (resumed lines self.old (chunk.now ++ rest))
+            StepResultIs result (resumed lines self.old (chunk.now ++ rest))
             (resumed lines self.new rest) (ended self.new.found) }
         ensures loading { OnOk result (IsLoading self.new) }
-        ensures quiet { IfErr result (λ e. IsOfLines e) }
+        ensures quiet { IfErr result (λ e. IsLineFault e) }
         ensures progress { result ≡ Ok Step.More →
             room_of self.new + length chunk.now ≤ room_of self.old }
     {
@@ -309,7 +309,7 @@ impl<A: Allocator> Loader<A> {
     }
 
     /// Returns the program, after the last byte.
-    pub(crate) fn finish(mut self, room: &mut LineRoom) -> Result<Program<A>, ReadFault>
+    pub(crate) fn finish(mut self, room: &mut LineBuffer) -> Result<Program<A>, ReadFault>
         requires { IsLoading self }
         ensures text { OutcomeIs result (resumed split_lines self []) }
         ensures readings { IfOk result (λ p. HaveReadings (text_in p).lines) }

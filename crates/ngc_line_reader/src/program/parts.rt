@@ -63,7 +63,7 @@ pub struct PartLists<A: Allocator> {
 }
 
 // Returns the position after `count` entries.
-fn place_behind(count: usize) -> Result<u32, AllocError>
+fn place_after_item(count: usize) -> Result<u32, AllocError>
     ensures { IfOk result (λ place. place ≡ count) }
 {
     if count > u32::MAX as usize {
@@ -178,7 +178,7 @@ fn keep_numbered<A: Allocator>(
 }
 
 impl<A: Allocator> PartLists<A> {
-    ghost use Rattle.ngc_line_reader.specs.Kept.{parts_in, parts_at, kept_of, LiesWithin, Keeps};
+    ghost use Rattle.ngc_line_reader.specs.Kept.{parts_in, parts_at, stored_contents, LiesWithin, Keeps};
     ghost use Rattle.ngc_line_reader.specs.Kept.{no_kept, is_numbered, IsWithin, symbols_at};
     ghost use Rattle.ngc_line_reader.specs.Kept.{symbols_kept_of};
     ghost use Rattle.ngc_line_reader.specs.declared.program.parts.Kept.TheVariants as places;
@@ -205,7 +205,7 @@ impl<A: Allocator> PartLists<A> {
         ensures value { IfOk result (λ k. parts_at (parts_in self.new) k
             ≡ by_numbers (numbered_words line.now.words.items line.now.tokens.items)) }
     {
-        let first = place_behind(self.numbered.len())?;
+        let first = place_after_item(self.numbered.len())?;
         let view = line.view();
         keep_numbered(&mut self.numbered, view.words, view.tokens)?;
         Ok(Kept::Numbers {
@@ -221,10 +221,10 @@ impl<A: Allocator> PartLists<A> {
         ensures value { IfOk result (λ k. parts_at (parts_in self.new) k
             ≡ by_symbols (symbols_kept_of (parts_of line.now))) }
     {
-        let words = place_behind(self.words.len())?;
-        let settings = place_behind(self.settings.len())?;
-        let kinds = place_behind(self.kinds.len())?;
-        let numbers = place_behind(self.numbers.len())?;
+        let words = place_after_item(self.words.len())?;
+        let settings = place_after_item(self.settings.len())?;
+        let kinds = place_after_item(self.kinds.len())?;
+        let numbers = place_after_item(self.numbers.len())?;
         let view = line.view();
         self.words.extend_from_slice(view.words)?;
         self.settings.extend_from_slice(view.settings)?;
@@ -247,7 +247,7 @@ impl<A: Allocator> PartLists<A> {
         ensures kept { OnOk result (Keeps (parts_in self.old) (parts_in self.new)) }
         ensures within { IfOk result (λ k. LiesWithin (parts_in self.new) k) }
         ensures value { IfOk result
-            (λ k. parts_at (parts_in self.new) k ≡ kept_of (parts_of line.now)) }
+            (λ k. parts_at (parts_in self.new) k ≡ stored_contents (parts_of line.now)) }
     {
         if line.settings.is_empty() && line.tokens.len() == line.words.len() {
             self.push_numbered(line)

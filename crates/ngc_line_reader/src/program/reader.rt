@@ -6,7 +6,7 @@ ghost use Rattle.ngc_line_reader.specs.declared.program.reader.State.TheVariants
 
 use crate::program::Program;
 use crate::program::fault::ReadFault;
-use crate::program::loader::{LineRoom, Loader, Step};
+use crate::program::loader::{LineBuffer, Loader, Step};
 use std::alloc::Allocator;
 
 /// Whether the text continues, has ended, or is refused.
@@ -32,7 +32,7 @@ pub enum State {
 #[derive(Drop)]
 pub struct ProgramReader<A: Allocator> {
     loader: Loader<A>,
-    room: LineRoom,
+    room: LineBuffer,
     state: State,
     ghost loading: { state ≡ Going → IsLoading loader } by { Prim.hlevel props },
     ghost no_device: { state ≢ Refused Device } by { Prim.hlevel props },
@@ -58,7 +58,7 @@ impl<A: Allocator> ProgramReader<A> {
     {
         ProgramReader {
             loader: Loader::new(alloc),
-            room: LineRoom::new(),
+            room: LineBuffer::new(),
             state: State::Going,
         }
     }

@@ -5,7 +5,7 @@ ghost use Rattle.std.proofs.Props.{props};
 ghost use Rattle.ngc_line_reader.specs.Stored.{is_stored, line_of, lines_from, start_from};
 ghost use Rattle.ngc_line_reader.specs.ReadLine.{line_read};
 ghost use Rattle.ngc_line_reader.specs.ScanLine.{parts_of, said_of};
-ghost use Rattle.ngc_line_reader.specs.Kept.{parts_in, parts_at, kept_of, LiesWithin, AreWithin};
+ghost use Rattle.ngc_line_reader.specs.Kept.{parts_in, parts_at, stored_contents, LiesWithin, AreWithin};
 ghost use Rattle.ngc_line_reader.specs.Kept.{AreKept};
 ghost use Rattle.ngc_line_reader.specs.Words.{pairs_of, SaysNumbers, SaysDeleted};
 ghost use Rattle.ngc_line_reader.specs.Shown.{ShowsReading};
@@ -151,7 +151,7 @@ impl<A: Allocator> StoredLines<A> {
         ensures ends { OnOk result (self.new.ends ≡ self.old.ends) }
         ensures within { IfOk result (λ p. LiesWithin (parts_in self.new.parts) p.kept) }
         ensures value { IfOk result
-            (λ p. parts_at (parts_in self.new.parts) p.kept ≡ kept_of (parts_of reading.now)) }
+            (λ p. parts_at (parts_in self.new.parts) p.kept ≡ stored_contents (parts_of reading.now)) }
         ensures deleted { IfOk result (λ p. p.deleted ≡ reading.now.deleted) }
     {
         match self.parts.push(reading) {

@@ -4,7 +4,7 @@ use Rattle.ngc_canonical.specs.Interpreter.{setup_of}
 use Rattle.ngc_all_faults.specs.Emptied.{emptied}
 use Rattle.ngc_all_faults.specs.Faults.{HasFirst, IsFirst, after, line_of}
 use Rattle.ngc_all_faults.specs.declared.text_fault.TextFault.{TextFault}
-use Rattle.ngc_all_faults.proofs.Further.{ends, more, last}
+use Rattle.ngc_all_faults.proofs.NextFault.{ends, more, last}
 use Rattle.ngc_all_faults.proofs.search.faults_of.Goals as goal
 
 pub returns-in-Ok-None : goal.returns-in-Ok-None

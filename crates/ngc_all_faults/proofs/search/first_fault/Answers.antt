@@ -1,6 +1,6 @@
 use Rattle.std.proofs.Common.{Some, ap, subst}
 use Rattle.ngc_canonical.specs.Interpreter.{setup_of}
-use Rattle.ngc_canonical.specs.Meaning.{Fails, meaning, program_said}
+use Rattle.ngc_canonical.specs.Meaning.{Fails, meaning, parsed_program}
 use Rattle.ngc_canonical.specs.declared.fault.ProgramFault.{ProgramFault}
 use Rattle.ngc_line_reader.specs.ProgramView.{text_in}
 use Rattle.ngc_all_faults.proofs.Texts.{is_text}
@@ -27,7 +27,7 @@ returns-in-Err-At g c =
       readings = have.readings;
       are_readings = have.are;
       means =
-          subst (λ (e : ProgramFault). Fails e (meaning (program_said (text_in c.in-Ok.program) have.readings)
+          subst (λ (e : ProgramFault). Fails e (meaning (parsed_program (text_in c.in-Ok.program) have.readings)
           (setup_of c.args.machine.now c.args.tools.now) c.args.block_delete)) c.in-Err-At.field-0-is
           (c.in-Err-At.ensures.commands have.readings have.are);
     }

@@ -3,7 +3,7 @@ use Rattle.ngc_line_reader.specs.ProgramView.{text_in}
 use Rattle.ngc_machine_files.specs.Machine.{file_of}
 use Rattle.ngc_commands.specs.declared.command.Command.{Command}
 use Rattle.ngc_canonical.specs.declared.fault.ProgramFault.{ProgramFault}
-use Rattle.ngc_canonical.specs.Meaning.{meaning, program_said, past_text, commands_of, GivesMeaning}
+use Rattle.ngc_canonical.specs.Meaning.{meaning, parsed_program, past_text, commands_of, MeaningIs}
 use Rattle.ngc_canonical.specs.Interpreter.{setup_of, state_of}
 use Rattle.ngc_canonical.proofs.EndingLines.{line_ended, line_has_end, line_on, finished_ended, finished_has_end}
 use Rattle.ngc_canonical.proofs.JoinedLines.{went_on, handed_out, finished_joined, finished_radii, finished_few}
@@ -61,12 +61,12 @@ pub returns-clause-commands : goal.returns-clause-commands
 returns-clause-commands g c = λ rs are.
     let lines = (text_in c.args.program.now).lines in
     let past : length lines ≤ c.loop-index.index = omega (arith, c.loop-index-test.false, c.len-index-end.ensures.value) in
-    let same : meaning (program_said (text_in c.args.program.now) rs) (setup_of c.args.machine.now c.args.tools.now) c.args.block_delete
+    let same : meaning (parsed_program (text_in c.args.program.now) rs) (setup_of c.args.machine.now c.args.tools.now) c.args.block_delete
     ≡ commands_of (past_text (text_in c.args.program.now) (state_of c.loop-index.interpreter)) =
     ap commands_of
     (c.loop-index.invariant.leads rs are
     ∙ left_none (setup_of c.args.machine.now c.args.tools.now) _ c.args.block_delete lines rs c.loop-index.index _ past) in
-    let P : Result (List Command) ProgramFault → Type 0 = λ says. GivesMeaning (λ v. v.items) c.finish.result says in
+    let P : Result (List Command) ProgramFault → Type 0 = λ says. MeaningIs (λ v. v.items) c.finish.result says in
     subst P (sym same) c.finish.ensures
 
 pub returns-then-interpreter-clause-joined : goal.returns-then-interpreter-clause-joined

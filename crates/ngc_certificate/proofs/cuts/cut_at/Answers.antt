@@ -1,7 +1,7 @@
 use Rattle.std.proofs.Common.{◌≡◌, ◌≤◌, unsigned_abs, to_z, of_z, arith, refl}
 use Rattle.std.specs.Int.{w128}
 use Rattle.std.proofs.lemmas.Int.{ints}
-use Rattle.ngc_certificate.proofs.Wide.{sum_kept}
+use Rattle.ngc_certificate.proofs.WideSums.{sum_kept}
 use Rattle.ngc_certificate.proofs.cuts.cut_at.Goals as goal
 
 pub returns-clause-value : goal.returns-clause-value

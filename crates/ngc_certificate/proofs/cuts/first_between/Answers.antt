@@ -1,7 +1,7 @@
 use Rattle.std.proofs.Common.{◌≡◌, to_z, of_z, arith, refl}
 use Rattle.std.specs.Int.{w64, w128}
 use Rattle.std.proofs.lemmas.Int.{ints}
-use Rattle.ngc_certificate.proofs.Wide.{difference_kept}
+use Rattle.ngc_certificate.proofs.WideSums.{difference_kept}
 use Rattle.ngc_certificate.proofs.cuts.first_between.Goals as goal
 
 pub returns-clause-value : goal.returns-clause-value

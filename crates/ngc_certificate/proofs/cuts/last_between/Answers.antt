@@ -1,7 +1,7 @@
 use Rattle.std.proofs.Common.{◌≡◌, to_z, of_z, arith, refl}
 use Rattle.std.specs.Int.{w64, w128}
 use Rattle.std.proofs.lemmas.Int.{ints}
-use Rattle.ngc_certificate.proofs.Wide.{sum_kept}
+use Rattle.ngc_certificate.proofs.WideSums.{sum_kept}
 use Rattle.ngc_certificate.proofs.cuts.last_between.Goals as goal
 
 pub returns-clause-value : goal.returns-clause-value

@@ -1,7 +1,7 @@
 use Rattle.std.proofs.Common.{arith, ◌≤◌, ◌<◌, ◌*ℤ◌, ℕ, ℤ, pos, FitsSigned, unsigned_abs, lit<}
 use Rattle.std.specs.Int.{w128}
 use Rattle.std.proofs.lemmas.Int.{to_z-of_z, fits_signed_mul}
-use Rattle.ngc_certificate.proofs.Wide.{part_size, part_kept}
+use Rattle.ngc_certificate.proofs.WideSums.{part_size, part_kept}
 use Rattle.ngc_certificate.proofs.cuts.part_of_way.Goals as goal
 
 part_fits : (way : ℤ) (part : ℕ) → unsigned_abs way ≤ 200000000000 → part < 4294967296 → FitsSigned w128 (way *ℤ pos part)

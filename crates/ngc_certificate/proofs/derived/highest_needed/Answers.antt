@@ -1,4 +1,4 @@
-use Rattle.ngc_certificate.proofs.Wide.{narrow_kept}
+use Rattle.ngc_certificate.proofs.WideSums.{narrow_kept}
 use Rattle.ngc_certificate.proofs.derived.highest_needed.Goals as goal
 
 pub returns-clause-narrow : goal.returns-clause-narrow

@@ -5,7 +5,7 @@ use Rattle.ngc_machine_files.specs.Machine.{file_of}
 use Rattle.ngc_certificate_text.specs.declared.piece.Piece.{Piece}
 use Rattle.ngc_certificate_text.specs.Certificate.{good_piece}
 use Rattle.ngc_certificate.proofs.Cleared.{whole_good, whole_stands, cut_stands}
-use Rattle.ngc_certificate.proofs.Oks.{map_ok}
+use Rattle.ngc_certificate.proofs.GoodResults.{map_ok}
 use Rattle.ngc_certificate.proofs.finding.find_arc.Goals as goal
 
 pub returns-then-branch-clause-found : goal.returns-then-branch-clause-found

@@ -1,6 +1,6 @@
 use Rattle.std.proofs.Common.{◌∙◌, sym}
 use Rattle.ngc_machine_files.specs.Machine.{file_of}
-use Rattle.ngc_certificate.proofs.Tries.{skipped, refused, taken}
+use Rattle.ngc_certificate.proofs.TriedCuts.{skipped, refused, taken}
 use Rattle.ngc_certificate.proofs.finding.find_count.Goals as goal
 
 pub loop-count-preserved-then-count-most : goal.loop-count-preserved-then-count-most

@@ -2,7 +2,7 @@ use Rattle.std.proofs.Common.{◌≡◌}
 use Rattle.std.specs.Prelude.{drop}
 use Rattle.ngc_machine_files.specs.Machine.{file_of}
 use Rattle.ngc_certificate.specs.Made.{cleared, powers_of_two}
-use Rattle.ngc_certificate.proofs.Tries.{cleared_from}
+use Rattle.ngc_certificate.proofs.TriedCuts.{cleared_from}
 use Rattle.ngc_certificate.proofs.finding.find_count.Given as goal
 
 abbrev pub invariant-loop-count : goal.invariant-loop-count

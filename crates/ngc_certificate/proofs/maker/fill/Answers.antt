@@ -1,7 +1,7 @@
 use Rattle.std.proofs.Common.{◌+◌, Ok, arith, drop, subst, sym}
 use Rattle.ngc_machine_files.specs.Machine.{file_of}
 use Rattle.ngc_commands.specs.Movement.{actions_of}
-use Rattle.ngc_certificate.specs.Making.{made_by, IsGivenFrom}
+use Rattle.ngc_certificate.specs.Making.{made_by, IsAllowedFrom}
 use Rattle.ngc_certificate.proofs.MakingLaws.{next_action, none_left, nothing_behind, stopped, refusal_seen}
 use Rattle.ngc_certificate.proofs.PlanLaws.{way_here}
 use Rattle.ngc_certificate.proofs.maker.fill.Goals as goal
@@ -30,7 +30,7 @@ loop-index-preserved g c =
     let split = next_action i commands c.index-commands-index.result c.loop-index-test.true c.index-commands-index.is in
     record {
       leads = λ says given. c.loop-index.invariant.leads says
-          (subst (λ actions. IsGivenFrom (file_of c.args.machine.now) c.args.most i
+          (subst (λ actions. IsAllowedFrom (file_of c.args.machine.now) c.args.most i
           (made_by (λ m. g.M.MotionStore.entries m step commands) c.loop-index.progress) actions says) (sym split)
           (c.in-Ok.ensures.leads.0 (actions_of (drop (i + 1) commands)) says given));
       count = omega (arith, c.loop-index.invariant.count, c.in-Ok.ensures.leads.1);
@@ -45,6 +45,6 @@ returns-clause-made g c =
     let motions = g.M.MotionStore.entries c.loop-index.progress.motions step commands in
     let end = none_left i commands (omega (arith, c.loop-index-test.false)) in
     c.loop-index.invariant.leads (Ok motions)
-    (subst (λ actions. IsGivenFrom (file_of c.args.machine.now) c.args.most i
+    (subst (λ actions. IsAllowedFrom (file_of c.args.machine.now) c.args.most i
     (made_by (λ m. g.M.MotionStore.entries m step commands) c.loop-index.progress) actions (Ok motions)) (sym end)
     (nothing_behind motions))

@@ -3,7 +3,7 @@ use Rattle.ngc_machine_files.specs.Machine.{file_of}
 use Rattle.ngc_certificate.specs.declared.fault.PieceRefusal.{PieceRefusal}
 use Rattle.ngc_certificate.specs.PieceFault.{◌or◌}
 use Rattle.ngc_certificate.specs.PieceJudging.{fault_ahead}
-use Rattle.ngc_certificate.proofs.RestFault.{is_last, left}
+use Rattle.ngc_certificate.proofs.RemainingPieces.{is_last, left}
 use Rattle.ngc_certificate.proofs.pieces.first_refusal.Goals as goal
 
 found_here : (o before after whole : Option PieceRefusal) (r : PieceRefusal) → o ≡ Some r → before ≡ (o or after) → before ≡ whole → Some r ≡ whole

@@ -2,7 +2,7 @@ use Rattle.std.proofs.Common.{ap, ◌∙◌, sym}
 use Rattle.std.specs.Prelude.{pos}
 use Rattle.std.specs.Option.{option_map}
 use Rattle.ngc_certificate_text.specs.Number.{negated}
-use Rattle.ngc_certificate_text.proofs.Clamps.{minus_number, plain_number}
+use Rattle.ngc_certificate_text.proofs.BoundedNumbers.{minus_number, plain_number}
 use Rattle.ngc_certificate_text.proofs.number.number_in.Goals as goal
 
 pub returns-in-Some : goal.returns-in-Some

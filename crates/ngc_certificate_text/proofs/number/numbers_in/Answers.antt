@@ -2,7 +2,7 @@ use Rattle.std.proofs.Common.{◌≡◌, length, ap, ◌∙◌, sym, refl, [], �
 use Rattle.std.proofs.lemmas.Int.{to_z-of_z}
 use Rattle.ngc_certificate_text.specs.Lines.{numbers_in as numbers_said}
 use Rattle.ngc_certificate_text.specs.Clamped.{all_fields}
-use Rattle.ngc_certificate_text.proofs.Gathers.{gathered, gather_begins, gather_ends, gather_more, gather_fails, gather_full}
+use Rattle.ngc_certificate_text.proofs.FieldNumbers.{gathered, gather_begins, gather_ends, gather_more, gather_fails, gather_full}
 use Rattle.ngc_certificate_text.proofs.number.numbers_in.Goals as goal
 
 pub loop-left-init : goal.loop-left-init

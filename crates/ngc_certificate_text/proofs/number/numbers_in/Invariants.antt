@@ -2,7 +2,7 @@
 use Rattle.std.proofs.Common.{◌≡◌, ◌≤◌, length}
 use Rattle.ngc_certificate_text.specs.Lines.{numbers_in}
 use Rattle.ngc_certificate_text.specs.Clamped.{all_fields, numbers_left}
-use Rattle.ngc_certificate_text.proofs.Gathers.{gathered, room_left}
+use Rattle.ngc_certificate_text.proofs.FieldNumbers.{gathered, room_left}
 use Rattle.ngc_certificate_text.proofs.number.numbers_in.Given as goal
 
 abbrev pub invariant-loop-left : goal.invariant-loop-left

@@ -1,7 +1,7 @@
 use Rattle.std.proofs.Common.{ap, ◌∙◌, sym, List, ℕ, ◌∷◌, drop}
 use Rattle.std.proofs.lemmas.List.{take_rest}
 use Rattle.ngc_certificate_text.specs.Number.{fields}
-use Rattle.ngc_certificate_text.proofs.Clamps.{space_found, no_space}
+use Rattle.ngc_certificate_text.proofs.BoundedNumbers.{space_found, no_space}
 use Rattle.ngc_certificate_text.proofs.number.split_field.Goals as goal
 
 pub returns-in-Some-clause-fields : goal.returns-in-Some-clause-fields

@@ -1,5 +1,5 @@
-use Rattle.ngc_certificate_text.proofs.Fronts.{longer, rest_collected}
-use Rattle.ngc_certificate_text.proofs.Spelled.{motion_numbered}
+use Rattle.ngc_certificate_text.proofs.CollectedTexts.{longer, rest_collected}
+use Rattle.ngc_certificate_text.proofs.WrittenCertificate.{motion_numbered}
 use Rattle.ngc_certificate_text.proofs.write.write_motion.Goals as goal
 
 pub returns-in-Err-clause-text : goal.returns-in-Err-clause-text

@@ -1,7 +1,7 @@
 use Rattle.std.proofs.Common.{rules, ◌<◌, length}
 use Rattle.ngc_certificate_text.specs.Spelling.{entry_lines}
-use Rattle.ngc_certificate_text.proofs.Fronts.{one_more, stopped_at}
-use Rattle.ngc_certificate_text.proofs.Spelled.{entry_there}
+use Rattle.ngc_certificate_text.proofs.CollectedTexts.{one_more, stopped_at}
+use Rattle.ngc_certificate_text.proofs.WrittenCertificate.{entry_there}
 use Rattle.ngc_certificate_text.proofs.write.write_motions.Goals as goal
 
 pub returns-in-Err-clause-text : goal.returns-in-Err-clause-text

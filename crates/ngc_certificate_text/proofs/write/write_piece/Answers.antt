@@ -1,4 +1,4 @@
-use Rattle.ngc_certificate_text.proofs.Fronts.{longer}
+use Rattle.ngc_certificate_text.proofs.CollectedTexts.{longer}
 use Rattle.ngc_certificate_text.proofs.write.write_piece.Goals as goal
 
 pub returns-in-Err-clause-text : goal.returns-in-Err-clause-text

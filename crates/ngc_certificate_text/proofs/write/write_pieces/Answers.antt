@@ -1,8 +1,8 @@
 use Rattle.std.proofs.Common.{rules, ◌<◌, length}
 use Rattle.ngc_certificate_text.specs.Certificate.{entry_at}
 use Rattle.ngc_certificate_text.specs.Spelling.{piece_line}
-use Rattle.ngc_certificate_text.proofs.Fronts.{one_more, stopped_at}
-use Rattle.ngc_certificate_text.proofs.Spelled.{piece_found}
+use Rattle.ngc_certificate_text.proofs.CollectedTexts.{one_more, stopped_at}
+use Rattle.ngc_certificate_text.proofs.WrittenCertificate.{piece_found}
 use Rattle.ngc_certificate_text.proofs.write.write_pieces.Goals as goal
 
 pub returns-in-Err-clause-text : goal.returns-in-Err-clause-text

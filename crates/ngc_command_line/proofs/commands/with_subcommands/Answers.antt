@@ -1,7 +1,7 @@
 use Rattle.std.proofs.Common.{◌∙◌, get_or}
 use Rattle.clap.specs.Words.{with_subcommand}
 use Rattle.ngc_command_line.specs.Rows.{shape_named}
-use Rattle.ngc_command_line.proofs.Steps.{adds_subcommand, folds_more, shape_is_plain}
+use Rattle.ngc_command_line.proofs.BuildingSteps.{adds_subcommand, folds_more, shape_is_plain}
 use Rattle.ngc_command_line.proofs.commands.with_subcommands.Goals as goal
 
 pub loop-subcommand-preserved : goal.loop-subcommand-preserved

@@ -2,18 +2,18 @@ use Rattle.std.proofs.Common.{◌≡◌, ◌∙◌, List, [], Option, Ok, Err, a
 use Rattle.std.specs.Prelude.{MatchResult, unwrap_or}
 use Rattle.clap.specs.Words.{Text, found_of}
 use Rattle.clap.proofs.WalkLemmas.{raw_values-rows}
-use Rattle.ngc_origins.specs.Texts.{origins_said}
+use Rattle.ngc_origins.specs.Texts.{parsed_origins}
 use Rattle.ngc_command_line.proofs.origin.origins_of.Goals as goal
 
 pub returns-in-Some : goal.returns-in-Some
 returns-in-Some c =
-    let Are : Option (List Text) → Type 0 = λ texts. MatchResult c.read_origins.result (λ origins. origins_said (unwrap_or texts []) ≡ Ok origins)
-    (λ refused. origins_said (unwrap_or texts []) ≡ Err refused.mistake) in
+    let Are : Option (List Text) → Type 0 = λ texts. MatchResult c.read_origins.result (λ origins. parsed_origins (unwrap_or texts []) ≡ Ok origins)
+    (λ refused. parsed_origins (unwrap_or texts []) ≡ Err refused.mistake) in
     subst Are (sym (ap (option_map (λ s. map (λ v. v.now) s.now)) c.in-Some.is) ∙ c.get_strs.ensures
     ∙ raw_values-rows (found_of c.args.found.now) (codes "origin")) c.read_origins.ensures
 
 pub returns-in-None : goal.returns-in-None
 returns-in-None c =
-    let Are : Option (List Text) → Type 0 = λ texts. origins_said (unwrap_or texts []) ≡ Ok c.none.result in
+    let Are : Option (List Text) → Type 0 = λ texts. parsed_origins (unwrap_or texts []) ≡ Ok c.none.result in
     subst Are (sym (ap (option_map (λ s. map (λ v. v.now) s.now)) c.in-None.is) ∙ c.get_strs.ensures
     ∙ raw_values-rows (found_of c.args.found.now) (codes "origin")) (ap Ok (sym c.none.ensures))

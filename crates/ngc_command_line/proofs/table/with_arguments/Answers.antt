@@ -1,7 +1,7 @@
 use Rattle.std.proofs.Common.{get_or}
 use Rattle.clap.specs.Words.{with_rule}
 use Rattle.ngc_command_line.specs.Rows.{rule_for}
-use Rattle.ngc_command_line.proofs.Steps.{adds_row, folds_more}
+use Rattle.ngc_command_line.proofs.BuildingSteps.{adds_row, folds_more}
 use Rattle.ngc_command_line.proofs.table.with_arguments.Goals as goal
 
 pub loop-argument-preserved : goal.loop-argument-preserved

@@ -5,7 +5,7 @@ use Rattle.ngc_drawing.specs.Bodies.{swept, swept_from}
 use Rattle.ngc_drawing.specs.Draws.{Draws}
 use Rattle.ngc_drawing.specs.declared.shape.Shape.{Shape}
 use Rattle.ngc_drawing.specs.declared.sweep.Sweep.{Sweep}
-use Rattle.ngc_drawing.proofs.Ahead.{went, stopped, last}
+use Rattle.ngc_drawing.proofs.ShapeProgress.{went, stopped, last}
 use Rattle.ngc_drawing.proofs.Sweeps.{next_sweep, no_sweep}
 use Rattle.ngc_drawing.proofs.bodies.draw_swept.Goals as goal
 

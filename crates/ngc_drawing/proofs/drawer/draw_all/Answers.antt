@@ -1,5 +1,5 @@
 use Rattle.std.proofs.Common.{rules}
-use Rattle.ngc_certificate_text.proofs.Fronts.{one_more, stopped_at}
+use Rattle.ngc_certificate_text.proofs.CollectedTexts.{one_more, stopped_at}
 use Rattle.ngc_drawing.specs.Spelling.{shape_text}
 use Rattle.ngc_drawing.proofs.drawer.draw_all.Goals as goal
 

@@ -3,8 +3,8 @@ use Rattle.std.proofs.lemmas.List.{at_drop_all}
 use Rattle.ngc_drawing.specs.Draws.{Draws}
 use Rattle.ngc_drawing.specs.Holes.{drilled, ended, holes, holes_from}
 use Rattle.ngc_drawing.specs.declared.shape.Shape.{Shape}
-use Rattle.ngc_drawing.proofs.Ahead.{went, stopped, last}
-use Rattle.ngc_drawing.proofs.Steps.{next_drilled}
+use Rattle.ngc_drawing.proofs.ShapeProgress.{went, stopped, last}
+use Rattle.ngc_drawing.proofs.BoxSteps.{next_drilled}
 use Rattle.ngc_drawing.proofs.holes.draw_holes.Goals as goal
 
 pub returns-in-Err-clause-drawn : goal.returns-in-Err-clause-drawn

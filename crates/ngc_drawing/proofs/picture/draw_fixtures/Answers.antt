@@ -1,8 +1,8 @@
 use Rattle.std.proofs.Common.{◌+◌, drop, rules}
 use Rattle.ngc_drawing.specs.Labels.{lines_at}
 use Rattle.ngc_drawing.specs.Pictures.{fixture, fixtures_from}
-use Rattle.ngc_drawing.proofs.Ahead.{went, stopped}
-use Rattle.ngc_drawing.proofs.Steps.{next_fixture}
+use Rattle.ngc_drawing.proofs.ShapeProgress.{went, stopped}
+use Rattle.ngc_drawing.proofs.BoxSteps.{next_fixture}
 use Rattle.ngc_drawing.proofs.picture.draw_fixtures.Goals as goal
 
 pub returns-in-Err-clause-drawn : goal.returns-in-Err-clause-drawn

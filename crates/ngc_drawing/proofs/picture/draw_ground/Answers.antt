@@ -5,7 +5,7 @@ use Rattle.ngc_drawing.specs.Sheets.{unit_of}
 use Rattle.ngc_machine_files.specs.Machine.{file_of}
 use Rattle.std.proofs.Common.{None, drop}
 use Rattle.ngc_drawing.specs.declared.shape.Shape.{Shape}
-use Rattle.ngc_drawing.proofs.Ahead.{Ahead, begun, went, stopped, last}
+use Rattle.ngc_drawing.proofs.ShapeProgress.{Ahead, begun, went, stopped, last}
 use Rattle.ngc_drawing.proofs.picture.draw_ground.Goals as goal
 
 pub returns-in-Err-clause-drawn : goal.returns-in-Err-clause-drawn

@@ -1,5 +1,5 @@
 use Rattle.std.proofs.Common.{[], ◌∷◌, ◌++◌, refl}
-use Rattle.ngc_drawing.proofs.Ahead.{begun, went, stopped, last}
+use Rattle.ngc_drawing.proofs.ShapeProgress.{begun, went, stopped, last}
 use Rattle.ngc_drawing.specs.Pictures.{scaled, tool_rows, refusal_row}
 use Rattle.ngc_drawing.specs.Sheets.{unit_of}
 use Rattle.ngc_drawing.specs.declared.shape.Shape.TheVariants as shapes

@@ -1,5 +1,5 @@
 use Rattle.std.proofs.Common.{◌++◌, refl}
-use Rattle.ngc_drawing.proofs.Ahead.{both, cut_short}
+use Rattle.ngc_drawing.proofs.ShapeProgress.{both, cut_short}
 use Rattle.ngc_drawing.specs.Holes.{holes}
 use Rattle.ngc_drawing.specs.Strokes.{strokes}
 use Rattle.ngc_drawing.proofs.picture.draw_path.Goals as goal

@@ -4,7 +4,7 @@ use Rattle.ngc_drawing.specs.Sheets.{unit_of}
 use Rattle.ngc_machine_files.specs.Machine.{file_of}
 use Rattle.ngc_drawing.specs.declared.shape.Shape.{Shape}
 use Rattle.ngc_drawing.specs.declared.shape.Shape.TheVariants as shapes
-use Rattle.ngc_drawing.proofs.Ahead.{Ahead, begun, went, stopped, last}
+use Rattle.ngc_drawing.proofs.ShapeProgress.{Ahead, begun, went, stopped, last}
 use Rattle.ngc_drawing.proofs.picture.draw_picture.Goals as goal
 
 pub returns-in-Err-clause-drawn : goal.returns-in-Err-clause-drawn

@@ -1,6 +1,6 @@
 use Rattle.std.proofs.Common.{[], ◌∷◌, None, List, refl}
 use Rattle.ngc_commands.specs.Movement.{end_of}
-use Rattle.ngc_drawing.proofs.Ahead.{both, cut_short}
+use Rattle.ngc_drawing.proofs.ShapeProgress.{both, cut_short}
 use Rattle.ngc_drawing.specs.Pictures.{refused_way}
 use Rattle.ngc_drawing.specs.Strokes.{stroke}
 use Rattle.ngc_drawing.specs.Views.{tip_spot}

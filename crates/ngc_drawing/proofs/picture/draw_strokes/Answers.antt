@@ -3,8 +3,8 @@ use Rattle.std.proofs.lemmas.List.{at_drop_all}
 use Rattle.ngc_drawing.specs.Draws.{Draws}
 use Rattle.ngc_drawing.specs.Strokes.{strokes_of, strokes_from, strokes, after}
 use Rattle.ngc_drawing.specs.declared.shape.Shape.{Shape}
-use Rattle.ngc_drawing.proofs.Ahead.{went, stopped, last}
-use Rattle.ngc_drawing.proofs.Steps.{next_command}
+use Rattle.ngc_drawing.proofs.ShapeProgress.{went, stopped, last}
+use Rattle.ngc_drawing.proofs.BoxSteps.{next_command}
 use Rattle.ngc_drawing.proofs.picture.draw_strokes.Goals as goal
 
 pub returns-in-Err-clause-drawn : goal.returns-in-Err-clause-drawn

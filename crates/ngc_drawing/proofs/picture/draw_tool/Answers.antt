@@ -3,7 +3,7 @@ use Rattle.ngc_drawing.specs.Pictures.{parts, tool_row}
 use Rattle.ngc_drawing.specs.Tools.{number_of, name_of}
 use Rattle.ngc_drawing.specs.declared.shape.Shape.{Shape}
 use Rattle.ngc_drawing.specs.declared.shape.Shape.TheVariants as shapes
-use Rattle.ngc_drawing.proofs.Ahead.{begun, went, stopped, last}
+use Rattle.ngc_drawing.proofs.ShapeProgress.{begun, went, stopped, last}
 use Rattle.ngc_drawing.proofs.picture.draw_tool.Goals as goal
 
 pub returns-in-Err-clause-drawn : goal.returns-in-Err-clause-drawn

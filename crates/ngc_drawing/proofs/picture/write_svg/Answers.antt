@@ -1,10 +1,10 @@
 use Rattle.std.proofs.Common.{ℕ, [], List, refl, subst}
 use Rattle.std.specs.Io.KnownBytes.{Appends}
-use Rattle.ngc_text.specs.Written.{AppendsBeginning}
+use Rattle.ngc_text.specs.Written.{AppendsPrefix}
 use Rattle.ngc_machine_files.specs.Machine.{file_of}
 use Rattle.ngc_drawing.specs.Pictures.{picture_text}
-use Rattle.ngc_drawing.proofs.Ahead.{appends_none}
-use Rattle.ngc_drawing.proofs.Whole.{of_commands}
+use Rattle.ngc_drawing.proofs.ShapeProgress.{appends_none}
+use Rattle.ngc_drawing.proofs.WholePicture.{of_commands}
 use Rattle.ngc_drawing.proofs.picture.write_svg.Goals as goal
 
 pub returns-in_default-clause-fault : goal.returns-in_default-clause-fault
@@ -42,7 +42,7 @@ returns-in-Ok-write_picture-clause-ok g c =
 
 pub returns-clause-fault : goal.returns-clause-fault
 returns-clause-fault g c =
-    subst (λ (l : List ℕ). AppendsBeginning (g.W.Sink.written c.args.sink.now) (g.W.Sink.written c.write_picture.new.sink) l)
+    subst (λ (l : List ℕ). AppendsPrefix (g.W.Sink.written c.args.sink.now) (g.W.Sink.written c.write_picture.new.sink) l)
     (of_commands c.args.look.now (file_of c.args.machine.now) c.args.commands.now c.args.motions.now c.args.refusal.now c.args.work.now c.in-Ok.tools.items
     c.as_slice.result.now c.as_slice-2.result.now c.in-Ok-shown_sweeps.swept.items c.as_slice-3.result.now c.frame-area.result c.unit_of-unit.result.micrometres
     c.in-Ok-labels.labels.items c.as_slice-4.result.now

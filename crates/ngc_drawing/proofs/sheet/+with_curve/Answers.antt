@@ -1,5 +1,5 @@
 use Rattle.std.proofs.Common.{◌∙◌, ap, ◌-◌}
-use Rattle.ngc_drawing.proofs.Held.{held, held_halved}
+use Rattle.ngc_drawing.proofs.CurveRectangles.{held, held_halved}
 use Rattle.ngc_drawing.proofs.sheet.+with_curve.Goals as goal
 
 pub returns : goal.returns

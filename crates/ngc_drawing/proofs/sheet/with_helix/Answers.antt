@@ -1,6 +1,6 @@
 use Rattle.std.proofs.Common.{◌∙◌, ap}
 use Rattle.ngc_drawing.specs.Helices as helices
-use Rattle.ngc_drawing.proofs.Held.{held, held_both}
+use Rattle.ngc_drawing.proofs.CurveRectangles.{held, held_both}
 use Rattle.ngc_drawing.proofs.sheet.with_helix.Goals as goal
 
 pub returns : goal.returns

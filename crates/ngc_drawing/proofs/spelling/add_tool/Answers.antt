@@ -1,6 +1,6 @@
 use Rattle.std.proofs.Common.{◌++◌, List, ℕ, ap, sym, codes, decimal, ◌∙◌}
 use Rattle.ngc_drawing.specs.Spelling.{colour_text, tool_text}
-use Rattle.ngc_drawing.proofs.Called.{none_text, some_text}
+use Rattle.ngc_drawing.proofs.ToolNames.{none_text, some_text}
 use Rattle.ngc_drawing.proofs.Texts.{more}
 use Rattle.ngc_drawing.proofs.spelling.add_tool.Goals as goal
 

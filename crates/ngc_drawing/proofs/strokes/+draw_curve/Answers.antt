@@ -1,5 +1,5 @@
 use Rattle.std.proofs.Common.{◌-◌}
-use Rattle.ngc_drawing.proofs.Ahead.{both, cut_short}
+use Rattle.ngc_drawing.proofs.ShapeProgress.{both, cut_short}
 use Rattle.ngc_drawing.proofs.Curves.{lines, halved}
 use Rattle.ngc_drawing.proofs.strokes.+draw_curve.Goals as goal
 

@@ -3,7 +3,7 @@ use Rattle.ngc_fixed_length.specs.Places.{at_height, height}
 use Rattle.ngc_arc_geometry.specs.Sector.{extremes}
 use Rattle.ngc_drawing.specs.Arcs.{extreme_point}
 use Rattle.ngc_drawing.specs.Views.{tip_spot}
-use Rattle.ngc_drawing.proofs.Mapped.{how_many, one_more, all_mapped}
+use Rattle.ngc_drawing.proofs.MappedLists.{how_many, one_more, all_mapped}
 use Rattle.ngc_drawing.proofs.strokes.corner_spots.Goals as goal
 
 pub push-requires : goal.push-requires

@@ -1,6 +1,6 @@
 use Rattle.std.proofs.Common.{◌<◌, ◌≤◌, length, pos, arith, refl, lit<}
 use Rattle.ngc_drawing.specs.declared.shape.Shape.TheVariants as drawn
-use Rattle.ngc_drawing.proofs.Mapped.{how_many, one_more, all_mapped}
+use Rattle.ngc_drawing.proofs.MappedLists.{how_many, one_more, all_mapped}
 use Rattle.ngc_drawing.proofs.strokes.corners.Goals as goal
 
 pub push-requires : goal.push-requires

@@ -1,4 +1,4 @@
-use Rattle.ngc_drawing.proofs.Ahead.{both, cut_short}
+use Rattle.ngc_drawing.proofs.ShapeProgress.{both, cut_short}
 use Rattle.ngc_drawing.proofs.Curves.{lines, both_halves}
 use Rattle.ngc_drawing.specs.Helices.{helix_points}
 use Rattle.ngc_drawing.specs.Strokes.{line_to}

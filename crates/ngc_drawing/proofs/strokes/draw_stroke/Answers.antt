@@ -1,6 +1,6 @@
 use Rattle.std.proofs.Common.{refl}
 use Rattle.ngc_commands.specs.Movement.{start_of}
-use Rattle.ngc_drawing.proofs.Ahead.{both, cut_short}
+use Rattle.ngc_drawing.proofs.ShapeProgress.{both, cut_short}
 use Rattle.ngc_drawing.specs.Strokes.{lead, course, stroke}
 use Rattle.ngc_drawing.specs.Views.{tip_spot}
 use Rattle.ngc_drawing.proofs.strokes.draw_stroke.Goals as goal

@@ -5,7 +5,7 @@ use Rattle.ngc_arc_geometry.specs.Radii.{outer_radius}
 use Rattle.ngc_drawing.specs.Strokes.{round, is_seen_clockwise}
 use Rattle.ngc_drawing.specs.Views.{micrometres}
 use Rattle.ngc_drawing.specs.declared.shape.Shape.TheVariants as shapes
-use Rattle.ngc_drawing.proofs.Mapped.{how_many, one_more, all_mapped}
+use Rattle.ngc_drawing.proofs.MappedLists.{how_many, one_more, all_mapped}
 use Rattle.ngc_drawing.proofs.strokes.rounds.Goals as goal
 
 pub push-requires : goal.push-requires

@@ -1,6 +1,6 @@
 use Rattle.std.proofs.Common.{◌∙◌}
-use Rattle.ngc_fault_texts.proofs.Found.{chosen, passed}
-use Rattle.ngc_fault_texts.proofs.Reached.{left, stopped, went_on}
+use Rattle.ngc_fault_texts.proofs.NumberSearch.{chosen, passed}
+use Rattle.ngc_fault_texts.proofs.WrittenProgress.{left, stopped, went_on}
 use Rattle.ngc_fault_texts.proofs.telling.write_part.Goals as goal
 use Rattle.ngc_fault_texts.proofs.telling.write_part.Goals.{else-row-number, then-row-number+in-Ok}
 

@@ -1,6 +1,6 @@
 use Rattle.std.proofs.Common.{◌≡◌, drop}
 use Rattle.ngc_fault_texts.specs.Told.{told}
-use Rattle.ngc_fault_texts.proofs.Reached.{Reached}
+use Rattle.ngc_fault_texts.proofs.WrittenProgress.{Reached}
 use Rattle.ngc_fault_texts.proofs.telling.write_parts.Given as goal
 
 abbrev pub invariant-loop-part : goal.invariant-loop-part

@@ -1,5 +1,5 @@
 use Rattle.std.proofs.lemmas.Result.{on_err_weaker, on_ok_weaker}
-use Rattle.ngc_fault_texts.proofs.Reached.{first_broken, second_broken, third_broken, three_written}
+use Rattle.ngc_fault_texts.proofs.WrittenProgress.{first_broken, second_broken, third_broken, three_written}
 use Rattle.ngc_fault_texts.proofs.telling.write_row.Goals as goal
 
 pub returns-in-Err-clause-fault : goal.returns-in-Err-clause-fault
@@ -10,8 +10,8 @@ returns-in-Err-write_column-clause-fault g c = second_broken _ _ _ _ _ _ c.in-Ok
 
 pub returns-clause-ok : goal.returns-clause-ok
 returns-clause-ok g c =
-    on_ok_weaker c.write_mend.result (three_written _ _ _ _ _ _ _ c.in-Ok.ensures.ok c.in-Ok-write_column.ensures.ok) c.write_mend.ensures.ok
+    on_ok_weaker c.write_fix.result (three_written _ _ _ _ _ _ _ c.in-Ok.ensures.ok c.in-Ok-write_column.ensures.ok) c.write_fix.ensures.ok
 
 pub returns-clause-fault : goal.returns-clause-fault
 returns-clause-fault g c =
-    on_err_weaker c.write_mend.result (third_broken _ _ _ _ _ _ _ c.in-Ok.ensures.ok c.in-Ok-write_column.ensures.ok) c.write_mend.ensures.fault
+    on_err_weaker c.write_fix.result (third_broken _ _ _ _ _ _ _ c.in-Ok.ensures.ok c.in-Ok-write_column.ensures.ok) c.write_fix.ensures.fault

@@ -3,14 +3,14 @@ use Rattle.ngc_line_reader.specs.ProgramView.{text_in}
 use Rattle.ngc_machine_files.specs.Machine.{file_of}
 use Rattle.ngc_commands.specs.declared.command.Command.{Command}
 use Rattle.ngc_canonical.specs.declared.fault.ProgramFault.{ProgramFault}
-use Rattle.ngc_canonical.specs.Meaning.{meaning, program_said, past_text, commands_of, Fails}
+use Rattle.ngc_canonical.specs.Meaning.{meaning, parsed_program, past_text, commands_of, Fails}
 use Rattle.ngc_canonical.specs.Interpreter.{setup_of, state_of}
 use Rattle.ngc_canonical.proofs.EndingLines.{line_ended, line_has_end, line_on, finished_ended, finished_has_end}
 use Rattle.ngc_canonical.proofs.JoinedLines.{went_on, handed_out, finished_joined, finished_radii, finished_few}
 use Rattle.ngc_canonical.proofs.BlockDelete.{seen_line, next_seen}
 use Rattle.ngc_canonical.proofs.Lines.{number_is, taken_as, left_refused, left_ended, refused_fails}
 use Rattle.ngc_canonical.proofs.Lines as lines_of
-use Rattle.ngc_frames.proofs.Steps.{goes_on, left_none, none_left, stops}
+use Rattle.ngc_frames.proofs.LineSteps.{goes_on, left_none, none_left, stops}
 use Rattle.ngc_frames.proofs.history.interpret_with_frames.Goals as goal
 
 pub returns-in-Err-clause-commands : goal.returns-in-Err-clause-commands
@@ -89,7 +89,7 @@ pub returns-in-Ok-finish-clause-commands : goal.returns-in-Ok-finish-clause-comm
 returns-in-Ok-finish-clause-commands g c = λ rs are.
     let lines = (text_in c.args.program.now).lines in
     let past : length lines ≤ c.loop-index.index = omega (arith, c.loop-index-test.false, c.len-index-end.ensures.value) in
-    let same : meaning (program_said (text_in c.args.program.now) rs) (setup_of c.args.machine.now c.args.tools.now) c.args.block_delete
+    let same : meaning (parsed_program (text_in c.args.program.now) rs) (setup_of c.args.machine.now c.args.tools.now) c.args.block_delete
     ≡ commands_of (past_text (text_in c.args.program.now) (state_of c.loop-index.interpreter)) =
     ap commands_of
     (c.loop-index.invariant.leads rs are
@@ -100,7 +100,7 @@ pub returns-in-Err-finish-clause-commands : goal.returns-in-Err-finish-clause-co
 returns-in-Err-finish-clause-commands g c = λ rs are.
     let lines = (text_in c.args.program.now).lines in
     let past : length lines ≤ c.loop-index.index = omega (arith, c.loop-index-test.false, c.len-index-end.ensures.value) in
-    let same : meaning (program_said (text_in c.args.program.now) rs) (setup_of c.args.machine.now c.args.tools.now) c.args.block_delete
+    let same : meaning (parsed_program (text_in c.args.program.now) rs) (setup_of c.args.machine.now c.args.tools.now) c.args.block_delete
     ≡ commands_of (past_text (text_in c.args.program.now) (state_of c.loop-index.interpreter)) =
     ap commands_of
     (c.loop-index.invariant.leads rs are

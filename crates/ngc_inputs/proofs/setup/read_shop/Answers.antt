@@ -3,21 +3,21 @@ use Rattle.ngc_machine_files.specs.Machine.{file_of}
 use Rattle.ngc_inputs.specs.Unread.{OfMachine, OfTools, SourceFails, setup_input, shop_inputs, unread_by}
 use Rattle.ngc_report.proofs.Converted.{turned}
 use Rattle.ngc_inputs.proofs.SetupLaws.{refused_machine, refused_tools}
-use Rattle.ngc_inputs.proofs.UnreadLaws.{machine_read, told_before, tools_told, unread_told}
-use Rattle.ngc_inputs.specs.Shops.{GivesShop}
+use Rattle.ngc_inputs.proofs.UnreadLaws.{machine_read, reported_before, tools_told, unread_told}
+use Rattle.ngc_inputs.specs.Shops.{ShopResultIs}
 use Rattle.ngc_inputs.proofs.setup.read_shop.Goals as goal
 
 pub returns-in_err-machine-clause-said : goal.returns-in_err-machine-clause-said
 returns-in_err-machine-clause-said g c =
     turned _ c.in_err-machine.field-0.0
-    (GivesShop (g.F.Files.bytes c.args.files.now) (option_map (λ n. n.now) c.args.machine) (option_map (λ n. n.now) c.args.tools)) c.from_residual.ensures.1
+    (ShopResultIs (g.F.Files.bytes c.args.files.now) (option_map (λ n. n.now) c.args.machine) (option_map (λ n. n.now) c.args.tools)) c.from_residual.ensures.1
     (refused_machine (g.F.Files.bytes c.args.files.now) (option_map (λ n. n.now) c.args.machine)
     (option_map (λ n. n.now) c.args.tools) c.in_err-machine.field-0.0 c.in_err-machine.ensures.said)
 
 pub returns-in_err-tools-clause-said : goal.returns-in_err-tools-clause-said
 returns-in_err-tools-clause-said g c =
     turned _ c.in_err-tools.field-0.0
-    (GivesShop (g.F.Files.bytes c.args.files.now) (option_map (λ n. n.now) c.args.machine) (option_map (λ n. n.now) c.args.tools))
+    (ShopResultIs (g.F.Files.bytes c.args.files.now) (option_map (λ n. n.now) c.args.machine) (option_map (λ n. n.now) c.args.tools))
     c.from_residual-in_err-tools.ensures.1
     (refused_tools (g.F.Files.bytes c.args.files.now) (g.F.Files.bytes c.read_machine.new.files) (option_map (λ n. n.now) c.args.machine)
     (option_map (λ n. n.now) c.args.tools) (file_of c.in_ok-machine.machine) c.in_err-tools.field-0.0
@@ -27,7 +27,7 @@ pub returns-in_err-machine-clause-unread : goal.returns-in_err-machine-clause-un
 returns-in_err-machine-clause-unread g c =
     unread_told (SourceFails g.F.R.Source.remaining g.F.R.Source.failures) (g.F.Files.bytes c.args.files.now)
     (shop_inputs (option_map (λ n. n.now) c.args.machine) (option_map (λ n. n.now) c.args.tools)) _ _ _ c.in_err-machine.field-0.0 c.from_residual.ensures.1
-    (told_before (SourceFails g.F.R.Source.remaining g.F.R.Source.failures) (g.F.Files.bytes c.args.files.now)
+    (reported_before (SourceFails g.F.R.Source.remaining g.F.R.Source.failures) (g.F.Files.bytes c.args.files.now)
     (setup_input OfMachine (option_map (λ n. n.now) c.args.machine)) (setup_input OfTools (option_map (λ n. n.now) c.args.tools)) _ _
     (unread_by c.in_err-machine.field-0.0) c.in_err-machine.ensures.unread)
 

@@ -1,5 +1,5 @@
 use Rattle.std.proofs.Common.{ℕ, take, ap, ◌∙◌}
-use Rattle.ngc_line_reader.proofs.Takes.{digits_are}
+use Rattle.ngc_line_reader.proofs.ValueTexts.{digits_are}
 use Rattle.ngc_line_reader.proofs.number.split_digits.Goals as goal
 
 pub returns-clause-digits : goal.returns-clause-digits

@@ -1,5 +1,5 @@
 use Rattle.std.specs.Prelude.{codes}
-use Rattle.ngc_machine_files.proofs.Blank.{read-blank}
+use Rattle.ngc_machine_files.proofs.BlankFiles.{read-blank}
 use Rattle.ngc_machine_files.proofs.machine_reader.read_contents.Goals as goal
 
 pub returns-in-Some-clause-blank : goal.returns-in-Some-clause-blank

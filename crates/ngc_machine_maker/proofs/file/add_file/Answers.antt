@@ -5,7 +5,7 @@ pub returns : goal.returns
 returns c =
     rw (
       c.add_place_lines.ensures.text,
-      c.add_asked_lines.ensures.text,
+      c.add_requested_lines.ensures.text,
       c.add_acceleration_lines.ensures.text,
       c.add_speed_lines.ensures.text,
       c.add_step_lines.ensures.text,

@@ -1,12 +1,12 @@
 use Rattle.std.proofs.Common.{◌+◌, ◌++◌, ◌∙◌, [], ℕ, List, Option, Err, ap, drop, refl, rules, subst, sym}
 use Rattle.std.proofs.lemmas.List.{append-nil, at_drop_all}
 use Rattle.ngc_machine_files.specs.Machine.{file_of}
-use Rattle.ngc_report.proofs.Ahead.{appends_none}
-use Rattle.ngc_text.specs.Collected.{WritesFront}
+use Rattle.ngc_report.proofs.ReportPrefix.{appends_none}
+use Rattle.ngc_text.specs.Collected.{WritesPrefix}
 use Rattle.ngc_text.specs.Failures.{CountsFailure}
 use Rattle.ngc_origin_warnings.specs.Texts.{warning_text}
 use Rattle.ngc_origin_warnings.specs.Warnings.{new_origin, none_warned, warnings_from, with_warned}
-use Rattle.ngc_origin_warnings.proofs.Ahead.{next_command, stopped, went}
+use Rattle.ngc_origin_warnings.proofs.WarningProgress.{next_command, stopped, went}
 use Rattle.ngc_origin_warnings.proofs.written.collect_warnings.Goals as goal
 
 pub loop-command-init : goal.loop-command-init
@@ -71,7 +71,7 @@ loop-command-preserved g c =
     (ap (warning_text form command.line) c.new_origin-origin.ensures.value) c.loop-command.invariant.front c.in-Ok.ensures.text in
     record {
       front =
-          subst (λ (w : List (Option ℕ)). WritesFront (g.W.Sink.written c.args.sink.now) (g.W.Sink.written c.collect_warning.new.sink) whole
+          subst (λ (w : List (Option ℕ)). WritesPrefix (g.W.Sink.written c.args.sink.now) (g.W.Sink.written c.collect_warning.new.sink) whole
           (c.collect_warning.new.chunk ++ warnings_from form m low start changes w (drop (i + 1) cs)))
           (sym (c.with-warned.ensures ∙ ap (with_warned warned) c.new_origin-origin.ensures.value)) front;
       walk = c.new_origin-origin.ensures.walk;
@@ -88,6 +88,6 @@ returns-clause-text g c =
     let cs = c.args.commands.now in
     let none = at_drop_all (warnings_from form m low start changes c.loop-command.warned.lines) cs c.loop-command.command-index
     c.loop-command-test.false in
-    subst (λ (l : List ℕ). WritesFront (g.W.Sink.written c.args.sink.now) (g.W.Sink.written c.loop-command.sink)
+    subst (λ (l : List ℕ). WritesPrefix (g.W.Sink.written c.args.sink.now) (g.W.Sink.written c.loop-command.sink)
     (c.args.chunk.now ++ warnings_from form m low start changes none_warned cs) l)
     (ap (λ l. c.loop-command.chunk ++ l) none ∙ append-nil c.loop-command.chunk) c.loop-command.invariant.front

@@ -2,13 +2,13 @@
 use Rattle.std.proofs.Common.{◌≡◌, ◌++◌, drop}
 use Rattle.ngc_frames.specs.Walks.{WalksOver}
 use Rattle.ngc_machine_files.specs.Machine.{file_of}
-use Rattle.ngc_text.specs.Collected.{WritesFront}
+use Rattle.ngc_text.specs.Collected.{WritesPrefix}
 use Rattle.ngc_origin_warnings.specs.Warnings.{none_warned, warnings_from}
 use Rattle.ngc_origin_warnings.proofs.written.collect_warnings.Given as goal
 
 abbrev pub invariant-loop-command : goal.invariant-loop-command
 invariant-loop-command g l = record {
-  front : WritesFront (g.W.Sink.written l.initial.sink) (g.W.Sink.written l.sink)
+  front : WritesPrefix (g.W.Sink.written l.initial.sink) (g.W.Sink.written l.sink)
       (l.initial.chunk ++ warnings_from l.form (file_of l.machine) l.fn.lowest l.history.start l.history.changes.items none_warned l.commands)
       (l.chunk ++ warnings_from l.form (file_of l.machine) l.fn.lowest l.history.start l.history.changes.items l.warned.lines
       (drop l.command-index l.commands));

@@ -1,8 +1,8 @@
 use Rattle.std.proofs.Common.{◌++◌, ℕ, ℤ, List, ap, subst}
 use Rattle.ngc_machine_files.specs.Machine.{file_of}
-use Rattle.ngc_report.proofs.Ahead.{whole_out, part_out, none_out}
-use Rattle.ngc_text.specs.Collected.{WritesFront}
-use Rattle.ngc_text.specs.Written.{AppendsBeginning}
+use Rattle.ngc_report.proofs.ReportPrefix.{whole_out, part_out, none_out}
+use Rattle.ngc_text.specs.Collected.{WritesPrefix}
+use Rattle.ngc_text.specs.Written.{AppendsPrefix}
 use Rattle.ngc_origin_warnings.specs.Warnings.{none_warned, origin_warnings, warnings_from}
 use Rattle.ngc_origin_warnings.proofs.written.write_origin_warnings.Goals as goal
 
@@ -14,7 +14,7 @@ returns-in-Ok-clause-ok g c =
     let is = ap (λ (low : ℤ). warnings_from c.args.form m low h.start h.changes.items none_warned c.args.commands.now) c.lowest-low.ensures in
     whole_out c.write_out.result (g.W.Sink.written c.args.sink.now) (g.W.Sink.written c.collect_warnings.new.sink)
     (g.W.Sink.written c.write_out.new.sink) c.new-chunk.result text c.collect_warnings.new.chunk c.new-chunk.ensures
-    (subst (λ (l : List ℕ). WritesFront (g.W.Sink.written c.args.sink.now) (g.W.Sink.written c.collect_warnings.new.sink) (c.new-chunk.result ++ l)
+    (subst (λ (l : List ℕ). WritesPrefix (g.W.Sink.written c.args.sink.now) (g.W.Sink.written c.collect_warnings.new.sink) (c.new-chunk.result ++ l)
     c.collect_warnings.new.chunk) is c.in-Ok.ensures.text)
     c.write_out.ensures.ok
 
@@ -26,7 +26,7 @@ returns-in-Ok-clause-fault g c =
     let is = ap (λ (low : ℤ). warnings_from c.args.form m low h.start h.changes.items none_warned c.args.commands.now) c.lowest-low.ensures in
     part_out c.write_out.result (g.W.Sink.written c.args.sink.now) (g.W.Sink.written c.collect_warnings.new.sink)
     (g.W.Sink.written c.write_out.new.sink) c.new-chunk.result text c.collect_warnings.new.chunk c.new-chunk.ensures
-    (subst (λ (l : List ℕ). WritesFront (g.W.Sink.written c.args.sink.now) (g.W.Sink.written c.collect_warnings.new.sink) (c.new-chunk.result ++ l)
+    (subst (λ (l : List ℕ). WritesPrefix (g.W.Sink.written c.args.sink.now) (g.W.Sink.written c.collect_warnings.new.sink) (c.new-chunk.result ++ l)
     c.collect_warnings.new.chunk) is c.in-Ok.ensures.text)
     c.write_out.ensures.fault
 
@@ -38,5 +38,5 @@ returns-in-Err-clause-fault g c =
     let is = ap (λ (low : ℤ). warnings_from c.args.form m low h.start h.changes.items none_warned c.args.commands.now) c.lowest-low.ensures in
     none_out (g.W.Sink.written c.args.sink.now) (g.W.Sink.written c.collect_warnings.new.sink) c.new-chunk.result text c.new-chunk.ensures
     (subst (λ (l : List ℕ).
-    AppendsBeginning (g.W.Sink.written c.args.sink.now) (g.W.Sink.written c.collect_warnings.new.sink) (c.new-chunk.result ++ l)) is
+    AppendsPrefix (g.W.Sink.written c.args.sink.now) (g.W.Sink.written c.collect_warnings.new.sink) (c.new-chunk.result ++ l)) is
     c.in-Err.ensures.text)

@@ -1,7 +1,7 @@
 use Rattle.std.proofs.Common.{◌∙◌, length, ap, arith}
 use Rattle.std.proofs.lemmas.List.{length-set}
 use Rattle.ngc_fixed_length.specs.Places.{zero_point}
-use Rattle.ngc_origins.proofs.Placing.{one_given, one_kept}
+use Rattle.ngc_origins.proofs.ReplacedOrigins.{one_given, one_kept}
 use Rattle.ngc_origins.proofs.origins.replaced.Goals.{in-Some, in-None}
 use Rattle.ngc_origins.proofs.origins.replaced.Goals as goal
 

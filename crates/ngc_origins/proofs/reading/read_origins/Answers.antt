@@ -1,4 +1,4 @@
-use Rattle.ngc_origins.proofs.Said.{first_mistake}
+use Rattle.ngc_origins.proofs.ReadOrigins.{first_mistake}
 use Rattle.ngc_origins.proofs.reading.read_origins.Goals as goal
 
 pub returns-in-Err : goal.returns-in-Err

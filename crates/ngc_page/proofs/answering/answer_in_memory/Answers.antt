@@ -1,5 +1,5 @@
 use Rattle.std.proofs.Common.{rules}
-use Rattle.ngc_page.proofs.Reading.{all_read}
+use Rattle.ngc_page.proofs.FileReading.{all_read}
 use Rattle.ngc_page.proofs.answering.answer_in_memory.Goals as goal
 
 pub returns : goal.returns

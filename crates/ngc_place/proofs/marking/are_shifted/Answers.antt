@@ -1,6 +1,6 @@
 use Rattle.std.proofs.Common.{arith, get_or, false}
 use Rattle.std.proofs.lemmas.List.{drop_more}
-use Rattle.ngc_place.proofs.Marked.{next_action, all_left, one_passed, one_differs, none_left_over, other_count}
+use Rattle.ngc_place.proofs.MarkLaws.{next_action, all_left, one_passed, one_differs, none_left_over, other_count}
 use Rattle.ngc_place.proofs.marking.are_shifted.Goals as goal
 
 pub returns-then-commands-others-clause-no : goal.returns-then-commands-others-clause-no

@@ -1,4 +1,4 @@
-use Rattle.ngc_place.proofs.Marked.{IsLeft}
+use Rattle.ngc_place.proofs.MarkLaws.{IsLeft}
 use Rattle.ngc_place.proofs.marking.are_shifted.Given as goal
 
 abbrev pub invariant-loop-index : goal.invariant-loop-index

@@ -1,5 +1,5 @@
 use Rattle.std.proofs.Common.{arith}
-use Rattle.ngc_place.proofs.Marked.{next_action, mark_added, all_marked, other_count}
+use Rattle.ngc_place.proofs.MarkLaws.{next_action, mark_added, all_marked, other_count}
 use Rattle.ngc_place.proofs.marking.marks.Goals as goal
 
 pub returns-then-commands-others : goal.returns-then-commands-others

@@ -1,4 +1,4 @@
-use Rattle.ngc_place.proofs.Marked.{AreFirst}
+use Rattle.ngc_place.proofs.MarkLaws.{AreFirst}
 use Rattle.ngc_place.proofs.marking.marks.Given as goal
 
 abbrev pub invariant-loop-index : goal.invariant-loop-index

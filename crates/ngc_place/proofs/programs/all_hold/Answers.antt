@@ -1,6 +1,6 @@
 use Rattle.std.proofs.Common.{true, false, arith, sym, ◌∙◌}
 use Rattle.ngc_machine_files.specs.Machine.{file_of}
-use Rattle.ngc_place.proofs.Growth.{next_program, no_program}
+use Rattle.ngc_place.proofs.GrowingIntervals.{next_program, no_program}
 use Rattle.ngc_place.proofs.programs.all_hold.Goals as goal
 
 pub loop-program-preserved : goal.loop-program-preserved

@@ -3,7 +3,7 @@ use Rattle.std.specs.Int.{w32}
 use Rattle.std.proofs.lemmas.Int.{ints}
 use Rattle.ngc_machine_files.specs.Machine.{file_of}
 use Rattle.ngc_place.specs.Longest.{grown, IsGrowth}
-use Rattle.ngc_place.proofs.Growth.{few_steps, tested, grown_is}
+use Rattle.ngc_place.proofs.GrowingIntervals.{few_steps, tested, grown_is}
 use Rattle.ngc_place.proofs.search.grown.Goals as goal
 
 pub returns-then-not-hold_over : goal.returns-then-not-hold_over

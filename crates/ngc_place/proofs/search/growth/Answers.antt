@@ -2,7 +2,7 @@ use Rattle.std.proofs.Common.{◌≡◌, ◌+◌, ◌-◌, ◌/◌, true, false,
 use Rattle.std.specs.Prelude.{IsTrue}
 use Rattle.ngc_machine_files.specs.Machine.{file_of}
 use Rattle.ngc_place.specs.Longest.{hold_over}
-use Rattle.ngc_place.proofs.Growth.{not_grown, few_steps, steps_fit, tested, full_at}
+use Rattle.ngc_place.proofs.GrowingIntervals.{not_grown, few_steps, steps_fit, tested, full_at}
 use Rattle.ngc_place.proofs.search.growth.Goals as goal
 
 pub loop-span-init : goal.loop-span-init

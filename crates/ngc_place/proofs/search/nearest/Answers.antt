@@ -2,8 +2,8 @@ use Rattle.std.proofs.Common.{arith, ◌∙◌, ◌≡◌, to_z, of_z}
 use Rattle.std.specs.Int.{w32}
 use Rattle.std.proofs.lemmas.Int.{ints}
 use Rattle.ngc_machine_files.specs.Machine.{file_of}
-use Rattle.ngc_place.proofs.Growth.{found_law}
-use Rattle.ngc_place.proofs.Tried.{not_there, nowhere, first_found}
+use Rattle.ngc_place.proofs.GrowingIntervals.{found_law}
+use Rattle.ngc_place.proofs.TriedShifts.{not_there, nowhere, first_found}
 use Rattle.ngc_place.proofs.search.nearest.Goals as goal
 
 pub returns-in-Some-clause-nearest : goal.returns-in-Some-clause-nearest

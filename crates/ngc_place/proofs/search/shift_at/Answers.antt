@@ -1,7 +1,7 @@
 use Rattle.std.proofs.Common.{arith}
 use Rattle.std.proofs.lemmas.Int.{ints}
 use Rattle.ngc_place.specs.Longest.{tried}
-use Rattle.ngc_place.proofs.Tried.{small_shift}
+use Rattle.ngc_place.proofs.TriedShifts.{small_shift}
 use Rattle.ngc_place.proofs.search.shift_at.Goals as goal
 
 pub returns-clause-value : goal.returns-clause-value

@@ -1,7 +1,7 @@
 use Rattle.std.proofs.Common.{◌≡◌, Option, subst}
 use Rattle.std.specs.Prelude.{option_map}
 use Rattle.std.proofs.lemmas.Option.{MatchOption-at_none, MatchOption-at_some}
-use Rattle.ngc_canonical.specs.Meaning.{program_said}
+use Rattle.ngc_canonical.specs.Meaning.{parsed_program}
 use Rattle.ngc_job.specs.Job.{JobData}
 use Rattle.ngc_line_reader.specs.ProgramView.{text_in}
 use Rattle.ngc_shifted_program.specs.Shifted.{executed_at, executed_of}
@@ -10,7 +10,7 @@ use Rattle.ngc_place_report.proofs.along.find_along.Goals as goal
 
 pub returns-in-None : goal.returns-in-None
 returns-in-None g c = λ rs are.
-    let program = program_said (text_in c.args.program.now) rs in
+    let program = parsed_program (text_in c.args.program.now) rs in
     refused_along program c.args.job.now c.args.system c.args.axis c.args.cuts c.shift-step.result c.shift-step.ensures.value c.unmarked.result
     c.unmarked.ensures
     (subst (λ (o : Option JobData). option_map (λ (j : JobData). executed_of j) o ≡ executed_at program c.args.job.now c.args.system c.shift-step.result)
@@ -18,7 +18,7 @@ returns-in-None g c = λ rs are.
 
 pub returns-in-None-2 : goal.returns-in-None-2
 returns-in-None-2 g c = λ rs are.
-    let program = program_said (text_in c.args.program.now) rs in
+    let program = parsed_program (text_in c.args.program.now) rs in
     unexplained_along program c.args.job.now c.args.system c.args.axis c.args.cuts c.shift-step.result c.shift-step.ensures.value
     c.unmarked-in-None-2.result _ c.unmarked-in-None-2.ensures
     (subst (λ (o : Option JobData). option_map (λ (j : JobData). executed_of j) o ≡ executed_at program c.args.job.now c.args.system c.shift-step.result)
@@ -26,7 +26,7 @@ returns-in-None-2 g c = λ rs are.
 
 pub returns : goal.returns
 returns g c = λ rs are.
-    let program = program_said (text_in c.args.program.now) rs in
+    let program = parsed_program (text_in c.args.program.now) rs in
     let marks = c.in-Some-2.marks in
     marked_along program c.args.job.now c.args.system c.args.axis c.args.cuts c.shift-step.result c.shift-step.ensures.value _ _ _ _
     marks.off.items marks.on.items (record { at_off = c.commands.ensures; at_on = c.commands-2.ensures })

@@ -1,6 +1,6 @@
 use Rattle.std.proofs.Common.{◌≡◌, ◌≤◌, ◌∙◌, arith, ap, ℤ, unsigned_abs, to_z, of_z, w32}
 use Rattle.std.proofs.lemmas.Int.{ints}
-use Rattle.ngc_canonical.specs.Meaning.{program_said}
+use Rattle.ngc_canonical.specs.Meaning.{parsed_program}
 use Rattle.ngc_line_reader.specs.ProgramView.{text_in}
 use Rattle.ngc_place.specs.Shifts.{along}
 use Rattle.ngc_place_report.proofs.FoundLaws.{at_both, not_at_low}
@@ -11,13 +11,13 @@ kept v bound = omega (arith, ints, bound)
 
 pub returns-then-not-at_low : goal.returns-then-not-at_low
 returns-then-not-at_low g c = λ rs are.
-    not_at_low (program_said (text_in c.args.program.now) rs) c.args.job.now c.args.system c.args.axis c.args.programs.off c.args.programs.on
+    not_at_low (parsed_program (text_in c.args.program.now) rs) c.args.job.now c.args.system c.args.axis c.args.programs.off c.args.programs.on
     c.args.interval c.shift-low.result (c.shift-low.ensures.value ∙ ap (along c.args.axis) (kept c.args.interval.from c.requires.from))
     (c.in_ok-at_low.ensures.no rs are c.if-not-at_low.true)
 
 pub returns : goal.returns
 returns g c = λ rs are.
-    at_both (program_said (text_in c.args.program.now) rs) c.args.job.now c.args.system c.args.axis c.args.programs.off c.args.programs.on
+    at_both (parsed_program (text_in c.args.program.now) rs) c.args.job.now c.args.system c.args.axis c.args.programs.off c.args.programs.on
     c.args.interval c.shift-low.result (c.shift-low.ensures.value ∙ ap (along c.args.axis) (kept c.args.interval.from c.requires.from))
     c.shift-high.result c.move_at-2.result (c.shift-high.ensures.value ∙ ap (along c.args.axis) (kept c.args.interval.to c.requires.to))
     (c.in_ok-at_low.ensures.yes rs are c.if-not-at_low.false) (c.move_at-2.ensures.yes rs are) (c.move_at-2.ensures.no rs are)

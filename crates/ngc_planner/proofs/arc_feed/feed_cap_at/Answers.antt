@@ -13,7 +13,7 @@ use Rattle.ngc_planner.proofs.arc_feed.feed_cap_at.Goals as goal
 
 pub place_cap-cap-requires-clause-radius_least : goal.place_cap-cap-requires-clause-radius_least
 place_cap-cap-requires-clause-radius_least g c =
-    let some = radius_some c.args.arc.now c.farther_out.ensures.arc in
+    let some = radius_some c.args.arc.now c.axis_distance.ensures.arc in
     omega (arith, some, c.outer_radius.ensures.value)
 
 -- the length of a helix
@@ -27,17 +27,17 @@ long_enough flat step n length a is helix same few small h =
 pub sloped_cap-requires-clause-some : goal.sloped_cap-requires-clause-some
 sloped_cap-requires-clause-some g c =
     let step = step_within (file_of c.args.machine.now) (ranges_of c.args.machine.now) in
-    (long_enough c.flat_length.result (unsigned_abs c.args.machine.now.step) c.args.n c.args.length c.args.arc.now c.farther_out.ensures.arc
+    (long_enough c.flat_length.result (unsigned_abs c.args.machine.now.step) c.args.n c.args.length c.args.arc.now c.axis_distance.ensures.arc
     (sym c.is_level.ensures ∙ c.if-is_level.false) c.flat_length.ensures.value c.requires.steps step.1 c.requires.length).0
 
 pub sloped_cap-requires-clause-least : goal.sloped_cap-requires-clause-least
 sloped_cap-requires-clause-least g c =
     let step = step_within (file_of c.args.machine.now) (ranges_of c.args.machine.now) in
-    (long_enough c.flat_length.result (unsigned_abs c.args.machine.now.step) c.args.n c.args.length c.args.arc.now c.farther_out.ensures.arc
+    (long_enough c.flat_length.result (unsigned_abs c.args.machine.now.step) c.args.n c.args.length c.args.arc.now c.axis_distance.ensures.arc
     (sym c.is_level.ensures ∙ c.if-is_level.false) c.flat_length.ensures.value c.requires.steps step.1 c.requires.length).1
 
-pub farther_out-requires : goal.farther_out-requires
-farther_out-requires g c = c.args.machine.now.step_in_range
+pub axis_distance-requires : goal.axis_distance-requires
+axis_distance-requires g c = c.args.machine.now.step_in_range
 
 pub place_cap-cap-requires-clause-ticks : goal.place_cap-cap-requires-clause-ticks
 place_cap-cap-requires-clause-ticks g c = omega (arith, c.args.machine.now.ticks_in_range)
@@ -73,7 +73,7 @@ returns-then-is_level-clause-value g c =
       step,
       c.nanometres.ensures.value,
       c.outer_radius.ensures.value,
-      c.farther_out.ensures.value,
+      c.axis_distance.ensures.value,
       c.in-PerMinute.is,
       ← c.is_level.ensures,
       c.if-is_level.true,
@@ -93,7 +93,7 @@ returns-else-is_level-clause-value g c =
       step,
       c.nanometres.ensures.value,
       c.outer_radius.ensures.value,
-      c.farther_out.ensures.value,
+      c.axis_distance.ensures.value,
       c.requires.length,
       c.in-PerMinute.is,
       ← c.is_level.ensures,

@@ -1,7 +1,7 @@
 use Rattle.std.proofs.Common.{[], ◌++◌, ◌∙◌, Option, ap}
 use Rattle.std.proofs.lemmas.List.{append-nil}
 use Rattle.ngc_commands.specs.declared.movement.Way.{Way}
-use Rattle.ngc_report.proofs.Ahead.{appends_none}
+use Rattle.ngc_report.proofs.ReportPrefix.{appends_none}
 use Rattle.ngc_program_report.specs.Coordinates.{coordinates_text}
 use Rattle.ngc_program_report.proofs.coordinates.collect_coordinates.Goals as goal
 

@@ -1,5 +1,5 @@
 use Rattle.ngc_program_report.specs.Coordinates.{coordinates_text}
-use Rattle.ngc_report.proofs.Ahead.{whole_out, part_out, none_out}
+use Rattle.ngc_report.proofs.ReportPrefix.{whole_out, part_out, none_out}
 use Rattle.ngc_program_report.proofs.coordinates.write_coordinates.Goals as goal
 
 pub returns-in-Ok-clause-ok : goal.returns-in-Ok-clause-ok

@@ -1,4 +1,4 @@
-use Rattle.ngc_text.proofs.Appended.{appends_both}
+use Rattle.ngc_text.proofs.AppendedTexts.{appends_both}
 use Rattle.ngc_program_report.proofs.WrittenLaws.{appends_as, begins_as, begins_first, begins_last, err_weaker, ok_weaker, on_err}
 use Rattle.ngc_program_report.proofs.fault_writer.write_fault.Goals as goal
 

@@ -1,4 +1,4 @@
-use Rattle.ngc_text.proofs.Appended.{appends_both, begins_after}
+use Rattle.ngc_text.proofs.AppendedTexts.{appends_both, begins_after}
 use Rattle.ngc_program_report.proofs.WrittenLaws.{begins_first, begins_last, err_weaker, ok_weaker, on_err}
 use Rattle.ngc_program_report.proofs.fit_writer.write_setting.Goals as goal
 

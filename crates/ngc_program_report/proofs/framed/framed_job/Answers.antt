@@ -1,7 +1,7 @@
 use Rattle.std.proofs.Common.{◌≡◌, ap, subst, sym}
 use Rattle.ngc_line_reader.specs.ProgramView.{text_in}
 use Rattle.ngc_canonical.specs.Interpreter.{setup_of}
-use Rattle.ngc_canonical.specs.Meaning.{program_said}
+use Rattle.ngc_canonical.specs.Meaning.{parsed_program}
 use Rattle.ngc_job.specs.Job.{IsJobOf}
 use Rattle.ngc_job.proofs.JobLaws.{alike, apart}
 use Rattle.ngc_program_report.specs.Framed.{setup_in}
@@ -10,7 +10,7 @@ use Rattle.ngc_program_report.proofs.framed.framed_job.Goals as goal
 
 pub returns-then-not-has_deleted_lines-clause-job : goal.returns-then-not-has_deleted_lines-clause-job
 returns-then-not-has_deleted_lines-clause-job g c = λ rs readings.
-    let program = program_said (text_in c.args.program.now) rs in
+    let program = parsed_program (text_in c.args.program.now) rs in
     let setup = setup_of c.args.machine c.args.tools in
     subst (IsJobOf program setup) (sym c.from_commands-job.ensures)
     (alike program setup c.in-Ok.framed.commands.items c.has_deleted_lines.result (c.in-Ok.ensures.commands rs readings)
@@ -25,7 +25,7 @@ returns-then-not-has_deleted_lines-clause-frames g c =
 
 pub returns-clause-job : goal.returns-clause-job
 returns-clause-job g c = λ rs readings.
-    let program = program_said (text_in c.args.program.now) rs in
+    let program = parsed_program (text_in c.args.program.now) rs in
     let setup = setup_of c.args.machine c.args.tools in
     subst (IsJobOf program setup) (sym c.from_commands-job-2.ensures)
     (apart program setup c.in-Ok.framed.commands.items c.in-Ok-interpret_with_frames.framed.commands.items c.has_deleted_lines.result

@@ -79,14 +79,14 @@ returns-clause-tells g c =
     let before = c.in_ok-off_time.ensures.back ∙ c.accept-accepted.ensures in
     let is = c.in_ok-on_time.ensures.back ∙ before in (
       _,
-      fit_both f c.frames_or.result.now said c.args.form c.args.origins.now c.in_ok-on_time.accepted
+      fit_both f c.frames_or-on_history.result.now said c.args.form c.args.origins.now c.in_ok-on_time.accepted
           (planned_by c.motions_at-off_motions.result) (planned_by c.motions_at-on_motions.result) c.in_ok-off_time.off_time c.in_ok-on_time.on_time
           (text_in c.args.program.now).lines some is
           (c.motions_at-off_motions.ensures ∙ planned_as j c.in_ok-on_time.accepted false (plan_at Off c.args.plans.now) is)
           (c.motions_at-on_motions.ensures ∙ planned_as j c.in_ok-on_time.accepted true (plan_at On c.args.plans.now) is)
           (lasts_off c.accept-accepted.result j c.in_ok-off_time.off_time c.accept-accepted.ensures c.in_ok-off_time.ensures.lasts)
           (lasts_on c.in_ok-off_time.accepted j c.in_ok-on_time.on_time before c.in_ok-on_time.ensures.lasts)
-          c.requires.frames c.frames_or.ensures,
+          c.requires.frames c.frames_or-on_history.ensures,
       c.in_ok-write_both.ensures.ok,
     )
 
@@ -103,14 +103,14 @@ returns-in_err-write_both-clause-tells g c =
     (g.W.Sink.written c.write_both.new.output) r)
     c.from_residual-in_err-write_both.ensures.1 (
       _,
-      fit_both f c.frames_or.result.now said c.args.form c.args.origins.now c.in_ok-on_time.accepted
+      fit_both f c.frames_or-on_history.result.now said c.args.form c.args.origins.now c.in_ok-on_time.accepted
           (planned_by c.motions_at-off_motions.result) (planned_by c.motions_at-on_motions.result) c.in_ok-off_time.off_time c.in_ok-on_time.on_time
           (text_in c.args.program.now).lines some is
           (c.motions_at-off_motions.ensures ∙ planned_as j c.in_ok-on_time.accepted false (plan_at Off c.args.plans.now) is)
           (c.motions_at-on_motions.ensures ∙ planned_as j c.in_ok-on_time.accepted true (plan_at On c.args.plans.now) is)
           (lasts_off c.accept-accepted.result j c.in_ok-off_time.off_time c.accept-accepted.ensures c.in_ok-off_time.ensures.lasts)
           (lasts_on c.in_ok-off_time.accepted j c.in_ok-on_time.on_time before c.in_ok-on_time.ensures.lasts)
-          c.requires.frames c.frames_or.ensures,
+          c.requires.frames c.frames_or-on_history.ensures,
       c.in_err-write_both.ensures.fault,
     )
 
@@ -126,3 +126,24 @@ returns-in_err-write_both-clause-counts g c =
     turned _ (faults.Write c.in_err-write_both.field-0.0)
     (λ r. FailsByWriting r (g.W.Sink.failures c.args.output.now) (g.W.Sink.failures c.write_both.new.output))
     c.from_residual-in_err-write_both.ensures.1 c.in_err-write_both.ensures.counts
+
+pub returns-in_err-tips-clause-tells : goal.returns-in_err-tips-clause-tells
+returns-in_err-tips-clause-tells g c =
+    let j = c.args.framed.job in
+    let said = both_planned j.machine.step j.off (commands_in true j) c.args.plans.now in
+    memory_tells (IsFitText j said c.args.form c.args.origins.now (text_in c.args.program.now).lines) (g.W.Sink.written c.args.output.now) _
+    c.in_err-tips.field-0.0 c.from_residual-in_err-tips.ensures.1 c.in_err-tips.ensures.memory
+
+pub returns-in_err-off_tips-clause-tells : goal.returns-in_err-off_tips-clause-tells
+returns-in_err-off_tips-clause-tells g c =
+    let j = c.args.framed.job in
+    let said = both_planned j.machine.step j.off (commands_in true j) c.args.plans.now in
+    memory_tells (IsFitText j said c.args.form c.args.origins.now (text_in c.args.program.now).lines) (g.W.Sink.written c.args.output.now) _
+    c.in_err-off_tips.field-0.0 c.from_residual-in_err-off_tips.ensures.1 c.in_err-off_tips.ensures.memory
+
+pub returns-in_err-on_tips-clause-tells : goal.returns-in_err-on_tips-clause-tells
+returns-in_err-on_tips-clause-tells g c =
+    let j = c.args.framed.job in
+    let said = both_planned j.machine.step j.off (commands_in true j) c.args.plans.now in
+    memory_tells (IsFitText j said c.args.form c.args.origins.now (text_in c.args.program.now).lines) (g.W.Sink.written c.args.output.now) _
+    c.in_err-on_tips.field-0.0 c.from_residual-in_err-on_tips.ensures.1 c.in_err-on_tips.ensures.memory

@@ -2,7 +2,7 @@ use Rattle.std.proofs.Common.{◌≡◌, ℕ, List, None, Bool, ap}
 use Rattle.std.specs.Prelude.{is_some}
 use Rattle.ngc_fixed_length.specs.Grid.{grid}
 use Rattle.ngc_certificate.specs.PieceFault.{place_fault}
-use Rattle.ngc_frames.proofs.Collected.{both, first_stopped}
+use Rattle.ngc_frames.proofs.CollectedTexts.{both, first_stopped}
 use Rattle.ngc_machine_files.specs.Machine.{file_of}
 use Rattle.ngc_report.specs.Forms.{report_text}
 use Rattle.ngc_report.specs.Reports.{refusals_head}

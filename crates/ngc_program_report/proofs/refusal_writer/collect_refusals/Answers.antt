@@ -1,9 +1,9 @@
 use Rattle.std.proofs.Common.{[], get_or, refl, rules, sym}
 use Rattle.std.proofs.lemmas.Grind.{get_or_default_zero}
 use Rattle.std.proofs.lemmas.List.{append-nil}
-use Rattle.ngc_certificate_text.proofs.Fronts.{one_more, stopped_at}
+use Rattle.ngc_certificate_text.proofs.CollectedTexts.{one_more, stopped_at}
 use Rattle.ngc_machine_files.specs.Machine.{file_of}
-use Rattle.ngc_report.proofs.Ahead.{appends_none}
+use Rattle.ngc_report.proofs.ReportPrefix.{appends_none}
 use Rattle.ngc_program_report.specs.Coordinates.{history_of}
 use Rattle.ngc_program_report.specs.Texts.{command_refusal}
 use Rattle.ngc_program_report.proofs.refusal_writer.collect_refusals.Goals as goal

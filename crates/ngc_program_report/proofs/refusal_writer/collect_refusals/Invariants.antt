@@ -2,18 +2,18 @@
 use Rattle.std.proofs.Common.{◌≡◌, ◌++◌, flat_map, take}
 use Rattle.ngc_frames.specs.Walks.{WalksOver}
 use Rattle.ngc_machine_files.specs.Machine.{file_of}
-use Rattle.ngc_report.specs.Scenes.{StandsBehind}
-use Rattle.ngc_text.specs.Collected.{WritesFront}
+use Rattle.ngc_report.specs.Scenes.{StandsAfter}
+use Rattle.ngc_text.specs.Collected.{WritesPrefix}
 use Rattle.ngc_program_report.specs.Coordinates.{history_of}
 use Rattle.ngc_program_report.specs.Texts.{command_refusal}
 use Rattle.ngc_program_report.proofs.refusal_writer.collect_refusals.Given as goal
 
 abbrev pub invariant-loop-index : goal.invariant-loop-index
 invariant-loop-index g l = record {
-  front : WritesFront (g.W.Sink.written l.initial.output) (g.W.Sink.written l.output)
+  front : WritesPrefix (g.W.Sink.written l.initial.output) (g.W.Sink.written l.output)
       (l.initial.chunk ++ flat_map (command_refusal l.form l.origins (file_of l.machine) l.commands (history_of l.history.start l.history.changes.items))
       (take l.index-index l.indices)) l.chunk;
-  standing : StandsBehind (file_of l.machine) l.commands l.standing;
+  standing : StandsAfter (file_of l.machine) l.commands l.standing;
   walk : WalksOver l.history.start l.history.changes.items l.walk;
   failures : g.W.Sink.failures l.output ≡ g.W.Sink.failures l.initial.output;
 }

@@ -3,7 +3,7 @@ use Rattle.ngc_certificate_text.specs.declared.piece.Setting.TheVariants.{Off}
 use Rattle.ngc_machine_files.specs.Machine.{file_of}
 use Rattle.ngc_program_report.specs.Coordinates.{history_of}
 use Rattle.ngc_program_report.specs.Texts.{ending, setting_refusals}
-use Rattle.ngc_text.proofs.Appended.{appends_both}
+use Rattle.ngc_text.proofs.AppendedTexts.{appends_both}
 use Rattle.ngc_program_report.proofs.WrittenLaws.{begins_first, begins_last, err_weaker, ok_weaker, on_err}
 use Rattle.ngc_program_report.proofs.refusal_writer.write_all_once.Goals as goal
 

@@ -1,7 +1,7 @@
 use Rattle.ngc_machine_files.specs.Machine.{file_of}
 use Rattle.ngc_program_report.specs.Coordinates.{history_of}
 use Rattle.ngc_program_report.specs.Texts.{all_refusals}
-use Rattle.ngc_report.proofs.Ahead.{whole_out, part_out, none_out}
+use Rattle.ngc_report.proofs.ReportPrefix.{whole_out, part_out, none_out}
 use Rattle.ngc_program_report.proofs.refusal_writer.write_obstacles.Goals as goal
 
 pub returns-in-Ok-clause-ok : goal.returns-in-Ok-clause-ok

@@ -1,5 +1,5 @@
 use Rattle.std.proofs.Common.{ap}
-use Rattle.ngc_text.proofs.Appended.{appends_both}
+use Rattle.ngc_text.proofs.AppendedTexts.{appends_both}
 use Rattle.ngc_line_reader.specs.ProgramView.{text_in}
 use Rattle.ngc_refused_values.specs.Texts.{value_line}
 use Rattle.ngc_program_report.specs.Texts.{ending}

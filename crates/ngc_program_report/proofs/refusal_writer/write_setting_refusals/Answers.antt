@@ -1,4 +1,4 @@
-use Rattle.ngc_text.proofs.Appended.{appends_both}
+use Rattle.ngc_text.proofs.AppendedTexts.{appends_both}
 use Rattle.ngc_machine_files.specs.Machine.{file_of}
 use Rattle.ngc_program_report.specs.Coordinates.{history_of}
 use Rattle.ngc_program_report.specs.Texts.{all_refusals}

@@ -1,7 +1,7 @@
 use Rattle.std.proofs.Common.{codes}
 use Rattle.std.specs.Prelude.{decimal}
 use Rattle.ngc_program_report.specs.Times.{seconds_text}
-use Rattle.ngc_program_report.proofs.Added.{seven_added}
+use Rattle.ngc_program_report.proofs.JoinedTexts.{seven_added}
 use Rattle.ngc_program_report.proofs.report_time.add_takes_fact.Goals as goal
 
 pub returns : goal.returns

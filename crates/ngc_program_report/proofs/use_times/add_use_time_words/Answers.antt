@@ -2,7 +2,7 @@ use Rattle.std.proofs.Common.{codes}
 use Rattle.std.specs.Prelude.{decimal}
 use Rattle.ngc_report.specs.Words.{tool_text}
 use Rattle.ngc_program_report.specs.Times.{time_text}
-use Rattle.ngc_program_report.proofs.Added.{seven_added}
+use Rattle.ngc_program_report.proofs.JoinedTexts.{seven_added}
 use Rattle.ngc_program_report.proofs.use_times.add_use_time_words.Goals as goal
 
 pub returns : goal.returns

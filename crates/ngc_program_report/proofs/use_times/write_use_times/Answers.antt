@@ -1,13 +1,13 @@
 use Rattle.std.proofs.Common.{ap, ap₂, refl, rules, ◌∙◌}
 use Rattle.ngc_report.specs.Uses.{uses_left}
-use Rattle.ngc_program_report.specs.Times.{ProgramTimeData, ticks_told, use_times}
+use Rattle.ngc_program_report.specs.Times.{ProgramTimeData, ticks_counted, use_times}
 use Rattle.ngc_program_report.proofs.WrittenLaws.{on_err}
 use Rattle.ngc_program_report.proofs.UseTimeLaws.{all_left, breaks_off, less_left, next_time, time_appended, time_begun}
 use Rattle.ngc_program_report.proofs.use_times.write_use_times.Goals as goal
 
 pub loop-one-init : goal.loop-one-init
 loop-one-init g c =
-    let ticks = c.ticks_told-left.ensures ∙ ap (ticks_told c.args.commands.now)
+    let ticks = c.ticks_counted-left.ensures ∙ ap (ticks_counted c.args.commands.now)
     (c.as_slice.ensures.value ∙ ap (λ (t : ProgramTimeData). t.parts) c.time.view_is) in
     record { goes = all_left _ _ _ (ap₂ (use_times c.args.form c.args.time.now.whole) c.new-uses.ensures ticks); failures = refl }
 

@@ -1,6 +1,6 @@
 use Rattle.std.proofs.Common.{arith, rules}
 use Rattle.std.proofs.lemmas.Result.{on_ok_weaker, on_err_weaker}
-use Rattle.ngc_pulses.proofs.Repeating.{repeated_more, repeated_last, repeated_cut}
+use Rattle.ngc_pulses.proofs.CollectedText.{repeated_more, repeated_last, repeated_cut}
 use Rattle.ngc_pulses.proofs.repeated.write_repeated.Goals as goal
 
 pub returns-in-Err-clause-fault : goal.returns-in-Err-clause-fault
@@ -20,10 +20,10 @@ pieces-preserved g c =
 
 pub returns-clause-text : goal.returns-clause-text
 returns-clause-text g c =
-    on_ok_weaker c.make_room-2.result
-    (repeated_last _ _ _ _ _ _ c.args.byte c.args.count c.pieces.left (omega (arith, c.pieces-test.false)) c.pieces.invariant.text) c.make_room-2.ensures.ok
+    on_ok_weaker c.make_space-2.result
+    (repeated_last _ _ _ _ _ _ c.args.byte c.args.count c.pieces.left (omega (arith, c.pieces-test.false)) c.pieces.invariant.text) c.make_space-2.ensures.ok
 
 pub returns-clause-fault : goal.returns-clause-fault
 returns-clause-fault g c =
-    on_err_weaker c.make_room-2.result
-    (repeated_cut _ _ _ _ _ c.args.byte c.args.count c.pieces.left c.pieces.invariant.few c.pieces.invariant.text) c.make_room-2.ensures.fault
+    on_err_weaker c.make_space-2.result
+    (repeated_cut _ _ _ _ _ c.args.byte c.args.count c.pieces.left c.pieces.invariant.few c.pieces.invariant.text) c.make_space-2.ensures.fault

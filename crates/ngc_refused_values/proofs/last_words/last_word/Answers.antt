@@ -1,7 +1,7 @@
 use Rattle.std.proofs.Common.{◌∙◌, ap}
 use Rattle.std.specs.Option.{option_or}
 use Rattle.ngc_line_reader.specs.ProgramView.{text_in}
-use Rattle.ngc_refused_values.proofs.Further.{arrived, at, further}
+use Rattle.ngc_refused_values.proofs.LastWordSteps.{arrived, at, further}
 use Rattle.ngc_refused_values.proofs.last_words.last_word.Goals as goal
 
 pub returns-then-line-number : goal.returns-then-line-number

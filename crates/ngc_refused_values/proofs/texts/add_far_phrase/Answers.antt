@@ -19,5 +19,5 @@ returns-clause-text c =
       v0,
       c.add_text.ensures,
       c.add_axis.ensures.text,
-      c.add_kind.ensures.text,
+      c.add_quantity.ensures.text,
     ) (simp append_assoc)

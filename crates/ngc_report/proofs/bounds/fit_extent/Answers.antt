@@ -1,6 +1,6 @@
 use Rattle.std.proofs.Common.{◌≡◌, ◌∙◌, ◌<◌, arith, length}
 use Rattle.ngc_certificate_text.specs.Certificate.{entry_at}
-use Rattle.ngc_certificate_text.proofs.Spelled.{entry_there}
+use Rattle.ngc_certificate_text.proofs.WrittenCertificate.{entry_there}
 use Rattle.ngc_report.specs.Extents.{joint_box, boxes_of}
 use Rattle.ngc_report.proofs.Folds.{next_folded}
 use Rattle.ngc_report.proofs.bounds.fit_extent.Goals as goal

@@ -1,6 +1,6 @@
 use Rattle.std.proofs.Common.{◌≡◌, ◌∙◌, ◌<◌, ◌≤◌, sym, arith, length}
 use Rattle.ngc_certificate_text.specs.Certificate.{entry_at}
-use Rattle.ngc_certificate_text.proofs.Spelled.{piece_found}
+use Rattle.ngc_certificate_text.proofs.WrittenCertificate.{piece_found}
 use Rattle.ngc_report.specs.Extents.{joint_box, boxes_of}
 use Rattle.ngc_report.proofs.Folds.{next_box, no_box}
 use Rattle.ngc_report.proofs.bounds.with_pieces.Goals as goal

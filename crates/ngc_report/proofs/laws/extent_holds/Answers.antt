@@ -1,4 +1,4 @@
-use Rattle.ngc_report.proofs.Holding.{paths_law, start_law}
+use Rattle.ngc_report.proofs.ExtentHoldsPoints.{paths_law, start_law}
 use Rattle.ngc_report.proofs.laws.extent_holds.Goals as goal
 
 pub returns-clause-paths : goal.returns-clause-paths

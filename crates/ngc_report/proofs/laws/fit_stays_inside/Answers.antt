@@ -1,5 +1,5 @@
 use Rattle.ngc_report.proofs.Fitting.{inside_law}
-use Rattle.ngc_report.proofs.Within.{setting_law}
+use Rattle.ngc_report.proofs.ExtentInTravel.{setting_law}
 use Rattle.ngc_report.proofs.laws.fit_stays_inside.Goals as goal
 
 pub returns-clause-program : goal.returns-clause-program

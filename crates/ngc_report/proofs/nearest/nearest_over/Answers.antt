@@ -2,7 +2,7 @@ use Rattle.std.proofs.Common.{◌≡◌, ◌∙◌, ◌<◌, ◌≤◌, sym, ari
 use Rattle.ngc_machine_files.specs.Machine.{file_of}
 use Rattle.ngc_certificate_text.specs.declared.piece.Piece.{Piece}
 use Rattle.ngc_certificate_text.specs.Certificate.{entry_at}
-use Rattle.ngc_certificate_text.proofs.Spelled.{piece_found}
+use Rattle.ngc_certificate_text.proofs.WrittenCertificate.{piece_found}
 use Rattle.ngc_report.specs.Nearing.{around}
 use Rattle.ngc_report.proofs.Folds.{next_of, none_left}
 use Rattle.ngc_report.proofs.nearest.nearest_over.Goals as goal

@@ -1,4 +1,4 @@
-use Rattle.ngc_report.proofs.Splits.{first_line, only_line}
+use Rattle.ngc_report.proofs.LinesByNumber.{first_line, only_line}
 use Rattle.ngc_report.proofs.source_lines.cut_line.Goals as goal
 
 pub returns-in-Some-clause-parts : goal.returns-in-Some-clause-parts

@@ -1,7 +1,7 @@
 use Rattle.std.proofs.Common.{◌≡◌, ◌∙◌, sym, ap, arith}
 use Rattle.ngc_line_reader.specs.Program.{lines_of, split_lines}
 use Rattle.ngc_report.specs.Quotes.{bytes_with}
-use Rattle.ngc_report.proofs.Splits.{behind_it, none_in_nothing, none_numbered}
+use Rattle.ngc_report.proofs.LinesByNumber.{behind_it, none_in_nothing, none_numbered}
 use Rattle.ngc_report.proofs.source_lines.source_line.Goals as goal
 use Rattle.ngc_report.proofs.source_lines.source_line.Goals.{then-loop-left-test+else-not-is_empty, else-loop-left-test}
 

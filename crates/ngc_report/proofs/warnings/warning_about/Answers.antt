@@ -4,7 +4,7 @@ use Rattle.std.proofs.lemmas.List.{at_drop_all}
 use Rattle.ngc_machine_files.specs.Machine.{file_of}
 use Rattle.ngc_report.specs.Warnings.{lines_of, counted}
 use Rattle.ngc_report.specs.ToolStates.{beginning}
-use Rattle.ngc_report.proofs.Counts.{next_command, all_counted}
+use Rattle.ngc_report.proofs.CommandCounts.{next_command, all_counted}
 use Rattle.ngc_report.proofs.warnings.warning_about.Goals as goal
 
 pub loop-command-preserved : goal.loop-command-preserved

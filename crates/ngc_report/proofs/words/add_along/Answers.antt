@@ -12,10 +12,10 @@ returns c =
     let v3 : to_z w64 (of_z w64 c.args.along.now.room.above) ≡ c.args.along.now.room.above = omega (arith, ints) in
     rw (
       c.add_text-6.ensures,
-      c.add_room-2.ensures.text,
+      c.add_space-2.ensures.text,
       v3,
       c.add_text-5.ensures,
-      c.add_room.ensures.text,
+      c.add_space.ensures.text,
       v2,
       c.add_text-4.ensures,
       c.add_millimetres-2.ensures.text,

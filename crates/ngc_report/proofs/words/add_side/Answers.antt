@@ -9,7 +9,7 @@ returns c =
     let v0 : to_z w64 (of_z w64 c.args.margin.now.left) ≡ c.args.margin.now.left = omega (arith, ints) in
     rw (
       c.add_text-5.ensures,
-      c.add_room.ensures.text,
+      c.add_space.ensures.text,
       v0,
       c.add_text-4.ensures,
       c.add_text-3.ensures,

@@ -1,6 +1,6 @@
 use Rattle.std.proofs.Common.{◌^◌, ◌+◌, ◌*◌, true, arith, refl, rules}
 use Rattle.ngc_run_log.proofs.FeedingLaws.{nothing_fed_yet, ticks_all, ticks_cut, ticks_more}
-use Rattle.ngc_run_through.proofs.Untouched.{at_most_more}
+use Rattle.ngc_run_through.proofs.UntouchedEvents.{at_most_more}
 use Rattle.ngc_run_log.proofs.feeding.feed_ticks.Goals as goal
 
 pub loop-tick-init : goal.loop-tick-init

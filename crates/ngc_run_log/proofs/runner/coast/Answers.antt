@@ -1,4 +1,4 @@
-use Rattle.ngc_run_through.proofs.Quiet.{quiet_given}
+use Rattle.ngc_run_through.proofs.QuietTicks.{quiet_given}
 use Rattle.ngc_run_log.proofs.runner.coast.Goals as goal
 
 pub returns-clause-recorded : goal.returns-clause-recorded

@@ -1,4 +1,4 @@
-use Rattle.ngc_run_through.proofs.Forms.{logged}
+use Rattle.ngc_run_through.proofs.ResultForms.{logged}
 use Rattle.ngc_run_log.proofs.runner.run.Goals as goal
 
 pub returns-clause-comes : goal.returns-clause-comes

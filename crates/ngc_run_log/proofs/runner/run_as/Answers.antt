@@ -1,7 +1,7 @@
 use Rattle.std.proofs.Common.{ap}
 use Rattle.ngc_machine_files.specs.Machine.{MachineFile}
-use Rattle.ngc_run_through.proofs.Comes.{safe_of, in_time_of, opens_of}
-use Rattle.ngc_run_through.proofs.Forms.{are_switches, trace_is, none_ticked, run_written, run_unwritten}
+use Rattle.ngc_run_through.proofs.RunResults.{safe_of, in_time_of, opens_of}
+use Rattle.ngc_run_through.proofs.ResultForms.{are_switches, trace_is, none_ticked, run_written, run_unwritten}
 use Rattle.ngc_run_log.proofs.runner.run_as.Goals as goal
 
 pub run_lines-requires-clause-safe : goal.run_lines-requires-clause-safe

@@ -1,7 +1,7 @@
 use Rattle.std.proofs.Common.{◌≡◌, ◌+◌, ◌-◌, ◌^◌, ℕ, replicate, subst, arith, rules, refl}
 use Rattle.ngc_run_through.specs.Recording.{IsRecorded}
-use Rattle.ngc_run_through.proofs.Joined.{nothing_recorded}
-use Rattle.ngc_run_log.proofs.Turns.{turn_recorded, turns_recorded, turn_cut, few_turns}
+use Rattle.ngc_run_through.proofs.RunParts.{nothing_recorded}
+use Rattle.ngc_run_log.proofs.EventProgress.{turn_recorded, turns_recorded, turn_cut, few_turns}
 use Rattle.ngc_run_log.proofs.runner.run_line.Goals as goal
 
 pub turns-init : goal.turns-init

@@ -2,10 +2,10 @@ use Rattle.std.proofs.Common.{◌+◌, ◌*◌, ◌^◌, ℕ, arith, rules, refl
 use Rattle.std.proofs.lemmas.Result.{on_err_weaker}
 use Rattle.ngc_events.specs.declared.event.EventLine.{EventLine}
 use Rattle.ngc_events.specs.declared.event.Event.TheVariants.{Load}
-use Rattle.ngc_run_through.proofs.Joined.{nothing_recorded}
-use Rattle.ngc_run_log.proofs.Turns.{line_recorded, line_cut, few_turns}
-use Rattle.ngc_run_through.proofs.Untouched.{at_most_more}
-use Rattle.ngc_run_through.proofs.Comes.{AreNew, new_recorder, none_counted, run_traced, run_untraced, run_cut, if_ok_both}
+use Rattle.ngc_run_through.proofs.RunParts.{nothing_recorded}
+use Rattle.ngc_run_log.proofs.EventProgress.{line_recorded, line_cut, few_turns}
+use Rattle.ngc_run_through.proofs.UntouchedEvents.{at_most_more}
+use Rattle.ngc_run_through.proofs.RunResults.{AreNew, new_recorder, none_counted, run_traced, run_untraced, run_cut, if_ok_both}
 use Rattle.ngc_run_log.proofs.runner.run_lines.Goals as goal
 
 -- the value that is read after the last line

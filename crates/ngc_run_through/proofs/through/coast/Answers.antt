@@ -1,5 +1,5 @@
 use Rattle.std.proofs.Common.{arith}
-use Rattle.ngc_run_through.proofs.Coasting.{quiet_coasts}
+use Rattle.ngc_run_through.proofs.UntouchedTicks.{quiet_coasts}
 use Rattle.ngc_run_through.proofs.through.coast.Goals as goal
 
 pub returns : goal.returns

@@ -1,7 +1,7 @@
 use Rattle.std.proofs.Common.{◌+◌, ◌^◌, arith, rules, refl, ◌∙◌}
 use Rattle.std.proofs.lemmas.Result.{on_ok_weaker, on_err_weaker}
 use Rattle.ngc_run_through.proofs.Policy.{still_ticks}
-use Rattle.ngc_run_through.proofs.Untouched.{none_yet, breaks_later, few_behind, goes_both, spent_little, tick_more, tick_last, head_done}
+use Rattle.ngc_run_through.proofs.UntouchedEvents.{none_yet, breaks_later, few_behind, goes_both, spent_little, tick_more, tick_last, head_done}
 use Rattle.ngc_run_through.proofs.through.finish_head.Goals as goal
 
 pub ticks-init : goal.ticks-init
@@ -61,23 +61,23 @@ ticks-preserved g c =
       failures = search rules;
     }
 
-pub go_on_behind-requires-clause-few : goal.go_on_behind-requires-clause-few
-go_on_behind-requires-clause-few g c =
+pub continue_after-requires-clause-few : goal.continue_after-requires-clause-few
+continue_after-requires-clause-few g c =
     few_behind _ _ _ (2 ^ 125) (2 ^ 126) _ _ _ _ _ _
     (tick_last _ _ _ _ _ _ _ _ _ _ _ c.in-Some.is c.ticks.invariant.same c.ticks.invariant.goes c.in-Ok.ensures.ticks).goes c.requires.few (omega arith)
 
-pub go_on_behind-requires-clause-stops : goal.go_on_behind-requires-clause-stops
-go_on_behind-requires-clause-stops g c =
+pub continue_after-requires-clause-stops : goal.continue_after-requires-clause-stops
+continue_after-requires-clause-stops g c =
     (tick_last _ _ _ _ _ _ _ _ _ _ _ c.in-Some.is c.ticks.invariant.same c.ticks.invariant.goes c.in-Ok.ensures.ticks).stops
 
 pub returns-in-Some-clause-goes : goal.returns-in-Some-clause-goes
 returns-in-Some-clause-goes g c =
-    on_ok_weaker c.go_on_behind.result
+    on_ok_weaker c.continue_after.result
     (head_done _ _ _ _ _ _ _ _ _ _ (tick_last _ _ _ _ _ _ _ _ _ _ _ c.in-Some.is c.ticks.invariant.same c.ticks.invariant.goes c.in-Ok.ensures.ticks))
-    c.go_on_behind.ensures.goes
+    c.continue_after.ensures.goes
 
 pub returns-in-Some-clause-fault : goal.returns-in-Some-clause-fault
 returns-in-Some-clause-fault g c =
-    on_err_weaker c.go_on_behind.result
+    on_err_weaker c.continue_after.result
     (breaks_later _ _ _ _ _ _ _ _ _ _
-    (tick_last _ _ _ _ _ _ _ _ _ _ _ c.in-Some.is c.ticks.invariant.same c.ticks.invariant.goes c.in-Ok.ensures.ticks).goes) c.go_on_behind.ensures.fault
+    (tick_last _ _ _ _ _ _ _ _ _ _ _ c.in-Some.is c.ticks.invariant.same c.ticks.invariant.goes c.in-Ok.ensures.ticks).goes) c.continue_after.ensures.fault

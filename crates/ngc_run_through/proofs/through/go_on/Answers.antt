@@ -1,7 +1,7 @@
 use Rattle.std.proofs.Common.{◌+◌, ◌-◌, ◌*◌, ◌^◌, ap, length, arith}
 use Rattle.std.proofs.lemmas.Result.{on_ok_weaker, on_err_weaker}
 use Rattle.ngc_machine_model.specs.State.{Job}
-use Rattle.ngc_run_through.proofs.Untouched.{goes_both, breaks_later, few_behind, at_most_more, finished_behind}
+use Rattle.ngc_run_through.proofs.UntouchedEvents.{goes_both, breaks_later, few_behind, at_most_more, finished_behind}
 use Rattle.ngc_run_through.proofs.through.go_on.Goals as goal
 
 pub fill_ring-requires-clause-few : goal.fill_ring-requires-clause-few

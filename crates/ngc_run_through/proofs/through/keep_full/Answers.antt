@@ -1,7 +1,7 @@
 use Rattle.std.proofs.Common.{◌+◌, ◌*◌, ◌^◌, ap, length, arith, rules, refl}
 use Rattle.ngc_machine_model.specs.State.{Job}
 use Rattle.ngc_run_through.proofs.Policy.{full_ticks}
-use Rattle.ngc_run_through.proofs.Untouched.{none_yet, goes_both, breaks_later, few_behind}
+use Rattle.ngc_run_through.proofs.UntouchedEvents.{none_yet, goes_both, breaks_later, few_behind}
 use Rattle.ngc_run_through.proofs.through.keep_full.Goals as goal
 
 pub loop-command-init : goal.loop-command-init

@@ -1,4 +1,4 @@
-use Rattle.ngc_run_through.proofs.Untouched.{load_goes, load_runs, load_breaks}
+use Rattle.ngc_run_through.proofs.UntouchedEvents.{load_goes, load_runs, load_breaks}
 use Rattle.ngc_run_through.proofs.through.load_next.Goals as goal
 
 pub returns-in-Ok-clause-goes : goal.returns-in-Ok-clause-goes

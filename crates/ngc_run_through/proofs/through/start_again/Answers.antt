@@ -1,4 +1,4 @@
-use Rattle.ngc_run_through.proofs.Untouched.{start_goes, start_runs, start_breaks}
+use Rattle.ngc_run_through.proofs.UntouchedEvents.{start_goes, start_runs, start_breaks}
 use Rattle.ngc_run_through.proofs.through.start_again.Goals as goal
 
 pub returns-in-Ok-clause-goes : goal.returns-in-Ok-clause-goes

@@ -1,4 +1,4 @@
-use Rattle.ngc_run_through.proofs.Untouched.{tick_ticks, tick_breaks}
+use Rattle.ngc_run_through.proofs.UntouchedEvents.{tick_ticks, tick_breaks}
 use Rattle.ngc_run_through.proofs.through.tick.Goals as goal
 
 pub returns-in-Ok-clause-ticks : goal.returns-in-Ok-clause-ticks

@@ -1,7 +1,7 @@
 use Rattle.std.proofs.Common.{◌-◌, ◌*◌, ◌^◌, ap, length, min, arith}
 use Rattle.ngc_machine_model.specs.State.{Job}
-use Rattle.ngc_run_through.proofs.Parted.{told_behind}
-use Rattle.ngc_run_through.proofs.Untouched.{few_behind, goes_both}
+use Rattle.ngc_run_through.proofs.OwnRunParts.{told_behind}
+use Rattle.ngc_run_through.proofs.UntouchedEvents.{few_behind, goes_both}
 use Rattle.ngc_run_through.proofs.timing.finish_part.Goals as goal
 
 pub keep_full-requires-clause-full : goal.keep_full-requires-clause-full

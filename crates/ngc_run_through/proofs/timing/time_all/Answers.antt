@@ -2,9 +2,9 @@ use Rattle.std.proofs.Common.{ℕ, ◌^◌, ap, length, arith, subst, sym, refl,
 use Rattle.ngc_machine_model.specs.State.{Job, State}
 use Rattle.ngc_run_through.specs.Parts.{IsTimedThrough}
 use Rattle.ngc_run_through.specs.declared.trace.Trace.TheVariants.{Untold}
-use Rattle.ngc_run_through.proofs.Comes.{AreNew, new_recorder, none_counted}
-use Rattle.ngc_run_through.proofs.Parted.{timed_through}
-use Rattle.ngc_run_through.proofs.Untouched.{few_behind}
+use Rattle.ngc_run_through.proofs.RunResults.{AreNew, new_recorder, none_counted}
+use Rattle.ngc_run_through.proofs.OwnRunParts.{timed_through}
+use Rattle.ngc_run_through.proofs.UntouchedEvents.{few_behind}
 use Rattle.ngc_run_through.proofs.timing.time_all.Goals as goal
 
 pub time_parts-requires-clause-few : goal.time_parts-requires-clause-few

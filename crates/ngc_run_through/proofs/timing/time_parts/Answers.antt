@@ -1,8 +1,8 @@
 use Rattle.std.proofs.Common.{◌≡◌, ◌+◌, ◌-◌, ◌*◌, ◌^◌, ℕ, List, length, ap, arith, subst, sym, refl}
 use Rattle.ngc_machine_model.specs.State.{Job}
 use Rattle.ngc_run_through.specs.Parts.{GoesParted}
-use Rattle.ngc_run_through.proofs.Parted.{is_next, more_than_left, none_parted, part_more, parted_as}
-use Rattle.ngc_run_through.proofs.Untouched.{few_behind}
+use Rattle.ngc_run_through.proofs.OwnRunParts.{is_next, more_than_left, none_parted, part_more, parted_as}
+use Rattle.ngc_run_through.proofs.UntouchedEvents.{few_behind}
 use Rattle.ngc_run_through.proofs.timing.time_parts.Goals as goal
 
 pub loop-done-init : goal.loop-done-init

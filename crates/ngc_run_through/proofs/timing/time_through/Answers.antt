@@ -1,4 +1,4 @@
-use Rattle.ngc_run_through.proofs.Comes.{safe_of, in_time_of}
+use Rattle.ngc_run_through.proofs.RunResults.{safe_of, in_time_of}
 use Rattle.ngc_run_through.proofs.WholeRun.{end_of}
 use Rattle.ngc_run_through.proofs.timing.time_through.Goals as goal
 

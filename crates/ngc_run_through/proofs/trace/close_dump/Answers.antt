@@ -1,5 +1,5 @@
 use Rattle.ngc_pulses.specs.Dumping.{closing_text}
-use Rattle.ngc_run_through.proofs.Joined.{begun_more}
+use Rattle.ngc_run_through.proofs.RunParts.{begun_more}
 use Rattle.ngc_run_through.proofs.trace.close_dump.Goals as goal
 
 pub returns-in-Err-clause-fault : goal.returns-in-Err-clause-fault

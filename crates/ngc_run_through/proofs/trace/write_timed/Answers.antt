@@ -1,6 +1,6 @@
 use Rattle.std.proofs.Common.{[], ◌∷◌}
 use Rattle.ngc_run_through.specs.Times.{timed_log}
-use Rattle.ngc_run_through.proofs.Joined.{begun_more}
+use Rattle.ngc_run_through.proofs.RunParts.{begun_more}
 use Rattle.ngc_run_through.proofs.trace.write_timed.Goals as goal
 
 pub returns-in-Err-clause-fault : goal.returns-in-Err-clause-fault

@@ -1,5 +1,5 @@
 use Rattle.std.proofs.Common.{◌∙◌, ◌<◌, length, ap, sym, arith}
-use Rattle.ngc_setup_sheet.proofs.Seeking.{filled, behind_line-less, quote_from-next, quoted_at, unquoted}
+use Rattle.ngc_setup_sheet.proofs.LineSearch.{filled, rest_after_line-less, quote_from-next, quoted_at, unquoted}
 use Rattle.ngc_setup_sheet.proofs.quoted.add_quote_from.Goals as goal
 
 pub returns-in-Found : goal.returns-in-Found
@@ -24,7 +24,7 @@ pub loop-left-smaller : goal.loop-left-smaller
 loop-left-smaller c =
     let more : 0 < length c.loop-left.left.now = filled c.loop-left.left.now (sym c.is_empty.ensures ∙ c.loop-left-test.true) in
     let less = ap length c.split_line.ensures.behind in
-    omega (arith, behind_line-less c.loop-left.left.now more)
+    omega (arith, rest_after_line-less c.loop-left.left.now more)
 
 pub loop-left-preserved : goal.loop-left-preserved
 loop-left-preserved c =
@@ -37,5 +37,5 @@ loop-left-preserved c =
           ∙ quote_from-next c.args.header.now c.args.key.now c.loop-left.ahead c.loop-left.number c.loop-left.left.now c.split_line.result.0.now
           c.split_line.result.1.now _
           more c.split_line.ensures.line c.split_line.ensures.behind c.in-Ahead.ensures;
-      number = omega (arith, behind_line-less c.loop-left.left.now more);
+      number = omega (arith, rest_after_line-less c.loop-left.left.now more);
     }

@@ -1,13 +1,13 @@
 use Rattle.std.proofs.Common.{List, ◌++◌, flat_map, refl, subst}
-use Rattle.ngc_text.specs.Written.{AppendsBeginning}
-use Rattle.ngc_text.specs.Collected.{WritesFront}
+use Rattle.ngc_text.specs.Written.{AppendsPrefix}
+use Rattle.ngc_text.specs.Collected.{WritesPrefix}
 use Rattle.ngc_machine_files.specs.Machine.{file_of}
 use Rattle.ngc_setup_sheet.specs.Reaches.{reach_of}
 use Rattle.ngc_setup_sheet.specs.Sheets.{machine_lines, fixtures_from, tool_lines, sheet}
 use Rattle.ngc_setup_sheet.specs.Spelling.{lines_text}
 use Rattle.ngc_setup_sheet.specs.declared.reach.Reach.{Reach}
 use Rattle.ngc_setup_sheet.specs.declared.line.Line.{Line}
-use Rattle.ngc_setup_sheet.proofs.Ahead.{Ahead, begun, went, stopped, last}
+use Rattle.ngc_setup_sheet.proofs.SheetPrefix.{Ahead, begun, went, stopped, last}
 use Rattle.ngc_setup_sheet.proofs.sheet.write_all.Goals as goal
 
 pub returns-in-Err-clause-written : goal.returns-in-Err-clause-written
@@ -34,7 +34,7 @@ returns-in-Err-write_fixtures-clause-written g c =
     stopped (g.W.Sink.written c.args.sink.now) (g.W.Sink.written c.write_lines.new.sink) (g.W.Sink.written c.write_fixtures.new.sink)
     c.args.chunk.now c.write_lines.new.chunk
     fixtures (flat_map tool_lines ts) behind (sheet m ts) refl first
-    (subst (λ (r : Reach). AppendsBeginning (g.W.Sink.written c.write_lines.new.sink) (g.W.Sink.written c.write_fixtures.new.sink)
+    (subst (λ (r : Reach). AppendsPrefix (g.W.Sink.written c.write_lines.new.sink) (g.W.Sink.written c.write_fixtures.new.sink)
     (c.write_lines.new.chunk ++ lines_text (fixtures_from m r 0 m.fixtures)))
     c.of-reach.ensures.value c.in-Err-write_fixtures.ensures.written)
 
@@ -55,6 +55,6 @@ returns-clause-written g c =
     (went (g.W.Sink.written c.args.sink.now) (g.W.Sink.written c.write_lines.new.sink) (g.W.Sink.written c.write_fixtures.new.sink)
     c.args.chunk.now c.write_lines.new.chunk c.write_fixtures.new.chunk
     fixtures (flat_map tool_lines ts) behind (sheet m ts) refl first
-    (subst (λ (r : Reach). WritesFront (g.W.Sink.written c.write_lines.new.sink) (g.W.Sink.written c.write_fixtures.new.sink)
+    (subst (λ (r : Reach). WritesPrefix (g.W.Sink.written c.write_lines.new.sink) (g.W.Sink.written c.write_fixtures.new.sink)
     (c.write_lines.new.chunk ++ lines_text (fixtures_from m r 0 m.fixtures)) c.write_fixtures.new.chunk)
     c.of-reach.ensures.value c.in-Ok-write_fixtures.ensures.written)) c.write_tools.ensures.written

@@ -1,8 +1,8 @@
 use Rattle.std.proofs.Common.{◌+◌, drop, rules}
 use Rattle.ngc_machine_files.specs.Machine.{file_of}
 use Rattle.ngc_setup_sheet.specs.Sheets.{fixture_lines, fixtures_from}
-use Rattle.ngc_setup_sheet.proofs.Ahead.{went, stopped}
-use Rattle.ngc_setup_sheet.proofs.Steps.{next_fixture}
+use Rattle.ngc_setup_sheet.proofs.SheetPrefix.{went, stopped}
+use Rattle.ngc_setup_sheet.proofs.RemainingText.{next_fixture}
 use Rattle.ngc_setup_sheet.proofs.sheet.write_fixtures.Goals as goal
 
 pub returns-in-Err-clause-written : goal.returns-in-Err-clause-written

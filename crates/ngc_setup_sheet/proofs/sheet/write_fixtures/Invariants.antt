@@ -1,7 +1,7 @@
 use Rattle.std.proofs.Common.{◌≡◌, drop}
 use Rattle.ngc_machine_files.specs.Machine.{file_of}
 use Rattle.ngc_setup_sheet.specs.Sheets.{fixtures_from}
-use Rattle.ngc_setup_sheet.proofs.Ahead.{Ahead}
+use Rattle.ngc_setup_sheet.proofs.SheetPrefix.{Ahead}
 use Rattle.ngc_setup_sheet.proofs.sheet.write_fixtures.Given as goal
 
 abbrev pub invariant-loop-i : goal.invariant-loop-i

@@ -1,6 +1,6 @@
 use Rattle.ngc_machine_files.specs.Machine.{file_of}
 use Rattle.ngc_setup_sheet.specs.Sheets.{sheet_text}
-use Rattle.ngc_setup_sheet.proofs.Ahead.{part_out}
+use Rattle.ngc_setup_sheet.proofs.SheetPrefix.{part_out}
 use Rattle.ngc_setup_sheet.proofs.sheet.write_sheet.Goals as goal
 
 pub returns-in-Ok-clause-fault : goal.returns-in-Ok-clause-fault

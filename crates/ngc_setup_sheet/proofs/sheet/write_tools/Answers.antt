@@ -1,7 +1,7 @@
 use Rattle.std.proofs.Common.{◌+◌, drop, flat_map, rules}
 use Rattle.ngc_setup_sheet.specs.Sheets.{tool_lines}
-use Rattle.ngc_setup_sheet.proofs.Ahead.{went, stopped}
-use Rattle.ngc_setup_sheet.proofs.Steps.{next_tool}
+use Rattle.ngc_setup_sheet.proofs.SheetPrefix.{went, stopped}
+use Rattle.ngc_setup_sheet.proofs.RemainingText.{next_tool}
 use Rattle.ngc_setup_sheet.proofs.sheet.write_tools.Goals as goal
 
 pub returns-in-Err-clause-written : goal.returns-in-Err-clause-written

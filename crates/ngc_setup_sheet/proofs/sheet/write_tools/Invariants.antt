@@ -1,6 +1,6 @@
 use Rattle.std.proofs.Common.{◌≡◌, drop, flat_map}
 use Rattle.ngc_setup_sheet.specs.Sheets.{tool_lines}
-use Rattle.ngc_setup_sheet.proofs.Ahead.{Ahead}
+use Rattle.ngc_setup_sheet.proofs.SheetPrefix.{Ahead}
 use Rattle.ngc_setup_sheet.proofs.sheet.write_tools.Given as goal
 
 abbrev pub invariant-loop-tool : goal.invariant-loop-tool

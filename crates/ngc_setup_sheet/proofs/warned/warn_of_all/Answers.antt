@@ -1,6 +1,6 @@
 use Rattle.std.proofs.Common.{List, ◌++◌, flat_map, subst}
-use Rattle.ngc_text.specs.Written.{AppendsBeginning}
-use Rattle.ngc_text.specs.Collected.{WritesFront}
+use Rattle.ngc_text.specs.Written.{AppendsPrefix}
+use Rattle.ngc_text.specs.Collected.{WritesPrefix}
 use Rattle.ngc_machine_files.specs.Machine.{file_of}
 use Rattle.ngc_setup_sheet.specs.Reaches.{reach_of}
 use Rattle.ngc_setup_sheet.specs.Sheets.{machine_lines, fixtures_from, tool_lines}
@@ -8,7 +8,7 @@ use Rattle.ngc_setup_sheet.specs.Writes.{chosen}
 use Rattle.ngc_setup_sheet.specs.Spelling.{lines_text}
 use Rattle.ngc_setup_sheet.specs.declared.reach.Reach.{Reach}
 use Rattle.ngc_setup_sheet.specs.declared.line.Line.{Line}
-use Rattle.ngc_setup_sheet.proofs.Alone.{first_stopped, second_stopped, all_three}
+use Rattle.ngc_setup_sheet.proofs.WarningsAlone.{first_stopped, second_stopped, all_three}
 use Rattle.ngc_setup_sheet.proofs.warned.warn_of_all.Goals as goal
 
 pub returns-in-Err-clause-written : goal.returns-in-Err-clause-written
@@ -28,7 +28,7 @@ returns-in-Err-warn_of_fixtures-clause-written g c =
     (g.W.Sink.written c.warn_of_fixtures.new.sink)
     c.args.chunk.now c.write_warning_lines.new.chunk (machine_lines m (reach_of ts)) fixtures (flat_map tool_lines ts)
     (rw (c.as_slice.ensures.value, c.machine_lines-lines.ensures, c.of-reach.ensures.value) at c.in-Ok.ensures.written)
-    (subst (λ (r : Reach). AppendsBeginning (g.W.Sink.written c.write_warning_lines.new.sink) (g.W.Sink.written c.warn_of_fixtures.new.sink)
+    (subst (λ (r : Reach). AppendsPrefix (g.W.Sink.written c.write_warning_lines.new.sink) (g.W.Sink.written c.warn_of_fixtures.new.sink)
     (c.write_warning_lines.new.chunk ++ lines_text (chosen c.args.style (fixtures_from m r 0 m.fixtures))))
     c.of-reach.ensures.value c.in-Err-warn_of_fixtures.ensures.written)
 
@@ -42,7 +42,7 @@ returns-clause-written g c =
     (g.W.Sink.written c.warn_of_tools.new.sink)
     c.args.chunk.now c.write_warning_lines.new.chunk c.warn_of_fixtures.new.chunk c.warn_of_tools.new.chunk (machine_lines m (reach_of ts)) fixtures (flat_map tool_lines ts)
     (rw (c.as_slice.ensures.value, c.machine_lines-lines.ensures, c.of-reach.ensures.value) at c.in-Ok.ensures.written)
-    (subst (λ (r : Reach). WritesFront (g.W.Sink.written c.write_warning_lines.new.sink) (g.W.Sink.written c.warn_of_fixtures.new.sink)
+    (subst (λ (r : Reach). WritesPrefix (g.W.Sink.written c.write_warning_lines.new.sink) (g.W.Sink.written c.warn_of_fixtures.new.sink)
     (c.write_warning_lines.new.chunk ++ lines_text (chosen c.args.style (fixtures_from m r 0 m.fixtures))) c.warn_of_fixtures.new.chunk)
     c.of-reach.ensures.value c.in-Ok-warn_of_fixtures.ensures.written)
     c.warn_of_tools.ensures.written

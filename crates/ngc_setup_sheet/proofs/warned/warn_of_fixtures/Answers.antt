@@ -2,8 +2,8 @@ use Rattle.std.proofs.Common.{◌+◌, drop, refl, rules}
 use Rattle.ngc_machine_files.specs.Machine.{file_of}
 use Rattle.ngc_setup_sheet.specs.Sheets.{fixture_lines, fixtures_from}
 use Rattle.ngc_setup_sheet.specs.Writes.{chosen}
-use Rattle.ngc_setup_sheet.proofs.Ahead.{begun, went, stopped}
-use Rattle.ngc_setup_sheet.proofs.Alone.{next_fixture_warned}
+use Rattle.ngc_setup_sheet.proofs.SheetPrefix.{begun, went, stopped}
+use Rattle.ngc_setup_sheet.proofs.WarningsAlone.{next_fixture_warned}
 use Rattle.ngc_setup_sheet.proofs.warned.warn_of_fixtures.Goals as goal
 
 pub loop-i-init : goal.loop-i-init

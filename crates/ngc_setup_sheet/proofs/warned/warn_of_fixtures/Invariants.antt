@@ -2,7 +2,7 @@ use Rattle.std.proofs.Common.{◌≡◌, drop}
 use Rattle.ngc_machine_files.specs.Machine.{file_of}
 use Rattle.ngc_setup_sheet.specs.Sheets.{fixtures_from}
 use Rattle.ngc_setup_sheet.specs.Writes.{chosen}
-use Rattle.ngc_setup_sheet.proofs.Ahead.{Ahead}
+use Rattle.ngc_setup_sheet.proofs.SheetPrefix.{Ahead}
 use Rattle.ngc_setup_sheet.proofs.warned.warn_of_fixtures.Given as goal
 
 abbrev pub invariant-loop-i : goal.invariant-loop-i

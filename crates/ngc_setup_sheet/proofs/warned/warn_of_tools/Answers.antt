@@ -1,8 +1,8 @@
 use Rattle.std.proofs.Common.{◌+◌, drop, flat_map, rules}
 use Rattle.ngc_setup_sheet.specs.Sheets.{tool_lines}
 use Rattle.ngc_setup_sheet.specs.Writes.{chosen}
-use Rattle.ngc_setup_sheet.proofs.Ahead.{went, stopped}
-use Rattle.ngc_setup_sheet.proofs.Alone.{next_tool_warned}
+use Rattle.ngc_setup_sheet.proofs.SheetPrefix.{went, stopped}
+use Rattle.ngc_setup_sheet.proofs.WarningsAlone.{next_tool_warned}
 use Rattle.ngc_setup_sheet.proofs.warned.warn_of_tools.Goals as goal
 
 pub returns-in-Err-clause-written : goal.returns-in-Err-clause-written

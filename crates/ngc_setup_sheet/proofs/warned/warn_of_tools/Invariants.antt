@@ -1,7 +1,7 @@
 use Rattle.std.proofs.Common.{◌≡◌, drop, flat_map}
 use Rattle.ngc_setup_sheet.specs.Sheets.{tool_lines}
 use Rattle.ngc_setup_sheet.specs.Writes.{chosen}
-use Rattle.ngc_setup_sheet.proofs.Ahead.{Ahead}
+use Rattle.ngc_setup_sheet.proofs.SheetPrefix.{Ahead}
 use Rattle.ngc_setup_sheet.proofs.warned.warn_of_tools.Given as goal
 
 abbrev pub invariant-loop-tool : goal.invariant-loop-tool

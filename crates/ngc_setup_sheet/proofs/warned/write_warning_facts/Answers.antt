@@ -1,6 +1,6 @@
 use Rattle.ngc_machine_files.specs.Machine.{file_of}
 use Rattle.ngc_setup_sheet.specs.Sheets.{warning_facts}
-use Rattle.ngc_setup_sheet.proofs.Ahead.{part_out}
+use Rattle.ngc_setup_sheet.proofs.SheetPrefix.{part_out}
 use Rattle.ngc_setup_sheet.proofs.warned.write_warning_facts.Goals as goal
 
 pub returns-in-Ok-clause-fault : goal.returns-in-Ok-clause-fault

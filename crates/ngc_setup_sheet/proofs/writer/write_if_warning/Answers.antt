@@ -1,6 +1,6 @@
 use Rattle.std.proofs.Common.{List, ℕ, sym, subst, ◌∙◌}
 use Rattle.ngc_certificate_text.specs.Collects.{Collects}
-use Rattle.ngc_setup_sheet.proofs.Alone.{told}
+use Rattle.ngc_setup_sheet.proofs.WarningsAlone.{told}
 use Rattle.ngc_setup_sheet.proofs.writer.write_if_warning.Goals as goal
 
 pub returns-then-is_warning-clause-written : goal.returns-then-is_warning-clause-written

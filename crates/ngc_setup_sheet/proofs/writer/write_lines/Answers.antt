@@ -1,5 +1,5 @@
 use Rattle.std.proofs.Common.{rules}
-use Rattle.ngc_certificate_text.proofs.Fronts.{one_more, stopped_at}
+use Rattle.ngc_certificate_text.proofs.CollectedTexts.{one_more, stopped_at}
 use Rattle.ngc_setup_sheet.specs.Spelling.{line_text}
 use Rattle.ngc_setup_sheet.proofs.writer.write_lines.Goals as goal
 

@@ -1,7 +1,7 @@
 use Rattle.std.proofs.Common.{Ok, Err, inr, ◌∙◌}
 use Rattle.ngc_report.proofs.Converted.{turned}
 use Rattle.ngc_adapt_program.specs.Programs.{program_written}
-use Rattle.ngc_simulator.specs.Answers.{AdaptComes, adapt_inputs}
+use Rattle.ngc_simulator.specs.Answers.{AdaptResult, adapt_inputs}
 use Rattle.ngc_inputs.specs.Unread.{SourceFails}
 use Rattle.ngc_simulator.proofs.AdaptLaws.{adapted_files, not_unread, told_none}
 use Rattle.ngc_inputs.proofs.UnreadLaws.{unread_told}
@@ -10,7 +10,7 @@ use Rattle.ngc_simulator.proofs.adapting.adapt_files.Goals as goal
 pub returns-in_err-notes-clause-comes : goal.returns-in_err-notes-clause-comes
 returns-in_err-notes-clause-comes g c =
     turned _ c.in_err-notes.field-0.0
-    (AdaptComes (g.F.Files.bytes c.args.files.now) c.args.options.now (g.W.Sink.written c.args.output.now) (g.W.Sink.written c.adapt.new.output))
+    (AdaptResult (g.F.Files.bytes c.args.files.now) c.args.options.now (g.W.Sink.written c.args.output.now) (g.W.Sink.written c.adapt.new.output))
     c.from_residual-in_err-notes.ensures.1
     (inr (inr (adapted_files (g.F.Files.bytes c.args.files.now) (g.F.Files.bytes c.read_shop.new.files) c.args.options.now c.in_ok-shop.shop
     c.request_on-request.result c.in_ok-file.file.items c.as_slice.result.now (g.W.Sink.written c.args.output.now) (g.W.Sink.written c.adapt.new.output)

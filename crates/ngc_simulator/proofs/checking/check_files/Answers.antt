@@ -2,12 +2,12 @@ use Rattle.std.proofs.Common.{[], ◌∷◌, ◌++◌, Some, Ok, Err, ap, refl, 
 use Rattle.ngc_simulator.proofs.FileLaws.{checked_files, unread_files}
 use Rattle.ngc_report.proofs.Converted.{turned}
 use Rattle.ngc_inputs.proofs.JobLaws.{if_known, keeps_same}
-use Rattle.ngc_simulator.specs.Answers.{certificate_input, program_input, CheckComes, check_inputs}
+use Rattle.ngc_simulator.specs.Answers.{certificate_input, program_input, CheckResult, check_inputs}
 use Rattle.ngc_inputs.specs.Faults.{OfChecking}
 use Rattle.ngc_inputs.specs.Unread.{OfCertificate, OfProgram, SourceFails, program_unread, shop_inputs, unread_by}
 use Rattle.ngc_inputs.specs.declared.fault.AnswerFault.TheVariants as answers
 use Rattle.ngc_simulator.proofs.FileLaws.{or_of_reading}
-use Rattle.ngc_inputs.proofs.UnreadLaws.{all_read, check_told, is_read, placed_read, told_before, told_behind, unopened, unread_told}
+use Rattle.ngc_inputs.proofs.UnreadLaws.{all_read, check_told, is_read, placed_read, reported_before, told_behind, unopened, unread_told}
 use Rattle.std.specs.Prelude.{option_map}
 use Rattle.ngc_line_reader.specs.ProgramText.{program_of}
 use Rattle.ngc_simulator.proofs.checking.check_files.Goals as goal
@@ -15,13 +15,13 @@ use Rattle.ngc_simulator.proofs.checking.check_files.Goals as goal
 pub returns-in_err-shop-clause-comes : goal.returns-in_err-shop-clause-comes
 returns-in_err-shop-clause-comes g c =
     turned _ c.in_err-shop.field-0.0
-    (CheckComes (g.F.Files.bytes c.args.files.now) c.args.options.now (g.W.Sink.written c.args.output.now) (g.W.Sink.written c.args.output.now))
+    (CheckResult (g.F.Files.bytes c.args.files.now) c.args.options.now (g.W.Sink.written c.args.output.now) (g.W.Sink.written c.args.output.now))
     c.from_residual.ensures.1 (inl (c.in_err-shop.ensures.said, keeps_same _))
 
 pub returns-in_err-program-clause-comes : goal.returns-in_err-program-clause-comes
 returns-in_err-program-clause-comes g c =
     turned _ (answers.Read c.in_err-program.field-0.0)
-    (CheckComes (g.F.Files.bytes c.args.files.now) c.args.options.now (g.W.Sink.written c.args.output.now) (g.W.Sink.written c.args.output.now))
+    (CheckResult (g.F.Files.bytes c.args.files.now) c.args.options.now (g.W.Sink.written c.args.output.now) (g.W.Sink.written c.args.output.now))
     c.from_residual-in_err-program.ensures.1
     (inr (
       tt,
@@ -33,7 +33,7 @@ returns-in_err-program-clause-comes g c =
 pub returns-in_err-certificate-clause-comes : goal.returns-in_err-certificate-clause-comes
 returns-in_err-certificate-clause-comes g c =
     turned _ (answers.Input c.in_err-certificate.field-0.0)
-    (CheckComes (g.F.Files.bytes c.args.files.now) c.args.options.now (g.W.Sink.written c.args.output.now) (g.W.Sink.written c.args.output.now))
+    (CheckResult (g.F.Files.bytes c.args.files.now) c.args.options.now (g.W.Sink.written c.args.output.now) (g.W.Sink.written c.args.output.now))
     c.from_residual-in_err-certificate.ensures.1 (inl (tt, keeps_same _))
 
 pub returns-clause-comes : goal.returns-clause-comes
@@ -47,7 +47,7 @@ returns-clause-comes g c =
 pub returns-in_err-check_program-clause-comes : goal.returns-in_err-check_program-clause-comes
 returns-in_err-check_program-clause-comes g c =
     let fault = c.in_err-check_program.field-0.0 in
-    turned _ fault (CheckComes (g.F.Files.bytes c.args.files.now) c.args.options.now (g.W.Sink.written c.args.output.now)
+    turned _ fault (CheckResult (g.F.Files.bytes c.args.files.now) c.args.options.now (g.W.Sink.written c.args.output.now)
     (g.W.Sink.written c.check_program.new.output)) c.from_residual-in_err-check_program.ensures.1
     (inr (
       or_of_reading OfChecking fault c.in_err-check_program.ensures.faults,
@@ -62,7 +62,7 @@ pub returns-in_err-shop-clause-unread : goal.returns-in_err-shop-clause-unread
 returns-in_err-shop-clause-unread g c =
     unread_told (SourceFails g.F.R.Source.remaining g.F.R.Source.failures) (g.F.Files.bytes c.args.files.now)
     (check_inputs c.args.options.now) _ _ _ c.in_err-shop.field-0.0 c.from_residual.ensures.1
-    (told_before (SourceFails g.F.R.Source.remaining g.F.R.Source.failures) (g.F.Files.bytes c.args.files.now)
+    (reported_before (SourceFails g.F.R.Source.remaining g.F.R.Source.failures) (g.F.Files.bytes c.args.files.now)
     (shop_inputs (Some c.args.options.now.machine.now) (Some c.args.options.now.tools.now))
     (program_input (option_map (λ n. n.now) c.args.options.now.program) ∷ certificate_input c.args.options.now.certificate.now ∷ []) _ _
     (unread_by c.in_err-shop.field-0.0) c.in_err-shop.ensures.unread)

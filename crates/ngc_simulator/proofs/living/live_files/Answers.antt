@@ -6,9 +6,9 @@ use Rattle.ngc_report.proofs.Converted.{turned}
 use Rattle.ngc_inputs.proofs.JobLaws.{keeps_same}
 use Rattle.ngc_simulator.proofs.LiveLaws.{from_input, lived_files}
 use Rattle.ngc_inputs.specs.Faults.{OfLiving}
-use Rattle.ngc_simulator.specs.Answers.{LiveComes, certificate_input, live_inputs, program_input}
+use Rattle.ngc_simulator.specs.Answers.{LiveResult, certificate_input, live_inputs, program_input}
 use Rattle.ngc_inputs.specs.Unread.{OfCertificate, OfProgram, OfSource, SourceFails, certificate_unread, program_unread, shop_inputs, unread_by}
-use Rattle.ngc_inputs.proofs.UnreadLaws.{all_read, is_read, live_told, placed_read, told_before, told_behind, unopened, unread_told}
+use Rattle.ngc_inputs.proofs.UnreadLaws.{all_read, is_read, live_told, placed_read, reported_before, told_behind, unopened, unread_told}
 use Rattle.ngc_line_reader.specs.ProgramText.{program_of}
 use Rattle.ngc_line_reader.specs.ProgramView.{text_in}
 use Rattle.ngc_inputs.proofs.JudgingLaws.{judged_is_read, verdict_on}
@@ -16,13 +16,13 @@ use Rattle.ngc_simulator.proofs.living.live_files.Goals as goal
 
 pub returns-in_err-shop-clause-comes : goal.returns-in_err-shop-clause-comes
 returns-in_err-shop-clause-comes g c =
-    turned _ c.in_err-shop.field-0.0 (LiveComes (g.F.Files.bytes c.args.files.now) c.args.options.now (Some c.args.form) (g.W.Sink.written c.args.output.now) (g.W.Sink.written c.args.output.now))
+    turned _ c.in_err-shop.field-0.0 (LiveResult (g.F.Files.bytes c.args.files.now) c.args.options.now (Some c.args.form) (g.W.Sink.written c.args.output.now) (g.W.Sink.written c.args.output.now))
     c.from_residual.ensures.1 (inl (c.in_err-shop.ensures.said, keeps_same _))
 
 pub returns-in_err-program-clause-comes : goal.returns-in_err-program-clause-comes
 returns-in_err-program-clause-comes g c =
     let fault = answers.Read c.in_err-program.field-0.0 in
-    turned _ fault (LiveComes (g.F.Files.bytes c.args.files.now) c.args.options.now (Some c.args.form) (g.W.Sink.written c.args.output.now) (g.W.Sink.written c.args.output.now))
+    turned _ fault (LiveResult (g.F.Files.bytes c.args.files.now) c.args.options.now (Some c.args.form) (g.W.Sink.written c.args.output.now) (g.W.Sink.written c.args.output.now))
     c.from_residual-in_err-program.ensures.1
     (inr (
       tt,
@@ -35,7 +35,7 @@ returns-in_err-program-clause-comes g c =
 pub returns-in_err-verdict-clause-comes : goal.returns-in_err-verdict-clause-comes
 returns-in_err-verdict-clause-comes g c =
     let fault = answers.Certificate c.in_err-verdict.field-0.0 in
-    turned _ fault (LiveComes (g.F.Files.bytes c.args.files.now) c.args.options.now (Some c.args.form) (g.W.Sink.written c.args.output.now) (g.W.Sink.written c.args.output.now))
+    turned _ fault (LiveResult (g.F.Files.bytes c.args.files.now) c.args.options.now (Some c.args.form) (g.W.Sink.written c.args.output.now) (g.W.Sink.written c.args.output.now))
     c.from_residual-in_err-verdict.ensures.1
     (inr (
       tt,
@@ -49,7 +49,7 @@ returns-in_err-verdict-clause-comes g c =
 pub returns-in_err-events-clause-comes : goal.returns-in_err-events-clause-comes
 returns-in_err-events-clause-comes g c =
     turned _ (answers.Input c.in_err-events.field-0.0)
-    (LiveComes (g.F.Files.bytes c.args.files.now) c.args.options.now (Some c.args.form) (g.W.Sink.written c.args.output.now) (g.W.Sink.written c.args.output.now))
+    (LiveResult (g.F.Files.bytes c.args.files.now) c.args.options.now (Some c.args.form) (g.W.Sink.written c.args.output.now) (g.W.Sink.written c.args.output.now))
     c.from_residual-in_err-events.ensures.1 (inl (tt, keeps_same _))
 
 pub returns-clause-comes : goal.returns-clause-comes
@@ -65,7 +65,7 @@ returns-clause-comes g c =
 pub returns-in_err-run_live-clause-comes : goal.returns-in_err-run_live-clause-comes
 returns-in_err-run_live-clause-comes g c =
     let fault = c.in_err-run_live.field-0.0 in
-    turned _ fault (LiveComes (g.F.Files.bytes c.args.files.now) c.args.options.now (Some c.args.form) (g.W.Sink.written c.args.output.now) (g.W.Sink.written c.run_live.new.output))
+    turned _ fault (LiveResult (g.F.Files.bytes c.args.files.now) c.args.options.now (Some c.args.form) (g.W.Sink.written c.args.output.now) (g.W.Sink.written c.run_live.new.output))
     c.from_residual-in_err-run_live.ensures.1
     (inr (
       or_of_reading OfLiving fault c.in_err-run_live.ensures.faults,
@@ -81,7 +81,7 @@ returns-in_err-run_live-clause-comes g c =
 pub returns-in_err-shop-clause-unread : goal.returns-in_err-shop-clause-unread
 returns-in_err-shop-clause-unread g c =
     unread_told (SourceFails g.F.R.Source.remaining g.F.R.Source.failures) (g.F.Files.bytes c.args.files.now) (live_inputs c.args.options.now (Some c.args.form)) _ _ _ c.in_err-shop.field-0.0 c.from_residual.ensures.1
-    (told_before (SourceFails g.F.R.Source.remaining g.F.R.Source.failures) (g.F.Files.bytes c.args.files.now) (shop_inputs (Some c.args.options.now.machine.now) (Some c.args.options.now.tools.now))
+    (reported_before (SourceFails g.F.R.Source.remaining g.F.R.Source.failures) (g.F.Files.bytes c.args.files.now) (shop_inputs (Some c.args.options.now.machine.now) (Some c.args.options.now.tools.now))
     (program_input (Some c.args.options.now.program.now) ∷ certificate_input c.args.options.now.certificate.now
     ∷ record { kind = OfSource; name = None } ∷ []) _ _ (unread_by c.in_err-shop.field-0.0) c.in_err-shop.ensures.unread)
 

@@ -4,7 +4,7 @@ use Rattle.ngc_machine_maker.specs.File.{file_text}
 use Rattle.ngc_machine_maker.specs.declared.numbers.MachineNumbers.{MachineNumbers}
 use Rattle.ngc_machine_maker.specs.declared.refusal.FigureRefusal.{FigureRefusal}
 use Rattle.ngc_report.proofs.Converted.{turned}
-use Rattle.ngc_text.specs.Written.{AppendsBeginning}
+use Rattle.ngc_text.specs.Written.{AppendsPrefix}
 use Rattle.std.specs.Io.KnownBytes.{Appends}
 use Rattle.ngc_simulator.specs.Making.{Makes, WritesNumbers}
 use Rattle.ngc_inputs.specs.declared.fault.AnswerFault.TheVariants as answers
@@ -21,7 +21,7 @@ returns-in_err-text-clause-makes g c =
     (unmade c.args.options.now dump old old keys c.in_err-text.field-0.0
     (record {
       figures = c.in-Ok.figures;
-      are_asked = c.in-Ok.ensures;
+      are_requested = c.in-Ok.ensures;
       numbers = c.in-Ok-numbers_of.numbers;
       are_numbers = sym c.in-Ok-numbers_of.ensures.value;
       are_keys = refl;
@@ -38,13 +38,13 @@ returns-in_err-write_all-clause-makes g c =
       c.in_ok-text.text.items,
       record {
         figures = c.in-Ok.figures;
-        are_asked = c.in-Ok.ensures;
+        are_requested = c.in-Ok.ensures;
         numbers = c.in-Ok-numbers_of.numbers;
         are_numbers = sym c.in-Ok-numbers_of.ensures.value;
         are_keys = refl;
       },
       c.in_ok-text.ensures.made,
-      subst (λ (t : List ℕ). AppendsBeginning old new t) c.as_slice.ensures.value c.in_err-write_all.ensures.fault,
+      subst (λ (t : List ℕ). AppendsPrefix old new t) c.as_slice.ensures.value c.in_err-write_all.ensures.fault,
     )
 
 pub returns-clause-makes : goal.returns-clause-makes

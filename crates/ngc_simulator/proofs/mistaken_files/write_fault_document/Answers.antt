@@ -1,4 +1,4 @@
-use Rattle.ngc_text.proofs.Appended.{appends_both}
+use Rattle.ngc_text.proofs.AppendedTexts.{appends_both}
 use Rattle.ngc_report.specs.Forms.{opening}
 use Rattle.ngc_report.specs.declared.form.Form.TheVariants.{Json}
 use Rattle.ngc_program_report.specs.Texts.{ending}

@@ -1,10 +1,10 @@
 use Rattle.std.proofs.Common.{rules, Ok, Err, ap, refl, subst, ◌++◌, ◌∙◌}
-use Rattle.ngc_simulator.specs.Answers.{ComesBy}
+use Rattle.ngc_simulator.specs.Answers.{ResultsBy}
 use Rattle.ngc_inputs.specs.Faults.{fault_line}
 use Rattle.ngc_program_report.specs.Times.{time_line}
 use Rattle.ngc_simulator.specs.declared.done.Done.{Done}
 use Rattle.ngc_simulator.specs.declared.done.Done.TheVariants.{RunThrough}
-use Rattle.ngc_simulator.proofs.Told.{took_text}
+use Rattle.ngc_simulator.proofs.ReportSink.{took_text}
 use Rattle.ngc_simulator.proofs.program.answer.Goals as goal
 
 pub returns-clause-answers : goal.returns-clause-answers
@@ -22,7 +22,7 @@ returns-clause-answers g c = record {
 pub returns-in-Ok-RunThrough-clause-answers : goal.returns-in-Ok-RunThrough-clause-answers
 returns-in-Ok-RunThrough-clause-answers g c = record {
   outcome = Ok (RunThrough c.in-Ok-RunThrough.time);
-  comes = subst (λ (d : Done). ComesBy (g.F.Files.bytes c.args.files.now) c.args.options.now (g.W.Sink.written c.args.output.now)
+  comes = subst (λ (d : Done). ResultsBy (g.F.Files.bytes c.args.files.now) c.args.options.now (g.W.Sink.written c.args.output.now)
       (g.W.Sink.written c.run_command.new.output) (Ok d)) c.in-Ok-RunThrough.field-0-is c.in-Ok-RunThrough.ensures.comes;
   unread = c.in-Ok-RunThrough.ensures.unread;
   counts = c.in-Ok-RunThrough.ensures.sink;

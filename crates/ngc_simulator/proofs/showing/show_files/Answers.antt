@@ -3,12 +3,12 @@ use Rattle.std.specs.Prelude.{option_map}
 use Rattle.std.specs.Io.KnownBytes.{Appends}
 use Rattle.ngc_canonical.specs.Interpreter.{setup_of}
 use Rattle.ngc_command_line.specs.declared.options.ShowOptions.{ShowOptions}
-use Rattle.ngc_text.specs.Written.{AppendsBeginning}
+use Rattle.ngc_text.specs.Written.{AppendsPrefix}
 use Rattle.ngc_machine_files.specs.Machine.{file_of}
 use Rattle.ngc_machine_files.specs.declared.tools.Tool.{Tool}
-use Rattle.ngc_simulator.specs.Answers.{ShowsOn, ShowComes}
+use Rattle.ngc_simulator.specs.Answers.{ShowsOn, ShowResult}
 use Rattle.ngc_inputs.specs.Setups.{FileBytes}
-use Rattle.ngc_inputs.specs.Shops.{GivesShop}
+use Rattle.ngc_inputs.specs.Shops.{ShopResultIs}
 use Rattle.ngc_simulator.specs.Showing.{Shows, shown_text}
 use Rattle.ngc_inputs.specs.declared.fault.AnswerFault.{AnswerFault}
 use Rattle.ngc_inputs.specs.declared.fault.AnswerFault.TheVariants as answers
@@ -18,7 +18,7 @@ use Rattle.ngc_inputs.proofs.SetupLaws.{on_setup}
 use Rattle.ngc_simulator.proofs.showing.show_files.Goals as goal
 
 shown : (bytes : FileBytes) (options : ShowOptions) (shop : Shop) (old new : Option (List ℕ)) (outcome : Result (Unit {0}) AnswerFault)
-    → GivesShop bytes (Some options.machine.now) (option_map (λ n. n.now) options.tools) (Ok shop)
+    → ShopResultIs bytes (Some options.machine.now) (option_map (λ n. n.now) options.tools) (Ok shop)
     → Shows options.warnings (setup_of shop.machine shop.tools) old new outcome → ShowsOn bytes options old new outcome
 shown bytes options shop old new outcome said shows =
     on_setup bytes (Some options.machine.now) (option_map (λ n. n.now) options.tools) (setup_of shop.machine shop.tools)
@@ -27,12 +27,12 @@ shown bytes options shop old new outcome said shows =
 pub returns-in_err-shop-clause-comes : goal.returns-in_err-shop-clause-comes
 returns-in_err-shop-clause-comes g c =
     turned _ c.in_err-shop.field-0.0
-    (ShowComes (g.F.Files.bytes c.args.files.now) c.args.options.now (g.W.Sink.written c.args.output.now) (g.W.Sink.written c.read_shop_telling.new.output))
+    (ShowResult (g.F.Files.bytes c.args.files.now) c.args.options.now (g.W.Sink.written c.args.output.now) (g.W.Sink.written c.read_shop_reporting.new.output))
     c.from_residual.ensures.1 (inl c.in_err-shop.ensures.said)
 
 pub returns-clause-comes : goal.returns-clause-comes
 returns-clause-comes g c =
-    let old = g.W.Sink.written c.read_shop_telling.new.output in
+    let old = g.W.Sink.written c.read_shop_reporting.new.output in
     let new = g.W.Sink.written c.write_shown.new.output in
     subst (λ (o : Option (List ℕ)). ShowsOn (g.F.Files.bytes c.args.files.now) c.args.options.now o new (Ok tt)) c.in_ok-shop.ensures.said.1
     (shown (g.F.Files.bytes c.args.files.now) c.args.options.now c.in_ok-shop.shop old new (Ok tt) c.in_ok-shop.ensures.said.0
@@ -40,15 +40,15 @@ returns-clause-comes g c =
 
 pub returns-in_err-write_shown-clause-comes : goal.returns-in_err-write_shown-clause-comes
 returns-in_err-write_shown-clause-comes g c =
-    let old = g.W.Sink.written c.read_shop_telling.new.output in
+    let old = g.W.Sink.written c.read_shop_reporting.new.output in
     let new = g.W.Sink.written c.write_shown.new.output in
     let fault = answers.Write c.in_err-write_shown.field-0.0 in
-    turned _ fault (ShowComes (g.F.Files.bytes c.args.files.now) c.args.options.now (g.W.Sink.written c.args.output.now)
+    turned _ fault (ShowResult (g.F.Files.bytes c.args.files.now) c.args.options.now (g.W.Sink.written c.args.output.now)
     (g.W.Sink.written c.write_shown.new.output)) c.from_residual-in_err-write_shown.ensures.1
     (inr (
       tt,
       subst (λ (o : Option (List ℕ)). ShowsOn (g.F.Files.bytes c.args.files.now) c.args.options.now o new (Err fault)) c.in_ok-shop.ensures.said.1
           (shown (g.F.Files.bytes c.args.files.now) c.args.options.now c.in_ok-shop.shop old new (Err fault) c.in_ok-shop.ensures.said.0
-          (subst (λ (ts : List Tool). AppendsBeginning old new (shown_text c.args.options.now.warnings (file_of c.in_ok-shop.shop.machine) ts)) c.tools.ensures.tools
+          (subst (λ (ts : List Tool). AppendsPrefix old new (shown_text c.args.options.now.warnings (file_of c.in_ok-shop.shop.machine) ts)) c.tools.ensures.tools
           c.in_err-write_shown.ensures.fault)),
     ))

@@ -6,9 +6,9 @@ use Rattle.ngc_report.proofs.Converted.{turned}
 use Rattle.ngc_inputs.proofs.JobLaws.{keeps_same}
 use Rattle.ngc_simulator.proofs.RunLaws.{run_timed, went_files}
 use Rattle.ngc_inputs.specs.Faults.{OfRunning}
-use Rattle.ngc_simulator.specs.Answers.{RunThroughComes, certificate_input, program_input, run_through_inputs}
+use Rattle.ngc_simulator.specs.Answers.{RunThroughResult, certificate_input, program_input, run_through_inputs}
 use Rattle.ngc_inputs.specs.Unread.{OfCertificate, OfProgram, SourceFails, certificate_unread, program_unread, shop_inputs, unread_by}
-use Rattle.ngc_inputs.proofs.UnreadLaws.{all_read, is_read, run_told, placed_read, told_before, told_behind, unread_told}
+use Rattle.ngc_inputs.proofs.UnreadLaws.{all_read, is_read, run_told, placed_read, reported_before, told_behind, unread_told}
 use Rattle.std.specs.Prelude.{option_map}
 use Rattle.ngc_line_reader.specs.ProgramText.{program_of}
 use Rattle.ngc_line_reader.specs.ProgramView.{text_in}
@@ -18,13 +18,13 @@ use Rattle.ngc_simulator.proofs.through.run_through_files.Goals as goal
 pub returns-in_err-shop-clause-comes : goal.returns-in_err-shop-clause-comes
 returns-in_err-shop-clause-comes g c =
     turned _ c.in_err-shop.field-0.0
-    (RunThroughComes (g.F.Files.bytes c.args.files.now) c.args.options.now (Some c.args.writing) (g.W.Sink.written c.args.output.now) (g.W.Sink.written c.args.output.now))
+    (RunThroughResult (g.F.Files.bytes c.args.files.now) c.args.options.now (Some c.args.writing) (g.W.Sink.written c.args.output.now) (g.W.Sink.written c.args.output.now))
     c.from_residual.ensures.1 (inl (c.in_err-shop.ensures.said, keeps_same _))
 
 pub returns-in_err-program-clause-comes : goal.returns-in_err-program-clause-comes
 returns-in_err-program-clause-comes g c =
     let fault = answers.Read c.in_err-program.field-0.0 in
-    turned _ fault (RunThroughComes (g.F.Files.bytes c.args.files.now) c.args.options.now (Some c.args.writing) (g.W.Sink.written c.args.output.now)
+    turned _ fault (RunThroughResult (g.F.Files.bytes c.args.files.now) c.args.options.now (Some c.args.writing) (g.W.Sink.written c.args.output.now)
     (g.W.Sink.written c.args.output.now)) c.from_residual-in_err-program.ensures.1
     (inr (
       tt,
@@ -38,7 +38,7 @@ returns-in_err-program-clause-comes g c =
 pub returns-in_err-verdict-clause-comes : goal.returns-in_err-verdict-clause-comes
 returns-in_err-verdict-clause-comes g c =
     let fault = answers.Certificate c.in_err-verdict.field-0.0 in
-    turned _ fault (RunThroughComes (g.F.Files.bytes c.args.files.now) c.args.options.now (Some c.args.writing) (g.W.Sink.written c.args.output.now)
+    turned _ fault (RunThroughResult (g.F.Files.bytes c.args.files.now) c.args.options.now (Some c.args.writing) (g.W.Sink.written c.args.output.now)
     (g.W.Sink.written c.args.output.now)) c.from_residual-in_err-verdict.ensures.1
     (inr (
       tt,
@@ -69,7 +69,7 @@ returns-clause-comes g c = (
 pub returns-in_err-report-clause-comes : goal.returns-in_err-report-clause-comes
 returns-in_err-report-clause-comes g c =
     let fault = c.in_err-report.field-0.0 in
-    turned _ fault (RunThroughComes (g.F.Files.bytes c.args.files.now) c.args.options.now (Some c.args.writing) (g.W.Sink.written c.args.output.now)
+    turned _ fault (RunThroughResult (g.F.Files.bytes c.args.files.now) c.args.options.now (Some c.args.writing) (g.W.Sink.written c.args.output.now)
     (g.W.Sink.written c.run_program_through.new.output)) c.from_residual-in_err-report.ensures.1
     (inr (
       or_of_reading OfRunning fault c.in_err-report.ensures.faults,
@@ -89,7 +89,7 @@ pub returns-in_err-shop-clause-unread : goal.returns-in_err-shop-clause-unread
 returns-in_err-shop-clause-unread g c =
     unread_told (SourceFails g.F.R.Source.remaining g.F.R.Source.failures) (g.F.Files.bytes c.args.files.now)
     (run_through_inputs c.args.options.now (Some c.args.writing)) _ _ _ c.in_err-shop.field-0.0 c.from_residual.ensures.1
-    (told_before (SourceFails g.F.R.Source.remaining g.F.R.Source.failures) (g.F.Files.bytes c.args.files.now)
+    (reported_before (SourceFails g.F.R.Source.remaining g.F.R.Source.failures) (g.F.Files.bytes c.args.files.now)
     (shop_inputs (Some c.args.options.now.machine.now) (Some c.args.options.now.tools.now))
     (program_input (option_map (λ n. n.now) c.args.options.now.program) ∷ certificate_input c.args.options.now.certificate.now ∷ []) _ _
     (unread_by c.in_err-shop.field-0.0) c.in_err-shop.ensures.unread)

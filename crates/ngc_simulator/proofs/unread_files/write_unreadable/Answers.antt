@@ -1,5 +1,5 @@
 use Rattle.std.proofs.Common.{ap}
-use Rattle.ngc_text.proofs.Appended.{appends_both}
+use Rattle.ngc_text.proofs.AppendedTexts.{appends_both}
 use Rattle.ngc_program_report.specs.Texts.{ending}
 use Rattle.ngc_program_report.proofs.WrittenLaws.{appends_as, begins_as, begins_first, begins_last, err_weaker, ok_weaker, on_err}
 use Rattle.ngc_simulator.proofs.unread_files.write_unreadable.Goals as goal

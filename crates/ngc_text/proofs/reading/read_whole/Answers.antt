@@ -1,5 +1,5 @@
 use Rattle.std.proofs.Common.{arith}
-use Rattle.ngc_text.proofs.Consumed.{lost_more}
+use Rattle.ngc_text.proofs.ConsumedBytes.{lost_more}
 use Rattle.ngc_text.proofs.reading.read_whole.Goals as goal
 
 pub returns-then-count-limit-clause-taken : goal.returns-then-count-limit-clause-taken

@@ -2,7 +2,7 @@ use Rattle.std.proofs.Common.{◌∙◌, ap}
 use Rattle.std.proofs.lemmas.List.{take_all}
 use Rattle.std.specs.Prelude.{map}
 use Rattle.ngc_text.specs.Shown.{shown}
-use Rattle.ngc_text.proofs.Firsts.{taken}
+use Rattle.ngc_text.proofs.ListPrefixes.{taken}
 use Rattle.ngc_text.proofs.shown.shown_bytes.Goals as goal
 
 pub returns-clause-text : goal.returns-clause-text

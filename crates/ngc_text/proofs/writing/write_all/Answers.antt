@@ -1,6 +1,6 @@
 use Rattle.std.proofs.Common.{rules, take, drop, sym}
 use Rattle.std.proofs.lemmas.List.{take-append-drop}
-use Rattle.ngc_text.proofs.Appended.{appends_more, within_rest, appends_kept}
+use Rattle.ngc_text.proofs.AppendedTexts.{appends_more, within_rest, appends_kept}
 use Rattle.ngc_text.proofs.writing.write_all.Goals as goal
 
 pub loop-done-preserved : goal.loop-done-preserved

@@ -1,6 +1,6 @@
 use Rattle.std.proofs.Common.{◌∙◌, arith}
 use Rattle.ngc_line_reader.specs.ProgramView.{text_in}
-use Rattle.ngc_word_warnings.proofs.Further.{at, further}
+use Rattle.ngc_word_warnings.proofs.MistakeSteps.{at, further}
 use Rattle.ngc_word_warnings.proofs.slips.slips_of.Goals as goal
 
 pub loop-index-preserved : goal.loop-index-preserved

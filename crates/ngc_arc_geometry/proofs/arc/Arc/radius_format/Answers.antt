@@ -7,7 +7,7 @@ use Rattle.ngc_arc_geometry.specs.Faults.{◌>>=◌}
 use Rattle.ngc_arc_geometry.specs.Tolerance.{tolerance}
 use Rattle.ngc_arc_geometry.specs.Radii.{with_equal_radii}
 use Rattle.ngc_arc_geometry.proofs.Machine.{square_fits}
-use Rattle.ngc_arc_geometry.proofs.Steps.{four_pass, not_zero, not_over}
+use Rattle.ngc_arc_geometry.proofs.LastStep.{four_pass, not_zero, not_over}
 use Rattle.ngc_arc_geometry.proofs.arc.Arc.radius_format.Goals as goal
 
 pub returns : goal.returns

@@ -1,6 +1,6 @@
 use Rattle.std.proofs.Common.{sym, ◌∙◌, Some, None}
 use Rattle.ngc_machine_files.specs.Machine.{file_of}
-use Rattle.ngc_certificate.proofs.RestFault.{one_judged}
+use Rattle.ngc_certificate.proofs.RemainingPieces.{one_judged}
 use Rattle.ngc_certificate.proofs.pieces.PieceJudge.next.Goals as goal
 
 pub returns-in-Some-clause-first : goal.returns-in-Some-clause-first

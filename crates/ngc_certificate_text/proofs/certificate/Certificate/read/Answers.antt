@@ -1,4 +1,4 @@
-use Rattle.ngc_certificate_text.proofs.GivenCertificates.{motions_given}
+use Rattle.ngc_certificate_text.proofs.ReturnedCertificates.{motions_given}
 use Rattle.ngc_certificate_text.proofs.certificate.Certificate.read.Goals as goal
 
 pub returns-clause-said : goal.returns-clause-said

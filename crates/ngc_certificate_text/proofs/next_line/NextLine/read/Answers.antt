@@ -3,7 +3,7 @@ use Rattle.ngc_certificate_text.specs.declared.fault.CertificateFault.{Certifica
 use Rattle.ngc_certificate_text.specs.declared.expected.Expected.{Expected}
 use Rattle.ngc_certificate_text.specs.declared.next_line.NextLine.{NextLine}
 use Rattle.ngc_certificate_text.specs.Ahead.{Left, left_from, lines_ahead, wrong_line, is_open, IsSound}
-use Rattle.ngc_certificate_text.specs.Told.{IsFront, behind_told}
+use Rattle.ngc_certificate_text.specs.Told.{IsFront, after_content}
 use Rattle.ngc_certificate_text.proofs.LinesAhead.{wrong_said, two_left}
 use Rattle.ngc_certificate_text.proofs.NextLines.{told_front, told_closed, told_refused, told_next, told_sound, told_lines}
 use Rattle.ngc_certificate_text.proofs.next_line.NextLine.read.Goals as goal
@@ -22,8 +22,8 @@ pub returns-then-not-is_open-clause-tells : goal.returns-then-not-is_open-clause
 returns-then-not-is_open-clause-tells c line left =
     let n = c.args.self.now in
     let told = c.in-Ok.told in
-    let expected : c.behind-next.result.expected ≡ behind_told told = ap (λ (x : NextLine). x.expected) c.behind-next.ensures in
-    let closed : is_open (behind_told told) ≡ false = ap is_open (sym expected) ∙ sym c.is_open.ensures ∙ c.if-not-is_open.true in
+    let expected : c.behind-next.result.expected ≡ after_content told = ap (λ (x : NextLine). x.expected) c.behind-next.ensures in
+    let closed : is_open (after_content told) ≡ false = ap is_open (sym expected) ∙ sym c.is_open.ensures ∙ c.if-not-is_open.true in
     told_closed n.number c.args.line.now line left (omega arith) n.expected told c.requires (sym c.told.ensures ∙ c.in-Ok.is) closed
     ∙ ap (λ (x : NextLine). refused (wrong_line x.expected x.number)) (sym c.behind-next.ensures)
     ∙ ap (λ (f : CertificateFault). refused f) (sym c.wrong_line-then-not-is_open.ensures)
@@ -46,8 +46,8 @@ returns-else-not-is_open-clause-expected c =
 pub returns-else-not-is_open-clause-sound : goal.returns-else-not-is_open-clause-sound
 returns-else-not-is_open-clause-sound c =
     let n = c.args.self.now in
-    let expected : c.behind-next.result.expected ≡ behind_told c.in-Ok.told = ap (λ (x : NextLine). x.expected) c.behind-next.ensures in
-    let open_next : is_open (behind_told c.in-Ok.told) ≡ true = ap is_open (sym expected) ∙ sym c.is_open.ensures ∙ c.if-not-is_open.false in
+    let expected : c.behind-next.result.expected ≡ after_content c.in-Ok.told = ap (λ (x : NextLine). x.expected) c.behind-next.ensures in
+    let open_next : is_open (after_content c.in-Ok.told) ≡ true = ap is_open (sym expected) ∙ sym c.is_open.ensures ∙ c.if-not-is_open.false in
     subst (λ (e : Expected). IsSound e c.behind-next.result.number) (sym expected)
     (told_sound n.expected c.in-Ok.told c.behind-next.result.number
     (told_next n.expected n.number c.args.line.now c.in-Ok.told c.requires (sym c.told.ensures ∙ c.in-Ok.is)) open_next)

@@ -1,7 +1,7 @@
 use Rattle.std.proofs.Common.{◌≡◌, ◌++◌, ◌∙◌, arith}
 use Rattle.ngc_certificate_text.specs.Found.{heard, heard_in}
 use Rattle.ngc_certificate_text.specs.LinesView.{left_by, expected_in}
-use Rattle.ngc_certificate_text.proofs.HeardLines.{told_leads, told_expects}
+use Rattle.ngc_certificate_text.proofs.AddedLines.{told_leads, told_expects}
 use Rattle.ngc_certificate_text.proofs.text.TextSoFar.feed.Goals as goal
 
 pub lines-preserved : goal.lines-preserved

@@ -1,5 +1,5 @@
 use Rattle.std.proofs.Common.{rules}
-use Rattle.ngc_collision.proofs.Stacked.{stacked-more}
+use Rattle.ngc_collision.proofs.ToolBoxes.{stacked-more}
 use Rattle.ngc_collision.proofs.solid.Solid.stacked.Goals as goal
 
 pub loop-part-preserved : goal.loop-part-preserved

@@ -48,7 +48,7 @@ invariant_of-self g c =
     let job = job_of machine commands in
     let n = c.load.new.self in
     let q = c.new-loaded.result.queued in
-    let ramp = more_as machine _ commands _ (p.done + length p.ring.loaded) p.drive.flows_on q p.drive.ramp n.drive.ramp c.load.ensures.ramp
+    let ramp = more_as machine _ commands _ (p.done + length p.ring.loaded) p.drive.continues_travel q p.drive.ramp n.drive.ramp c.load.ensures.ramp
     c.machine-machine.ensures.value c.commands-commands.ensures in
     let joint = joint_as machine _ commands _ (p.done + length p.ring.loaded) n.drive.entry c.load.ensures.entry c.machine-machine.ensures.value
     c.commands-commands.ensures in
@@ -57,7 +57,7 @@ invariant_of-self g c =
     let found : slice_get commands (p.done + length p.ring.loaded) ≡ Some c.in-Some.command.now =
     (let lookup = c.in-Some.ensures.lookup in found_in c.commands-commands.result.now commands (p.done + c.len.result)
     (p.done + length p.ring.loaded) c.in-Some.command.now lookup.3.0 lookup.1 c.commands-commands.ensures (ap (λ k. p.done + k) c.len.ensures.value)) in
-    loaded_order job p.done p.ring p.drive p.dwelt i.panel q n.done n.ring n.drive n.dwelt c.self.invariant ramp c.load.ensures.flows_on joint target
+    loaded_order job p.done p.ring p.drive p.dwelt i.panel q n.done n.ring n.drive n.dwelt c.self.invariant ramp c.load.ensures.continues_travel joint target
     (slice_get_within _ _ _ found) c.load.ensures.done c.load.ensures.dwelt c.load.ensures.loaded c.load.ensures.place c.load.ensures.room
 
 pub returns-clause-loads : goal.returns-clause-loads
@@ -69,7 +69,7 @@ returns-clause-loads g c =
     let job = job_of machine commands in
     let n = c.load.new.self in
     let q = c.new-loaded.result.queued in
-    let ramp = more_as machine _ commands _ (p.done + length p.ring.loaded) p.drive.flows_on q p.drive.ramp n.drive.ramp c.load.ensures.ramp
+    let ramp = more_as machine _ commands _ (p.done + length p.ring.loaded) p.drive.continues_travel q p.drive.ramp n.drive.ramp c.load.ensures.ramp
     c.machine-machine.ensures.value c.commands-commands.ensures in
     let found : slice_get commands (p.done + length p.ring.loaded) ≡ Some c.in-Some.command.now =
     (let lookup = c.in-Some.ensures.lookup in found_in c.commands-commands.result.now commands (p.done + c.len.result)

@@ -16,5 +16,5 @@ returns-then-index-quiet g c =
 
 pub returns : goal.returns
 returns g c =
-    c.told_before.ensures ∙ sym (behind_quiet c.args.index c.self.inside.quiet c.self.inside.told.items (omega arith) (omega arith))
+    c.reported_before.ensures ∙ sym (behind_quiet c.args.index c.self.inside.quiet c.self.inside.told.items (omega arith) (omega arith))
     ∙ ap (λ (xs : List Reply). from_the_last c.args.index xs) c.self.view_is

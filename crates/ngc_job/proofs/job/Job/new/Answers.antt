@@ -1,13 +1,13 @@
 use Rattle.ngc_line_reader.specs.ProgramView.{text_in}
 use Rattle.ngc_canonical.specs.Interpreter.{setup_of}
-use Rattle.ngc_canonical.specs.Meaning.{program_said}
+use Rattle.ngc_canonical.specs.Meaning.{parsed_program}
 use Rattle.ngc_job.proofs.JobLaws.{alike, apart}
 use Rattle.ngc_job.proofs.job.Job.new.Goals.{then-has_deleted_lines+in-Ok-interpret, else-has_deleted_lines}
 use Rattle.ngc_job.proofs.job.Job.new.Goals as goal
 
 pub returns : goal.returns
 returns g c = λ rs readings.
-    let program = program_said (text_in c.args.program.now) rs in
+    let program = parsed_program (text_in c.args.program.now) rs in
     let setup = setup_of c.args.machine c.args.tools in
     let off = c.in-Ok.commands.items in
     let found = c.has_deleted_lines.result in

@@ -1,6 +1,6 @@
 use Rattle.std.proofs.Common.{sym, ◌∙◌}
-use Rattle.ngc_machine_files.proofs.Good.{IsGood-from_ranges}
-use Rattle.ngc_machine_files.proofs.Blank.{machine-blank}
+use Rattle.ngc_machine_files.proofs.GoodFiles.{IsGood-from_ranges}
+use Rattle.ngc_machine_files.proofs.BlankFiles.{machine-blank}
 use Rattle.ngc_machine_files.proofs.machine_reader.Machine+Global.read.Goals as goal
 
 pub machine-requires : goal.machine-requires

@@ -1,5 +1,5 @@
 use Rattle.std.proofs.Common.{rules}
-use Rattle.ngc_machine_files.proofs.Named.{text_kept}
+use Rattle.ngc_machine_files.proofs.StoredNames.{text_kept}
 use Rattle.ngc_machine_files.proofs.name.Name.of.Goals as goal
 
 pub invariant_of-result : goal.invariant_of-result

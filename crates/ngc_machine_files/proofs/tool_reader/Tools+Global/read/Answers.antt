@@ -1,7 +1,7 @@
 use Rattle.std.proofs.Common.{sym, ◌∙◌}
 use Rattle.ngc_machine_files.specs.ToolText.{values_of}
-use Rattle.ngc_machine_files.proofs.Good.{AreEntries-from_ranges}
-use Rattle.ngc_machine_files.proofs.Blank.{table-blank}
+use Rattle.ngc_machine_files.proofs.GoodFiles.{AreEntries-from_ranges}
+use Rattle.ngc_machine_files.proofs.BlankFiles.{table-blank}
 use Rattle.ngc_machine_files.proofs.tool_reader.Tools+Global.read.Goals as goal
 
 pub tools-requires : goal.tools-requires

@@ -1,7 +1,7 @@
 -- Each effect in order.
 use Rattle.std.proofs.Common.{rules}
 use Rattle.ngc_modal_state.specs.Effects.{first_effects}
-use Rattle.ngc_modal_state.proofs.Standing.{adds, ends, mapped, feed_alone}
+use Rattle.ngc_modal_state.proofs.PresentEffects.{adds, ends, mapped, feed_alone}
 use Rattle.ngc_modal_state.proofs.block.Block.add_first_words.Goals as goal
 
 pub returns-clause-items : goal.returns-clause-items

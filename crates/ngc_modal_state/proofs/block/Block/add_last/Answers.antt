@@ -1,7 +1,7 @@
 -- Each effect in order.
 use Rattle.std.proofs.Common.{rules}
 use Rattle.ngc_modal_state.specs.Effects.{last_effects}
-use Rattle.ngc_modal_state.proofs.Standing.{adds, ends, mapped}
+use Rattle.ngc_modal_state.proofs.PresentEffects.{adds, ends, mapped}
 use Rattle.ngc_modal_state.proofs.block.Block.add_last.Goals as goal
 
 pub returns-clause-items : goal.returns-clause-items

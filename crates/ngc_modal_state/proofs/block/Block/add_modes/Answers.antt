@@ -1,7 +1,7 @@
 -- Each effect in order.
 use Rattle.std.proofs.Common.{rules}
 use Rattle.ngc_modal_state.specs.Effects.{mode_effects}
-use Rattle.ngc_modal_state.proofs.Standing.{adds, ends, mapped, no_modes}
+use Rattle.ngc_modal_state.proofs.PresentEffects.{adds, ends, mapped, no_modes}
 use Rattle.ngc_modal_state.proofs.block.Block.add_modes.Goals as goal
 
 pub returns-clause-items : goal.returns-clause-items

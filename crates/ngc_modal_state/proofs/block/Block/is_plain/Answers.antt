@@ -1,6 +1,6 @@
 use Rattle.std.proofs.Common.{rules}
 use Rattle.std.proofs.lemmas.Bool.{not-true}
-use Rattle.ngc_modal_state.proofs.Plain.{plain_straight, plain_claims, no_centre, straight_idle, straight_missing, arc_idle, arc_missing}
+use Rattle.ngc_modal_state.proofs.PlainLines.{plain_straight, plain_claims, no_centre, straight_idle, straight_missing, arc_idle, arc_missing}
 use Rattle.ngc_modal_state.proofs.block.Block.is_plain.Goals as goal
 
 pub returns-in-XY-clause-straight : goal.returns-in-XY-clause-straight

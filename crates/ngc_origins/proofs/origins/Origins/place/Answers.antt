@@ -2,7 +2,7 @@ use Rattle.std.proofs.Common.{List, subst, sym}
 use Rattle.std.specs.List.{All}
 use Rattle.ngc_fixed_length.specs.declared.points.Point3.{Point3}
 use Rattle.ngc_machine_files.specs.Ranges.{IsSized, PLACE_LIMIT}
-use Rattle.ngc_origins.proofs.Placing.{replaced_sized}
+use Rattle.ngc_origins.proofs.ReplacedOrigins.{replaced_sized}
 use Rattle.ngc_origins.proofs.origins.Origins.place.Goals as goal
 
 pub invariant_of-machine : goal.invariant_of-machine

@@ -2,7 +2,7 @@ use Rattle.std.proofs.Common.{◌≡◌, to_z, of_z, arith, subst, sym}
 use Rattle.std.specs.Int.{w32}
 use Rattle.std.proofs.lemmas.Int.{ints}
 use Rattle.ngc_place.specs.Shifts.{AreShifts}
-use Rattle.ngc_place.proofs.Growth.{shifts_fit}
+use Rattle.ngc_place.proofs.GrowingIntervals.{shifts_fit}
 use Rattle.ngc_place.proofs.interval.Interval.shifts.Goals as goal
 
 pub returns-clause-limit : goal.returns-clause-limit

@@ -1,5 +1,5 @@
 use Rattle.ngc_pulses.specs.Dumping.{DumpState}
-use Rattle.ngc_pulses.proofs.Stepped.{stepped, step_added}
+use Rattle.ngc_pulses.proofs.DumpSteps.{stepped, step_added}
 use Rattle.ngc_pulses.proofs.dump.PulseDump.step_to.Goals as goal
 
 pub returns-clause-state : goal.returns-clause-state

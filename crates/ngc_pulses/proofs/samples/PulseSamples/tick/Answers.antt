@@ -1,5 +1,5 @@
 use Rattle.std.proofs.Common.{sym, ◌∙◌}
-use Rattle.ngc_pulses.proofs.Sampled.{change_begun}
+use Rattle.ngc_pulses.proofs.SampleLaws.{change_begun}
 use Rattle.ngc_pulses.proofs.samples.PulseSamples.tick.Goals as goal
 
 pub returns-in-Err-clause-fault : goal.returns-in-Err-clause-fault

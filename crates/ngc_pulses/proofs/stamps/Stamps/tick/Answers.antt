@@ -1,4 +1,4 @@
-use Rattle.ngc_pulses.proofs.Adding.{adds_both}
+use Rattle.ngc_pulses.proofs.AddedChanges.{adds_both}
 use Rattle.ngc_pulses.proofs.stamps.Stamps.tick.Goals as goal
 
 pub returns-clause-adds : goal.returns-clause-adds

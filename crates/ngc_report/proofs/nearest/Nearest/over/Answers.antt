@@ -1,7 +1,7 @@
 use Rattle.std.proofs.Common.{◌≡◌, ◌∙◌, ◌<◌, sym, arith, take, length, get_or}
 use Rattle.std.proofs.lemmas.List.{get_or-take, length-take-le}
 use Rattle.ngc_certificate_text.specs.Certificate.{Entry, entry_at}
-use Rattle.ngc_certificate_text.proofs.Spelled.{entry_there}
+use Rattle.ngc_certificate_text.proofs.WrittenCertificate.{entry_there}
 use Rattle.ngc_machine_files.specs.Machine.{file_of}
 use Rattle.ngc_report.specs.Nearing.{over_motion}
 use Rattle.ngc_report.proofs.Folds.{next_of}

@@ -11,4 +11,4 @@ returns g c =
     let hy : to_z w32 (of_z w32 b.high.y) ≡ b.high.y = omega (arith, ints) in
     let lz : to_z w32 (of_z w32 b.low.z) ≡ b.low.z = omega (arith, ints) in
     let hz : to_z w32 (of_z w32 b.high.z) ≡ b.high.z = omega (arith, ints) in
-    rw (c.axis_room.ensures, c.axis_room-2.ensures, c.axis_room-3.ensures, lx, hx, ly, hy, lz, hz) (search rules)
+    rw (c.axis_space.ensures, c.axis_space-2.ensures, c.axis_space-3.ensures, lx, hx, ly, hy, lz, hz) (search rules)

@@ -1,4 +1,4 @@
-use Rattle.ngc_run_through.proofs.Added.{front_begun_all}
+use Rattle.ngc_run_through.proofs.TwoParts.{front_begun_all}
 use Rattle.ngc_run_through.proofs.recorder.Recorder.finish.Goals as goal
 
 pub returns-in-Err-write_out-clause-fault : goal.returns-in-Err-write_out-clause-fault

@@ -1,5 +1,5 @@
 use Rattle.std.proofs.Common.{◌+◌, ap, refl}
-use Rattle.ngc_run_through.proofs.Quiet.{quiet_recorded}
+use Rattle.ngc_run_through.proofs.QuietTicks.{quiet_recorded}
 use Rattle.ngc_run_through.proofs.recorder.Recorder.rest.Goals as goal
 
 pub returns : goal.returns

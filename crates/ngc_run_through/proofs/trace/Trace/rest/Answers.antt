@@ -1,7 +1,7 @@
 use Rattle.std.proofs.Common.{ap, replicate, sym, ◌∙◌}
 use Rattle.ngc_run_through.specs.declared.trace.Trace.TheVariants.{Pulses, Samples}
 use Rattle.ngc_run_through.specs.Tracing.{trace_after}
-use Rattle.ngc_run_through.proofs.Quiet.{quiet, quiet_dumped, quiet_rested}
+use Rattle.ngc_run_through.proofs.QuietTicks.{quiet, quiet_dumped, quiet_rested}
 use Rattle.ngc_run_through.proofs.trace.Trace.rest.Goals as goal
 
 pub returns-in-Pulses : goal.returns-in-Pulses

@@ -1,5 +1,5 @@
 use Rattle.std.proofs.Common.{◌∙◌}
-use Rattle.ngc_text.proofs.Firsts.{taken}
+use Rattle.ngc_text.proofs.ListPrefixes.{taken}
 use Rattle.ngc_setup_sheet.proofs.mistake.Word.of.Goals as goal
 
 pub returns : goal.returns

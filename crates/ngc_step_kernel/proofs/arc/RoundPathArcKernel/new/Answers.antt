@@ -6,7 +6,7 @@ use Rattle.ngc_fixed_length.specs.declared.points.Point3.{Point3}
 use Rattle.ngc_fixed_length.specs.declared.points.StepPos.{StepPos}
 use Rattle.ngc_step_kernel.specs.Course.{course_at}
 use Rattle.ngc_step_kernel.specs.PlaneCourse.{laid, FollowsInPlane}
-use Rattle.ngc_step_kernel.specs.Round.{seen_spot, seen_height}
+use Rattle.ngc_step_kernel.specs.Round.{grid_point_in_plane, seen_height}
 use Rattle.ngc_step_kernel.proofs.ArcPaths.{arc_path}
 use Rattle.ngc_step_kernel.proofs.EndLemmas.{end_seen, unit_back}
 use Rattle.ngc_step_kernel.proofs.arc.RoundPathArcKernel.new.Goals as goal
@@ -53,8 +53,8 @@ returns-clause-arc g c =
     (c.around-plan.ensures.follows a c.of.ensures.value c.of.ensures.arc) in
     let unit = unit_back c.plane-plane.result c.turn-turn.result (grid c.args.step a.start)
     (grid c.args.step a.end) plan.start plan.end low high _ c.along.result.points
-    (c.around-plan.ensures.start ∙ c.spot-start.ensures.value ∙ ap (λ (p : StepPos). seen_spot c.plane-plane.result c.turn-turn.result p) from)
-    (c.around-plan.ensures.end ∙ c.spot-end.ensures.value ∙ ap (λ (p : StepPos). seen_spot c.plane-plane.result c.turn-turn.result p) to)
+    (c.around-plan.ensures.start ∙ c.spot-start.ensures.value ∙ ap (λ (p : StepPos). grid_point_in_plane c.plane-plane.result c.turn-turn.result p) from)
+    (c.around-plan.ensures.end ∙ c.spot-end.ensures.value ∙ ap (λ (p : StepPos). grid_point_in_plane c.plane-plane.result c.turn-turn.result p) to)
     starts ends c.along.ensures.unit in
     arc_path c.args.step a plan c.plane-plane.result c.turn-turn.result low high c.along.result.points c.requires c.plane-plane.ensures c.turn-turn.ensures
     starts ends c.around-plan.ensures.plan follows c.along.ensures.points unit

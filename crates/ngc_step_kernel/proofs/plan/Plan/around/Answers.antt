@@ -1,6 +1,6 @@
 use Rattle.std.proofs.Common.{refl, sym, ◌∙◌, arith}
 use Rattle.ngc_step_kernel.proofs.AroundLemmas.{joint_of, begun_small, begun_spots, begun_apart, reach_begun, begun_of, first_small, some_left, some_root}
-use Rattle.ngc_step_kernel.proofs.BentGiven.{bent_seen}
+use Rattle.ngc_step_kernel.proofs.JointPlanGiven.{bent_seen}
 use Rattle.ngc_step_kernel.proofs.CourseFollows.{straight_seen, round_seen, wide_seen, root_told}
 use Rattle.ngc_step_kernel.proofs.Settings.{some_way}
 use Rattle.ngc_step_kernel.specs.View.{squared}
@@ -44,8 +44,8 @@ spoke-last-requires g c = radius_way c.args.view.now.end c.requires.view.end
 pub quadrants_left-requires-clause-start : goal.quadrants_left-requires-clause-start
 quadrants_left-requires-clause-start g c = radius_way c.args.view.now.start c.requires.view.start
 
-pub by_joint-requires-clause-joins : goal.by_joint-requires-clause-joins
-by_joint-requires-clause-joins g c =
+pub through_joint-requires-clause-joins : goal.through_joint-requires-clause-joins
+through_joint-requires-clause-joins g c =
     let r = c.requires in
     let other = c.circle_of-circle.ensures.bound in
     let joint = joint_of c.args.step c.ceil-radius.result c.circle_of-circle.result c.square.result c.args.view.now.centre c.args.view.now.start
@@ -57,8 +57,8 @@ by_joint-requires-clause-joins g c =
           (nearest_reach c.args.step c.args.view.now.centre c.args.view.now.start c.args.start r.view.start r.start_at r.greatest) joint.reach,
     )
 
-pub by_joint-requires-clause-ends : goal.by_joint-requires-clause-ends
-by_joint-requires-clause-ends g c =
+pub through_joint-requires-clause-ends : goal.through_joint-requires-clause-ends
+through_joint-requires-clause-ends g c =
     let r = c.requires in
     let other = c.circle_of-circle.ensures.bound in
     let joint = joint_of c.args.step c.ceil-radius.result c.circle_of-circle.result c.square.result c.args.view.now.centre c.args.view.now.start
@@ -134,7 +134,7 @@ returns-then-is_tiny-clause-follows g c = λ a seen arc.
 pub returns-in-None-clause-follows : goal.returns-in-None-clause-follows
 returns-in-None-clause-follows g c = λ a seen arc.
     bent_seen a c.args.step c.ceil-radius.result c.ceil-other.result c.circle_of-circle.result c.limit_of-limit.result c.args.view.now c.args.start c.args.end
-    c.joint-joint.result c.of-entry.result.spot c.of-entry.result.spoke c.spoke-last.result c.by_joint.result seen (record {
+    c.joint-joint.result c.of-entry.result.spot c.of-entry.result.spoke c.spoke-last.result c.through_joint.result seen (record {
       arc = arc;
       least = c.requires.least;
       most = c.requires.greatest;
@@ -155,8 +155,8 @@ returns-in-None-clause-follows g c = λ a seen arc.
       end_way = c.spoke-last.ensures.place;
       end_out = c.spoke-last.ensures.out (some_way _ _ c.requires.view.end.some);
       none = sym c.quadrants_left.ensures ∙ c.in-None.is;
-      plan = c.by_joint.ensures.plan;
-      bent = c.by_joint.ensures.bent;
+      plan = c.through_joint.ensures.plan;
+      bent = c.through_joint.ensures.bent;
     })
 
 pub returns-in-Some-clause-follows : goal.returns-in-Some-clause-follows
@@ -281,20 +281,20 @@ quadrants_left-requires-clause-end g c = radius_way c.args.view.now.end c.requir
 pub quadrants_left-requires-clause-last : goal.quadrants_left-requires-clause-last
 quadrants_left-requires-clause-last g c = c.spoke-last.ensures.small
 
-pub by_joint-requires-clause-start : goal.by_joint-requires-clause-start
-by_joint-requires-clause-start g c = c.requires.start
+pub through_joint-requires-clause-start : goal.through_joint-requires-clause-start
+through_joint-requires-clause-start g c = c.requires.start
 
-pub by_joint-requires-clause-joint : goal.by_joint-requires-clause-joint
-by_joint-requires-clause-joint g c = c.joint-joint.ensures.range
+pub through_joint-requires-clause-joint : goal.through_joint-requires-clause-joint
+through_joint-requires-clause-joint g c = c.joint-joint.ensures.range
 
-pub by_joint-requires-clause-end : goal.by_joint-requires-clause-end
-by_joint-requires-clause-end g c = c.requires.end
+pub through_joint-requires-clause-end : goal.through_joint-requires-clause-end
+through_joint-requires-clause-end g c = c.requires.end
 
-pub by_joint-requires-clause-some : goal.by_joint-requires-clause-some
-by_joint-requires-clause-some g c = omega (arith, c.requires.least)
+pub through_joint-requires-clause-some : goal.through_joint-requires-clause-some
+through_joint-requires-clause-some g c = omega (arith, c.requires.least)
 
-pub by_joint-requires-clause-short : goal.by_joint-requires-clause-short
-by_joint-requires-clause-short g c = c.requires.greatest
+pub through_joint-requires-clause-short : goal.through_joint-requires-clause-short
+through_joint-requires-clause-short g c = c.requires.greatest
 
 pub round-requires-clause-some : goal.round-requires-clause-some
 round-requires-clause-some g c = omega (arith, c.requires.least)
@@ -315,13 +315,13 @@ pub round-requires-clause-end_spoke : goal.round-requires-clause-end_spoke
 round-requires-clause-end_spoke g c = c.spoke-last.ensures.small
 
 pub returns-in-None-clause-plan : goal.returns-in-None-clause-plan
-returns-in-None-clause-plan g c = c.by_joint.ensures.plan
+returns-in-None-clause-plan g c = c.through_joint.ensures.plan
 
 pub returns-in-None-clause-start : goal.returns-in-None-clause-start
-returns-in-None-clause-start g c = c.by_joint.ensures.start
+returns-in-None-clause-start g c = c.through_joint.ensures.start
 
 pub returns-in-None-clause-end : goal.returns-in-None-clause-end
-returns-in-None-clause-end g c = c.by_joint.ensures.end
+returns-in-None-clause-end g c = c.through_joint.ensures.end
 
 pub returns-in-None-clause-roots : goal.returns-in-None-clause-roots
 returns-in-None-clause-roots g c = omega (arith, c.ceil-radius.ensures.counted, c.ceil-other.ensures.counted)

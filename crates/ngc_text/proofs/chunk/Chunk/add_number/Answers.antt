@@ -1,5 +1,5 @@
 use Rattle.std.proofs.Common.{arith}
-use Rattle.ngc_text.proofs.Spelled.{added}
+use Rattle.ngc_text.proofs.NumberTexts.{added}
 use Rattle.ngc_text.proofs.chunk.Chunk.add_number.Goals as goal
 
 pub returns-clause-text : goal.returns-clause-text

@@ -1,5 +1,5 @@
 use Rattle.std.proofs.Common.{◌≡◌, ◌<◌, ◌∙◌, ap, sym, refl, Some, length, arith}
-use Rattle.ngc_line_reader.specs.Kept.{LineKept, by_symbols, parts_in, parts_at, symbols_at}
+use Rattle.ngc_line_reader.specs.Kept.{StoredLine, by_symbols, parts_in, parts_at, symbols_at}
 use Rattle.ngc_line_reader.specs.ScanLine.{parts_of}
 use Rattle.ngc_line_reader.specs.ProgramView.{lines_in}
 use Rattle.ngc_line_reader.proofs.LinesInStore.{length-lines_from}
@@ -14,5 +14,5 @@ returns-in-Symbols g c = λ bytes is.
     c.index.ensures is in
     let kept : parts_at all c.index.result.now.parts.kept ≡ by_symbols (symbols_at all c.in-Symbols.parts) = ap (parts_at all) c.in-Symbols.is in
     shown_line bytes (symbols_at all c.in-Symbols.parts) c.index.result.now.parts.deleted c.index.result.now.parts.deleted (parts_of c.load.new.line)
-    (sym same ∙ ap (λ (k : LineKept). Some (c.index.result.now.parts.deleted, k)) kept) refl
+    (sym same ∙ ap (λ (k : StoredLine). Some (c.index.result.now.parts.deleted, k)) kept) refl
     c.load.ensures.words c.load.ensures.settings c.load.ensures.symbols

@@ -1,8 +1,0 @@
-use Rattle.std.proofs.lemmas.Bool.{not-true}
-use Rattle.ngc_certificate_text.proofs.LinesSoFar.{goes_too_far, some_items}
-use Rattle.ngc_certificate_text.proofs.certificate_lines.CertificateLines.goes_too_far.Goals as goal
-
-pub returns-then-has_ended : goal.returns-then-has_ended
-returns-then-has_ended c is reading rest =
-    goes_too_far c.args.self.now rest (c.has_ended.ensures.0 c.if-has_ended.true)
-    (some_items c.is_empty.result c.args.self.now.cut.items c.is_empty.ensures (not-true c.is_empty.result is)) reading

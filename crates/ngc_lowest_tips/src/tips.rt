@@ -1,0 +1,129 @@
+//! The lowest heights of a program's commands.
+ghost use Rattle.std.specs.Prelude.{◌≡◌, ◌<◌, length, IfOk, IfSome, OnOk};
+ghost use Rattle.std.specs.List.{position};
+ghost use Rattle.ngc_frames.specs.InForce.{frame_at};
+ghost use Rattle.ngc_frames.specs.Walks.{WalksOver};
+ghost use Rattle.ngc_lowest_tips.specs.Tips.{is_same_pair, lowest_tips, tip_of, tool_after};
+ghost use Rattle.ngc_lowest_tips.specs.Tips.{number_of, with_new, with_tip};
+
+use crate::heights::{height_in, lowest_of};
+use crate::tip::{LowestTip, is_same_pair, lower};
+use ngc_commands::{Action, Command};
+use ngc_frames::{Frame, FrameHistory, FrameWalk};
+use ngc_machine_files::Tool;
+use std::alloc::{AllocError, Allocator};
+
+fn number_of(tool: &Option<Tool>) -> Option<u32>
+    ensures { result ≡ number_of tool.now }
+{
+    match tool {
+        None => None,
+        Some(tool) => Some(tool.number),
+    }
+}
+
+fn tool_after(had: Option<u32>, action: &Action) -> Option<u32>
+    ensures { result ≡ tool_after had action.now }
+{
+    match action {
+        Action::Mount(tool) => number_of(tool),
+        _ => had,
+    }
+}
+
+// Returns the lowest height of an action in a frame, with a mounted tool.
+fn tip_of(frame: &Frame, tool: Option<u32>, line: u32, action: &Action) -> Option<LowestTip>
+    ensures { result ≡ tip_of frame.now tool line action.now }
+{
+    match action {
+        Action::Move(motion) => Some(LowestTip {
+            system: frame.system(),
+            tool,
+            height: height_in(frame, lowest_of(&motion.way)),
+            line,
+        }),
+        _ => None,
+    }
+}
+
+fn tip_at<A: Allocator>(
+    history: &FrameHistory<A>,
+    walk: &mut FrameWalk,
+    tool: Option<u32>,
+    command: &Command,
+) -> Option<LowestTip>
+    requires { WalksOver history.now.start history.now.changes.items walk.old }
+    ensures value { result ≡ tip_of
+        (frame_at history.now.start history.now.changes.items command.now.line) tool
+        command.now.line command.now.action }
+    ensures walk { WalksOver history.now.start history.now.changes.items walk.new }
+{
+    let frame = walk.in_force(history, command.line);
+    tip_of(&frame.frame, tool, command.line, &command.action)
+}
+
+// Returns where the height of the same coordinate system and tool is in a list.
+fn position_of(tips: &[LowestTip], new: &LowestTip) -> Option<usize>
+    ensures value { result ≡ position (λ t. is_same_pair t new.now) tips.now }
+    ensures within { IfSome result (λ i. i < length tips.now) }
+{
+    tips.iter().position(|tip| is_same_pair(tip, new))
+}
+
+fn add_new<A: Allocator>(tips: &mut Vec<LowestTip, A>, new: &LowestTip) -> Result<(), AllocError>
+    ensures { OnOk result (tips.new.items ≡ with_new tips.old.items new.now) }
+{
+    match position_of(tips.as_slice(), new) {
+        Some(i) => {
+            tips[i] = lower(tips[i], *new);
+            Ok(())
+        }
+        None => match tips.push(*new) {
+            Ok(()) => Ok(()),
+            Err(_) => Err(AllocError),
+        },
+    }
+}
+
+fn add_tip<A: Allocator>(
+    tips: &mut Vec<LowestTip, A>,
+    tip: &Option<LowestTip>,
+) -> Result<(), AllocError>
+    ensures { OnOk result (tips.new.items ≡ with_tip tips.old.items tip.now) }
+{
+    match tip {
+        None => Ok(()),
+        Some(new) => add_new(tips, new),
+    }
+}
+
+/// Returns the lowest height that the motions of a program go to, for each coordinate system and
+/// mounted tool, in the order of their first motions. `history` has the program's frames at a
+/// setting of block delete, and `commands` its commands there.
+///
+/// A height is in the program's coordinates: that of the tool's tip if its length offset is in
+/// force, otherwise that of the spindle nose. A motion's start doesn't count, since it is the end
+/// of an earlier motion. Of several motions that go equally low, the first counts. Motions home
+/// (G28, G30) and in machine coordinates (G53) count too.
+///
+/// It returns an error only if memory runs out.
+pub fn lowest_tips<A: Allocator + Copy>(
+    alloc: A,
+    history: &FrameHistory<A>,
+    commands: &[Command],
+) -> Result<Vec<LowestTip, A>, AllocError>
+    ensures { IfOk result (λ v. v.items
+        ≡ lowest_tips history.now.start history.now.changes.items commands.now) }
+{
+    let mut walk = FrameWalk::start(history);
+    let mut tool = None;
+    let mut tips = Vec::new(alloc);
+    for command in commands {
+        let tip = tip_at(history, &mut walk, tool, command);
+        match add_tip(&mut tips, &tip) {
+            Ok(()) => tool = tool_after(tool, &command.action),
+            Err(fault) => return Err(fault),
+        }
+    }
+    Ok(tips)
+}

@@ -1,5 +1,0 @@
-use Rattle.ngc_report.proofs.Tests.{gap_law}
-use Rattle.ngc_report.proofs.laws.gap_tells.Goals as goal
-
-pub returns : goal.returns
-returns c = gap_law

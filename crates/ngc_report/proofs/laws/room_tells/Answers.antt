@@ -1,5 +1,0 @@
-use Rattle.ngc_report.proofs.Tests.{room_law}
-use Rattle.ngc_report.proofs.laws.room_tells.Goals as goal
-
-pub returns : goal.returns
-returns c = room_law

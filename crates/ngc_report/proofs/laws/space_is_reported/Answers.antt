@@ -1,0 +1,5 @@
+use Rattle.ngc_report.proofs.Tests.{room_law}
+use Rattle.ngc_report.proofs.laws.space_is_reported.Goals as goal
+
+pub returns : goal.returns
+returns c = room_law

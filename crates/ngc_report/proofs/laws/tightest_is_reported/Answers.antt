@@ -1,0 +1,5 @@
+use Rattle.ngc_report.proofs.Tests.{tightest_law}
+use Rattle.ngc_report.proofs.laws.tightest_is_reported.Goals as goal
+
+pub returns : goal.returns
+returns c = tightest_law

@@ -1,5 +1,0 @@
-use Rattle.ngc_report.proofs.Tests.{tightest_law}
-use Rattle.ngc_report.proofs.laws.tightest_tells.Goals as goal
-
-pub returns : goal.returns
-returns c = tightest_law

@@ -1,0 +1,58 @@
+-- The lines of a file, in order.
+use Rattle.std.proofs.Common.{◌≡◌, ℕ, ◌+◌, ◌<◌, ◌≤◌, List, [], ◌∷◌, ◌++◌, length, Bool, true, false, cond, refl, ap, sym, ◌∙◌, arith}
+use Rattle.std.specs.Prelude.{◌==◌}
+use Rattle.std.proofs.lemmas.List.{append-nil}
+use Rattle.ngc_text.specs.Shown.{shown_line}
+use Rattle.ngc_setup_sheet.specs.Quoted.{longer_first, lines_of, line_of, rest_after_line, sought, found_or, quote_from}
+use Rattle.ngc_setup_sheet.specs.declared.quoted.Seek.{Seek}
+
+-- a byte that is no line feed
+longer : (b : ℕ) (bytes : List ℕ) (line rest : List ℕ) → lines_of bytes ≡ line ∷ lines_of rest → longer_first b (lines_of bytes) ≡ (b ∷ line) ∷ lines_of rest
+longer b bytes line rest h = ap (longer_first b) h
+
+step : (b : ℕ) (feed : Bool) (bytes : List ℕ) → longer_first b (lines_of bytes) ≡ (b ∷ line_of bytes) ∷ lines_of (rest_after_line bytes)
+    → cond feed ([] ∷ lines_of bytes) (longer_first b (lines_of bytes)) ≡ cond feed [] (b ∷ line_of bytes) ∷ lines_of (cond feed bytes (rest_after_line bytes))
+step b true bytes h = refl
+step b false bytes h = h
+
+pub lines_of-split : (bytes : List ℕ) → 0 < length bytes → lines_of bytes ≡ line_of bytes ∷ lines_of (rest_after_line bytes)
+lines_of-split [] h = absurd (omega arith)
+lines_of-split (b ∷ []) h = step b (b == 10) [] refl
+lines_of-split (b ∷ c ∷ bytes) h =
+    step b (b == 10) (c ∷ bytes) (longer b (c ∷ bytes) (line_of (c ∷ bytes)) (rest_after_line (c ∷ bytes)) (lines_of-split (c ∷ bytes) (omega arith)))
+
+shorter : (feed : Bool) (bytes rest : List ℕ) → length rest ≤ length bytes → length (cond feed bytes rest) ≤ length bytes
+shorter true bytes rest h = omega arith
+shorter false bytes rest h = h
+
+pub rest_after_line-length : (bytes : List ℕ) → length (rest_after_line bytes) ≤ length bytes
+rest_after_line-length [] = omega arith
+rest_after_line-length (b ∷ bytes) =
+    let h : length (cond (b == 10) bytes (rest_after_line bytes)) ≤ length bytes = shorter (b == 10) bytes (rest_after_line bytes) (rest_after_line-length bytes) in
+    omega arith
+
+pub rest_after_line-less : (bytes : List ℕ) → 0 < length bytes → length (rest_after_line bytes) < length bytes
+rest_after_line-less [] h = absurd (omega arith)
+rest_after_line-less (b ∷ bytes) h =
+    let h : length (cond (b == 10) bytes (rest_after_line bytes)) ≤ length bytes = shorter (b == 10) bytes (rest_after_line bytes) (rest_after_line-length bytes) in
+    omega arith
+
+pub quote_from-next : (header key : List ℕ) (ahead number : ℕ) (bytes line behind : List ℕ) (is : Seek) → 0 < length bytes → line ≡ line_of bytes →
+    behind ≡ rest_after_line bytes
+    → is ≡ sought header key ahead line
+    → quote_from header key ahead number (lines_of bytes) ≡ found_or is (shown_line number line)
+    (λ still. quote_from header key still (number + 1) (lines_of behind))
+quote_from-next header key ahead number bytes line behind is h l b s =
+    ap (quote_from header key ahead number) (lines_of-split bytes h) ∙ rw (s, l, b) refl
+
+pub filled : (xs : List ℕ) → (length xs == 0) ≡ false → 0 < length xs
+filled [] h = cc
+filled (x ∷ xs) h = omega arith
+
+-- ---- what is collected at the end of the search
+
+pub quoted_at : (start chunk now text all : List ℕ) → chunk ≡ start → now ≡ chunk ++ text → all ≡ text → now ≡ start ++ all
+quoted_at start chunk now text all h k a = k ∙ ap (λ l. l ++ text) h ∙ ap (λ l. start ++ l) (sym a)
+
+pub unquoted : (start chunk all : List ℕ) → chunk ≡ start → all ≡ [] → chunk ≡ start ++ all
+unquoted start chunk all h a = h ∙ sym (append-nil start) ∙ ap (λ l. start ++ l) (sym a)
