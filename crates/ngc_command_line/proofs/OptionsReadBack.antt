@@ -89,39 +89,39 @@ list_spells (Some program) (Some machine) None true = (refl, (refl, refl, refl, 
 list_spells (Some program) (Some machine) (Some tools) false = (refl, (refl, refl, refl, refl, refl, refl))
 list_spells (Some program) (Some machine) (Some tools) true = (refl, (refl, refl, refl, refl, refl, refl))
 
-list_asked : (program machine tools : Option Text) (delete : Bool) (found : Option (Text × List Row)) (options : Options) →
+requested_list : (program machine tools : Option Text) (delete : Bool) (found : Option (Text × List Row)) (options : Options) →
     FindsList program machine tools delete found
     → AreOptions found options → IsListRequest program machine tools delete options
-list_asked program machine tools delete None options finds are = absurd finds
-list_asked program machine tools delete (Some found) (ToList list) finds are =
+requested_list program machine tools delete None options finds are = absurd finds
+requested_list program machine tools delete (Some found) (ToList list) finds are =
     (are.1.program ∙ finds.1, are.1.machine ∙ finds.2, are.1.tools ∙ finds.3, are.1.delete ∙ finds.4, none_replaced found.1 list.origins are.1.origins finds.5)
-list_asked program machine tools delete (Some found) (ToCertify certify) finds are =
+requested_list program machine tools delete (Some found) (ToCertify certify) finds are =
     other_name (codes "list") (codes "certify") (sym finds.0 ∙ are.0) (λ lengths. omega (arith, lengths))
-list_asked program machine tools delete (Some found) (ToCheck check) finds are =
+requested_list program machine tools delete (Some found) (ToCheck check) finds are =
     other_name (codes "list") (codes "check") (sym finds.0 ∙ are.0) (λ lengths. omega (arith, lengths))
-list_asked program machine tools delete (Some found) (ToRun run) finds are =
+requested_list program machine tools delete (Some found) (ToRun run) finds are =
     no_run (codes "list") run.recording (sym finds.0 ∙ are.0) (λ three. omega (arith, three)) (λ six. omega (arith, six))
-list_asked program machine tools delete (Some found) (ToRunThrough run) finds are =
+requested_list program machine tools delete (Some found) (ToRunThrough run) finds are =
     no_run (codes "list") run.recording (sym finds.0 ∙ are.0) (λ three. omega (arith, three)) (λ six. omega (arith, six))
-list_asked program machine tools delete (Some found) (ToLive live) finds are =
+requested_list program machine tools delete (Some found) (ToLive live) finds are =
     other_third (codes "list") (codes "live") (sym finds.0 ∙ are.0) (λ thirds. omega (arith, thirds))
-list_asked program machine tools delete (Some found) (ToDraw draw) finds are =
+requested_list program machine tools delete (Some found) (ToDraw draw) finds are =
     other_letter (codes "list") (codes "draw") (sym finds.0 ∙ are.0) (λ letters. omega (arith, letters))
-list_asked program machine tools delete (Some found) (ToShow show) finds are =
+requested_list program machine tools delete (Some found) (ToShow show) finds are =
     other_letter (codes "list") (codes "show") (sym finds.0 ∙ are.0) (λ letters. omega (arith, letters))
-list_asked program machine tools delete (Some found) (ToReport report) finds are =
+requested_list program machine tools delete (Some found) (ToReport report) finds are =
     other_name (codes "list") (codes "report") (sym finds.0 ∙ are.0) (λ lengths. omega (arith, lengths))
-list_asked program machine tools delete (Some found) (ToPlace place) finds are =
+requested_list program machine tools delete (Some found) (ToPlace place) finds are =
     other_name (codes "list") (codes "place") (sym finds.0 ∙ are.0) (λ lengths. omega (arith, lengths))
-list_asked program machine tools delete (Some found) (ToAdapt adapt) finds are =
+requested_list program machine tools delete (Some found) (ToAdapt adapt) finds are =
     other_letter (codes "list") (codes "adapt") (sym finds.0 ∙ are.0) (λ letters. omega (arith, letters))
-list_asked program machine tools delete (Some found) (ToMachine made) finds are =
+requested_list program machine tools delete (Some found) (ToMachine made) finds are =
     other_letter (codes "list") (codes "machine") (sym finds.0 ∙ are.0) (λ letters. omega (arith, letters))
-list_asked program machine tools delete (Some found) (ToExplain number) finds are =
+requested_list program machine tools delete (Some found) (ToExplain number) finds are =
     other_name (codes "list") (codes "explain") (sym finds.0 ∙ are.0) (λ differ. omega (arith, differ))
-list_asked program machine tools delete (Some found) (ToHelp command) finds are =
+requested_list program machine tools delete (Some found) (ToHelp command) finds are =
     other_letter (codes "list") (codes "help") (sym finds.0 ∙ are.0) (λ differ. omega (arith, differ))
-list_asked program machine tools delete (Some found) ToVersion finds are =
+requested_list program machine tools delete (Some found) ToVersion finds are =
     other_name (codes "list") (codes "version") (sym finds.0 ∙ are) (λ differ. omega (arith, differ))
 
 pub list_taken : (words : List Text) (program machine tools : Option Text) (delete : Bool) → words ≡ list_words program machine tools delete → IsTaken words
@@ -140,7 +140,7 @@ pub list_read : (words : List Text) (program machine tools : Option Text) (delet
     → AreOptions (subcommand_of ngc_app words) options → IsListRequest program machine tools delete options
 list_read words program machine tools delete options spelled are =
     let Are : List Text → Type 0 = λ ws. AreOptions (subcommand_of ngc_app ws) options in
-    list_asked program machine tools delete _ options (list_spells program machine tools delete).1 (subst Are spelled are)
+    requested_list program machine tools delete _ options (list_spells program machine tools delete).1 (subst Are spelled are)
 
 -- the values of `check` that were found are these
 abbrev FindsCheck : Text → Text → Text → Option Text → Option (Text × List Row) → Type 0
@@ -159,43 +159,43 @@ check_spells machine tools certificate (Some program) = (refl, (refl, refl, refl
 pub same_text : (a b : Text) (o : Option Text) → Some a ≡ o → o ≡ Some b → a ≡ b
 same_text a b o first second = same_Some _ _ (first ∙ second)
 
-check_asked : (machine tools certificate : Text) (program : Option Text) (found : Option (Text × List Row)) (options : Options)
+requested_check : (machine tools certificate : Text) (program : Option Text) (found : Option (Text × List Row)) (options : Options)
     → FindsCheck machine tools certificate program found → AreOptions found options → IsCheckRequest machine tools certificate program options
-check_asked machine tools certificate program None options finds are = absurd finds
-check_asked machine tools certificate program (Some found) (ToCheck check) finds are = (
+requested_check machine tools certificate program None options finds are = absurd finds
+requested_check machine tools certificate program (Some found) (ToCheck check) finds are = (
   same_text _ _ _ are.1.machine finds.1,
   same_text _ _ _ are.1.tools finds.2,
   same_text _ _ _ are.1.certificate finds.3,
   are.1.program ∙ finds.4,
   none_replaced found.1 check.origins are.1.origins finds.5,
 )
-check_asked machine tools certificate program (Some found) (ToCertify certify) finds are =
+requested_check machine tools certificate program (Some found) (ToCertify certify) finds are =
     other_name (codes "check") (codes "certify") (sym finds.0 ∙ are.0) (λ lengths. omega (arith, lengths))
-check_asked machine tools certificate program (Some found) (ToList list) finds are =
+requested_check machine tools certificate program (Some found) (ToList list) finds are =
     other_name (codes "check") (codes "list") (sym finds.0 ∙ are.0) (λ lengths. omega (arith, lengths))
-check_asked machine tools certificate program (Some found) (ToRun run) finds are =
+requested_check machine tools certificate program (Some found) (ToRun run) finds are =
     no_run (codes "check") run.recording (sym finds.0 ∙ are.0) (λ three. omega (arith, three)) (λ six. omega (arith, six))
-check_asked machine tools certificate program (Some found) (ToRunThrough run) finds are =
+requested_check machine tools certificate program (Some found) (ToRunThrough run) finds are =
     no_run (codes "check") run.recording (sym finds.0 ∙ are.0) (λ three. omega (arith, three)) (λ six. omega (arith, six))
-check_asked machine tools certificate program (Some found) (ToLive live) finds are =
+requested_check machine tools certificate program (Some found) (ToLive live) finds are =
     other_letter (codes "check") (codes "live") (sym finds.0 ∙ are.0) (λ letters. omega (arith, letters))
-check_asked machine tools certificate program (Some found) (ToDraw draw) finds are =
+requested_check machine tools certificate program (Some found) (ToDraw draw) finds are =
     other_name (codes "check") (codes "draw") (sym finds.0 ∙ are.0) (λ lengths. omega (arith, lengths))
-check_asked machine tools certificate program (Some found) (ToShow show) finds are =
+requested_check machine tools certificate program (Some found) (ToShow show) finds are =
     other_letter (codes "check") (codes "show") (sym finds.0 ∙ are.0) (λ letters. omega (arith, letters))
-check_asked machine tools certificate program (Some found) (ToReport report) finds are =
+requested_check machine tools certificate program (Some found) (ToReport report) finds are =
     other_name (codes "check") (codes "report") (sym finds.0 ∙ are.0) (λ lengths. omega (arith, lengths))
-check_asked machine tools certificate program (Some found) (ToPlace place) finds are =
+requested_check machine tools certificate program (Some found) (ToPlace place) finds are =
     other_letter (codes "check") (codes "place") (sym finds.0 ∙ are.0) (λ letters. omega (arith, letters))
-check_asked machine tools certificate program (Some found) (ToAdapt adapt) finds are =
+requested_check machine tools certificate program (Some found) (ToAdapt adapt) finds are =
     other_letter (codes "check") (codes "adapt") (sym finds.0 ∙ are.0) (λ letters. omega (arith, letters))
-check_asked machine tools certificate program (Some found) (ToMachine made) finds are =
+requested_check machine tools certificate program (Some found) (ToMachine made) finds are =
     other_letter (codes "check") (codes "machine") (sym finds.0 ∙ are.0) (λ letters. omega (arith, letters))
-check_asked machine tools certificate program (Some found) (ToExplain number) finds are =
+requested_check machine tools certificate program (Some found) (ToExplain number) finds are =
     other_name (codes "check") (codes "explain") (sym finds.0 ∙ are.0) (λ differ. omega (arith, differ))
-check_asked machine tools certificate program (Some found) (ToHelp command) finds are =
+requested_check machine tools certificate program (Some found) (ToHelp command) finds are =
     other_name (codes "check") (codes "help") (sym finds.0 ∙ are.0) (λ differ. omega (arith, differ))
-check_asked machine tools certificate program (Some found) ToVersion finds are =
+requested_check machine tools certificate program (Some found) ToVersion finds are =
     other_name (codes "check") (codes "version") (sym finds.0 ∙ are) (λ differ. omega (arith, differ))
 
 pub check_taken : (words : List Text) (machine tools certificate : Text) (program : Option Text) → words ≡ check_words machine tools certificate program →
@@ -216,7 +216,7 @@ pub check_read : (words : List Text) (machine tools certificate : Text) (program
     → AreOptions (subcommand_of ngc_app words) options → IsCheckRequest machine tools certificate program options
 check_read words machine tools certificate program options spelled are =
     let Are : List Text → Type 0 = λ ws. AreOptions (subcommand_of ngc_app ws) options in
-    check_asked machine tools certificate program _ options (check_spells machine tools certificate program).1 (subst Are spelled are)
+    requested_check machine tools certificate program _ options (check_spells machine tools certificate program).1 (subst Are spelled are)
 
 -- the values of a run that were found are these
 abbrev FindsRun : Recording → Text → Text → Text → Option Text → Option Text → Bool → Option Text → Option (Text × List Row) → Type 0
@@ -521,11 +521,11 @@ draw_spells machine tools (Some certificate) (Some program) (Some view) true fal
 draw_spells machine tools (Some certificate) (Some program) (Some view) true true false = (refl, (refl, refl, refl, refl, refl, refl, refl, refl, refl, refl))
 draw_spells machine tools (Some certificate) (Some program) (Some view) true true true = (refl, (refl, refl, refl, refl, refl, refl, refl, refl, refl, refl))
 
-draw_asked : (machine tools : Text) (certificate program view : Option Text) (delete bodies whole : Bool) (found : Option (Text × List Row)) (options : Options)
+requested_draw : (machine tools : Text) (certificate program view : Option Text) (delete bodies whole : Bool) (found : Option (Text × List Row)) (options : Options)
     → FindsDraw machine tools certificate program view delete bodies whole found → AreOptions found options →
     IsDrawRequest machine tools certificate program view delete bodies whole options
-draw_asked machine tools certificate program view delete bodies whole None options finds are = absurd finds
-draw_asked machine tools certificate program view delete bodies whole (Some found) (ToDraw draw) finds are = (
+requested_draw machine tools certificate program view delete bodies whole None options finds are = absurd finds
+requested_draw machine tools certificate program view delete bodies whole (Some found) (ToDraw draw) finds are = (
   same_text _ _ _ are.1.machine finds.1,
   same_text _ _ _ are.1.tools finds.2,
   are.1.certificate ∙ finds.3,
@@ -536,33 +536,33 @@ draw_asked machine tools certificate program view delete bodies whole (Some foun
   are.1.whole ∙ finds.8,
   none_replaced found.1 draw.origins are.1.origins finds.9,
 )
-draw_asked machine tools certificate program view delete bodies whole (Some found) (ToLive live) finds are =
+requested_draw machine tools certificate program view delete bodies whole (Some found) (ToLive live) finds are =
     other_letter (codes "draw") (codes "live") (sym finds.0 ∙ are.0) (λ letters. omega (arith, letters))
-draw_asked machine tools certificate program view delete bodies whole (Some found) (ToList list) finds are =
+requested_draw machine tools certificate program view delete bodies whole (Some found) (ToList list) finds are =
     other_letter (codes "draw") (codes "list") (sym finds.0 ∙ are.0) (λ letters. omega (arith, letters))
-draw_asked machine tools certificate program view delete bodies whole (Some found) (ToCertify certify) finds are =
+requested_draw machine tools certificate program view delete bodies whole (Some found) (ToCertify certify) finds are =
     other_name (codes "draw") (codes "certify") (sym finds.0 ∙ are.0) (λ lengths. omega (arith, lengths))
-draw_asked machine tools certificate program view delete bodies whole (Some found) (ToCheck check) finds are =
+requested_draw machine tools certificate program view delete bodies whole (Some found) (ToCheck check) finds are =
     other_name (codes "draw") (codes "check") (sym finds.0 ∙ are.0) (λ lengths. omega (arith, lengths))
-draw_asked machine tools certificate program view delete bodies whole (Some found) (ToRun run) finds are =
+requested_draw machine tools certificate program view delete bodies whole (Some found) (ToRun run) finds are =
     no_run (codes "draw") run.recording (sym finds.0 ∙ are.0) (λ three. omega (arith, three)) (λ six. omega (arith, six))
-draw_asked machine tools certificate program view delete bodies whole (Some found) (ToRunThrough run) finds are =
+requested_draw machine tools certificate program view delete bodies whole (Some found) (ToRunThrough run) finds are =
     no_run (codes "draw") run.recording (sym finds.0 ∙ are.0) (λ three. omega (arith, three)) (λ six. omega (arith, six))
-draw_asked machine tools certificate program view delete bodies whole (Some found) (ToShow show) finds are =
+requested_draw machine tools certificate program view delete bodies whole (Some found) (ToShow show) finds are =
     other_letter (codes "draw") (codes "show") (sym finds.0 ∙ are.0) (λ letters. omega (arith, letters))
-draw_asked machine tools certificate program view delete bodies whole (Some found) (ToReport report) finds are =
+requested_draw machine tools certificate program view delete bodies whole (Some found) (ToReport report) finds are =
     other_name (codes "draw") (codes "report") (sym finds.0 ∙ are.0) (λ lengths. omega (arith, lengths))
-draw_asked machine tools certificate program view delete bodies whole (Some found) (ToPlace place) finds are =
+requested_draw machine tools certificate program view delete bodies whole (Some found) (ToPlace place) finds are =
     other_name (codes "draw") (codes "place") (sym finds.0 ∙ are.0) (λ lengths. omega (arith, lengths))
-draw_asked machine tools certificate program view delete bodies whole (Some found) (ToAdapt adapt) finds are =
+requested_draw machine tools certificate program view delete bodies whole (Some found) (ToAdapt adapt) finds are =
     other_letter (codes "draw") (codes "adapt") (sym finds.0 ∙ are.0) (λ letters. omega (arith, letters))
-draw_asked machine tools certificate program view delete bodies whole (Some found) (ToMachine made) finds are =
+requested_draw machine tools certificate program view delete bodies whole (Some found) (ToMachine made) finds are =
     other_letter (codes "draw") (codes "machine") (sym finds.0 ∙ are.0) (λ letters. omega (arith, letters))
-draw_asked machine tools certificate program view delete bodies whole (Some found) (ToExplain number) finds are =
+requested_draw machine tools certificate program view delete bodies whole (Some found) (ToExplain number) finds are =
     other_name (codes "draw") (codes "explain") (sym finds.0 ∙ are.0) (λ lengths. omega (arith, lengths))
-draw_asked machine tools certificate program view delete bodies whole (Some found) (ToHelp command) finds are =
+requested_draw machine tools certificate program view delete bodies whole (Some found) (ToHelp command) finds are =
     other_letter (codes "draw") (codes "help") (sym finds.0 ∙ are.0) (λ letters. omega (arith, letters))
-draw_asked machine tools certificate program view delete bodies whole (Some found) ToVersion finds are =
+requested_draw machine tools certificate program view delete bodies whole (Some found) ToVersion finds are =
     other_name (codes "draw") (codes "version") (sym finds.0 ∙ are) (λ lengths. omega (arith, lengths))
 
 pub draw_taken : (words : List Text) (machine tools : Text) (certificate program view : Option Text) (delete bodies whole : Bool)
@@ -584,7 +584,7 @@ pub draw_read : (words : List Text) (machine tools : Text) (certificate program 
     → IsDrawRequest machine tools certificate program view delete bodies whole options
 draw_read words machine tools certificate program view delete bodies whole options spelled are =
     let Are : List Text → Type 0 = λ ws. AreOptions (subcommand_of ngc_app ws) options in
-    draw_asked machine tools certificate program view delete bodies whole _ options (draw_spells machine tools certificate program view delete bodies whole).1 (subst Are spelled are)
+    requested_draw machine tools certificate program view delete bodies whole _ options (draw_spells machine tools certificate program view delete bodies whole).1 (subst Are spelled are)
 
 -- the values of `show` that were found are these
 abbrev FindsShow : Text → Option Text → Bool → Option (Text × List Row) → Type 0
@@ -601,37 +601,37 @@ show_spells machine None true = (refl, (refl, refl, refl, refl, refl))
 show_spells machine (Some tools) false = (refl, (refl, refl, refl, refl, refl))
 show_spells machine (Some tools) true = (refl, (refl, refl, refl, refl, refl))
 
-show_asked : (machine : Text) (tools : Option Text) (warnings : Bool) (found : Option (Text × List Row)) (options : Options)
+requested_show : (machine : Text) (tools : Option Text) (warnings : Bool) (found : Option (Text × List Row)) (options : Options)
     → FindsShow machine tools warnings found → AreOptions found options → IsShowRequest machine tools warnings options
-show_asked machine tools warnings None options finds are = absurd finds
-show_asked machine tools warnings (Some found) (ToShow show) finds are = (same_text _ _ _ are.1.machine finds.1, are.1.tools ∙ finds.2, are.1.warnings ∙ finds.3)
-show_asked machine tools warnings (Some found) (ToList list) finds are =
+requested_show machine tools warnings None options finds are = absurd finds
+requested_show machine tools warnings (Some found) (ToShow show) finds are = (same_text _ _ _ are.1.machine finds.1, are.1.tools ∙ finds.2, are.1.warnings ∙ finds.3)
+requested_show machine tools warnings (Some found) (ToList list) finds are =
     other_letter (codes "show") (codes "list") (sym finds.0 ∙ are.0) (λ letters. omega (arith, letters))
-show_asked machine tools warnings (Some found) (ToCertify certify) finds are =
+requested_show machine tools warnings (Some found) (ToCertify certify) finds are =
     other_letter (codes "show") (codes "certify") (sym finds.0 ∙ are.0) (λ letters. omega (arith, letters))
-show_asked machine tools warnings (Some found) (ToCheck check) finds are =
+requested_show machine tools warnings (Some found) (ToCheck check) finds are =
     other_letter (codes "show") (codes "check") (sym finds.0 ∙ are.0) (λ letters. omega (arith, letters))
-show_asked machine tools warnings (Some found) (ToLive live) finds are =
+requested_show machine tools warnings (Some found) (ToLive live) finds are =
     other_letter (codes "show") (codes "live") (sym finds.0 ∙ are.0) (λ letters. omega (arith, letters))
-show_asked machine tools warnings (Some found) (ToDraw draw) finds are =
+requested_show machine tools warnings (Some found) (ToDraw draw) finds are =
     other_letter (codes "show") (codes "draw") (sym finds.0 ∙ are.0) (λ letters. omega (arith, letters))
-show_asked machine tools warnings (Some found) (ToReport report) finds are =
+requested_show machine tools warnings (Some found) (ToReport report) finds are =
     other_name (codes "show") (codes "report") (sym finds.0 ∙ are.0) (λ lengths. omega (arith, lengths))
-show_asked machine tools warnings (Some found) (ToPlace place) finds are =
+requested_show machine tools warnings (Some found) (ToPlace place) finds are =
     other_name (codes "show") (codes "place") (sym finds.0 ∙ are.0) (λ lengths. omega (arith, lengths))
-show_asked machine tools warnings (Some found) (ToAdapt adapt) finds are =
+requested_show machine tools warnings (Some found) (ToAdapt adapt) finds are =
     other_letter (codes "show") (codes "adapt") (sym finds.0 ∙ are.0) (λ letters. omega (arith, letters))
-show_asked machine tools warnings (Some found) (ToMachine made) finds are =
+requested_show machine tools warnings (Some found) (ToMachine made) finds are =
     other_letter (codes "show") (codes "machine") (sym finds.0 ∙ are.0) (λ letters. omega (arith, letters))
-show_asked machine tools warnings (Some found) (ToExplain number) finds are =
+requested_show machine tools warnings (Some found) (ToExplain number) finds are =
     other_letter (codes "show") (codes "explain") (sym finds.0 ∙ are.0) (λ letters. omega (arith, letters))
-show_asked machine tools warnings (Some found) (ToHelp command) finds are =
+requested_show machine tools warnings (Some found) (ToHelp command) finds are =
     other_letter (codes "show") (codes "help") (sym finds.0 ∙ are.0) (λ letters. omega (arith, letters))
-show_asked machine tools warnings (Some found) (ToRun run) finds are =
+requested_show machine tools warnings (Some found) (ToRun run) finds are =
     no_run (codes "show") run.recording (sym finds.0 ∙ are.0) (λ three. omega (arith, three)) (λ six. omega (arith, six))
-show_asked machine tools warnings (Some found) (ToRunThrough run) finds are =
+requested_show machine tools warnings (Some found) (ToRunThrough run) finds are =
     no_run (codes "show") run.recording (sym finds.0 ∙ are.0) (λ three. omega (arith, three)) (λ six. omega (arith, six))
-show_asked machine tools warnings (Some found) ToVersion finds are =
+requested_show machine tools warnings (Some found) ToVersion finds are =
     other_letter (codes "show") (codes "version") (sym finds.0 ∙ are) (λ letters. omega (arith, letters))
 
 pub show_taken : (words : List Text) (machine : Text) (tools : Option Text) (warnings : Bool) → words ≡ show_words machine tools warnings → IsTaken words
@@ -650,7 +650,7 @@ pub show_read : (words : List Text) (machine : Text) (tools : Option Text) (warn
     → words ≡ show_words machine tools warnings → AreOptions (subcommand_of ngc_app words) options → IsShowRequest machine tools warnings options
 show_read words machine tools warnings options spelled are =
     let Are : List Text → Type 0 = λ ws. AreOptions (subcommand_of ngc_app ws) options in
-    show_asked machine tools warnings _ options (show_spells machine tools warnings).1 (subst Are spelled are)
+    requested_show machine tools warnings _ options (show_spells machine tools warnings).1 (subst Are spelled are)
 
 -- the values of `certify` that were found are these
 abbrev FindsCertify : Text → Text → Option Text → Option Text → Option Text → Option (Text × List Row) → Type 0
@@ -748,12 +748,12 @@ format_read (Some One) Two is = let bad : 2 ≡ 1 = is.1 in absurd (omega (arith
 format_read (Some Two) One is = let bad : 1 ≡ 2 = is.1 in absurd (omega (arith, bad))
 format_read (Some Two) Two is = refl
 
-certify_asked : (machine tools : Text) (program : Option Text) (cuts : Option ℕ) (format : Option Format) (found : Option (Text × List Row))
+requested_certify : (machine tools : Text) (program : Option Text) (cuts : Option ℕ) (format : Option Format) (found : Option (Text × List Row))
     (options : Options) → AreCutsInRange cuts
     → FindsCertify machine tools program (text_of cuts) (text_of_format format) found → AreOptions found options →
     IsCertifyRequest machine tools program cuts format options
-certify_asked machine tools program cuts format None options range finds are = absurd finds
-certify_asked machine tools program cuts format (Some found) (ToCertify certify) range finds are =
+requested_certify machine tools program cuts format None options range finds are = absurd finds
+requested_certify machine tools program cuts format (Some found) (ToCertify certify) range finds are =
     let read = subst (λ (text : Option Text). AreCuts text certify.cuts) finds.4 are.1.cuts in
     let version = subst (λ (text : Option Text). IsFormat text certify.format) finds.5 are.1.format in (
       same_text _ _ _ are.1.machine finds.1,
@@ -763,33 +763,33 @@ certify_asked machine tools program cuts format (Some found) (ToCertify certify)
       format_read format certify.format version,
       none_replaced found.1 certify.origins are.1.origins finds.6,
     )
-certify_asked machine tools program cuts format (Some found) (ToList list) range finds are =
+requested_certify machine tools program cuts format (Some found) (ToList list) range finds are =
     other_name (codes "certify") (codes "list") (sym finds.0 ∙ are.0) (λ lengths. omega (arith, lengths))
-certify_asked machine tools program cuts format (Some found) (ToCheck check) range finds are =
+requested_certify machine tools program cuts format (Some found) (ToCheck check) range finds are =
     other_name (codes "certify") (codes "check") (sym finds.0 ∙ are.0) (λ lengths. omega (arith, lengths))
-certify_asked machine tools program cuts format (Some found) (ToRun run) range finds are =
+requested_certify machine tools program cuts format (Some found) (ToRun run) range finds are =
     no_run (codes "certify") run.recording (sym finds.0 ∙ are.0) (λ three. omega (arith, three)) (λ six. omega (arith, six))
-certify_asked machine tools program cuts format (Some found) (ToRunThrough run) range finds are =
+requested_certify machine tools program cuts format (Some found) (ToRunThrough run) range finds are =
     no_run (codes "certify") run.recording (sym finds.0 ∙ are.0) (λ three. omega (arith, three)) (λ six. omega (arith, six))
-certify_asked machine tools program cuts format (Some found) (ToLive live) range finds are =
+requested_certify machine tools program cuts format (Some found) (ToLive live) range finds are =
     other_letter (codes "certify") (codes "live") (sym finds.0 ∙ are.0) (λ letters. omega (arith, letters))
-certify_asked machine tools program cuts format (Some found) (ToDraw draw) range finds are =
+requested_certify machine tools program cuts format (Some found) (ToDraw draw) range finds are =
     other_name (codes "certify") (codes "draw") (sym finds.0 ∙ are.0) (λ lengths. omega (arith, lengths))
-certify_asked machine tools program cuts format (Some found) (ToShow show) range finds are =
+requested_certify machine tools program cuts format (Some found) (ToShow show) range finds are =
     other_letter (codes "certify") (codes "show") (sym finds.0 ∙ are.0) (λ letters. omega (arith, letters))
-certify_asked machine tools program cuts format (Some found) (ToReport report) range finds are =
+requested_certify machine tools program cuts format (Some found) (ToReport report) range finds are =
     other_name (codes "certify") (codes "report") (sym finds.0 ∙ are.0) (λ lengths. omega (arith, lengths))
-certify_asked machine tools program cuts format (Some found) (ToPlace place) range finds are =
+requested_certify machine tools program cuts format (Some found) (ToPlace place) range finds are =
     other_name (codes "certify") (codes "place") (sym finds.0 ∙ are.0) (λ lengths. omega (arith, lengths))
-certify_asked machine tools program cuts format (Some found) (ToAdapt adapt) range finds are =
+requested_certify machine tools program cuts format (Some found) (ToAdapt adapt) range finds are =
     other_letter (codes "certify") (codes "adapt") (sym finds.0 ∙ are.0) (λ letters. omega (arith, letters))
-certify_asked machine tools program cuts format (Some found) (ToMachine made) range finds are =
+requested_certify machine tools program cuts format (Some found) (ToMachine made) range finds are =
     other_letter (codes "certify") (codes "machine") (sym finds.0 ∙ are.0) (λ letters. omega (arith, letters))
-certify_asked machine tools program cuts format (Some found) (ToExplain number) range finds are =
+requested_certify machine tools program cuts format (Some found) (ToExplain number) range finds are =
     other_letter (codes "certify") (codes "explain") (sym finds.0 ∙ are.0) (λ differ. omega (arith, differ))
-certify_asked machine tools program cuts format (Some found) (ToHelp command) range finds are =
+requested_certify machine tools program cuts format (Some found) (ToHelp command) range finds are =
     other_name (codes "certify") (codes "help") (sym finds.0 ∙ are.0) (λ differ. omega (arith, differ))
-certify_asked machine tools program cuts format (Some found) ToVersion range finds are =
+requested_certify machine tools program cuts format (Some found) ToVersion range finds are =
     other_letter (codes "certify") (codes "version") (sym finds.0 ∙ are) (λ differ. omega (arith, differ))
 
 pub certify_taken : (words : List Text) (machine tools : Text) (program : Option Text) (cuts : Option ℕ) (format : Option Format) → AreCutsInRange cuts
@@ -811,7 +811,7 @@ pub certify_read : (words : List Text) (machine tools : Text) (program : Option 
     IsCertifyRequest machine tools program cuts format options
 certify_read words machine tools program cuts format options range spelled are =
     let Are : List Text → Type 0 = λ ws. AreOptions (subcommand_of ngc_app ws) options in
-    certify_asked machine tools program cuts format _ options range (certify_finds machine tools program cuts format) (subst Are spelled are)
+    requested_certify machine tools program cuts format _ options range (certify_finds machine tools program cuts format) (subst Are spelled are)
 
 -- the values of `report` that were found are these
 abbrev FindsReport : Text → Text → Option Text → Option Text → Bool → Bool → Option (Text × List Row) → Type 0
@@ -868,11 +868,11 @@ report_spells machine tools program (Some cuts) all json range =
     let text = Accepts-accepts false (Unsigned 1 65535) (decimal cuts) (decimal_in_range cuts range.0 range.1) in
     report_cuts_taken machine tools program cuts all json (passes (accepts false (Unsigned 1 65535) (decimal cuts)) _ text)
 
-report_asked : (machine tools : Text) (program : Option Text) (cuts : Option ℕ) (all json : Bool) (found : Option (Text × List Row)) (options : Options) →
+requested_report : (machine tools : Text) (program : Option Text) (cuts : Option ℕ) (all json : Bool) (found : Option (Text × List Row)) (options : Options) →
     AreCutsInRange cuts
     → FindsReport machine tools program (text_of cuts) all json found → AreOptions found options → IsReportRequest machine tools program cuts all json options
-report_asked machine tools program cuts all json None options range finds are = absurd finds
-report_asked machine tools program cuts all json (Some found) (ToReport report) range finds are =
+requested_report machine tools program cuts all json None options range finds are = absurd finds
+requested_report machine tools program cuts all json (Some found) (ToReport report) range finds are =
     let read = subst (λ (text : Option Text). AreCuts text report.cuts) finds.4 are.1.cuts in (
       same_text _ _ _ are.1.machine finds.1,
       same_text _ _ _ are.1.tools finds.2,
@@ -882,31 +882,31 @@ report_asked machine tools program cuts all json (Some found) (ToReport report) 
       are.1.json ∙ finds.6,
       none_replaced found.1 report.origins are.1.origins finds.7,
     )
-report_asked machine tools program cuts all json (Some found) (ToPlace place) range finds are =
+requested_report machine tools program cuts all json (Some found) (ToPlace place) range finds are =
     other_name (codes "report") (codes "place") (sym finds.0 ∙ are.0) (λ lengths. omega (arith, lengths))
-report_asked machine tools program cuts all json (Some found) (ToList list) range finds are =
+requested_report machine tools program cuts all json (Some found) (ToList list) range finds are =
     other_name (codes "report") (codes "list") (sym finds.0 ∙ are.0) (λ lengths. omega (arith, lengths))
-report_asked machine tools program cuts all json (Some found) (ToCertify certify) range finds are =
+requested_report machine tools program cuts all json (Some found) (ToCertify certify) range finds are =
     other_name (codes "report") (codes "certify") (sym finds.0 ∙ are.0) (λ lengths. omega (arith, lengths))
-report_asked machine tools program cuts all json (Some found) (ToCheck check) range finds are =
+requested_report machine tools program cuts all json (Some found) (ToCheck check) range finds are =
     other_name (codes "report") (codes "check") (sym finds.0 ∙ are.0) (λ lengths. omega (arith, lengths))
-report_asked machine tools program cuts all json (Some found) (ToRun run) range finds are = report_is_no_run run.recording (sym finds.0 ∙ are.0)
-report_asked machine tools program cuts all json (Some found) (ToRunThrough run) range finds are = report_is_no_run run.recording (sym finds.0 ∙ are.0)
-report_asked machine tools program cuts all json (Some found) (ToLive live) range finds are =
+requested_report machine tools program cuts all json (Some found) (ToRun run) range finds are = report_is_no_run run.recording (sym finds.0 ∙ are.0)
+requested_report machine tools program cuts all json (Some found) (ToRunThrough run) range finds are = report_is_no_run run.recording (sym finds.0 ∙ are.0)
+requested_report machine tools program cuts all json (Some found) (ToLive live) range finds are =
     other_letter (codes "report") (codes "live") (sym finds.0 ∙ are.0) (λ letters. omega (arith, letters))
-report_asked machine tools program cuts all json (Some found) (ToDraw draw) range finds are =
+requested_report machine tools program cuts all json (Some found) (ToDraw draw) range finds are =
     other_name (codes "report") (codes "draw") (sym finds.0 ∙ are.0) (λ lengths. omega (arith, lengths))
-report_asked machine tools program cuts all json (Some found) (ToShow show) range finds are =
+requested_report machine tools program cuts all json (Some found) (ToShow show) range finds are =
     other_name (codes "report") (codes "show") (sym finds.0 ∙ are.0) (λ lengths. omega (arith, lengths))
-report_asked machine tools program cuts all json (Some found) (ToAdapt adapt) range finds are =
+requested_report machine tools program cuts all json (Some found) (ToAdapt adapt) range finds are =
     other_letter (codes "report") (codes "adapt") (sym finds.0 ∙ are.0) (λ letters. omega (arith, letters))
-report_asked machine tools program cuts all json (Some found) (ToMachine made) range finds are =
+requested_report machine tools program cuts all json (Some found) (ToMachine made) range finds are =
     other_letter (codes "report") (codes "machine") (sym finds.0 ∙ are.0) (λ letters. omega (arith, letters))
-report_asked machine tools program cuts all json (Some found) (ToExplain number) range finds are =
+requested_report machine tools program cuts all json (Some found) (ToExplain number) range finds are =
     other_name (codes "report") (codes "explain") (sym finds.0 ∙ are.0) (λ lengths. omega (arith, lengths))
-report_asked machine tools program cuts all json (Some found) (ToHelp command) range finds are =
+requested_report machine tools program cuts all json (Some found) (ToHelp command) range finds are =
     other_name (codes "report") (codes "help") (sym finds.0 ∙ are.0) (λ lengths. omega (arith, lengths))
-report_asked machine tools program cuts all json (Some found) ToVersion range finds are =
+requested_report machine tools program cuts all json (Some found) ToVersion range finds are =
     other_name (codes "report") (codes "version") (sym finds.0 ∙ are) (λ lengths. omega (arith, lengths))
 
 pub report_taken : (words : List Text) (machine tools : Text) (program : Option Text) (cuts : Option ℕ) (all json : Bool) → AreCutsInRange cuts
@@ -928,7 +928,7 @@ pub report_read : (words : List Text) (machine tools : Text) (program : Option T
     → IsReportRequest machine tools program cuts all json options
 report_read words machine tools program cuts all json options range spelled are =
     let Are : List Text → Type 0 = λ ws. AreOptions (subcommand_of ngc_app ws) options in
-    report_asked machine tools program cuts all json _ options range (report_finds machine tools program cuts all json) (subst Are spelled are)
+    requested_report machine tools program cuts all json _ options range (report_finds machine tools program cuts all json) (subst Are spelled are)
 
 -- the values of `place` that were found are these
 abbrev FindsPlace : Text → Text → Option Text → Option Text → Option Text → Bool → Option (Text × List Row) → Type 0
@@ -985,11 +985,11 @@ place_spells machine tools program system (Some cuts) json range =
     let text = Accepts-accepts false (Unsigned 1 65535) (decimal cuts) (decimal_in_range cuts range.0 range.1) in
     place_cuts_taken machine tools program system cuts json (passes (accepts false (Unsigned 1 65535) (decimal cuts)) _ text)
 
-place_asked : (machine tools : Text) (program system : Option Text) (cuts : Option ℕ) (json : Bool) (found : Option (Text × List Row)) (options : Options) →
+requested_place : (machine tools : Text) (program system : Option Text) (cuts : Option ℕ) (json : Bool) (found : Option (Text × List Row)) (options : Options) →
     AreCutsInRange cuts
     → FindsPlace machine tools program system (text_of cuts) json found → AreOptions found options → IsPlaceRequest machine tools program system cuts json options
-place_asked machine tools program system cuts json None options range finds are = absurd finds
-place_asked machine tools program system cuts json (Some found) (ToPlace place) range finds are =
+requested_place machine tools program system cuts json None options range finds are = absurd finds
+requested_place machine tools program system cuts json (Some found) (ToPlace place) range finds are =
     let read = subst (λ (text : Option Text). AreCuts text place.cuts) finds.5 are.1.cuts in (
       same_text _ _ _ are.1.machine finds.1,
       same_text _ _ _ are.1.tools finds.2,
@@ -999,33 +999,33 @@ place_asked machine tools program system cuts json (Some found) (ToPlace place) 
       are.1.json ∙ finds.6,
       none_replaced found.1 place.origins are.1.origins finds.7,
     )
-place_asked machine tools program system cuts json (Some found) (ToList list) range finds are =
+requested_place machine tools program system cuts json (Some found) (ToList list) range finds are =
     other_name (codes "place") (codes "list") (sym finds.0 ∙ are.0) (λ lengths. omega (arith, lengths))
-place_asked machine tools program system cuts json (Some found) (ToCertify certify) range finds are =
+requested_place machine tools program system cuts json (Some found) (ToCertify certify) range finds are =
     other_name (codes "place") (codes "certify") (sym finds.0 ∙ are.0) (λ lengths. omega (arith, lengths))
-place_asked machine tools program system cuts json (Some found) (ToCheck check) range finds are =
+requested_place machine tools program system cuts json (Some found) (ToCheck check) range finds are =
     other_letter (codes "place") (codes "check") (sym finds.0 ∙ are.0) (λ letters. omega (arith, letters))
-place_asked machine tools program system cuts json (Some found) (ToLive live) range finds are =
+requested_place machine tools program system cuts json (Some found) (ToLive live) range finds are =
     other_name (codes "place") (codes "live") (sym finds.0 ∙ are.0) (λ lengths. omega (arith, lengths))
-place_asked machine tools program system cuts json (Some found) (ToDraw draw) range finds are =
+requested_place machine tools program system cuts json (Some found) (ToDraw draw) range finds are =
     other_name (codes "place") (codes "draw") (sym finds.0 ∙ are.0) (λ lengths. omega (arith, lengths))
-place_asked machine tools program system cuts json (Some found) (ToShow show) range finds are =
+requested_place machine tools program system cuts json (Some found) (ToShow show) range finds are =
     other_name (codes "place") (codes "show") (sym finds.0 ∙ are.0) (λ lengths. omega (arith, lengths))
-place_asked machine tools program system cuts json (Some found) (ToReport report) range finds are =
+requested_place machine tools program system cuts json (Some found) (ToReport report) range finds are =
     other_name (codes "place") (codes "report") (sym finds.0 ∙ are.0) (λ lengths. omega (arith, lengths))
-place_asked machine tools program system cuts json (Some found) (ToAdapt adapt) range finds are =
+requested_place machine tools program system cuts json (Some found) (ToAdapt adapt) range finds are =
     other_letter (codes "place") (codes "adapt") (sym finds.0 ∙ are.0) (λ letters. omega (arith, letters))
-place_asked machine tools program system cuts json (Some found) (ToMachine made) range finds are =
+requested_place machine tools program system cuts json (Some found) (ToMachine made) range finds are =
     other_name (codes "place") (codes "machine") (sym finds.0 ∙ are.0) (λ lengths. omega (arith, lengths))
-place_asked machine tools program system cuts json (Some found) (ToExplain number) range finds are =
+requested_place machine tools program system cuts json (Some found) (ToExplain number) range finds are =
     other_name (codes "place") (codes "explain") (sym finds.0 ∙ are.0) (λ lengths. omega (arith, lengths))
-place_asked machine tools program system cuts json (Some found) (ToHelp command) range finds are =
+requested_place machine tools program system cuts json (Some found) (ToHelp command) range finds are =
     other_name (codes "place") (codes "help") (sym finds.0 ∙ are.0) (λ lengths. omega (arith, lengths))
-place_asked machine tools program system cuts json (Some found) (ToRun run) range finds are =
+requested_place machine tools program system cuts json (Some found) (ToRun run) range finds are =
     no_run (codes "place") run.recording (sym finds.0 ∙ are.0) (λ three. omega (arith, three)) (λ six. omega (arith, six))
-place_asked machine tools program system cuts json (Some found) (ToRunThrough run) range finds are =
+requested_place machine tools program system cuts json (Some found) (ToRunThrough run) range finds are =
     no_run (codes "place") run.recording (sym finds.0 ∙ are.0) (λ three. omega (arith, three)) (λ six. omega (arith, six))
-place_asked machine tools program system cuts json (Some found) ToVersion range finds are =
+requested_place machine tools program system cuts json (Some found) ToVersion range finds are =
     other_name (codes "place") (codes "version") (sym finds.0 ∙ are) (λ lengths. omega (arith, lengths))
 
 pub place_taken : (words : List Text) (machine tools : Text) (program system : Option Text) (cuts : Option ℕ) (json : Bool) → AreCutsInRange cuts
@@ -1050,7 +1050,7 @@ pub place_read : (words : List Text) (machine tools : Text) (program system : Op
     → IsPlaceRequest machine tools program system cuts json options
 place_read words machine tools program system cuts json options range spelled are =
     let Are : List Text → Type 0 = λ ws. AreOptions (subcommand_of ngc_app ws) options in
-    place_asked machine tools program system cuts json _ options range (place_finds machine tools program system cuts json) (subst Are spelled are)
+    requested_place machine tools program system cuts json _ options range (place_finds machine tools program system cuts json) (subst Are spelled are)
 
 -- the values of `adapt` that were found are these
 abbrev FindsAdapt : Text → Option Text → Option Text → Option Text → Option Text → Option (Text × List Row) → Type 0
@@ -1120,11 +1120,11 @@ tool_read None (Some read) range is = absurd is
 tool_read (Some tool) None range is = absurd is
 tool_read (Some tool) (Some read) range is = ap Some (is.1 ∙ decimal_value tool (omega (arith, range.1)))
 
-adapt_asked : (from : Text) (machine : Option Text) (tool : Option ℕ) (drop program : Option Text) (found : Option (Text × List Row)) (options : Options) →
+requested_adapt : (from : Text) (machine : Option Text) (tool : Option ℕ) (drop program : Option Text) (found : Option (Text × List Row)) (options : Options) →
     IsToolInRange tool → FindsAdapt from machine (text_of tool) drop program found → AreOptions found options →
     IsAdaptRequest from machine tool drop program options
-adapt_asked from machine tool drop program None options range finds are = absurd finds
-adapt_asked from machine tool drop program (Some found) (ToAdapt adapt) range finds are =
+requested_adapt from machine tool drop program None options range finds are = absurd finds
+requested_adapt from machine tool drop program (Some found) (ToAdapt adapt) range finds are =
     let read = subst (λ (text : Option Text). IsTool text adapt.tool) finds.3 are.1.tool in (
       same_text _ _ _ are.1.from finds.1,
       are.1.machine ∙ finds.2,
@@ -1132,33 +1132,33 @@ adapt_asked from machine tool drop program (Some found) (ToAdapt adapt) range fi
       are.1.drop ∙ finds.4,
       are.1.program ∙ finds.5,
     )
-adapt_asked from machine tool drop program (Some found) (ToList list) range finds are =
+requested_adapt from machine tool drop program (Some found) (ToList list) range finds are =
     other_letter (codes "adapt") (codes "list") (sym finds.0 ∙ are.0) (λ letters. omega (arith, letters))
-adapt_asked from machine tool drop program (Some found) (ToCertify certify) range finds are =
+requested_adapt from machine tool drop program (Some found) (ToCertify certify) range finds are =
     other_letter (codes "adapt") (codes "certify") (sym finds.0 ∙ are.0) (λ letters. omega (arith, letters))
-adapt_asked from machine tool drop program (Some found) (ToCheck check) range finds are =
+requested_adapt from machine tool drop program (Some found) (ToCheck check) range finds are =
     other_letter (codes "adapt") (codes "check") (sym finds.0 ∙ are.0) (λ letters. omega (arith, letters))
-adapt_asked from machine tool drop program (Some found) (ToLive live) range finds are =
+requested_adapt from machine tool drop program (Some found) (ToLive live) range finds are =
     other_letter (codes "adapt") (codes "live") (sym finds.0 ∙ are.0) (λ letters. omega (arith, letters))
-adapt_asked from machine tool drop program (Some found) (ToDraw draw) range finds are =
+requested_adapt from machine tool drop program (Some found) (ToDraw draw) range finds are =
     other_letter (codes "adapt") (codes "draw") (sym finds.0 ∙ are.0) (λ letters. omega (arith, letters))
-adapt_asked from machine tool drop program (Some found) (ToShow show) range finds are =
+requested_adapt from machine tool drop program (Some found) (ToShow show) range finds are =
     other_letter (codes "adapt") (codes "show") (sym finds.0 ∙ are.0) (λ letters. omega (arith, letters))
-adapt_asked from machine tool drop program (Some found) (ToReport report) range finds are =
+requested_adapt from machine tool drop program (Some found) (ToReport report) range finds are =
     other_letter (codes "adapt") (codes "report") (sym finds.0 ∙ are.0) (λ letters. omega (arith, letters))
-adapt_asked from machine tool drop program (Some found) (ToPlace place) range finds are =
+requested_adapt from machine tool drop program (Some found) (ToPlace place) range finds are =
     other_letter (codes "adapt") (codes "place") (sym finds.0 ∙ are.0) (λ letters. omega (arith, letters))
-adapt_asked from machine tool drop program (Some found) (ToMachine made) range finds are =
+requested_adapt from machine tool drop program (Some found) (ToMachine made) range finds are =
     other_letter (codes "adapt") (codes "machine") (sym finds.0 ∙ are.0) (λ letters. omega (arith, letters))
-adapt_asked from machine tool drop program (Some found) (ToExplain number) range finds are =
+requested_adapt from machine tool drop program (Some found) (ToExplain number) range finds are =
     other_letter (codes "adapt") (codes "explain") (sym finds.0 ∙ are.0) (λ letters. omega (arith, letters))
-adapt_asked from machine tool drop program (Some found) (ToHelp command) range finds are =
+requested_adapt from machine tool drop program (Some found) (ToHelp command) range finds are =
     other_letter (codes "adapt") (codes "help") (sym finds.0 ∙ are.0) (λ letters. omega (arith, letters))
-adapt_asked from machine tool drop program (Some found) (ToRun run) range finds are =
+requested_adapt from machine tool drop program (Some found) (ToRun run) range finds are =
     no_run (codes "adapt") run.recording (sym finds.0 ∙ are.0) (λ three. omega (arith, three)) (λ six. omega (arith, six))
-adapt_asked from machine tool drop program (Some found) (ToRunThrough run) range finds are =
+requested_adapt from machine tool drop program (Some found) (ToRunThrough run) range finds are =
     no_run (codes "adapt") run.recording (sym finds.0 ∙ are.0) (λ three. omega (arith, three)) (λ six. omega (arith, six))
-adapt_asked from machine tool drop program (Some found) ToVersion range finds are =
+requested_adapt from machine tool drop program (Some found) ToVersion range finds are =
     other_letter (codes "adapt") (codes "version") (sym finds.0 ∙ are) (λ letters. omega (arith, letters))
 
 pub adapt_taken : (words : List Text) (from : Text) (machine : Option Text) (tool : Option ℕ) (drop program : Option Text) → IsToolInRange tool
@@ -1179,7 +1179,7 @@ pub adapt_read : (words : List Text) (from : Text) (machine : Option Text) (tool
     → AreOptions (subcommand_of ngc_app words) options → IsAdaptRequest from machine tool drop program options
 adapt_read words from machine tool drop program options range spelled are =
     let Are : List Text → Type 0 = λ ws. AreOptions (subcommand_of ngc_app ws) options in
-    adapt_asked from machine tool drop program _ options range (adapt_finds from machine tool drop program) (subst Are spelled are)
+    requested_adapt from machine tool drop program _ options range (adapt_finds from machine tool drop program) (subst Are spelled are)
 
 -- the values of `machine` that were found are these
 abbrev FindsMachine : MachineSource → Option Text → Option Text → Option Text → Option (Text × List Row) → Type 0
@@ -1212,10 +1212,10 @@ machine_spells (FromFigures steps travel feed acceleration) (Some corner) None (
 machine_spells (FromFigures steps travel feed acceleration) (Some corner) (Some ticks) None = (refl, (refl, refl, refl, refl, refl, refl, refl, refl, refl, refl, refl, refl, refl, refl, refl, refl, refl))
 machine_spells (FromFigures steps travel feed acceleration) (Some corner) (Some ticks) (Some frame) = (refl, (refl, refl, refl, refl, refl, refl, refl, refl, refl, refl, refl, refl, refl, refl, refl, refl, refl))
 
-machine_asked : (source : MachineSource) (corner ticks frame : Option Text) (found : Option (Text × List Row)) (options : Options)
+requested_machine : (source : MachineSource) (corner ticks frame : Option Text) (found : Option (Text × List Row)) (options : Options)
     → FindsMachine source corner ticks frame found → AreOptions found options → IsMachineRequest source corner ticks frame options
-machine_asked source corner ticks frame None options finds are = absurd finds
-machine_asked source corner ticks frame (Some found) (ToMachine machine) finds are = (
+requested_machine source corner ticks frame None options finds are = absurd finds
+requested_machine source corner ticks frame (Some found) (ToMachine machine) finds are = (
   are.1.grbl ∙ finds.1,
   are.1.steps ∙ finds.2,
   are.1.travel ∙ finds.3,
@@ -1232,33 +1232,33 @@ machine_asked source corner ticks frame (Some found) (ToMachine machine) finds a
   are.1.ring ∙ finds.14,
   are.1.arc_feed ∙ finds.15,
 )
-machine_asked source corner ticks frame (Some found) (ToList list) finds are =
+requested_machine source corner ticks frame (Some found) (ToList list) finds are =
     other_letter (codes "machine") (codes "list") (sym finds.0 ∙ are.0) (λ letters. omega (arith, letters))
-machine_asked source corner ticks frame (Some found) (ToCertify certify) finds are =
+requested_machine source corner ticks frame (Some found) (ToCertify certify) finds are =
     other_letter (codes "machine") (codes "certify") (sym finds.0 ∙ are.0) (λ letters. omega (arith, letters))
-machine_asked source corner ticks frame (Some found) (ToCheck check) finds are =
+requested_machine source corner ticks frame (Some found) (ToCheck check) finds are =
     other_letter (codes "machine") (codes "check") (sym finds.0 ∙ are.0) (λ letters. omega (arith, letters))
-machine_asked source corner ticks frame (Some found) (ToLive live) finds are =
+requested_machine source corner ticks frame (Some found) (ToLive live) finds are =
     other_letter (codes "machine") (codes "live") (sym finds.0 ∙ are.0) (λ letters. omega (arith, letters))
-machine_asked source corner ticks frame (Some found) (ToDraw draw) finds are =
+requested_machine source corner ticks frame (Some found) (ToDraw draw) finds are =
     other_letter (codes "machine") (codes "draw") (sym finds.0 ∙ are.0) (λ letters. omega (arith, letters))
-machine_asked source corner ticks frame (Some found) (ToShow show) finds are =
+requested_machine source corner ticks frame (Some found) (ToShow show) finds are =
     other_letter (codes "machine") (codes "show") (sym finds.0 ∙ are.0) (λ letters. omega (arith, letters))
-machine_asked source corner ticks frame (Some found) (ToReport report) finds are =
+requested_machine source corner ticks frame (Some found) (ToReport report) finds are =
     other_letter (codes "machine") (codes "report") (sym finds.0 ∙ are.0) (λ letters. omega (arith, letters))
-machine_asked source corner ticks frame (Some found) (ToPlace place) finds are =
+requested_machine source corner ticks frame (Some found) (ToPlace place) finds are =
     other_name (codes "machine") (codes "place") (sym finds.0 ∙ are.0) (λ lengths. omega (arith, lengths))
-machine_asked source corner ticks frame (Some found) (ToAdapt adapt) finds are =
+requested_machine source corner ticks frame (Some found) (ToAdapt adapt) finds are =
     other_letter (codes "machine") (codes "adapt") (sym finds.0 ∙ are.0) (λ letters. omega (arith, letters))
-machine_asked source corner ticks frame (Some found) (ToExplain number) finds are =
+requested_machine source corner ticks frame (Some found) (ToExplain number) finds are =
     other_letter (codes "machine") (codes "explain") (sym finds.0 ∙ are.0) (λ letters. omega (arith, letters))
-machine_asked source corner ticks frame (Some found) (ToHelp command) finds are =
+requested_machine source corner ticks frame (Some found) (ToHelp command) finds are =
     other_letter (codes "machine") (codes "help") (sym finds.0 ∙ are.0) (λ letters. omega (arith, letters))
-machine_asked source corner ticks frame (Some found) (ToRun run) finds are =
+requested_machine source corner ticks frame (Some found) (ToRun run) finds are =
     no_run (codes "machine") run.recording (sym finds.0 ∙ are.0) (λ three. omega (arith, three)) (λ six. omega (arith, six))
-machine_asked source corner ticks frame (Some found) (ToRunThrough run) finds are =
+requested_machine source corner ticks frame (Some found) (ToRunThrough run) finds are =
     no_run (codes "machine") run.recording (sym finds.0 ∙ are.0) (λ three. omega (arith, three)) (λ six. omega (arith, six))
-machine_asked source corner ticks frame (Some found) ToVersion finds are =
+requested_machine source corner ticks frame (Some found) ToVersion finds are =
     other_letter (codes "machine") (codes "version") (sym finds.0 ∙ are) (λ letters. omega (arith, letters))
 
 pub machine_taken : (words : List Text) (source : MachineSource) (corner ticks frame : Option Text) → words ≡ machine_words source corner ticks frame →
@@ -1279,7 +1279,7 @@ pub machine_read : (words : List Text) (source : MachineSource) (corner ticks fr
     → AreOptions (subcommand_of ngc_app words) options → IsMachineRequest source corner ticks frame options
 machine_read words source corner ticks frame options spelled are =
     let Are : List Text → Type 0 = λ ws. AreOptions (subcommand_of ngc_app ws) options in
-    machine_asked source corner ticks frame _ options (machine_spells source corner ticks frame).1 (subst Are spelled are)
+    requested_machine source corner ticks frame _ options (machine_spells source corner ticks frame).1 (subst Are spelled are)
 
 -- the command whose help was requested is this
 abbrev FindsHelp : Option Text → Option (Text × List Row) → Type 0
@@ -1313,33 +1313,33 @@ help_spells (Some command) among = elim among [
   | inr (inr (inr (inr (inr (inr (inr (inr (inr (inr (inr (inr (inr (inr (inr none)))))))))))))) ↦ absurd none
 ]
 
-help_asked : (command : Option Text) (found : Option (Text × List Row)) (options : Options) → FindsHelp command found → AreOptions found options →
+requested_help : (command : Option Text) (found : Option (Text × List Row)) (options : Options) → FindsHelp command found → AreOptions found options →
     IsHelpRequest command options
-help_asked command None options finds are = absurd finds
-help_asked command (Some found) (ToHelp asked) finds are = are.1 ∙ finds.1
-help_asked command (Some found) (ToList list) finds are = other_letter (codes "help") (codes "list") (sym finds.0 ∙ are.0) (λ differ. omega (arith, differ))
-help_asked command (Some found) (ToCertify certify) finds are =
+requested_help command None options finds are = absurd finds
+requested_help command (Some found) (ToHelp asked) finds are = are.1 ∙ finds.1
+requested_help command (Some found) (ToList list) finds are = other_letter (codes "help") (codes "list") (sym finds.0 ∙ are.0) (λ differ. omega (arith, differ))
+requested_help command (Some found) (ToCertify certify) finds are =
     other_name (codes "help") (codes "certify") (sym finds.0 ∙ are.0) (λ differ. omega (arith, differ))
-help_asked command (Some found) (ToCheck check) finds are = other_name (codes "help") (codes "check") (sym finds.0 ∙ are.0) (λ differ. omega (arith, differ))
-help_asked command (Some found) (ToRun run) finds are =
+requested_help command (Some found) (ToCheck check) finds are = other_name (codes "help") (codes "check") (sym finds.0 ∙ are.0) (λ differ. omega (arith, differ))
+requested_help command (Some found) (ToRun run) finds are =
     no_run (codes "help") run.recording (sym finds.0 ∙ are.0) (λ three. omega (arith, three)) (λ six. omega (arith, six))
-help_asked command (Some found) (ToRunThrough run) finds are =
+requested_help command (Some found) (ToRunThrough run) finds are =
     no_run (codes "help") run.recording (sym finds.0 ∙ are.0) (λ three. omega (arith, three)) (λ six. omega (arith, six))
-help_asked command (Some found) (ToLive live) finds are =
+requested_help command (Some found) (ToLive live) finds are =
     other_letter (codes "help") (codes "live") (sym finds.0 ∙ are.0) (λ letters. omega (arith, letters))
-help_asked command (Some found) (ToDraw draw) finds are = other_letter (codes "help") (codes "draw") (sym finds.0 ∙ are.0) (λ letters. omega (arith, letters))
-help_asked command (Some found) (ToShow show) finds are = other_letter (codes "help") (codes "show") (sym finds.0 ∙ are.0) (λ letters. omega (arith, letters))
-help_asked command (Some found) (ToReport report) finds are =
+requested_help command (Some found) (ToDraw draw) finds are = other_letter (codes "help") (codes "draw") (sym finds.0 ∙ are.0) (λ letters. omega (arith, letters))
+requested_help command (Some found) (ToShow show) finds are = other_letter (codes "help") (codes "show") (sym finds.0 ∙ are.0) (λ letters. omega (arith, letters))
+requested_help command (Some found) (ToReport report) finds are =
     other_name (codes "help") (codes "report") (sym finds.0 ∙ are.0) (λ lengths. omega (arith, lengths))
-help_asked command (Some found) (ToPlace place) finds are =
+requested_help command (Some found) (ToPlace place) finds are =
     other_name (codes "help") (codes "place") (sym finds.0 ∙ are.0) (λ lengths. omega (arith, lengths))
-help_asked command (Some found) (ToAdapt adapt) finds are =
+requested_help command (Some found) (ToAdapt adapt) finds are =
     other_letter (codes "help") (codes "adapt") (sym finds.0 ∙ are.0) (λ letters. omega (arith, letters))
-help_asked command (Some found) (ToMachine made) finds are =
+requested_help command (Some found) (ToMachine made) finds are =
     other_letter (codes "help") (codes "machine") (sym finds.0 ∙ are.0) (λ letters. omega (arith, letters))
-help_asked command (Some found) (ToExplain number) finds are =
+requested_help command (Some found) (ToExplain number) finds are =
     other_name (codes "help") (codes "explain") (sym finds.0 ∙ are.0) (λ differ. omega (arith, differ))
-help_asked command (Some found) ToVersion finds are = other_name (codes "help") (codes "version") (sym finds.0 ∙ are) (λ differ. omega (arith, differ))
+requested_help command (Some found) ToVersion finds are = other_name (codes "help") (codes "version") (sym finds.0 ∙ are) (λ differ. omega (arith, differ))
 
 pub help_taken : (words : List Text) (command : Option Text) → AreCommands command → words ≡ help_words command → IsTaken words
 help_taken words command among spelled = subst IsTaken (sym spelled) (help_spells command among).0
@@ -1357,7 +1357,7 @@ pub help_read : (words : List Text) (command : Option Text) (options : Options) 
     → AreOptions (subcommand_of ngc_app words) options → IsHelpRequest command options
 help_read words command options among spelled are =
     let Are : List Text → Type 0 = λ ws. AreOptions (subcommand_of ngc_app ws) options in
-    help_asked command _ options (help_spells command among).1 (subst Are spelled are)
+    requested_help command _ options (help_spells command among).1 (subst Are spelled are)
 
 -- the subcommand that was found is `version`
 abbrev FindsVersion : Option (Text × List Row) → Type 0
@@ -1368,30 +1368,30 @@ version_spells : Spells (codes "version" ∷ []) FindsVersion
 unfolding clap_on_literals
 version_spells = (refl, (refl, refl))
 
-version_asked : (found : Option (Text × List Row)) (options : Options) → FindsVersion found → AreOptions found options → options ≡ ToVersion
-version_asked None options finds are = absurd finds
-version_asked (Some found) ToVersion finds are = refl
-version_asked (Some found) (ToList list) finds are = other_name (codes "version") (codes "list") (sym finds.0 ∙ are.0) (λ differ. omega (arith, differ))
-version_asked (Some found) (ToCertify certify) finds are =
+requested_version : (found : Option (Text × List Row)) (options : Options) → FindsVersion found → AreOptions found options → options ≡ ToVersion
+requested_version None options finds are = absurd finds
+requested_version (Some found) ToVersion finds are = refl
+requested_version (Some found) (ToList list) finds are = other_name (codes "version") (codes "list") (sym finds.0 ∙ are.0) (λ differ. omega (arith, differ))
+requested_version (Some found) (ToCertify certify) finds are =
     other_letter (codes "version") (codes "certify") (sym finds.0 ∙ are.0) (λ differ. omega (arith, differ))
-version_asked (Some found) (ToCheck check) finds are = other_name (codes "version") (codes "check") (sym finds.0 ∙ are.0) (λ differ. omega (arith, differ))
-version_asked (Some found) (ToRun run) finds are =
+requested_version (Some found) (ToCheck check) finds are = other_name (codes "version") (codes "check") (sym finds.0 ∙ are.0) (λ differ. omega (arith, differ))
+requested_version (Some found) (ToRun run) finds are =
     no_run (codes "version") run.recording (sym finds.0 ∙ are.0) (λ three. omega (arith, three)) (λ six. omega (arith, six))
-version_asked (Some found) (ToRunThrough run) finds are =
+requested_version (Some found) (ToRunThrough run) finds are =
     no_run (codes "version") run.recording (sym finds.0 ∙ are.0) (λ three. omega (arith, three)) (λ six. omega (arith, six))
-version_asked (Some found) (ToLive live) finds are =
+requested_version (Some found) (ToLive live) finds are =
     other_letter (codes "version") (codes "live") (sym finds.0 ∙ are.0) (λ letters. omega (arith, letters))
-version_asked (Some found) (ToDraw draw) finds are = other_name (codes "version") (codes "draw") (sym finds.0 ∙ are.0) (λ lengths. omega (arith, lengths))
-version_asked (Some found) (ToShow show) finds are = other_letter (codes "version") (codes "show") (sym finds.0 ∙ are.0) (λ letters. omega (arith, letters))
-version_asked (Some found) (ToReport report) finds are = other_name (codes "version") (codes "report") (sym finds.0 ∙ are.0) (λ lengths. omega (arith, lengths))
-version_asked (Some found) (ToPlace place) finds are =
+requested_version (Some found) (ToDraw draw) finds are = other_name (codes "version") (codes "draw") (sym finds.0 ∙ are.0) (λ lengths. omega (arith, lengths))
+requested_version (Some found) (ToShow show) finds are = other_letter (codes "version") (codes "show") (sym finds.0 ∙ are.0) (λ letters. omega (arith, letters))
+requested_version (Some found) (ToReport report) finds are = other_name (codes "version") (codes "report") (sym finds.0 ∙ are.0) (λ lengths. omega (arith, lengths))
+requested_version (Some found) (ToPlace place) finds are =
     other_name (codes "version") (codes "place") (sym finds.0 ∙ are.0) (λ lengths. omega (arith, lengths))
-version_asked (Some found) (ToAdapt adapt) finds are =
+requested_version (Some found) (ToAdapt adapt) finds are =
     other_letter (codes "version") (codes "adapt") (sym finds.0 ∙ are.0) (λ letters. omega (arith, letters))
-version_asked (Some found) (ToMachine made) finds are =
+requested_version (Some found) (ToMachine made) finds are =
     other_letter (codes "version") (codes "machine") (sym finds.0 ∙ are.0) (λ letters. omega (arith, letters))
-version_asked (Some found) (ToExplain number) finds are = other_letter (codes "version") (codes "explain") (sym finds.0 ∙ are.0) (λ differ. omega (arith, differ))
-version_asked (Some found) (ToHelp command) finds are = other_name (codes "version") (codes "help") (sym finds.0 ∙ are.0) (λ differ. omega (arith, differ))
+requested_version (Some found) (ToExplain number) finds are = other_letter (codes "version") (codes "explain") (sym finds.0 ∙ are.0) (λ differ. omega (arith, differ))
+requested_version (Some found) (ToHelp command) finds are = other_name (codes "version") (codes "help") (sym finds.0 ∙ are.0) (λ differ. omega (arith, differ))
 
 pub version_taken : (words : List Text) → words ≡ codes "version" ∷ [] → IsTaken words
 version_taken words spelled = subst IsTaken (sym spelled) version_spells.0
@@ -1409,4 +1409,4 @@ pub version_read : (words : List Text) (options : Options) → words ≡ codes "
     options ≡ ToVersion
 version_read words options spelled are =
     let Are : List Text → Type 0 = λ ws. AreOptions (subcommand_of ngc_app ws) options in
-    version_asked _ options version_spells.1 (subst Are spelled are)
+    requested_version _ options version_spells.1 (subst Are spelled are)

@@ -219,7 +219,7 @@ abbrev pub refused_line : Form → List ℕ
 refused_line Words = codes "The program is refused.\n"
 refused_line Json = codes ",\n{\"fact\":\"verdict\",\"fits\":false}"
 
--- the rejection at a line, with the word that a fault names, and the values of 221 and 222
+-- the rejection at a line, with the word that a fault names, and the values of 221, 222 and 243
 abbrev pub rejection_text : Form → OriginList → Bool → Setting → ℕ → Fault → List Line → List ℕ
 rejection_text form origins named s number fault lines =
     heading form origins true named s

@@ -1,6 +1,6 @@
 -- How the report of a refused line writes the values of its fault. Our own.
-use Rattle.std.specs.Prelude.{ℕ, ◌==◌, ◌+◌, ◌/◌, ℤ, unsigned_abs, List, [], ◌++◌, codes, decimal}
-use Rattle.std.specs.Prelude.{Option, Some, None, Bool, if◌then◌else◌}
+use Rattle.std.specs.Prelude.{ℕ, ◌+◌, ◌/◌, ℤ, unsigned_abs, List, [], ◌++◌, codes, decimal}
+use Rattle.std.specs.Prelude.{Option, Some, None, Bool}
 use Rattle.std.specs.Fmt.{signed_decimal}
 use Rattle.std.specs.Int.{abs_diff}
 use Rattle.ngc_text.specs.Millimetres.{sign_text}

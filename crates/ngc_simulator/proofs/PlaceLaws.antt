@@ -79,11 +79,11 @@ no_memory setup request (Some bytes) known = keeps_same known
 -- ---- on the files that the command line names
 
 -- the request is that of the options
-pub placing_asked : (options : PlaceOptions) (system : System) (shop : Shop) (request : PlaceRequest) (source old new : Option (List ℕ))
+pub requested_placing : (options : PlaceOptions) (system : System) (shop : Shop) (request : PlaceRequest) (source old new : Option (List ℕ))
     (outcome : Result (Unit {0}) AnswerFault)
     → request ≡ place_request options system → IfSome source (λ text. PlaceWritten (setup_of shop.machine shop.tools) text request old new outcome)
     → IfSome source (λ text. PlaceWritten (setup_of shop.machine shop.tools) text (place_request options system) old new outcome)
-placing_asked options system shop request source old new outcome is written =
+requested_placing options system shop request source old new outcome is written =
     subst (λ (r : PlaceRequest). IfSome source (λ text. PlaceWritten (setup_of shop.machine shop.tools) text r old new outcome)) is written
 
 pub placed_files : (bytes after : FileBytes) (options : PlaceOptions) (system : System) (shop : Shop) (source : Option (List ℕ)) (old new : Option (List ℕ))

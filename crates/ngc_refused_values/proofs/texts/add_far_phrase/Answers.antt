@@ -14,6 +14,7 @@ returns-clause-text c =
       c.add_inches_phrase.ensures.text,
       c.add_text-3.ensures,
       c.add_size.ensures.text,
+      c.limit.ensures,
       c.add_text-2.ensures,
       c.add_far.ensures.text,
       v0,

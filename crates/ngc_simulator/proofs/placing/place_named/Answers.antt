@@ -7,7 +7,7 @@ use Rattle.ngc_inputs.proofs.JobLaws.{keeps_same}
 use Rattle.ngc_inputs.proofs.UnreadLaws.{certify_told, placed_read, reported_before, unopened, unread_told}
 use Rattle.ngc_inputs.specs.Unread.{OfProgram, SourceFails, shop_inputs, unread_by}
 use Rattle.ngc_inputs.specs.declared.fault.AnswerFault.TheVariants as answers
-use Rattle.ngc_simulator.proofs.PlaceLaws.{placed_files, placing_asked}
+use Rattle.ngc_simulator.proofs.PlaceLaws.{placed_files, requested_placing}
 use Rattle.ngc_simulator.specs.Answers.{PlaceResult, PlaceWrittenOn, place_inputs, program_input}
 use Rattle.ngc_simulator.specs.Mistaken.{ReportsRefusal}
 use Rattle.ngc_simulator.proofs.placing.place_named.Goals as goal
@@ -36,7 +36,7 @@ returns-clause-comes g c =
     (placed_files (g.F.Files.bytes c.args.files.now) (g.F.Files.bytes c.read_placed_reporting.new.files) c.args.options.now c.args.system c.in_ok-shop.shop _
     (g.W.Sink.written c.read_placed_reporting.new.output) new (Ok tt)
     c.in_ok-shop.ensures.said.0 c.read_placed_reporting.ensures.keeps c.in_ok-source.ensures.bytes
-    (placing_asked c.args.options.now c.args.system c.in_ok-shop.shop c.request_of-request.result _ _ _ (Ok tt) c.request_of-request.ensures
+    (requested_placing c.args.options.now c.args.system c.in_ok-shop.shop c.request_of-request.result _ _ _ (Ok tt) c.request_of-request.ensures
     c.in_ok-place_program.ensures.writes))
 
 pub returns-in_err-place_program-clause-comes : goal.returns-in_err-place_program-clause-comes
@@ -53,7 +53,7 @@ returns-in_err-place_program-clause-comes g c =
       placed_files (g.F.Files.bytes c.args.files.now) (g.F.Files.bytes c.read_placed_reporting.new.files) c.args.options.now c.args.system c.in_ok-shop.shop _
           (g.W.Sink.written c.read_placed_reporting.new.output) new (Err fault)
           c.in_ok-shop.ensures.said.0 c.read_placed_reporting.ensures.keeps c.in_ok-source.ensures.bytes
-          (placing_asked c.args.options.now c.args.system c.in_ok-shop.shop c.request_of-request.result _ _ _ (Err fault) c.request_of-request.ensures
+          (requested_placing c.args.options.now c.args.system c.in_ok-shop.shop c.request_of-request.result _ _ _ (Err fault) c.request_of-request.ensures
           c.in_err-place_program.ensures.writes),
     )))
 
