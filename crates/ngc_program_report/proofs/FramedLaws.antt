@@ -16,7 +16,6 @@ use Rattle.ngc_job.specs.Job.{JobData}
 use Rattle.ngc_program_report.specs.Coordinates.{history_of}
 use Rattle.ngc_program_report.specs.Framed.{IsFramed, IsHistoryAt, setup_in}
 use Rattle.ngc_program_report.specs.Texts.{is_on}
-use Rattle.ngc_program_report.specs.declared.framed.FramedJob.{FramedJob}
 
 -- ---- if no line begins with `/`, the frames are the same at both settings
 

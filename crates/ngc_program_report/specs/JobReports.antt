@@ -1,5 +1,5 @@
 -- The text of the report of a job. Our own.
-use Rattle.std.specs.Prelude.{◌≡◌, ℕ, List, [], Option, Some, None, is_some, Result, Ok, Err, Bool}
+use Rattle.std.specs.Prelude.{◌≡◌, ℕ, List, [], Option, None, is_some, Result, Ok, Err, Bool}
 use Rattle.std.specs.Prelude.{true, false, IsTrue, slice_get}
 use Rattle.std.specs.List.{list_all}
 use Rattle.std.specs.Io.KnownBytes.{Appends, Keeps}

@@ -1,7 +1,7 @@
 use Rattle.std.proofs.Common.{ap, refl, rules}
 use Rattle.ngc_program_report.specs.FaultTexts.{list_text}
 use Rattle.ngc_program_report.proofs.WrittenLaws.{on_err}
-use Rattle.ngc_program_report.proofs.UseTimeLaws.{all_left, breaks_off, less_left, none_left}
+use Rattle.ngc_program_report.proofs.UseTimeLaws.{all_left, breaks_off, less_left}
 use Rattle.ngc_program_report.proofs.fault_writer.write_list.Goals as goal
 
 pub loop-one-init : goal.loop-one-init

@@ -16,8 +16,8 @@ write_setting-requires g c =
     let h = c.args.off_history.now in
     record { tips = c.requires.off_tips ∙ ap (λ (cs : List Command). lowest_tips h.start h.changes.items cs) (sym c.commands-off.ensures) }
 
-pub write_setting-2-requires : goal.write_setting-2-requires
-write_setting-2-requires g c =
+pub write_setting-requires-2 : goal.write_setting-requires-2
+write_setting-requires-2 g c =
     let h = c.args.on_history.now in
     record { tips = c.requires.on_tips ∙ ap (λ (cs : List Command). lowest_tips h.start h.changes.items cs) (sym c.commands-on.ensures) }
 

@@ -1,4 +1,4 @@
-use Rattle.std.proofs.Common.{◌≡◌, ℕ, List, None, Bool, ap}
+use Rattle.std.proofs.Common.{None}
 use Rattle.std.specs.Prelude.{is_some}
 use Rattle.ngc_fixed_length.specs.Grid.{grid}
 use Rattle.ngc_certificate.specs.PieceFault.{place_fault}

@@ -1,4 +1,4 @@
-use Rattle.std.proofs.Common.{None, Some, sym, ◌∙◌, ap, ap₂, ℕ, Option}
+use Rattle.std.proofs.Common.{None, Some, ◌∙◌, ap, ap₂, ℕ, Option}
 use Rattle.std.specs.Prelude.{slice_get}
 use Rattle.ngc_commands.specs.declared.movement.Way.{Way}
 use Rattle.ngc_frames.specs.InForce.{frame_in_force}
