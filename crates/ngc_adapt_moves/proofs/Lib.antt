@@ -12,3 +12,5 @@ pub mod AngleLaws
 pub mod PeckLaws
 -- The lines of several turns.
 pub mod TurnLaws
+-- Lines that go straight.
+mod StraightLaws

@@ -18,3 +18,4 @@ pub mod Words
 pub mod Turns
 pub mod Locals
 pub mod OwnLines
+pub mod Straight

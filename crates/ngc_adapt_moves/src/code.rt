@@ -6,6 +6,9 @@ pub const TRAVERSE: [u16; 1] = [0];
 /// G1, a straight feed.
 pub const FEED: [u16; 1] = [10];
 
+/// Straight moves: G0 and G1.
+pub const STRAIGHT: [u16; 2] = [0, 10];
+
 /// G2, an arc clockwise.
 pub const CLOCKWISE: [u16; 1] = [20];
 

@@ -19,6 +19,7 @@ mod report;
 mod rewriting;
 mod rule;
 mod savings;
+mod straight;
 mod text;
 mod turns;
 mod value;

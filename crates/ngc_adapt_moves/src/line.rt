@@ -259,6 +259,7 @@ fn is_again(places: &Places, plan: &Plan, modes: &Places, words: &[Word], deleta
 }
 
 // Returns the state after a line with these words, whose own words leave these modes.
+#[inline(never)]
 pub(crate) fn next_places(
     places: &Places,
     plan: &Plan,

@@ -354,7 +354,7 @@ fn led_to(distance: Option<Distance>, start: Option<Value>, value: Option<Value>
 }
 
 // Returns where the words of a line lead an axis.
-fn target_along(
+pub(crate) fn target_along(
     distance: Option<Distance>,
     start: Option<Value>,
     words: &[Word],
@@ -600,6 +600,7 @@ impl Places {
     }
 
     // Returns the modes that a line leaves, at the place before it.
+    #[inline(never)]
     pub(crate) fn modes_after(&self, words: &[Word]) -> Places
         ensures { result ≡ modes_after self.now words.now }
     {

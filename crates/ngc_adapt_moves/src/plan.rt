@@ -157,6 +157,7 @@ fn naming_if(holds: bool, naming: Naming) -> Naming
 }
 
 /// Returns the result of the rules for a line with these words, which leave these modes.
+#[inline(never)]
 pub(crate) fn plan_of(places: &Places, after: &Places, words: &[Word]) -> Plan
     requires { after.now ≡ modes_after places.now words.now }
     ensures { result ≡ spec.plan_of places.now words.now }
@@ -730,6 +731,7 @@ impl Plan {
     }
 
     /// Returns the rules that change the line.
+    #[inline(never)]
     pub(crate) fn rules(&self) -> ArrayVec<Rule, MOST_RULES>
         ensures { result.items ≡ rules_of self.now }
     {
@@ -752,6 +754,7 @@ impl Plan {
     }
 
     /// Returns why the line is left, if it is.
+    #[inline(never)]
     pub(crate) fn refusals(&self) -> ArrayVec<MoveRefusal, MOST_RULES>
         ensures { result.items ≡ refusals_of self.now }
     {

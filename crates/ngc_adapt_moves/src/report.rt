@@ -416,6 +416,7 @@ fn add_refusals<A: Allocator>(
 }
 
 // Adds the report of a line with this result of the rules.
+#[inline(never)]
 #[tactic(auto, unfolding(crate::specs::LineReports::plan_report))]
 pub(crate) fn add_plan_report<A: Allocator>(
     number: usize,

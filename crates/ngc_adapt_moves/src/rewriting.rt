@@ -8,6 +8,7 @@ use crate::places::Places;
 use crate::plan::{MOST_RULES, plan_of};
 use crate::report::{add_plan_report, add_refusal};
 use crate::rule::{MoveRefusal, Rule};
+use crate::straight::{is_straight, straight_after};
 use crate::word::read_words;
 use arrayvec::ArrayVec;
 use ngc_adapt::may_be_deleted;
@@ -76,6 +77,18 @@ pub fn rewrite_line<A: Allocator>(
         });
     };
     let words = words.as_slice();
+    let deletable = may_be_deleted(line);
+    // Nearly every line is such a line.
+    if is_straight(places, words, deletable) {
+        out.extend_from_slice(line)?;
+        return Ok(Rewritten {
+            rules: ArrayVec::new(),
+            refusals: ArrayVec::new(),
+            after: straight_after(places, words),
+            before_count: 0,
+            line_count: 1,
+        });
+    }
     let modes = places.modes_after(words);
     let plan = plan_of(places, &modes, words);
     add_rewritten(b"\n", &plan, line, out)?;
@@ -83,7 +96,7 @@ pub fn rewrite_line<A: Allocator>(
     Ok(Rewritten {
         rules: plan.rules(),
         refusals: plan.refusals(),
-        after: next_places(places, &plan, &modes, words, may_be_deleted(line)),
+        after: next_places(places, &plan, &modes, words, deletable),
         before_count: plan.before_count(),
         line_count: plan.line_count(),
     })
