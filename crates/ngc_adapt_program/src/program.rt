@@ -9,6 +9,7 @@ ghost use Rattle.ngc_adapt.specs.Reports.{line_report, left_out_report};
 ghost use Rattle.ngc_adapt_moves.specs.Lines.{written as moves_written, refusals_for, places_after};
 ghost use Rattle.ngc_adapt_moves.specs.LineReports.{line_report as moves_report};
 ghost use Rattle.ngc_adapt.specs.Openings as openings;
+ghost use Rattle.ngc_adapt.specs.Plain.{is_plain};
 ghost use Rattle.ngc_adapt_program.specs.Programs as spec;
 ghost use Rattle.ngc_adapt_program.specs.ToolNumbers.{tools_named};
 
@@ -530,15 +531,19 @@ impl<A: Allocator + Copy> Writing<A> {
         Ok(())
     }
 
-    // Adds the changes that make a line plain, and their report.
+    // Adds the changes that make a line plain, and their report. `plain` says whether the line is
+    // plain as it is, if the program hasn't ended.
     fn add_plain(
         &mut self,
         alloc: A,
         number: usize,
         progress: &Progress,
         body: &[u8],
+        plain: bool,
     ) -> Result<(), AllocError>
-        requires { self.old.before ≡ feeds self.old.text.items }
+        requires before { self.old.before ≡ feeds self.old.text.items }
+        requires plain { progress.now.ended ≡ false
+            → plain ≡ is_plain progress.now.levels body.now }
         ensures report { IfOk result (λ _. self.new.report.items ≡ self.old.report.items
             ++ spec.plainly_report number self.old.before progress.now body.now) }
         ensures changes { IfOk result (λ _. self.new.changes.items ≡ self.old.changes.items
@@ -549,7 +554,7 @@ impl<A: Allocator + Copy> Writing<A> {
         if progress.ended {
             return Ok(());
         }
-        if is_plain(progress.levels, body) {
+        if plain {
             return Ok(());
         }
         let written = self.before + 1;
@@ -792,17 +797,20 @@ fn add_body<A: Allocator + Copy>(
 }
 
 // Adds a line with these bytes as it is rewritten, with its changes and their report, and returns
-// the state after it. `read` is the part of the line that is read.
+// the state after it. `read` is the part of the line that is read, and `plain` says whether the line
+// is plain as it is, if the program hasn't ended.
 fn add_parts<A: Allocator + Copy>(
     alloc: A,
     number: usize,
     progress: &Progress,
     body: &[u8],
     read: &[u8],
+    plain: bool,
     lacks_feed: bool,
     out: &mut Writing<A>,
 ) -> Result<Progress, AllocError>
-    requires { out.old.before ≡ spec.feeds out.old.text.items }
+    requires before { out.old.before ≡ spec.feeds out.old.text.items }
+    requires plain { progress.now.ended ≡ false → plain ≡ is_plain progress.now.levels body.now }
     ensures text { IfOk result (λ _. out.new.text.items ≡ out.old.text.items
         ++ (spec.tool_line (spec.tool_before progress.now read.now)
         ++ spec.body_written progress.now read.now)) }
@@ -816,7 +824,7 @@ fn add_parts<A: Allocator + Copy>(
         (λ p. p ≡ spec.progress_after_body progress.now read.now lacks_feed) }
 {
     out.add_tool(number, progress.tool_before(read))?;
-    out.add_plain(alloc, number, progress, body)?;
+    out.add_plain(alloc, number, progress, body, plain)?;
     let after = add_body(alloc, number, progress, read, lacks_feed, out)?;
     Ok(after)
 }
@@ -846,17 +854,17 @@ fn add_read<A: Allocator + Copy>(
         ≡ spec.progress_after_body progress.now (spec.read_of progress.now body.now) lacks_feed) }
 {
     if progress.ended {
-        let after = add_parts(alloc, number, progress, body, body, lacks_feed, out)?;
+        let after = add_parts(alloc, number, progress, body, body, true, lacks_feed, out)?;
         return Ok(after);
     }
     if is_plain(progress.levels, body) {
-        let after = add_parts(alloc, number, progress, body, body, lacks_feed, out)?;
+        let after = add_parts(alloc, number, progress, body, body, true, lacks_feed, out)?;
         return Ok(after);
     }
     let mut plain = Vec::new(alloc);
     add_plain_line(alloc, progress.levels, body, &mut plain)?;
     let read = plain.as_slice();
-    let after = add_parts(alloc, number, progress, body, read, lacks_feed, out)?;
+    let after = add_parts(alloc, number, progress, body, read, false, lacks_feed, out)?;
     Ok(after)
 }
 
