@@ -42,6 +42,7 @@ fn one_refusal(refusal: WordRefusal) -> ArrayVec<WordRefusal, MOST_REFUSALS>
 }
 
 // Rewrites a line with these words item by item, and adds a line of the report for each change.
+#[inline(never)]
 #[tactic(auto, using(crate::proofs::ReadItems::can_be_read, crate::proofs::ReadItems::words_found))]
 fn add_items<A: Allocator>(
     number: usize,

@@ -135,8 +135,12 @@ fn tenths(decimals: &[u8]) -> u16
 fn code_in(negative: bool, whole: &[u8], decimals: &[u8]) -> Option<u16>
     ensures { result ≡ numbers.code_in negative whole.now decimals.now }
 {
+    // Nearly all numbers but those of codes have more than one decimal.
+    if negative || !are_noughts(without_first(decimals)) {
+        return None;
+    }
     let value = limited_value(whole);
-    if negative || value >= 1000 || !are_noughts(without_first(decimals)) {
+    if value >= 1000 {
         return None;
     }
     Some(10 * value + tenths(decimals))

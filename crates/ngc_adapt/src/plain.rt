@@ -177,6 +177,7 @@ fn add_rule(holds: bool, rule: Rule, rules: &mut ArrayVec<Rule, MOST_PLAIN_RULES
 }
 
 /// Returns the rules that make a line plain. An error means that memory was refused.
+#[inline(never)]
 #[tactic(auto, unfolding(crate::specs::Plain::plain_rules))]
 pub fn plain_rules<A: Allocator + Copy>(
     alloc: A,

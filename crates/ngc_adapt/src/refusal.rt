@@ -327,9 +327,16 @@ impl Modes {
     pub fn refusal_for(&self, words: &[Word], word: &Word) -> Option<WordRefusal>
         ensures { result ≡ refusal_for self.now words.now word.now }
     {
-        match self.rule_of(words, word) {
-            Some(_) => None,
-            None => self.word_refusal(words, word),
+        // Few words have a refusal, and a look at the rules takes longer.
+        match self.word_refusal(words, word) {
+            Some(refusal) => {
+                if self.rule_of(words, word).is_some() {
+                    None
+                } else {
+                    Some(refusal)
+                }
+            }
+            None => None,
         }
     }
 }

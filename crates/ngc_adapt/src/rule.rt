@@ -966,11 +966,14 @@ impl Modes {
     fn is_idle_offset(&self, words: &[Word], letter: Letter) -> bool
         ensures { result ≡ is_idle_offset self.now words.now letter }
     {
-        self.is_motion_line(words)
-            && self
-                .motion
-                .after(words)
-                .has_no_offset(self.plane.after(words), letter)
+        if !self.is_motion_line(words) {
+            return false;
+        }
+        match self.motion.after(words) {
+            // A straight motion has none in any plane.
+            Motion::Straight | Motion::Unnamed => true,
+            motion => motion.has_no_offset(self.plane.after(words), letter),
+        }
     }
 
     // Returns whether another motion code on the line of G80 ends the cycle in force as well.

@@ -78,7 +78,8 @@ pub fn rewrite_line<A: Allocator>(
     };
     let words = words.as_slice();
     let deletable = may_be_deleted(line);
-    // Nearly every line is such a line.
+    // Nearly every line is such a line. What other lines need is kept out of line, since each call
+    // pays for the locals of what is inlined.
     if is_straight(places, words, deletable) {
         out.extend_from_slice(line)?;
         return Ok(Rewritten {

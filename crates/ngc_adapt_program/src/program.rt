@@ -416,6 +416,7 @@ fn add_added<A: Allocator>(
     Ok(())
 }
 
+#[inline(never)]
 fn add_tool_report<A: Allocator>(
     number: usize,
     line: usize,
@@ -582,6 +583,7 @@ impl<A: Allocator + Copy> Writing<A> {
     }
 
     // Adds the change of a line that is left out, and its report.
+    #[inline(never)]
     fn add_left(
         &mut self,
         number: usize,
@@ -722,7 +724,7 @@ fn add_executed<A: Allocator + Copy>(
         (written progress.now.modes body.now)))))) }
     ensures progress { IfOk result (λ p. p ≡ spec.after_body progress.now body.now lacks_feed) }
 {
-    let mut line = Vec::new(alloc);
+    let mut line = Vec::with_capacity(alloc, body.len())?;
     let executed = out.add_words(number, progress, body, &mut line)?;
     let places = if executed.is_refused {
         out.is_left = true;
@@ -925,6 +927,7 @@ fn add_counted<A: Allocator + Copy>(
 }
 
 // Adds the percent sign that begins the text as a line of its own, and what follows it as another.
+#[inline(never)]
 fn add_opened<A: Allocator + Copy>(
     alloc: A,
     number: usize,

@@ -1,5 +1,4 @@
 use Rattle.std.proofs.Common.{◌≡◌, ◌++◌, ℕ, Bool, List, Some, true, ap, sym, ◌∙◌}
-use Rattle.ngc_adapt.specs.Items.{may_be_deleted}
 use Rattle.ngc_adapt_moves.specs.Straight.{is_straight}
 use Rattle.ngc_adapt_moves.specs.Words.{words_of}
 use Rattle.ngc_adapt_moves.proofs.LineLaws.{written_is, rules_are, report_is}
