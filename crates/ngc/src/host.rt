@@ -36,6 +36,7 @@ pub struct HostFiles<'a> {
 }
 
 impl<'a> HostFiles<'a> {
+    /// Returns the files of this computer, with no failure yet.
     pub fn new(rt: &'a HostRuntime) -> HostFiles<'a> {
         HostFiles { rt, failures: 0 }
     }

@@ -10,6 +10,7 @@ pub struct Output {
 }
 
 impl Output {
+    /// Returns an output that has written nothing.
     pub fn new(stdout: Stdout) -> Output {
         Output {
             stdout,

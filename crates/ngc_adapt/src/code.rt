@@ -3,6 +3,7 @@
 /// Straight motions.
 pub const STRAIGHT: [u16; 2] = [0, 10];
 
+/// Arcs: G2 and G3.
 pub const ARCS: [u16; 2] = [20, 30];
 
 /// Canned cycles, of which our language has some.
@@ -11,10 +12,13 @@ pub const CYCLES: [u16; 12] = [730, 740, 760, 810, 820, 830, 840, 850, 860, 870,
 /// The end of a motion mode.
 pub const MOTION_END: [u16; 1] = [800];
 
+/// The XY plane.
 pub const PLANE_XY: [u16; 1] = [170];
 
+/// The ZX plane.
 pub const PLANE_ZX: [u16; 1] = [180];
 
+/// The YZ plane.
 pub const PLANE_YZ: [u16; 1] = [190];
 
 /// Motion along the path that is programmed, within a tolerance.
@@ -43,6 +47,7 @@ pub const ALTERING: [u16; 11] = [121, 160, 411, 421, 510, 511, 660, 680, 682, 90
 /// The units of other controls: inches and millimetres.
 pub const INCHES: [u16; 1] = [700];
 
+/// Lengths in millimetres.
 pub const MILLIMETRES: [u16; 1] = [710];
 
 /// G43.4, a tool length offset that follows rotary axes.
@@ -105,18 +110,25 @@ pub const SUBPROGRAM_END: [u16; 1] = [990];
 /// Compensation of the cutter's radius.
 pub const COMPENSATION: [u16; 4] = [410, 411, 420, 421];
 
+/// Motions up to a probe's contact.
 pub const PROBING: [u16; 5] = [310, 382, 383, 384, 385];
 
+/// Tapping.
 pub const TAPPING: [u16; 2] = [740, 840];
 
+/// Threads.
 pub const THREADS: [u16; 3] = [330, 331, 760];
 
+/// Boring on the way out of a hole, G87 and G88.
 pub const BACK_BORING: [u16; 2] = [870, 880];
 
+/// Rotation of the coordinates.
 pub const ROTATION: [u16; 2] = [680, 682];
 
+/// Scaling of the coordinates.
 pub const SCALING: [u16; 2] = [510, 511];
 
+/// Polar coordinates.
 pub const POLAR: [u16; 2] = [121, 160];
 
 /// G54.1 and G154, which name more coordinate systems by P.

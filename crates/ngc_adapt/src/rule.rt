@@ -203,6 +203,7 @@ fn is_among(codes: &[u16], code: u16) -> bool
     codes.iter().any(|c| *c == code)
 }
 
+/// Returns whether a code is one of these.
 pub fn is_one_of(codes: &[u16], code: Option<u16>) -> bool
     ensures { result ≡ spec.is_one_of codes.now code }
 {

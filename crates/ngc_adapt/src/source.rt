@@ -28,7 +28,7 @@ fn line_length(text: &[u8]) -> usize
     }
 }
 
-// Returns the first line of a text, and what follows it.
+/// Returns the first line of a text, and what follows it.
 #[tactic(auto, using(crate::proofs::SourceLaws::lines_step))]
 pub fn split_line(text: &[u8]) -> (&[u8], &[u8])
     requires { 0 < length text.now }
@@ -56,7 +56,7 @@ fn without_end(byte: u8, text: &[u8]) -> &[u8]
     }
 }
 
-// Returns how many bytes a line has without its line feed and a carriage return before it.
+/// Returns how many bytes a line has without its line feed and a carriage return before it.
 pub fn body_length(line: &[u8]) -> usize
     ensures value { result ≡ spec.body_length line.now }
     ensures within { result ≤ length line.now }

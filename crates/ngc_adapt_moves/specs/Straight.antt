@@ -43,8 +43,8 @@ abbrev pub drills_no_more : Drilling → Bool
 drills_no_more drillings.Off = true
 drills_no_more _ = false
 
--- A line has nothing but such words, which go straight, block delete can't take it out, and it
--- neither has to name its motion nor repeats a hole.
+-- A line has only such words, and G0 or G1 is in force after it. Block delete can't take it out.
+-- Nothing is left over from the lines before: it need not name its motion, and drills no hole.
 abbrev pub is_straight : Places → List Word → Bool → Bool
 is_straight places words deletable =
     not (deletable || places.motion_again)

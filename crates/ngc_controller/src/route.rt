@@ -141,6 +141,7 @@ impl<K: ArcKernel + Drop> Loaded<K> {
         }
     }
 
+    /// Returns the command.
     pub fn command(&self) -> &Command
         ensures { result.now ≡ self.now.queued.command }
     {

@@ -205,6 +205,7 @@ fn add_place(chunk: &mut Chunk, fault: &AnswerFault)
     }
 }
 
+/// Adds the line of a fault, as it is written to standard error.
 pub fn add_fault_line(chunk: &mut Chunk, fault: &AnswerFault)
     requires { length chunk.old + 500 ≤ CHUNK_SIZE }
     ensures { chunk.new ≡ chunk.old ++ fault_line fault.now }

@@ -103,8 +103,9 @@ fn add_tip<A: Allocator>(
 ///
 /// A height is in the program's coordinates: that of the tool's tip if its length offset is in
 /// force, otherwise that of the spindle nose. A motion's start doesn't count, since it is the end
-/// of an earlier motion. Of several motions that go equally low, the first counts. Motions home
-/// (G28, G30) and in machine coordinates (G53) count too.
+/// of an earlier motion; only an arc that begins at one of its quadrant points goes there again. Of
+/// several motions that go equally low, the first counts. Motions home (G28, G30) and in machine
+/// coordinates (G53) count too.
 ///
 /// It returns an error only if memory runs out.
 pub fn lowest_tips<A: Allocator + Copy>(

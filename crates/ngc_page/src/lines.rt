@@ -18,6 +18,7 @@ pub struct Lines {
 }
 
 impl Lines {
+    /// Returns no lines.
     pub fn new() -> Lines
         ensures taken { result.taken.items ≡ [] }
         ensures failures { result.failures ≡ 0 }

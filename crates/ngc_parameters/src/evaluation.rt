@@ -15,6 +15,8 @@ use crate::fault::EvalFault;
 use ngc_fixed_length::{NumberFault, Value};
 use ngc_line_reader::{Operator, Symbol, Token};
 
+/// Returns the index of the parameter with this number. Returns an error if the number isn't whole,
+/// or isn't from 1 to 5160.
 pub fn index_of(value: Value) -> Result<usize, EvalFault>
     ensures value { result ≡ index_found value }
     ensures not_memory { IfErr result (λ e. e ≢ EvalFault.Memory) }
@@ -63,6 +65,8 @@ fn join(before: Option<(Value, Operator)>, term: Value) -> Result<Value, EvalFau
     }
 }
 
+/// Returns the value at the start of some tokens, and the tokens after it. `room` is how many brackets
+/// may still be open inside one another.
 #[cycle(evaluate)]
 #[tactic(auto, using(crate::proofs::EvaluateSteps::value_step))]
 pub fn value_at<'a>(

@@ -60,8 +60,8 @@ fn motions_at<'a, A: Allocator>(
         .motions(commands, accepted.machine().step)
 }
 
-// Returns the lowest heights of an accepted program, at a setting of block delete. If memory runs
-// out, that is 900.
+// Returns the lowest heights of an accepted program at a setting of block delete, or 900 if memory
+// runs out.
 fn tips_at<A: Allocator + Copy>(
     alloc: A,
     history: &FrameHistory<A>,

@@ -16,6 +16,7 @@ pub struct RowFiles<'a> {
 }
 
 impl<'a> RowFiles<'a> {
+    /// Returns the files that a row names, with those that rows share.
     pub fn new(alloc: Global, row: &'a Row, shared: &'a [Text]) -> RowFiles<'a> {
         RowFiles {
             row,

@@ -24,6 +24,7 @@ pub struct Reader {
 const LINES: Spelling = Spelling::Lines(1);
 
 impl Reader {
+    /// Returns a reader that has read nothing.
     pub fn new(alloc: Global) -> Reader {
         Reader {
             name: String::new(alloc),

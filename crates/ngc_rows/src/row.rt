@@ -64,6 +64,7 @@ fn has_lines(found: &[u8], lines: &[u8], wanted: bool) -> bool {
 }
 
 impl Row {
+    /// Returns a row that begins in this line, with the words of its command.
     pub fn new(alloc: Global, line: u32, words: &str) -> Result<Row, AllocError> {
         Ok(Row {
             line,

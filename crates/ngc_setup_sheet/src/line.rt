@@ -1,6 +1,7 @@
 use ngc_fixed_length::{Point3, System};
 use ngc_machine_files::Name;
 
+/// An axis of the machine.
 #[derive(Clone, Copy)]
 pub enum Axis {
     X,

@@ -48,6 +48,7 @@ pub struct Device<T> {
 }
 
 impl<T> Device<T> {
+    /// Returns the device round a source or a sink, with no failure yet.
     pub fn new(inner: T) -> Device<T>
         ensures inner { inner_of result ≡ inner }
         ensures failures { failures_of result ≡ 0 }
@@ -55,6 +56,7 @@ impl<T> Device<T> {
         Device { inner, failures: 0 }
     }
 
+    /// Returns the source or the sink.
     pub fn into_inner(self) -> T
         ensures { result ≡ inner_of self }
     {

@@ -41,7 +41,7 @@ impl LineBuffer {
     }
 }
 
-// Whether the text continues.
+/// Whether the text continues.
 #[derive(Clone, Copy)]
 pub enum Step {
     More,
