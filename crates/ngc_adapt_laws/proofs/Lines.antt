@@ -5,7 +5,7 @@ use Rattle.std.specs.List.{list_all, concat, cons_option, filter_map, AllByRecur
 use Rattle.std.specs.Char.{is_ascii_digit}
 use Rattle.std.proofs.lemmas.Bool.Decides.{nat_tests}
 use Rattle.std.proofs.lemmas.List.{append-nil}
-use Rattle.ngc_line_reader.specs.Grammar.{IsItem, Item, IsLineNumber, Reads, behind, items_text}
+use Rattle.ngc_line_reader.specs.Grammar.{IsItem, Item, IsLineNumber, Reads, optional_part, items_text}
 use Rattle.ngc_line_reader.specs.Grammar as grammar
 use Rattle.ngc_line_reader.specs.declared.text.Place.TheVariants.{Outside}
 use Rattle.ngc_line_reader.specs.Text.{text_from, upper}
@@ -94,7 +94,7 @@ number_bytes (b ∷ value) h =
     let letter = and_parts (upper b == 78) (is_five_digits (without_blanks value)) parts.1 in
     and_both (is_plain_byte b) (list_all is_plain_byte value) (plain_letter b (least b (is_same (upper b) 78 letter.0))) parts.0
 
-number_shown : (item : List ℕ) → is_line_number item ≡ true → shown item ≡ behind 78 (Some (digits_in item))
+number_shown : (item : List ℕ) → is_line_number item ≡ true → shown item ≡ optional_part 78 (Some (digits_in item))
 number_shown [] h = absurd cc
 number_shown (b ∷ value) h =
     let parts = and_parts (list_all is_plain_byte value) ((upper b == 78) && is_five_digits (without_blanks value)) h in
@@ -122,13 +122,13 @@ number_valid (b ∷ value) h =
 
 -- a slash or none, a line number or none, and words after them
 reads_with : (deleted : Bool) (number : Option (List ℕ)) (front : List ℕ) (items : List (List ℕ)) → list_all is_plain_byte front ≡ true
-    → shown front ≡ slash_text deleted ++ behind 78 number → IsLineNumber number → list_all is_plain_item items ≡ true
+    → shown front ≡ slash_text deleted ++ optional_part 78 number → IsLineNumber number → list_all is_plain_item items ≡ true
     → Reads (front ++ concat items) (reading deleted number items)
 reads_with deleted number front items plain is valid h =
     let words = items_text (filter_map item_in items) in (
       (valid, items_valid items h),
-      ap (λ (s : List ℕ). slash_text deleted ++ (behind 78 number ++ s)) (append-nil words)
-          ∙ sym (append_assoc (slash_text deleted) (behind 78 number) words)
+      ap (λ (s : List ℕ). slash_text deleted ++ (optional_part 78 number ++ s)) (append-nil words)
+          ∙ sym (append_assoc (slash_text deleted) (optional_part 78 number) words)
           ∙ ap (λ (s : List ℕ). s ++ words) (sym is)
           ∙ ap (λ (s : List ℕ). shown front ++ s) (sym (items_read items h))
           ∙ sym (text_front front (concat items) plain),

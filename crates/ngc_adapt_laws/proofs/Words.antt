@@ -6,7 +6,7 @@ use Rattle.std.specs.Char.{is_ascii_digit}
 use Rattle.std.proofs.lemmas.Bool.Decides.{nat_tests}
 use Rattle.std.proofs.lemmas.List.{map-append, take-append-drop}
 use Rattle.ngc_line_reader.specs.Grammar as grammar
-use Rattle.ngc_line_reader.specs.Grammar.{IsDigits, IsNumeral, IsReal, IsItem, Item, Numeral, Sign, behind, items_text, digits_of, numeral_text, item_text, sign_text}
+use Rattle.ngc_line_reader.specs.Grammar.{IsDigits, IsNumeral, IsReal, IsItem, Item, Numeral, Sign, optional_part, items_text, digits_of, numeral_text, item_text, sign_text}
 use Rattle.ngc_line_reader.specs.declared.letter.Letter.{Letter}
 use Rattle.ngc_line_reader.specs.Letter.{letter_of}
 use Rattle.ngc_line_reader.specs.declared.text.Place.TheVariants.{InComment, Outside}
@@ -68,7 +68,7 @@ all_digits (b ∷ rest) h =
 -- ---- the point and the decimals
 
 tail_step : (z t : Bool) (b : ℕ) (r : List ℕ) → z ≡ false → (z || t) ≡ true → (t ≡ true → b ≡ 46)
-    → behind 46 (if t then Some r else None) ≡ b ∷ r
+    → optional_part 46 (if t then Some r else None) ≡ b ∷ r
 tail_step true t b r n h f = absurd cc
 tail_step false true b r n h f = ap (λ (x : ℕ). x ∷ r) (sym (f refl))
 tail_step false false b r n h f = absurd cc
@@ -76,7 +76,7 @@ tail_step false false b r n h f = absurd cc
 not_empty : (b : ℕ) (r : List ℕ) → (length (b ∷ r) == 0) ≡ false
 not_empty b r = grind (arith, nat_tests)
 
-tail_is : (rest : List ℕ) → ((length rest == 0) || begins 46 rest) ≡ true → behind 46 (if begins 46 rest then Some (drop 1 rest) else None) ≡ rest
+tail_is : (rest : List ℕ) → ((length rest == 0) || begins 46 rest) ≡ true → optional_part 46 (if begins 46 rest then Some (drop 1 rest) else None) ≡ rest
 tail_is [] h = refl
 tail_is (b ∷ r) h =
     tail_step (length (b ∷ r) == 0) (begins 46 (b ∷ r)) b r (not_empty b r) h
@@ -130,17 +130,17 @@ upper_sign grammar.bare = refl
 upper_sign grammar.plus = refl
 upper_sign grammar.minus = refl
 
-upper_behind : (o : Option (List ℕ)) → IsDigits (digits_of o) → map upper (behind 46 o) ≡ behind 46 o
+upper_behind : (o : Option (List ℕ)) → IsDigits (digits_of o) → map upper (optional_part 46 o) ≡ optional_part 46 o
 upper_behind None h = refl
 upper_behind (Some ds) h = ap (λ (xs : List ℕ). 46 ∷ xs) (upper_digits ds h)
 
 upper_numeral : (n : Numeral) → IsNumeral n → map upper (numeral_text n) ≡ numeral_text n
 upper_numeral n h =
-    map-append upper (sign_text n.sign) (n.whole ++ behind 46 n.decimals)
-    ∙ ap (λ (x : List ℕ). x ++ map upper (n.whole ++ behind 46 n.decimals)) (upper_sign n.sign)
+    map-append upper (sign_text n.sign) (n.whole ++ optional_part 46 n.decimals)
+    ∙ ap (λ (x : List ℕ). x ++ map upper (n.whole ++ optional_part 46 n.decimals)) (upper_sign n.sign)
     ∙ ap (λ (x : List ℕ). sign_text n.sign ++ x)
-    (map-append upper n.whole (behind 46 n.decimals)
-    ∙ ap (λ (x : List ℕ). x ++ map upper (behind 46 n.decimals)) (upper_digits n.whole h.0)
+    (map-append upper n.whole (optional_part 46 n.decimals)
+    ∙ ap (λ (x : List ℕ). x ++ map upper (optional_part 46 n.decimals)) (upper_digits n.whole h.0)
     ∙ ap (λ (x : List ℕ). n.whole ++ x) (upper_behind n.decimals h.1))
 
 -- ---- words

@@ -214,7 +214,7 @@ come_up g a z q (r ∷ s ∷ rs) p h c at pz zq pq pe =
     let k = inner_piece g a q r at c.0 in
     let x = seen (pos g) a p in
     elim (sides a r x) [
-      | inl behind ↦ (elim (go_from g a r (s ∷ rs) p h c.1 k.second behind) [
+      | inl afterwards ↦ (elim (go_from g a r (s ∷ rs) p h c.1 k.second afterwards) [
         | inl later ↦ inl (any_there (λ b. IsIn b p) (cut_box (pos g) a q r) (cut_boxes (pos g) a r (s ∷ rs)) later)
         | inr all ↦ absurd (not_both a x (end_of a) pe all.1)
       ])
@@ -235,7 +235,7 @@ come_from g a q (r ∷ s ∷ rs) p h c at pq pe =
     let k = inner_piece g a q r at c.0 in
     let x = seen (pos g) a p in
     elim (sides a r x) [
-      | inl behind ↦ (elim (go_from g a r (s ∷ rs) p h c.1 k.second behind) [
+      | inl afterwards ↦ (elim (go_from g a r (s ∷ rs) p h c.1 k.second afterwards) [
         | inl later ↦ inl (any_there (λ b. IsIn b p) (cut_box (pos g) a q r) (cut_boxes (pos g) a r (s ∷ rs)) later)
         | inr all ↦ absurd (not_both a x (end_of a) pe all.1)
       ])
@@ -383,7 +383,7 @@ by_sector : (g : ℕ) (a : ArcShape) (cuts : List Point2) (p : StepPos) → IsTo
 by_sector g a cuts p h c s =
     let b = start_of a in let e = end_of a in let x = seen (pos g) a p in
     elim (sides a b x) [
-      | inl behind ↦ one_held g a cuts p (go_from g a b cuts p h c (start_reached a g h.arc) behind) (λ be ex. no_way s be ex)
+      | inl afterwards ↦ one_held g a cuts p (go_from g a b cuts p h c (start_reached a g h.arc) afterwards) (λ be ex. no_way s be ex)
       | inr before ↦ other_held g a cuts p (come_from g a b cuts p h c (start_reached a g h.arc) before (end_ahead s before)) (λ be. no_turn s before be)
     ]
   where

@@ -23,8 +23,8 @@ one_more_stays : (line : NumberedLine) (lines : List NumberedLine) (b : Bool) �
     → remaining true (line ∷ lines) ≡ line ∷ lines
 one_more_stays line lines true e none rest = absurd (cc (none, ap (λ (x : Bool). x || has_deleted lines) e))
 one_more_stays line lines false e none rest =
-    let behind : List NumberedLine = remaining true lines in
-    ap (λ (x : Bool). if x then behind else line ∷ behind) e ∙ ap (λ (l : List NumberedLine). line ∷ l)
+    let afterwards : List NumberedLine = remaining true lines in
+    ap (λ (x : Bool). if x then afterwards else line ∷ afterwards) e ∙ ap (λ (l : List NumberedLine). line ∷ l)
     (rest (sym (ap (λ (x : Bool). x || has_deleted lines) e) ∙ none))
 
 pub all_stay : (lines : List NumberedLine) → has_deleted lines ≡ false → remaining true lines ≡ lines
@@ -61,7 +61,7 @@ pub deleted_from : (lines : List Line) (rs : List Reading) (i : ℕ) (bytes : Li
 deleted_from lines rs i bytes deleted number h next =
     let rest : Bool = has_deleted (with_readings (drop (i + 1) lines) (drop (i + 1) rs)) in
     let same : next.reading ≡ h.reading = one_reading bytes next.reading h.reading next.reads h.reads in
-    ap has_deleted next.behind ∙ ap (λ (x : Bool). x || rest) (ap (λ (x : Reading). x.deleted) same ∙ sym h.says)
+    ap has_deleted next.afterwards ∙ ap (λ (x : Bool). x || rest) (ap (λ (x : Reading). x.deleted) same ∙ sym h.says)
 
 pub none_from : (lines : List Line) (rs : List Reading) (i : ℕ) → length lines ≤ i → has_deleted (with_readings (drop i lines) (drop i rs)) ≡ false
 none_from lines rs i h = ap (λ (l : List Line). has_deleted (with_readings l (drop i rs))) (drop_of_length-le lines h)

@@ -33,7 +33,7 @@ use Rattle.ngc_canonical.specs.Meaning.{from_state, with_readings}
 pub record NextLine (lines : List Line) (rs : List Reading) (i number : ℕ) (bytes : List ℕ) : Type 0 where
   pub reading : Reading
   pub reads : Reads bytes reading
-  pub behind : with_readings (drop i lines) (drop i rs) ≡ record { number = number; reading = reading } ∷ with_readings (drop (i + 1) lines) (drop (i + 1) rs)
+  pub afterwards : with_readings (drop i lines) (drop i rs) ≡ record { number = number; reading = reading } ∷ with_readings (drop (i + 1) lines) (drop (i + 1) rs)
 
 pub next_line : (lines : List Line) (rs : List Reading) (i number : ℕ) (line : Line) → AreReadings lines rs → slice_get lines i ≡ Some line →
     line.number ≡ number → NextLine lines rs i number line.bytes
@@ -44,12 +44,12 @@ next_line (x ∷ lines) (r ∷ rs) zero number line are at n =
     record {
       reading = r;
       reads = subst (λ (l : Line). Reads l.bytes r) same are.0;
-      behind = ap (λ (k : ℕ). record { number = k; reading = r } ∷ with_readings lines rs) (ap (λ (l : Line). l.number) same ∙ n);
+      afterwards = ap (λ (k : ℕ). record { number = k; reading = r } ∷ with_readings lines rs) (ap (λ (l : Line). l.number) same ∙ n);
     }
 next_line (x ∷ lines) (r ∷ rs) (suc i) number line are at n =
     let further = next_line lines rs i number line are.2 at n in
     let e : suc i + 1 ≡ suc (i + 1) = omega arith in
-    record { reading = further.reading; reads = further.reads; behind = rw e further.behind }
+    record { reading = further.reading; reads = further.reads; afterwards = rw e further.afterwards }
 
 -- a line that block delete takes out changes nothing, another leads to the lines after it
 pub step_remaining : (setup : Setup) (p : Program) (block_delete : Bool) (number : ℕ) (r : Reading) (rest : List NumberedLine) (s : State) → s.ended ≡ false
@@ -135,7 +135,7 @@ pub left_step : (setup : Setup) (p : Program) (block_delete : Bool) (lines : Lis
     → left setup p block_delete lines rs i s ≡ then_lines (after_line setup block_delete number next.reading s)
     (λ t. left setup p block_delete lines rs (i + 1) t)
 left_step setup p block_delete lines rs i number bytes s running next =
-    ap (λ (l : List NumberedLine). from_state setup p (remaining block_delete l) s) next.behind
+    ap (λ (l : List NumberedLine). from_state setup p (remaining block_delete l) s) next.afterwards
     ∙ step_remaining setup p block_delete number next.reading (with_readings (drop (i + 1) lines) (drop (i + 1) rs)) s running
 
 pub left_refused : (setup : Setup) (p : Program) (block_delete : Bool) (lines : List Line) (rs : List Reading) (i number : ℕ) (bytes : List ℕ) (s : State)

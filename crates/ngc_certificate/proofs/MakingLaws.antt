@@ -17,13 +17,13 @@ use Rattle.ngc_certificate_text.specs.declared.piece.Piece.{Piece}
 use Rattle.ngc_certificate_text.specs.Certificate.{Entry}
 use Rattle.ngc_certificate.specs.PieceFault.{place_fault}
 use Rattle.ngc_certificate.specs.Made.{with_entry, unless_met, MayFindPieces, IsMadeFrom, IsSettingMade}
-use Rattle.ngc_certificate.specs.Making.{behind, MadeSoFar, IsAllowedFrom, Leads, SettingResultIs}
+use Rattle.ngc_certificate.specs.Making.{afterwards, MadeSoFar, IsAllowedFrom, Leads, SettingResultIs}
 use Rattle.ngc_certificate.specs.declared.maker.MotionRefusal.{MotionRefusal}
 use Rattle.ngc_certificate.specs.declared.maker.MotionRefusal.TheVariants.{NotCleared, Memory}
 use Rattle.ngc_certificate.proofs.SomeMade.{some_made}
 
 after_entry : (motions : List Entry) (k : ℕ) (pieces : List Piece) (r : Result (List Entry) ℕ) →
-    behind motions (with_entry k pieces r) ≡ behind (motions ++ (record { index = k; pieces = pieces } ∷ [])) r
+    afterwards motions (with_entry k pieces r) ≡ afterwards (motions ++ (record { index = k; pieces = pieces } ∷ [])) r
 after_entry motions k pieces (Ok rest) =
     let e : Entry = record { index = k; pieces = pieces } in
     ap (λ (l : List Entry). Ok l) (sym (append_assoc motions (e ∷ []) rest))
@@ -34,25 +34,25 @@ pub goes_on : (machine : MachineFile) (most k : ℕ) (tool : Option Tool) (place
     (pieces same : List Piece) (actions : List Action) (says rest : Result (List Entry) ℕ) →
     MayFindPieces machine most tool m.way (Some pieces) → same ≡ pieces → new_motions ≡ motions ++ (record { index = k; pieces = same } ∷ []) →
     new_place ≡ end_of m.way →
-    IsMadeFrom machine most (k + 1) tool new_place actions rest → says ≡ behind new_motions rest →
-    (all : Result (List Entry) ℕ) × IsMadeFrom machine most k tool place (Move m ∷ actions) all × (says ≡ behind motions all)
+    IsMadeFrom machine most (k + 1) tool new_place actions rest → says ≡ afterwards new_motions rest →
+    (all : Result (List Entry) ℕ) × IsMadeFrom machine most k tool place (Move m ∷ actions) all × (says ≡ afterwards motions all)
 goes_on machine most k tool place new_place motions new_motions m pieces same actions says rest found same_pieces added ends made e = (
   with_entry k pieces rest,
   (Some pieces, rest, found, subst (λ p. IsMadeFrom machine most (k + 1) tool p actions rest) ends made, refl),
-  e ∙ ap (λ ms. behind ms rest) added ∙ ap (λ ps. behind (motions ++ (record { index = k; pieces = ps } ∷ [])) rest) same_pieces
+  e ∙ ap (λ ms. afterwards ms rest) added ∙ ap (λ ps. afterwards (motions ++ (record { index = k; pieces = ps } ∷ [])) rest) same_pieces
       ∙ sym (after_entry motions k pieces rest),
 )
 
 -- one for which none are found
 pub stops : (machine : MachineFile) (most k : ℕ) (tool : Option Tool) (place : Point3) (motions : List Entry) (m : Motion) (actions : List Action) →
     MayFindPieces machine most tool m.way None → (all : Result (List Entry) ℕ) × IsMadeFrom machine most k tool place (Move m ∷ actions) all ×
-    (Err k ≡ behind motions all)
+    (Err k ≡ afterwards motions all)
 stops machine most k tool place motions m actions found =
     let rest = some_made machine most (k + 1) tool (end_of m.way) actions in
     (Err k, (None, rest.0, found, rest.1, refl), refl)
 
 met : (found : Option ℕ) (k : ℕ) (motions : List Entry) (rest : Result (List Entry) ℕ) → is_none found ≡ false →
-    Err k ≡ behind motions (unless_met found k rest)
+    Err k ≡ afterwards motions (unless_met found k rest)
 met None k motions rest h = absurd (true≢false h)
   where
     true≢false : true ≡ false → ⊥
@@ -62,7 +62,7 @@ met (Some fixture) k motions rest h = refl
 -- a tool that meets a fixture
 pub not_mounted : (machine : MachineFile) (most k : ℕ) (tool new : Option Tool) (place : Point3) (motions : List Entry) (actions : List Action) →
     is_none (place_fault machine new (grid machine.step place)) ≡ false →
-    (all : Result (List Entry) ℕ) × IsMadeFrom machine most k tool place (Mount new ∷ actions) all × (Err k ≡ behind motions all)
+    (all : Result (List Entry) ℕ) × IsMadeFrom machine most k tool place (Mount new ∷ actions) all × (Err k ≡ afterwards motions all)
 not_mounted machine most k tool new place motions actions h =
     let rest = some_made machine most (k + 1) new place actions in
     let found = place_fault machine new (grid machine.step place) in
@@ -70,11 +70,11 @@ not_mounted machine most k tool new place motions actions h =
 
 -- ---- all commands of a setting
 
-pub nothing_before : (says rest : Result (List Entry) ℕ) → says ≡ behind [] rest → says ≡ rest
+pub nothing_before : (says rest : Result (List Entry) ℕ) → says ≡ afterwards [] rest → says ≡ rest
 nothing_before says (Ok rest) e = e
 nothing_before says (Err k) e = e
 
-pub nothing_behind : (motions : List Entry) → (rest : Result (List Entry) ℕ) × (rest ≡ Ok []) × (Ok motions ≡ behind motions rest)
+pub nothing_behind : (motions : List Entry) → (rest : Result (List Entry) ℕ) × (rest ≡ Ok []) × (Ok motions ≡ afterwards motions rest)
 nothing_behind motions = (Ok [], refl, ap (λ (l : List Entry). Ok l) (sym (append-nil motions)))
 
 pub one_longer : (motions new_motions : List Entry) (e : Entry) → new_motions ≡ motions ++ (e ∷ []) → length new_motions ≤ length motions + 1

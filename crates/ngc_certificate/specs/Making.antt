@@ -41,9 +41,9 @@ abbrev pub pieces_where : Bool → List Piece → Option (List Piece)
 pieces_where clear pieces = if clear then Some pieces else None
 
 -- the motions so far, before those that follow
-abbrev pub behind : List Entry → Result (List Entry) ℕ → Result (List Entry) ℕ
-behind entries (Ok rest) = Ok (entries ++ rest)
-behind entries (Err k) = Err k
+abbrev pub afterwards : List Entry → Result (List Entry) ℕ → Result (List Entry) ℕ
+afterwards entries (Ok rest) = Ok (entries ++ rest)
+afterwards entries (Err k) = Err k
 
 -- the motions so far, the mounted tool and the position of the axes
 pub record MadeSoFar : Type 0 where
@@ -59,7 +59,7 @@ made_by entries p = record { motions = entries p.motions; tool = p.tool; place =
 abbrev pub IsAllowedFrom : MachineFile → ℕ → ℕ → MadeSoFar → List Action → Result (List Entry) ℕ → Type 0
 IsAllowedFrom machine most k p actions says =
     (rest : Result (List Entry) ℕ) × IsMadeFrom machine most k p.tool p.place actions rest ×
-    (says ≡ behind p.motions rest)
+    (says ≡ afterwards p.motions rest)
 
 -- command k is executed, or it isn't cleared, unless memory ran out
 abbrev pub Leads : MachineFile → ℕ → ℕ → Action → MadeSoFar →

@@ -1,7 +1,7 @@
 //! Makes certificates of version 2 from certificates.
 ghost use Rattle.std.specs.Prelude.{◌≡◌, ◌≢◌, ◌<◌, ◌≤◌, length, true, false, IfOk};
 ghost use Rattle.ngc_certificate_text.specs.Certificate.{entry_at};
-ghost use Rattle.ngc_certificate_text.specs.Contents.{said_of, form_of};
+ghost use Rattle.ngc_certificate_text.specs.Contents.{certificate_data, form_of};
 ghost use Rattle.ngc_certificate.specs.Common.{way_at, AreAlike, IsCommonBeginning, IsJoinedOf};
 
 use crate::fault::MemoryFault;
@@ -131,8 +131,8 @@ pub fn join<A: Allocator>(
     off: &[Command],
     on: &[Command],
 ) -> Result<Certificate<A>, MemoryFault>
-    ensures said { IfOk result (λ c. said_of c ≡ said_of certificate) }
-    ensures form { IfOk result (λ c. IsJoinedOf off.now on.now (said_of certificate) (form_of c)) }
+    ensures said { IfOk result (λ c. certificate_data c ≡ certificate_data certificate) }
+    ensures form { IfOk result (λ c. IsJoinedOf off.now on.now (certificate_data certificate) (form_of c)) }
 {
     let common = common_motions(off, on, &certificate.off, &certificate.on);
     match certificate.joined(alloc, common) {

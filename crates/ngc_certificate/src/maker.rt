@@ -5,7 +5,7 @@ ghost use Rattle.ngc_machine_files.specs.Machine.{file_of};
 ghost use Rattle.ngc_commands.specs.Sequence.{COMMAND_LIMIT};
 ghost use Rattle.ngc_certificate_text.specs.Certificate.{Entry, AreEntries, INDEX_LIMIT};
 ghost use Rattle.ngc_certificate_text.specs.Certificate.{MOTION_LIMIT};
-ghost use Rattle.ngc_certificate_text.specs.Contents.{said_of, form_of};
+ghost use Rattle.ngc_certificate_text.specs.Contents.{certificate_data, form_of};
 ghost use Rattle.ngc_certificate_text.specs.Joined.{Parted};
 ghost use Rattle.ngc_certificate.specs.Valid.{IsValid};
 ghost use Rattle.ngc_certificate.specs.Made.{IsSettingMade, IsMade, MadeResultIs, clears_undivided};
@@ -213,11 +213,11 @@ pub fn make<A: Allocator + Copy>(
     requires cuts { 1 ≤ cuts }
     requires off { length off.now ≤ COMMAND_LIMIT }
     requires on { length on.now ≤ COMMAND_LIMIT }
-    ensures made { MadeResultIs said_of result (IsMade (file_of machine.now) cuts off.now on.now) }
-    ensures valid { IfOk result (λ c. IsValid (file_of machine.now) off.now (said_of c).off ×
-        IsValid (file_of machine.now) on.now (said_of c).on) }
+    ensures made { MadeResultIs certificate_data result (IsMade (file_of machine.now) cuts off.now on.now) }
+    ensures valid { IfOk result (λ c. IsValid (file_of machine.now) off.now (certificate_data c).off ×
+        IsValid (file_of machine.now) on.now (certificate_data c).on) }
     // It is of version 1.
-    ensures form { IfOk result (λ c. form_of c ≡ Parted (said_of c)) }
+    ensures form { IfOk result (λ c. form_of c ≡ Parted (certificate_data c)) }
     ensures undivided { clears_undivided (file_of machine.now) off.now ≡ true →
         clears_undivided (file_of machine.now) on.now ≡ true →
         MatchResult result (λ c. Unit {0}) (λ e. e ≡ MakeFault.Memory) }
@@ -250,12 +250,12 @@ pub fn make_alike<A: Allocator + Copy>(
 ) -> Result<Certificate<A>, MakeFault>
     requires cuts { 1 ≤ cuts }
     requires count { length commands.now ≤ COMMAND_LIMIT }
-    ensures made { MadeResultIs said_of result
+    ensures made { MadeResultIs certificate_data result
         (IsMade (file_of machine.now) cuts commands.now commands.now) }
-    ensures valid { IfOk result (λ c. IsValid (file_of machine.now) commands.now (said_of c).off ×
-        IsValid (file_of machine.now) commands.now (said_of c).on) }
+    ensures valid { IfOk result (λ c. IsValid (file_of machine.now) commands.now (certificate_data c).off ×
+        IsValid (file_of machine.now) commands.now (certificate_data c).on) }
     // It is of version 1.
-    ensures form { IfOk result (λ c. form_of c ≡ Parted (said_of c)) }
+    ensures form { IfOk result (λ c. form_of c ≡ Parted (certificate_data c)) }
     ensures undivided { clears_undivided (file_of machine.now) commands.now ≡ true →
         MatchResult result (λ c. Unit {0}) (λ e. e ≡ MakeFault.Memory) }
 {

@@ -62,8 +62,8 @@ impl Spot {
     /// forward.
     pub(crate) fn is_before(&self, other: &Spot) -> bool {
         let ahead = u128::from(self.x) * u128::from(other.y);
-        let behind = u128::from(self.y) * u128::from(other.x);
-        behind < ahead
+        let afterwards = u128::from(self.y) * u128::from(other.x);
+        afterwards < ahead
     }
 }
 

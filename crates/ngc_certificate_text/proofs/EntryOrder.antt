@@ -17,7 +17,7 @@ use Rattle.ngc_certificate_text.specs.Places.{MayPass, entry_there, after_entry}
 record First {X : Type 0} (xs : List X) (i : ℕ) (x : X) (more : List X) : Type 0 where
   inside : i < length xs
   is : (d : X) → get_or xs i d ≡ x
-  behind : drop (i + 1) xs ≡ more
+  afterwards : drop (i + 1) xs ≡ more
 
 first_at : {X : Type 0} (xs : List X) (i : ℕ) (x : X) (more : List X) → drop i xs ≡ x ∷ more → First xs i x more
 first_at {X} xs i x more h =
@@ -25,7 +25,7 @@ first_at {X} xs i x more h =
     let inside : i < length xs = omega (arith, length-drop i xs, size) in
     let whole : (d : X) → get_or xs i d ∷ drop (suc i) xs ≡ x ∷ more = λ d. sym (drop-cons xs i d inside) ∙ h in
     let next : i + 1 ≡ suc i = omega arith in
-    record { inside = inside; is = λ d. cc (whole d); behind = ap (λ (n : ℕ). drop n xs) next ∙ cc (whole x) }
+    record { inside = inside; is = λ d. cc (whole d); afterwards = ap (λ (n : ℕ). drop n xs) next ∙ cc (whole x) }
 
 map_drop : {X Y : Type 0} (f : X → Y) (n : ℕ) (xs : List X) → map f (drop n xs) ≡ drop n (map f xs)
 map_drop f zero xs = refl
@@ -54,8 +54,8 @@ module _ (kinds : List EntryKind) (off on : List Entry) (items : List Item) (k :
         may = o.inside;
         inside = x.inside;
         is = λ d. x.is d ∙ ap (λ (m : Entry). off_item m) (sym (o.is none));
-        rest = ap (λ (l : List EntryKind). items_in l (drop (p.off + 1) off) (drop p.on on)) e ∙ ap (λ (l : List Entry). items_in ks l (drop p.on on)) o.behind
-            ∙ sym x.behind;
+        rest = ap (λ (l : List EntryKind). items_in l (drop (p.off + 1) off) (drop p.on on)) e ∙ ap (λ (l : List Entry). items_in ks l (drop p.on on)) o.afterwards
+            ∙ sym x.afterwards;
       } where
         off_item : Entry → Item
         off_item m = record { indices = of.Off m.index; pieces = m.pieces }
@@ -72,7 +72,7 @@ module _ (kinds : List EntryKind) (off on : List Entry) (items : List Item) (k :
         inside = x.inside;
         is = λ d. x.is d ∙ ap (λ (m : Entry). on_item m) (sym (o.is none));
         rest = ap (λ (l : List EntryKind). items_in l (drop p.off off) (drop (p.on + 1) on)) e
-            ∙ ap (λ (l : List Entry). items_in ks (drop p.off off) l) o.behind ∙ sym x.behind;
+            ∙ ap (λ (l : List Entry). items_in ks (drop p.off off) l) o.afterwards ∙ sym x.afterwards;
       } where
         on_item : Entry → Item
         on_item m = record { indices = of.On m.index; pieces = m.pieces }
@@ -91,7 +91,7 @@ module _ (kinds : List EntryKind) (off on : List Entry) (items : List Item) (k :
         inside = x.inside;
         is = λ d. x.is d ∙ ap (λ (m : Entry). both_item m b) (sym (o.is none)) ∙ ap (λ (m : Entry). both_item (entry_at off p.off) m) (sym (n.is none));
         rest = ap (λ (l : List EntryKind). items_in l (drop (p.off + 1) off) (drop (p.on + 1) on)) e
-            ∙ ap (λ (l : List Entry). items_in ks l (drop (p.on + 1) on)) o.behind ∙ ap (λ (l : List Entry). items_in ks late l) n.behind ∙ sym x.behind;
+            ∙ ap (λ (l : List Entry). items_in ks l (drop (p.on + 1) on)) o.afterwards ∙ ap (λ (l : List Entry). items_in ks late l) n.afterwards ∙ sym x.afterwards;
       } where
         both_item : Entry → Entry → Item
         both_item m q = record { indices = of.Both m.index q.index; pieces = m.pieces }

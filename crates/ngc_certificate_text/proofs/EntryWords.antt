@@ -11,7 +11,7 @@ use Rattle.ngc_certificate_text.specs.declared.lines.EntryLine.{EntryLine}
 use Rattle.ngc_certificate_text.specs.declared.lines.LineFlaw.{LineFlaw}
 use Rattle.ngc_certificate_text.specs.declared.lines.LineFlaw.TheVariants.{Spelling}
 use Rattle.ngc_certificate_text.specs.declared.lines.MotionLine.{MotionLine}
-use Rattle.ngc_certificate_text.specs.declared.told.Version.TheVariants.{One, Two}
+use Rattle.ngc_certificate_text.specs.declared.line_content.Version.TheVariants.{One, Two}
 use Rattle.ngc_certificate_text.specs.Certificate.{INDEX_LIMIT, PIECE_LIMIT, MOTION_LIMIT}
 use Rattle.ngc_certificate_text.specs.Clamped.{clamped, at_most_eight}
 use Rattle.ngc_certificate_text.specs.EntryLines.{parsed_version, motion_counts, parsed_counts, may_still_follow, three_counts, of_setting, entry_in, parsed_entry}

@@ -11,7 +11,7 @@ use Rattle.ngc_certificate_text.specs.declared.expected.Indices.TheVariants.{Bot
 use Rattle.ngc_certificate_text.specs.declared.piece.Piece.{Piece}
 use Rattle.ngc_certificate_text.specs.EntryLines.{parsed_version, parsed_counts, parsed_entry}
 use Rattle.ngc_certificate_text.specs.Joined.{Joined}
-use Rattle.ngc_certificate_text.specs.Said.{line_at, several, entry_at, setting_at, settings_at, item_at, items_at, joined_at, parsed_form, parsed_certificate}
+use Rattle.ngc_certificate_text.specs.ParsedPart.{line_at, several, entry_at, setting_at, settings_at, item_at, items_at, joined_at, parsed_form, parsed_certificate}
 
 -- a certificate with nothing to move
 nothing : parsed_certificate (codes "ngc-certificate 1\nsetting off 0\nsetting on 0\nend\n") ≡ Ok (record { off = []; on = [] })

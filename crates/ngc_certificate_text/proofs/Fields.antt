@@ -105,9 +105,9 @@ pub line_fields : (w : List ℕ) (ws : List (List ℕ)) (zs : List ℤ) → list
     → fields (line_text w ws zs) ≡ w ∷ (ws ++ map signed_decimal zs)
 line_fields w ws zs words small =
     let parts = and_parts (lacks 32 w) (list_all (lacks 32) ws) words in
-    let behind : list_all (lacks 32) (ws ++ map signed_decimal zs) ≡ true =
+    let afterwards : list_all (lacks 32) (ws ++ map signed_decimal zs) ≡ true =
     list_all-append (lacks 32) ws (map signed_decimal zs) ∙ and_from _ _ parts.1 (numbers_lack 32 zs (omega arith) small) in
-    split_joined 32 w (ws ++ map signed_decimal zs) (and_from _ _ parts.0 behind)
+    split_joined 32 w (ws ++ map signed_decimal zs) (and_from _ _ parts.0 afterwards)
 
 -- the numbers of a line with this text
 pub line_numbers : (w : List ℕ) (ws : List (List ℕ)) (zs : List ℤ) → list_all (lacks 32) (w ∷ ws) ≡ true → AreSmall zs

@@ -6,7 +6,7 @@ use Rattle.std.proofs.lemmas.Bool.Decides.{nat_tests}
 use Rattle.std.proofs.lemmas.List.{append-nil}
 use Rattle.std.proofs.lemmas.List.Folds.{list_all-append}
 use Rattle.ngc_certificate_text.specs.Parted.{is_feedless, certain_after, firm, firm_lines, GoesOn, PartsLines}
-use Rattle.ngc_certificate_text.specs.Said.{lines_of}
+use Rattle.ngc_certificate_text.specs.ParsedPart.{lines_of}
 use Rattle.ngc_text.proofs.SplitTexts.{split_here, split_last}
 use Rattle.ngc_certificate_text.proofs.SpelledTexts.{some_lines}
 
@@ -27,10 +27,10 @@ pub only_line : (line : List ℕ) → is_feedless line ≡ true → lines_of (li
 only_line line h = ap lines_of (append-nil line) ∙ split_last 10 line h
 
 line_goes_on : (line rest : List ℕ) → is_feedless line ≡ true → 256 < length line → GoesOn (lines_of (line ++ rest)) line
-line_goes_on line rest h long = let s = some_lines rest in record { more = s.0; behind = s.1; split = split_onto line rest s.0 s.1 h s.2 }
+line_goes_on line rest h long = let s = some_lines rest in record { more = s.0; afterwards = s.1; split = split_onto line rest s.0 s.1 h s.2 }
 
 some_line : (bytes : List ℕ) → GoesOn (lines_of bytes) []
-some_line bytes = let s = some_lines bytes in record { more = s.0; behind = s.1; split = s.2 }
+some_line bytes = let s = some_lines bytes in record { more = s.0; afterwards = s.1; split = s.2 }
 
 pub lines_parts : PartsLines lines_of
 lines_parts = record { ends = split_here 10; long = line_goes_on; some = some_line }
@@ -72,7 +72,7 @@ firm_goes_on rest line more h long =
     let g = line_goes_on line (s.more ++ rest) h long in
     record {
       more = g.more;
-      behind = g.behind;
+      afterwards = g.afterwards;
       split = ap (λ (bytes : List ℕ). lines_of (bytes ++ rest)) (firm_on [] line more h ∙ s.firm) ∙ ap lines_of (append_assoc line s.more rest) ∙ g.split;
     }
 

@@ -21,20 +21,20 @@ use Rattle.ngc_certificate_text.specs.declared.lines.MotionLine.{MotionLine}
 use Rattle.ngc_certificate_text.specs.declared.piece.Piece.{Piece}
 use Rattle.ngc_certificate_text.specs.declared.piece.Setting.{Setting}
 use Rattle.ngc_certificate_text.specs.declared.piece.Setting.TheVariants.{Off, On}
-use Rattle.ngc_certificate_text.specs.declared.told.Version.{Version}
-use Rattle.ngc_certificate_text.specs.declared.told.Version.TheVariants.{One, Two}
+use Rattle.ngc_certificate_text.specs.declared.line_content.Version.{Version}
+use Rattle.ngc_certificate_text.specs.declared.line_content.Version.TheVariants.{One, Two}
 use Rattle.ngc_certificate_text.specs.Ahead.{Rest, nothing_left, certificate_of, form_of_text, of_version, index_at, item_of, with_items, with_motions}
-use Rattle.ngc_certificate_text.specs.Ahead.{with_pieces, name_of, end_ahead, behind, setting_ahead, motions_ahead, pieces_ahead, counts_ahead, after_header}
+use Rattle.ngc_certificate_text.specs.Ahead.{with_pieces, name_of, end_ahead, afterwards, setting_ahead, motions_ahead, pieces_ahead, counts_ahead, after_header}
 use Rattle.ngc_certificate_text.specs.Ahead.{ahead, Left, left_from, next_of_entries, next_of_motions, motions_after, wrong_line, HaveSome, go_on, is_open, IsSound}
 use Rattle.ngc_certificate_text.specs.Certificate.{Entry, CertificateData}
 use Rattle.ngc_certificate_text.specs.EntryLines.{parsed_version, parsed_counts, parsed_entry, of_setting, all_left, none_left, remaining_after}
 use Rattle.ngc_certificate_text.specs.Joined.{Item, expansion, Form, contents, form_by}
 use Rattle.ngc_certificate_text.specs.Joined.{Parted as PartedForm, Joined as JoinedForm}
 use Rattle.ngc_certificate_text.specs.Lines.{parsed_setting, parsed_motion, parsed_piece, parsed_end}
-use Rattle.ngc_certificate_text.specs.Said.{Place, Said, then_read, next_number, fault_at, line_at, several, entry_at, setting_at, settings_at, item_at}
-use Rattle.ngc_certificate_text.specs.Said.{items_at, joined_at, parsed_with, made_with, version_is, header_in, form_at, nothing_in, ended, lines_of, parsed_form}
-use Rattle.ngc_certificate_text.specs.Said.{parsed_certificate}
-use Rattle.ngc_certificate_text.specs.Told.{parsed_motion_or_entry, after_version}
+use Rattle.ngc_certificate_text.specs.ParsedPart.{Place, ParsedPart, then_read, next_number, fault_at, line_at, several, entry_at, setting_at, settings_at, item_at}
+use Rattle.ngc_certificate_text.specs.ParsedPart.{items_at, joined_at, parsed_with, made_with, version_is, header_in, form_at, nothing_in, ended, lines_of, parsed_form}
+use Rattle.ngc_certificate_text.specs.ParsedPart.{parsed_certificate}
+use Rattle.ngc_certificate_text.specs.LineContent.{parsed_motion_or_entry, after_version}
 use Rattle.ngc_certificate_text.proofs.RemainingEntryLaws.{total, takes_one, items_more, items_none, items_enough, closed_left, closed_some, closed_line}
 use Rattle.ngc_certificate_text.proofs.Fields.{bytes_same}
 
@@ -74,11 +74,11 @@ line_missing said number (line ∷ after ∷ left) h = rw (too_long (length line
 
 -- ---- a value made from a part
 
-with_both : {X Y Z : Type 0} (f : Y → Z) (g : X → Y) (t : Said X) → parsed_with f (parsed_with g t) ≡ parsed_with (λ x. f (g x)) t
+with_both : {X Y Z : Type 0} (f : Y → Z) (g : X → Y) (t : ParsedPart X) → parsed_with f (parsed_with g t) ≡ parsed_with (λ x. f (g x)) t
 with_both f g (Ok r) = refl
 with_both f g (Err fault) = refl
 
-first_motion : (s : Setting) (x : Entry) (xs : List Entry) (t : Said Rest) →
+first_motion : (s : Setting) (x : Entry) (xs : List Entry) (t : ParsedPart Rest) →
     parsed_with (with_motions s (x ∷ xs)) t ≡ parsed_with (with_motions s (x ∷ [])) (parsed_with (with_motions s xs) t)
 first_motion s x xs (Ok r) = refl
 first_motion s x xs (Err fault) = refl
@@ -89,29 +89,29 @@ pub setting_on : (s : Setting) (number n : ℕ) (line after : List ℕ) (left : 
     → setting_ahead s (at number (line ∷ after ∷ left)) ≡ motions_ahead (Parted s n) (at (next_number number) (after ∷ left))
 unfolding setting_ahead motions_ahead setting_at
 setting_on s number n line after left short e =
-    ap (λ (r : Said ℕ). then_read (then_read r (λ n q. several entry_at n q)) (λ more q. parsed_with (with_motions s more) (behind s q)))
+    ap (λ (r : ParsedPart ℕ). then_read (then_read r (λ n q. several entry_at n q)) (λ more q. parsed_with (with_motions s more) (afterwards s q)))
     (line_read (parsed_setting (name_of s)) number line after left n short e)
 
 setting_stops : (s : Setting) (p : Place) (fault : CertificateFault) → line_at (parsed_setting (name_of s)) p ≡ Err fault → setting_ahead s p ≡ Err fault
 unfolding setting_ahead setting_at
 setting_stops s p fault e =
-    ap (λ (r : Said ℕ). then_read (then_read r (λ n q. several entry_at n q)) (λ more q. parsed_with (with_motions s more) (behind s q))) e
+    ap (λ (r : ParsedPart ℕ). then_read (then_read r (λ n q. several entry_at n q)) (λ more q. parsed_with (with_motions s more) (afterwards s q))) e
 
 -- ---- the line of a motion
 
-motion_first : (s : Setting) (x : Entry) (t : Said (List Entry))
-    → then_read (then_read t (λ xs r. Ok (x ∷ xs, r))) (λ more q. parsed_with (with_motions s more) (behind s q))
-    ≡ parsed_with (with_motions s (x ∷ [])) (then_read t (λ more q. parsed_with (with_motions s more) (behind s q)))
-motion_first s x (Ok r) = first_motion s x r.0 (behind s r.1)
+motion_first : (s : Setting) (x : Entry) (t : ParsedPart (List Entry))
+    → then_read (then_read t (λ xs r. Ok (x ∷ xs, r))) (λ more q. parsed_with (with_motions s more) (afterwards s q))
+    ≡ parsed_with (with_motions s (x ∷ [])) (then_read t (λ more q. parsed_with (with_motions s more) (afterwards s q)))
+motion_first s x (Ok r) = first_motion s x r.0 (afterwards s r.1)
 motion_first s x (Err fault) = refl
 
 -- a motion that begins with this line, one of those that remain
 abbrev pub begun : RemainingMotions → EntryLine → BegunMotion
-begun left e = record { indices = e.indices; pieces_left = e.pieces; behind = motions_after left e.indices }
+begun left e = record { indices = e.indices; pieces_left = e.pieces; afterwards = motions_after left e.indices }
 
 -- a motion of a setting with k motions after it
 abbrev begun_at : Setting → MotionLine → ℕ → BegunMotion
-begun_at s m k = record { indices = index_at s m.index; pieces_left = m.pieces; behind = Parted s k }
+begun_at s m k = record { indices = index_at s m.index; pieces_left = m.pieces; afterwards = Parted s k }
 
 abbrev pub line_of : Setting → MotionLine → EntryLine
 line_of s m = record { indices = index_at s m.index; pieces = m.pieces }
@@ -120,26 +120,26 @@ line_of s m = record { indices = index_at s m.index; pieces = m.pieces }
 abbrev pub with_begun : Indices → Rest → Rest
 with_begun i r = with_items (record { indices = i; pieces = r.pieces } ∷ []) r
 
-begun_first : (i : Indices) (pieces : List Piece) (t : Said Rest)
+begun_first : (i : Indices) (pieces : List Piece) (t : ParsedPart Rest)
     → parsed_with (with_items (record { indices = i; pieces = pieces } ∷ [])) t ≡ parsed_with (with_begun i) (parsed_with (with_pieces pieces) t)
 begun_first i pieces (Ok r) = refl
 begun_first i pieces (Err fault) = refl
 
-motion_begun : (s : Setting) (k : ℕ) (m : MotionLine) (t : Said (List Piece))
+motion_begun : (s : Setting) (k : ℕ) (m : MotionLine) (t : ParsedPart (List Piece))
     → then_read (then_read (then_read t (λ pieces r. Ok (record { index = m.index; pieces = pieces }, r)))
-    (λ x q. then_read (several entry_at k q) (λ xs r. Ok (x ∷ xs, r)))) (λ more q. parsed_with (with_motions s more) (behind s q))
+    (λ x q. then_read (several entry_at k q) (λ xs r. Ok (x ∷ xs, r)))) (λ more q. parsed_with (with_motions s more) (afterwards s q))
     ≡ parsed_with (with_begun (index_at s m.index)) (then_read t (λ pieces q. parsed_with (with_pieces pieces) (motions_ahead (Parted s k) q)))
 unfolding motions_ahead
 motion_begun s k m (Ok r) =
     motion_first s (record { index = m.index; pieces = r.0 }) (several entry_at k r.1)
-    ∙ begun_first (index_at s m.index) r.0 (then_read (several entry_at k r.1) (λ more q. parsed_with (with_motions s more) (behind s q)))
+    ∙ begun_first (index_at s m.index) r.0 (then_read (several entry_at k r.1) (λ more q. parsed_with (with_motions s more) (afterwards s q)))
 motion_begun s k m (Err fault) = refl
 
-abbrev more_of : Setting → ℕ → Said MotionLine → Said Rest
+abbrev more_of : Setting → ℕ → ParsedPart MotionLine → ParsedPart Rest
 more_of s k r =
     then_read (then_read
     (then_read r (λ m q. then_read (several (line_at parsed_piece) m.pieces q) (λ pieces r. Ok (record { index = m.index; pieces = pieces }, r))))
-    (λ x q. then_read (several entry_at k q) (λ xs r. Ok (x ∷ xs, r)))) (λ more q. parsed_with (with_motions s more) (behind s q))
+    (λ x q. then_read (several entry_at k q) (λ xs r. Ok (x ∷ xs, r)))) (λ more q. parsed_with (with_motions s more) (afterwards s q))
 
 motions_are : (s : Setting) (k : ℕ) (p : Place) → motions_ahead (Parted s (suc k)) p ≡ more_of s k (line_at parsed_motion p)
 unfolding motions_ahead several entry_at
@@ -163,10 +163,10 @@ parted_stops s k p fault e = motions_are s k p ∙ ap (more_of s k) e
 -- ---- the line of an entry
 
 -- the entries after one
-entries_then : ℕ → RemainingEntries → Item → Place → Said Rest
+entries_then : ℕ → RemainingEntries → Item → Place → ParsedPart Rest
 entries_then k left x q = then_read (then_read (items_at k left q) (λ xs r. Ok (x ∷ xs, r))) (λ more q. parsed_with (with_items more) (end_ahead q))
 
-item_first : (x : Item) (t : Said (List Item))
+item_first : (x : Item) (t : ParsedPart (List Item))
     → then_read (then_read t (λ xs r. Ok (x ∷ xs, r))) (λ more q. parsed_with (with_items more) (end_ahead q))
     ≡ parsed_with (with_items (x ∷ [])) (then_read t (λ more q. parsed_with (with_items more) (end_ahead q)))
 item_first x (Ok r) = sym (with_both (with_items (x ∷ [])) (with_items r.0) (end_ahead r.1))
@@ -177,17 +177,17 @@ entries_first : (k : ℕ) (left : RemainingEntries) (x : Item) (q : Place) → t
 unfolding entries_then motions_ahead
 entries_first k left x q h =
     item_first x (items_at k left q)
-    ∙ ap (λ (t : Said (List Item)). parsed_with (with_items (x ∷ [])) (then_read t (λ more q. parsed_with (with_items more) (end_ahead q))))
+    ∙ ap (λ (t : ParsedPart (List Item)). parsed_with (with_items (x ∷ [])) (then_read t (λ more q. parsed_with (with_items more) (end_ahead q))))
     (items_enough k left q h)
 
 -- the pieces of an entry, and the entries after it
-pieces_then : ℕ → RemainingEntries → EntryLine → Said (List Piece) → Said Rest
+pieces_then : ℕ → RemainingEntries → EntryLine → ParsedPart (List Piece) → ParsedPart Rest
 pieces_then k left e t =
     then_read (then_read (then_read t (λ pieces r. Ok (record { indices = e.indices; pieces = pieces }, r)))
     (λ x q. then_read (items_at k (remaining_after left x.indices) q) (λ xs r. Ok (x ∷ xs, r))))
     (λ more q. parsed_with (with_items more) (end_ahead q))
 
-entry_begun : (k : ℕ) (left : RemainingEntries) (e : EntryLine) (t : Said (List Piece)) → total (remaining_after left e.indices) ≤ k
+entry_begun : (k : ℕ) (left : RemainingEntries) (e : EntryLine) (t : ParsedPart (List Piece)) → total (remaining_after left e.indices) ≤ k
     → pieces_then k left e t ≡ parsed_with (with_begun e.indices)
     (then_read t (λ pieces q. parsed_with (with_pieces pieces) (motions_ahead (Joined (remaining_after left e.indices)) q)))
 unfolding pieces_then entries_then
@@ -197,7 +197,7 @@ entry_begun k left e (Ok r) h =
 entry_begun k left e (Err fault) h = refl
 
 -- an entry's line, and what follows it
-entry_then : ℕ → RemainingEntries → Said EntryLine → Said Rest
+entry_then : ℕ → RemainingEntries → ParsedPart EntryLine → ParsedPart Rest
 entry_then k left t =
     then_read (then_read
     (then_read t (λ e q. then_read (several (line_at parsed_piece) e.pieces q) (λ pieces r. Ok (record { indices = e.indices; pieces = pieces }, r))))
@@ -207,7 +207,7 @@ entries_are : (k : ℕ) (left : RemainingEntries) (p : Place) → total left ≡
 unfolding motions_ahead entry_then item_at
 entries_are k left p h =
     ap (λ (n : ℕ). then_read (items_at n left p) (λ more q. parsed_with (with_items more) (end_ahead q))) h
-    ∙ ap (λ (t : Said (List Item)). then_read t (λ more q. parsed_with (with_items more) (end_ahead q))) (items_more k left p h)
+    ∙ ap (λ (t : ParsedPart (List Item)). then_read t (λ more q. parsed_with (with_items more) (end_ahead q))) (items_more k left p h)
 
 entry_on_is : (k : ℕ) (left : RemainingEntries) (e : EntryLine) (q : Place) → total (remaining_after left e.indices) ≤ k
     → entry_then k left (Ok (e, q)) ≡ parsed_with (with_begun e.indices) (pieces_ahead (begun (Joined left) e) q)
@@ -282,7 +282,7 @@ motion_wrong (Joined left) number line after lines flaw short e = line_flawed (p
 
 -- ---- the counts
 
-counts_then : Said CountsLine → Said Rest
+counts_then : ParsedPart CountsLine → ParsedPart Rest
 counts_then t = then_read t (λ c q. motions_ahead (Joined (all_left c)) q)
 
 counts_are : (p : Place) → counts_ahead p ≡ counts_then (line_at parsed_counts p)
@@ -312,16 +312,16 @@ counts_stop p fault e = counts_are p ∙ ap counts_then e ∙ counts_stop_is fau
 abbrev pub with_piece : Piece → Rest → Rest
 with_piece x r = with_pieces (x ∷ r.pieces) r
 
-piece_first : (b : BegunMotion) (x : Piece) (t : Said (List Piece))
-    → then_read (then_read t (λ xs r. Ok (x ∷ xs, r))) (λ pieces q. parsed_with (with_pieces pieces) (motions_ahead b.behind q))
-    ≡ parsed_with (with_piece x) (then_read t (λ pieces q. parsed_with (with_pieces pieces) (motions_ahead b.behind q)))
-piece_first b x (Ok r) = sym (with_both (with_piece x) (with_pieces r.0) (motions_ahead b.behind r.1))
+piece_first : (b : BegunMotion) (x : Piece) (t : ParsedPart (List Piece))
+    → then_read (then_read t (λ xs r. Ok (x ∷ xs, r))) (λ pieces q. parsed_with (with_pieces pieces) (motions_ahead b.afterwards q))
+    ≡ parsed_with (with_piece x) (then_read t (λ pieces q. parsed_with (with_pieces pieces) (motions_ahead b.afterwards q)))
+piece_first b x (Ok r) = sym (with_both (with_piece x) (with_pieces r.0) (motions_ahead b.afterwards r.1))
 piece_first b x (Err fault) = refl
 
-abbrev pieces_of : BegunMotion → ℕ → Said Piece → Said Rest
+abbrev pieces_of : BegunMotion → ℕ → ParsedPart Piece → ParsedPart Rest
 pieces_of b k r =
     then_read (then_read r (λ x q. then_read (several (line_at parsed_piece) k q) (λ xs r. Ok (x ∷ xs, r))))
-    (λ pieces q. parsed_with (with_pieces pieces) (motions_ahead b.behind q))
+    (λ pieces q. parsed_with (with_pieces pieces) (motions_ahead b.afterwards q))
 
 several_more : (k : ℕ) (p : Place) → several (line_at parsed_piece) (suc k) p
     ≡ then_read (line_at parsed_piece p) (λ x q. then_read (several (line_at parsed_piece) k q) (λ xs r. Ok (x ∷ xs, r)))
@@ -331,8 +331,8 @@ several_more k p = refl
 pieces_are : (b : BegunMotion) (k : ℕ) (p : Place) → b.pieces_left ≡ suc k → pieces_ahead b p ≡ pieces_of b k (line_at parsed_piece p)
 unfolding pieces_ahead
 pieces_are b k p e =
-    ap (λ (n : ℕ). then_read (several (line_at parsed_piece) n p) (λ pieces q. parsed_with (with_pieces pieces) (motions_ahead b.behind q))) e
-    ∙ ap (λ (s : Said (List Piece)). then_read s (λ pieces q. parsed_with (with_pieces pieces) (motions_ahead b.behind q))) (several_more k p)
+    ap (λ (n : ℕ). then_read (several (line_at parsed_piece) n p) (λ pieces q. parsed_with (with_pieces pieces) (motions_ahead b.afterwards q))) e
+    ∙ ap (λ (s : ParsedPart (List Piece)). then_read s (λ pieces q. parsed_with (with_pieces pieces) (motions_ahead b.afterwards q))) (several_more k p)
 
 more_is : (b : BegunMotion) (k : ℕ) (x : Piece) (q : Place) → pieces_of b k (Ok (x, q))
     ≡ parsed_with (with_piece x) (pieces_ahead (record b { pieces_left = k }) q)
@@ -353,41 +353,41 @@ pieces_stop b k p fault some e = pieces_are b k p some ∙ ap (pieces_of b k) e
 
 -- ---- what is read completely
 
-none_begun : (more : List Item) (t : Said Rest) → parsed_with (with_pieces []) (parsed_with (with_items more) t) ≡ parsed_with (with_items more) t
+none_begun : (more : List Item) (t : ParsedPart Rest) → parsed_with (with_pieces []) (parsed_with (with_items more) t) ≡ parsed_with (with_items more) t
 none_begun more (Ok r) = refl
 none_begun more (Err fault) = refl
 
 no_pieces : (left : RemainingMotions) (p : Place) → parsed_with (with_pieces []) (motions_ahead left p) ≡ motions_ahead left p
 unfolding motions_ahead
 no_pieces (Parted s n) p = by_several (several entry_at n p) where
-  by_several : (t : Said (List Entry)) → parsed_with (with_pieces []) (then_read t (λ more q. parsed_with (with_motions s more) (behind s q)))
-      ≡ then_read t (λ more q. parsed_with (with_motions s more) (behind s q))
-  by_several (Ok r) = none_begun (map (item_of s) r.0) (behind s r.1)
+  by_several : (t : ParsedPart (List Entry)) → parsed_with (with_pieces []) (then_read t (λ more q. parsed_with (with_motions s more) (afterwards s q)))
+      ≡ then_read t (λ more q. parsed_with (with_motions s more) (afterwards s q))
+  by_several (Ok r) = none_begun (map (item_of s) r.0) (afterwards s r.1)
   by_several (Err fault) = refl
 no_pieces (Joined left) p = by_items (items_at (left.off + left.on) left p) where
-  by_items : (t : Said (List Item)) → parsed_with (with_pieces []) (then_read t (λ more q. parsed_with (with_items more) (end_ahead q)))
+  by_items : (t : ParsedPart (List Item)) → parsed_with (with_pieces []) (then_read t (λ more q. parsed_with (with_items more) (end_ahead q)))
       ≡ then_read t (λ more q. parsed_with (with_items more) (end_ahead q))
   by_items (Ok r) = none_begun r.0 (end_ahead r.1)
   by_items (Err fault) = refl
 
-pieces_done : (b : BegunMotion) (p : Place) → b.pieces_left ≡ 0 → pieces_ahead b p ≡ motions_ahead b.behind p
+pieces_done : (b : BegunMotion) (p : Place) → b.pieces_left ≡ 0 → pieces_ahead b p ≡ motions_ahead b.afterwards p
 unfolding pieces_ahead several
 pieces_done b p e =
-    ap (λ (n : ℕ). then_read (several (line_at parsed_piece) n p) (λ pieces q. parsed_with (with_pieces pieces) (motions_ahead b.behind q))) e
-    ∙ no_pieces b.behind p
+    ap (λ (n : ℕ). then_read (several (line_at parsed_piece) n p) (λ pieces q. parsed_with (with_pieces pieces) (motions_ahead b.afterwards q))) e
+    ∙ no_pieces b.afterwards p
 
-no_motions : (more : List Item) (t : Said Rest) → parsed_with (with_items []) (parsed_with (with_items more) t) ≡ parsed_with (with_items more) t
+no_motions : (more : List Item) (t : ParsedPart Rest) → parsed_with (with_items []) (parsed_with (with_items more) t) ≡ parsed_with (with_items more) t
 no_motions more (Ok r) = refl
 no_motions more (Err fault) = refl
 
-none_at_end : (t : Said (Unit {0})) → parsed_with (with_items []) (then_read t (λ _ q. Ok (nothing_left, q))) ≡ then_read t (λ _ q. Ok (nothing_left, q))
+none_at_end : (t : ParsedPart (Unit {0})) → parsed_with (with_items []) (then_read t (λ _ q. Ok (nothing_left, q))) ≡ then_read t (λ _ q. Ok (nothing_left, q))
 none_at_end (Ok r) = refl
 none_at_end (Err fault) = refl
 
-parted_done : (s : Setting) (p : Place) → motions_ahead (Parted s 0) p ≡ behind s p
-unfolding motions_ahead several behind end_ahead
+parted_done : (s : Setting) (p : Place) → motions_ahead (Parted s 0) p ≡ afterwards s p
+unfolding motions_ahead several afterwards end_ahead
 parted_done Off p = by_setting (setting_at (codes "on") p) where
-  by_setting : (t : Said (List Entry)) →
+  by_setting : (t : ParsedPart (List Entry)) →
       parsed_with (with_motions Off []) (then_read t (λ more q. parsed_with (with_motions On more) (then_read (line_at parsed_end q) (λ _ q. Ok (nothing_left, q)))))
       ≡ then_read t (λ more q. parsed_with (with_motions On more) (then_read (line_at parsed_end q) (λ _ q. Ok (nothing_left, q))))
   by_setting (Ok r) = no_motions (map (item_of On) r.0) (then_read (line_at parsed_end r.1) (λ _ q. Ok (nothing_left, q)))
@@ -397,7 +397,7 @@ parted_done On p = none_at_end (line_at parsed_end p)
 joined_done : (left : RemainingEntries) (p : Place) → none_left left ≡ true → motions_ahead (Joined left) p ≡ end_ahead p
 unfolding motions_ahead end_ahead
 joined_done left p none =
-    ap (λ (t : Said (List Item)). then_read t (λ more q. parsed_with (with_items more) (then_read (line_at parsed_end q) (λ _ q. Ok (nothing_left, q)))))
+    ap (λ (t : ParsedPart (List Item)). then_read t (λ more q. parsed_with (with_items more) (then_read (line_at parsed_end q) (λ _ q. Ok (nothing_left, q)))))
     (items_none (left.off + left.on) left p none)
     ∙ none_at_end (line_at parsed_end p)
 
@@ -407,7 +407,7 @@ entries_ahead true left p e = sym (joined_done left p e)
 entries_ahead false left p e = refl
 
 next_ahead : (left : RemainingMotions) (p : Place) → ahead (next_of_motions left) p ≡ motions_ahead left p
-unfolding ahead setting_ahead behind
+unfolding ahead setting_ahead afterwards
 next_ahead (Parted Off zero) p = sym (parted_done Off p)
 next_ahead (Parted On zero) p = sym (parted_done On p)
 next_ahead (Parted s (suc n)) p = refl
@@ -417,11 +417,11 @@ end_on : (number : ℕ) (line after : List ℕ) (left : List (List ℕ)) → len
     → end_ahead (at number (line ∷ after ∷ left)) ≡ Ok (nothing_left, at (next_number number) (after ∷ left))
 unfolding end_ahead
 end_on number line after left short e =
-    ap (λ (r : Said (Unit {0})). then_read r (λ _ q. Ok (nothing_left, q))) (line_read parsed_end number line after left tt short e)
+    ap (λ (r : ParsedPart (Unit {0})). then_read r (λ _ q. Ok (nothing_left, q))) (line_read parsed_end number line after left tt short e)
 
 end_stops : (p : Place) (fault : CertificateFault) → line_at parsed_end p ≡ Err fault → end_ahead p ≡ Err fault
 unfolding end_ahead
-end_stops p fault e = ap (λ (r : Said (Unit {0})). then_read r (λ _ q. Ok (nothing_left, q))) e
+end_stops p fault e = ap (λ (r : ParsedPart (Unit {0})). then_read r (λ _ q. Ok (nothing_left, q))) e
 
 -- ---- a line that is missing or too long
 
@@ -454,7 +454,7 @@ pub wrong_said : (e : Expected) (number : ℕ) (lines : List (List ℕ)) → IsS
     → (e ≡ next.Nothing → nothing_in lines ≡ false) → left_from e number lines ≡ Err (wrong_line e number)
 unfolding ahead
 wrong_said next.Header number lines sound h never =
-    ap (λ (r : Said Version). ended (then_read r (λ v q. parsed_with (of_version v) (after_header v q)))) (no_header lines h)
+    ap (λ (r : ParsedPart Version). ended (then_read r (λ v q. parsed_with (of_version v) (after_header v q)))) (no_header lines h)
 wrong_said (next.Setting s) number lines sound h never =
     ap ended (setting_stops s (at number lines) (faults.BadLine number) (line_missing (parsed_setting (name_of s)) number lines h))
 wrong_said next.Counts number lines sound h never = ap ended (counts_stop (at number lines) (faults.BadLine number) (line_missing parsed_counts number lines h))
@@ -535,7 +535,7 @@ by_nothing : {X Y : Type 0} (f : X → Y) (x : X) (number : ℕ) (b : Bool) →
 by_nothing f x number true = refl
 by_nothing f x number false = refl
 
-pub ended_with : {X Y : Type 0} (f : X → Y) (t : Said X) → ended (parsed_with f t) ≡ made_with f (ended t)
+pub ended_with : {X Y : Type 0} (f : X → Y) (t : ParsedPart X) → ended (parsed_with f t) ≡ made_with f (ended t)
 ended_with f (Ok r) = by_nothing f r.0 r.1.number (nothing_in r.1.left)
 ended_with f (Err fault) = refl
 
@@ -581,9 +581,9 @@ module _ (line after : List ℕ) (left : List (List ℕ)) where
       ∙ ended_with (with_piece x) (pieces_ahead (record b { pieces_left = b.pieces_left - 1 }) (at (next_number number) (after ∷ left)))
 
   -- a motion without remaining pieces has ended
-  pub last_read : (number : ℕ) (b : BegunMotion) → b.pieces_left ≡ 0 → left_from (next.Piece b) number left ≡ left_from (next_of_motions b.behind) number left
+  pub last_read : (number : ℕ) (b : BegunMotion) → b.pieces_left ≡ 0 → left_from (next.Piece b) number left ≡ left_from (next_of_motions b.afterwards) number left
   unfolding ahead
-  last_read number b none = ap ended (pieces_done b (at number left) none) ∙ ap ended (sym (next_ahead b.behind (at number left)))
+  last_read number b none = ap ended (pieces_done b (at number left) none) ∙ ap ended (sym (next_ahead b.afterwards (at number left)))
 
   pub end_read : (number : ℕ) → length line ≤ 256 → parsed_end line ≡ Ok tt →
       left_from next.End number (line ∷ after ∷ left) ≡ left_from next.Nothing (next_number number) (after ∷ left)
@@ -613,20 +613,20 @@ ended_said e number h = ap (λ (x : Expected). left_from x number ([] ∷ [])) h
 
 -- ---- the rest
 
-several_length : {X : Type 0} (said : Place → Said X) (n : ℕ) (p : Place) → IfOk (several said n p) (λ y. length y.0 ≡ n)
+several_length : {X : Type 0} (said : Place → ParsedPart X) (n : ℕ) (p : Place) → IfOk (several said n p) (λ y. length y.0 ≡ n)
 unfolding several
 several_length said zero p = refl
 several_length {X} said (suc n) p = by_first (said p) (λ q. several_length said n q) where
-  by_more : (x : X) (t : Said (List X)) → IfOk t (λ y. length y.0 ≡ n) → IfOk (then_read t (λ xs r. Ok (x ∷ xs, r))) (λ y. length y.0 ≡ suc n)
+  by_more : (x : X) (t : ParsedPart (List X)) → IfOk t (λ y. length y.0 ≡ n) → IfOk (then_read t (λ xs r. Ok (x ∷ xs, r))) (λ y. length y.0 ≡ suc n)
   by_more x (Ok r) h = ap suc h
   by_more x (Err fault) h = tt
 
-  by_first : (t : Said X) → ((q : Place) → IfOk (several said n q) (λ y. length y.0 ≡ n)) →
+  by_first : (t : ParsedPart X) → ((q : Place) → IfOk (several said n q) (λ y. length y.0 ≡ n)) →
       IfOk (then_read t (λ x q. then_read (several said n q) (λ xs r. Ok (x ∷ xs, r)))) (λ y. length y.0 ≡ suc n)
   by_first (Ok r) h = by_more r.0 (several said n r.1) (h r.1)
   by_first (Err fault) h = tt
 
-if_ended : (P : Rest → Type 0) (t : Said Rest) → IfOk t (λ y. P y.0) → IfOk (ended t) P
+if_ended : (P : Rest → Type 0) (t : ParsedPart Rest) → IfOk t (λ y. P y.0) → IfOk (ended t) P
 if_ended P (Err fault) h = tt
 if_ended P (Ok r) h = by_end (nothing_in r.1.left) where
   by_end : (b : Bool) → IfOk (if b then Ok r.0 else Err (faults.BadLine r.1.number)) P
@@ -636,14 +636,14 @@ if_ended P (Ok r) h = by_end (nothing_in r.1.left) where
 pieces_fit : (b : BegunMotion) (p : Place) → IfOk (pieces_ahead b p) (λ y. length y.0.pieces ≡ b.pieces_left)
 unfolding pieces_ahead
 pieces_fit b p = by_several (several (line_at parsed_piece) b.pieces_left p) (several_length (line_at parsed_piece) b.pieces_left p) where
-  by_rest : (pieces : List Piece) (t : Said Rest) → length pieces ≡ b.pieces_left →
+  by_rest : (pieces : List Piece) (t : ParsedPart Rest) → length pieces ≡ b.pieces_left →
       IfOk (parsed_with (with_pieces pieces) t) (λ y. length y.0.pieces ≡ b.pieces_left)
   by_rest pieces (Ok r) h = h
   by_rest pieces (Err fault) h = tt
 
-  by_several : (t : Said (List Piece)) → IfOk t (λ y. length y.0 ≡ b.pieces_left) →
-      IfOk (then_read t (λ pieces q. parsed_with (with_pieces pieces) (motions_ahead b.behind q))) (λ y. length y.0.pieces ≡ b.pieces_left)
-  by_several (Ok r) h = by_rest r.0 (motions_ahead b.behind r.1) h
+  by_several : (t : ParsedPart (List Piece)) → IfOk t (λ y. length y.0 ≡ b.pieces_left) →
+      IfOk (then_read t (λ pieces q. parsed_with (with_pieces pieces) (motions_ahead b.afterwards q))) (λ y. length y.0.pieces ≡ b.pieces_left)
+  by_several (Ok r) h = by_rest r.0 (motions_ahead b.afterwards r.1) h
   by_several (Err fault) h = tt
 
 -- as many pieces remain as the motion's line declared
@@ -678,27 +678,27 @@ both_items : (off on : List Entry) → expansion (map (item_of Off) off ++ (map 
 both_items [] on = ap expansion (append-nil (map (item_of On) on)) ∙ on_items on
 both_items (e ∷ off) on = ap (λ (c : CertificateData). data_of (e ∷ c.off) c.on) (both_items off on)
 
-abbrev first_form : Said Rest → Said Form
+abbrev first_form : ParsedPart Rest → ParsedPart Form
 first_form t = parsed_with form_of_text (parsed_with (of_version One) t)
 
-end_is : (off on : List Entry) (t : Said (Unit {0}))
+end_is : (off on : List Entry) (t : ParsedPart (Unit {0}))
     → parsed_with PartedForm (then_read t (λ _ s. Ok (data_of off on, s)))
     ≡ first_form (parsed_with (with_motions Off off) (parsed_with (with_motions On on) (then_read t (λ _ q. Ok (nothing_left, q)))))
 end_is off on (Ok r) = ap (λ (c : CertificateData). ok_with c r.1) (sym (both_items off on)) where
-  ok_with : CertificateData → Place → Said Form
+  ok_with : CertificateData → Place → ParsedPart Form
   ok_with c q = Ok (PartedForm c, q)
 end_is off on (Err fault) = refl
 
-on_is : (off : List Entry) (t : Said (List Entry)) → parsed_with PartedForm (then_read t (λ on r. then_read (line_at parsed_end r) (λ _ s. Ok (data_of off on, s))))
+on_is : (off : List Entry) (t : ParsedPart (List Entry)) → parsed_with PartedForm (then_read t (λ on r. then_read (line_at parsed_end r) (λ _ s. Ok (data_of off on, s))))
     ≡ first_form (parsed_with (with_motions Off off)
     (then_read t (λ more q. parsed_with (with_motions On more) (then_read (line_at parsed_end q) (λ _ q. Ok (nothing_left, q))))))
 on_is off (Ok r) = end_is off r.0 (line_at parsed_end r.1)
 on_is off (Err fault) = refl
 
 settings_are : (p : Place) → parsed_with PartedForm (settings_at p) ≡ first_form (setting_ahead Off p)
-unfolding settings_at setting_ahead behind end_ahead
+unfolding settings_at setting_ahead afterwards end_ahead
 settings_are p = by_off (setting_at (codes "off") p) where
-  by_off : (t : Said (List Entry)) →
+  by_off : (t : ParsedPart (List Entry)) →
       parsed_with PartedForm
       (then_read t (λ off q. then_read (setting_at (codes "on") q) (λ on r. then_read (line_at parsed_end r) (λ _ s. Ok (data_of off on, s)))))
       ≡ first_form (then_read t
@@ -707,17 +707,17 @@ settings_are p = by_off (setting_at (codes "off") p) where
   by_off (Ok r) = on_is r.0 (setting_at (codes "on") r.1)
   by_off (Err fault) = refl
 
-abbrev second_form : Said Rest → Said Form
+abbrev second_form : ParsedPart Rest → ParsedPart Form
 second_form t = parsed_with form_of_text (parsed_with (of_version Two) t)
 
-joined_end : (items : List Item) (t : Said (Unit {0}))
+joined_end : (items : List Item) (t : ParsedPart (Unit {0}))
     → parsed_with JoinedForm (then_read t (λ _ s. Ok (items, s))) ≡ second_form (parsed_with (with_items items) (then_read t (λ _ q. Ok (nothing_left, q))))
 joined_end items (Ok r) = ap (λ (xs : List Item). ok_with xs r.1) (sym (append-nil items)) where
-  ok_with : List Item → Place → Said Form
+  ok_with : List Item → Place → ParsedPart Form
   ok_with xs q = Ok (JoinedForm xs, q)
 joined_end items (Err fault) = refl
 
-joined_items : (t : Said (List Item)) → parsed_with JoinedForm (then_read t (λ items r. then_read (line_at parsed_end r) (λ _ s. Ok (items, s))))
+joined_items : (t : ParsedPart (List Item)) → parsed_with JoinedForm (then_read t (λ items r. then_read (line_at parsed_end r) (λ _ s. Ok (items, s))))
     ≡ second_form (then_read t (λ more q. parsed_with (with_items more) (then_read (line_at parsed_end q) (λ _ q. Ok (nothing_left, q)))))
 joined_items (Ok r) = joined_end r.0 (line_at parsed_end r.1)
 joined_items (Err fault) = refl
@@ -725,7 +725,7 @@ joined_items (Err fault) = refl
 joined_is : (p : Place) → parsed_with JoinedForm (joined_at p) ≡ second_form (counts_ahead p)
 unfolding joined_at counts_ahead motions_ahead end_ahead
 joined_is p = by_counts (line_at parsed_counts p) where
-  by_counts : (t : Said CountsLine) →
+  by_counts : (t : ParsedPart CountsLine) →
       parsed_with JoinedForm
       (then_read t (λ c q. then_read (items_at (c.off + c.on) (all_left c) q) (λ items r. then_read (line_at parsed_end r) (λ _ s. Ok (items, s)))))
       ≡ second_form (then_read t
@@ -739,7 +739,7 @@ unfolding after_header
 version_ahead One p = settings_are p
 version_ahead Two p = joined_is p
 
-all_ahead : (t : Said Version) → then_read t form_at ≡ parsed_with form_of_text (then_read t (λ v q. parsed_with (of_version v) (after_header v q)))
+all_ahead : (t : ParsedPart Version) → then_read t form_at ≡ parsed_with form_of_text (then_read t (λ v q. parsed_with (of_version v) (after_header v q)))
 all_ahead (Ok r) = version_ahead r.0 r.1
 all_ahead (Err fault) = refl
 
@@ -752,7 +752,7 @@ pub begun_form : (number : ℕ) (text : List ℕ) → parsed_form text ≡ made_
 begun_form number text =
     form_is text ∙ ap ended (all_ahead (header_in (lines_of text)))
     ∙ ended_with form_of_text (then_read (header_in (lines_of text)) (λ v q. parsed_with (of_version v) (after_header v q)))
-    ∙ ap (λ (t : Said Rest). made_with form_of_text (ended t)) (sym (header_ahead number (lines_of text)))
+    ∙ ap (λ (t : ParsedPart Rest). made_with form_of_text (ended t)) (sym (header_ahead number (lines_of text)))
 
 form_contents : (v : Option Version) (items : List Item) → contents (form_by v items) ≡ expansion items
 form_contents (Some Two) items = refl

@@ -6,21 +6,21 @@ use Rattle.std.proofs.lemmas.Bool.Decides.{nat_tests}
 use Rattle.ngc_certificate_text.specs.declared.expected.Expected.TheVariants as next
 use Rattle.ngc_certificate_text.specs.declared.fault.CertificateFault.{CertificateFault}
 use Rattle.ngc_certificate_text.specs.declared.certificate_lines.CertificateLines.{CertificateLines}
-use Rattle.ngc_certificate_text.specs.declared.told.Told.{Told}
+use Rattle.ngc_certificate_text.specs.declared.line_content.LineContent.{LineContent}
 use Rattle.ngc_certificate_text.specs.Ahead.{Rest, Left, left_from, nothing_left, made_with, certificate_of, form_of_text, wrong_line}
 use Rattle.ngc_certificate_text.specs.LinesView.{left_by, IsReading}
 use Rattle.ngc_certificate_text.specs.Parted.{is_feedless, firm, firm_lines, PartsLines}
-use Rattle.ngc_certificate_text.specs.Said.{lines_of, nothing_in, parsed_certificate, parsed_form}
-use Rattle.ngc_certificate_text.specs.Told.{IsFront, Tells}
+use Rattle.ngc_certificate_text.specs.ParsedPart.{lines_of, nothing_in, parsed_certificate, parsed_form}
+use Rattle.ngc_certificate_text.specs.LineContent.{IsFront, LineResultIs}
 use Rattle.ngc_certificate_text.proofs.LinesAhead.{HasNoLine, wrong_said, nothing_said, ended_said, two_left, one_left, begun_said, begun_form}
 use Rattle.ngc_certificate_text.proofs.LineSplitting.{feedless_both, split_onto, only_line}
 use Rattle.ngc_certificate_text.proofs.SpelledTexts.{some_lines}
 
 -- a line between equal rests
-tells_is : (result : Result Told CertificateFault) (a b c d : Left) → a ≡ b → (OnOk result (c ≡ d)) → Tells result b d → Tells result a c
-tells_is (Ok told) a b c d e f h =
-    let P : Left → Type 0 = λ l. IsFront told a l in
-    let Q : Left → Type 0 = λ l. IsFront told l d in
+tells_is : (result : Result LineContent CertificateFault) (a b c d : Left) → a ≡ b → (OnOk result (c ≡ d)) → LineResultIs result b d → LineResultIs result a c
+tells_is (Ok line_content) a b c d e f h =
+    let P : Left → Type 0 = λ l. IsFront line_content a l in
+    let Q : Left → Type 0 = λ l. IsFront line_content l d in
     subst P (sym f) (subst Q (sym e) h)
 tells_is (Err fault) a b c d e f h = e ∙ h
 
@@ -62,44 +62,44 @@ long_cut lines r bytes rest fault parts reading feedless long is =
     let g = parts.long line rest (feedless_both r.cut.items bytes reading.feedless feedless) size in
     let more : 256 < length (line ++ g.more) = omega (arith, length-append line g.more, size) in
     let some : 0 < length (line ++ g.more) = omega (arith, more) in
-    let said = wrong_said r.next.expected r.next.number ((line ++ g.more) ∷ g.behind) reading.sound (long_first (line ++ g.more) g.behind more)
-    (λ _. some_first (line ++ g.more) g.behind some) in
+    let said = wrong_said r.next.expected r.next.number ((line ++ g.more) ∷ g.afterwards) reading.sound (long_first (line ++ g.more) g.afterwards more)
+    (λ _. some_first (line ++ g.more) g.afterwards some) in
     ap (λ (b : List ℕ). from r (lines b)) (sym (append_assoc r.cut.items bytes rest)) ∙ ap (from r) g.split ∙ said
     ∙ ap (λ (f : CertificateFault). refused f) (sym is)
 
 -- a line that is read, before others
-taken : (lines : List ℕ → List (List ℕ)) (old new : CertificateLines) (line rest : List ℕ) (result : Result Told CertificateFault) → PartsLines lines
-    → ((next : List ℕ) (left : List (List ℕ)) → Tells result (from old (line ∷ next ∷ left)) (from new (next ∷ left)))
-    → Tells result (from old (line ∷ lines rest)) (from new (lines rest))
+taken : (lines : List ℕ → List (List ℕ)) (old new : CertificateLines) (line rest : List ℕ) (result : Result LineContent CertificateFault) → PartsLines lines
+    → ((next : List ℕ) (left : List (List ℕ)) → LineResultIs result (from old (line ∷ next ∷ left)) (from new (next ∷ left)))
+    → LineResultIs result (from old (line ∷ lines rest)) (from new (lines rest))
 taken lines old new line rest result parts step =
     let g = parts.some rest in
-    subst (λ (ls : List (List ℕ)). Tells result (from old (line ∷ ls)) (from new ls)) (sym g.split) (step g.more g.behind)
+    subst (λ (ls : List (List ℕ)). LineResultIs result (from old (line ∷ ls)) (from new ls)) (sym g.split) (step g.more g.afterwards)
 
 -- a line that is whole in a piece
-pub whole_line : (lines : List ℕ → List (List ℕ)) (old new : CertificateLines) (result : Result Told CertificateFault) (bytes rest : List ℕ) →
+pub whole_line : (lines : List ℕ → List (List ℕ)) (old new : CertificateLines) (result : Result LineContent CertificateFault) (bytes rest : List ℕ) →
     PartsLines lines → old.cut.items ≡ [] → new.cut.items ≡ []
-    → is_feedless bytes ≡ true → ((next : List ℕ) (left : List (List ℕ)) → Tells result (from old (bytes ∷ next ∷ left)) (from new (next ∷ left)))
-    → Tells result (left_by lines old (bytes ++ (10 ∷ rest))) (left_by lines new rest)
+    → is_feedless bytes ≡ true → ((next : List ℕ) (left : List (List ℕ)) → LineResultIs result (from old (bytes ∷ next ∷ left)) (from new (next ∷ left)))
+    → LineResultIs result (left_by lines old (bytes ++ (10 ∷ rest))) (left_by lines new rest)
 whole_line lines old new result bytes rest parts e f feedless step =
     tells_is result _ (from old (bytes ∷ lines rest)) _ (from new (lines rest))
     (ap (λ (c : List ℕ). from old (lines (c ++ (bytes ++ (10 ∷ rest))))) e ∙ ap (from old) (parts.ends bytes rest feedless))
     (always result (ap (λ (c : List ℕ). from new (lines (c ++ rest))) f))
     (taken lines old new bytes rest result parts step) where
-      always : {X : Type 0} (r : Result Told CertificateFault) → X → OnOk r X
+      always : {X : Type 0} (r : Result LineContent CertificateFault) → X → OnOk r X
       always (Ok done) x = x
       always (Err fault) x = tt
 
-emptied : (lines : List ℕ → List (List ℕ)) (result : Result Told CertificateFault) (r : CertificateLines) (rest : List ℕ) → OnOk result (r.cut.items ≡ [])
+emptied : (lines : List ℕ → List (List ℕ)) (result : Result LineContent CertificateFault) (r : CertificateLines) (rest : List ℕ) → OnOk result (r.cut.items ≡ [])
     → OnOk result (left_by lines r rest ≡ from r (lines rest))
 emptied lines (Ok done) r rest h = ap (λ (c : List ℕ). from r (lines (c ++ rest))) h
 emptied lines (Err fault) r rest h = tt
 
 -- a line that began in an earlier piece
-pub cut_line : (lines : List ℕ → List (List ℕ)) (old mid new : CertificateLines) (result : Result Told CertificateFault) (bytes rest : List ℕ) →
+pub cut_line : (lines : List ℕ → List (List ℕ)) (old mid new : CertificateLines) (result : Result LineContent CertificateFault) (bytes rest : List ℕ) →
     PartsLines lines → is_feedless mid.cut.items ≡ true
     → left_by lines old (bytes ++ (10 ∷ rest)) ≡ left_by lines mid (10 ∷ rest) → OnOk result (new.cut.items ≡ [])
-    → ((next : List ℕ) (left : List (List ℕ)) → Tells result (from mid (mid.cut.items ∷ next ∷ left)) (from new (next ∷ left)))
-    → Tells result (left_by lines old (bytes ++ (10 ∷ rest))) (left_by lines new rest)
+    → ((next : List ℕ) (left : List (List ℕ)) → LineResultIs result (from mid (mid.cut.items ∷ next ∷ left)) (from new (next ∷ left)))
+    → LineResultIs result (left_by lines old (bytes ++ (10 ∷ rest))) (left_by lines new rest)
 cut_line lines old mid new result bytes rest parts feedless same empty step =
     tells_is result _ (from mid (mid.cut.items ∷ lines rest)) _ (from new (lines rest))
     (same ∙ ap (from mid) (parts.ends mid.cut.items rest feedless))
@@ -107,13 +107,13 @@ cut_line lines old mid new result bytes rest parts feedless same empty step =
     (taken lines mid new mid.cut.items rest result parts step)
 
 -- a line at the front of some bytes
-pub split_first : (lines : List ℕ → List (List ℕ)) (old new : CertificateLines) (result : Result Told CertificateFault) (bytes line behind rest : List ℕ) →
-    bytes ≡ line ++ (10 ∷ behind)
-    → Tells result (left_by lines old (line ++ (10 ∷ (behind ++ rest)))) (left_by lines new (behind ++ rest))
-    → Tells result (left_by lines old (bytes ++ rest)) (left_by lines new (behind ++ rest))
-split_first lines old new result bytes line behind rest parts h =
-    let same : bytes ++ rest ≡ line ++ (10 ∷ (behind ++ rest)) = ap (λ (b : List ℕ). b ++ rest) parts ∙ append_assoc line (10 ∷ behind) rest in
-    let P : List ℕ → Type 0 = λ b. Tells result (left_by lines old b) (left_by lines new (behind ++ rest)) in
+pub split_first : (lines : List ℕ → List (List ℕ)) (old new : CertificateLines) (result : Result LineContent CertificateFault) (bytes line afterwards rest : List ℕ) →
+    bytes ≡ line ++ (10 ∷ afterwards)
+    → LineResultIs result (left_by lines old (line ++ (10 ∷ (afterwards ++ rest)))) (left_by lines new (afterwards ++ rest))
+    → LineResultIs result (left_by lines old (bytes ++ rest)) (left_by lines new (afterwards ++ rest))
+split_first lines old new result bytes line afterwards rest parts h =
+    let same : bytes ++ rest ≡ line ++ (10 ∷ (afterwards ++ rest)) = ap (λ (b : List ℕ). b ++ rest) parts ∙ append_assoc line (10 ∷ afterwards) rest in
+    let P : List ℕ → Type 0 = λ b. LineResultIs result (left_by lines old b) (left_by lines new (afterwards ++ rest)) in
     subst P (sym same) h
 
 -- ---- the end

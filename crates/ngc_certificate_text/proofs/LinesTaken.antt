@@ -4,13 +4,13 @@ use Rattle.std.specs.Prelude.{nat_le, if◌then◌else◌}
 use Rattle.std.specs.List.{join_with_byte}
 use Rattle.ngc_certificate_text.specs.declared.fault.CertificateFault.TheVariants.{BadLine}
 use Rattle.ngc_certificate_text.specs.declared.lines.LineFlaw.{LineFlaw}
-use Rattle.ngc_certificate_text.specs.Said.{Place, Said, then_read, next_number, line_is, line_in, line_at}
+use Rattle.ngc_certificate_text.specs.ParsedPart.{Place, ParsedPart, then_read, next_number, line_is, line_in, line_at}
 
 -- the remaining text
 abbrev pub text_left : Place → List ℕ
 text_left p = join_with_byte 10 p.left
 
-pub then_ok : {X Y : Type 0} (s : Said X) (more : X → Place → Said Y) (y : Y) (q : Place) → then_read s more ≡ Ok (y, q) →
+pub then_ok : {X Y : Type 0} (s : ParsedPart X) (more : X → Place → ParsedPart Y) (y : Y) (q : Place) → then_read s more ≡ Ok (y, q) →
     (x : X) × (p : Place) × (s ≡ Ok (x, p)) × (more x p ≡ Ok (y, q))
 then_ok (Ok r) more y q h = (r.0, r.1, refl, h)
 then_ok (Err fault) more y q h = absurd (cc h)
@@ -24,7 +24,7 @@ pub record Taken {X : Type 0} (said : List ℕ → Result X LineFlaw) (lines : L
 abbrev pub read_to : {X : Type 0} → X → Place → X × Place
 read_to x p = (x, p)
 
-abbrev pub said_ok : {X : Type 0} → X × Place → Said X
+abbrev pub said_ok : {X : Type 0} → X × Place → ParsedPart X
 said_ok r = Ok r
 
 pub ok_same : {X : Type 0} (x y : X × Place) → said_ok x ≡ said_ok y → x ≡ y

@@ -20,19 +20,19 @@ use Rattle.ngc_certificate_text.specs.declared.lines.EntryLine.{EntryLine}
 use Rattle.ngc_certificate_text.specs.declared.piece.Piece.{Piece}
 use Rattle.ngc_certificate_text.specs.declared.piece.Setting.{Setting}
 use Rattle.ngc_certificate_text.specs.declared.piece.Setting.TheVariants.{Off, On}
-use Rattle.ngc_certificate_text.specs.declared.told.Told.{Told}
-use Rattle.ngc_certificate_text.specs.declared.told.Told.TheVariants as tell
-use Rattle.ngc_certificate_text.specs.declared.told.Version.{Version}
-use Rattle.ngc_certificate_text.specs.declared.told.Version.TheVariants.{One, Two}
+use Rattle.ngc_certificate_text.specs.declared.line_content.LineContent.{LineContent}
+use Rattle.ngc_certificate_text.specs.declared.line_content.LineContent.TheVariants as content_kind
+use Rattle.ngc_certificate_text.specs.declared.line_content.Version.{Version}
+use Rattle.ngc_certificate_text.specs.declared.line_content.Version.TheVariants.{One, Two}
 use Rattle.ngc_certificate_text.specs.Ahead.{Rest, Left, left_from, made_with, name_of, index_at, of_version, next_of_entries, next_of_motions, motions_after}
 use Rattle.ngc_certificate_text.specs.Ahead.{HaveSome, go_on, is_open, wrong_line, IsSound, lines_ahead, lines_of_motions}
 use Rattle.ngc_certificate_text.specs.Certificate.{INDEX_LIMIT}
 use Rattle.ngc_certificate_text.specs.EntryLines.{parsed_version, parsed_counts, none_left, may_still_follow, remaining_after, all_left}
 use Rattle.ngc_certificate_text.specs.Joined.{good_indices}
 use Rattle.ngc_certificate_text.specs.Lines.{parsed_setting, parsed_motion, parsed_piece, parsed_end}
-use Rattle.ngc_certificate_text.specs.Said.{next_number, fault_at}
-use Rattle.ngc_certificate_text.specs.Told.{onto, Fits, IsFront, after_version, after_piece, after_content, left_at, taken_at, IsNext, content_with, counts_content}
-use Rattle.ngc_certificate_text.specs.Told.{parsed_motion_or_entry, motion_content, content_by, fault_of}
+use Rattle.ngc_certificate_text.specs.ParsedPart.{next_number, fault_at}
+use Rattle.ngc_certificate_text.specs.LineContent.{onto, Fits, IsFront, after_version, after_piece, after_content, left_at, taken_at, IsNext, content_with, counts_content}
+use Rattle.ngc_certificate_text.specs.LineContent.{parsed_motion_or_entry, motion_content, content_by, fault_of}
 use Rattle.ngc_certificate_text.proofs.LinesAhead.{begun, of_parted, header_ended, two_left, nothing_said, setting_flawed, counts_flawed, motion_flawed}
 use Rattle.ngc_certificate_text.proofs.LinesAhead.{closed_said, piece_flawed, end_flawed, header_read, header_wrong, setting_read, counts_read, motion_read, piece_read}
 use Rattle.ngc_certificate_text.proofs.LinesAhead.{last_read, end_read, left_fits, left_none}
@@ -41,26 +41,26 @@ use Rattle.ngc_certificate_text.proofs.SpelledLines.{setting_spelled, motion_spe
 
 -- ---- a correct line
 
-told_ok : {X : Type 0} (f : X → Told) (r : Result X LineFlaw) (told : Told) → content_with f r ≡ Ok told → (x : X) × (r ≡ Ok x) × (told ≡ f x)
-told_ok f (Ok x) told h = (x, refl, sym (cc h))
-told_ok f (Err flaw) told h = absurd (cc h)
+told_ok : {X : Type 0} (f : X → LineContent) (r : Result X LineFlaw) (line_content : LineContent) → content_with f r ≡ Ok line_content → (x : X) × (r ≡ Ok x) × (line_content ≡ f x)
+told_ok f (Ok x) line_content h = (x, refl, sym (cc h))
+told_ok f (Err flaw) line_content h = absurd (cc h)
 
-told_err : {X : Type 0} (f : X → Told) (r : Result X LineFlaw) (flaw : LineFlaw) → content_with f r ≡ Err flaw → r ≡ Err flaw
+told_err : {X : Type 0} (f : X → LineContent) (r : Result X LineFlaw) (flaw : LineFlaw) → content_with f r ≡ Err flaw → r ≡ Err flaw
 told_err {X} f (Ok x) flaw h = absurd (cc h)
 told_err {X} f (Err other) flaw h = let same : other ≡ flaw = cc h in ap (λ (l : LineFlaw). flawed l) same where
   flawed : LineFlaw → Result X LineFlaw
   flawed l = Err l
 
 -- a line's text in front of the rest
-front : (told : Told) (before after : Left) → before ≡ made_with (onto told) after → IfOk after (λ r. Fits told r) → IsFront told before after
-front told before (Ok r) e fits = (e, fits)
-front told before (Err fault) e fits = e
+front : (line_content : LineContent) (before after : Left) → before ≡ made_with (onto line_content) after → IfOk after (λ r. Fits line_content r) → IsFront line_content before after
+front line_content before (Ok r) e fits = (e, fits)
+front line_content before (Err fault) e fits = e
 
-front_same : (told : Told) (before after : Left) → before ≡ after → ((r : Rest) → onto told r ≡ r) → IfOk after (λ r. Fits told r) → IsFront told before after
-front_same told before (Ok r) e same fits = (e ∙ ap (λ (x : Rest). all_left x) (sym (same r)), fits) where
+front_same : (line_content : LineContent) (before after : Left) → before ≡ after → ((r : Rest) → onto line_content r ≡ r) → IfOk after (λ r. Fits line_content r) → IsFront line_content before after
+front_same line_content before (Ok r) e same fits = (e ∙ ap (λ (x : Rest). all_left x) (sym (same r)), fits) where
   all_left : Rest → Left
   all_left x = Ok x
-front_same told before (Err fault) e same fits = e
+front_same line_content before (Err fault) e same fits = e
 
 always : {X : Type 0} {P : X → Type 0} (r : Result X CertificateFault) → ((x : X) → P x) → IfOk r P
 always (Ok x) h = h x
@@ -79,20 +79,20 @@ piece_ahead b true number lines some e =
 piece_ahead b false number lines some e = refl
 
 -- if the rest of the text after a line has a fault, the text from that line on has it
-stopped : (told : Told) (before after : Left) (fault : CertificateFault) → IsFront told before after → after ≡ Err fault → before ≡ Err fault
-stopped told before (Ok r) fault front e = absurd (cc e)
-stopped told before (Err other) fault front e = front ∙ e
+stopped : (line_content : LineContent) (before after : Left) (fault : CertificateFault) → IsFront line_content before after → after ≡ Err fault → before ≡ Err fault
+stopped line_content before (Ok r) fault front e = absurd (cc e)
+stopped line_content before (Err other) fault front e = front ∙ e
 
 module _ (number : ℕ) (line after : List ℕ) (left : List (List ℕ)) (short : length line ≤ 256) where
   piece_front : (b : BegunMotion) (p : Piece) → 1 ≤ b.pieces_left → parsed_piece line ≡ Ok p
-      → IsFront (tell.Piece b p) (left_from (next.Piece b) number (line ∷ after ∷ left))
-      (left_from (after_content (tell.Piece b p)) (next_number number) (after ∷ left))
+      → IsFront (content_kind.Piece b p) (left_from (next.Piece b) number (line ∷ after ∷ left))
+      (left_from (after_content (content_kind.Piece b p)) (next_number number) (after ∷ left))
   piece_front b p some e =
       let one = record b { pieces_left = b.pieces_left - 1 } in
       let same = piece_ahead b (nat_le b.pieces_left 1) (next_number number) (after ∷ left) some refl in
-      let P : Left → Type 0 = λ l. IsFront (tell.Piece b p) (left_from (next.Piece b) number (line ∷ after ∷ left)) l in
+      let P : Left → Type 0 = λ l. IsFront (content_kind.Piece b p) (left_from (next.Piece b) number (line ∷ after ∷ left)) l in
       subst P same
-      (front (tell.Piece b p) (left_from (next.Piece b) number (line ∷ after ∷ left)) (left_from (next.Piece one) (next_number number) (after ∷ left))
+      (front (content_kind.Piece b p) (left_from (next.Piece b) number (line ∷ after ∷ left)) (left_from (next.Piece one) (next_number number) (after ∷ left))
       (piece_read line after left number b p some short e)
       (mapped (left_from (next.Piece one) (next_number number) (after ∷ left)) (λ r h. omega (arith, h, some))
       (left_fits one (next_number number) (after ∷ left))))
@@ -105,10 +105,10 @@ module _ (number : ℕ) (line after : List ℕ) (left : List (List ℕ)) (short 
       (motion_read line after left number m e some short h) (left_fits (begun m e) (next_number number) (after ∷ left))
 
   setting_front : (s : Setting) (n : ℕ) → parsed_setting (name_of s) line ≡ Ok n
-      → IsFront (tell.Setting s n) (left_from (next.Setting s) number (line ∷ after ∷ left))
-      (left_from (after_content (tell.Setting s n)) (next_number number) (after ∷ left))
+      → IsFront (content_kind.Setting s n) (left_from (next.Setting s) number (line ∷ after ∷ left))
+      (left_from (after_content (content_kind.Setting s n)) (next_number number) (after ∷ left))
   setting_front s n e =
-      front_same (tell.Setting s n) (left_from (next.Setting s) number (line ∷ after ∷ left))
+      front_same (content_kind.Setting s n) (left_from (next.Setting s) number (line ∷ after ∷ left))
       (left_from (next_of_motions (Parted s n)) (next_number number) (after ∷ left))
       (setting_read line after left number s n short e) (λ r. refl)
       (always (left_from (next_of_motions (Parted s n)) (next_number number) (after ∷ left)) (λ r. tt))
@@ -123,67 +123,67 @@ module _ (number : ℕ) (line after : List ℕ) (left : List (List ℕ)) (short 
       (always (left_from (next_of_motions (Joined (all_left c))) (next_number number) (after ∷ left)) (λ r. tt))
 
   end_front : parsed_end line ≡ Ok tt →
-      IsFront tell.End (left_from next.End number (line ∷ after ∷ left)) (left_from next.Nothing (next_number number) (after ∷ left))
+      IsFront content_kind.End (left_from next.End number (line ∷ after ∷ left)) (left_from next.Nothing (next_number number) (after ∷ left))
   end_front e =
-      front_same tell.End (left_from next.End number (line ∷ after ∷ left)) (left_from next.Nothing (next_number number) (after ∷ left))
+      front_same content_kind.End (left_from next.End number (line ∷ after ∷ left)) (left_from next.Nothing (next_number number) (after ∷ left))
       (end_read line after left number short e) (λ r. refl) (left_none (next_number number) (after ∷ left))
 
   header_front : number ≡ 1 → (v : Version) → parsed_version line ≡ Ok v
-      → IsFront (tell.Header v) (left_from next.Header number (line ∷ after ∷ left)) (left_from (after_version v) (next_number number) (after ∷ left))
+      → IsFront (content_kind.Header v) (left_from next.Header number (line ∷ after ∷ left)) (left_from (after_version v) (next_number number) (after ∷ left))
   header_front first v h =
       let two : 2 ≡ next_number number = ap next_number (sym first) in
-      front (tell.Header v) (left_from next.Header number (line ∷ after ∷ left)) (left_from (after_version v) (next_number number) (after ∷ left))
+      front (content_kind.Header v) (left_from next.Header number (line ∷ after ∷ left)) (left_from (after_version v) (next_number number) (after ∷ left))
       (header_read line after left number v h ∙ ap (made_with (of_version v))
       (header_ended v 2 (after ∷ left) ∙ ap (λ (n : ℕ). left_from (after_version v) n (after ∷ left)) two))
       (always (left_from (after_version v) (next_number number) (after ∷ left)) (λ r. tt))
 
   -- a line that is read
-  pub told_front : (e : Expected) (told : Told) → IsSound e number → content_by e line ≡ Ok told
-      → IsFront told (left_from e number (line ∷ after ∷ left)) (left_from (after_content told) (next_number number) (after ∷ left))
-  told_front next.Header told sound h =
-      let r = told_ok tell.Header (parsed_version line) told h in
-      let P : Told → Type 0 = λ t. IsFront t (left_from next.Header number (line ∷ after ∷ left))
+  pub told_front : (e : Expected) (line_content : LineContent) → IsSound e number → content_by e line ≡ Ok line_content
+      → IsFront line_content (left_from e number (line ∷ after ∷ left)) (left_from (after_content line_content) (next_number number) (after ∷ left))
+  told_front next.Header line_content sound h =
+      let r = told_ok content_kind.Header (parsed_version line) line_content h in
+      let P : LineContent → Type 0 = λ t. IsFront t (left_from next.Header number (line ∷ after ∷ left))
       (left_from (after_content t) (next_number number) (after ∷ left)) in
       subst P (sym r.2) (header_front (sound.first refl) r.0 r.1)
-  told_front (next.Setting s) told sound h =
-      let r = told_ok (tell.Setting s) (parsed_setting (name_of s) line) told h in
-      let P : Told → Type 0 = λ t. IsFront t (left_from (next.Setting s) number (line ∷ after ∷ left))
+  told_front (next.Setting s) line_content sound h =
+      let r = told_ok (content_kind.Setting s) (parsed_setting (name_of s) line) line_content h in
+      let P : LineContent → Type 0 = λ t. IsFront t (left_from (next.Setting s) number (line ∷ after ∷ left))
       (left_from (after_content t) (next_number number) (after ∷ left)) in
       subst P (sym r.2) (setting_front s r.0 r.1)
-  told_front next.Counts told sound h =
-      let r = told_ok counts_content (parsed_counts line) told h in
-      let P : Told → Type 0 = λ t. IsFront t (left_from next.Counts number (line ∷ after ∷ left))
+  told_front next.Counts line_content sound h =
+      let r = told_ok counts_content (parsed_counts line) line_content h in
+      let P : LineContent → Type 0 = λ t. IsFront t (left_from next.Counts number (line ∷ after ∷ left))
       (left_from (after_content t) (next_number number) (after ∷ left)) in
       subst P (sym r.2) (counts_front r.0 r.1)
-  told_front (next.Motion m) told sound h =
-      let r = told_ok (motion_content m) (parsed_motion_or_entry m line) told h in
-      let P : Told → Type 0 = λ t. IsFront t (left_from (next.Motion m) number (line ∷ after ∷ left))
+  told_front (next.Motion m) line_content sound h =
+      let r = told_ok (motion_content m) (parsed_motion_or_entry m line) line_content h in
+      let P : LineContent → Type 0 = λ t. IsFront t (left_from (next.Motion m) number (line ∷ after ∷ left))
       (left_from (after_content t) (next_number number) (after ∷ left)) in
       subst P (sym r.2) (motion_front m r.0 (sound.motion m refl) r.1)
-  told_front (next.Piece b) told sound h =
-      let r = told_ok (tell.Piece b) (parsed_piece line) told h in
-      let P : Told → Type 0 = λ t. IsFront t (left_from (next.Piece b) number (line ∷ after ∷ left))
+  told_front (next.Piece b) line_content sound h =
+      let r = told_ok (content_kind.Piece b) (parsed_piece line) line_content h in
+      let P : LineContent → Type 0 = λ t. IsFront t (left_from (next.Piece b) number (line ∷ after ∷ left))
       (left_from (after_content t) (next_number number) (after ∷ left)) in
       subst P (sym r.2) (piece_front b r.0 (sound.piece b refl) r.1)
-  told_front next.End told sound h =
-      let r = told_ok (λ (x : Unit {0}). tell.End) (parsed_end line) told h in
-      let P : Told → Type 0 = λ t. IsFront t (left_from next.End number (line ∷ after ∷ left))
+  told_front next.End line_content sound h =
+      let r = told_ok (λ (x : Unit {0}). content_kind.End) (parsed_end line) line_content h in
+      let P : LineContent → Type 0 = λ t. IsFront t (left_from next.End number (line ∷ after ∷ left))
       (left_from (after_content t) (next_number number) (after ∷ left)) in
       subst P (sym r.2) (end_front r.1)
-  told_front next.Nothing told sound h = absurd (cc h)
+  told_front next.Nothing line_content sound h = absurd (cc h)
 
   -- a line that is refused
   pub told_refused : (e : Expected) (flaw : LineFlaw) → IsSound e number → content_by e line ≡ Err flaw →
       left_from e number (line ∷ after ∷ left) ≡ Err (fault_of e number flaw)
-  told_refused next.Header flaw sound h = header_wrong line after left number flaw (told_err tell.Header (parsed_version line) flaw h)
+  told_refused next.Header flaw sound h = header_wrong line after left number flaw (told_err content_kind.Header (parsed_version line) flaw h)
   told_refused (next.Setting s) flaw sound h =
-      setting_flawed number line after left flaw short s (told_err (tell.Setting s) (parsed_setting (name_of s) line) flaw h)
+      setting_flawed number line after left flaw short s (told_err (content_kind.Setting s) (parsed_setting (name_of s) line) flaw h)
   told_refused next.Counts flaw sound h = counts_flawed number line after left flaw short (told_err counts_content (parsed_counts line) flaw h)
   told_refused (next.Motion m) flaw sound h =
       motion_flawed number line after left flaw short m (sound.motion m refl) (told_err (motion_content m) (parsed_motion_or_entry m line) flaw h)
   told_refused (next.Piece b) flaw sound h =
-      piece_flawed number line after left flaw short b (sound.piece b refl) (told_err (tell.Piece b) (parsed_piece line) flaw h)
-  told_refused next.End flaw sound h = end_flawed number line after left flaw short (told_err (λ (x : Unit {0}). tell.End) (parsed_end line) flaw h)
+      piece_flawed number line after left flaw short b (sound.piece b refl) (told_err (content_kind.Piece b) (parsed_piece line) flaw h)
+  told_refused next.End flaw sound h = end_flawed number line after left flaw short (told_err (λ (x : Unit {0}). content_kind.End) (parsed_end line) flaw h)
   told_refused next.Nothing flaw sound h =
       let is : Spelling ≡ flaw = cc h in
       nothing_said next.Nothing number (line ∷ after ∷ left) refl (two_left line after left) ∙ ap (λ (l : LineFlaw). refused (fault_at number l)) is where
@@ -191,12 +191,12 @@ module _ (number : ℕ) (line after : List ℕ) (left : List (List ℕ)) (short 
         refused fault = Err fault
 
   -- a line after which none may follow
-  pub told_closed : (e : Expected) (told : Told) → IsSound e number → content_by e line ≡ Ok told → is_open (after_content told) ≡ false →
-      left_from e number (line ∷ after ∷ left) ≡ Err (wrong_line (after_content told) (next_number number))
-  told_closed e told sound h closed = stopped told
-      (left_from e number (line ∷ after ∷ left)) (left_from (after_content told) (next_number number) (after ∷ left))
-      (wrong_line (after_content told) (next_number number)) (told_front e told sound h)
-      (closed_said (after_content told) (next_number number) (after ∷ left) closed)
+  pub told_closed : (e : Expected) (line_content : LineContent) → IsSound e number → content_by e line ≡ Ok line_content → is_open (after_content line_content) ≡ false →
+      left_from e number (line ∷ after ∷ left) ≡ Err (wrong_line (after_content line_content) (next_number number))
+  told_closed e line_content sound h closed = stopped line_content
+      (left_from e number (line ∷ after ∷ left)) (left_from (after_content line_content) (next_number number) (after ∷ left))
+      (wrong_line (after_content line_content) (next_number number)) (told_front e line_content sound h)
+      (closed_said (after_content line_content) (next_number number) (after ∷ left) closed)
 
 -- ---- what is expected
 
@@ -228,7 +228,7 @@ motion_next (Parted s n) line e some h =
     subst P r.2 (record {
       left = Parted s n;
       expected = refl;
-      behind = refl;
+      afterwards = refl;
       counted = λ t. counted_parted s n r.0.index t some;
       indices = good_index s r.0.index spelled.index;
       some = spelled.some;
@@ -239,40 +239,40 @@ motion_next (Joined left) line e some h =
     record {
       left = Joined left;
       expected = refl;
-      behind = refl;
+      afterwards = refl;
       counted = λ t. counted_joined left e.indices t spelled.taken.may;
       indices = spelled.taken.indices;
       some = spelled.taken.some;
       few = spelled.taken.few;
     }
 
-pub told_next : (e : Expected) (number : ℕ) (line : List ℕ) (told : Told) → IsSound e number → content_by e line ≡ Ok told → IsNext e told
-told_next next.Header number line told sound h =
-    let r = told_ok tell.Header (parsed_version line) told h in
-    let P : Told → Type 0 = λ t. IsNext next.Header t in
+pub told_next : (e : Expected) (number : ℕ) (line : List ℕ) (line_content : LineContent) → IsSound e number → content_by e line ≡ Ok line_content → IsNext e line_content
+told_next next.Header number line line_content sound h =
+    let r = told_ok content_kind.Header (parsed_version line) line_content h in
+    let P : LineContent → Type 0 = λ t. IsNext next.Header t in
     subst P (sym r.2) refl
-told_next (next.Setting s) number line told sound h =
-    let r = told_ok (tell.Setting s) (parsed_setting (name_of s) line) told h in
-    let P : Told → Type 0 = λ t. IsNext (next.Setting s) t in
+told_next (next.Setting s) number line line_content sound h =
+    let r = told_ok (content_kind.Setting s) (parsed_setting (name_of s) line) line_content h in
+    let P : LineContent → Type 0 = λ t. IsNext (next.Setting s) t in
     subst P (sym r.2) (refl, (setting_spelled (name_of s) line r.0 r.1).1)
-told_next next.Counts number line told sound h =
-    let r = told_ok counts_content (parsed_counts line) told h in
+told_next next.Counts number line line_content sound h =
+    let r = told_ok counts_content (parsed_counts line) line_content h in
     let spelled = counts_spelled line r.0 r.1 in
-    let P : Told → Type 0 = λ t. IsNext next.Counts t in
+    let P : LineContent → Type 0 = λ t. IsNext next.Counts t in
     subst P (sym r.2) (refl, spelled.off, spelled.on)
-told_next (next.Motion m) number line told sound h =
-    let r = told_ok (motion_content m) (parsed_motion_or_entry m line) told h in
-    let P : Told → Type 0 = λ t. IsNext (next.Motion m) t in
+told_next (next.Motion m) number line line_content sound h =
+    let r = told_ok (motion_content m) (parsed_motion_or_entry m line) line_content h in
+    let P : LineContent → Type 0 = λ t. IsNext (next.Motion m) t in
     subst P (sym r.2) (motion_next m line r.0 (sound.motion m refl) r.1)
-told_next (next.Piece b) number line told sound h =
-    let r = told_ok (tell.Piece b) (parsed_piece line) told h in
-    let P : Told → Type 0 = λ t. IsNext (next.Piece b) t in
+told_next (next.Piece b) number line line_content sound h =
+    let r = told_ok (content_kind.Piece b) (parsed_piece line) line_content h in
+    let P : LineContent → Type 0 = λ t. IsNext (next.Piece b) t in
     subst P (sym r.2) (refl, (piece_spelled line r.0 r.1).held.good)
-told_next next.End number line told sound h =
-    let r = told_ok (λ (x : Unit {0}). tell.End) (parsed_end line) told h in
-    let P : Told → Type 0 = λ t. IsNext next.End t in
+told_next next.End number line line_content sound h =
+    let r = told_ok (λ (x : Unit {0}). content_kind.End) (parsed_end line) line_content h in
+    let P : LineContent → Type 0 = λ t. IsNext next.End t in
     subst P (sym r.2) refl
-told_next next.Nothing number line told sound h = absurd (cc h)
+told_next next.Nothing number line line_content sound h = absurd (cc h)
 
 -- ---- the next line is sound
 
@@ -333,17 +333,17 @@ piece_sound b number some = record {
 
 behind_sound : (b : BegunMotion) (last : Bool) (number : ℕ) → nat_le b.pieces_left 1 ≡ last → is_open (after_piece last b) ≡ true →
     IsSound (after_piece last b) number
-behind_sound b true number e going = motions_sound b.behind number going
+behind_sound b true number e going = motions_sound b.afterwards number going
 behind_sound b false number e going = let more : 1 ≤ b.pieces_left - 1 = grind (arith, nat_tests) in
     piece_sound (record b { pieces_left = b.pieces_left - 1 }) number more
 
-pub told_sound : (e : Expected) (told : Told) (number : ℕ) → IsNext e told → is_open (after_content told) ≡ true → IsSound (after_content told) number
-told_sound e (tell.Header v) number h going = version_sound v number
-told_sound e (tell.Setting s n) number h going = motions_sound (Parted s n) number going
-told_sound e (tell.Counts off on) number h going = motions_sound (Joined (record { off = off; on = on; after_on = false })) number going
-told_sound e (tell.Motion b) number h going = piece_sound b number h.some
-told_sound e (tell.Piece b p) number h going = behind_sound b (nat_le b.pieces_left 1) number refl going
-told_sound e tell.End number h going = other_sound next.Nothing number (λ x. cc x) (λ m x. cc x) (λ b x. cc x) refl
+pub told_sound : (e : Expected) (line_content : LineContent) (number : ℕ) → IsNext e line_content → is_open (after_content line_content) ≡ true → IsSound (after_content line_content) number
+told_sound e (content_kind.Header v) number h going = version_sound v number
+told_sound e (content_kind.Setting s n) number h going = motions_sound (Parted s n) number going
+told_sound e (content_kind.Counts off on) number h going = motions_sound (Joined (record { off = off; on = on; after_on = false })) number going
+told_sound e (content_kind.Motion b) number h going = piece_sound b number h.some
+told_sound e (content_kind.Piece b p) number h going = behind_sound b (nat_le b.pieces_left 1) number refl going
+told_sound e content_kind.End number h going = other_sound next.Nothing number (λ x. cc x) (λ m x. cc x) (λ b x. cc x) refl
 
 -- ---- fewer lines may follow
 
@@ -359,7 +359,7 @@ motions_lines (Joined left) = entries_lines (none_left left) left
 
 piece_lines : (b : BegunMotion) (last : Bool) → nat_le b.pieces_left 1 ≡ last → 1 ≤ b.pieces_left →
     lines_ahead (after_piece last b) + 1 ≤ lines_ahead (next.Piece b)
-piece_lines b true e some = omega (arith, motions_lines b.behind, some)
+piece_lines b true e some = omega (arith, motions_lines b.afterwards, some)
 piece_lines b false e some = omega (arith, some)
 
 one_taken : (i : Indices) → 1 ≤ taken_at i Off + taken_at i On
@@ -383,24 +383,24 @@ version_lines : (v : Version) → lines_ahead (after_version v) + 1 ≤ lines_ah
 version_lines One = omega arith
 version_lines Two = omega arith
 
-pub told_lines : (e : Expected) (told : Told) (number : ℕ) → IsSound e number → IsNext e told → lines_ahead (after_content told) + 1 ≤ lines_ahead e
-told_lines e (tell.Header v) number sound h = let old = ap lines_ahead h in omega (arith, old, version_lines v)
-told_lines e (tell.Setting s n) number sound h = let old = ap lines_ahead h.0 in omega (arith, old, motions_lines (Parted s n), h.1)
-told_lines e (tell.Counts off on) number sound h =
+pub told_lines : (e : Expected) (line_content : LineContent) (number : ℕ) → IsSound e number → IsNext e line_content → lines_ahead (after_content line_content) + 1 ≤ lines_ahead e
+told_lines e (content_kind.Header v) number sound h = let old = ap lines_ahead h in omega (arith, old, version_lines v)
+told_lines e (content_kind.Setting s n) number sound h = let old = ap lines_ahead h.0 in omega (arith, old, motions_lines (Parted s n), h.1)
+told_lines e (content_kind.Counts off on) number sound h =
     let old = ap lines_ahead h.0 in
     omega (arith, old, motions_lines (Joined (record { off = off; on = on; after_on = false })), h.1, h.2)
-told_lines e (tell.Motion b) number sound h =
+told_lines e (content_kind.Motion b) number sound h =
     let old = ap lines_ahead h.expected in
-    let same = ap lines_of_motions h.behind in
+    let same = ap lines_of_motions h.afterwards in
     let some = sound.motion h.left h.expected in
     omega (
       arith,
       old,
       h.few,
       same,
-      fewer_lines h.left b.indices some (λ s. h.counted s ∙ ap (λ (m : RemainingMotions). left_at m s + taken_at b.indices s) h.behind),
+      fewer_lines h.left b.indices some (λ s. h.counted s ∙ ap (λ (m : RemainingMotions). left_at m s + taken_at b.indices s) h.afterwards),
     )
-told_lines e (tell.Piece b p) number sound h =
+told_lines e (content_kind.Piece b p) number sound h =
     let old = ap lines_ahead h.0 in
     omega (arith, old, piece_lines b (nat_le b.pieces_left 1) refl (sound.piece b h.0))
-told_lines e tell.End number sound h = let old = ap lines_ahead h in omega (arith, old)
+told_lines e content_kind.End number sound h = let old = ap lines_ahead h in omega (arith, old)

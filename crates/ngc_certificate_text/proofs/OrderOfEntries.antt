@@ -11,7 +11,7 @@ use Rattle.ngc_certificate_text.specs.Certificate.{Entry, CertificateData, entri
 use Rattle.ngc_certificate_text.specs.Found.{add_item, HasSpaceFor}
 use Rattle.ngc_certificate_text.specs.Joined.{Item, entry_with, onto_motions, expansion}
 use Rattle.ngc_certificate_text.specs.Order.{kind_of, kinds_of, items_in, IsWhole}
-use Rattle.ngc_certificate_text.specs.Told.{taken_at}
+use Rattle.ngc_certificate_text.specs.LineContent.{taken_at}
 
 abbrev pub item : Indices → List Piece → Item
 item indices pieces = record { indices = indices; pieces = pieces }

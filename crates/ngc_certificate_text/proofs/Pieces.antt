@@ -15,7 +15,7 @@ use Rattle.ngc_certificate_text.specs.declared.fault.CertificateFault.TheVariant
 use Rattle.ngc_certificate_text.specs.declared.lines.LineFlaw.TheVariants.{Spelling, Range}
 use Rattle.ngc_certificate_text.specs.declared.piece.Setting.{Setting}
 use Rattle.ngc_certificate_text.specs.declared.piece.Setting.TheVariants.{Off, On}
-use Rattle.ngc_certificate_text.specs.declared.told.Version.TheVariants.{One}
+use Rattle.ngc_certificate_text.specs.declared.line_content.Version.TheVariants.{One}
 use Rattle.ngc_certificate_text.specs.Ahead.{Rest, Left, left_from, made_with, of_version, name_of, index_at, wrong_line, go_on, IsSound}
 use Rattle.ngc_certificate_text.specs.EntryLines.{parsed_version, parsed_counts, may_still_follow, parsed_entry, of_setting}
 use Rattle.ngc_certificate_text.specs.Lines.{numbers_in, parsed_setting, parsed_motion, parsed_piece}
@@ -23,7 +23,7 @@ use Rattle.ngc_certificate_text.specs.LinesView.{left_by, IsReading}
 use Rattle.ngc_certificate_text.specs.Number.{number_in}
 use Rattle.ngc_certificate_text.specs.Parted.{firm, firm_lines, PartsLines}
 use Rattle.ngc_certificate_text.specs.Reader.{Saying, outcome_by, firm_by, FaultIs, StepResultIs, Stands, AnswerIs}
-use Rattle.ngc_certificate_text.specs.Said.{lines_of}
+use Rattle.ngc_certificate_text.specs.ParsedPart.{lines_of}
 use Rattle.ngc_certificate_text.proofs.LinesAhead.{wrong_said, ended_said, header_read, header_ended, setting_flawed, counts_flawed, motion_flawed}
 use Rattle.ngc_certificate_text.proofs.LinesAhead.{piece_flawed}
 use Rattle.ngc_certificate_text.proofs.LinesAhead.{end_read}
@@ -127,10 +127,10 @@ bad e number fault line is sound never out lines all =
 none_stands : (e : Expected) (number : ℕ) (fault : CertificateFault) → IsSound e number → ((rest : List ℕ) → left_from e number (lines_of rest) ≡ Err fault) → ⊥
 none_stands next.Header number fault sound all =
     let missing = wrong_said next.Header number ([] ∷ []) sound tt (λ x. absurd (cc x)) in
-    let behind =
+    let afterwards =
     header_read (codes "ngc-certificate 1") [] [] number One first_version
     ∙ ap (made_with (of_version One)) (header_ended One 2 ([] ∷ []) ∙ wrong_said (next.Setting Off) 2 ([] ∷ []) setting_sound tt (λ x. absurd (cc x))) in
-    let same = two_faults _ _ fault faults.WrongHeader (faults.BadLine 2) missing behind (all []) (all (codes "ngc-certificate 1\n")) in absurd (cc same) where
+    let same = two_faults _ _ fault faults.WrongHeader (faults.BadLine 2) missing afterwards (all []) (all (codes "ngc-certificate 1\n")) in absurd (cc same) where
       setting_sound : IsSound (next.Setting Off) 2
       setting_sound = record {
         first = λ x. absurd (cc x);

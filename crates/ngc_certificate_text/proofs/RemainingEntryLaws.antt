@@ -23,7 +23,7 @@ use Rattle.ngc_certificate_text.specs.EntryLines.{motion_counts, parsed_counts, 
 use Rattle.ngc_certificate_text.specs.Joined.{Item, good_indices}
 use Rattle.ngc_certificate_text.specs.Lines.{numbers_in, numbers_in_rest, is_count, ranged, two_counts, parsed_piece}
 use Rattle.ngc_certificate_text.specs.Number.{fields}
-use Rattle.ngc_certificate_text.specs.Said.{Place, Said, then_read, line_at, several, item_at, items_at}
+use Rattle.ngc_certificate_text.specs.ParsedPart.{Place, ParsedPart, then_read, line_at, several, item_at, items_at}
 use Rattle.ngc_certificate_text.specs.Spelling.{item_line}
 use Rattle.ngc_certificate_text.proofs.Fields.{AreSmall, line_text, line_fields, line_numbers, line_spelled, numbers_in-signed, numbers_spelled, bytes_same}
 use Rattle.ngc_certificate_text.proofs.Fields.{joined_split}
@@ -375,7 +375,7 @@ items_none zero left p h = refl
 items_none (suc n) left p h = rw h refl
 
 -- an entry, and those after it
-abbrev pub entries_by : ℕ → RemainingEntries → Said Item → Said (List Item)
+abbrev pub entries_by : ℕ → RemainingEntries → ParsedPart Item → ParsedPart (List Item)
 entries_by n left t = then_read t (λ x q. then_read (items_at n (remaining_after left x.indices) q) (λ xs r. Ok (x ∷ xs, r)))
 
 pub items_more : (n : ℕ) (left : RemainingEntries) (p : Place) → total left ≡ suc n → items_at (suc n) left p ≡ entries_by n left (item_at left p)
@@ -387,7 +387,7 @@ unfolding items_at
 more_items n left p h = rw (some_entries left h) refl
 
 -- what follows an entry's line
-unfoldable pub pieces_behind : EntryLine → Place → Said Item
+unfoldable pub pieces_behind : EntryLine → Place → ParsedPart Item
 pieces_behind e q = then_read (several (line_at parsed_piece) e.pieces q) (λ pieces r. Ok (record { indices = e.indices; pieces = pieces }, r))
 
 pub item_is : (left : RemainingEntries) (p : Place) → item_at left p ≡ then_read (line_at (parsed_entry left) p) pieces_behind
@@ -406,10 +406,10 @@ item_takes left p x q h =
     let t = line_taken (parsed_entry left) p a.0 a.1 a.2 in
     subst (λ (r : Item × Place). total (remaining_after left r.0.indices) + 1 ≤ total left) same (takes_one left t.line a.0 t.says)
 
-fewer_items : (n : ℕ) (left : RemainingEntries) → ((more : RemainingEntries) (q : Place) → total more ≤ n → items_at (suc n) more q ≡ items_at n more q) → (t : Said Item)
+fewer_items : (n : ℕ) (left : RemainingEntries) → ((more : RemainingEntries) (q : Place) → total more ≤ n → items_at (suc n) more q ≡ items_at n more q) → (t : ParsedPart Item)
     → ((x : Item) (q : Place) → t ≡ Ok (x, q) → total (remaining_after left x.indices) ≤ n) → entries_by (suc n) left t ≡ entries_by n left t
 fewer_items n left same (Ok r) h =
-    ap (λ (u : Said (List Item)). then_read u (λ xs s. Ok (r.0 ∷ xs, s))) (same (remaining_after left r.0.indices) r.1 (h r.0 r.1 refl))
+    ap (λ (u : ParsedPart (List Item)). then_read u (λ xs s. Ok (r.0 ∷ xs, s))) (same (remaining_after left r.0.indices) r.1 (h r.0 r.1 refl))
 fewer_items n left same (Err fault) h = refl
 
 none_extra : (n : ℕ) (left : RemainingEntries) (p : Place) → total left ≡ 0 → items_at (suc n) left p ≡ items_at n left p

@@ -22,14 +22,14 @@ use Rattle.ngc_certificate_text.specs.declared.expected.Indices.{Indices}
 use Rattle.ngc_certificate_text.specs.declared.expected.Indices.TheVariants as of
 use Rattle.ngc_certificate_text.specs.declared.lines.CountsLine.{CountsLine}
 use Rattle.ngc_certificate_text.specs.declared.lines.EntryLine.{EntryLine}
-use Rattle.ngc_certificate_text.specs.declared.told.Version.{Version}
-use Rattle.ngc_certificate_text.specs.declared.told.Version.TheVariants.{One, Two}
+use Rattle.ngc_certificate_text.specs.declared.line_content.Version.{Version}
+use Rattle.ngc_certificate_text.specs.declared.line_content.Version.TheVariants.{One, Two}
 use Rattle.ngc_certificate_text.specs.EntryLines.{parsed_version, parsed_counts, parsed_entry, may_still_follow, remaining_after, all_left}
 use Rattle.ngc_certificate_text.specs.Joined.{Item, expansion, IsItem, in_order, IsJoined, Form, Parted, Joined}
 use Rattle.ngc_certificate_text.specs.Lines.{parsed_setting, parsed_motion, parsed_piece, parsed_end, are_steps}
-use Rattle.ngc_certificate_text.specs.Said.{lines_of, Place, Said, then_read, next_number, line_is, line_in, line_at, several, entry_at, setting_at}
-use Rattle.ngc_certificate_text.specs.Said.{settings_at, item_at, items_at, joined_at, parsed_with, version_is, nothing_in, ended, header_in, form_at, parsed_form}
-use Rattle.ngc_certificate_text.specs.Said.{has_steps, HasSteps, item_steps, IsForm, IsOneWriting}
+use Rattle.ngc_certificate_text.specs.ParsedPart.{lines_of, Place, ParsedPart, then_read, next_number, line_is, line_in, line_at, several, entry_at, setting_at}
+use Rattle.ngc_certificate_text.specs.ParsedPart.{settings_at, item_at, items_at, joined_at, parsed_with, version_is, nothing_in, ended, header_in, form_at, parsed_form}
+use Rattle.ngc_certificate_text.specs.ParsedPart.{has_steps, HasSteps, item_steps, IsForm, IsOneWriting}
 use Rattle.ngc_text.proofs.SplitTexts.{lacks, split_here}
 use Rattle.ngc_certificate_text.proofs.Fields.{joined_split, bytes_same}
 use Rattle.ngc_certificate_text.proofs.SpelledLines.{IsLine, IsName, setting_text, setting_line_is, setting_is_line, setting_reads, setting_spelled}
@@ -60,7 +60,7 @@ some_lines (b ∷ rest) = by_byte b rest (b == 10) refl where
   by_byte b rest false e = let o = onto b (lines_of rest) in (o.0, o.1, rw e o.2)
 
 -- a part reads a text with this prefix
-abbrev pub ReadsOn : {X : Type 0} → (Place → Said X) → List ℕ → X → Type 0
+abbrev pub ReadsOn : {X : Type 0} → (Place → ParsedPart X) → List ℕ → X → Type 0
 ReadsOn said text x = (number : ℕ) (rest : List ℕ) → (after : ℕ) × (said (at number (text ++ rest)) ≡ Ok (x, at after rest))
 
 short_line : (n : ℕ) → n ≤ 256 → nat_le n 256 ≡ true
@@ -76,7 +76,7 @@ line_here {X} said line rest number x is h =
     ∙ ap (λ (r : Result X LineFlaw). line_is number r (more.0 ∷ more.1)) h
     ∙ ap (λ (l : List (List ℕ)). taken x number l) (sym more.2)
   where
-    taken : {Y : Type 0} → Y → ℕ → List (List ℕ) → Said Y
+    taken : {Y : Type 0} → Y → ℕ → List (List ℕ) → ParsedPart Y
     taken y number l = Ok (y, record { number = next_number number; left = l })
 
 pub line_reads : {X : Type 0} (said : List ℕ → Result X LineFlaw) (line : List ℕ) (x : X) → IsLine line → said line ≡ Ok x →
@@ -88,24 +88,24 @@ line_reads said line x is h number rest = (
 )
 
 -- one part, and then another
-pub then_reads : {X Y : Type 0} (said : Place → Said X) (more : X → Place → Said Y) (text next : List ℕ) (x : X) (y : Y) → ReadsOn said text x →
+pub then_reads : {X Y : Type 0} (said : Place → ParsedPart X) (more : X → Place → ParsedPart Y) (text next : List ℕ) (x : X) (y : Y) → ReadsOn said text x →
     ReadsOn (more x) next y
     → ReadsOn (λ p. then_read (said p) more) (text ++ next) y
 then_reads {X} {Y} said more text next x y first second number rest =
     let a = first number (next ++ rest) in
     let b = second a.0 rest in
-    (b.0, ap (λ (t : List ℕ). then_read (said (at number t)) more) (append_assoc text next rest) ∙ ap (λ (r : Said X). then_read r more) a.1 ∙ b.1)
+    (b.0, ap (λ (t : List ℕ). then_read (said (at number t)) more) (append_assoc text next rest) ∙ ap (λ (r : ParsedPart X). then_read r more) a.1 ∙ b.1)
 
-several_none : {X : Type 0} (said : Place → Said X) (p : Place) → several said 0 p ≡ Ok ([], p)
+several_none : {X : Type 0} (said : Place → ParsedPart X) (p : Place) → several said 0 p ≡ Ok ([], p)
 unfolding several
 several_none said p = refl
 
-several_more : {X : Type 0} (said : Place → Said X) (n : ℕ) (p : Place) →
+several_more : {X : Type 0} (said : Place → ParsedPart X) (n : ℕ) (p : Place) →
     several said (suc n) p ≡ then_read (said p) (λ x q. then_read (several said n q) (λ xs r. Ok (x ∷ xs, r)))
 unfolding several
 several_more said n p = refl
 
-pub several_read : {X : Type 0} (said : Place → Said X) (text : X → List ℕ) (good : X → Type 0) → ((x : X) → good x → ReadsOn said (text x) x)
+pub several_read : {X : Type 0} (said : Place → ParsedPart X) (text : X → List ℕ) (good : X → Type 0) → ((x : X) → good x → ReadsOn said (text x) x)
     → (xs : List X) → AllByRecursion good xs → ReadsOn (several said (length xs)) (flat_map text xs) xs
 several_read said text good reads [] h number rest = (number, several_none said (at number rest))
 several_read {X} said text good reads (x ∷ xs) h number rest =
@@ -114,10 +114,10 @@ several_read {X} said text good reads (x ∷ xs) h number rest =
       b.0,
       several_more said (length xs) (at number ((text x ++ flat_map text xs) ++ rest))
           ∙ ap (λ (t : List ℕ). then_read (said (at number t)) (onto (length xs))) (append_assoc (text x) (flat_map text xs) rest)
-          ∙ ap (λ (r : Said X). then_read r (onto (length xs))) a.1
-          ∙ ap (λ (r : Said (List X)). then_read r (λ ys q. Ok (x ∷ ys, q))) b.1,
+          ∙ ap (λ (r : ParsedPart X). then_read r (onto (length xs))) a.1
+          ∙ ap (λ (r : ParsedPart (List X)). then_read r (λ ys q. Ok (x ∷ ys, q))) b.1,
     ) where
-      onto : ℕ → X → Place → Said (List X)
+      onto : ℕ → X → Place → ParsedPart (List X)
       onto n x q = then_read (several said n q) (λ ys r. Ok (x ∷ ys, r))
 
 -- ---- a motion
@@ -145,7 +145,7 @@ motion_reads_on i n hi some hn =
     (line_reads parsed_motion (motion_text i n) (record { index = i; pieces = n }) (motion_is_line i n hi hn) (motion_reads i n hi some hn))
 
 -- what follows a motion's line
-pieces_behind : MotionLine → Place → Said Entry
+pieces_behind : MotionLine → Place → ParsedPart Entry
 pieces_behind m q = then_read (several (line_at parsed_piece) m.pieces q) (λ pieces r. Ok (record { index = m.index; pieces = pieces }, r))
 
 entry_is : (p : Place) → entry_at p ≡ then_read (line_at parsed_motion p) pieces_behind
@@ -157,7 +157,7 @@ pieces_read_on : (i : ℕ) (ps : List Piece) → AllByRecursion IsHeld ps
 unfolding pieces_behind
 pieces_read_on i ps h number rest =
     let a = several_read (line_at parsed_piece) piece_line IsHeld piece_reads_on ps h number rest in
-    (a.0, ap (λ (r : Said (List Piece)). then_read r (λ pieces q. Ok (record { index = i; pieces = pieces }, q))) a.1)
+    (a.0, ap (λ (r : ParsedPart (List Piece)). then_read r (λ pieces q. Ok (record { index = i; pieces = pieces }, q))) a.1)
 
 pub entry_reads_on : (e : Entry) → IsSpelledEntry e → ReadsOn entry_at (entry_lines e) e
 entry_reads_on e h number rest =
@@ -175,7 +175,7 @@ spelled_entries (e ∷ es) all steps =
     let s = and_parts (has_steps e) (list_all has_steps es) steps in
     (record { entry = All-head IsEntry e es all; steps = s.0 }, spelled_entries es (All-tail IsEntry e es all) s.1)
 
-motions_after : ℕ → Place → Said (List Entry)
+motions_after : ℕ → Place → ParsedPart (List Entry)
 motions_after n q = several entry_at n q
 
 setting_is : (name : List ℕ) (p : Place) → setting_at name p ≡ then_read (line_at (parsed_setting name) p) motions_after
@@ -221,7 +221,7 @@ header_here v rest =
     ∙ ap (λ (r : Result Version LineFlaw). version_is r (more.0 ∷ more.1)) (version_reads v)
     ∙ ap (λ (l : List (List ℕ)). taken v l) (sym more.2)
   where
-    taken : Version → List (List ℕ) → Said Version
+    taken : Version → List (List ℕ) → ParsedPart Version
     taken v l = Ok (v, record { number = 2; left = l })
 
 off_name : IsName (codes "off")
@@ -230,10 +230,10 @@ off_name = record { whole = refl; feedless = refl; short = omega arith }
 on_name : IsName (codes "on")
 on_name = record { whole = refl; feedless = refl; short = omega arith }
 
-end_behind : List Entry → List Entry → Place → Said CertificateData
+end_behind : List Entry → List Entry → Place → ParsedPart CertificateData
 end_behind off on r = then_read (line_at parsed_end r) (λ _ s. Ok (record { off = off; on = on }, s))
 
-on_behind : List Entry → Place → Said CertificateData
+on_behind : List Entry → Place → ParsedPart CertificateData
 on_behind off q = then_read (setting_at (codes "on") q) (end_behind off)
 
 settings_are : (p : Place) → settings_at p ≡ then_read (setting_at (codes "off") p) on_behind
@@ -244,7 +244,7 @@ end_read_on : (off on : List Entry) → ReadsOn (end_behind off on) (codes "end"
 unfolding end_behind
 end_read_on off on number rest =
     let a = line_reads parsed_end (codes "end") tt end_is_line end_reads number rest in
-    (a.0, ap (λ (r : Said (Unit {0})). then_read r (λ _ s. Ok (record { off = off; on = on }, s))) a.1)
+    (a.0, ap (λ (r : ParsedPart (Unit {0})). then_read r (λ _ s. Ok (record { off = off; on = on }, s))) a.1)
 
 on_read_on : (off on : List Entry) → AreEntries on → list_all has_steps on ≡ true →
     ReadsOn (on_behind off) (setting_lines (codes "on") on ++ codes "end\n") (record { off = off; on = on })
@@ -274,14 +274,14 @@ unfolding parsed_form
 read_whole v text rest f is reads =
     let a = reads 2 [] in
     ap (λ (t : List ℕ). ended (then_read (header_in (lines_of t)) form_at)) is
-    ∙ ap (λ (r : Said Version). ended (then_read r form_at)) (header_here v rest)
+    ∙ ap (λ (r : ParsedPart Version). ended (then_read r form_at)) (header_here v rest)
     ∙ ap (λ (t : List ℕ). ended (form_at v (at 2 t))) (sym (append-nil rest))
     ∙ ap ended a.1
 
 parted_back : (c : CertificateData) → IsCertificate c → HasSteps c → parsed_form (version_1_text c) ≡ Ok (Parted c)
 parted_back c is steps = read_whole One (version_1_text c) (body c) (Parted c) (spelling_is c) (λ number rest.
     let a = body_reads_on c is steps number rest in
-    (a.0, ap (λ (r : Said CertificateData). parsed_with Parted r) a.1))
+    (a.0, ap (λ (r : ParsedPart CertificateData). parsed_with Parted r) a.1))
 
 -- ---- version 2
 
@@ -307,7 +307,7 @@ item_pieces_read : (i : Indices) (ps : List Piece) → AllByRecursion IsHeld ps
 unfolding entry_pieces
 item_pieces_read i ps h number rest =
     let a = several_read (line_at parsed_piece) piece_line IsHeld piece_reads_on ps h number rest in
-    (a.0, ap (λ (r : Said (List Piece)). then_read r (λ pieces q. Ok (record { indices = i; pieces = pieces }, q))) a.1)
+    (a.0, ap (λ (r : ParsedPart (List Piece)). then_read r (λ pieces q. Ok (record { indices = i; pieces = pieces }, q))) a.1)
 
 item_reads_on : (left : RemainingEntries) (x : Item) → IsSpelledItem x → may_still_follow left x.indices ≡ true → ReadsOn (item_at left) (item_lines x) x
 item_reads_on left x h may number rest =
@@ -324,7 +324,7 @@ record AreLeft (left : RemainingEntries) (xs : List Item) : Type 0 where
 
 record IsFirst (left : RemainingEntries) (i : Indices) (xs : List Item) : Type 0 where
   may : may_still_follow left i ≡ true
-  behind : AreLeft (remaining_after left i) xs
+  afterwards : AreLeft (remaining_after left i) xs
 
 above_zero : (m n : ℕ) → m ≡ suc n → nat_lt 0 m ≡ true
 above_zero m n e = grind (arith, nat_tests)
@@ -333,20 +333,20 @@ first_of_left : (left : RemainingEntries) (i : Indices) (ps : List Piece) (xs : 
     IsFirst left i xs
 first_of_left left (of.Both i j) ps xs are = record {
   may = and_from _ _ (above_zero left.off (length ((expansion xs).off)) are.off) (above_zero left.on (length ((expansion xs).on)) are.on);
-  behind = record { off = omega (arith, are.off); on = omega (arith, are.on); order = are.order };
+  afterwards = record { off = omega (arith, are.off); on = omega (arith, are.on); order = are.order };
 }
 first_of_left left (of.Off i) ps xs are =
     let p = and_parts (not left.after_on) (in_order false xs) are.order in
     record {
       may = and_from _ _ (above_zero left.off (length ((expansion xs).off)) are.off) p.0;
-      behind = record { off = omega (arith, are.off); on = are.on; order = p.1 };
+      afterwards = record { off = omega (arith, are.off); on = are.on; order = p.1 };
     }
 first_of_left left (of.On j) ps xs are = record {
   may = above_zero left.on (length ((expansion xs).on)) are.on;
-  behind = record { off = are.off; on = omega (arith, are.on); order = are.order };
+  afterwards = record { off = are.off; on = omega (arith, are.on); order = are.order };
 }
 
-entries_behind : ℕ → RemainingEntries → Item → Place → Said (List Item)
+entries_behind : ℕ → RemainingEntries → Item → Place → ParsedPart (List Item)
 entries_behind n left x q = then_read (items_at n (remaining_after left x.indices) q) (λ xs r. Ok (x ∷ xs, r))
 
 more_are : (n : ℕ) (left : RemainingEntries) (p : Place) → 1 ≤ total left → items_at (suc n) left p ≡ then_read (item_at left p) (entries_behind n left)
@@ -356,7 +356,7 @@ more_are n left p h = more_items n left p h
 behind_reads : (n : ℕ) (left : RemainingEntries) (x : Item) (xs : List Item) → ReadsOn (items_at n (remaining_after left x.indices)) (flat_map item_lines xs) xs →
     ReadsOn (entries_behind n left x) (flat_map item_lines xs) (x ∷ xs)
 unfolding entries_behind
-behind_reads n left x xs h number rest = let a = h number rest in (a.0, ap (λ (r : Said (List Item)). then_read r (λ ys q. Ok (x ∷ ys, q))) a.1)
+behind_reads n left x xs h number rest = let a = h number rest in (a.0, ap (λ (r : ParsedPart (List Item)). then_read r (λ ys q. Ok (x ∷ ys, q))) a.1)
 
 items_read_on : (n : ℕ) (left : RemainingEntries) (xs : List Item) → AllByRecursion IsSpelledItem xs → AreLeft left xs → total left ≤ n →
     ReadsOn (items_at n left) (flat_map item_lines xs) xs
@@ -369,7 +369,7 @@ items_read_on (suc n) left (x ∷ xs) h are few number rest =
     let one = one_fewer left x.indices first.may in
     let a = then_reads (item_at left) (entries_behind n left) (item_lines x) (flat_map item_lines xs) x (x ∷ xs)
     (item_reads_on left x h.0 first.may)
-    (behind_reads n left x xs (items_read_on n (remaining_after left x.indices) xs h.1 first.behind (omega (arith, few, one)))) number rest in
+    (behind_reads n left x xs (items_read_on n (remaining_after left x.indices) xs h.1 first.afterwards (omega (arith, few, one)))) number rest in
     (a.0, more_are n left (at number (flat_map item_lines (x ∷ xs) ++ rest)) (omega (arith, one)) ∙ a.1)
 
 spelled_items : (xs : List Item) → All IsItem xs → list_all item_steps xs ≡ true → AllByRecursion IsSpelledItem xs
@@ -378,10 +378,10 @@ spelled_items (x ∷ xs) all steps =
     let s = and_parts (item_steps x) (list_all item_steps xs) steps in
     (record { item = All-head IsItem x xs all; steps = s.0 }, spelled_items xs (All-tail IsItem x xs all) s.1)
 
-end_of_items : List Item → Place → Said (List Item)
+end_of_items : List Item → Place → ParsedPart (List Item)
 end_of_items items r = then_read (line_at parsed_end r) (λ _ s. Ok (items, s))
 
-items_behind : CountsLine → Place → Said (List Item)
+items_behind : CountsLine → Place → ParsedPart (List Item)
 items_behind c q = then_read (items_at (c.off + c.on) (all_left c) q) end_of_items
 
 joined_is : (p : Place) → joined_at p ≡ then_read (line_at parsed_counts p) items_behind
@@ -392,7 +392,7 @@ end_items_read : (items : List Item) → ReadsOn (end_of_items items) (codes "en
 unfolding end_of_items
 end_items_read items number rest =
     let a = line_reads parsed_end (codes "end") tt end_is_line end_reads number rest in
-    (a.0, ap (λ (r : Said (Unit {0})). then_read r (λ _ s. Ok (items, s))) a.1)
+    (a.0, ap (λ (r : ParsedPart (Unit {0})). then_read r (λ _ s. Ok (items, s))) a.1)
 
 abbrev counts_of : List Item → CountsLine
 counts_of items = record { off = length ((expansion items).off); on = length ((expansion items).on) }
@@ -435,7 +435,7 @@ joined_spelling_is items = flat (codes "ngc-certificate 2\n") (counts_line (expa
 joined_back : (items : List Item) → IsJoined items → list_all item_steps items ≡ true → parsed_form (version_2_text items) ≡ Ok (Joined items)
 joined_back items is steps = read_whole Two (version_2_text items) (joined_body items) (Joined items) (joined_spelling_is items) (λ number rest.
     let a = joined_reads_on items is steps number rest in
-    (a.0, ap (λ (r : Said (List Item)). parsed_with Joined r) a.1))
+    (a.0, ap (λ (r : ParsedPart (List Item)). parsed_with Joined r) a.1))
 
 pub reads_back : (f : Form) → IsForm f → parsed_form (spelling f) ≡ Ok f
 reads_back (Parted c) is = parted_back c is.0 is.1
@@ -444,7 +444,7 @@ reads_back (Joined items) is = joined_back items is.0 is.1
 -- ---- conversely, the text of a content is the one that was read
 
 -- a part that has a content begins with its text
-abbrev pub Spells : {X : Type 0} → (Place → Said X) → (X → List ℕ) → (X → Type 0) → Type 0
+abbrev pub Spells : {X : Type 0} → (Place → ParsedPart X) → (X → List ℕ) → (X → Type 0) → Type 0
 Spells {X} said text good = (p : Place) (x : X) (q : Place) → said p ≡ Ok (x, q) → (text_left p ≡ text x ++ text_left q) × good x
 
 line_spells : {X : Type 0} (said : List ℕ → Result X LineFlaw) (text : X → List ℕ) (good : X → Type 0)
@@ -457,7 +457,7 @@ line_spells said text good spelled p x q h =
 abbrev SeveralSpells : {X : Type 0} → (X → List ℕ) → (X → Type 0) → ℕ → Place → List X → Place → Type 0
 SeveralSpells text good n p xs q = (text_left p ≡ flat_map text xs ++ text_left q) × AllByRecursion good xs × (length xs ≡ n)
 
-several_spells : {X : Type 0} (said : Place → Said X) (text : X → List ℕ) (good : X → Type 0) → Spells said text good
+several_spells : {X : Type 0} (said : Place → ParsedPart X) (text : X → List ℕ) (good : X → Type 0) → Spells said text good
     → (n : ℕ) (p : Place) (xs : List X) (q : Place) → several said n p ≡ Ok (xs, q) → SeveralSpells text good n p xs q
 several_spells {X} said text good spells zero p xs q h =
     let e : read_to [] p ≡ read_to xs q = ok_same (read_to [] p) (read_to xs q) (sym (several_none said p) ∙ h) in
@@ -741,7 +741,7 @@ ended_if : (r : Form × Place) (f : Form) (b : Bool) → nothing_in r.1.left ≡
 ended_if r f true e h = (e, cc h)
 ended_if r f false e h = absurd (cc h)
 
-ended_ok : (s : Said Form) (f : Form) → ended s ≡ Ok f → (q : Place) × (s ≡ Ok (f, q)) × (nothing_in q.left ≡ true)
+ended_ok : (s : ParsedPart Form) (f : Form) → ended s ≡ Ok f → (q : Place) × (s ≡ Ok (f, q)) × (nothing_in q.left ≡ true)
 ended_ok (Ok r) f h = let e = ended_if r f (nothing_in r.1.left) refl h in (r.1, ap (λ (d : Form). said_ok (d, r.1)) e.1, e.0)
 ended_ok (Err fault) f h = absurd (cc h)
 

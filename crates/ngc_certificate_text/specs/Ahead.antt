@@ -15,15 +15,15 @@ use Rattle.ngc_certificate_text.specs.declared.fault.CertificateFault.TheVariant
 use Rattle.ngc_certificate_text.specs.declared.piece.Piece.{Piece}
 use Rattle.ngc_certificate_text.specs.declared.piece.Setting.{Setting}
 use Rattle.ngc_certificate_text.specs.declared.piece.Setting.TheVariants.{Off, On}
-use Rattle.ngc_certificate_text.specs.declared.told.Version.{Version}
-use Rattle.ngc_certificate_text.specs.declared.told.Version.TheVariants.{One, Two}
+use Rattle.ngc_certificate_text.specs.declared.line_content.Version.{Version}
+use Rattle.ngc_certificate_text.specs.declared.line_content.Version.TheVariants.{One, Two}
 use Rattle.ngc_certificate_text.specs.Certificate.{Entry, CertificateData, MOTION_LIMIT}
 use Rattle.ngc_certificate_text.specs.EntryLines.{parsed_counts, all_left, none_left, remaining_after}
 use Rattle.ngc_certificate_text.specs.Joined.{Item, expansion, Form, form_by}
 use Rattle.ngc_certificate_text.specs.Lines.{parsed_piece, parsed_end}
-pub use Rattle.ngc_certificate_text.specs.Said.{parsed_with, made_with}
-use Rattle.ngc_certificate_text.specs.Said.{Place, Said, then_read, line_at, several, entry_at}
-use Rattle.ngc_certificate_text.specs.Said.{setting_at, items_at, header_in, ended}
+pub use Rattle.ngc_certificate_text.specs.ParsedPart.{parsed_with, made_with}
+use Rattle.ngc_certificate_text.specs.ParsedPart.{Place, ParsedPart, then_read, line_at, several, entry_at}
+use Rattle.ngc_certificate_text.specs.ParsedPart.{setting_at, items_at, header_in, ended}
 
 -- the version if its line is still ahead, the remaining pieces of a motion that has begun, and the
 -- following entries
@@ -68,43 +68,43 @@ name_of Off = codes "off"
 name_of On = codes "on"
 
 -- the last line
-unfoldable pub end_ahead : Place → Said Rest
+unfoldable pub end_ahead : Place → ParsedPart Rest
 end_ahead p = then_read (line_at parsed_end p) (λ _ q. Ok (nothing_left, q))
 
 -- what follows a setting: the other one, or the last line
-unfoldable pub behind : Setting → Place → Said Rest
-behind Off p =
+unfoldable pub afterwards : Setting → Place → ParsedPart Rest
+afterwards Off p =
     then_read (setting_at (codes "on") p) (λ more q. parsed_with (with_motions On more) (end_ahead q))
-behind On p = end_ahead p
+afterwards On p = end_ahead p
 
 -- a setting, and what follows it
-unfoldable pub setting_ahead : Setting → Place → Said Rest
+unfoldable pub setting_ahead : Setting → Place → ParsedPart Rest
 setting_ahead s p =
-    then_read (setting_at (name_of s) p) (λ more q. parsed_with (with_motions s more) (behind s q))
+    then_read (setting_at (name_of s) p) (λ more q. parsed_with (with_motions s more) (afterwards s q))
 
 -- the remaining motions of a setting, or the remaining entries of both
-unfoldable pub motions_ahead : RemainingMotions → Place → Said Rest
+unfoldable pub motions_ahead : RemainingMotions → Place → ParsedPart Rest
 motions_ahead (Parted s left) p =
-    then_read (several entry_at left p) (λ more q. parsed_with (with_motions s more) (behind s q))
+    then_read (several entry_at left p) (λ more q. parsed_with (with_motions s more) (afterwards s q))
 motions_ahead (Joined left) p = then_read (items_at (left.off + left.on) left p)
     (λ more q. parsed_with (with_items more) (end_ahead q))
 
 -- the remaining pieces of a motion, and the motions after it
-unfoldable pub pieces_ahead : BegunMotion → Place → Said Rest
+unfoldable pub pieces_ahead : BegunMotion → Place → ParsedPart Rest
 pieces_ahead b p =
     then_read (several (line_at parsed_piece) b.pieces_left p) (λ pieces q.
-    parsed_with (with_pieces pieces) (motions_ahead b.behind q))
+    parsed_with (with_pieces pieces) (motions_ahead b.afterwards q))
 
 -- the counts of version 2, and its entries
-unfoldable pub counts_ahead : Place → Said Rest
+unfoldable pub counts_ahead : Place → ParsedPart Rest
 counts_ahead p = then_read (line_at parsed_counts p) (λ c q. motions_ahead (Joined (all_left c)) q)
 
-unfoldable pub after_header : Version → Place → Said Rest
+unfoldable pub after_header : Version → Place → ParsedPart Rest
 after_header One p = setting_ahead Off p
 after_header Two p = counts_ahead p
 
 -- the result of the text from this line on
-unfoldable pub ahead : Expected → Place → Said Rest
+unfoldable pub ahead : Expected → Place → ParsedPart Rest
 ahead next.Header p =
     then_read (header_in p.left) (λ v q. parsed_with (of_version v) (after_header v q))
 ahead (next.Setting s) p = setting_ahead s p
@@ -200,6 +200,6 @@ lines_ahead next.Header = 2 * LINES_OF_MOTIONS + 5
 lines_ahead (next.Setting s) = LINES_OF_MOTIONS + 1 + lines_after s
 lines_ahead next.Counts = 2 * LINES_OF_MOTIONS + 3
 lines_ahead (next.Motion left) = lines_of_motions left
-lines_ahead (next.Piece b) = b.pieces_left + lines_of_motions b.behind
+lines_ahead (next.Piece b) = b.pieces_left + lines_of_motions b.afterwards
 lines_ahead next.End = 2
 lines_ahead next.Nothing = 1

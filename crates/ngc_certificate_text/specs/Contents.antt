@@ -5,8 +5,8 @@ use Rattle.ngc_certificate_text.specs.Joined.{Form}
 use Rattle.ngc_certificate_text.specs.Order.{form_in}
 use Rattle.std.specs.Option.{option_map}
 
-abbrev pub said_of : {A : Type 0} → Certificate A → CertificateData
-said_of c = record { off = c.off; on = c.on }
+abbrev pub certificate_data : {A : Type 0} → Certificate A → CertificateData
+certificate_data c = record { off = c.off; on = c.on }
 
 -- in the form in which it is written
 abbrev pub form_of : {A : Type 0} → Certificate A → Form

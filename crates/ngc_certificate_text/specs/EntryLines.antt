@@ -11,8 +11,8 @@ use Rattle.ngc_certificate_text.specs.declared.lines.EntryLine.{EntryLine}
 use Rattle.ngc_certificate_text.specs.declared.lines.LineFlaw.{LineFlaw}
 use Rattle.ngc_certificate_text.specs.declared.lines.LineFlaw.TheVariants.{Spelling}
 use Rattle.ngc_certificate_text.specs.declared.lines.MotionLine.{MotionLine}
-use Rattle.ngc_certificate_text.specs.declared.told.Version.{Version}
-use Rattle.ngc_certificate_text.specs.declared.told.Version.TheVariants.{One, Two}
+use Rattle.ngc_certificate_text.specs.declared.line_content.Version.{Version}
+use Rattle.ngc_certificate_text.specs.declared.line_content.Version.TheVariants.{One, Two}
 use Rattle.ngc_certificate_text.specs.Certificate.{INDEX_LIMIT, PIECE_LIMIT, MOTION_LIMIT}
 use Rattle.ngc_certificate_text.specs.Lines.{numbers_in, numbers_in_rest, is_count, ranged}
 use Rattle.ngc_certificate_text.specs.Lines.{two_counts}

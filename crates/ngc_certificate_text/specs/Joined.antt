@@ -6,8 +6,8 @@ use Rattle.std.specs.List.{All, list_all}
 use Rattle.ngc_certificate_text.specs.declared.expected.Indices.{Indices}
 use Rattle.ngc_certificate_text.specs.declared.expected.Indices.TheVariants.{Both, Off, On}
 use Rattle.ngc_certificate_text.specs.declared.piece.Piece.{Piece}
-use Rattle.ngc_certificate_text.specs.declared.told.Version.{Version}
-use Rattle.ngc_certificate_text.specs.declared.told.Version.TheVariants.{One, Two}
+use Rattle.ngc_certificate_text.specs.declared.line_content.Version.{Version}
+use Rattle.ngc_certificate_text.specs.declared.line_content.Version.TheVariants.{One, Two}
 use Rattle.ngc_certificate_text.specs.Certificate.{Entry, CertificateData, INDEX_LIMIT, PIECE_LIMIT}
 use Rattle.ngc_certificate_text.specs.Certificate.{MOTION_LIMIT, good_piece}
 

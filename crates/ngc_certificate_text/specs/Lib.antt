@@ -9,12 +9,12 @@ pub mod Contents
 pub mod Faults
 pub mod Number
 pub mod Lines
-pub mod Said
+pub mod ParsedPart
 pub mod Clamped
 pub mod Parts
 pub mod Pulled
 pub mod Ahead
-pub mod Told
+pub mod LineContent
 pub mod Found
 pub mod JoinedFirst
 pub mod LinesView

@@ -3,7 +3,7 @@
 use Rattle.std.specs.Prelude.{◌≡◌, ℕ, ◌<◌, ◌==◌, nat_le, List, [], ◌∷◌, ◌++◌, length, IsTrue, Bool}
 use Rattle.std.specs.Prelude.{not, if◌then◌else◌}
 use Rattle.std.specs.List.{list_all}
-use Rattle.ngc_certificate_text.specs.Said.{lines_of}
+use Rattle.ngc_certificate_text.specs.ParsedPart.{lines_of}
 
 -- The bytes that are certain whatever follows, after the beginning of a line: those of lines that a
 -- line feed ends, and of a line that already has more than 256 bytes.
@@ -26,15 +26,15 @@ abbrev pub is_feedless : List ℕ → Bool
 is_feedless bytes = list_all (λ b. not (b == 10)) bytes
 
 -- bytes that a line feed splits
-pub record IsSplit (bytes line behind : List ℕ) : Type 0 where
+pub record IsSplit (bytes line afterwards : List ℕ) : Type 0 where
   pub feedless : IsTrue (is_feedless line)
-  pub parts : bytes ≡ line ++ (10 ∷ behind)
+  pub parts : bytes ≡ line ++ (10 ∷ afterwards)
 
 -- the first of some lines begins in this way
 pub record GoesOn (lines : List (List ℕ)) (line : List ℕ) : Type 0 where
   pub more : List ℕ
-  pub behind : List (List ℕ)
-  pub split : lines ≡ (line ++ more) ∷ behind
+  pub afterwards : List (List ℕ)
+  pub split : lines ≡ (line ++ more) ∷ afterwards
 
 -- A way to split bytes into lines: a line feed ends one, and one that is already too long continues
 -- with whatever follows.

@@ -4,7 +4,7 @@ use Rattle.std.specs.Prelude.{◌≡◌, ℕ, List, Option, Some, None, Result, 
 use Rattle.ngc_certificate_text.specs.declared.fault.CertificateFault.{CertificateFault}
 use Rattle.ngc_certificate_text.specs.declared.fault.CertificateFault.TheVariants as faults
 use Rattle.ngc_certificate_text.specs.Parted.{firm_lines}
-use Rattle.ngc_certificate_text.specs.Said.{lines_of}
+use Rattle.ngc_certificate_text.specs.ParsedPart.{lines_of}
 
 -- the result for some bytes, for a way to split them into lines
 abbrev pub Saying : Type 0 → Type 0

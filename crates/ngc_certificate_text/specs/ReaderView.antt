@@ -6,7 +6,7 @@ use Rattle.ngc_certificate_text.specs.Joined.{Form}
 use Rattle.ngc_certificate_text.specs.LinesView.{room_of}
 use Rattle.ngc_certificate_text.specs.Reader.{outcome_by, firm_by}
 use Rattle.ngc_certificate_text.specs.Resumed.{resumed}
-use Rattle.ngc_certificate_text.specs.Said.{parsed_form}
+use Rattle.ngc_certificate_text.specs.ParsedPart.{parsed_form}
 
 -- the result of a certificate's text
 abbrev pub Outcome : Type 0

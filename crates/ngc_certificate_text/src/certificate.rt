@@ -80,12 +80,12 @@ pub fn first_joined<A: Allocator, M: MotionList>(
 
 impl<A: Allocator> Certificate<A> {
     ghost use Rattle.ngc_certificate_text.specs.Certificate.{entries_at};
-    ghost use Rattle.ngc_certificate_text.specs.Contents.{said_of, form_of};
+    ghost use Rattle.ngc_certificate_text.specs.Contents.{certificate_data, form_of};
     ghost use Rattle.ngc_certificate_text.specs.Joined.{Parted, Joined, contents};
 
     /// Returns a certificate of version 1.
     pub fn parted(off: Motions<A>, on: Motions<A>) -> Certificate<A>
-        ensures said { said_of result ≡ record { off = off; on = on } }
+        ensures said { certificate_data result ≡ record { off = off; on = on } }
         ensures form { form_of result ≡ Parted (record { off = off; on = on }) }
     {
         Certificate {
@@ -99,12 +99,12 @@ impl<A: Allocator> Certificate<A> {
     /// setting, which must have the same pieces, are joined. The others are entries of one setting,
     /// those of `off` first. The memory is from `alloc`.
     pub fn joined(self, alloc: A, both: usize) -> Result<Certificate<A>, AllocError>
-        requires { HaveSamePieces both (said_of self).off (said_of self).on }
-        ensures said { IfOk result (λ c. said_of c ≡ said_of self) }
+        requires { HaveSamePieces both (certificate_data self).off (certificate_data self).on }
+        ensures said { IfOk result (λ c. certificate_data c ≡ certificate_data self) }
         ensures form { IfOk result
-            (λ c. form_of c ≡ Joined (joined_first both (said_of self).off (said_of self).on)) }
+            (λ c. form_of c ≡ Joined (joined_first both (certificate_data self).off (certificate_data self).on)) }
         // Its entries are in range, and no entry of `off` alone directly follows one of `on` alone.
-        ensures entries { IsJoined (joined_first both (said_of self).off (said_of self).on) }
+        ensures entries { IsJoined (joined_first both (certificate_data self).off (certificate_data self).on) }
     {
         let Certificate { off, on, order: _ } = self;
         let order = Some(first_joined(alloc, both, &off, &on)?);
@@ -113,7 +113,7 @@ impl<A: Allocator> Certificate<A> {
 
     /// Returns the motions at a setting.
     pub fn motions(&self, setting: Setting) -> &Motions<A>
-        ensures { result.now ≡ entries_at setting (said_of self.now) }
+        ensures { result.now ≡ entries_at setting (certificate_data self.now) }
     {
         match setting {
             Setting::Off => &self.off,

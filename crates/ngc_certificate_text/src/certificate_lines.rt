@@ -6,12 +6,12 @@ ghost use Rattle.ngc_certificate_text.specs.declared.expected.Expected.TheVarian
 ghost use Rattle.ngc_certificate_text.specs.LinesView.{left_by, expected_in, IsReading, room_of};
 ghost use Rattle.ngc_certificate_text.specs.Parted.{firm, firm_lines, is_feedless, IsSplit};
 ghost use Rattle.ngc_certificate_text.specs.Parted.{PartsLines};
-ghost use Rattle.ngc_certificate_text.specs.Said.{lines_of, parsed_certificate, parsed_form};
-ghost use Rattle.ngc_certificate_text.specs.Told.{IsFront, IsNext, Tells, after_content};
+ghost use Rattle.ngc_certificate_text.specs.ParsedPart.{lines_of, parsed_certificate, parsed_form};
+ghost use Rattle.ngc_certificate_text.specs.LineContent.{IsFront, IsNext, LineResultIs, after_content};
 
 use crate::fault::CertificateFault;
+use crate::line_content::LineContent;
 use crate::next_line::NextLine;
-use crate::told::Told;
 use arrayvec::ArrayVec;
 use memchr::memchr;
 
@@ -77,15 +77,15 @@ impl CertificateLines {
     }
 
     // Reads the line that is cut, which ends here.
-    fn end_cut(&mut self) -> Result<Told, CertificateFault>
+    fn end_cut(&mut self) -> Result<LineContent, CertificateFault>
         requires { IsReading self.old }
         ensures step { (next : List ℕ) (left : List (List ℕ)) →
-            Tells result
+            LineResultIs result
             (left_from self.old.next.expected self.old.next.number
             (self.old.cut.items ∷ next ∷ left))
             (left_from self.new.next.expected self.new.next.number (next ∷ left)) }
-        ensures expected { IfOk result (λ told. IsNext (expected_in self.old) told ×
-            (expected_in self.new ≡ after_content told)) }
+        ensures expected { IfOk result (λ line_content. IsNext (expected_in self.old) line_content ×
+            (expected_in self.new ≡ after_content line_content)) }
         ensures empty { OnOk result (self.new.cut.items ≡ []) }
         ensures reading { OnOk result (IsReading self.new) }
         ensures room { OnOk result (room_of self.new + 1 ≤ room_of self.old) }
@@ -93,23 +93,23 @@ impl CertificateLines {
         ensures device { result ≢ Err CertificateFault.ReadFailed }
     {
         match self.next.read(self.cut.as_slice()) {
-            Ok(told) => {
+            Ok(line_content) => {
                 self.cut.clear();
-                Ok(told)
+                Ok(line_content)
             }
             Err(fault) => Err(fault),
         }
     }
 
     // Reads a line that ends with these bytes and a line feed.
-    fn end_line(&mut self, bytes: &[u8]) -> Result<Told, CertificateFault>
+    fn end_line(&mut self, bytes: &[u8]) -> Result<LineContent, CertificateFault>
         requires reading { IsReading self.old }
         requires feedless { IsTrue (is_feedless bytes.now) }
         ensures step { (lines : List ℕ → List (List ℕ)) → PartsLines lines → (rest : List ℕ) →
-            Tells result (left_by lines self.old (bytes.now ++ (10 ∷ rest)))
+            LineResultIs result (left_by lines self.old (bytes.now ++ (10 ∷ rest)))
             (left_by lines self.new rest) }
-        ensures expected { IfOk result (λ told. IsNext (expected_in self.old) told ×
-            (expected_in self.new ≡ after_content told)) }
+        ensures expected { IfOk result (λ line_content. IsNext (expected_in self.old) line_content ×
+            (expected_in self.new ≡ after_content line_content)) }
         ensures reading { OnOk result (IsReading self.new) }
         ensures room { OnOk result (room_of self.new + length bytes.now + 1 ≤ room_of self.old) }
         ensures memory { result ≢ Err CertificateFault.Memory }
@@ -132,7 +132,7 @@ impl CertificateLines {
     pub fn next<'a>(
         &mut self,
         bytes: &'a [u8],
-    ) -> Result<Option<(Told, &'a [u8])>, CertificateFault>
+    ) -> Result<Option<(LineContent, &'a [u8])>, CertificateFault>
         requires { IsReading self.old }
         // This holds however the following bytes are split into lines.
         ensures step { (lines : List ℕ → List (List ℕ)) → PartsLines lines → (rest : List ℕ) →
@@ -155,8 +155,8 @@ impl CertificateLines {
         ensures device { result ≢ Err CertificateFault.ReadFailed }
     {
         match split_line(bytes) {
-            Some((line, behind)) => match self.end_line(line) {
-                Ok(told) => Ok(Some((told, behind))),
+            Some((line, afterwards)) => match self.end_line(line) {
+                Ok(line_content) => Ok(Some((line_content, afterwards))),
                 Err(fault) => Err(fault),
             },
             None => match self.keep(bytes) {

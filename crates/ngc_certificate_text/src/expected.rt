@@ -2,10 +2,10 @@ ghost use Rattle.std.specs.Prelude.{◌≡◌, nat_le, IsTrue};
 ghost use Rattle.ngc_certificate_text.specs.Ahead.{next_setting, next_of_entries, next_of_motions};
 ghost use Rattle.ngc_certificate_text.specs.Ahead.{motions_after, go_on, is_open};
 ghost use Rattle.ngc_certificate_text.specs.EntryLines.{none_left, may_still_follow, remaining_after};
-ghost use Rattle.ngc_certificate_text.specs.Told.{after_piece, after_content, after_version};
+ghost use Rattle.ngc_certificate_text.specs.LineContent.{after_piece, after_content, after_version};
 
+use crate::line_content::{LineContent, Version};
 use crate::piece::Setting;
-use crate::told::{Told, Version};
 
 /// The index of a motion in its setting's list of commands, 0 to 999,999, or the indexes of one
 /// motion of each setting.
@@ -45,7 +45,7 @@ pub struct BegunMotion {
     /// The number of remaining pieces.
     pub pieces_left: u32,
     /// The motions after this one.
-    pub behind: RemainingMotions,
+    pub afterwards: RemainingMotions,
 }
 
 /// The next line of a certificate.
@@ -63,7 +63,7 @@ pub enum Expected {
     Nothing,
 }
 
-fn behind(setting: Setting) -> Expected
+fn afterwards(setting: Setting) -> Expected
     ensures { result ≡ next_setting setting }
 {
     match setting {
@@ -87,7 +87,7 @@ fn motions(left: RemainingMotions) -> Expected
     ensures { result ≡ next_of_motions left }
 {
     match left {
-        RemainingMotions::Parted(setting, 0) => behind(setting),
+        RemainingMotions::Parted(setting, 0) => afterwards(setting),
         RemainingMotions::Parted(_, _) => Expected::Motion(left),
         RemainingMotions::Joined(entries_left) => entries(entries_left),
     }
@@ -123,7 +123,7 @@ impl RemainingEntries {
     }
 
     // Returns the remaining entries after an entry.
-    fn behind(self, indices: Indices) -> RemainingEntries
+    fn afterwards(self, indices: Indices) -> RemainingEntries
         ensures { result ≡ remaining_after self indices }
     {
         let RemainingEntries { off, on, .. } = self;
@@ -149,14 +149,14 @@ impl RemainingEntries {
 
 impl RemainingMotions {
     /// Returns the remaining motions after a motion, or after one of each setting.
-    pub(crate) fn behind(self, indices: Indices) -> RemainingMotions
+    pub(crate) fn afterwards(self, indices: Indices) -> RemainingMotions
         ensures { result ≡ motions_after self indices }
     {
         match self {
             RemainingMotions::Parted(setting, left) => {
                 RemainingMotions::Parted(setting, left.saturating_sub(1))
             }
-            RemainingMotions::Joined(left) => RemainingMotions::Joined(left.behind(indices)),
+            RemainingMotions::Joined(left) => RemainingMotions::Joined(left.afterwards(indices)),
         }
     }
 }
@@ -166,12 +166,12 @@ fn after_piece(begun: &BegunMotion) -> Expected
     ensures { result ≡ after_piece (nat_le begun.now.pieces_left 1) begun.now }
 {
     if begun.pieces_left <= 1 {
-        return motions(begun.behind);
+        return motions(begun.afterwards);
     }
     Expected::Piece(BegunMotion {
         indices: begun.indices,
         pieces_left: begun.pieces_left - 1,
-        behind: begun.behind,
+        afterwards: begun.afterwards,
     })
 }
 
@@ -201,20 +201,22 @@ impl Expected {
     }
 
     /// Returns the next line after a line.
-    pub(crate) fn after_content(told: &Told) -> Expected
-        ensures { result ≡ after_content told.now }
+    pub(crate) fn after_content(line_content: &LineContent) -> Expected
+        ensures { result ≡ after_content line_content.now }
     {
-        match told {
-            Told::Header(version) => version.second_line(),
-            Told::Setting(setting, count) => motions(RemainingMotions::Parted(*setting, *count)),
-            Told::Counts(off, on) => entries(RemainingEntries {
+        match line_content {
+            LineContent::Header(version) => version.second_line(),
+            LineContent::Setting(setting, count) => motions(RemainingMotions::Parted(
+                *setting, *count,
+            )),
+            LineContent::Counts(off, on) => entries(RemainingEntries {
                 off: *off,
                 on: *on,
                 after_on: false,
             }),
-            Told::Motion(begun) => Expected::Piece(*begun),
-            Told::Piece(begun, _) => after_piece(begun),
-            Told::End => Expected::Nothing,
+            LineContent::Motion(begun) => Expected::Piece(*begun),
+            LineContent::Piece(begun, _) => after_piece(begun),
+            LineContent::End => Expected::Nothing,
         }
     }
 }

@@ -1,14 +1,14 @@
 ghost use Rattle.std.specs.Prelude.{◌≡◌, [], ◌∷◌, ◌++◌, OnOk, None};
-ghost use Rattle.ngc_certificate_text.specs.Contents.{said_of, form_of};
-ghost use Rattle.ngc_certificate_text.specs.Found.{HasSpaceFor, IsKept, add_item, heard, heard_in};
+ghost use Rattle.ngc_certificate_text.specs.Contents.{certificate_data, form_of};
+ghost use Rattle.ngc_certificate_text.specs.Found.{HasSpaceFor, IsKept, add_item, with_line, read_so_far};
 ghost use Rattle.ngc_certificate_text.specs.Found.{MayTake};
 ghost use Rattle.ngc_certificate_text.specs.Joined.{IsItem, contents, form_by};
 
 use crate::certificate::{Certificate, EntryKind};
 use crate::expected::{BegunMotion, Indices};
+use crate::line_content::{LineContent, Version};
 use crate::motions::Motions;
 use crate::piece::Piece;
-use crate::told::{Told, Version};
 use std::alloc::{AllocError, Allocator};
 
 /// The part of a certificate that was read so far: the complete motions, and the pieces of one that
@@ -37,8 +37,8 @@ impl<A: Allocator> Found<A> {
     pub(crate) fn new(alloc: A) -> Found<A>
     where
         A: Copy,
-        ensures version { (heard_in result).version ≡ None }
-        ensures items { (heard_in result).items ≡ [] }
+        ensures version { (read_so_far result).version ≡ None }
+        ensures items { (read_so_far result).items ≡ [] }
         ensures kept { IsKept result }
     {
         Found {
@@ -53,11 +53,11 @@ impl<A: Allocator> Found<A> {
     // Adds an entry with the pieces read so far.
     fn push_entry(&mut self, indices: Indices) -> Result<(), AllocError>
         requires kept { IsKept self.old }
-        requires room { HasSpaceFor indices (heard_in self.old).items }
+        requires room { HasSpaceFor indices (read_so_far self.old).items }
         requires item { IsItem (record { indices = indices; pieces = self.old.pieces.items }) }
         ensures pushed { OnOk result
-            ((heard_in self.new).items ≡ add_item indices self.old.pieces.items
-            (heard_in self.old).items) }
+            ((read_so_far self.new).items ≡ add_item indices self.old.pieces.items
+            (read_so_far self.old).items) }
         ensures kept { OnOk result (IsKept self.new) }
         ensures version { self.new.version ≡ self.old.version }
         ensures pieces { self.new.pieces ≡ self.old.pieces }
@@ -82,10 +82,10 @@ impl<A: Allocator> Found<A> {
 
     // Adds a piece to the motion that has begun.
     fn add_piece(&mut self, begun: &BegunMotion, piece: Piece) -> Result<(), AllocError>
-        requires may { MayTake (Told.Piece begun.now piece) (heard_in self.old) }
+        requires may { MayTake (LineContent.Piece begun.now piece) (read_so_far self.old) }
         requires kept { IsKept self.old }
-        ensures heard { OnOk result
-            (heard_in self.new ≡ heard (Told.Piece begun.now piece) (heard_in self.old)) }
+        ensures with_line { OnOk result
+            (read_so_far self.new ≡ with_line (LineContent.Piece begun.now piece) (read_so_far self.old)) }
         ensures kept { OnOk result (IsKept self.new) }
     {
         match self.pieces.push(piece) {
@@ -99,31 +99,31 @@ impl<A: Allocator> Found<A> {
     }
 
     /// Adds the content of one line.
-    pub(crate) fn take(&mut self, told: &Told) -> Result<(), AllocError>
-        requires may { MayTake told.now (heard_in self.old) }
+    pub(crate) fn take(&mut self, line_content: &LineContent) -> Result<(), AllocError>
+        requires may { MayTake line_content.now (read_so_far self.old) }
         requires kept { IsKept self.old }
-        ensures heard { OnOk result (heard_in self.new ≡ heard told.now (heard_in self.old)) }
+        ensures with_line { OnOk result (read_so_far self.new ≡ with_line line_content.now (read_so_far self.old)) }
         ensures kept { OnOk result (IsKept self.new) }
     {
-        match told {
-            Told::Header(version) => {
+        match line_content {
+            LineContent::Header(version) => {
                 self.version = Some(*version);
                 Ok(())
             }
-            Told::Motion(_) => {
+            LineContent::Motion(_) => {
                 self.pieces.clear();
                 Ok(())
             }
-            Told::Piece(begun, piece) => self.add_piece(begun, *piece),
-            Told::Setting(_, _) | Told::Counts(_, _) | Told::End => Ok(()),
+            LineContent::Piece(begun, piece) => self.add_piece(begun, *piece),
+            LineContent::Setting(_, _) | LineContent::Counts(_, _) | LineContent::End => Ok(()),
         }
     }
 
     /// Returns the certificate, after the last line.
     pub(crate) fn into_certificate(self) -> Certificate<A>
         requires { IsKept self }
-        ensures form { form_of result ≡ form_by self.version (heard_in self).items }
-        ensures said { said_of result ≡ contents (form_of result) }
+        ensures form { form_of result ≡ form_by self.version (read_so_far self).items }
+        ensures said { certificate_data result ≡ contents (form_of result) }
     {
         let Found {
             version,

@@ -20,9 +20,9 @@ ghost use Rattle.ngc_certificate_text.specs.Parts.{parsed_box, box_between, plac
 ghost use Rattle.ngc_certificate_text.specs.Parts.{piece_with, motion_of, counts_of, both_of};
 
 use crate::expected::{Indices, RemainingEntries};
+use crate::line_content::Version;
 use crate::number::{numbers_in, split_field};
 use crate::piece::{Cut, Piece, Setting};
-use crate::told::Version;
 use ngc_fixed_length::{GridBox, Nm, Point2, StepPos};
 
 /// The reasons why a line is refused.
@@ -327,8 +327,8 @@ pub(crate) fn is_text(bytes: &[u8], text: &[u8]) -> bool
 pub(crate) fn setting_line(name: &[u8], line: &[u8]) -> Result<u32, LineFlaw>
     ensures { result ≡ parsed_setting name.now line.now }
 {
-    let (word, behind) = split_field(line);
-    let rest = match behind {
+    let (word, afterwards) = split_field(line);
+    let rest = match afterwards {
         Some(rest) => rest,
         None => return Err(LineFlaw::Spelling),
     };

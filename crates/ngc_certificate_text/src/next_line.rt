@@ -3,18 +3,18 @@ ghost use Rattle.std.specs.Prelude.{OnOk, IfOk, Err, IsTrue, ◌↔◌};
 ghost use Rattle.ngc_certificate_text.specs.Ahead.{name_of, wrong_line, IsSound, left_from};
 ghost use Rattle.ngc_certificate_text.specs.Ahead.{lines_ahead};
 ghost use Rattle.ngc_certificate_text.specs.Lines.{parsed_setting, parsed_piece, parsed_end};
-ghost use Rattle.ngc_certificate_text.specs.Said.{next_number};
-ghost use Rattle.ngc_certificate_text.specs.Told.{IsNext, Tells, after_content, fault_of, parsed_motion_or_entry};
-ghost use Rattle.ngc_certificate_text.specs.Told.{content_by, content_with, motion_content};
+ghost use Rattle.ngc_certificate_text.specs.ParsedPart.{next_number};
+ghost use Rattle.ngc_certificate_text.specs.LineContent.{IsNext, LineResultIs, after_content, fault_of, parsed_motion_or_entry};
+ghost use Rattle.ngc_certificate_text.specs.LineContent.{content_by, content_with, motion_content};
 
 use crate::expected::{BegunMotion, Expected, RemainingMotions};
 use crate::fault::CertificateFault;
+use crate::line_content::LineContent;
 use crate::lines::{
     EntryLine, LineFlaw, counts_line, end_line, entry_line, piece_line, setting_line,
     setting_motion, version_line,
 };
 use crate::piece::Setting;
-use crate::told::Told;
 
 const LINE_BYTES: usize = 256;
 
@@ -34,29 +34,29 @@ fn name(setting: Setting) -> &'static [u8]
     }
 }
 
-fn header(line: &[u8]) -> Result<Told, LineFlaw>
+fn header(line: &[u8]) -> Result<LineContent, LineFlaw>
     ensures { result ≡ content_by Expected.Header line.now }
 {
     match version_line(line) {
-        Ok(version) => Ok(Told::Header(version)),
+        Ok(version) => Ok(LineContent::Header(version)),
         Err(flaw) => Err(flaw),
     }
 }
 
-fn setting_content(setting: Setting, line: &[u8]) -> Result<Told, LineFlaw>
-    ensures { result ≡ content_with (Told.Setting setting) (parsed_setting (name_of setting) line.now) }
+fn setting_content(setting: Setting, line: &[u8]) -> Result<LineContent, LineFlaw>
+    ensures { result ≡ content_with (LineContent.Setting setting) (parsed_setting (name_of setting) line.now) }
 {
     match setting_line(name(setting), line) {
-        Ok(count) => Ok(Told::Setting(setting, count)),
+        Ok(count) => Ok(LineContent::Setting(setting, count)),
         Err(flaw) => Err(flaw),
     }
 }
 
-fn counts_content(line: &[u8]) -> Result<Told, LineFlaw>
+fn counts_content(line: &[u8]) -> Result<LineContent, LineFlaw>
     ensures { result ≡ content_by Expected.Counts line.now }
 {
     match counts_line(line) {
-        Ok(counts) => Ok(Told::Counts(counts.off, counts.on)),
+        Ok(counts) => Ok(LineContent::Counts(counts.off, counts.on)),
         Err(flaw) => Err(flaw),
     }
 }
@@ -71,33 +71,33 @@ fn any_line(left: RemainingMotions, line: &[u8]) -> Result<EntryLine, LineFlaw>
 }
 
 // Returns the content of the line of one of these motions.
-fn motion_content(left: RemainingMotions, line: &[u8]) -> Result<Told, LineFlaw>
+fn motion_content(left: RemainingMotions, line: &[u8]) -> Result<LineContent, LineFlaw>
     ensures { result ≡ content_with (motion_content left) (parsed_motion_or_entry left line.now) }
 {
     match any_line(left, line) {
-        Ok(entry) => Ok(Told::Motion(BegunMotion {
+        Ok(entry) => Ok(LineContent::Motion(BegunMotion {
             indices: entry.indices,
             pieces_left: entry.pieces,
-            behind: left.behind(entry.indices),
+            afterwards: left.afterwards(entry.indices),
         })),
         Err(flaw) => Err(flaw),
     }
 }
 
-fn piece_content(begun: BegunMotion, line: &[u8]) -> Result<Told, LineFlaw>
-    ensures { result ≡ content_with (Told.Piece begun) (parsed_piece line.now) }
+fn piece_content(begun: BegunMotion, line: &[u8]) -> Result<LineContent, LineFlaw>
+    ensures { result ≡ content_with (LineContent.Piece begun) (parsed_piece line.now) }
 {
     match piece_line(line) {
-        Ok(piece) => Ok(Told::Piece(begun, piece)),
+        Ok(piece) => Ok(LineContent::Piece(begun, piece)),
         Err(flaw) => Err(flaw),
     }
 }
 
-fn end_content(line: &[u8]) -> Result<Told, LineFlaw>
+fn end_content(line: &[u8]) -> Result<LineContent, LineFlaw>
     ensures { result ≡ content_by Expected.End line.now }
 {
     match end_line(line) {
-        Ok(()) => Ok(Told::End),
+        Ok(()) => Ok(LineContent::End),
         Err(flaw) => Err(flaw),
     }
 }
@@ -114,7 +114,7 @@ impl NextLine {
     }
 
     // Returns the content of a line.
-    fn told(&self, line: &[u8]) -> Result<Told, LineFlaw>
+    fn line_content(&self, line: &[u8]) -> Result<LineContent, LineFlaw>
         ensures { result ≡ content_by self.now.expected line.now }
     {
         match self.expected {
@@ -150,27 +150,27 @@ impl NextLine {
     }
 
     // Returns the line after one with this content.
-    fn behind(&self, told: &Told) -> NextLine
+    fn afterwards(&self, line_content: &LineContent) -> NextLine
         ensures { result ≡ record {
-          expected = after_content told.now;
+          expected = after_content line_content.now;
           number = next_number self.now.number;
         } }
     {
         NextLine {
-            expected: Expected::after_content(told),
+            expected: Expected::after_content(line_content),
             number: self.number.saturating_add(1),
         }
     }
 
     /// Reads the next line and returns its content. If no line may follow it, the text is refused
     /// at the following line. A refusal changes nothing.
-    pub(crate) fn read(&mut self, line: &[u8]) -> Result<Told, CertificateFault>
+    pub(crate) fn read(&mut self, line: &[u8]) -> Result<LineContent, CertificateFault>
         requires { IsSound self.old.expected self.old.number }
         ensures tells { (next : List ℕ) (left : List (List ℕ)) →
-            Tells result (left_from self.old.expected self.old.number (line.now ∷ next ∷ left))
+            LineResultIs result (left_from self.old.expected self.old.number (line.now ∷ next ∷ left))
             (left_from self.new.expected self.new.number (next ∷ left)) }
-        ensures expected { IfOk result (λ told. IsNext self.old.expected told ×
-            (self.new.expected ≡ after_content told)) }
+        ensures expected { IfOk result (λ line_content. IsNext self.old.expected line_content ×
+            (self.new.expected ≡ after_content line_content)) }
         ensures sound { IsSound self.new.expected self.new.number }
         ensures progress { OnOk result
             (lines_ahead self.new.expected + 1 ≤ lines_ahead self.old.expected) }
@@ -181,15 +181,15 @@ impl NextLine {
         if line.len() > LINE_BYTES {
             return Err(self.wrong_line());
         }
-        match self.told(line) {
-            Ok(told) => {
-                let next = self.behind(&told);
+        match self.line_content(line) {
+            Ok(line_content) => {
+                let next = self.afterwards(&line_content);
                 // Whatever follows is wrong, so the fault is already certain.
                 if !next.expected.is_open() {
                     return Err(next.wrong_line());
                 }
                 *self = next;
-                Ok(told)
+                Ok(line_content)
             }
             Err(flaw) => Err(self.fault(flaw)),
         }

@@ -79,7 +79,7 @@ pub(crate) fn numbers_in(text: Option<&[u8]>) -> Option<Numbers>
     let mut numbers = ArrayVec::new();
     let mut left = text;
     while let Some(rest) = left {
-        let (field, behind) = split_field(rest);
+        let (field, afterwards) = split_field(rest);
         match number_in(field) {
             Some(number) => match numbers.try_push(number) {
                 Ok(()) => {}
@@ -87,7 +87,7 @@ pub(crate) fn numbers_in(text: Option<&[u8]>) -> Option<Numbers>
             },
             None => return None,
         }
-        left = behind;
+        left = afterwards;
     }
     Some(numbers)
 }

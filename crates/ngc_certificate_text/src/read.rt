@@ -1,9 +1,9 @@
 ghost use Rattle.std.specs.Prelude.{◌≡◌, IfOk, IfSome};
 ghost use Rattle.ngc_text.specs.Failures.{Rises};
-ghost use Rattle.ngc_certificate_text.specs.Contents.{said_of, form_of};
+ghost use Rattle.ngc_certificate_text.specs.Contents.{certificate_data, form_of};
 ghost use Rattle.ngc_certificate_text.specs.Joined.{contents};
 ghost use Rattle.ngc_certificate_text.specs.Pulled.{FailsByReading};
-ghost use Rattle.ngc_certificate_text.specs.Said.{parsed_certificate, parsed_form};
+ghost use Rattle.ngc_certificate_text.specs.ParsedPart.{parsed_certificate, parsed_form};
 ghost use Rattle.ngc_certificate_text.specs.Given.{CertificateResultIs};
 ghost use Rattle.ngc_certificate_text.specs.declared.fault.CertificateFault.TheVariants.{ReadFailed};
 
@@ -20,7 +20,7 @@ fn read_form<A: Allocator + Copy, R: Source>(
 ) -> Result<Certificate<A>, CertificateFault>
     ensures form { IfSome (R.remaining source.old)
         (λ bytes. CertificateResultIs form_of result (parsed_form bytes)) }
-    ensures said { IfOk result (λ c. said_of c ≡ contents (form_of c)) }
+    ensures said { IfOk result (λ c. certificate_data c ≡ contents (form_of c)) }
     ensures device { result ≡ Err ReadFailed →
         Rises (R.failures source.old) (R.failures source.new) }
     ensures counted { FailsByReading result (R.failures source.old) (R.failures source.new) }
@@ -59,7 +59,7 @@ impl<A: Allocator + Copy> Certificate<A> {
         // If the source's bytes are known, the result is the one that they define, except for lack
         // of memory and a failure of the source.
         ensures said { IfSome (R.remaining source.old)
-            (λ bytes. CertificateResultIs said_of result (parsed_certificate bytes)) }
+            (λ bytes. CertificateResultIs certificate_data result (parsed_certificate bytes)) }
         // The same holds for its form.
         ensures form { IfSome (R.remaining source.old)
             (λ bytes. CertificateResultIs form_of result (parsed_form bytes)) }

@@ -33,13 +33,13 @@ impl<A: Allocator> CertificateReader<A> {
     ghost use Rattle.std.specs.Prelude.{OnOk, IfOk, IfSome, Err};
     ghost use Rattle.std.specs.Result.{result_err};
     ghost use Rattle.ngc_certificate_text.specs.Reader.{AnswerIs, FaultIs};
-    ghost use Rattle.ngc_certificate_text.specs.Contents.{said_of, form_of};
+    ghost use Rattle.ngc_certificate_text.specs.Contents.{certificate_data, form_of};
     ghost use Rattle.ngc_certificate_text.specs.Given.{CertificateResultIs};
     ghost use Rattle.ngc_certificate_text.specs.Joined.{contents};
     ghost use Rattle.ngc_certificate_text.specs.Parted.{firm};
     ghost use Rattle.ngc_certificate_text.specs.ReaderView.{outcome_in, firm_in, refusal_in};
     ghost use Rattle.ngc_certificate_text.specs.ReaderView.{room_in};
-    ghost use Rattle.ngc_certificate_text.specs.Said.{parsed_form};
+    ghost use Rattle.ngc_certificate_text.specs.ParsedPart.{parsed_form};
 
     /// Returns a reader that has received no bytes.
     pub fn new(alloc: A) -> CertificateReader<A>
@@ -106,7 +106,7 @@ impl<A: Allocator> CertificateReader<A> {
     pub fn finish(self) -> Result<Certificate<A>, CertificateFault>
         // The result is the one that all pieces together define, except for lack of memory.
         ensures form { CertificateResultIs form_of result (outcome_in self []) }
-        ensures said { IfOk result (λ c. said_of c ≡ contents (form_of c)) }
+        ensures said { IfOk result (λ c. certificate_data c ≡ contents (form_of c)) }
         ensures again { IfSome (refusal_in self) (λ fault. result ≡ Err fault) }
         ensures device { result ≢ Err ReadFailed }
     {

@@ -1,13 +1,13 @@
 ghost use Rattle.std.specs.Prelude.{◌≡◌, ◌≢◌, ℕ, ◌+◌, ◌≤◌, List, [], ◌++◌, length, IsTrue, IfOk};
 ghost use Rattle.std.specs.Prelude.{OnOk, Err};
-ghost use Rattle.ngc_certificate_text.specs.Contents.{said_of, form_of};
+ghost use Rattle.ngc_certificate_text.specs.Contents.{certificate_data, form_of};
 ghost use Rattle.ngc_certificate_text.specs.Given.{CertificateResultIs};
 ghost use Rattle.ngc_certificate_text.specs.Joined.{contents};
 ghost use Rattle.ngc_certificate_text.specs.LinesView.{room_of};
 ghost use Rattle.ngc_certificate_text.specs.Parted.{firm, firm_lines, PartsLines};
 ghost use Rattle.ngc_certificate_text.specs.Reader.{StepResultIs};
 ghost use Rattle.ngc_certificate_text.specs.Resumed.{resumed, IsResuming};
-ghost use Rattle.ngc_certificate_text.specs.Said.{lines_of, parsed_form};
+ghost use Rattle.ngc_certificate_text.specs.ParsedPart.{lines_of, parsed_form};
 
 use crate::certificate::Certificate;
 use crate::certificate_lines::CertificateLines;
@@ -51,8 +51,8 @@ impl<A: Allocator> TextSoFar<A> {
         let mut rest = bytes;
         'lines: loop {
             match self.lines.next(rest) {
-                Ok(Some((told, behind))) => match self.found.take(&told) {
-                    Ok(()) => rest = behind,
+                Ok(Some((line_content, afterwards))) => match self.found.take(&line_content) {
+                    Ok(()) => rest = afterwards,
                     Err(_) => return Err(CertificateFault::Memory),
                 },
                 Ok(None) => return Ok(()),
@@ -73,7 +73,7 @@ impl<A: Allocator> TextSoFar<A> {
     pub(crate) fn finish(self) -> Result<Certificate<A>, CertificateFault>
         requires { IsResuming self }
         ensures form { CertificateResultIs form_of result (resumed self lines_of []) }
-        ensures said { IfOk result (λ c. said_of c ≡ contents (form_of c)) }
+        ensures said { IfOk result (λ c. certificate_data c ≡ contents (form_of c)) }
         ensures device { result ≢ Err CertificateFault.ReadFailed }
     {
         match self.lines.finish() {

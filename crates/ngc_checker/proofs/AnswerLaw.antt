@@ -4,7 +4,7 @@ use Rattle.ngc_canonical.specs.Meaning.{Program}
 use Rattle.ngc_canonical.specs.State.{Setup}
 use Rattle.ngc_certificate_text.specs.declared.fault.CertificateFault.{CertificateFault}
 use Rattle.ngc_certificate_text.specs.Ahead.{made_with}
-use Rattle.ngc_certificate_text.specs.Said.{parsed_certificate}
+use Rattle.ngc_certificate_text.specs.ParsedPart.{parsed_certificate}
 use Rattle.ngc_checker.specs.declared.check_fault.CheckReadFault.{CheckReadFault}
 use Rattle.ngc_checker.specs.declared.check_fault.CheckReadFault.TheVariants as reads
 use Rattle.ngc_checker.specs.declared.fault.CheckFault.{CheckFault}

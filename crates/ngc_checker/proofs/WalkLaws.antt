@@ -116,11 +116,11 @@ pub compared : (machine : MachineFile) (s : Setting) (commands ahead : List Comm
     → m.index ≡ index → pieces_fault machine w.tool m.way pieces ≡ fault_ahead machine j pieces
     → fault_left machine s commands old [] (record { index = index; pieces = pieces } ∷ entries)
     ≡ fault_left machine s commands (record { walk = w; differs = old.differs; following = Some j }) pieces entries
-compared machine s commands ahead old w m j index pieces entries at on behind none indices walk same judged =
+compared machine s commands ahead old w m j index pieces entries at on afterwards none indices walk same judged =
     let entry : Entry = record { index = index; pieces = pieces } in
     let rest : drop (w.index - old.walk.index) ahead ≡ drop w.index commands =
     ap (drop (w.index - old.walk.index)) at ∙ drop_on old.walk.index w.index commands on in
-    let last : m.index ≡ w.index - 1 = omega (arith, behind) in
+    let last : m.index ≡ w.index - 1 = omega (arith, afterwards) in
     ap₂ (by_parts machine s old.differs)
     (ap (λ (l : List Command). first_difference (motion_indices old.walk.index (actions_of l)) (index ∷ map (λ (e : Entry). e.index) entries)) (sym at)
     ∙ ap (λ (is : List ℕ). first_difference is (index ∷ map (λ (e : Entry). e.index) entries)) indices

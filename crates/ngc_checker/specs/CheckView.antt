@@ -8,7 +8,7 @@ use Rattle.ngc_certificate_text.specs.Ahead.{made_with}
 use Rattle.ngc_certificate_text.specs.Certificate.{CertificateData}
 use Rattle.ngc_certificate_text.specs.LinesView.{room_of}
 use Rattle.ngc_certificate_text.specs.Reader.{outcome_by, firm_by}
-use Rattle.ngc_certificate_text.specs.Said.{parsed_certificate}
+use Rattle.ngc_certificate_text.specs.ParsedPart.{parsed_certificate}
 use Rattle.ngc_checker.specs.declared.check_fault.CheckReadFault.{CheckReadFault}
 use Rattle.ngc_checker.specs.declared.check_fault.CheckReadFault.TheVariants as reads
 use Rattle.ngc_checker.specs.declared.check_reader.CheckReader.{CheckReader}

@@ -6,8 +6,8 @@ use Rattle.ngc_commands.specs.declared.command.Command.{Command}
 use Rattle.ngc_certificate_text.specs.declared.expected.Expected.{Expected}
 use Rattle.ngc_certificate_text.specs.declared.expected.Expected.TheVariants as next
 use Rattle.ngc_certificate_text.specs.declared.piece.Setting.TheVariants.{Off, On}
-use Rattle.ngc_certificate_text.specs.declared.told.Told.{Told}
-use Rattle.ngc_certificate_text.specs.declared.told.Told.TheVariants as tell
+use Rattle.ngc_certificate_text.specs.declared.line_content.LineContent.{LineContent}
+use Rattle.ngc_certificate_text.specs.declared.line_content.LineContent.TheVariants as content_kind
 use Rattle.ngc_certificate_text.specs.Ahead.{Rest, certificate_of}
 use Rattle.ngc_certificate_text.specs.Certificate.{CertificateData, PIECE_LIMIT}
 use Rattle.ngc_checker.specs.declared.fault.CheckFault.{CheckFault}
@@ -72,22 +72,22 @@ stored_contents v = held v.machine v.tools v.off v.on
 -- ---- a line
 
 -- the line is allowed in the judge's state
-abbrev pub MayJudge : Told → JudgeData → Type 0
-MayJudge (tell.Header version) v = Unit {0}
-MayJudge (tell.Setting s n) v = Unit {0}
-MayJudge (tell.Counts off on) v = Unit {0}
-MayJudge (tell.Motion b) v = (v.left ≡ 0) × (1 ≤ b.pieces_left) × (b.pieces_left ≤ PIECE_LIMIT)
-MayJudge (tell.Piece b p) v = (v.left ≡ b.pieces_left) × (1 ≤ b.pieces_left)
-MayJudge tell.End v = Unit {0}
+abbrev pub MayJudge : LineContent → JudgeData → Type 0
+MayJudge (content_kind.Header version) v = Unit {0}
+MayJudge (content_kind.Setting s n) v = Unit {0}
+MayJudge (content_kind.Counts off on) v = Unit {0}
+MayJudge (content_kind.Motion b) v = (v.left ≡ 0) × (1 ≤ b.pieces_left) × (b.pieces_left ≤ PIECE_LIMIT)
+MayJudge (content_kind.Piece b p) v = (v.left ≡ b.pieces_left) × (1 ≤ b.pieces_left)
+MayJudge content_kind.End v = Unit {0}
 
 -- the number of remaining pieces after the line
-abbrev pub remaining_after : Told → ℕ → ℕ
-remaining_after (tell.Header version) left = left
-remaining_after (tell.Setting s n) left = left
-remaining_after (tell.Counts off on) left = left
-remaining_after (tell.Motion b) left = b.pieces_left
-remaining_after (tell.Piece b p) left = b.pieces_left - 1
-remaining_after tell.End left = left
+abbrev pub remaining_after : LineContent → ℕ → ℕ
+remaining_after (content_kind.Header version) left = left
+remaining_after (content_kind.Setting s n) left = left
+remaining_after (content_kind.Counts off on) left = left
+remaining_after (content_kind.Motion b) left = b.pieces_left
+remaining_after (content_kind.Piece b p) left = b.pieces_left - 1
+remaining_after content_kind.End left = left
 
 -- ---- the next line
 

@@ -9,7 +9,7 @@ ghost use Rattle.ngc_commands.specs.Sequence.{COMMAND_LIMIT};
 ghost use Rattle.ngc_certificate.specs.Plans.{both_planned};
 ghost use Rattle.ngc_certificate.specs.Valid.{IsValid};
 ghost use Rattle.ngc_certificate_text.specs.Certificate.{AreEntries};
-ghost use Rattle.ngc_certificate_text.specs.Contents.{said_of};
+ghost use Rattle.ngc_certificate_text.specs.Contents.{certificate_data};
 ghost use Rattle.ngc_checker.specs.FirstRefusal.{settings_fault};
 ghost use Rattle.ngc_checker.specs.Accepted.{Answers};
 ghost use Rattle.ngc_checker.specs.Held.{accepted_of, program_fault};
@@ -71,12 +71,12 @@ pub fn check_job<A: Allocator>(
 ) -> Result<Accepted<A>, CheckFault>
     ensures verdict { MatchResult result
         (λ a. (settings_fault job.machine (Ok job.off) (Ok (commands_in true job))
-        (said_of certificate.now) ≡ None) × (a ≡ accepted_of job))
+        (certificate_data certificate.now) ≡ None) × (a ≡ accepted_of job))
         (λ fault. settings_fault job.machine (Ok job.off) (Ok (commands_in true job))
-        (said_of certificate.now) ≡ Some fault) }
+        (certificate_data certificate.now) ≡ Some fault) }
     // A certificate that is valid for the job is accepted.
-    ensures accepts { IsValid job.machine job.off (said_of certificate.now).off →
-        IsValid job.machine (commands_in true job) (said_of certificate.now).on →
+    ensures accepts { IsValid job.machine job.off (certificate_data certificate.now).off →
+        IsValid job.machine (commands_in true job) (certificate_data certificate.now).on →
         MatchResult result (λ a. Unit {0}) (λ fault. ⊥) }
 {
     let (off, on) = (job.commands(false), job.commands(true));
@@ -138,7 +138,7 @@ pub fn check<A: Allocator + Copy>(
     // This holds for all readings of the lines: each line has exactly one.
     ensures { (rs : List Reading) → AreReadings (text_in program.now).lines rs →
         Answers (λ a. a) (parsed_program (text_in program.now) rs) (setup_of machine.now tools.now)
-        (said_of certificate.now) result }
+        (certificate_data certificate.now) result }
 {
     let Ok(own_machine) = machine.copy(alloc) else {
         return Err(CheckFault::Memory);

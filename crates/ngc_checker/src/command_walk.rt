@@ -102,7 +102,7 @@ impl CommandWalk {
             (entry ∷ entries) ≡ with_motion (file_of machine.now) setting self.new m
             (actions_of (drop (self.new.index - self.old.index) ahead.now)) entry entries) }
         ensures on { IfSome result (λ m. self.old.index < self.new.index) }
-        ensures behind { IfSome result (λ m. self.new.index ≡ m.index + 1) }
+        ensures afterwards { IfSome result (λ m. self.new.index ≡ m.index + 1) }
         ensures within { self.new.index ≤ self.old.index + length ahead.now }
     {
         for command in ahead {

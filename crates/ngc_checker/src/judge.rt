@@ -4,7 +4,7 @@ ghost use Rattle.std.specs.Prelude.{Ok, MatchResult, true};
 ghost use Rattle.ngc_certificate_text.specs.Ahead.{Rest, certificate_of, nothing_left, with_items};
 ghost use Rattle.ngc_certificate_text.specs.Ahead.{with_pieces};
 ghost use Rattle.ngc_certificate_text.specs.Certificate.{PIECE_LIMIT};
-ghost use Rattle.ngc_certificate_text.specs.Told.{onto, Fits};
+ghost use Rattle.ngc_certificate_text.specs.LineContent.{onto, Fits};
 ghost use Rattle.ngc_certificate.specs.PieceFault.{◌or◌};
 ghost use Rattle.ngc_job.specs.Job.{commands_in};
 ghost use Rattle.ngc_checker.specs.FirstRefusal.{settings_fault};
@@ -15,7 +15,7 @@ use crate::accepted::Accepted;
 use crate::fault::CheckFault;
 use crate::setting_judge::SettingJudge;
 use ngc_certificate::{Piece, Setting};
-use ngc_certificate_text::{BegunMotion, Indices, Told};
+use ngc_certificate_text::{BegunMotion, Indices, LineContent};
 use ngc_job::Job;
 use std::alloc::Allocator;
 use std::marker::Model;
@@ -128,17 +128,20 @@ impl<A: Allocator> Judge<A> {
     }
 
     /// Checks one more line.
-    pub(crate) fn take(&mut self, told: &Told)
-        requires { MayJudge told.now self.old }
-        ensures verdict { (r : Rest) → Fits told.now r →
-            verdict_of self.old (onto told.now r) ≡ verdict_of self.new r }
+    pub(crate) fn take(&mut self, line_content: &LineContent)
+        requires { MayJudge line_content.now self.old }
+        ensures verdict { (r : Rest) → Fits line_content.now r →
+            verdict_of self.old (onto line_content.now r) ≡ verdict_of self.new r }
         ensures kept { stored_contents self.new ≡ stored_contents self.old }
-        ensures left { self.new.left ≡ remaining_after told.now self.old.left }
+        ensures left { self.new.left ≡ remaining_after line_content.now self.old.left }
     {
-        match told {
-            Told::Motion(begun) => self.motion(begun),
-            Told::Piece(begun, piece) => self.piece(begun, piece),
-            Told::Header(_) | Told::Setting(_, _) | Told::Counts(_, _) | Told::End => {}
+        match line_content {
+            LineContent::Motion(begun) => self.motion(begun),
+            LineContent::Piece(begun, piece) => self.piece(begun, piece),
+            LineContent::Header(_)
+            | LineContent::Setting(_, _)
+            | LineContent::Counts(_, _)
+            | LineContent::End => {}
         }
     }
 

@@ -4,8 +4,8 @@ ghost use Rattle.ngc_certificate_text.specs.Ahead.{Rest};
 ghost use Rattle.ngc_certificate_text.specs.LinesView.{room_of};
 ghost use Rattle.ngc_certificate_text.specs.Parted.{PartsLines};
 ghost use Rattle.ngc_certificate_text.specs.Reader.{StepResultIs};
-ghost use Rattle.ngc_certificate_text.specs.Said.{lines_of};
-ghost use Rattle.ngc_certificate_text.specs.Told.{onto, Fits, IsNext, after_content};
+ghost use Rattle.ngc_certificate_text.specs.ParsedPart.{lines_of};
+ghost use Rattle.ngc_certificate_text.specs.LineContent.{onto, Fits, IsNext, after_content};
 ghost use Rattle.ngc_certificate_text.specs.declared.expected.Expected.{Expected};
 ghost use Rattle.ngc_checker.specs.Checked.{judged, judged_by, accepted_by, IsJudged};
 ghost use Rattle.ngc_checker.specs.CheckView.{VerdictResultIs};
@@ -15,7 +15,7 @@ use crate::accepted::Accepted;
 use crate::check_fault::CheckReadFault;
 use crate::fault::CheckFault;
 use crate::judge::Judge;
-use ngc_certificate_text::{CertificateFault, CertificateLines, Told};
+use ngc_certificate_text::{CertificateFault, CertificateLines, LineContent};
 use std::alloc::Allocator;
 
 /// The lines of a certificate's text, and the state of the check; or why the program is refused.
@@ -25,17 +25,17 @@ pub struct JudgedLines<A: Allocator> {
     pub judge: Result<Judge<A>, CheckFault>,
 }
 
-fn take_line<A: Allocator>(judge: &mut Result<Judge<A>, CheckFault>, told: &Told)
-    requires { IfOk judge.old (λ v. MayJudge told.now v) }
-    ensures verdict { (r : Rest) → Fits told.now r →
-        judged_by judge.old (onto told.now r) ≡ judged_by judge.new r }
+fn take_line<A: Allocator>(judge: &mut Result<Judge<A>, CheckFault>, line_content: &LineContent)
+    requires { IfOk judge.old (λ v. MayJudge line_content.now v) }
+    ensures verdict { (r : Rest) → Fits line_content.now r →
+        judged_by judge.old (onto line_content.now r) ≡ judged_by judge.new r }
     ensures kept { accepted_by judge.new ≡ accepted_by judge.old }
-    ensures at { (e : Expected) → IsNext e told.now →
+    ensures at { (e : Expected) → IsNext e line_content.now →
         ((v : JudgeData) → judge.old ≡ Ok v → IsAt e v) → (v : JudgeData) → judge.new ≡ Ok v →
-        IsAt (after_content told.now) v }
+        IsAt (after_content line_content.now) v }
 {
     if let Ok(judge) = judge {
-        judge.take(told);
+        judge.take(line_content);
     }
 }
 
@@ -56,9 +56,9 @@ impl<A: Allocator> JudgedLines<A> {
         let mut rest = bytes;
         'lines: loop {
             match self.lines.next(rest) {
-                Ok(Some((told, behind))) => {
-                    take_line(&mut self.judge, &told);
-                    rest = behind;
+                Ok(Some((line_content, afterwards))) => {
+                    take_line(&mut self.judge, &line_content);
+                    rest = afterwards;
                 }
                 Ok(None) => return Ok(()),
                 Err(fault) => return Err(fault),

@@ -183,7 +183,7 @@ pub walk_passes : (a : ArcShape) (g q h k l v n : ℕ) (at : ℕ → Spoke) (qua
 walk_passes a g q h k l v n at quadrant b e begun left d w wide =
     passes a g (limit_of q h) d n at quadrant b e begun left (record {
       walk = w.walk;
-      behind = λ i le near. by_first a (at i) g q h k l v d w.rim (below_on a g q h k l v n at quadrant b e begun left i w le)
+      afterwards = λ i le near. by_first a (at i) g q h k l v d w.rim (below_on a g q h k l v n at quadrant b e begun left i w le)
           (above_on a g q h k l v n at quadrant b e begun left i w le) w.inside w.outside wide near;
       before = λ i le near. by_second a (at i) g q h k l v d w.rim (below_on a g q h k l v n at quadrant b e begun left i w le)
           (above_on a g q h k l v n at quadrant b e begun left i w le) w.inside w.outside wide near;

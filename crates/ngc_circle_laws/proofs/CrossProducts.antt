@@ -105,7 +105,7 @@ same_axis Second y = refl
 same_axis Third y = refl
 same_axis Fourth y = refl
 
--- ---- ahead and behind
+-- ---- ahead and afterwards
 
 -- the cross product of a point (x, y) of some quadrant and a point (z, w) n quadrants further on is
 -- below 0

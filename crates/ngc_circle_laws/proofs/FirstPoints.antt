@@ -149,10 +149,10 @@ flat_is true bx by e h = absurd (grind (arith, e))
 enters_same : (g limit p r : ℕ) (t : Bool) (b j : Spoke) (roll : Roll) → IsJoined g p r b j → j.quadrant ≡ b.quadrant → b.x * j.y < b.y * j.x →
     IsSteep t b.x b.y → g * g ≤ limit →
     IsJoint g (p + 1) r j.x b.x → IsJoint g (p + 1) r j.y b.y → IsEntry g limit t j roll → (begun : ℕ) × Begins g b (rolled g roll j) begun
-enters_same g limit p r t b j Over h same behind steep room mx my roll =
+enters_same g limit p r t b j Over h same afterwards steep room mx my roll =
     let some : 0 < b.y = elim (cases_lt 0 b.y) [
       | inl fine ↦ fine
-      | inr zero' ↦ (let z : b.y ≡ 0 = omega (arith, zero') in let k : b.x * j.y < 0 * j.x = rw z at behind in absurd (omega (arith, k)))
+      | inr zero' ↦ (let z : b.y ≡ 0 = omega (arith, zero') in let k : b.x * j.y < 0 * j.x = rw z at afterwards in absurd (omega (arith, k)))
     ] in (
       1,
       record {
@@ -163,17 +163,17 @@ enters_same g limit p r t b j Over h same behind steep room mx my roll =
         some_place = omega (arith, roll);
       },
     )
-enters_same g limit p r t b j Outward h same behind steep room mx my roll = (
+enters_same g limit p r t b j Outward h same afterwards steep room mx my roll = (
   0,
   record {
     begins = same;
     past_start = outward_enters g (p + 1) r j.x j.y b.x b.y (omega arith) mx my (flat_is t b.x b.y roll.0 steep);
     soon = omega arith;
-    beside = λ few. (let z = none b.y few in let k : b.x * j.y < 0 * j.x = rw z at behind in absurd (omega (arith, k)));
+    beside = λ few. (let z = none b.y few in let k : b.x * j.y < 0 * j.x = rw z at afterwards in absurd (omega (arith, k)));
     some_place = omega (arith, h.step);
   },
 )
-enters_same g limit p r t b j Diagonal h same behind steep room mx my roll =
+enters_same g limit p r t b j Diagonal h same afterwards steep room mx my roll =
     let x = j.x - g in
     let e : j.x ≡ x + g = omega (arith, roll.0) in
     let mx' : IsJoint g (p + 1) r (x + g) b.x = rw e at mx in (
@@ -185,11 +185,11 @@ enters_same g limit p r t b j Diagonal h same behind steep room mx my roll =
           | inr out ↦ diagonal_enters_out g x j.y b.x b.y (outward_enters g (p + 1) r (x + g) j.y b.x b.y (omega arith) mx' my (flat_is t b.x b.y out.0 steep))
         ];
         soon = omega arith;
-        beside = λ few. (let z = none b.y few in let k : b.x * j.y < 0 * j.x = rw z at behind in absurd (omega (arith, k)));
+        beside = λ few. (let z = none b.y few in let k : b.x * j.y < 0 * j.x = rw z at afterwards in absurd (omega (arith, k)));
         some_place = omega (arith, h.step);
       },
     )
-enters_same g limit p r t b j Inward h same behind steep room mx my roll =
+enters_same g limit p r t b j Inward h same afterwards steep room mx my roll =
     let x = j.x - g in
     let e : j.x ≡ x + g = omega (arith, roll.1) in
     let mx' : IsJoint g (p + 1) r (x + g) b.x = rw e at mx in (
@@ -198,7 +198,7 @@ enters_same g limit p r t b j Inward h same behind steep room mx my roll =
         begins = same;
         past_start = inward_enters g (p + 1) r x j.y b.x b.y (omega arith) mx' my (steep_is t b.x b.y roll.0 steep);
         soon = omega arith;
-        beside = λ few. (let z = none b.y few in let k : b.x * j.y < 0 * j.x = rw z at behind in absurd (omega (arith, k)));
+        beside = λ few. (let z = none b.y few in let k : b.x * j.y < 0 * j.x = rw z at afterwards in absurd (omega (arith, k)));
         some_place = elim (cases_lt 0 (x + j.y)) [
           | inl fine ↦ fine
           | inr zero' ↦ (
@@ -231,16 +231,16 @@ enters_before g limit p r t b j Inward h before my mx roll = absurd (omega (arit
 pub enters : (g limit p r : ℕ) (t : Bool) (b j : Spoke) (roll : Roll) → IsJoined g p r b j → cross (way_to b) (way_to j) <ℤ pos 0 →
     (j.quadrant ≡ b.quadrant → IsSteep t b.x b.y) → g * g ≤ limit →
     IsEntry g limit t j roll → (begun : ℕ) × Begins g b (rolled g roll j) begun
-enters g limit p r t b j roll h behind steep room entry = elim (four_ways b.quadrant j.quadrant) [
+enters g limit p r t b j roll h afterwards steep room entry = elim (four_ways b.quadrant j.quadrant) [
   | inl same ↦ (
       let m = moved_same b.quadrant g (p + 1) r b.x b.y j.x j.y (into g p r b.quadrant j.quadrant b.quadrant b.x b.y j.x j.y same h.moved) in
       let c : cross (way_to b) (way_to j) ≡ pos (b.x * j.y) -ℤ pos (b.y * j.x) =
       ap (λ (z : Quadrant). cross (way_to b) (around z j.x j.y)) same ∙ cross_same b.quadrant b.x b.y j.x j.y in
-      enters_same g limit p r t b j roll h same (omega (arith, ints, behind, c)) (steep same) room m.0 m.1 entry)
+      enters_same g limit p r t b j roll h same (omega (arith, ints, afterwards, c)) (steep same) room m.0 m.1 entry)
   | inr (inl next) ↦ (
       let c : cross (way_to b) (way_to j) ≡ pos (b.x * j.x + b.y * j.y) =
       ap (λ (z : Quadrant). cross (way_to b) (around z j.x j.y)) next ∙ cross_next b.quadrant b.x b.y j.x j.y in
-      absurd (omega (arith, ints, behind, c)))
+      absurd (omega (arith, ints, afterwards, c)))
   | inr (inr (inl opposite)) ↦ (
       let m = moved_opposite b.quadrant g (p + 1) r b.x b.y j.x j.y
       (into g p r b.quadrant j.quadrant (following (following b.quadrant)) b.x b.y j.x j.y opposite h.moved) in

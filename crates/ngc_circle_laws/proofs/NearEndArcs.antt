@@ -382,9 +382,9 @@ large_stands_way g q h k l v p begun whole steep b j e r placed near ray reach =
 pub large_enters_way : (g q h k l v p begun whole : ℕ) (steep : Bool) (b j e : Spoke) (roll : Roll) → IsRim g q h k l v → IsPlacedJoint g p (q + 1) b j →
     IsNearJoint g (q + 1) v steep j → IsRay q e.x e.y → 0 < e.x →
     cross (way_to b) (way_to j) <ℤ pos 0 → IsEntry g (limit_of q h) steep j roll → IsReached b (rolled g roll j) e begun whole → SomeWay (IsPair g) j e
-large_enters_way g q h k l v p begun whole steep b j e roll r placed near ray some behind entry reach =
+large_enters_way g q h k l v p begun whole steep b j e roll r placed near ray some afterwards entry reach =
     let w = large_behind g q p b j e placed ray in
-    settled_enters (IsPair g) g (limit_of q h) steep b j e roll begun whole reach behind entry (record {
+    settled_enters (IsPair g) g (limit_of q h) steep b j e roll begun whole reach afterwards entry (record {
       here = λ same inside turn past. rolls_here g q h k l v e.x e.y steep j roll r near ray inside some entry past (w.first same turn)
           (omega (arith, w.second same turn));
       over_here = λ same less turn. over_here g q h k l v j.x j.y e.x e.y r ray near.low less (w.first same turn) (omega (arith, w.second same turn));

@@ -224,9 +224,9 @@ move_back g limit steep j Inward entry inside = (omega (arith, inside), omega ar
 pub small_enters_way : (g q r h l m v p begun whole : ℕ) (steep : Bool) (b j e : Spoke) (roll : Roll) → IsSmallSize g r h l m v → IsSmallRay g q r →
     IsPlacedJoint g p r b j → IsNearJoint g r v steep j → IsRay q e.x e.y →
     cross (way_to b) (way_to j) <ℤ pos 0 → IsEntry g ((r + h) * (r + h)) steep j roll → IsReached b (rolled g roll j) e begun whole → SomeWay (IsFew g) j e
-small_enters_way g q r h l m v p begun whole steep b j e roll s z placed near ray behind entry reach =
+small_enters_way g q r h l m v p begun whole steep b j e roll s z placed near ray afterwards entry reach =
     let w = small_behind g q r p b j e placed z ray in
-    settled_enters (IsFew g) g ((r + h) * (r + h)) steep b j e roll begun whole reach behind entry (record {
+    settled_enters (IsFew g) g ((r + h) * (r + h)) steep b j e roll begun whole reach afterwards entry (record {
       here = λ same inside turn past. (
           let k = move_back g ((r + h) * (r + h)) steep j roll entry inside in
           small_here g q r h l m v j.x j.y e.x e.y (rolled g roll j) s z ray (small_enters g r h l m v steep j roll s near entry) k.0 k.1 past

@@ -26,7 +26,7 @@ use Rattle.ngc_circle_laws.specs.Round.{IsRound}
 -- end, or at a point from which the next move leads over the axis into that quadrant.
 pub record IsPassing (a : ArcShape) (g limit d n : ℕ) (at : ℕ → Spoke) (quadrant : ℕ → ℕ) (b e : Spoke) (begun left : ℕ) : Type 0 where
   pub walk : IsWalk a g limit n at quadrant b e begun left
-  pub behind : (i : ℕ) → i ≤ n → (at i).y ≤ g → IsWithin d (placed a (at i)) (placed a (record { quadrant = (at i).quadrant; x = outer_radius a; y = 0 }))
+  pub afterwards : (i : ℕ) → i ≤ n → (at i).y ≤ g → IsWithin d (placed a (at i)) (placed a (record { quadrant = (at i).quadrant; x = outer_radius a; y = 0 }))
   pub before : (i : ℕ) → i ≤ n → (at i).x ≤ g →
       IsWithin d (placed a (at i)) (placed a (record { quadrant = following (at i).quadrant; x = outer_radius a; y = 0 }))
   pub some_radius : 0 < outer_radius a
@@ -57,8 +57,8 @@ in_order : (g limit n : ℕ) (at : ℕ → Spoke) (quadrant : ℕ → ℕ) (i k 
 in_order g limit n at quadrant i k way le less =
     elim (cases_lt k i) [
       | inr fine ↦ fine
-      | inl behind ↦ (
-          let e : k + (i - k) ≡ i = omega (arith, behind) in
+      | inl afterwards ↦ (
+          let e : k + (i - k) ≡ i = omega (arith, afterwards) in
           let up = rises g limit n at quadrant k (i - k) way (omega (arith, e, le)) in
           let up' : quadrant k ≤ quadrant i = subst (λ t. quadrant k ≤ quadrant t) e up in
           absurd (omega (arith, up', less)))
@@ -105,7 +105,7 @@ passes_from a g limit d n at quadrant b e begun left w (suc c) j i le before few
           let there : (at f.0).quadrant ≡ turned_by j b.quadrant =
           quadrant_on g limit n at quadrant f.0 way f.1 ∙ ap (turned_by (quadrant f.0)) w.walk.begins ∙ turned_sum begun (quadrant f.0) b.quadrant
           ∙ ap (λ m. turned_by m b.quadrant) count in
-          let near = w.behind f.0 f.1 f.3 in
+          let near = w.afterwards f.0 f.1 f.3 in
           let rest = passes_from a g limit d n at quadrant b e begun left w c (suc j) f.0 f.1 (omega (arith, count)) (omega (arith, few)) in (
             f.0,
             order,
@@ -143,7 +143,7 @@ passes_all a g limit d n at quadrant b e begun left w (suc c) few =
       | inr past ↦ (
           let same : begun ≡ first_axis b.y = omega (arith, past, w.soon) in
           let there : (at 0).quadrant ≡ turned_by (first_axis b.y) b.quadrant = w.walk.begins ∙ ap (λ m. turned_by m b.quadrant) same in
-          let near = w.behind 0 (omega arith) (w.beside past) in
+          let near = w.afterwards 0 (omega arith) (w.beside past) in
           let rest = passes_from a g limit d n at quadrant b e begun left w c (suc (first_axis b.y)) 0 (omega arith) (omega (arith, starts, same))
           (omega (arith, few)) in (
             0,

@@ -155,25 +155,25 @@ same_before : (p q : Quadrant) → following p ≡ following q → p ≡ q
 same_before p q h = sym (four_on p) ∙ ap (λ (z : Quadrant). following (following (following z))) h ∙ four_on q
 
 not_ahead : (b j : Spoke) → cross (way_to b) (way_to j) <ℤ pos 0 → j.quadrant ≡ following b.quadrant → ⊥
-not_ahead b j behind next =
+not_ahead b j afterwards next =
     let c : cross (way_to b) (way_to j) ≡ pos (b.x * j.x + b.y * j.y) =
     ap (λ (z : Quadrant). cross (way_to b) (around z j.x j.y)) next ∙ cross_next b.quadrant b.x b.y j.x j.y in
-    absurd (omega (arith, ints, behind, c))
+    absurd (omega (arith, ints, afterwards, c))
 
 -- in the joint's quadrant
 enters_in : (R : Type 0) (g : ℕ) (b j e : Spoke) (roll : Roll) (begun whole : ℕ) → IsReached b (rolled g roll j) e begun whole →
     cross (way_to b) (way_to j) <ℤ pos 0 → g ≤ j.x →
     (rolled g roll j).quadrant ≡ j.quadrant → EntersCases R g b j e roll → R
-enters_in R g b j e roll zero zero r behind inside stays s = elim r.past [
+enters_in R g b j e roll zero zero r afterwards inside stays s = elim r.past [
   | inl none ↦ absurd (omega (arith, none))
   | inr past ↦ s.here (sym stays ∙ r.begins) r.to_end inside r.turn past.1
 ]
-enters_in R g b j e roll zero (suc n) r behind inside stays s = elim r.past [
+enters_in R g b j e roll zero (suc n) r afterwards inside stays s = elim r.past [
   | inl none ↦ absurd (omega (arith, none))
   | inr past ↦ absurd (omega (arith, past.0))
 ]
-enters_in R g b j e roll (suc zero) n r behind inside stays s = absurd (not_ahead b j behind (sym stays ∙ r.begins))
-enters_in R g b j e roll (suc (suc m)) n r behind inside stays s = absurd (omega (arith, r.few))
+enters_in R g b j e roll (suc zero) n r afterwards inside stays s = absurd (not_ahead b j afterwards (sym stays ∙ r.begins))
+enters_in R g b j e roll (suc (suc m)) n r afterwards inside stays s = absurd (omega (arith, r.few))
 
 enters_over : (R : Type 0) (g : ℕ) (b j e : Spoke) (begun whole : ℕ) → IsReached b (rolled g Over j) e begun whole → j.x < g → EntersCases R g b j e Over → R
 enters_over R g b j e zero zero r near s = elim r.past [
@@ -198,10 +198,10 @@ enters_over R g b j e (suc (suc m)) n r near s = absurd (omega (arith, r.few))
 pub by_enters : (R : Type 0) (g limit : ℕ) (steep : Bool) (b j e : Spoke) (roll : Roll) (begun whole : ℕ) → IsReached b (rolled g roll j) e begun whole →
     cross (way_to b) (way_to j) <ℤ pos 0 →
     IsEntry g limit steep j roll → EntersCases R g b j e roll → R
-by_enters R g limit steep b j e Over begun whole r behind entry s = enters_over R g b j e begun whole r entry s
-by_enters R g limit steep b j e Outward begun whole r behind entry s = enters_in R g b j e Outward begun whole r behind entry.1 refl s
-by_enters R g limit steep b j e Diagonal begun whole r behind entry s = enters_in R g b j e Diagonal begun whole r behind entry.0 refl s
-by_enters R g limit steep b j e Inward begun whole r behind entry s = enters_in R g b j e Inward begun whole r behind entry.1 refl s
+by_enters R g limit steep b j e Over begun whole r afterwards entry s = enters_over R g b j e begun whole r entry s
+by_enters R g limit steep b j e Outward begun whole r afterwards entry s = enters_in R g b j e Outward begun whole r afterwards entry.1 refl s
+by_enters R g limit steep b j e Diagonal begun whole r afterwards entry s = enters_in R g b j e Diagonal begun whole r afterwards entry.0 refl s
+by_enters R g limit steep b j e Inward begun whole r afterwards entry s = enters_in R g b j e Inward begun whole r afterwards entry.1 refl s
 
 -- ---- a property of the distances in each case
 
@@ -226,7 +226,7 @@ pub record EntersSettled (P : ℕ → ℕ → Type 0) (g : ℕ) (b j e : Spoke) 
 pub settled_enters : (P : ℕ → ℕ → Type 0) (g limit : ℕ) (steep : Bool) (b j e : Spoke) (roll : Roll) (begun whole : ℕ) →
     IsReached b (rolled g roll j) e begun whole → cross (way_to b) (way_to j) <ℤ pos 0 →
     IsEntry g limit steep j roll → EntersSettled P g b j e roll → SomeWay P j e
-settled_enters P g limit steep b j e roll begun whole r behind entry s = by_enters (SomeWay P j e) g limit steep b j e roll begun whole r behind entry (record {
+settled_enters P g limit steep b j e roll begun whole r afterwards entry s = by_enters (SomeWay P j e) g limit steep b j e roll begun whole r afterwards entry (record {
   here = λ same to inside turn past. way_same P b.quadrant j e same to (s.here same inside turn past);
   over_here = λ same to near turn. way_same P b.quadrant j e same to (s.over_here same near turn);
   over = λ same to near past. way_on P b.quadrant j e same to (s.over same near past);

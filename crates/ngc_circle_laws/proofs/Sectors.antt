@@ -281,8 +281,8 @@ out_of_round a b e r j n hb hend he less few last bx ex some turn =
             | inl h ↦ inl (is_ahead_false a b p j few refl h)
             | inr h ↦ inr (is_ahead_false a p e (n + 4 - j) small hp h)
           ])
-      | inr behind ↦ (
-          let two = both_behind j n b.x b.y e.x e.y r less few last bx ex some turn behind in
-          unless_large _ _ _ _ apart (is_ahead_false a b e n (omega (arith, less, few)) he behind) (is_ahead_false a b p j few refl two.0)
+      | inr afterwards ↦ (
+          let two = both_behind j n b.x b.y e.x e.y r less few last bx ex some turn afterwards in
+          unless_large _ _ _ _ apart (is_ahead_false a b e n (omega (arith, less, few)) he afterwards) (is_ahead_false a b p j few refl two.0)
           (is_ahead_false a p e (n + 4 - j) small hp two.1))
     ]

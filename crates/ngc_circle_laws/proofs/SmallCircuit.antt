@@ -159,7 +159,7 @@ pub small_passes : (a : ArcShape) (g o h l m v r n : ℕ) (at : ℕ → Spoke) (
 small_passes a g o h l m v r n at quadrant b e begun left d c wide =
     passes a g ((o + h) * (o + h)) d n at quadrant b e begun left (record {
       walk = c.walk;
-      behind = λ i le near. by_first a (at i) g o h l m v r d c.size (small_below a g o h l m v r n at quadrant b e begun left i c le)
+      afterwards = λ i le near. by_first a (at i) g o h l m v r d c.size (small_below a g o h l m v r n at quadrant b e begun left i c le)
           (small_above a g o h l m v r n at quadrant b e begun left i c le) c.inside c.outside (no_less g o r c.size.step c.circle) wide near;
       before = λ i le near. by_second a (at i) g o h l m v r d c.size (small_below a g o h l m v r n at quadrant b e begun left i c le)
           (small_above a g o h l m v r n at quadrant b e begun left i c le) c.inside c.outside (no_less g o r c.size.step c.circle) wide near;

@@ -62,9 +62,9 @@ next_near g q h k l v s ez ew r ray below above less past =
     let de : w + d ≡ q + 1 = omega (arith, e, r.inner) in
     let small : 10 * d ≤ 13 * g = omega (arith, e, de, r.inner, r.l_high, r.k_high, r.step) in
     let t = g - s.x in
-    let behind = close_behind g w d t s.y ez ew (omega (arith, r.step)) (omega (arith, small, de, r.far, r.step)) (omega arith) along
+    let afterwards = close_behind g w d t s.y ez ew (omega (arith, r.step)) (omega (arith, small, de, r.far, r.step)) (omega arith) along
     (omega (arith, wide, de)) past in
-    let first : 2 * (s.x + ew) < 3 * g = omega (arith, behind, less) in
+    let first : 2 * (s.x + ew) < 3 * g = omega (arith, afterwards, less) in
     let high = from_squares s.y (q + 1 + l) (omega (arith, below.by_axis less)) in
     let second = not_short g q s.y ez ew r.step r.far (omega (arith, first)) ray.small (omega (arith, high, r.l_high)) in
     (first, record { up = second; down = omega (arith, wide, along, de, small, r.step) })

@@ -54,7 +54,7 @@ cross_opposite Second x y z w = rw (both_neg y z) refl
 cross_opposite Third x y z w = rw (neg_left x w, neg_left y z) (omega (arith, ints, neg_is (pos (x * w)), neg_is (pos (y * z))))
 cross_opposite Fourth x y z w = rw (both_neg x w) refl
 
--- a point, and one three quadrants further: it is behind
+-- a point, and one three quadrants further: it is afterwards
 pub cross_behind : (q : Quadrant) (x y z w : ℕ) → cross (around q x y) (around (following (following (following q))) z w) ≡ neg_ℤ (pos (x * z + y * w))
 cross_behind First x y z w = rw (neg_right x z) (omega (arith, ints, neg_is (pos (x * z)), neg_is (pos (x * z + y * w))))
 cross_behind Second x y z w = rw (neg_left y w) (omega (arith, ints, neg_is (pos (y * w)), neg_is (pos (x * z + y * w))))

@@ -239,15 +239,15 @@ last_over g q s ez ew slim ray roll past =
           by_the_end g q (square x y) (ez * ez + ew * ew) p c ((x + ew) * (x + ew) + apart y ez * apart y ez)
           (from_bounds g q x y (ez * ez + ew * ew) p c slim ray.small ray.great (omega (arith, m)) (omega (arith, a)))
           (omega (arith, h, ep)))
-      | inl behind ↦ (
+      | inl afterwards ↦ (
           let near : y * y ≤ x * u = elim (cases_lt (x * u) (y * y)) [
             | inr fine ↦ fine
             | inl more ↦ (
                 let a = mul-le-mul_left y past in
-                let b = mul-le-mul_left u (let k : y * ez + 1 ≤ x * ew = omega (arith, behind) in k) in
+                let b = mul-le-mul_left u (let k : y * ez + 1 ≤ x * ew = omega (arith, afterwards) in k) in
                 let c = mul-le-mul_left ew (let k : x * u + 1 ≤ y * y = omega (arith, more) in k) in
                 let none : ew ≡ 0 = omega (arith, a, b, c) in
-                let z : y * ez + 1 ≤ x * 0 = rw none at (let k : y * ez + 1 ≤ x * ew = omega (arith, behind) in k) in
+                let z : y * ez + 1 ≤ x * 0 = rw none at (let k : y * ez + 1 ≤ x * ew = omega (arith, afterwards) in k) in
                 absurd (omega (arith, z)))
           ] in
           let xu : x * (u + x) ≡ x * g = ap (λ t. x * t) eu in

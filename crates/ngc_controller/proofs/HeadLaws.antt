@@ -86,11 +86,11 @@ pub record Goes (r s : RampState) (v : ℕ) : Type 0 where
   pub change : s.change ≡ r.change
   pub room : s.room ≡ r.room
 
-pub record Ends (r s : RampState) (behind : List Leg) (v : ℕ) : Type 0 where
+pub record Ends (r s : RampState) (afterwards : List Leg) (v : ℕ) : Type 0 where
   pub all : r.rest ≤ v
   pub rate : s.rate ≡ v
-  pub rest : s.rest ≡ next_rest (v - r.rest) behind
-  pub legs : s.legs ≡ behind
+  pub rest : s.rest ≡ next_rest (v - r.rest) afterwards
+  pub legs : s.legs ≡ afterwards
   pub change : s.change ≡ r.change
   pub room : s.room ≡ r.room
 
@@ -211,14 +211,14 @@ ends_on job [] old r s wish aimed v place due ended next p h done = elim h.moves
 ends_on job (l ∷ ls) old r s wish aimed v place due ended next p h done =
     let k = travel job l ls old r s wish aimed v place due ended next p h in
     let has = has_travelled job l ls old r s h.legs.0 wish v place due ended next p k in
-    let behind = legs_after job (suc old.done) l ls in
-    let e = ends r s behind v ended k.tick.ends done k.tick.next in
+    let afterwards = legs_after job (suc old.done) l ls in
+    let e = ends r s afterwards v ended k.tick.ends done k.tick.next in
     let few : v - r.rest < MILLION = omega (arith, has.small, k.some) in
     let some : 1 ≤ r.change = omega (arith, k.change, h.machine.change.least) in
     let b = behind_is job (suc old.done) l ls in
     let rest : s.rest ≡ next_rest (v - r.rest) s.legs = e.rest ∙ ap (λ ks. next_rest (v - r.rest) ks) (sym e.legs) in
     let slows : (IsMoving ls → ⊥) → (v ≡ r.rest) × (v ≤ r.change) =
-    λ still. ends_slowly r wish (leg_of job old.done h.legs.0 l) behind v some k.tick.may (none_ahead job (suc old.done) l ls still) e.all in
+    λ still. ends_slowly r wish (leg_of job old.done h.legs.0 l) afterwards v some k.tick.may (none_ahead job (suc old.done) l ls still) e.all in
     let none : (IsMoving ls → ⊥) → v - r.rest ≡ 0 = λ still. (let slow = slows still in omega (arith, slow.0)) in
     let far = travelled_over job (suc old.done) b.0 ls s (v - r.rest) (e.legs ∙ b.1) rest few none in
     record {
@@ -228,7 +228,7 @@ ends_on job (l ∷ ls) old r s wish aimed v place due ended next p h done =
         change = e.change ∙ k.change;
         places = e.room ∙ h.places;
         legs = (b.0, e.legs ∙ b.1);
-        left = subst (λ ks. IsRest s.rest ks) (sym e.legs) (subst (λ n. IsRest n behind) (sym e.rest) (behind_left job (suc old.done) l ls (v - r.rest) few));
+        left = subst (λ ks. IsRest s.rest ks) (sym e.legs) (subst (λ n. IsRest n afterwards) (sym e.rest) (behind_left job (suc old.done) l ls (v - r.rest) few));
         slow = λ still. (let slow = slows still in omega (arith, e.rate, slow.1, k.change));
         whole = λ still. rest ∙ ap (λ n. next_rest n s.legs) (none still);
       };

@@ -45,10 +45,10 @@ module _ {X Y : Type 0} (f : Y → List X) (some : (y : Y) → 1 ≤ length (f y
   gives_enough : (ys : List Y) → length ys ≤ length (flat_map f ys)
   gives_enough [] = omega arith
   gives_enough (y ∷ ys) =
-      let behind = gives_enough ys in
+      let afterwards = gives_enough ys in
       let here = some y in
       let both = ap (λ xs. length xs) (flat_map-cons f y ys) in
-      omega (arith, behind, here, both, length-append (f y) (flat_map f ys))
+      omega (arith, afterwards, here, both, length-append (f y) (flat_map f ys))
 
   kept_from : (k d : ℕ) (ys : List Y) → d ≤ length ys - k → keep_last k (flat_map f (drop d ys)) ≡ keep_last k (flat_map f ys)
   kept_from k zero ys few = refl

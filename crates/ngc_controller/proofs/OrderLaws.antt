@@ -75,7 +75,7 @@ left_order {A = A} job done ring ramp on panel next after new dwelt entry machin
       left = o.left;
       slow = o.slow;
       whole = o.whole;
-      entry = (let behind : done + length ring ≡ suc done + length (drop 1 ring) = omega arith in joint ∙ ap (λ k. joint_before job.machine job.commands k) behind);
+      entry = (let afterwards : done + length ring ≡ suc done + length (drop 1 ring) = omega arith in joint ∙ ap (λ k. joint_before job.machine job.commands k) afterwards);
       continues_travel = last_of_drop on ring last;
       place = sym zero;
       target = subst (λ xs. IsTarget job.machine (effective_at panel) xs 0 new.target) queue
@@ -220,8 +220,8 @@ loaded_order job done ring drive dwelt panel q k after d n o is flows joint targ
       left = has.left o.left;
       slow = λ still. (let slow = o.slow (still_before ring.loaded q still) in omega (arith, has.rate, slow));
       whole = λ still. has.whole (o.whole (still_before ring.loaded q still));
-      entry = (let behind : suc (done + length ring.loaded) ≡ done + length all = omega (arith, more) in
-          joint ∙ ap (λ k. joint_before job.machine job.commands k) behind);
+      entry = (let afterwards : suc (done + length ring.loaded) ≡ done + length all = omega (arith, more) in
+          joint ∙ ap (λ k. joint_before job.machine job.commands k) afterwards);
       continues_travel = flows ∙ sym (last_of_more d.continues_travel ring.loaded q);
       place = o.place ∙ ap (λ x. x / MILLION) (sym far);
       target = subst (λ xs. IsTarget job.machine (effective_at panel) xs ring.place d.target) queue

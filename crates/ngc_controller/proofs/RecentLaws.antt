@@ -11,7 +11,7 @@ use Rattle.circular_buffer.specs.Buffer.{keep_last}
 use Rattle.circular_buffer.proofs.Places.{slice_get-append_left, slice_get-append_right}
 use Rattle.ngc_events.specs.declared.reply.Reply.{Reply}
 use Rattle.ngc_events.specs.declared.reply.Reply.TheVariants.{Ticked}
-use Rattle.ngc_controller.specs.declared.recent.Told.{Told}
+use Rattle.ngc_controller.specs.declared.recent.CountedReply.{CountedReply}
 use Rattle.ngc_controller.specs.Controller.{KEPT, from_the_last}
 use Rattle.ngc_controller.specs.Recent.{with_quiet, replies, latest}
 use Rattle.ngc_controller.proofs.KeptLaws.{kept_twice, kept_min, kept_given}
@@ -59,59 +59,59 @@ in_kept i k xs within =
 -- ---- the latest replies
 
 -- none further back are stored
-pub not_kept : (i q : ℕ) (told : List Told) → KEPT ≤ i → from_the_last i (latest told q) ≡ None
+pub not_kept : (i q : ℕ) (told : List CountedReply) → KEPT ≤ i → from_the_last i (latest told q) ≡ None
 not_kept i q told past =
     let all : List Reply = replies told ++ replicate q (Ticked None None) in
     past_all i (latest told q) (omega (arith, length-drop (length all - KEPT) all))
 
-pub quiet_last : (i q : ℕ) (told : List Told) → i < KEPT → i < q → from_the_last i (latest told q) ≡ Some (Ticked None None)
+pub quiet_last : (i q : ℕ) (told : List CountedReply) → i < KEPT → i < q → from_the_last i (latest told q) ≡ Some (Ticked None None)
 quiet_last i q told kept within =
     let quiet : List Reply = replicate q (Ticked None None) in
     in_kept i KEPT (replies told ++ quiet) kept ∙ in_last i (replies told) quiet (omega (arith, length-replicate q (Ticked None None)))
     ∙ in_equal i q (Ticked None None) within
 
-pub behind_quiet : (i q : ℕ) (told : List Told) → i < KEPT → q ≤ i → from_the_last i (latest told q) ≡ from_the_last (i - q) (replies told)
+pub behind_quiet : (i q : ℕ) (told : List CountedReply) → i < KEPT → q ≤ i → from_the_last i (latest told q) ≡ from_the_last (i - q) (replies told)
 behind_quiet i q told kept past =
     let quiet : List Reply = replicate q (Ticked None None) in
     in_kept i KEPT (replies told ++ quiet) kept ∙ in_first i (i - q) (replies told) quiet (omega (arith, length-replicate q (Ticked None None)))
 
 -- the last reply, and the quiet ones before it
-one_more : (told : List Told) (t : Told) → replies (told ++ t ∷ []) ≡ (replies told ++ replicate t.before (Ticked None None)) ++ t.reply ∷ []
+one_more : (told : List CountedReply) (t : CountedReply) → replies (told ++ t ∷ []) ≡ (replies told ++ replicate t.before (Ticked None None)) ++ t.reply ∷ []
 one_more told t =
     flat_map-append with_quiet told (t ∷ [])
     ∙ ap (λ xs. replies told ++ xs) (append-nil (with_quiet t))
     ∙ sym (append_assoc (replies told) (replicate t.before (Ticked None None)) (t.reply ∷ []))
 
-last_of : (j : ℕ) (told : List Told) (t : Told) → from_the_last (suc j) (replies (told ++ t ∷ []))
+last_of : (j : ℕ) (told : List CountedReply) (t : CountedReply) → from_the_last (suc j) (replies (told ++ t ∷ []))
     ≡ from_the_last j (replies told ++ replicate t.before (Ticked None None))
 last_of j told t =
     let before : List Reply = replies told ++ replicate t.before (Ticked None None) in
     ap (λ xs. from_the_last (suc j) xs) (one_more told t) ∙ in_first (suc j) j before (t.reply ∷ []) (omega arith)
 
-told_last : (told : List Told) (t : Told) → from_the_last 0 (replies (told ++ t ∷ [])) ≡ Some t.reply
+told_last : (told : List CountedReply) (t : CountedReply) → from_the_last 0 (replies (told ++ t ∷ [])) ≡ Some t.reply
 told_last told t =
     let before : List Reply = replies told ++ replicate t.before (Ticked None None) in
     ap (λ xs. from_the_last 0 xs) (one_more told t) ∙ in_last 0 before (t.reply ∷ []) (omega arith) ∙ at_place 0 (t.reply ∷ []) (omega arith)
 
-quiet_before : (j : ℕ) (told : List Told) (t : Told) → j < t.before → from_the_last (suc j) (replies (told ++ t ∷ [])) ≡ Some (Ticked None None)
+quiet_before : (j : ℕ) (told : List CountedReply) (t : CountedReply) → j < t.before → from_the_last (suc j) (replies (told ++ t ∷ [])) ≡ Some (Ticked None None)
 quiet_before j told t within =
     let quiet : List Reply = replicate t.before (Ticked None None) in
     last_of j told t ∙ in_last j (replies told) quiet (omega (arith, length-replicate t.before (Ticked None None)))
     ∙ in_equal j t.before (Ticked None None) within
 
-told_before_it : (j : ℕ) (told : List Told) (t : Told) → t.before ≤ j →
+told_before_it : (j : ℕ) (told : List CountedReply) (t : CountedReply) → t.before ≤ j →
     from_the_last (suc j) (replies (told ++ t ∷ [])) ≡ from_the_last (j - t.before) (replies told)
 told_before_it j told t past =
     let quiet : List Reply = replicate t.before (Ticked None None) in
     last_of j told t ∙ in_first j (j - t.before) (replies told) quiet (omega (arith, length-replicate t.before (Ticked None None)))
 
 -- the reply at a position before the last
-pub record IsTold (place k : ℕ) (told : List Told) (t : Told) : Type 0 where
+pub record IsTold (place k : ℕ) (told : List CountedReply) (t : CountedReply) : Type 0 where
   pub within : place < length told
   pub found : Some t ≡ cond (nat_lt place (length told)) (slice_get told (length told - place - 1)) None
   pub first : k ≡ length told - place - 1
 
-cut : (place k : ℕ) (told : List Told) (t : Told) → IsTold place k told t → take (length told - place) told ≡ take k told ++ t ∷ []
+cut : (place k : ℕ) (told : List CountedReply) (t : CountedReply) → IsTold place k told t → take (length told - place) told ≡ take k told ++ t ∷ []
 cut place k told t h =
     let within = h.within in
     let first = h.first in
@@ -121,19 +121,19 @@ cut place k told t h =
     let item : get_or told k t ≡ t = ap (λ i. get_or told i t) first ∙ get_or_from_slice_get told (length told - place - 1) t t there in
     ap (λ n. take n told) next ∙ take-suc told k t (omega arith) ∙ ap (λ x. take k told ++ x ∷ []) item
 
-pub at_told : (i place k : ℕ) (told : List Told) (t : Told) → IsTold place k told t → i ≡ 0 →
+pub at_told : (i place k : ℕ) (told : List CountedReply) (t : CountedReply) → IsTold place k told t → i ≡ 0 →
     from_the_last i (replies (take (length told - place) told)) ≡ Some t.reply
 at_told i place k told t h none = ap (λ n. from_the_last n (replies (take (length told - place) told))) none
     ∙ ap (λ ts. from_the_last 0 (replies ts)) (cut place k told t h) ∙ told_last (take k told) t
 
-pub at_quiet : (i place k : ℕ) (told : List Told) (t : Told) → IsTold place k told t → 1 ≤ i → i - 1 < t.before →
+pub at_quiet : (i place k : ℕ) (told : List CountedReply) (t : CountedReply) → IsTold place k told t → 1 ≤ i → i - 1 < t.before →
     from_the_last i (replies (take (length told - place) told)) ≡ Some (Ticked None None)
 at_quiet i place k told t h some within =
     let next : i ≡ suc (i - 1) = omega arith in
     ap (λ n. from_the_last n (replies (take (length told - place) told))) next ∙ ap (λ ts. from_the_last (suc (i - 1)) (replies ts)) (cut place k told t h)
     ∙ quiet_before (i - 1) (take k told) t within
 
-pub further : (i place k : ℕ) (told : List Told) (t : Told) → IsTold place k told t → 1 ≤ i → t.before ≤ i - 1 →
+pub further : (i place k : ℕ) (told : List CountedReply) (t : CountedReply) → IsTold place k told t → 1 ≤ i → t.before ≤ i - 1 →
     from_the_last i (replies (take (length told - place) told)) ≡ from_the_last (i - 1 - t.before) (replies (take k told))
 further i place k told t h some past =
     let next : i ≡ suc (i - 1) = omega arith in
@@ -142,7 +142,7 @@ further i place k told t h some past =
 
 -- ---- more of them
 
-pub rests : (told : List Told) (q n m : ℕ) → m ≡ min (q + n) KEPT → latest told m ≡ keep_last KEPT (latest told q ++ replicate n (Ticked None None))
+pub rests : (told : List CountedReply) (q n m : ℕ) → m ≡ min (q + n) KEPT → latest told m ≡ keep_last KEPT (latest told q ++ replicate n (Ticked None None))
 rests told q n m is =
     let r : Reply = Ticked None None in
     kept_min KEPT (q + n) m (replies told) r is
@@ -150,10 +150,10 @@ rests told q n m is =
     ∙ ap (λ xs. keep_last KEPT xs) (sym (append_assoc (replies told) (replicate q r) (replicate n r)))
     ∙ sym (kept_twice KEPT (replies told ++ replicate q r) (replicate n r))
 
-gives_some : (t : Told) → 1 ≤ length (with_quiet t)
+gives_some : (t : CountedReply) → 1 ≤ length (with_quiet t)
 gives_some t = omega (arith, length-append (replicate t.before (Ticked None None)) (t.reply ∷ []))
 
-pub tells : (told kept : List Told) (t : Told) → kept ≡ keep_last KEPT (told ++ t ∷ []) → latest kept 0 ≡ keep_last KEPT (latest told t.before ++ t.reply ∷ [])
+pub tells : (told kept : List CountedReply) (t : CountedReply) → kept ≡ keep_last KEPT (told ++ t ∷ []) → latest kept 0 ≡ keep_last KEPT (latest told t.before ++ t.reply ∷ [])
 tells told kept t is =
     ap (λ xs. keep_last KEPT xs) (append-nil (replies kept))
     ∙ ap (λ ts. keep_last KEPT (replies ts)) is

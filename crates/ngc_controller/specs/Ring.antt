@@ -17,8 +17,8 @@ pub record RingData : Type 0 where
   pub room : ℕ
 
 abbrev pub queue_of : Option LoadedData → List LoadedData → List Queued
-queue_of None behind = map (λ (l : LoadedData). l.queued) behind
-queue_of (Some head) behind = head.queued ∷ map (λ (l : LoadedData). l.queued) behind
+queue_of None afterwards = map (λ (l : LoadedData). l.queued) afterwards
+queue_of (Some head) afterwards = head.queued ∷ map (λ (l : LoadedData). l.queued) afterwards
 
 abbrev pub place_at : Option LoadedData → ℕ
 place_at None = 0
@@ -26,15 +26,15 @@ place_at (Some head) = head.place
 
 -- nothing waits without a head
 abbrev pub IsLed : Option LoadedData → List LoadedData → Type 0
-IsLed None behind = behind ≡ []
-IsLed (Some head) behind = Unit {0}
+IsLed None afterwards = afterwards ≡ []
+IsLed (Some head) afterwards = Unit {0}
 
 -- the invariant of a ring
-pub record IsRing (head : Option LoadedData) (behind : List LoadedData) (capacity : ℕ) :
+pub record IsRing (head : Option LoadedData) (afterwards : List LoadedData) (capacity : ℕ) :
     Type 0 where
   pub few : suc capacity ≤ MOST_LEGS
-  pub led : IsLed head behind
-  pub waits : AllByRecursion (λ (l : LoadedData). l.place ≡ 0) behind
+  pub led : IsLed head afterwards
+  pub waits : AllByRecursion (λ (l : LoadedData). l.place ≡ 0) afterwards
 
 abbrev pub head_of : List Queued → ℕ → Option LoadedData
 head_of [] p = None

@@ -22,7 +22,7 @@ pub(crate) const QUIET: Reply = Reply::Ticked {
 
 /// A reply, and the number of quiet ones directly before it.
 #[derive(Clone, Copy)]
-struct Told {
+struct CountedReply {
     before: u64,
     reply: Reply,
 }
@@ -31,7 +31,7 @@ struct Told {
 /// are only counted, so that many of them are stored at once.
 #[derive(Drop)]
 pub struct Recent<A: Allocator> {
-    told: HeapCircularBuffer<Told, A>,
+    told: HeapCircularBuffer<CountedReply, A>,
     /// The number of quiet ones at the end, at most the number that is stored.
     quiet: u64,
 }
@@ -51,7 +51,10 @@ impl<A: Allocator> Model for Recent<A> {
 
 // Returns the reply `index` positions before the last of these, counting the quiet ones before
 // each.
-fn reported_before<A: Allocator>(told: &HeapCircularBuffer<Told, A>, index: u64) -> Option<Reply>
+fn reported_before<A: Allocator>(
+    told: &HeapCircularBuffer<CountedReply, A>,
+    index: u64,
+) -> Option<Reply>
     ensures { result ≡ from_the_last index (replies told.now.items) }
 {
     let mut left = index;
@@ -97,7 +100,7 @@ impl<A: Allocator> Recent<A> {
     fn tell(&mut self, reply: Reply)
         ensures { self.new ≡ keep_last KEPT (self.old ++ reply ∷ []) }
     {
-        let told = Told {
+        let told = CountedReply {
             before: self.quiet,
             reply,
         };

@@ -17,7 +17,7 @@ use std::marker::Model;
 #[derive(Drop)]
 pub struct Ring<K: ArcKernel + Drop, A: Allocator> {
     head: Option<Loaded<K>>,
-    behind: HeapCircularBuffer<Loaded<K>, A>,
+    afterwards: HeapCircularBuffer<Loaded<K>, A>,
 }
 
 impl<K: ArcKernel + Drop, A: Allocator> Model for Ring<K, A> {
@@ -27,24 +27,24 @@ impl<K: ArcKernel + Drop, A: Allocator> Model for Ring<K, A> {
     ghost Value = { RingData };
 
     ghost view = { λ r. record {
-      loaded = queue_of r.head r.behind.items;
+      loaded = queue_of r.head r.afterwards.items;
       place = place_at r.head;
-      room = suc r.behind.capacity;
+      room = suc r.afterwards.capacity;
     } };
 
-    ghost invariant = { λ r. IsRing r.head r.behind.items r.behind.capacity };
+    ghost invariant = { λ r. IsRing r.head r.afterwards.items r.afterwards.capacity };
 }
 
 // Adds a command after others, if there is capacity.
 fn put<K: ArcKernel + Drop, A: Allocator>(
-    behind: &mut HeapCircularBuffer<Loaded<K>, A>,
+    afterwards: &mut HeapCircularBuffer<Loaded<K>, A>,
     loaded: Loaded<K>,
 )
-    requires { length behind.old.items < behind.old.capacity }
-    ensures items { behind.new.items ≡ behind.old.items ++ loaded ∷ [] }
-    ensures capacity { behind.new.capacity ≡ behind.old.capacity }
+    requires { length afterwards.old.items < afterwards.old.capacity }
+    ensures items { afterwards.new.items ≡ afterwards.old.items ++ loaded ∷ [] }
+    ensures capacity { afterwards.new.capacity ≡ afterwards.old.capacity }
 {
-    behind.push_back(loaded);
+    afterwards.push_back(loaded);
 }
 
 impl<K: ArcKernel + Drop, A: Allocator> Ring<K, A> {
@@ -55,8 +55,11 @@ impl<K: ArcKernel + Drop, A: Allocator> Ring<K, A> {
         ensures { IfOk result
             (λ (r : RingData). r ≡ record { loaded = []; place = 0; room = room }) }
     {
-        let behind = HeapCircularBuffer::with_capacity(alloc, room - 1)?;
-        Ok(Ring { head: None, behind })
+        let afterwards = HeapCircularBuffer::with_capacity(alloc, room - 1)?;
+        Ok(Ring {
+            head: None,
+            afterwards,
+        })
     }
 
     /// Returns the number of loaded commands, including the head.
@@ -65,7 +68,7 @@ impl<K: ArcKernel + Drop, A: Allocator> Ring<K, A> {
         ensures few { result ≤ self.now.room }
     {
         match self.head {
-            Some(_) => 1 + self.behind.len() as u32,
+            Some(_) => 1 + self.afterwards.len() as u32,
             None => 0,
         }
     }
@@ -81,7 +84,7 @@ impl<K: ArcKernel + Drop, A: Allocator> Ring<K, A> {
         if self.head.is_none() {
             self.head = Some(loaded);
         } else {
-            put(&mut self.behind, loaded);
+            put(&mut self.afterwards, loaded);
         }
     }
 
@@ -124,6 +127,6 @@ impl<K: ArcKernel + Drop, A: Allocator> Ring<K, A> {
         ensures place { self.new.place ≡ 0 }
         ensures room { self.new.room ≡ self.old.room }
     {
-        self.head = self.behind.pop_front();
+        self.head = self.afterwards.pop_front();
     }
 }

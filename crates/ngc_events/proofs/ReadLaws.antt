@@ -49,9 +49,9 @@ found : (number : ℕ) (text : List ℕ) (k : ℕ) → IsFirstByte (is_byte 10) 
     → parsed_from number text ≡ prefixed (parsed_line number (parsed_event (take k text))) (parsed_from (number + 1) (drop (k + 1) text))
 found number text k h = ap (parsed_lines number) (feed_found text k h) ∙ more_said number (take k text) (drop (k + 1) text)
 
-pub line_taken : (number : ℕ) (text line behind : List ℕ) (k : ℕ) (e : EventLine) → number ≤ 1000000 → IsFirstByte (is_byte 10) text (Some k)
-    → line ≡ take k text → behind ≡ drop (k + 1) text → Some e ≡ parsed_event line → parsed_from number text ≡ prefixed (Ok e) (parsed_from (number + 1) behind)
-line_taken number text line behind k e small h is_line is_behind said =
+pub line_taken : (number : ℕ) (text line afterwards : List ℕ) (k : ℕ) (e : EventLine) → number ≤ 1000000 → IsFirstByte (is_byte 10) text (Some k)
+    → line ≡ take k text → afterwards ≡ drop (k + 1) text → Some e ≡ parsed_event line → parsed_from number text ≡ prefixed (Ok e) (parsed_from (number + 1) afterwards)
+line_taken number text line afterwards k e small h is_line is_behind said =
     found number text k h
     ∙ ap (λ (r : Result EventLine EventsFault). prefixed r (parsed_from (number + 1) (drop (k + 1) text)))
     (line_few number (parsed_event (take k text)) small ∙ ap (λ (o : Option EventLine). ok_or o (BadLine number)) (ap parsed_event (sym is_line) ∙ sym said))
@@ -105,12 +105,12 @@ one_more items e (Ok others) = ap (λ (l : List EventLine). ok l) (sym (append_a
   ok l = Ok l
 one_more items e (Err fault) = refl
 
-pub read_more : (says : Result (List EventLine) EventsFault) (items more : List EventLine) (e : EventLine) (number next : ℕ) (text behind : List ℕ) →
+pub read_more : (says : Result (List EventLine) EventsFault) (items more : List EventLine) (e : EventLine) (number next : ℕ) (text afterwards : List ℕ) →
     says ≡ all_prefixed items (parsed_from number text)
-    → parsed_from number text ≡ prefixed (Ok e) (parsed_from (number + 1) behind) → more ≡ items ++ (e ∷ []) → next ≡ number + 1 →
-    says ≡ all_prefixed more (parsed_from next behind)
-read_more says items more e number next text behind h step is_more is_next =
-    h ∙ ap (all_prefixed items) step ∙ one_more items e (parsed_from (number + 1) behind) ∙ rw (is_more, is_next) refl
+    → parsed_from number text ≡ prefixed (Ok e) (parsed_from (number + 1) afterwards) → more ≡ items ++ (e ∷ []) → next ≡ number + 1 →
+    says ≡ all_prefixed more (parsed_from next afterwards)
+read_more says items more e number next text afterwards h step is_more is_next =
+    h ∙ ap (all_prefixed items) step ∙ one_more items e (parsed_from (number + 1) afterwards) ∙ rw (is_more, is_next) refl
 
 pub read_fails : (says : Result (List EventLine) EventsFault) (items : List EventLine) (number : ℕ) (text : List ℕ) (fault : EventsFault) →
     says ≡ all_prefixed items (parsed_from number text)

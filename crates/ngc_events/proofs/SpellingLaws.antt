@@ -69,13 +69,13 @@ last_spelled number last lines false e few h = absurd (none_said number (nat_le 
 -- a line and the lines after it
 record Parted (first : Result EventLine EventsFault) (others : Said) (lines : List EventLine) : Type 0 where
   line : EventLine
-  behind : List EventLine
+  afterwards : List EventLine
   first_is : first ≡ Ok line
-  others_are : others ≡ Ok behind
-  are : line ∷ behind ≡ lines
+  others_are : others ≡ Ok afterwards
+  are : line ∷ afterwards ≡ lines
 
 parted : (first : Result EventLine EventsFault) (others : Said) (lines : List EventLine) → prefixed first others ≡ Ok lines → Parted first others lines
-parted (Ok line) (Ok behind) lines h = record { line = line; behind = behind; first_is = refl; others_are = refl; are = ok_same (line ∷ behind) lines h }
+parted (Ok line) (Ok afterwards) lines h = record { line = line; afterwards = afterwards; first_is = refl; others_are = refl; are = ok_same (line ∷ afterwards) lines h }
 parted (Ok line) (Err fault) lines h = absurd (cc h)
 parted (Err fault) others lines h = absurd (cc h)
 
@@ -97,13 +97,13 @@ spelled number (part ∷ next ∷ parts) lines few h =
     let s = said_by number (nat_le number 1000000) (parsed_event part) p.line p.first_is in
     let first = event_spelled part p.line s.1 in
     let small : number ≤ 1000000 = no_more number s.0 in
-    let more = spelled (number + 1) (next ∷ parts) p.behind (omega (arith, small)) p.others_are in
+    let more = spelled (number + 1) (next ∷ parts) p.afterwards (omega (arith, small)) p.others_are in
     let words = words_of p.line.event p.line.times in
     subst (Spelled number (part ∷ next ∷ parts)) p.are (record {
       text =
           ap (λ (l : List ℕ). l ++ (10 ∷ join_with_byte 10 (next ∷ parts))) first.is ∙ ap (λ (l : List ℕ). words ++ (10 ∷ l)) more.text
-          ∙ sym (append_assoc words (10 ∷ []) (events_text p.behind));
-      given = and_from (is_given p.line.event p.line.times) (are_sent p.behind) first.given more.given;
+          ∙ sym (append_assoc words (10 ∷ []) (events_text p.afterwards));
+      given = and_from (is_given p.line.event p.line.times) (are_sent p.afterwards) first.given more.given;
       few = omega (arith, more.few);
     })
 

@@ -41,8 +41,8 @@ abbrev pub begins : List ℕ → List ℕ → Bool
 begins front line = bytes_eq (take (length front) line) front
 
 -- the rest of a line after such a front
-abbrev pub behind : List ℕ → List ℕ → List ℕ
-behind front line = drop (length front) line
+abbrev pub afterwards : List ℕ → List ℕ → List ℕ
+afterwards front line = drop (length front) line
 
 -- the event of a word
 unfoldable pub parsed_word : List ℕ → Option Event
@@ -57,9 +57,9 @@ parsed_word word =
 -- the event of a line without its line feed
 unfoldable pub parsed_event : List ℕ → Option EventLine
 parsed_event line =
-    if begins (codes "tick ") line then ticks (number_to 1000000 (behind (codes "tick ") line)) else
+    if begins (codes "tick ") line then ticks (number_to 1000000 (afterwards (codes "tick ") line)) else
     if begins (codes "override ") line then override
-    (number_to 255 (behind (codes "override ") line)) else
+    (number_to 255 (afterwards (codes "override ") line)) else
     option_map once (parsed_word line)
 
 -- ---- the lines of a text

@@ -39,11 +39,11 @@ pub fn read_events<A: Allocator>(alloc: A, text: &[u8]) -> Result<Vec<EventLine,
     let mut events = Vec::new(alloc);
     let mut left = text;
     while !left.is_empty() {
-        let (line, behind) = first_line(events.len(), left)?;
+        let (line, afterwards) = first_line(events.len(), left)?;
         if events.push(line).is_err() {
             return Err(EventsFault::Memory);
         }
-        left = behind;
+        left = afterwards;
     }
     Ok(events)
 }

@@ -4,7 +4,7 @@ use Rattle.std.proofs.Common.{if◌then◌else◌}
 use Rattle.std.specs.List.{list_any}
 use Rattle.std.proofs.lemmas.Bool.{ne_eqb}
 use Rattle.std.proofs.lemmas.List.{at_drop_more}
-use Rattle.ngc_fault_texts.specs.Told.{numbers_of, row_text, told_in}
+use Rattle.ngc_fault_texts.specs.Explanations.{numbers_of, row_text, told_in}
 use Rattle.ngc_fault_texts.specs.declared.parts.Part.{Part}
 use Rattle.ngc_fault_texts.specs.declared.parts.Row.{Row}
 

@@ -3,7 +3,7 @@ use Rattle.std.proofs.Common.{◌≡◌, ℕ, List, [], ◌∷◌, ◌++◌, Opt
 use Rattle.std.proofs.lemmas.List.{append_assoc, append-nil}
 use Rattle.std.specs.Io.KnownBytes.{Appends}
 use Rattle.ngc_text.specs.Written.{AppendsPrefix}
-use Rattle.ngc_fault_texts.specs.Told.{joined}
+use Rattle.ngc_fault_texts.specs.Explanations.{joined}
 use Rattle.ngc_text.proofs.AppendedTexts.{appends_both, begins_after}
 
 -- some bytes are written, and then the rest

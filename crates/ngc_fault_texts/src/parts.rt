@@ -1,6 +1,6 @@
 ghost use Rattle.std.specs.Prelude.{◌≡◌};
 ghost use Rattle.ngc_fault_texts.specs.Numbers.{fault_numbers};
-ghost use Rattle.ngc_fault_texts.specs.Told.{numbers_of};
+ghost use Rattle.ngc_fault_texts.specs.Explanations.{numbers_of};
 
 use crate::programs::{places, values, words};
 use crate::reading::{files, lines};

@@ -4,9 +4,9 @@ ghost use Rattle.std.specs.Io.KnownBytes.{Appends};
 ghost use Rattle.ngc_text.specs.Failures.{CountsFailure};
 ghost use Rattle.ngc_text.specs.Written.{AppendsPrefix};
 ghost use Rattle.ngc_fault_texts.specs.Numbers.{is_fault};
-ghost use Rattle.ngc_fault_texts.specs.Told.{FailsByWriting, Tells, all_of, column_line};
-ghost use Rattle.ngc_fault_texts.specs.Told.{explanation_prefix, explain_fault_number, fix_of, row_text};
-ghost use Rattle.ngc_fault_texts.specs.Told.{told, told_in};
+ghost use Rattle.ngc_fault_texts.specs.Explanations.{FailsByWriting, ExplainsOrFails, all_of, column_line};
+ghost use Rattle.ngc_fault_texts.specs.Explanations.{explanation_prefix, explain_fault_number, fix_of, row_text};
+ghost use Rattle.ngc_fault_texts.specs.Explanations.{told, told_in};
 
 use crate::parts::{Part, Row, page};
 use itoa::Buffer;
@@ -182,7 +182,7 @@ pub fn explain<W: Sink>(number: u16, output: &mut W) -> Result<(), ExplainFault>
     ensures unknown { (result ≡ Err ExplainFault.Unknown) ↔ (is_fault number ≡ false) }
     // The output is the rows with this number of a page that has all faults, or a prefix of them if
     // a write failed.
-    ensures tells { Tells number (W.written output.old) (W.written output.new) result }
+    ensures tells { ExplainsOrFails number (W.written output.old) (W.written output.new) result }
     // A fault of writing results only from a sink that failed.
     ensures sink { FailsByWriting result (W.failures output.old) (W.failures output.new) }
 {

@@ -39,7 +39,7 @@ module _ (setup : Setup) (block_delete : Bool) (lines : List Line) (rs : List Re
       → left setup block_delete lines rs i s
       ≡ then_changes number s (after_line setup block_delete number next.reading s) (λ t. left setup block_delete lines rs (i + 1) t)
   left_step running next =
-      ap (λ (l : List NumberedLine). changes_from setup (remaining block_delete l) s) next.behind
+      ap (λ (l : List NumberedLine). changes_from setup (remaining block_delete l) s) next.afterwards
       ∙ step setup block_delete number next.reading (with_readings (drop (i + 1) lines) (drop (i + 1) rs)) s running
 
   left_done : (t : State) (b : Bool) → s.ended ≡ false → (next : NextLine lines rs i number bytes)

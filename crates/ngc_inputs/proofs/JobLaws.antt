@@ -12,7 +12,7 @@ use Rattle.ngc_canonical.specs.declared.fault.Fault.{Fault}
 use Rattle.ngc_canonical.specs.Meaning.{Program as ProgramLines, Fails, meaning, parsed_program}
 use Rattle.ngc_machine_files.specs.Machine.{MachineFile}
 use Rattle.ngc_certificate_text.specs.Certificate.{CertificateData}
-use Rattle.ngc_certificate_text.specs.Said.{parsed_certificate}
+use Rattle.ngc_certificate_text.specs.ParsedPart.{parsed_certificate}
 use Rattle.ngc_certificate_text.specs.Joined.{Form}
 use Rattle.ngc_certificate_text.specs.Spelling.{spelling}
 use Rattle.ngc_certificate_text.specs.declared.piece.Setting.{Setting}

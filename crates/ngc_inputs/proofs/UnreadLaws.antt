@@ -29,12 +29,12 @@ AllRead bytes [] = Unit {0}
 AllRead bytes (input ∷ more) = IfSome (bytes input.name) (IsReadAs input.kind) × AllRead bytes more
 
 -- the report on one file alone, or on the only one of some
-abbrev pub Told : (Option (List ℕ) → Type 0) → FileBytes → List Input → ℕ → ℕ → Option InputFault → Type 0
-Told fails bytes files old new why = MatchOption why (new ≡ old) (ReportsFirstUnread fails bytes files old new)
+abbrev pub ReportsIfUnread : (Option (List ℕ) → Type 0) → FileBytes → List Input → ℕ → ℕ → Option InputFault → Type 0
+ReportsIfUnread fails bytes files old new why = MatchOption why (new ≡ old) (ReportsFirstUnread fails bytes files old new)
 
 pub unread_told : {T : Type 0} (fails : Option (List ℕ) → Type 0) (bytes : FileBytes) (files : List Input) (old new : ℕ) (r : Result T AnswerFault)
     (e : AnswerFault)
-    → IsErrAnd r (λ a. a ≡ e) → Told fails bytes files old new (unread_by e) → FailsByInput fails bytes files old new r
+    → IsErrAnd r (λ a. a ≡ e) → ReportsIfUnread fails bytes files old new (unread_by e) → FailsByInput fails bytes files old new r
 unread_told fails bytes files old new r e is told = turned r e (FailsByInput fails bytes files old new) is told
 
 pub first_before : (P : Kind → Option (List ℕ) → Type 0) (bytes : FileBytes) (files more : List Input) → AtFirst P bytes files → AtFirst P bytes (files ++ more)
@@ -53,7 +53,7 @@ all_read bytes (input ∷ files) more (read, all) all_more = (read, all_read byt
 
 -- further files follow
 pub reported_before : (fails : Option (List ℕ) → Type 0) (bytes : FileBytes) (files more : List Input) (old new : ℕ) (why : Option InputFault)
-    → Told fails bytes files old new why → Told fails bytes (files ++ more) old new why
+    → ReportsIfUnread fails bytes files old new why → ReportsIfUnread fails bytes (files ++ more) old new why
 reported_before fails bytes files more old new None told = told
 reported_before fails bytes files more old new (Some fault) told = first_before (λ kind known. ReportsKindUnread fails kind known old new fault) bytes files more told
 
@@ -61,8 +61,8 @@ reported_before fails bytes files more old new (Some fault) told = first_before 
 pub told_behind : (fails : Option (List ℕ) → Type 0) (bytes after : FileBytes) (files : List Input) (kind : Kind) (name : Option (List ℕ)) (more : List Input)
     (old mid new : ℕ) (why : Option InputFault)
     → AllRead bytes files → after name ≡ bytes name → mid ≡ old
-    → Told fails after (record { kind = kind; name = name } ∷ []) mid new why →
-    Told fails bytes (files ++ record { kind = kind; name = name } ∷ more) old new why
+    → ReportsIfUnread fails after (record { kind = kind; name = name } ∷ []) mid new why →
+    ReportsIfUnread fails bytes (files ++ record { kind = kind; name = name } ∷ more) old new why
 told_behind fails bytes after files kind name more old mid new None all same_bytes same told = told ∙ same
 told_behind fails bytes after files kind name more old mid new (Some fault) all same_bytes same (inl tells) =
     first_behind (λ k known. ReportsKindUnread fails k known old new fault) bytes files (record { kind = kind; name = name } ∷ more) all
@@ -74,9 +74,9 @@ told_behind fails bytes after files kind name more old mid new (Some fault) all 
 pub unopened : (fails : Option (List ℕ) → Type 0) (bytes : FileBytes) (files : List Input) (kind : Kind) (name : Option (List ℕ)) (more : List Input)
     (old mid new : ℕ) (e : InputFault)
     → e ≡ inputs.Device → AllRead bytes files → mid ≡ old → Rises mid new →
-    Told fails bytes (files ++ record { kind = kind; name = name } ∷ more) old new (Some e)
+    ReportsIfUnread fails bytes (files ++ record { kind = kind; name = name } ∷ more) old new (Some e)
 unopened fails bytes files kind name more old mid new e is all same rises =
-    subst (λ (f : InputFault). Told fails bytes (files ++ record { kind = kind; name = name } ∷ more) old new (Some f)) (sym is)
+    subst (λ (f : InputFault). ReportsIfUnread fails bytes (files ++ record { kind = kind; name = name } ∷ more) old new (Some f)) (sym is)
     (told_behind fails bytes bytes files kind name more old mid new (Some inputs.Device) all refl same (inl (by_kind kind)))
   where
     by_kind : (kind : Kind) → ReportsKindUnread fails kind (bytes name) mid new inputs.Device
@@ -128,7 +128,7 @@ placed_read bytes machine tools origins shop said = both machine tools said
 -- after a machine file that was read
 pub tools_told : (fails : Option (List ℕ) → Type 0) (bytes after : FileBytes) (machine tools : Option (List ℕ)) (old mid new : ℕ) (why : Option InputFault)
     → AllRead bytes (setup_input OfMachine machine) → KeepsFiles bytes after → mid ≡ old
-    → Told fails after (setup_input OfTools tools) mid new why → Told fails bytes (shop_inputs machine tools) old new why
+    → ReportsIfUnread fails after (setup_input OfTools tools) mid new why → ReportsIfUnread fails bytes (shop_inputs machine tools) old new why
 tools_told fails bytes after machine tools old mid new None read keeps same told = told ∙ same
 tools_told fails bytes after machine None old mid new (Some e) read keeps same told = absurd told
 tools_told fails bytes after machine (Some name) old mid new (Some e) read keeps same told =
@@ -143,7 +143,7 @@ machine_read bytes (Some name) m said = (is_read machine_file m (bytes (Some nam
 
 -- of the source that a program was read from
 pub program_failed : (fails : Option (List ℕ) → Type 0) (bytes : FileBytes) (name : Option (List ℕ)) (old new : ℕ) (fault : ReadFault)
-    → new ≡ old → (fault ≡ reads.Device → fails (bytes name)) → Told fails bytes (record { kind = OfProgram; name = name } ∷ []) old new (program_unread fault)
+    → new ≡ old → (fault ≡ reads.Device → fails (bytes name)) → ReportsIfUnread fails bytes (record { kind = OfProgram; name = name } ∷ []) old new (program_unread fault)
 program_failed fails bytes name old new (reads.Line line e) same failed = same
 program_failed fails bytes name old new reads.NoEnd same failed = same
 program_failed fails bytes name old new reads.TooManyLines same failed = same
@@ -159,7 +159,7 @@ program_tried fails bytes name old new (Err fault) same failed = program_failed 
 -- of the source that a certificate was read from
 pub certificate_failed : (fails : Option (List ℕ) → Type 0) (bytes : FileBytes) (name : Option (List ℕ)) (old new : ℕ) (fault : CertificateFault)
     → new ≡ old → (fault ≡ texts.ReadFailed → fails (bytes name)) →
-    Told fails bytes (record { kind = OfCertificate; name = name } ∷ []) old new (certificate_unread fault)
+    ReportsIfUnread fails bytes (record { kind = OfCertificate; name = name } ∷ []) old new (certificate_unread fault)
 certificate_failed fails bytes name old new texts.Memory same failed = same
 certificate_failed fails bytes name old new texts.WrongHeader same failed = same
 certificate_failed fails bytes name old new (texts.BadLine line) same failed = same
@@ -177,14 +177,14 @@ certificate_tried fails bytes name old new (Err fault) same failed = certificate
 
 pub program_told : (fails : Option (List ℕ) → Type 0) (bytes : FileBytes) (files : List Input) (name : Option (List ℕ)) (old new : ℕ) (e : ReadFault)
     → AllRead bytes files → new ≡ old → (answers.Read e ≡ answers.Read reads.Device → fails (bytes name))
-    → Told fails bytes (files ++ record { kind = OfProgram; name = name } ∷ []) old new (program_unread e)
+    → ReportsIfUnread fails bytes (files ++ record { kind = OfProgram; name = name } ∷ []) old new (program_unread e)
 program_told fails bytes files name old new e all same failed =
     told_behind fails bytes bytes files OfProgram name [] old old new (program_unread e) all refl refl
     (program_failed fails bytes name old new e same (λ is. failed (ap answers.Read is)))
 
 pub list_told : (fails : Option (List ℕ) → Type 0) (bytes : FileBytes) (files : List Input) (name : Option (List ℕ)) (old new : ℕ) (fault : AnswerFault)
     → OfListing fault → AllRead bytes files → new ≡ old → (fault ≡ answers.Read reads.Device → fails (bytes name))
-    → Told fails bytes (files ++ record { kind = OfProgram; name = name } ∷ []) old new (unread_by fault)
+    → ReportsIfUnread fails bytes (files ++ record { kind = OfProgram; name = name } ∷ []) old new (unread_by fault)
 list_told fails bytes files name old new (answers.Read e) of all same failed = program_told fails bytes files name old new e all same failed
 list_told fails bytes files name old new (answers.Program e) of all same failed = same
 list_told fails bytes files name old new (answers.Write e) of all same failed = same
@@ -192,7 +192,7 @@ list_told fails bytes files name old new _ of all same failed = absurd of
 
 pub certify_told : (fails : Option (List ℕ) → Type 0) (bytes : FileBytes) (files : List Input) (name : Option (List ℕ)) (old new : ℕ) (fault : AnswerFault)
     → OfCertifying fault → AllRead bytes files → new ≡ old → (fault ≡ answers.Read reads.Device → fails (bytes name))
-    → Told fails bytes (files ++ record { kind = OfProgram; name = name } ∷ []) old new (unread_by fault)
+    → ReportsIfUnread fails bytes (files ++ record { kind = OfProgram; name = name } ∷ []) old new (unread_by fault)
 certify_told fails bytes files name old new (answers.Read e) of all same failed = program_told fails bytes files name old new e all same failed
 certify_told fails bytes files name old new (answers.Refused setting e) of all same failed = same
 certify_told fails bytes files name old new (answers.Make e) of all same failed = same
@@ -203,15 +203,15 @@ certify_told fails bytes files name old new _ of all same failed = absurd of
 pub program_again : (fails : Option (List ℕ) → Type 0) (bytes later : FileBytes) (files : List Input) (program : Option (List ℕ)) (name : List ℕ)
     (old mid new : ℕ) (answer : AnswerFault)
     → program ≡ Some name → AllRead bytes files → later (Some name) ≡ bytes (Some name) → mid ≡ old
-    → Told fails later (record { kind = OfProgram; name = Some name } ∷ []) mid new (unread_by answer)
-    → Told fails bytes (files ++ record { kind = OfProgram; name = program } ∷ []) old new (unread_by answer)
+    → ReportsIfUnread fails later (record { kind = OfProgram; name = Some name } ∷ []) mid new (unread_by answer)
+    → ReportsIfUnread fails bytes (files ++ record { kind = OfProgram; name = program } ∷ []) old new (unread_by answer)
 program_again fails bytes later files program name old mid new answer named all same_bytes same told =
-    subst (λ (p : Option (List ℕ)). Told fails bytes (files ++ record { kind = OfProgram; name = p } ∷ []) old new (unread_by answer)) (sym named)
+    subst (λ (p : Option (List ℕ)). ReportsIfUnread fails bytes (files ++ record { kind = OfProgram; name = p } ∷ []) old new (unread_by answer)) (sym named)
     (told_behind fails bytes later files OfProgram (Some name) [] old mid new (unread_by answer) all same_bytes same told)
 
 pub check_told : (fails : Option (List ℕ) → Type 0) (bytes : FileBytes) (files : List Input) (name : Option (List ℕ)) (old new : ℕ) (fault : AnswerFault)
     → OfChecking fault → AllRead bytes files → new ≡ old → (fault ≡ answers.Certificate texts.ReadFailed → fails (bytes name))
-    → Told fails bytes (files ++ record { kind = OfCertificate; name = name } ∷ []) old new (unread_by fault)
+    → ReportsIfUnread fails bytes (files ++ record { kind = OfCertificate; name = name } ∷ []) old new (unread_by fault)
 check_told fails bytes files name old new (answers.Certificate e) of all same failed =
     told_behind fails bytes bytes files OfCertificate name [] old old new (certificate_unread e) all refl refl
     (certificate_failed fails bytes name old new e same (λ is. failed (ap answers.Certificate is)))
@@ -220,7 +220,7 @@ check_told fails bytes files name old new (answers.Write e) of all same failed =
 check_told fails bytes files name old new _ of all same failed = absurd of
 
 pub run_told : (fails : Option (List ℕ) → Type 0) (bytes : FileBytes) (files : List Input) (old new : ℕ) (fault : AnswerFault)
-    → OfRunning fault → new ≡ old → Told fails bytes files old new (unread_by fault)
+    → OfRunning fault → new ≡ old → ReportsIfUnread fails bytes files old new (unread_by fault)
 run_told fails bytes files old new (answers.Events e) of same = same
 run_told fails bytes files old new (answers.Check e) of same = same
 run_told fails bytes files old new answers.Memory of same = same
@@ -230,7 +230,7 @@ run_told fails bytes files old new _ of same = absurd of
 -- the source of events is the last one
 pub live_told : (fails : Option (List ℕ) → Type 0) (bytes : FileBytes) (files : List Input) (old new : ℕ) (fault : AnswerFault)
     → OfLiving fault → AllRead bytes files → new ≡ old → (fault ≡ answers.Input inputs.Device → fails (bytes None)) →
-    Told fails bytes (files ++ record { kind = OfSource; name = None } ∷ []) old new (unread_by fault)
+    ReportsIfUnread fails bytes (files ++ record { kind = OfSource; name = None } ∷ []) old new (unread_by fault)
 live_told fails bytes files old new (answers.Input inputs.Device) of all same failed =
     told_behind fails bytes bytes files OfSource None [] old old new (Some inputs.Device) all refl refl (inl (inr (same, failed refl)))
 live_told fails bytes files old new (answers.Events e) of all same failed = same
@@ -240,7 +240,7 @@ live_told fails bytes files old new (answers.Write e) of all same failed = same
 live_told fails bytes files old new _ of all same failed = absurd of
 
 pub draw_told : (fails : Option (List ℕ) → Type 0) (bytes : FileBytes) (files : List Input) (old new : ℕ) (fault : AnswerFault)
-    → OfDrawing fault → new ≡ old → Told fails bytes files old new (unread_by fault)
+    → OfDrawing fault → new ≡ old → ReportsIfUnread fails bytes files old new (unread_by fault)
 draw_told fails bytes files old new (answers.Program e) of same = same
 draw_told fails bytes files old new (answers.Check e) of same = same
 draw_told fails bytes files old new answers.Memory of same = same

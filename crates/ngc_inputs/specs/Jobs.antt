@@ -15,7 +15,7 @@ use Rattle.ngc_certificate_text.specs.declared.piece.Setting.TheVariants.{Off, O
 use Rattle.ngc_certificate_text.specs.declared.fault.CertificateFault.{CertificateFault}
 use Rattle.ngc_certificate_text.specs.declared.fault.CertificateFault.TheVariants as texts
 use Rattle.ngc_certificate_text.specs.Certificate.{CertificateData}
-use Rattle.ngc_certificate_text.specs.Said.{parsed_certificate}
+use Rattle.ngc_certificate_text.specs.ParsedPart.{parsed_certificate}
 use Rattle.ngc_certificate_text.specs.Joined.{Form, Parted}
 use Rattle.ngc_certificate_text.specs.Spelling.{spelling}
 use Rattle.ngc_command_line.specs.declared.options.Format.{Format}

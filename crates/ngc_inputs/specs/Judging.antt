@@ -3,7 +3,7 @@ use Rattle.std.specs.Prelude.{◌≡◌, ℕ, List, Result, Ok, Err}
 use Rattle.ngc_canonical.specs.Meaning.{Program as ProgramLines}
 use Rattle.ngc_canonical.specs.State.{Setup}
 use Rattle.ngc_certificate_text.specs.Certificate.{CertificateData}
-use Rattle.ngc_certificate_text.specs.Said.{parsed_certificate}
+use Rattle.ngc_certificate_text.specs.ParsedPart.{parsed_certificate}
 use Rattle.ngc_certificate_text.specs.declared.fault.CertificateFault.{CertificateFault}
 use Rattle.ngc_checker.specs.Accepted.{AcceptedData, Answers}
 use Rattle.ngc_checker.specs.declared.fault.CheckFault.{CheckFault}

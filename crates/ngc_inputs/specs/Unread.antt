@@ -1,7 +1,7 @@
 -- Which file isn't read, and why. Our own.
 use Rattle.std.specs.Prelude.{◌≡◌, ◌<◌, ◌⊎◌, ℕ, List, [], ◌∷◌, ◌++◌, length, Option, Some, None}
 use Rattle.std.specs.Prelude.{MatchOption, Result, Ok, Err, IsOk, IfSome}
-use Rattle.ngc_certificate_text.specs.Said.{parsed_certificate}
+use Rattle.ngc_certificate_text.specs.ParsedPart.{parsed_certificate}
 use Rattle.ngc_certificate_text.specs.declared.fault.CertificateFault.{CertificateFault}
 use Rattle.ngc_certificate_text.specs.declared.fault.CertificateFault.TheVariants as texts
 use Rattle.ngc_events.specs.Events.{parsed_events}

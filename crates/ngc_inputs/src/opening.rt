@@ -1,8 +1,8 @@
 //! Programs and certificates, from the files that the command line names.
 ghost use Rattle.std.specs.Prelude.{◌≡◌, [], ◌∷◌, IfErr, IfOk, IfSome, IsSome, Some, option_map};
-ghost use Rattle.ngc_certificate_text.specs.Contents.{said_of};
+ghost use Rattle.ngc_certificate_text.specs.Contents.{certificate_data};
 ghost use Rattle.ngc_certificate_text.specs.Given.{CertificateResultIs};
-ghost use Rattle.ngc_certificate_text.specs.Said.{parsed_certificate};
+ghost use Rattle.ngc_certificate_text.specs.ParsedPart.{parsed_certificate};
 ghost use Rattle.ngc_line_reader.specs.ProgramText.{program_of, HaveReadings};
 ghost use Rattle.ngc_line_reader.specs.ProgramView.{text_in, OutcomeIs};
 ghost use Rattle.ngc_text.specs.Failures.{CountsFailure};
@@ -60,7 +60,7 @@ pub fn read_certificate<F: Files>(
     files: &mut F,
 ) -> Result<Certificate<Global>, CertificateFault>
     ensures said { IfSome (F.bytes files.old (Some name.now))
-        (λ bytes. CertificateResultIs said_of result (parsed_certificate bytes)) }
+        (λ bytes. CertificateResultIs certificate_data result (parsed_certificate bytes)) }
     ensures keeps { KeepsFiles (F.bytes files.old) (F.bytes files.new) }
     // 901 is returned only where the file can't be opened or its source fails.
     ensures unread { FailsBy certificate_unread (SourceFails F.R.remaining F.R.failures)

@@ -64,10 +64,10 @@ first_line b (l ∷ ls) = (l, ls, refl)
 
 -- a line that continues
 split_on : (b : ℕ) (cur rest : List ℕ) → HasNoLineFeed (b ∷ cur) → GoesOn split_lines (b ∷ cur) rest
-split_on b [] rest h = let f = first_line b (split_lines rest) in record { more = f.0; behind = f.1; split = rw (not_feed b h.0) f.2 }
+split_on b [] rest h = let f = first_line b (split_lines rest) in record { more = f.0; afterwards = f.1; split = rw (not_feed b h.0) f.2 }
 split_on b (c ∷ cur) rest h =
     let g = split_on c cur rest h.1 in
-    record { more = g.more; behind = g.behind; split = rw (not_feed b h.0, g.split) refl }
+    record { more = g.more; afterwards = g.afterwards; split = rw (not_feed b h.0, g.split) refl }
 
 split_long : (line rest : List ℕ) → HasNoLineFeed line → 256 < length line → GoesOn split_lines line rest
 split_long [] rest h long = absurd (omega (arith, long))
@@ -88,25 +88,25 @@ firm_here line rest h = firm_on [] line (10 ∷ rest) h
 -- a line that is too long is certain
 record Stands (line rest : List ℕ) : Type 0 where
   more : List ℕ
-  behind : List (List ℕ)
-  split : certain_after line rest ≡ (line ++ more) ∷ behind
+  afterwards : List (List ℕ)
+  split : certain_after line rest ≡ (line ++ more) ∷ afterwards
 
 stands_more : (b : ℕ) (line rest : List ℕ) (x : Bool) → (b == 10) ≡ x → Stands (line ++ (b ∷ [])) rest → Stands line (b ∷ rest)
 stands_more b line rest true e s =
-    record { more = []; behind = firm_lines rest; split = rw e (ap (λ (l : List ℕ). l ∷ firm_lines rest) (sym (append-nil line))) }
+    record { more = []; afterwards = firm_lines rest; split = rw e (ap (λ (l : List ℕ). l ∷ firm_lines rest) (sym (append-nil line))) }
 stands_more b line rest false e s =
-    record { more = b ∷ s.more; behind = s.behind; split = rw e (s.split ∙ ap (λ (l : List ℕ). l ∷ s.behind) (append_assoc line (b ∷ []) s.more)) }
+    record { more = b ∷ s.more; afterwards = s.afterwards; split = rw e (s.split ∙ ap (λ (l : List ℕ). l ∷ s.afterwards) (append_assoc line (b ∷ []) s.more)) }
 
 stands : (line rest : List ℕ) → 256 < length line → Stands line rest
 stands line [] long =
     let e : nat_le (length line) 256 ≡ false = grind (arith, nat_tests) in
-    record { more = []; behind = []; split = rw e (ap (λ (l : List ℕ). l ∷ []) (sym (append-nil line))) }
+    record { more = []; afterwards = []; split = rw e (ap (λ (l : List ℕ). l ∷ []) (sym (append-nil line))) }
 stands line (b ∷ rest) long = stands_more b line rest (b == 10) refl (stands (line ++ (b ∷ [])) rest (omega (arith, length-append line (b ∷ []))))
 
 firm_long : (line rest : List ℕ) → HasNoLineFeed line → 256 < length line → GoesOn firm_lines line rest
 firm_long line rest h long =
     let s = stands line rest long in
-    record { more = s.more; behind = s.behind; split = firm_on [] line rest h ∙ s.split }
+    record { more = s.more; afterwards = s.afterwards; split = firm_on [] line rest h ∙ s.split }
 
 pub firm_parts : PartsLines firm_lines
 firm_parts = record { ends = firm_here; long = firm_long }

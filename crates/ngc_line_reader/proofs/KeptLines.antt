@@ -10,7 +10,7 @@ use Rattle.ngc_line_reader.specs.declared.fault.LineFault.{LineFault}
 use Rattle.ngc_line_reader.specs.Program.{Line}
 use Rattle.ngc_line_reader.specs.Text.{text, columns, place_in}
 use Rattle.ngc_line_reader.specs.ReadLine.{line_read}
-use Rattle.ngc_line_reader.specs.ScanLine.{Parts, Said, said_of, parts_of, text_at}
+use Rattle.ngc_line_reader.specs.ScanLine.{Parts, ParsedLine, parsed_line_of, parts_of, text_at}
 use Rattle.ngc_line_reader.specs.Stored.{line_of}
 use Rattle.ngc_line_reader.specs.declared.line.Line.{Line as HeldLine}
 use Rattle.ngc_line_reader.specs.Shown.{ShowsReading, items_of}
@@ -19,7 +19,7 @@ use Rattle.ngc_line_reader.specs.Symbols.{symbols_from}
 use Rattle.ngc_line_reader.proofs.KeptSymbols.{loads_back}
 use Rattle.ngc_line_reader.specs.Kept.{AllKept, StoredLine, by_numbers, by_symbols, SymbolsKept, symbols_kept_of, is_numbered, numbered_words, stored_contents}
 use Rattle.ngc_line_reader.specs.Kept.{LiesWithin, Keeps, AreWithin, AreKept, parts_at, parsed_in, parsed_line, line_kept}
-use Rattle.ngc_line_reader.specs.Grammar.{behind}
+use Rattle.ngc_line_reader.specs.Grammar.{optional_part}
 use Rattle.ngc_line_reader.specs.Held.{all_tokens, words_from, settings_from}
 use Rattle.ngc_line_reader.specs.Words.{pairs_of, number_words, SaysNumbers, SaysDeleted}
 use Rattle.ngc_line_reader.specs.declared.letter.Letter.{Letter}
@@ -41,9 +41,9 @@ within_more all [] e w h = (h, tt)
 within_more all (x ∷ ends) e w h = (w.0, within_more all ends e w.1 h)
 
 -- and one more
-pub within_after : (all : AllKept) (ends behind : List LineEnd) (e : LineEnd) → behind ≡ ends ++ (e ∷ []) → AreWithin all ends → LiesWithin all e.parts.kept →
-    AreWithin all behind
-within_after all ends behind e is w h = subst (λ (l : List LineEnd). AreWithin all l) (sym is) (within_more all ends e w h)
+pub within_after : (all : AllKept) (ends afterwards : List LineEnd) (e : LineEnd) → afterwards ≡ ends ++ (e ∷ []) → AreWithin all ends → LiesWithin all e.parts.kept →
+    AreWithin all afterwards
+within_after all ends afterwards e is w h = subst (λ (l : List LineEnd). AreWithin all l) (sym is) (within_more all ends e w h)
 
 same_kept : (old new : AllKept) (ends : List LineEnd) → Keeps old new → AreWithin old ends → map (line_kept new) ends ≡ map (line_kept old) ends
 same_kept old new [] keeps w = refl
@@ -57,10 +57,10 @@ pub kept_stays : (old new : AllKept) (lines : List Line) (ends : List LineEnd) �
 kept_stays old new lines ends keeps w h = h ∙ sym (same_kept old new ends keeps w)
 
 -- and one more line is stored
-pub kept_after : (all : AllKept) (lines after : List Line) (ends behind : List LineEnd) (line : Line) (e : LineEnd) → after ≡ lines ++ (line ∷ []) →
-    behind ≡ ends ++ (e ∷ []) → AreKept all lines ends
-    → parsed_line line ≡ line_kept all e → AreKept all after behind
-kept_after all lines after ends behind line e a b h same =
+pub kept_after : (all : AllKept) (lines after : List Line) (ends afterwards : List LineEnd) (line : Line) (e : LineEnd) → after ≡ lines ++ (line ∷ []) →
+    afterwards ≡ ends ++ (e ∷ []) → AreKept all lines ends
+    → parsed_line line ≡ line_kept all e → AreKept all after afterwards
+kept_after all lines after ends afterwards line e a b h same =
     ap (map parsed_line) a
     ∙ map-push parsed_line lines line
     ∙ ap (λ l. l ++ (parsed_line line ∷ [])) h
@@ -69,7 +69,7 @@ kept_after all lines after ends behind line e a b h same =
     ∙ sym (ap (map (line_kept all)) b)
 
 -- a line that was read is stored
-pub reading_kept : (all : AllKept) (number : ℕ) (bytes : List ℕ) (reading : HeldLine) (e : LineEnd) → line_read bytes ≡ Ok (said_of reading) →
+pub reading_kept : (all : AllKept) (number : ℕ) (bytes : List ℕ) (reading : HeldLine) (e : LineEnd) → line_read bytes ≡ Ok (parsed_line_of reading) →
     parts_at all e.parts.kept ≡ stored_contents (parts_of reading) → e.parts.deleted ≡ reading.deleted
     → parsed_line (line_of number bytes) ≡ line_kept all e
 reading_kept all number bytes reading e read parts deleted =
@@ -125,12 +125,12 @@ items_are said kept parts is words settings marks =
 
 -- the contents of a line that is stored
 record SaysKept (bytes : List ℕ) (d : Bool) (kept : StoredLine) : Type 0 where
-  said : Said
+  said : ParsedLine
   takes : TakesText (place_in (columns bytes)) (text bytes) said
   deletes : said.deleted ≡ d
   keeps : stored_contents said.parts ≡ kept
 
-parsed_from : (bytes : List ℕ) (found : Result Said LineFault) (d : Bool) (kept : StoredLine) → text_at (place_in (columns bytes)) (text bytes) ≡ found
+parsed_from : (bytes : List ℕ) (found : Result ParsedLine LineFault) (d : Bool) (kept : StoredLine) → text_at (place_in (columns bytes)) (text bytes) ≡ found
     → parsed_in found ≡ Some (d, kept) → SaysKept bytes d kept
 parsed_from bytes (Err fault) d kept is same = absurd (cc same)
 parsed_from bytes (Ok s) d kept is same =
@@ -158,8 +158,8 @@ shown_line bytes kept d deleted parts same out words settings marks =
       reads = (w.is, w.spelled);
       limit = w.limit;
       shows = record {
-        deletes = out ∙ sym k.deletes ∙ ap (λ (x : Said). x.deleted) w.says;
-        says = items_are k.said.parts kept parts k.keeps words settings marks ∙ ap (λ (x : Said). items_of x.parts) w.says;
+        deletes = out ∙ sym k.deletes ∙ ap (λ (x : ParsedLine). x.deleted) w.says;
+        says = items_are k.said.parts kept parts k.keeps words settings marks ∙ ap (λ (x : ParsedLine). items_of x.parts) w.says;
       };
     }
 
@@ -170,7 +170,7 @@ deleted_line bytes d kept same =
     record {
       reading = k.takes.r;
       reads = (k.takes.is, k.takes.spelled);
-      says = sym k.deletes ∙ ap (λ (x : Said). x.deleted) k.takes.says;
+      says = sym k.deletes ∙ ap (λ (x : ParsedLine). x.deleted) k.takes.says;
     }
 
 both : (a b : Bool) → (a && b) ≡ true → (a ≡ true) × (b ≡ true)
@@ -189,9 +189,9 @@ numbered_line bytes d ws same =
     let k = says_kept bytes (nat_le 257 (length bytes)) d (by_numbers ws) refl same in
     let w = k.takes in
     let place = place_in (columns bytes) in
-    let end : List ℕ = behind 59 w.r.remark in
+    let end : List ℕ = optional_part 59 w.r.remark in
     let n = numbers_are k.said.parts ws k.keeps in
-    let parts = ap (λ (x : Said). x.parts) w.says in
+    let parts = ap (λ (x : ParsedLine). x.parts) w.says in
     let tests : (length (settings_from place 0 w.r.items end) == 0) && (length (all_tokens place w.r.items end) == length (words_from place 0 w.r.items end)) ≡ true =
     sym (ap is_numbered parts) ∙ n.0 in
     let t = both _ _ tests in
@@ -209,9 +209,9 @@ symbols_line bytes d kept same =
     let k = says_kept bytes (nat_le 257 (length bytes)) d (by_symbols kept) refl same in
     let w = k.takes in
     let place = place_in (columns bytes) in
-    let end : List ℕ = behind 59 w.r.remark in
+    let end : List ℕ = optional_part 59 w.r.remark in
     let n = symbols_are k.said.parts kept k.keeps in
-    let parts = ap (λ (x : Said). x.parts) w.says in
+    let parts = ap (λ (x : ParsedLine). x.parts) w.says in
     let not_all = sym (ap is_numbered parts) ∙ n.0 in
     record { reading = w.r; reads = (w.is, w.spelled); limit = w.limit; says = other (number_words w.r.items) (are_numbered place 0 w.r.items end) not_all } where
       other : {a b c d : ℕ} (x : Option (List (Letter × ℤ))) → ((ws : List (Letter × ℤ)) → x ≡ Some ws → (a ≡ b) × (c ≡ d)) → ((a == b) && (c == d)) ≡ false → None ≡ x

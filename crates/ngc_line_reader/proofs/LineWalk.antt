@@ -13,7 +13,7 @@ use Rattle.ngc_line_reader.specs.declared.program.phase.Phase.TheVariants.{Start
 use Rattle.ngc_line_reader.specs.Text.{text}
 use Rattle.ngc_line_reader.specs.Program.{Line, split_lines, numbered, is_percent_line, is_marked, without_mark, read_lines, lacks_end, is_percent_text}
 use Rattle.ngc_line_reader.specs.Program.{is_blank_text}
-use Rattle.ngc_line_reader.specs.ScanLine.{Said}
+use Rattle.ngc_line_reader.specs.ScanLine.{ParsedLine}
 use Rattle.ngc_line_reader.specs.ReadLine.{line_read}
 use Rattle.ngc_line_reader.specs.ProgramText.{Outcome, refusal_in, fault_of, first_fault, fault_or, text_of_lines, program_of}
 use Rattle.ngc_line_reader.specs.Pieces.{firm_lines, fault_so_far}
@@ -186,7 +186,7 @@ walk_program bytes = walk_lines (split_lines bytes)
 standing_first : (done : ℕ) (lines : List Line) (o : Outcome) → standing o ≡ None → standing (fault_or (first_fault done lines) o) ≡ first_fault done lines
 standing_first done [] o h = h
 standing_first done (line ∷ lines) o h = by_line (nat_le 100000 done) (line_read line.bytes) (standing_first (done + 1) lines o h) where
-  by_line : (x : Bool) (r : Result Said LineFault) → standing (fault_or (first_fault (done + 1) lines) o) ≡ first_fault (done + 1) lines
+  by_line : (x : Bool) (r : Result ParsedLine LineFault) → standing (fault_or (first_fault (done + 1) lines) o) ≡ first_fault (done + 1) lines
       → standing (fault_or (option_or (if x then Some faults.TooManyLines else refusal_in line.number r) (first_fault (done + 1) lines)) o)
       ≡ option_or (if x then Some faults.TooManyLines else refusal_in line.number r) (first_fault (done + 1) lines)
   by_line true r next = refl

@@ -187,29 +187,29 @@ stored_read bytes ends i e s h is =
     read_at (lines_from bytes 0 ends) i _ (parts_of bytes ends s).read (stored_line bytes ends i e h is)
 
 -- the effect of a push
-pub record Pushes (number end : ℕ) (parts : LineParts) (bytes new after : List ℕ) (ends behind : List LineEnd) : Type 0 where
+pub record Pushes (number end : ℕ) (parts : LineParts) (bytes new after : List ℕ) (ends afterwards : List LineEnd) : Type 0 where
   pub bytes_are : after ≡ bytes ++ new
   pub end_is : end ≡ length after
-  pub ends_are : behind ≡ ends ++ (record { number = number; end = end; parts = parts } ∷ [])
+  pub ends_are : afterwards ≡ ends ++ (record { number = number; end = end; parts = parts } ∷ [])
 
-pushed_ends : (number end : ℕ) (parts : LineParts) (bytes new after : List ℕ) (ends behind : List LineEnd) →
-    Pushes number end parts bytes new after ends behind → behind ≡ ends ++ (end_of number parts bytes new ∷ [])
-pushed_ends number end parts bytes new after ends behind p =
+pushed_ends : (number end : ℕ) (parts : LineParts) (bytes new after : List ℕ) (ends afterwards : List LineEnd) →
+    Pushes number end parts bytes new after ends afterwards → afterwards ≡ ends ++ (end_of number parts bytes new ∷ [])
+pushed_ends number end parts bytes new after ends afterwards p =
     let same : end ≡ length bytes + length new = p.end_is ∙ ap length p.bytes_are ∙ length-append bytes new in
     p.ends_are ∙ ap (λ (n : ℕ). ends ++ (record { number = number; end = n; parts = parts } ∷ [])) same
 
-pub push_lines : (number end : ℕ) (parts : LineParts) (bytes new after : List ℕ) (ends behind : List LineEnd) →
-    Pushes number end parts bytes new after ends behind → is_stored bytes ends ≡ true
-    → lines_from after 0 behind ≡ lines_from bytes 0 ends ++ (line_of number new ∷ [])
-push_lines number end parts bytes new after ends behind p h =
-    ap (λ (b : List ℕ). lines_from b 0 behind) p.bytes_are ∙ ap (λ (e : List LineEnd). lines_from (bytes ++ new) 0 e)
-    (pushed_ends number end parts bytes new after ends behind p)
+pub push_lines : (number end : ℕ) (parts : LineParts) (bytes new after : List ℕ) (ends afterwards : List LineEnd) →
+    Pushes number end parts bytes new after ends afterwards → is_stored bytes ends ≡ true
+    → lines_from after 0 afterwards ≡ lines_from bytes 0 ends ++ (line_of number new ∷ [])
+push_lines number end parts bytes new after ends afterwards p h =
+    ap (λ (b : List ℕ). lines_from b 0 afterwards) p.bytes_are ∙ ap (λ (e : List LineEnd). lines_from (bytes ++ new) 0 e)
+    (pushed_ends number end parts bytes new after ends afterwards p)
     ∙ lines_pushed number parts bytes new ends h
 
-pub push_stored : (number end : ℕ) (parts : LineParts) (bytes new after : List ℕ) (ends behind : List LineEnd) →
-    Pushes number end parts bytes new after ends behind → is_stored bytes ends ≡ true
-    → length new ≤ 256 → IsOk (line_read new) → is_stored after behind ≡ true
-push_stored number end parts bytes new after ends behind p h short read =
-    ap (λ (b : List ℕ). is_stored b behind) p.bytes_are ∙ ap (λ (e : List LineEnd). is_stored (bytes ++ new) e)
-    (pushed_ends number end parts bytes new after ends behind p)
+pub push_stored : (number end : ℕ) (parts : LineParts) (bytes new after : List ℕ) (ends afterwards : List LineEnd) →
+    Pushes number end parts bytes new after ends afterwards → is_stored bytes ends ≡ true
+    → length new ≤ 256 → IsOk (line_read new) → is_stored after afterwards ≡ true
+push_stored number end parts bytes new after ends afterwards p h short read =
+    ap (λ (b : List ℕ). is_stored b afterwards) p.bytes_are ∙ ap (λ (e : List LineEnd). is_stored (bytes ++ new) e)
+    (pushed_ends number end parts bytes new after ends afterwards p)
     ∙ stored_pushed number parts bytes new ends h short read

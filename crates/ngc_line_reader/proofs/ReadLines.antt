@@ -16,7 +16,7 @@ use Rattle.ngc_line_reader.specs.declared.line.RawWord.{RawWord}
 use Rattle.ngc_line_reader.specs.declared.line.RawSetting.{RawSetting}
 use Rattle.ngc_line_reader.specs.declared.line.Line.{Line}
 use Rattle.ngc_line_reader.specs.Text.{text, columns, place_in}
-use Rattle.ngc_line_reader.specs.Grammar.{Real, Item, word, setting, comment, Reading, IsReal, IsItem, IsLineNumber, IsReading, behind, real_text, item_text}
+use Rattle.ngc_line_reader.specs.Grammar.{Real, Item, word, setting, comment, Reading, IsReal, IsItem, IsLineNumber, IsReading, optional_part, real_text, item_text}
 use Rattle.ngc_line_reader.specs.Grammar.{items_text, spelling, Reads, Stops}
 use Rattle.ngc_line_reader.specs.Numbers.{digits_value}
 use Rattle.ngc_line_reader.specs.Tokens.{symbols_of, tokens_of, IsWithinLimit}
@@ -24,8 +24,8 @@ use Rattle.ngc_line_reader.specs.Held.{all_tokens, token_count, words_from, sett
 use Rattle.ngc_line_reader.specs.Held.{word_count, WithinLimits}
 use Rattle.ngc_line_reader.specs.Scan.{◌>>=◌, Gives, begins, refusal, digits_at, after_digits, real_at}
 use Rattle.ngc_line_reader.specs.ScanLine.{Parts, no_parts, with_word, with_setting, word_at, value_after, setting_at, is_comment_byte, after_comment}
-use Rattle.ngc_line_reader.specs.ScanLine.{comment_at, start_fault, by_letter, other_item_at, item_at, located, items_at, numbered, line_number_at, Said}
-use Rattle.ngc_line_reader.specs.ScanLine.{said_of, after_slash, text_at}
+use Rattle.ngc_line_reader.specs.ScanLine.{comment_at, start_fault, by_letter, other_item_at, item_at, located, items_at, numbered, line_number_at, ParsedLine}
+use Rattle.ngc_line_reader.specs.ScanLine.{parsed_line_of, after_slash, text_at}
 use Rattle.ngc_line_reader.specs.declared.letter.Letter.{Letter}
 use Rattle.ngc_line_reader.specs.Letter.{letter_byte, letter_of}
 use Rattle.ngc_line_reader.proofs.LetterLemmas.{letter_again, letter_is, low_no_letter, N_no_letter}
@@ -198,7 +198,7 @@ told_is x y e = cc
 
 items_again : (items : List Item) (m : Option (List ℕ)) (place : ℕ → ℕ) (room : ℕ) (found : Parts) → AllByRecursion IsItem items → AllWithinLimit items →
     length found.words + word_count items ≤ 64
-    → length (end_text items m) < room → items_at place room found (end_text items m) ≡ told (added place found items (behind 59 m))
+    → length (end_text items m) < room → items_at place room found (end_text items m) ≡ told (added place found items (optional_part 59 m))
 items_again [] None place room found h limit few fits =
     let some : 0 < room = omega (arith, fits) in
     items_step place room found [] some ∙ ap told (added-none place found [])
@@ -208,7 +208,7 @@ items_again [] (Some bs) place room found h limit few fits =
 items_again (i ∷ items) m place room found h limit few fits =
     let some : 0 < room = omega (arith, fits) in
     let r = end_text items m in
-    let regrouped : end_text (i ∷ items) m ≡ item_text i ++ r = append_assoc (item_text i) (items_text items) (behind 59 m) in
+    let regrouped : end_text (i ∷ items) m ≡ item_text i ++ r = append_assoc (item_text i) (items_text items) (optional_part 59 m) in
     let longer = ap length regrouped in
     let more = length-append (item_text i) r in
     let size = item_first i r in
@@ -219,13 +219,13 @@ items_again (i ∷ items) m place room found h limit few fits =
     let one : items_at place room found (item_text i ++ r) ≡ items_at place (room - 1) next r =
     rw (items_step place room found (item_text i ++ r) some, size.0, no_remark i r h.0, first) refl in
     ap (λ (s : List ℕ). items_at place room found s) regrouped ∙ one ∙ rest
-    ∙ ap told (added-step place found i items (behind 59 m))
+    ∙ ap told (added-step place found i items (optional_part 59 m))
 
 few_digits : (n : ℕ) → 0 < n → n ≤ 5 → ((n == 0) ≡ false) × (nat_le 6 n ≡ false)
 few_digits n h k = (grind (arith, nat_tests), grind (arith, nat_tests))
 
 number_again : (a : Option (List ℕ)) (r : List ℕ) → IsLineNumber a → Stops r → begins 78 r ≡ false →
-    line_number_at (behind 78 a ++ r) ≡ Ok (option_map digits_value a, r)
+    line_number_at (optional_part 78 a ++ r) ≡ Ok (option_map digits_value a, r)
 unfolding line_number_at
 number_again None r h stops no_n = rw no_n refl
 number_again (Some ds) r h stops no_n =
@@ -237,21 +237,21 @@ slash_again : (b : Bool) (t : List ℕ) → begins 47 t ≡ false → (after_sla
 slash_again true t e = (refl, refl)
 slash_again false t e = (rw e refl, e)
 
-abbrev pub said : (ℕ → ℕ) → Reading → Said
-said place r = record { deleted = r.deleted; number = option_map digits_value r.number; parts = added place no_parts r.items (behind 59 r.remark) }
+abbrev pub said : (ℕ → ℕ) → Reading → ParsedLine
+said place r = record { deleted = r.deleted; number = option_map digits_value r.number; parts = added place no_parts r.items (optional_part 59 r.remark) }
 
 text_again : (place : ℕ → ℕ) (r : Reading) → IsReading r → WithinLimits r → text_at place (spelling r) ≡ told (said place r)
 unfolding text_at
 text_again place r h limits =
     let end = end_text r.items r.remark in
-    let t = behind 78 r.number ++ end in
+    let t = optional_part 78 r.number ++ end in
     let no_slash : begins 47 t ≡ false = begins_not 47 t (λ s e. number_not_slash r.number r.items r.remark s h.1 e) in
     let slashes = slash_again r.deleted t no_slash in
     let no_n : begins 78 end ≡ false = begins_not 78 end
     (λ s e. end_not 78 r.items r.remark s N_no_letter (λ q. omega arith) (λ q. omega arith) (λ q. omega arith) h.1 e) in
     let first = number_again r.number end h.0 (end_stops r.items r.remark h.1) no_n in
     let longer = length-append (slash r.deleted) t in
-    let more = length-append (behind 78 r.number) end in
+    let more = length-append (optional_part 78 r.number) end in
     let rest = items_again r.items r.remark place (length (spelling r) + 1) no_parts h.1 limits.0 (omega (arith, limits.1)) (omega (arith, longer, more)) in
     rw (slashes.0, slashes.1, first, rest) refl
 
@@ -407,7 +407,7 @@ pub record TakesItems (place : ℕ → ℕ) (found parts : Parts) (s : List ℕ)
   pub remark : Option (List ℕ)
   pub are : AllByRecursion IsItem items
   pub limit : AllWithinLimit items
-  pub parts_are : parts ≡ added place found items (behind 59 remark)
+  pub parts_are : parts ≡ added place found items (optional_part 59 remark)
   pub spelled : s ≡ end_text items remark
 
 pub located_ok : {A : Type 0} (place : ℕ → ℕ) (s : List ℕ) (r : Result A ItemRefusal) (x : A) → located place s r ≡ Ok x → r ≡ Ok x
@@ -445,15 +445,15 @@ items_take place (suc room) found parts s e =
             let t = item_takes place room found s b.0 (located_ok place s (item_at place room found s) b.0 b.1) in
             let u = items_take place room b.0.0 parts b.0.1 b.2 in
             let all : s ≡ end_text (t.i ∷ u.items) u.remark = t.spelled ∙ ap (λ (z : List ℕ). item_text t.i ++ z) u.spelled
-            ∙ sym (append_assoc (item_text t.i) (items_text u.items) (behind 59 u.remark)) in
+            ∙ sym (append_assoc (item_text t.i) (items_text u.items) (optional_part 59 u.remark)) in
             record {
               items = t.i ∷ u.items;
               remark = u.remark;
               are = (t.is, u.are);
               limit = (t.limit, u.limit);
               parts_are = u.parts_are
-                  ∙ ap (λ (p : Parts). added place p u.items (behind 59 u.remark)) (t.parts_are ∙ ap (λ (z : List ℕ). step place found t.i z) u.spelled)
-                  ∙ added-step place found t.i u.items (behind 59 u.remark);
+                  ∙ ap (λ (p : Parts). added place p u.items (optional_part 59 u.remark)) (t.parts_are ∙ ap (λ (z : List ℕ). step place found t.i z) u.spelled)
+                  ∙ added-step place found t.i u.items (optional_part 59 u.remark);
               spelled = all;
             }
       ]
@@ -463,7 +463,7 @@ pub record TakesNumber (s : List ℕ) (x : Option ℕ × List ℕ) : Type 0 wher
   pub number : Option (List ℕ)
   pub is : IsLineNumber number
   pub value : x.0 ≡ option_map digits_value number
-  pub spelled : s ≡ behind 78 number ++ x.1
+  pub spelled : s ≡ optional_part 78 number ++ x.1
 
 some_digit : (n : ℕ) → (n == 0) ≡ false → nat_le 6 n ≡ false → (0 < n) × (n ≤ 5)
 some_digit n h k = (grind (arith, nat_tests), grind (arith, nat_tests))
@@ -507,20 +507,20 @@ slash_takes s = by_test (begins 47 s) refl where
   by_test true e = rw e (begins_is 47 s e)
   by_test false e = rw e refl
 
-pub record TakesText (place : ℕ → ℕ) (s : List ℕ) (x : Said) : Type 0 where
+pub record TakesText (place : ℕ → ℕ) (s : List ℕ) (x : ParsedLine) : Type 0 where
   pub r : Reading
   pub is : IsReading r
   pub limit : AllWithinLimit r.items
   pub says : x ≡ said place r
   pub spelled : spelling r ≡ s
 
-abbrev saying : Bool → Option ℕ → Parts → Said
+abbrev saying : Bool → Option ℕ → Parts → ParsedLine
 saying b n parts = record { deleted = b; number = n; parts = parts }
 
 same_said : (b : Bool) (m n : Option ℕ) (x y : Parts) → m ≡ n → x ≡ y → saying b m x ≡ saying b n y
 same_said b m n x y p q = cc
 
-pub text_takes : (place : ℕ → ℕ) (s : List ℕ) (x : Said) → text_at place s ≡ Ok x → TakesText place s x
+pub text_takes : (place : ℕ → ℕ) (s : List ℕ) (x : ParsedLine) → text_at place s ≡ Ok x → TakesText place s x
 unfolding text_at
 text_takes place s x e =
     let t = after_slash s in
@@ -535,32 +535,32 @@ text_takes place s x e =
       is = (n.is, u.are);
       limit = u.limit;
       says = sym (told_is (saying (begins 47 s) a.0.0 b.0) x b.2) ∙ same_said (begins 47 s) _ _ _ _ n.value u.parts_are;
-      spelled = sym (slash_takes s ∙ ap (λ (z : List ℕ). slash (begins 47 s) ++ z) (n.spelled ∙ ap (λ (z : List ℕ). behind 78 n.number ++ z) u.spelled));
+      spelled = sym (slash_takes s ∙ ap (λ (z : List ℕ). slash (begins 47 s) ++ z) (n.spelled ∙ ap (λ (z : List ℕ). optional_part 78 n.number ++ z) u.spelled));
     }
 
 -- what was read is a reading
 pub gives_reading : (bytes t cs : List ℕ) (line : Line) (result : Result Unit LineFault) → t ≡ text bytes → cs ≡ columns bytes →
-    Gives (λ _. said_of line) result (text_at (place_in cs) t) → OnOk result (HoldsReading bytes line)
+    Gives (λ _. parsed_line_of line) result (text_at (place_in cs) t) → OnOk result (HoldsReading bytes line)
 gives_reading bytes t cs line (Err e) is at g = tt
 gives_reading bytes t cs line (Ok u) is at g =
-    let w = text_takes (place_in cs) t (said_of line) g in
-    let says : said_of line ≡ said (place_in (columns bytes)) w.r = w.says ∙ ap (λ (c : List ℕ). said (place_in c) w.r) at in
+    let w = text_takes (place_in cs) t (parsed_line_of line) g in
+    let says : parsed_line_of line ≡ said (place_in (columns bytes)) w.r = w.says ∙ ap (λ (c : List ℕ). said (place_in c) w.r) at in
     record {
       reading = w.r;
       reads = (w.is, w.spelled ∙ is);
       limit = w.limit;
       holds = record {
-        deleted = ap (λ (x : Said). x.deleted) says;
-        number = ap (λ (x : Said). x.number) says;
-        words = ap (λ (x : Said). x.parts.words) says;
-        settings = ap (λ (x : Said). x.parts.settings) says;
-        tokens = ap (λ (x : Said). x.parts.tokens) says;
+        deleted = ap (λ (x : ParsedLine). x.deleted) says;
+        number = ap (λ (x : ParsedLine). x.number) says;
+        words = ap (λ (x : ParsedLine). x.parts.words) says;
+        settings = ap (λ (x : ParsedLine). x.parts.settings) says;
+        tokens = ap (λ (x : ParsedLine). x.parts.tokens) says;
       };
     }
 
 -- a reading within the limits is found, if there is one
 pub finds_reading : (bytes t cs : List ℕ) (line : Line) (result : Result Unit LineFault) → t ≡ text bytes →
-    Gives (λ _. said_of line) result (text_at (place_in cs) t)
+    Gives (λ _. parsed_line_of line) result (text_at (place_in cs) t)
     → (r : Reading) → Reads bytes r → WithinLimits r → IsOk result
 finds_reading bytes t cs line (Ok u) is g r reads limits = refl
 finds_reading bytes t cs line (Err e) is g r reads limits =

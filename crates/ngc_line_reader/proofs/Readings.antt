@@ -10,12 +10,12 @@ use Rattle.ngc_line_reader.specs.declared.fault.ItemRefusal.TheVariants.{OfItem}
 use Rattle.ngc_line_reader.specs.declared.letter.Letter.{Letter}
 use Rattle.ngc_line_reader.specs.Letter.{letter_of}
 use Rattle.ngc_line_reader.specs.Text.{text, columns, place_in}
-use Rattle.ngc_line_reader.specs.Grammar.{Item, word, setting, comment, behind}
+use Rattle.ngc_line_reader.specs.Grammar.{Item, word, setting, comment, optional_part}
 use Rattle.ngc_line_reader.specs.Held.{token_count, words_from, word_count}
 use Rattle.ngc_line_reader.specs.Program.{Line}
 use Rattle.ngc_line_reader.specs.Scan.{◌>>=◌, begins, refusal, real_at}
 use Rattle.ngc_line_reader.specs.ScanLine.{Parts, no_parts, with_word, with_setting, word_at, value_after, setting_at, comment_at, start_fault, by_letter}
-use Rattle.ngc_line_reader.specs.ScanLine.{other_item_at, item_at, fault_at, located, items_at, line_number_at, Said, after_slash, text_at}
+use Rattle.ngc_line_reader.specs.ScanLine.{other_item_at, item_at, fault_at, located, items_at, line_number_at, ParsedLine, after_slash, text_at}
 use Rattle.ngc_line_reader.specs.ReadLine.{line_read}
 use Rattle.ngc_line_reader.specs.ProgramText.{HasReading, HaveReadings}
 use Rattle.ngc_line_reader.specs.Stored.{is_read}
@@ -102,10 +102,10 @@ items_few place (suc room) found parts s e few =
       ]
     ]
 
-abbrev saying : Bool → Option ℕ → Parts → Said
+abbrev saying : Bool → Option ℕ → Parts → ParsedLine
 saying b n parts = record { deleted = b; number = n; parts = parts }
 
-text_few : (place : ℕ → ℕ) (s : List ℕ) (x : Said) → text_at place s ≡ Ok x → length x.parts.words ≤ 64
+text_few : (place : ℕ → ℕ) (s : List ℕ) (x : ParsedLine) → text_at place s ≡ Ok x → length x.parts.words ≤ 64
 unfolding text_at
 text_few place s x e =
     let t = after_slash s in
@@ -113,7 +113,7 @@ text_few place s x e =
     (λ y. items_at place (length s + 1) no_parts y.1 >>= λ parts. Ok (saying (begins 47 s) y.0 parts)) x e in
     let b = bind_ok (items_at place (length s + 1) no_parts a.0.1) (λ parts. Ok (saying (begins 47 s) a.0.0 parts)) x a.2 in
     let few = items_few place (length s + 1) no_parts b.0 a.0.1 b.1 (omega arith) in
-    subst (λ (said : Said). length said.parts.words ≤ 64) (told_is (saying (begins 47 s) a.0.0 b.0) x b.2) few
+    subst (λ (said : ParsedLine). length said.parts.words ≤ 64) (told_is (saying (begins 47 s) a.0.0 b.0) x b.2) few
 
 words_counted : (place : ℕ → ℕ) (first : ℕ) (items : List Item) (end : List ℕ) → length (words_from place first items end) ≡ word_count items
 words_counted place first [] end = refl
@@ -123,15 +123,15 @@ words_counted place first (setting index value ∷ items) end = let e = words_co
 words_counted place first (comment bytes ∷ items) end = let e = words_counted place first items end in omega (arith, e)
 
 -- a line that was read has a reading within the limits
-has_reading : (line : Line) (x : Said) → line_read line.bytes ≡ Ok x → HasReading line
+has_reading : (line : Line) (x : ParsedLine) → line_read line.bytes ≡ Ok x → HasReading line
 has_reading line x e =
     elim (chosen (nat_le 257 (length line.bytes)) (Err (fault_at LineTooLong 257)) _ (told x) e) [
       | inl h ↦ absurd (cc h.1)
       | inr h ↦
           let place = place_in (columns line.bytes) in
           let w = text_takes place (text line.bytes) x h.1 in
-          let counted : length x.parts.words ≡ word_count w.r.items = ap (λ (said : Said). length said.parts.words) w.says
-          ∙ words_counted place 0 w.r.items (behind 59 w.r.remark) in
+          let counted : length x.parts.words ≡ word_count w.r.items = ap (λ (said : ParsedLine). length said.parts.words) w.says
+          ∙ words_counted place 0 w.r.items (optional_part 59 w.r.remark) in
           record { reading = w.r; reads = (w.is, w.spelled); limits = (w.limit, omega (arith, counted, text_few place (text line.bytes) x h.1)) }
     ]
 
@@ -139,7 +139,7 @@ both : (a b : Bool) → (a && b) ≡ true → (a ≡ true) × (b ≡ true)
 both true b h = (refl, h)
 both false b h = absurd (cc h)
 
-read_said : (r : Result Said LineFault) → is_ok r ≡ true → (x : Said) × (r ≡ Ok x)
+read_said : (r : Result ParsedLine LineFault) → is_ok r ≡ true → (x : ParsedLine) × (r ≡ Ok x)
 read_said (Ok x) h = (x, refl)
 read_said (Err fault) h = absurd (cc h)
 

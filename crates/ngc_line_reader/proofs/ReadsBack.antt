@@ -13,13 +13,13 @@ use Rattle.ngc_line_reader.specs.declared.token.Operator.TheVariants.{Add, Subtr
 use Rattle.ngc_line_reader.specs.declared.token.Token.{Token}
 use Rattle.ngc_line_reader.specs.declared.token.Symbol.TheVariants as mark
 use Rattle.ngc_line_reader.specs.declared.fault.ItemRefusal.{ItemRefusal}
-use Rattle.ngc_line_reader.specs.Grammar.{Sign, bare, plus, minus, Numeral, Real, number, parameter, bracket, Rest, close, next, sign_text, behind}
+use Rattle.ngc_line_reader.specs.Grammar.{Sign, bare, plus, minus, Numeral, Real, number, parameter, bracket, Rest, close, next, sign_text, optional_part}
 use Rattle.ngc_line_reader.specs.Grammar.{numeral_text, operator_byte, real_text, rest_text, IsDigits, digits_of, IsNumeral, IsReal, IsRest, Stops}
 use Rattle.ngc_line_reader.specs.Numbers.{written_value, numeral_value, is_negative}
 use Rattle.ngc_line_reader.specs.Tokens.{token_at, tokens_of, rest_tokens, IsWithinLimit, IsRestWithinLimit}
 use Rattle.ngc_line_reader.specs.Scan.{begins, after_sign, digits_at, after_digits, decimals_at, after_decimals, whole_at, fraction_at, after_number}
 use Rattle.ngc_line_reader.specs.Scan.{value_fits, number_at, operator_at, real_at, rest_at}
-use Rattle.ngc_line_reader.proofs.UniqueReading.{NoDigit, NoDigit-Stops, NoDigit-behind, body, body_not, numeral_not, heads, rest_stops}
+use Rattle.ngc_line_reader.proofs.UniqueReading.{NoDigit, NoDigit-Stops, NoDigit-optional, body, body_not, numeral_not, heads, rest_stops}
 use Rattle.ngc_line_reader.proofs.Scanning.{real_step, rest_step}
 
 -- digits are read up to the first other byte
@@ -52,7 +52,7 @@ sign_again plus n r h = (refl, refl)
 sign_again minus n r h = (refl, refl)
 
 decimals_again : (ds : Option (List ℕ)) (r : List ℕ) → IsDigits (digits_of ds) → Stops r →
-    (digits_of (decimals_at (behind 46 ds ++ r)) ≡ digits_of ds) × (after_decimals (behind 46 ds ++ r) ≡ r)
+    (digits_of (decimals_at (optional_part 46 ds ++ r)) ≡ digits_of ds) × (after_decimals (optional_part 46 ds ++ r) ≡ r)
 decimals_again None r h s = let e = begins_stops r s in (rw e refl, rw e refl)
 decimals_again (Some ds) r h s = digits_again ds r h (NoDigit-Stops r s)
 
@@ -74,12 +74,12 @@ number_again : (n : Numeral) (r : List ℕ) → IsNumeral n → IsValue (numeral
 unfolding number_at
 number_again n r h limit stops =
     let sign = sign_again n.sign n r h in
-    let regrouped : body n ++ r ≡ n.whole ++ (behind 46 n.decimals ++ r) = append_assoc n.whole (behind 46 n.decimals) r in
-    let digits = digits_again n.whole (behind 46 n.decimals ++ r) h.0 (NoDigit-behind n.decimals r stops) in
+    let regrouped : body n ++ r ≡ n.whole ++ (optional_part 46 n.decimals ++ r) = append_assoc n.whole (optional_part 46 n.decimals) r in
+    let digits = digits_again n.whole (optional_part 46 n.decimals ++ r) h.0 (NoDigit-optional n.decimals r stops) in
     let decimals = decimals_again n.decimals r h.1 stops in
-    let unsigned : after_sign (numeral_text n ++ r) ≡ n.whole ++ (behind 46 n.decimals ++ r) = sign.0 ∙ regrouped in
+    let unsigned : after_sign (numeral_text n ++ r) ≡ n.whole ++ (optional_part 46 n.decimals ++ r) = sign.0 ∙ regrouped in
     let whole : whole_at (numeral_text n ++ r) ≡ n.whole = ap digits_at unsigned ∙ digits.0 in
-    let after : after_digits (after_sign (numeral_text n ++ r)) ≡ behind 46 n.decimals ++ r = ap after_digits unsigned ∙ digits.1 in
+    let after : after_digits (after_sign (numeral_text n ++ r)) ≡ optional_part 46 n.decimals ++ r = ap after_digits unsigned ∙ digits.1 in
     let fraction : fraction_at (numeral_text n ++ r) ≡ digits_of n.decimals = ap (λ (t : List ℕ). digits_of (decimals_at t)) after ∙ decimals.0 in
     let end : after_number (numeral_text n ++ r) ≡ r = ap after_decimals after ∙ decimals.1 in
     by_parts (numeral_text n ++ r) n.whole (digits_of n.decimals) r (is_negative n.sign) whole fraction end sign.1

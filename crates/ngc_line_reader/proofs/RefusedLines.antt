@@ -23,13 +23,13 @@ use Rattle.ngc_line_reader.specs.declared.line.Line.{Line}
 use Rattle.ngc_line_reader.specs.Letter.{letter_byte, letter_of}
 use Rattle.ngc_line_reader.specs.Text.{text, place_in}
 use Rattle.ngc_line_reader.specs.Tokens.{token_at}
-use Rattle.ngc_line_reader.specs.Grammar.{Item, IsItem, items_text, item_text, behind, Real, real_text, operator_byte, numeral_text, Stops}
+use Rattle.ngc_line_reader.specs.Grammar.{Item, IsItem, items_text, item_text, optional_part, Real, real_text, operator_byte, numeral_text, Stops}
 use Rattle.ngc_line_reader.specs.Numbers.{written_value}
 use Rattle.ngc_line_reader.specs.Held.{word_count, item_words}
 use Rattle.ngc_line_reader.specs.Scan.{◌>>=◌, Gives, begins, begins_unknown, refusal, after_sign, digits_at, after_digits, whole_at, fraction_at, after_number}
 use Rattle.ngc_line_reader.specs.Scan.{value_fits, number_at, number_token, operator_at, real_at, rest_at}
 use Rattle.ngc_line_reader.specs.ScanLine.{Parts, no_parts, with_word, with_setting, word_at, value_after, setting_at, after_comment, comment_at, start_fault}
-use Rattle.ngc_line_reader.specs.ScanLine.{by_letter, other_item_at, item_at, fault_at, located, items_at, numbered, line_number_at, Said, said_of, after_slash}
+use Rattle.ngc_line_reader.specs.ScanLine.{by_letter, other_item_at, item_at, fault_at, located, items_at, numbered, line_number_at, ParsedLine, parsed_line_of, after_slash}
 use Rattle.ngc_line_reader.specs.ScanLine.{text_at}
 use Rattle.ngc_line_reader.specs.Refused.{HasTooLarge, HasWords, WritesTooLarge, WritesManyWords}
 use Rattle.ngc_line_reader.proofs.LetterLemmas.{letter_bounds, letter_no_digit}
@@ -518,7 +518,7 @@ text_of_items TooManyWords found front s t none e h = record {
   written = e ∙ ap (λ (u : List ℕ). front ++ u) h.written;
 }
 
-abbrev saying : Bool → Option ℕ → Parts → Result Said LineFault
+abbrev saying : Bool → Option ℕ → Parts → Result ParsedLine LineFault
 saying b n parts = Ok (record { deleted = b; number = n; parts = parts })
 
 text_why : (place : ℕ → ℕ) (s : List ℕ) (f : LineFault) → text_at place s ≡ refused f → TextWhy f.kind s
@@ -530,9 +530,9 @@ text_why place s f e =
       | inr i ↦ elim (bind_err (items_at place (length s + 1) no_parts i.0.1) (λ parts. saying (begins 47 s) i.0.0 parts) f i.2) [
         | inl j ↦
             let n = number_takes t i.0 (located_ok place t (line_number_at t) i.0 i.1) in
-            let front = slash (begins 47 s) ++ behind 78 n.number in
+            let front = slash (begins 47 s) ++ optional_part 78 n.number in
             text_of_items f.kind no_parts front s i.0.1 refl
-            (slash_takes s ∙ ap (λ (u : List ℕ). slash (begins 47 s) ++ u) n.spelled ∙ sym (append_assoc (slash (begins 47 s)) (behind 78 n.number) i.0.1))
+            (slash_takes s ∙ ap (λ (u : List ℕ). slash (begins 47 s) ++ u) n.spelled ∙ sym (append_assoc (slash (begins 47 s)) (optional_part 78 n.number) i.0.1))
             (items_why place (length s + 1) no_parts i.0.1 f j)
         | inr j ↦ absurd (cc j.2)
       ]
@@ -549,14 +549,14 @@ of_many f s h e = subst (λ (k : FaultKind). TextWhy k s) e h
 
 -- a number is refused as too large only if the line contains one
 pub large_is_written : (bytes t cs : List ℕ) (line : Line) (result : Result Unit LineFault) → t ≡ text bytes →
-    Gives (λ _. said_of line) result (text_at (place_in cs) t)
+    Gives (λ _. parsed_line_of line) result (text_at (place_in cs) t)
     → IfErr result (λ f. f.kind ≡ TooLarge → WritesTooLarge bytes)
 large_is_written bytes t cs line (Ok u) is g = tt
 large_is_written bytes t cs line (Err f) is g = λ e. of_large f (text bytes) (in_line bytes t f is (text_why (place_in cs) t f g)) e
 
 -- and a word as one too many only after 64 of them
 pub many_are_written : (bytes t cs : List ℕ) (line : Line) (result : Result Unit LineFault) → t ≡ text bytes →
-    Gives (λ _. said_of line) result (text_at (place_in cs) t)
+    Gives (λ _. parsed_line_of line) result (text_at (place_in cs) t)
     → IfErr result (λ f. f.kind ≡ TooManyWords → WritesManyWords bytes)
 many_are_written bytes t cs line (Ok u) is g = tt
 many_are_written bytes t cs line (Err f) is g = λ e. of_many f (text bytes) (in_line bytes t f is (text_why (place_in cs) t f g)) e

@@ -130,7 +130,7 @@ module _ {A : Type 0} where
       let no_percent = long_percent (length (line ++ g.more)) (is_percent_text (text (line ++ g.more))) more in
       subst (λ (bytes : List ℕ). FaultIs fault (walked l.found (lines bytes))) (append_assoc l.cut.items piece rest)
       (subst (λ (ls : List (List ℕ)). FaultIs fault (walked l.found ls)) (sym g.split)
-      (refused_line l.found (line ++ g.more) g.behind fault no_percent (refused (line ++ g.more) more)))
+      (refused_line l.found (line ++ g.more) g.afterwards fault no_percent (refused (line ++ g.more) more)))
 
   emptied : (lines : List ℕ → List (List ℕ)) (result : Result Step ReadFault) (l : Loader A) (rest : List ℕ) → OnOk result (l.cut.items ≡ []) → result ≡ Ok More
       → resumed lines l rest ≡ walked l.found (lines rest)

@@ -2,7 +2,7 @@
 use Rattle.std.proofs.Common.{◌≡◌, ◌≢◌, ℕ, List, [], ◌∷◌, ◌++◌, Option, Some, None, Bool, true, false, refl, sym, ap, ◌∙◌, append_assoc, arith}
 use Rattle.std.specs.Prelude.{if◌then◌else◌}
 use Rattle.std.specs.List.{AllByRecursion}
-use Rattle.ngc_line_reader.specs.Grammar.{Item, word, setting, comment, Reading, behind, real_text, item_text, items_text, IsItem, IsLineNumber, OneReading}
+use Rattle.ngc_line_reader.specs.Grammar.{Item, word, setting, comment, Reading, optional_part, real_text, item_text, items_text, IsItem, IsLineNumber, OneReading}
 use Rattle.ngc_line_reader.specs.Grammar.{Stops}
 use Rattle.ngc_line_reader.proofs.UniqueReading.{NoDigit-Stops, digits_unique, real_unique, heads, tails}
 use Rattle.ngc_line_reader.specs.declared.letter.Letter.{Letter}
@@ -50,7 +50,7 @@ item_unique (comment xs) (comment ys) r s p q j k e =
 
 -- items, and the text after a semicolon
 abbrev pub end_text : List Item → Option (List ℕ) → List ℕ
-end_text items remark = items_text items ++ behind 59 remark
+end_text items remark = items_text items ++ optional_part 59 remark
 
 -- the bytes with which an item may begin
 pub item_not : (c : ℕ) (i : Item) (r s : List ℕ) → NoLetter c → c ≢ 35 → c ≢ 40 → IsItem i → item_text i ++ r ≡ c ∷ s → ⊥
@@ -66,7 +66,7 @@ item_some (comment bytes) r e = cc
 pub end_stops : (items : List Item) (m : Option (List ℕ)) → AllByRecursion IsItem items → Stops (end_text items m)
 end_stops [] None h = tt
 end_stops [] (Some bs) h = (refl, λ e. omega arith)
-end_stops (i ∷ items) m h = Stops-assoc (item_text i) (items_text items) (behind 59 m) (item_stops i (items_text items ++ behind 59 m) h.0) where
+end_stops (i ∷ items) m h = Stops-assoc (item_text i) (items_text items) (optional_part 59 m) (item_stops i (items_text items ++ optional_part 59 m) h.0) where
   Stops-assoc : (xs ys zs : List ℕ) → Stops (xs ++ (ys ++ zs)) → Stops ((xs ++ ys) ++ zs)
   Stops-assoc [] ys zs h = h
   Stops-assoc (x ∷ xs) ys zs h = h
@@ -76,7 +76,7 @@ pub end_not : (c : ℕ) (items : List Item) (m : Option (List ℕ)) (s : List �
 end_not c [] None s letter hash paren semicolon h e = cc
 end_not c [] (Some bs) s letter hash paren semicolon h e = semicolon (sym (heads 59 c _ _ e))
 end_not c (i ∷ items) m s letter hash paren semicolon h e =
-    item_not c i (items_text items ++ behind 59 m) s letter hash paren h.0 (sym (append_assoc (item_text i) (items_text items) (behind 59 m)) ∙ e)
+    item_not c i (items_text items ++ optional_part 59 m) s letter hash paren h.0 (sym (append_assoc (item_text i) (items_text items) (optional_part 59 m)) ∙ e)
 
 end_unique : (xs ys : List Item) (m n : Option (List ℕ)) → AllByRecursion IsItem xs → AllByRecursion IsItem ys → end_text xs m ≡ end_text ys n →
     (xs ≡ ys) × (m ≡ n)
@@ -84,24 +84,24 @@ end_unique [] [] None None p q e = (refl, refl)
 end_unique [] [] None (Some bs) p q e = absurd cc
 end_unique [] [] (Some cs) None p q e = absurd cc
 end_unique [] [] (Some cs) (Some bs) p q e = (refl, ap Some (tails 59 59 _ _ e))
-end_unique [] (j ∷ ys) None n p q e = absurd (item_some j (items_text ys ++ behind 59 n) (sym (e ∙ append_assoc (item_text j) (items_text ys) (behind 59 n))))
+end_unique [] (j ∷ ys) None n p q e = absurd (item_some j (items_text ys ++ optional_part 59 n) (sym (e ∙ append_assoc (item_text j) (items_text ys) (optional_part 59 n))))
 end_unique [] (j ∷ ys) (Some cs) n p q e =
-    absurd (item_not 59 j (items_text ys ++ behind 59 n) cs (low_no_letter 59 (omega arith)) (λ h. omega arith) (λ h. omega arith) q.0
-    (sym (e ∙ append_assoc (item_text j) (items_text ys) (behind 59 n))))
-end_unique (i ∷ xs) [] m None p q e = absurd (item_some i (items_text xs ++ behind 59 m) (sym (append_assoc (item_text i) (items_text xs) (behind 59 m)) ∙ e))
+    absurd (item_not 59 j (items_text ys ++ optional_part 59 n) cs (low_no_letter 59 (omega arith)) (λ h. omega arith) (λ h. omega arith) q.0
+    (sym (e ∙ append_assoc (item_text j) (items_text ys) (optional_part 59 n))))
+end_unique (i ∷ xs) [] m None p q e = absurd (item_some i (items_text xs ++ optional_part 59 m) (sym (append_assoc (item_text i) (items_text xs) (optional_part 59 m)) ∙ e))
 end_unique (i ∷ xs) [] m (Some bs) p q e =
-    absurd (item_not 59 i (items_text xs ++ behind 59 m) bs (low_no_letter 59 (omega arith)) (λ h. omega arith) (λ h. omega arith) p.0
-    (sym (append_assoc (item_text i) (items_text xs) (behind 59 m)) ∙ e))
+    absurd (item_not 59 i (items_text xs ++ optional_part 59 m) bs (low_no_letter 59 (omega arith)) (λ h. omega arith) (λ h. omega arith) p.0
+    (sym (append_assoc (item_text i) (items_text xs) (optional_part 59 m)) ∙ e))
 end_unique (i ∷ xs) (j ∷ ys) m n p q e =
     let first = item_unique i j (end_text xs m) (end_text ys n) p.0 q.0 (end_stops xs m p.1) (end_stops ys n q.1)
-    (sym (append_assoc (item_text i) (items_text xs) (behind 59 m)) ∙ e ∙ append_assoc (item_text j) (items_text ys) (behind 59 n)) in
+    (sym (append_assoc (item_text i) (items_text xs) (optional_part 59 m)) ∙ e ∙ append_assoc (item_text j) (items_text ys) (optional_part 59 n)) in
     let second = end_unique xs ys m n p.1 q.1 first.1 in
     (cc (first.0, second.0), second.1)
 
 -- a line number, and the rest
 number_unique : (a b : Option (List ℕ)) (xs ys : List Item) (m n : Option (List ℕ)) → IsLineNumber a → IsLineNumber b → AllByRecursion IsItem xs →
     AllByRecursion IsItem ys
-    → behind 78 a ++ end_text xs m ≡ behind 78 b ++ end_text ys n → (a ≡ b) × (end_text xs m ≡ end_text ys n)
+    → optional_part 78 a ++ end_text xs m ≡ optional_part 78 b ++ end_text ys n → (a ≡ b) × (end_text xs m ≡ end_text ys n)
 number_unique None None xs ys m n p q j k e = (refl, e)
 number_unique None (Some bs) xs ys m n p q j k e =
     absurd (end_not 78 xs m (bs ++ end_text ys n) N_no_letter (λ h. omega arith) (λ h. omega arith) (λ h. omega arith) j e)
@@ -113,7 +113,7 @@ number_unique (Some cs) (Some bs) xs ys m n p q j k e =
     (ap Some same.0, same.1)
 
 pub number_not_slash : (a : Option (List ℕ)) (xs : List Item) (m : Option (List ℕ)) (s : List ℕ) → AllByRecursion IsItem xs →
-    behind 78 a ++ end_text xs m ≡ 47 ∷ s → ⊥
+    optional_part 78 a ++ end_text xs m ≡ 47 ∷ s → ⊥
 number_not_slash None xs m s h e = end_not 47 xs m s (low_no_letter 47 (omega arith)) (λ h. omega arith) (λ h. omega arith) (λ h. omega arith) h e
 number_not_slash (Some cs) xs m s h e = omega (arith, heads 78 47 _ _ e)
 
@@ -121,8 +121,8 @@ abbrev pub slash : Bool → List ℕ
 slash b = if b then 47 ∷ [] else []
 
 deleted_unique : (b c : Bool) (x y : Option (List ℕ)) (xs ys : List Item) (m n : Option (List ℕ)) → AllByRecursion IsItem xs → AllByRecursion IsItem ys
-    → slash b ++ (behind 78 x ++ end_text xs m) ≡ slash c ++ (behind 78 y ++ end_text ys n) →
-    (b ≡ c) × (behind 78 x ++ end_text xs m ≡ behind 78 y ++ end_text ys n)
+    → slash b ++ (optional_part 78 x ++ end_text xs m) ≡ slash c ++ (optional_part 78 y ++ end_text ys n) →
+    (b ≡ c) × (optional_part 78 x ++ end_text xs m ≡ optional_part 78 y ++ end_text ys n)
 deleted_unique true true x y xs ys m n p q e = (refl, tails 47 47 _ _ e)
 deleted_unique true false x y xs ys m n p q e = absurd (number_not_slash y ys n _ q (sym e))
 deleted_unique false true x y xs ys m n p q e = absurd (number_not_slash x xs m _ p e)

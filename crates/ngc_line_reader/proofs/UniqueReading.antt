@@ -3,7 +3,7 @@ use Rattle.std.proofs.Common.{◌≡◌, ◌≢◌, ℕ, ◌+◌, ◌<◌, List,
 use Rattle.std.specs.Char.{is_ascii_digit}
 use Rattle.ngc_line_reader.specs.declared.token.Operator.{Operator}
 use Rattle.ngc_line_reader.specs.declared.token.Operator.TheVariants.{Add, Subtract, Multiply, Divide}
-use Rattle.ngc_line_reader.specs.Grammar.{Sign, bare, plus, minus, Numeral, Real, number, parameter, bracket, Rest, close, next, sign_text, behind}
+use Rattle.ngc_line_reader.specs.Grammar.{Sign, bare, plus, minus, Numeral, Real, number, parameter, bracket, Rest, close, next, sign_text, optional_part}
 use Rattle.ngc_line_reader.specs.Grammar.{numeral_text, operator_byte, real_text, rest_text, IsDigits, digits_of, IsNumeral, IsReal, IsRest, Stops}
 
 -- the text after a number does not continue it
@@ -34,14 +34,14 @@ digits_unique (d ∷ ds) (c ∷ es) r s p q m n e =
 
 -- a number without its sign
 abbrev pub body : Numeral → List ℕ
-body n = n.whole ++ behind 46 n.decimals
+body n = n.whole ++ optional_part 46 n.decimals
 
-pub NoDigit-behind : (ds : Option (List ℕ)) (r : List ℕ) → Stops r → NoDigit (behind 46 ds ++ r)
-NoDigit-behind None r h = NoDigit-Stops r h
-NoDigit-behind (Some ds) r h = refl
+pub NoDigit-optional : (ds : Option (List ℕ)) (r : List ℕ) → Stops r → NoDigit (optional_part 46 ds ++ r)
+NoDigit-optional None r h = NoDigit-Stops r h
+NoDigit-optional (Some ds) r h = refl
 
 decimals_unique : (ds es : Option (List ℕ)) (r s : List ℕ) → IsDigits (digits_of ds) → IsDigits (digits_of es) → Stops r → Stops s →
-    behind 46 ds ++ r ≡ behind 46 es ++ s → (ds ≡ es) × (r ≡ s)
+    optional_part 46 ds ++ r ≡ optional_part 46 es ++ s → (ds ≡ es) × (r ≡ s)
 decimals_unique None None r s p q m n e = (refl, e)
 decimals_unique None (Some es) [] s p q m n e = absurd cc
 decimals_unique None (Some es) (b ∷ r) s p q m n e = absurd (m.1 cc)
@@ -56,7 +56,7 @@ decimals_unique (Some ds) (Some es) r s p q m n e =
 pub body_not : (c : ℕ) (n : Numeral) (r s : List ℕ) → is_ascii_digit c ≡ false → c ≢ 46 → IsNumeral n → body n ++ r ≡ c ∷ s → ⊥
 body_not c n r s digit point h e = starts n.whole n.decimals h e where
   starts : (ds : List ℕ) (es : Option (List ℕ)) → IsDigits ds × IsDigits (digits_of es) × (0 < length ds + length (digits_of es)) →
-      (ds ++ behind 46 es) ++ r ≡ c ∷ s → ⊥
+      (ds ++ optional_part 46 es) ++ r ≡ c ∷ s → ⊥
   starts [] None h e = omega (arith, h.2)
   starts [] (Some es) h e = point (sym (heads 46 c _ _ e))
   starts (d ∷ ds) es h e = let same : d ≡ c = cc in cc (h.0.0, digit, ap is_ascii_digit same)
@@ -64,9 +64,9 @@ body_not c n r s digit point h e = starts n.whole n.decimals h e where
 body_unique : (m n : Numeral) (r s : List ℕ) → IsNumeral m → IsNumeral n → Stops r → Stops s → body m ++ r ≡ body n ++ s →
     (m.whole ≡ n.whole) × (m.decimals ≡ n.decimals) × (r ≡ s)
 body_unique m n r s p q j k e =
-    let first = digits_unique m.whole n.whole (behind 46 m.decimals ++ r) (behind 46 n.decimals ++ s) p.0 q.0 (NoDigit-behind m.decimals r j)
-    (NoDigit-behind n.decimals s k)
-    (sym (append_assoc m.whole (behind 46 m.decimals) r) ∙ e ∙ append_assoc n.whole (behind 46 n.decimals) s) in
+    let first = digits_unique m.whole n.whole (optional_part 46 m.decimals ++ r) (optional_part 46 n.decimals ++ s) p.0 q.0 (NoDigit-optional m.decimals r j)
+    (NoDigit-optional n.decimals s k)
+    (sym (append_assoc m.whole (optional_part 46 m.decimals) r) ∙ e ∙ append_assoc n.whole (optional_part 46 n.decimals) s) in
     let second = decimals_unique m.decimals n.decimals r s p.1 q.1 j k first.1 in
     (first.0, second.0, second.1)
 

@@ -17,7 +17,7 @@ use Rattle.ngc_line_reader.specs.declared.token.Symbol.TheVariants as mark
 use Rattle.ngc_line_reader.specs.declared.fault.ItemRefusal.{ItemRefusal}
 use Rattle.ngc_line_reader.specs.declared.fault.ItemRefusal.TheVariants.{OfItem}
 use Rattle.ngc_line_reader.specs.declared.fault.FaultKind.TheVariants.{BadNumber}
-use Rattle.ngc_line_reader.specs.Grammar.{Numeral, Real, number, parameter, bracket, Rest, close, next, sign_text, behind, numeral_text, operator_byte}
+use Rattle.ngc_line_reader.specs.Grammar.{Numeral, Real, number, parameter, bracket, Rest, close, next, sign_text, optional_part, numeral_text, operator_byte}
 use Rattle.ngc_line_reader.specs.Grammar.{real_text, rest_text, IsDigits, digits_of, IsNumeral, IsReal, IsRest}
 use Rattle.ngc_line_reader.specs.Numbers.{written_value, numeral_value, is_negative}
 use Rattle.ngc_line_reader.specs.Tokens.{token_at, tokens_of, rest_tokens, IsWithinLimit, IsRestWithinLimit}
@@ -66,9 +66,9 @@ sign_parts s = by_test (begins 43 s) (begins 45 s) refl refl where
   by_test false true e f = rw (e, f) (begins_is 45 s f, refl)
   by_test false false e f = rw (e, f) (refl, refl)
 
-decimals_parts : (s : List ℕ) → (s ≡ behind 46 (decimals_at s) ++ after_decimals s) × IsDigits (digits_of (decimals_at s))
+decimals_parts : (s : List ℕ) → (s ≡ optional_part 46 (decimals_at s) ++ after_decimals s) × IsDigits (digits_of (decimals_at s))
 decimals_parts s = by_test (begins 46 s) refl where
-  by_test : (x : Bool) → begins 46 s ≡ x → (s ≡ behind 46 (decimals_at s) ++ after_decimals s) × IsDigits (digits_of (decimals_at s))
+  by_test : (x : Bool) → begins 46 s ≡ x → (s ≡ optional_part 46 (decimals_at s) ++ after_decimals s) × IsDigits (digits_of (decimals_at s))
   by_test true e =
       rw e (begins_is 46 s e ∙ ap (λ (t : List ℕ). 46 ∷ t) (sym (take-append-drop (prefix_len is_ascii_digit (drop 1 s)) (drop 1 s))), IsDigits-at (drop 1 s))
   by_test false e = rw e (refl, tt)
@@ -95,11 +95,11 @@ numeral_parts s =
     let t = after_sign s in
     let u = after_digits t in
     let first : t ≡ digits_at t ++ u = sym (take-append-drop (prefix_len is_ascii_digit t) t) in
-    let second : u ≡ behind 46 (decimals_at u) ++ after_decimals u = (decimals_parts u).0 in
-    let joined : t ≡ (digits_at t ++ behind 46 (decimals_at u)) ++ after_decimals u =
-    first ∙ ap (λ (x : List ℕ). digits_at t ++ x) second ∙ sym (append_assoc (digits_at t) (behind 46 (decimals_at u)) (after_decimals u)) in
+    let second : u ≡ optional_part 46 (decimals_at u) ++ after_decimals u = (decimals_parts u).0 in
+    let joined : t ≡ (digits_at t ++ optional_part 46 (decimals_at u)) ++ after_decimals u =
+    first ∙ ap (λ (x : List ℕ). digits_at t ++ x) second ∙ sym (append_assoc (digits_at t) (optional_part 46 (decimals_at u)) (after_decimals u)) in
     (sign_parts s).0 ∙ ap (λ (x : List ℕ). sign_text (sign_at s) ++ x) joined
-    ∙ sym (append_assoc (sign_text (sign_at s)) (digits_at t ++ behind 46 (decimals_at u)) (after_decimals u))
+    ∙ sym (append_assoc (sign_text (sign_at s)) (digits_at t ++ optional_part 46 (decimals_at u)) (after_decimals u))
 
 pub numeral_is : (s : List ℕ) → 0 < length (whole_at s) + length (fraction_at s) →
     IsNumeral (numeral_of s) × (written_value (begins 45 s) (whole_at s) (fraction_at s) ≡ numeral_value (numeral_of s))

@@ -62,12 +62,12 @@ sign_text plus = 43 ∷ []
 sign_text minus = 45 ∷ []
 
 -- nothing, or the byte in front and the bytes
-abbrev pub behind : ℕ → Option (List ℕ) → List ℕ
-behind front None = []
-behind front (Some bytes) = front ∷ bytes
+abbrev pub optional_part : ℕ → Option (List ℕ) → List ℕ
+optional_part front None = []
+optional_part front (Some bytes) = front ∷ bytes
 
 abbrev pub numeral_text : Numeral → List ℕ
-numeral_text n = sign_text n.sign ++ (n.whole ++ behind 46 n.decimals)
+numeral_text n = sign_text n.sign ++ (n.whole ++ optional_part 46 n.decimals)
 
 abbrev pub operator_byte : Operator → ℕ
 operator_byte Add = 43
@@ -97,7 +97,7 @@ items_text (item ∷ items) = item_text item ++ items_text items
 
 abbrev pub spelling : Reading → List ℕ
 spelling r = (if r.deleted then 47 ∷ [] else [])
-    ++ (behind 78 r.number ++ (items_text r.items ++ behind 59 r.remark))
+    ++ (optional_part 78 r.number ++ (items_text r.items ++ optional_part 59 r.remark))
 
 -- what is allowed
 

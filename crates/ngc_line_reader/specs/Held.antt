@@ -8,7 +8,7 @@ use Rattle.ngc_line_reader.specs.declared.line.RawWord.{RawWord}
 use Rattle.ngc_line_reader.specs.declared.line.RawSetting.{RawSetting}
 use Rattle.ngc_line_reader.specs.declared.line.Line.{Line}
 use Rattle.ngc_line_reader.specs.Text.{columns, place_in}
-use Rattle.ngc_line_reader.specs.Grammar.{Item, word, setting, comment, Reading, Reads, behind}
+use Rattle.ngc_line_reader.specs.Grammar.{Item, word, setting, comment, Reading, Reads, optional_part}
 use Rattle.ngc_line_reader.specs.Grammar.{real_text, items_text}
 use Rattle.ngc_line_reader.specs.Numbers.{digits_value}
 use Rattle.ngc_line_reader.specs.Tokens.{symbols_of, tokens_of, IsWithinLimit}
@@ -64,11 +64,11 @@ pub record Holds (bytes : List ℕ) (line : Line) (r : Reading) : Type 0 where
   pub deleted : line.deleted ≡ r.deleted
   pub number : line.number ≡ option_map digits_value r.number
   pub words : line.words.items ≡ words_from (place_in (columns bytes)) 0 r.items
-      (behind 59 r.remark)
+      (optional_part 59 r.remark)
   pub settings : line.settings.items ≡ settings_from (place_in (columns bytes)) 0 r.items
-      (behind 59 r.remark)
+      (optional_part 59 r.remark)
   pub tokens : line.tokens.items ≡ all_tokens (place_in (columns bytes)) r.items
-      (behind 59 r.remark)
+      (optional_part 59 r.remark)
 
 -- each number written in the items is a value
 abbrev pub IsItemWithinLimit : Item → Type 0

@@ -20,7 +20,7 @@ use Rattle.ngc_line_reader.specs.declared.program.parts.PartLists.{PartLists}
 use Rattle.ngc_line_reader.specs.declared.program.stored.LineEnd.{LineEnd}
 use Rattle.ngc_line_reader.specs.Program.{Line}
 use Rattle.ngc_line_reader.specs.ReadLine.{line_read}
-use Rattle.ngc_line_reader.specs.ScanLine.{Parts, Said}
+use Rattle.ngc_line_reader.specs.ScanLine.{Parts, ParsedLine}
 
 -- the stored contents of a line whose words have other values than numbers, or that has settings:
 -- words, settings, the kinds of symbols, and numbers
@@ -142,7 +142,7 @@ abbrev pub AreWithin : AllKept → List LineEnd → Type 0
 AreWithin all ends = AllByRecursion (λ e. LiesWithin all e.parts.kept) ends
 
 -- whether block delete skips a line, and its stored contents
-abbrev pub parsed_in : Result Said LineFault → Option (Bool × StoredLine)
+abbrev pub parsed_in : Result ParsedLine LineFault → Option (Bool × StoredLine)
 parsed_in (Ok said) = Some (said.deleted, stored_contents said.parts)
 parsed_in (Err fault) = None
 

@@ -106,8 +106,8 @@ HasNoLineFeed bytes = AllByRecursion (λ b. b ≢ 10) bytes
 -- the first line of some bytes begins in this way
 pub record GoesOn (lines : List ℕ → List (List ℕ)) (line rest : List ℕ) : Type 0 where
   pub more : List ℕ
-  pub behind : List (List ℕ)
-  pub split : lines (line ++ rest) ≡ (line ++ more) ∷ behind
+  pub afterwards : List (List ℕ)
+  pub split : lines (line ++ rest) ≡ (line ++ more) ∷ afterwards
 
 -- A way to split bytes into lines: a line feed ends one, and one that is already too long continues
 -- with whatever follows.
@@ -133,9 +133,9 @@ abbrev pub IsLineFault : ReadFault → Type 0
 IsLineFault fault = (fault ≢ faults.NoEnd) × (fault ≢ faults.Device)
 
 -- bytes that a line feed splits
-pub record IsSplit (bytes line behind : List ℕ) : Type 0 where
+pub record IsSplit (bytes line afterwards : List ℕ) : Type 0 where
   pub feedless : HasNoLineFeed line
-  pub parts : bytes ≡ line ++ (10 ∷ behind)
+  pub parts : bytes ≡ line ++ (10 ∷ afterwards)
 
 pub record IsLoading {A : Type 0} (l : Loader A) : Type 0 where
   pub feedless : HasNoLineFeed l.cut.items

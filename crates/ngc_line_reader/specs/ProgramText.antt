@@ -12,7 +12,7 @@ use Rattle.ngc_line_reader.specs.declared.program.fault.ReadFault.TheVariants as
 use Rattle.ngc_line_reader.specs.Grammar.{Reading, Reads}
 use Rattle.ngc_line_reader.specs.Held.{WithinLimits}
 use Rattle.ngc_line_reader.specs.Program.{Line, lines_of, read_lines, is_marked, lacks_end}
-use Rattle.ngc_line_reader.specs.ScanLine.{Said}
+use Rattle.ngc_line_reader.specs.ScanLine.{ParsedLine}
 use Rattle.ngc_line_reader.specs.ReadLine.{line_read}
 
 -- the lines that are read, and whether percent lines mark the file
@@ -24,7 +24,7 @@ abbrev pub Outcome : Type 0
 Outcome = Result ProgramText ReadFault
 
 -- why a line with this number is refused
-abbrev pub refusal_in : ℕ → Result Said LineFault → Option ReadFault
+abbrev pub refusal_in : ℕ → Result ParsedLine LineFault → Option ReadFault
 refusal_in number (Ok said) = None
 refusal_in number (Err fault) = Some (faults.Line number fault)
 

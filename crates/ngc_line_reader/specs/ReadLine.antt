@@ -4,8 +4,8 @@ use Rattle.std.specs.Prelude.{ℕ, List, length, nat_le, Result, Err, if◌then�
 use Rattle.ngc_line_reader.specs.declared.fault.FaultKind.TheVariants.{LineTooLong}
 use Rattle.ngc_line_reader.specs.declared.fault.LineFault.{LineFault}
 use Rattle.ngc_line_reader.specs.Text.{text, columns, place_in}
-use Rattle.ngc_line_reader.specs.ScanLine.{Said, fault_at, text_at}
+use Rattle.ngc_line_reader.specs.ScanLine.{ParsedLine, fault_at, text_at}
 
-abbrev pub line_read : List ℕ → Result Said LineFault
+abbrev pub line_read : List ℕ → Result ParsedLine LineFault
 line_read line = if nat_le 257 (length line) then Err (fault_at LineTooLong 257)
     else text_at (place_in (columns line)) (text line)

@@ -147,18 +147,18 @@ line_number_at s =
     if begins 78 s then numbered (digits_at (drop 1 s)) (after_digits (drop 1 s)) else Ok (None, s)
 
 -- the contents of a line
-pub record Said : Type 0 where
+pub record ParsedLine : Type 0 where
   pub deleted : Bool
   pub number : Option ℕ
   pub parts : Parts
 
-abbrev pub said_of : Line → Said
-said_of line = record { deleted = line.deleted; number = line.number; parts = parts_of line }
+abbrev pub parsed_line_of : Line → ParsedLine
+parsed_line_of line = record { deleted = line.deleted; number = line.number; parts = parts_of line }
 
 abbrev pub after_slash : List ℕ → List ℕ
 after_slash s = if begins 47 s then drop 1 s else s
 
-unfoldable pub text_at : (ℕ → ℕ) → List ℕ → Result Said LineFault
+unfoldable pub text_at : (ℕ → ℕ) → List ℕ → Result ParsedLine LineFault
 text_at place s =
     located place (after_slash s) (line_number_at (after_slash s)) >>= λ x.
     items_at place (length s + 1) no_parts x.1 >>= λ parts.

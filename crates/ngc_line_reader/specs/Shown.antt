@@ -7,7 +7,7 @@ use Rattle.ngc_line_reader.specs.declared.line.RawSetting.{RawSetting}
 use Rattle.ngc_line_reader.specs.declared.token.Symbol.{Symbol}
 use Rattle.ngc_line_reader.specs.Tokens.{symbols}
 use Rattle.ngc_line_reader.specs.Text.{columns, place_in}
-use Rattle.ngc_line_reader.specs.Grammar.{Reading, Reads, behind}
+use Rattle.ngc_line_reader.specs.Grammar.{Reading, Reads, optional_part}
 use Rattle.ngc_line_reader.specs.Held.{words_from, settings_from, all_tokens, AllWithinLimit}
 use Rattle.ngc_line_reader.specs.ScanLine.{Parts}
 
@@ -28,9 +28,9 @@ items_of p = record { words = p.words; settings = p.settings; symbols = symbols 
 -- the words, settings and symbols of a reading of these bytes
 abbrev pub parsed_items : List ℕ → Reading → Items
 parsed_items bytes r = record {
-  words = words_from (place_in (columns bytes)) 0 r.items (behind 59 r.remark);
-  settings = settings_from (place_in (columns bytes)) 0 r.items (behind 59 r.remark);
-  symbols = symbols (all_tokens (place_in (columns bytes)) r.items (behind 59 r.remark));
+  words = words_from (place_in (columns bytes)) 0 r.items (optional_part 59 r.remark);
+  settings = settings_from (place_in (columns bytes)) 0 r.items (optional_part 59 r.remark);
+  symbols = symbols (all_tokens (place_in (columns bytes)) r.items (optional_part 59 r.remark));
 }
 
 -- these are the contents of a reading of these bytes

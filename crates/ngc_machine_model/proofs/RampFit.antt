@@ -55,8 +55,8 @@ unjoined_by false x xs others off none = none refl
 pub unjoined : (job : Job) (k : ℕ) (l : Queued) (ls : List Queued) → IsStop l → ahead (legs_after job k l ls) ≡ 0
 unjoined job k l [] stop = refl
 unjoined job k l (m ∷ ms) stop =
-    let behind = legs_after job (suc k) m ms in
-    unjoined_by (nat_lt 0 (path_steps m)) (leg_of job k (continues_into l m) m) behind behind (flows_nowhere l m stop)
+    let afterwards = legs_after job (suc k) m ms in
+    unjoined_by (nat_lt 0 (path_steps m)) (leg_of job k (continues_into l m) m) afterwards afterwards (flows_nowhere l m stop)
     (λ b. unjoined job (suc k) m ms (inl (none_left (path_steps m) b)))
 
 -- ---- into the next command
@@ -70,8 +70,8 @@ never_by false v x xs others off none h = none refl h
 never_goes_on : (job : Job) (k v : ℕ) (l : Queued) (ls : List Queued) → IsStop l → GoesOnLeg v (legs_after job k l ls) → ⊥
 never_goes_on job k v l [] stop h = h
 never_goes_on job k v l (m ∷ ms) stop h =
-    let behind = legs_after job (suc k) m ms in
-    never_by (nat_lt 0 (path_steps m)) v (leg_of job k (continues_into l m) m) behind behind (flows_nowhere l m stop)
+    let afterwards = legs_after job (suc k) m ms in
+    never_by (nat_lt 0 (path_steps m)) v (leg_of job k (continues_into l m) m) afterwards afterwards (flows_nowhere l m stop)
     (λ b. never_goes_on job (suc k) v m ms (inl (none_left (path_steps m) b))) h
 
 into_by : (b : Bool) (job : Job) (v : ℕ) (l m : Queued) (x : Leg) (xs others : List Leg) → IsMachine job.machine → x.joined ≡ continues_into l m →
@@ -85,8 +85,8 @@ into_by false job v l m x xs others machine on most none h = absurd (none refl h
 pub goes_into : (job : Job) (k v : ℕ) (l : Queued) (ls : List Queued) → IsMachine job.machine → GoesOnLeg v (legs_after job k l ls) → PassesInto job v l ls
 goes_into job k v l [] machine h = h
 goes_into job k v l (m ∷ ms) machine h =
-    let behind = legs_after job (suc k) m ms in
-    into_by (nat_lt 0 (path_steps m)) job v l m (leg_of job k (continues_into l m) m) behind behind machine refl refl
+    let afterwards = legs_after job (suc k) m ms in
+    into_by (nat_lt 0 (path_steps m)) job v l m (leg_of job k (continues_into l m) m) afterwards afterwards machine refl refl
     (λ b. never_goes_on job (suc k) v m ms (inl (none_left (path_steps m) b))) h
 
 -- ---- a tick
@@ -190,9 +190,9 @@ pub legs_more : (job : Job) (k : ℕ) (l : Queued) (ls : List Queued) (q : Queue
 legs_more job k l [] q = let same : k ≡ k + 0 = omega arith in ap (λ n. legs_after job n l (q ∷ [])) same
 legs_more job k l (m ∷ ms) q =
     let same : suc k + length ms ≡ k + length (m ∷ ms) = omega arith in
-    let behind = legs_more job (suc k) m ms q ∙ ap (λ n. legs_after job (suc k) m ms ++ legs_after job n (last_behind m ms) (q ∷ [])) same in
+    let afterwards = legs_more job (suc k) m ms q ∙ ap (λ n. legs_after job (suc k) m ms ++ legs_after job n (last_behind m ms) (q ∷ [])) same in
     more_by (nat_lt 0 (path_steps m)) (leg_of job k (continues_into l m) m) (legs_after job (suc k) m (ms ++ q ∷ [])) (legs_after job (suc k) m ms)
-    (legs_after job (k + length (m ∷ ms)) (last_behind l (m ∷ ms)) (q ∷ [])) behind
+    (legs_after job (k + length (m ∷ ms)) (last_behind l (m ∷ ms)) (q ∷ [])) afterwards
 
 -- a motion with path steps has one
 pub one_more : (job : Job) (k : ℕ) (l : Queued) (ls : List Queued) (q : Queued) → 1 ≤ path_steps q →

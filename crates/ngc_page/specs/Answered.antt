@@ -21,7 +21,7 @@ LINES_KEPT = 65536
 
 -- The result of `ngc` with these options on these files: its output, the lines of its standard
 -- error, of which the first 65,536 bytes are stored, and its status. No file is unreadable.
-pub record Told (files : FileBytes) (options : Options) (output errors : List ℕ) (status : ℕ) :
+pub record IsResult (files : FileBytes) (options : Options) (output errors : List ℕ) (status : ℕ) :
     Type 0 where
   pub outcome : Result Done AnswerFault
   pub failed : ℕ
@@ -52,11 +52,11 @@ pub record Receives (space : Space) (text : List ℕ) : Type 0 where
   pub told : space.told ≡ length text
 
 -- the result of `ngc` with these options, with both texts handed over
-pub record ToldIn (files : FileBytes) (options : Options) (output errors : Space) (status : ℕ) :
+pub record IsResultIn (files : FileBytes) (options : Options) (output errors : Space) (status : ℕ) :
     Type 0 where
   pub text : List ℕ
   pub lines : List ℕ
-  pub told : Told files options text lines status
+  pub told : IsResult files options text lines status
   pub text_handed : Receives output text
   pub lines_handed : Receives errors lines
 
@@ -65,4 +65,4 @@ pub record Answered (files : FileBytes) (Asks : Options → Type 0) (output erro
     (status : ℕ) : Type 0 where
   pub options : Options
   pub asks : Asks options
-  pub told : ToldIn files options output errors status
+  pub told : IsResultIn files options output errors status

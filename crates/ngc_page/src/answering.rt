@@ -1,6 +1,6 @@
 //! The common part of every call, after its options are known.
 ghost use Rattle.std.specs.Prelude.{◌≡◌, length};
-ghost use Rattle.ngc_page.specs.Answered.{Holds, Told, ToldIn, space};
+ghost use Rattle.ngc_page.specs.Answered.{Holds, IsResult, IsResultIn, space};
 ghost use Rattle.ngc_page.specs.Files.{bytes_of};
 
 use crate::files::PassedFiles;
@@ -27,7 +27,7 @@ struct Answer {
 }
 
 fn answer_in_memory(alloc: Global, options: &Options<'_>, mut files: PassedFiles<'_>) -> Answer
-    ensures { Told (bytes_of files.entry) options.now result.output.items result.errors.taken.items
+    ensures { IsResult (bytes_of files.entry) options.now result.output.items result.errors.taken.items
         result.status }
 {
     let mut output = Device::new(Vec::new(alloc));
@@ -58,7 +58,7 @@ pub fn answer_into(
     errors: &mut [u8],
     lengths: &mut Lengths,
 ) -> u32
-    ensures { ToldIn (bytes_of files.entry) options.now
+    ensures { IsResultIn (bytes_of files.entry) options.now
         (space output.old output.new lengths.new.output)
         (space errors.old errors.new lengths.new.errors) result }
 {

@@ -32,10 +32,10 @@ on r s (Ok z) go all h = h z
 on r s (Err e) go all h = refl
 
 -- the same after another value
-behind : (r : List Symbol) (value : Result ℤ EvalFault) (go : ℤ → Found) (all : ℤ → Result ℤ EvalFault) → ((z : ℤ) → go z ≡ with_rest r (all z)) →
+afterwards : (r : List Symbol) (value : Result ℤ EvalFault) (go : ℤ → Found) (all : ℤ → Result ℤ EvalFault) → ((z : ℤ) → go z ≡ with_rest r (all z)) →
     (value >>= go) ≡ with_rest r (value >>= all)
-behind r (Ok z) go all h = h z
-behind r (Err e) go all h = refl
+afterwards r (Ok z) go all h = h z
+afterwards r (Err e) go all h = refl
 
 not_zero : (n : ℕ) → (suc n == 0) ≡ false
 not_zero n = grind (arith, nat_tests)
@@ -70,7 +70,7 @@ mutual
       let longer = ap length regrouped in
       let more = length-append (symbols_of v) (rest_symbols rest ++ r) in
       rw (regrouped, evaluates v (rest_symbols rest ++ r) steps room p limit.0 (omega (arith, fits, longer)))
-      (behind r (joined before term) (λ t. with_rest (rest_symbols rest ++ r) (value_within room p v) >>= λ x. symbols_with steps room p (left t Add) x.0 x.1)
+      (afterwards r (joined before term) (λ t. with_rest (rest_symbols rest ++ r) (value_within room p v) >>= λ x. symbols_with steps room p (left t Add) x.0 x.1)
       (λ t. value_within room p v >>= λ z. value_with room p (left t Add) z rest)
       (λ t. on r (rest_symbols rest ++ r) (value_within room p v) (λ z s. symbols_with steps room p (left t Add) z s)
       (λ z. value_with room p (left t Add) z rest)
@@ -80,7 +80,7 @@ mutual
       let longer = ap length regrouped in
       let more = length-append (symbols_of v) (rest_symbols rest ++ r) in
       rw (regrouped, evaluates v (rest_symbols rest ++ r) steps room p limit.0 (omega (arith, fits, longer)))
-      (behind r (joined before term)
+      (afterwards r (joined before term)
       (λ t. with_rest (rest_symbols rest ++ r) (value_within room p v) >>= λ x. symbols_with steps room p (left t Subtract) x.0 x.1)
       (λ t. value_within room p v >>= λ z. value_with room p (left t Subtract) z rest)
       (λ t. on r (rest_symbols rest ++ r) (value_within room p v) (λ z s. symbols_with steps room p (left t Subtract) z s)
@@ -93,7 +93,7 @@ mutual
       rw (regrouped, evaluates v (rest_symbols rest ++ r) steps room p limit.0 (omega (arith, fits, longer)))
       (on r (rest_symbols rest ++ r) (value_within room p v) (λ z s. apply Multiply term z >>= λ t. symbols_with steps room p before t s)
       (λ z. apply Multiply term z >>= λ t. value_with room p before t rest)
-      (λ z. behind r (apply Multiply term z) (λ t. symbols_with steps room p before t (rest_symbols rest ++ r)) (λ t. value_with room p before t rest)
+      (λ z. afterwards r (apply Multiply term z) (λ t. symbols_with steps room p before t (rest_symbols rest ++ r)) (λ t. value_with room p before t rest)
       (λ t. evaluates_with rest r steps room p before t limit.1 (omega (arith, fits, longer, more)))))
   evaluates_with (next Divide v rest) r (suc steps) room p before term limit fits =
       let regrouped : (symbols_of v ++ rest_symbols rest) ++ r ≡ symbols_of v ++ (rest_symbols rest ++ r) = append_assoc (symbols_of v) (rest_symbols rest) r in
@@ -102,6 +102,6 @@ mutual
       rw (regrouped, evaluates v (rest_symbols rest ++ r) steps room p limit.0 (omega (arith, fits, longer)))
       (on r (rest_symbols rest ++ r) (value_within room p v) (λ z s. apply Divide term z >>= λ t. symbols_with steps room p before t s)
       (λ z. apply Divide term z >>= λ t. value_with room p before t rest)
-      (λ z. behind r (apply Divide term z) (λ t. symbols_with steps room p before t (rest_symbols rest ++ r)) (λ t. value_with room p before t rest)
+      (λ z. afterwards r (apply Divide term z) (λ t. symbols_with steps room p before t (rest_symbols rest ++ r)) (λ t. value_with room p before t rest)
       (λ t. evaluates_with rest r steps room p before t limit.1 (omega (arith, fits, longer, more)))))
   evaluates_with rest r zero room p before term limit fits = absurd (omega (arith, fits))

@@ -9,7 +9,7 @@ use Rattle.ngc_line_reader.specs.declared.line.RawSetting.{RawSetting}
 use Rattle.ngc_line_reader.specs.ScanLine.{Parts}
 use Rattle.ngc_line_reader.specs.Shown.{Items, items_of, parsed_items}
 use Rattle.ngc_line_reader.specs.Text.{columns, place_in}
-use Rattle.ngc_line_reader.specs.Grammar.{Real, Item, word, setting, comment, Reading, behind, real_text, items_text}
+use Rattle.ngc_line_reader.specs.Grammar.{Real, Item, word, setting, comment, Reading, optional_part, real_text, items_text}
 use Rattle.ngc_line_reader.specs.declared.token.Symbol.{Symbol}
 use Rattle.ngc_line_reader.specs.declared.letter.Letter.{Letter}
 use Rattle.ngc_line_reader.specs.Tokens.{symbols_of, symbols, tokens_of, IsWithinLimit}
@@ -162,10 +162,10 @@ symbols_behind tokens n = sym (drop-map (λ (t : Token). t.symbol) n tokens)
 
 value_by_symbols : (p : Parameters) (tokens : List Token) (first : ℕ) → value_from p tokens first ≡ value_on p (symbols tokens) first
 value_by_symbols p tokens first =
-    let behind : symbols (tokens_from tokens first) ≡ drop (min first (length (symbols tokens))) (symbols tokens) =
+    let afterwards : symbols (tokens_from tokens first) ≡ drop (min first (length (symbols tokens))) (symbols tokens) =
     symbols_behind tokens (min first (length tokens)) ∙ ap (λ (n : ℕ). drop (min first n) (symbols tokens)) (sym (length-symbols tokens)) in
     ap (λ (n : ℕ). symbol_value (n + 1) 16 p (symbols (tokens_from tokens first)) >>= λ x. Ok x.0) (sym (length-symbols (tokens_from tokens first)))
-    ∙ ap (λ (ss : List Symbol). symbol_value (length ss + 1) 16 p ss >>= λ x. Ok x.0) behind
+    ∙ ap (λ (ss : List Symbol). symbol_value (length ss + 1) 16 p ss >>= λ x. Ok x.0) afterwards
 
 same_value : (p : Parameters) (ts us : List Token) (first : ℕ) → symbols ts ≡ symbols us → value_from p ts first ≡ value_from p us first
 same_value p ts us first e = value_by_symbols p ts first ∙ ap (λ (ss : List Symbol). value_on p ss first) e ∙ sym (value_by_symbols p us first)
@@ -196,7 +196,7 @@ same_settings p ts us found (s ∷ ss) e =
 
 -- the tokens of a reading of these bytes
 abbrev tokens_said : List ℕ → Reading → List Token
-tokens_said bytes r = all_tokens (place_in (columns bytes)) r.items (behind 59 r.remark)
+tokens_said bytes r = all_tokens (place_in (columns bytes)) r.items (optional_part 59 r.remark)
 
 said_at : (bytes : List ℕ) (r : Reading) → At (tokens_said bytes r) 0 (tokens_said bytes r)
 said_at bytes r = record { within = omega arith; are = refl }
@@ -206,7 +206,7 @@ line_words : (p : Parameters) (bytes : List ℕ) (parts : Parts) (r : Reading) �
 line_words p bytes parts r h limit =
     same_words p parts.tokens (tokens_said bytes r) [] parts.words (ap (λ (x : Items). x.symbols) h)
     ∙ ap (λ (ws : List RawWord). words_on p (tokens_said bytes r) ws) (ap (λ (x : Items). x.words) h)
-    ∙ words_are p (tokens_said bytes r) (place_in (columns bytes)) r.items (behind 59 r.remark) 0 [] limit (said_at bytes r)
+    ∙ words_are p (tokens_said bytes r) (place_in (columns bytes)) r.items (optional_part 59 r.remark) 0 [] limit (said_at bytes r)
     ∙ all_found (words_of p r.items)
 
 line_settings : (p : Parameters) (bytes : List ℕ) (parts : Parts) (r : Reading) → items_of parts ≡ parsed_items bytes r → AllWithinLimit r.items →
@@ -214,7 +214,7 @@ line_settings : (p : Parameters) (bytes : List ℕ) (parts : Parts) (r : Reading
 line_settings p bytes parts r h limit =
     same_settings p parts.tokens (tokens_said bytes r) [] parts.settings (ap (λ (x : Items). x.symbols) h)
     ∙ ap (λ (ss : List RawSetting). settings_on p (tokens_said bytes r) ss) (ap (λ (x : Items). x.settings) h)
-    ∙ settings_are p (tokens_said bytes r) (place_in (columns bytes)) r.items (behind 59 r.remark) 0 [] limit (said_at bytes r)
+    ∙ settings_are p (tokens_said bytes r) (place_in (columns bytes)) r.items (optional_part 59 r.remark) 0 [] limit (said_at bytes r)
     ∙ all_found (settings_of p r.items)
 
 line_found : (p : Parameters) (bytes : List ℕ) (parts : Parts) (r : Reading) → items_of parts ≡ parsed_items bytes r → AllWithinLimit r.items →

@@ -65,9 +65,9 @@ AreHeadings ps = AllByRecursion (λ p. IsHeading p.heading) ps
 
 headings_with : (h : Option Point3) (straight : Bool) (way : ℕ) (ps : List Passed) → ((d : Point3) → h ≡ Some d → IsHeading d) → AreHeadings ps →
     AreHeadings (passed_with h way (cond straight ps []))
-headings_with None straight way ps each behind = tt
-headings_with (Some d) true way ps each behind = (each d refl, behind)
-headings_with (Some d) false way ps each behind = (each d refl, tt)
+headings_with None straight way ps each afterwards = tt
+headings_with (Some d) true way ps each afterwards = (each d refl, afterwards)
+headings_with (Some d) false way ps each afterwards = (each d refl, tt)
 
 headings_on : (m : MachineFile) (way : ℕ) (cs : List Command) → AreHeadings (passed_on m way cs)
 headings_on m way [] = tt
@@ -87,16 +87,16 @@ all_out : (m : MachineFile) (e : Point3) (v : ℕ) (ps : List Passed) → IsHead
 all_out m e v [] next each h = (h, tt)
 all_out m e v (p ∷ ps) next each h =
     let here = (rate_law m.jump m.turn (difference_of p.heading e) p.way v (difference_small p.heading e each.0 next)).0 (omega (arith, h)) in
-    let behind = all_out m e v ps next each.1 (omega (arith, h)) in
-    (here.0, (here.1, behind.1))
+    let afterwards = all_out m e v ps next each.1 (omega (arith, h)) in
+    (here.0, (here.1, afterwards.1))
 
 all_in : (m : MachineFile) (e : Point3) (v : ℕ) (ps : List Passed) → IsHeading e → AreHeadings ps → v ≤ MILLION → AllByRecursion (MayHeadFrom m e v) ps →
     v ≤ rate_from_all m e ps
 all_in m e v [] next each small may = small
 all_in m e v (p ∷ ps) next each small may =
     let here = (rate_law m.jump m.turn (difference_of p.heading e) p.way v (difference_small p.heading e each.0 next)).1 (small, may.0) in
-    let behind = all_in m e v ps next each.1 small may.1 in
-    omega (arith, here, behind)
+    let afterwards = all_in m e v ps next each.1 small may.1 in
+    omega (arith, here, afterwards)
 
 above_corner : (slow : Bool) (corner rate v : ℕ) → slow ≡ nat_le v corner → v ≤ max corner rate → (v ≤ corner) ⊎ (v ≤ rate)
 above_corner true corner rate v test h = inl (grind (arith, nat_tests))

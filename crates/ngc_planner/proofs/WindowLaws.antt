@@ -247,12 +247,12 @@ may_any jump turn n way w v few more h =
 
 free_with : (h : Option Point3) (straight : Bool) (m : MachineFile) (e : Point3) (v way : ℕ) (ps : List Passed) → ((d : Point3) → h ≡ Some d → IsHeading d) → IsHeading e →
     v ≤ MILLION → MayHead m.jump m.turn 2000000 way v → v ≤ rate_from_all m e ps → v ≤ rate_from_all m e (passed_with h way (cond straight ps []))
-free_with None straight m e v way ps each next small may behind = small
-free_with (Some d) true m e v way ps each next small may behind =
+free_with None straight m e v way ps each next small may afterwards = small
+free_with (Some d) true m e v way ps each next small may afterwards =
     let few = difference_small d e (each d refl) next in
     let here = (rate_law m.jump m.turn (difference_of d e) way v few).1 (small, may_any m.jump m.turn (difference_of d e) way way v few (omega arith) may) in
-    omega (arith, here, behind)
-free_with (Some d) false m e v way ps each next small may behind =
+    omega (arith, here, afterwards)
+free_with (Some d) false m e v way ps each next small may afterwards =
     let few = difference_small d e (each d refl) next in
     let here = (rate_law m.jump m.turn (difference_of d e) way v few).1 (small, may_any m.jump m.turn (difference_of d e) way way v few (omega arith) may) in
     omega (arith, here, small)
@@ -286,9 +286,9 @@ pub line_window : (m : MachineFile) (e d : Point3) (w : Way) (cs : List Command)
 line_window m e d w cs rate r steps passed next line length first all =
     let most = heading_rate_most m.jump m.turn (difference_of d e) 0 (difference_small d e passed next) in
     let h = heading_rate m.jump m.turn (difference_of d e) 0 in
-    let behind : rate_from_all m e (cond (is_line w) (passed_on m (line_steps m w) cs) []) ≡ rate_from_all m e (passed_on m steps cs) =
+    let afterwards : rate_from_all m e (cond (is_line w) (passed_on m (line_steps m w) cs) []) ≡ rate_from_all m e (passed_on m steps cs) =
     ap (λ b. rate_from_all m e (cond b (passed_on m (line_steps m w) cs) [])) line ∙ ap (λ n. rate_from_all m e (passed_on m n cs)) (sym length) in
-    least_of_both r rate h (rate_from_all m e (passed_on m steps cs)) _ all first most behind
+    least_of_both r rate h (rate_from_all m e (passed_on m steps cs)) _ all first most afterwards
 
 -- ---- the walk back: from the rate v, where the last of cs ended way path steps ago, to the rate
 -- r, where that of ds did

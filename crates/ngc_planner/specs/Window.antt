@@ -50,8 +50,8 @@ goes_straight (Move m) = is_line m.way
 goes_straight _ = false
 
 abbrev pub passed_with : Option Point3 → ℕ → List Passed → List Passed
-passed_with (Some d) way behind = record { heading = d; way = way } ∷ behind
-passed_with None way behind = []
+passed_with (Some d) way afterwards = record { heading = d; way = way } ∷ afterwards
+passed_with None way afterwards = []
 
 -- the headings that were passed on commands, nearest first; the first one ended way path steps ago
 abbrev pub passed_on : MachineFile → ℕ → List Command → List Passed

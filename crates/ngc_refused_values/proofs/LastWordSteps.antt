@@ -12,7 +12,7 @@ use Rattle.ngc_refused_values.specs.declared.last_words.LastWord.{LastWord}
 -- the facts about the line at index `i`
 pub record At (lines : List Line) (i number : ℕ) (bytes : List ℕ) : Type 0 where
   pub line : Line
-  pub behind : drop i lines ≡ line ∷ drop (i + 1) lines
+  pub afterwards : drop i lines ≡ line ∷ drop (i + 1) lines
   pub number_is : line.number ≡ number
   pub bytes_are : line.bytes ≡ bytes
 
@@ -33,7 +33,7 @@ at lines i number bytes told said = by (slice_get lines i) refl told said where
   by : (found : Option Line) → slice_get lines i ≡ found → option_map (λ l. l.number) found ≡ Some number → option_map (λ l. l.bytes) found ≡ Some bytes →
       At lines i number bytes
   by None is told said = cc
-  by (Some l) is told said = record { line = l; behind = next_here lines i l is; number_is = cc told; bytes_are = cc said }
+  by (Some l) is told said = record { line = l; afterwards = next_here lines i l is; number_is = cc told; bytes_are = cc said }
 
 -- the last of three is the last of the first and the last two
 in_turn : (a b c : Option LastWord) → option_or (option_or a b) c ≡ option_or a (option_or b c)
@@ -51,7 +51,7 @@ module _ (kind : Kind) (deletes : Bool) (number : ℕ) (lines : List Line) (i n 
       let no : (here.line.number == number) ≡ false = ne_eqb here.line.number number (λ e. other (sym here.number_is ∙ e)) in
       let told : option_or (option_or (last_word kind deletes number (drop (i + 1) lines)) (word_read kind deletes n (line_read bytes))) last
       ≡ option_or (last_word kind deletes number (drop i lines)) last =
-      rw (here.behind, no, here.number_is, here.bytes_are) refl in
+      rw (here.afterwards, no, here.number_is, here.bytes_are) refl in
       sym (in_turn (last_word kind deletes number (drop (i + 1) lines)) (word_read kind deletes n (line_read bytes)) last) ∙ told ∙ far
 
   pub arrived : At lines i n bytes → SoFar kind deletes number lines (drop i lines) last → n ≡ number
@@ -59,5 +59,5 @@ module _ (kind : Kind) (deletes : Bool) (number : ℕ) (lines : List Line) (i n 
   arrived here far it =
       let yes : (here.line.number == number) ≡ true = eq-eqb here.line.number number (here.number_is ∙ it) in
       let told : option_or (word_read kind deletes n (line_read bytes)) last ≡ option_or (last_word kind deletes number (drop i lines)) last =
-      rw (here.behind, yes, here.number_is, here.bytes_are) refl in
+      rw (here.afterwards, yes, here.number_is, here.bytes_are) refl in
       told ∙ far

@@ -7,7 +7,7 @@ use Rattle.std.specs.Ordering.{int_eq}
 use Rattle.ngc_line_reader.specs.Letter.{letter_byte}
 use Rattle.ngc_line_reader.specs.Program.{Line}
 use Rattle.ngc_line_reader.specs.ReadLine.{line_read}
-use Rattle.ngc_line_reader.specs.ScanLine.{Parts, Said}
+use Rattle.ngc_line_reader.specs.ScanLine.{Parts, ParsedLine}
 use Rattle.ngc_line_reader.specs.declared.fault.LineFault.{LineFault}
 use Rattle.ngc_line_reader.specs.declared.letter.Letter.{Letter}
 use Rattle.ngc_line_reader.specs.declared.letter.Letter.TheVariants as letters
@@ -43,13 +43,13 @@ word_of kind said = find (λ w. is_of kind said.tokens w) said.words
 -- ---- the last of them
 
 -- the word of a line, unless block delete takes the line out
-abbrev pub parsed_word : Kind → Bool → ℕ → Said → Option LastWord
+abbrev pub parsed_word : Kind → Bool → ℕ → ParsedLine → Option LastWord
 parsed_word kind deletes number said =
     if deletes && said.deleted then None
     else option_map (λ w. record { line = number; number = written_number said.parts.tokens w })
     (word_of kind said.parts)
 
-abbrev pub word_read : Kind → Bool → ℕ → Result Said LineFault → Option LastWord
+abbrev pub word_read : Kind → Bool → ℕ → Result ParsedLine LineFault → Option LastWord
 word_read kind deletes number (Ok said) = parsed_word kind deletes number said
 word_read kind deletes number (Err fault) = None
 

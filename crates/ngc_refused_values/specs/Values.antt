@@ -6,7 +6,7 @@ use Rattle.std.specs.List.{list_any}
 use Rattle.std.specs.Ordering.{int_eq}
 use Rattle.ngc_line_reader.specs.Program.{Line}
 use Rattle.ngc_line_reader.specs.ReadLine.{line_read}
-use Rattle.ngc_line_reader.specs.ScanLine.{Parts, Said}
+use Rattle.ngc_line_reader.specs.ScanLine.{Parts, ParsedLine}
 use Rattle.ngc_line_reader.specs.declared.fault.LineFault.{LineFault}
 use Rattle.ngc_line_reader.specs.declared.letter.Letter.TheVariants as letters
 use Rattle.ngc_line_reader.specs.declared.line.RawWord.{RawWord}
@@ -36,7 +36,7 @@ abbrev pub mounts_selected : Parts → Bool
 mounts_selected said =
     changes_tool said && (not (has_word letters.T said) && not (has_word letters.H said))
 
-abbrev pub mounted_read : Option LastWord → Result Said LineFault → Option LastWord
+abbrev pub mounted_read : Option LastWord → Result ParsedLine LineFault → Option LastWord
 mounted_read selection (Ok said) = if mounts_selected said.parts then selection else None
 mounted_read selection (Err fault) = None
 

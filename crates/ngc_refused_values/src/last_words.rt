@@ -3,7 +3,7 @@ ghost use Rattle.std.specs.Prelude.{◌≡◌};
 ghost use Rattle.std.specs.Option.{option_or};
 ghost use Rattle.ngc_line_reader.specs.ProgramView.{text_in};
 ghost use Rattle.ngc_line_reader.specs.ReadLine.{line_read};
-ghost use Rattle.ngc_line_reader.specs.ScanLine.{parts_of, said_of};
+ghost use Rattle.ngc_line_reader.specs.ScanLine.{parts_of, parsed_line_of};
 ghost use Rattle.ngc_refused_values.specs.LastWords.{is_of, last_word, may_be, word_of};
 ghost use Rattle.ngc_refused_values.specs.LastWords.{word_read, parsed_word};
 
@@ -64,7 +64,7 @@ fn word_of(kind: Kind, line: &Line) -> Option<RawWord>
 }
 
 fn parsed_word(kind: Kind, deletes: bool, number: u32, line: &Line) -> Option<LastWord>
-    ensures { result ≡ parsed_word kind deletes number (said_of line.now) }
+    ensures { result ≡ parsed_word kind deletes number (parsed_line_of line.now) }
 {
     if deletes && line.deleted {
         return None;

@@ -35,7 +35,7 @@ next_fixture best fs b i f inside found =
 -- none is left
 pub none_left : {X : Type 0} (f : X → List Nearest) (best : Option Nearest) (xs : List X) (i : ℕ) → length xs ≤ i →
     fold nearer best (flat_map f (drop i xs)) ≡ best
-none_left f best xs i behind = at_drop_all (λ l. fold nearer best (flat_map f l)) xs i behind
+none_left f best xs i afterwards = at_drop_all (λ l. fold nearer best (flat_map f l)) xs i afterwards
 
 pub flat_mapped : {X Y : Type 0} (f : Y → List Nearest) (h : X → Y) (xs : List X) → flat_map f (map h xs) ≡ flat_map (λ x. f (h x)) xs
 flat_mapped f h [] = refl
@@ -53,4 +53,4 @@ next_box bounds pieces k p inside found =
 
 pub no_box : (bounds : GridBox) (pieces : List Piece) (k : ℕ) → length pieces ≤ k →
     fold joint_box bounds (map (λ (q : Piece). q.bounds) (drop k pieces)) ≡ bounds
-no_box bounds pieces k behind = at_drop_all (λ (l : List Piece). fold joint_box bounds (map (λ (q : Piece). q.bounds) l)) pieces k behind
+no_box bounds pieces k afterwards = at_drop_all (λ (l : List Piece). fold joint_box bounds (map (λ (q : Piece). q.bounds) l)) pieces k afterwards

@@ -9,7 +9,7 @@ use Rattle.ngc_text.specs.Millimetres.{length_text}
 use Rattle.ngc_line_reader.specs.Letter.{letter_byte}
 use Rattle.ngc_line_reader.specs.Program.{Line}
 use Rattle.ngc_line_reader.specs.ReadLine.{line_read}
-use Rattle.ngc_line_reader.specs.ScanLine.{Parts, Said}
+use Rattle.ngc_line_reader.specs.ScanLine.{Parts, ParsedLine}
 use Rattle.ngc_line_reader.specs.declared.fault.LineFault.{LineFault}
 use Rattle.ngc_line_reader.specs.declared.letter.Letter.{Letter}
 use Rattle.ngc_line_reader.specs.declared.letter.Letter.TheVariants as letters
@@ -128,7 +128,7 @@ named_word (Modal (UnknownCode letter millionths)) said =
 named_word (Modal (WithoutUse letter)) said = first_word letter Any said
 named_word _ said = None
 
-abbrev pub mark_in : Fault → Result Said LineFault → Option ℕ
+abbrev pub mark_in : Fault → Result ParsedLine LineFault → Option ℕ
 mark_in fault (Ok said) = option_map (λ w. w.column) (named_word fault said.parts)
 mark_in fault (Err e) = None
 
@@ -166,7 +166,7 @@ as_written tokens w =
 abbrev pub written_word : Fault → Parts → Option WrittenWord
 written_word fault said = option_and_then (as_written said.tokens) (named_word fault said)
 
-abbrev pub written_in : Fault → Result Said LineFault → Option WrittenWord
+abbrev pub written_in : Fault → Result ParsedLine LineFault → Option WrittenWord
 written_in fault (Ok said) = written_word fault said.parts
 written_in fault (Err e) = None
 

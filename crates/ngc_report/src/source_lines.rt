@@ -33,12 +33,12 @@ pub(crate) fn source_line(bytes: &[u8], number: u32) -> Option<&[u8]>
     let mut left = number;
     let mut rest = bytes;
     while left > 0 && !rest.is_empty() {
-        let (line, behind) = cut_line(rest);
+        let (line, afterwards) = cut_line(rest);
         if left == 1 {
             return Some(line);
         }
         left -= 1;
-        rest = behind;
+        rest = afterwards;
     }
     None
 }

@@ -123,11 +123,11 @@ is_began form job list s ready same = record {
 }
 
 -- and the trace that continues after outcomes
-abbrev pub behind : LiveForm → LiveData → Switches → List Outcome → Trace
-behind form live s outcomes = trace_from (paused form (start_of_job live.job) s.list.now outcomes) s
+abbrev pub afterwards : LiveForm → LiveData → Switches → List Outcome → Trace
+afterwards form live s outcomes = trace_from (paused form (start_of_job live.job) s.list.now outcomes) s
 
 goes_on : (form : LiveForm) (live : LiveData) (lines : List EventLine) (first x : Option (List ℕ)) (s : Switches) (h : HasRun form live lines first x) →
-    s.list.now ≡ live.switches → trace_from live.paused s ≡ behind form live s h.outcomes
+    s.list.now ≡ live.switches → trace_from live.paused s ≡ afterwards form live s h.outcomes
 goes_on form live lines first x s h same =
     ap (λ o. trace_from o s) (h.paused ∙ ap (λ l. paused form (start_of_job live.job) l h.outcomes) (sym same))
 
@@ -159,7 +159,7 @@ events_both xs ys = flat_map-append _ xs ys
 text_with : (form : LiveForm) (live : LiveData) (lines : List EventLine) (first x : Option (List ℕ)) (s : Switches) (h : HasRun form live lines first x)
     (events : List Event) (ps : List Outcome) (states : List State) → s.list.now ≡ live.switches →
     Run live.job (opening live.job.machine) events (h.outcomes ++ ps) states →
-    whole_text (began form live.job s) h.outcomes ++ whole_text (behind form live s h.outcomes) ps
+    whole_text (began form live.job s) h.outcomes ++ whole_text (afterwards form live s h.outcomes) ps
     ≡ text_as (form_of form) live.job events (h.outcomes ++ ps) states
 text_with form live lines first x s h events ps states same runs =
     sym (more_text form live.job.machine.ticks_per_second (start_of_job live.job) s h.outcomes ps)
@@ -181,9 +181,9 @@ runs_on form live t arriving o lines more first x y z s a b h same trace chunk d
     stretches_joined job (opening job.machine) live.state t h.given done.given os ps (stretch_of form live lines first x h) done.stretch in
     let G : State → Type 0 = λ k. AreSent live.feeds job k (events_of more) done.given done.stretch.states in
     let E : List Event → Type 0 = λ es. AreSent live.feeds job (opening job.machine) es given (h.run.states ++ done.stretch.states) in
-    let on : trace_from live.paused s ≡ behind form live s os = goes_on form live lines first x s h same in
-    let now : Appends x z (whole_text (behind form live s os) ps) =
-    all_written (behind form live s os) a b x y z done.given ps (trace ∙ on) (chunk ∙ ap opening_text on) done.records wrote in
+    let on : trace_from live.paused s ≡ afterwards form live s os = goes_on form live lines first x s h same in
+    let now : Appends x z (whole_text (afterwards form live s os) ps) =
+    all_written (afterwards form live s os) a b x y z done.given ps (trace ∙ on) (chunk ∙ ap opening_text on) done.records wrote in
     record {
       given = given;
       outcomes = os ++ ps;
@@ -194,7 +194,7 @@ runs_on form live t arriving o lines more first x y z s a b h same trace chunk d
           h.are_sent (subst G h.reached done.are_sent));
       written =
           subst (Appends first z) (text_with form live lines first x s h given ps stretch.states same stretch.runs)
-          (appends_both first x z (whole_text (began form job s) os) (whole_text (behind form live s os) ps) (wrote_before form live lines first x s h same) now);
+          (appends_both first x z (whole_text (began form job s) os) (whole_text (afterwards form live s os) ps) (wrote_before form live lines first x s h same) now);
       reached = stretch.last;
       ready = h.ready;
       paused =
@@ -232,7 +232,7 @@ breaks : (form : LiveForm) (live : LiveData) (t : State) (lines more : List Even
     (given : List Event) (ps : List Outcome) → (h : HasRun form live lines first x) → s.list.now ≡ live.switches →
     Begins text (lines ++ more) → (stretch : Stretch live.job live.state t given ps) →
     AreBegun live.feeds live.job live.state (events_of more) given stretch.states →
-    AppendsPrefix x z (whole_text (behind form live s h.outcomes) ps) → IsBrokenLive form live.feeds live.job text first z
+    AppendsPrefix x z (whole_text (afterwards form live s h.outcomes) ps) → IsBrokenLive form live.feeds live.job text first z
 breaks form live t lines more first x z s text given ps h same begins stretch are wrote =
     let job : Job = live.job in
     let os : List Outcome = h.outcomes in
@@ -241,7 +241,7 @@ breaks form live t lines more first x z s text given ps h same begins stretch ar
     let G : State → Type 0 = λ k. AreBegun live.feeds job k (events_of more) given stretch.states in
     let E : List Event → Type 0 = λ es. AreBegun live.feeds job (opening job.machine) es (h.given ++ given) (h.run.states ++ stretch.states) in
     let old : List ℕ = whole_text (began form job s) os in
-    let now : List ℕ = whole_text (behind form live s os) ps in
+    let now : List ℕ = whole_text (afterwards form live s os) ps in
     let P : List ℕ → Type 0 = λ l. AppendsPrefix first z l in
     record {
       lines = lines ++ more;
@@ -264,11 +264,11 @@ pub broken_within : (form : LiveForm) (live : LiveData) (job : Job) (feeds : Boo
     a.chunk ≡ opening_text (trace_from live.paused s) → Begins text (lines ++ more) → IsFedShort live.feeds live.job live.state a x z (events_of more) →
     job ≡ live.job → feeds ≡ live.feeds → IsBrokenLive form feeds job text first z
 broken_within form live job feeds lines more first x z s a text h same trace chunk begins cut is are =
-    let on : trace_from live.paused s ≡ behind form live s h.outcomes = goes_on form live lines first x s h same in
+    let on : trace_from live.paused s ≡ afterwards form live s h.outcomes = goes_on form live lines first x s h same in
     subst (λ b. IsBrokenLive form b job text first z) (sym are)
     (subst (λ (j : Job). IsBrokenLive form live.feeds j text first z) (sym is)
     (breaks form live cut.reached lines more first x z s text cut.given cut.outcomes h same begins cut.stretch cut.are_begun
-    (some_begun (behind form live s h.outcomes) a x z cut.outcomes (trace ∙ on) (chunk ∙ ap opening_text on) cut.begun)))
+    (some_begun (afterwards form live s h.outcomes) a x z cut.outcomes (trace ∙ on) (chunk ∙ ap opening_text on) cut.begun)))
 
 -- and after it
 pub broken_behind : (form : LiveForm) (live : LiveData) (job : Job) (feeds : Bool) (t : State) (lines more : List EventLine) (first x y z : Option (List ℕ))
@@ -276,12 +276,12 @@ pub broken_behind : (form : LiveForm) (live : LiveData) (job : Job) (feeds : Boo
     a.chunk ≡ opening_text (trace_from live.paused s) → Begins text (lines ++ more) → IsFed live.feeds live.job live.state t a b x y (events_of more) →
     AppendsPrefix y z (b.chunk ++ last_text b.trace) → job ≡ live.job → feeds ≡ live.feeds → IsBrokenLive form feeds job text first z
 broken_behind form live job feeds t lines more first x y z s a b text h same trace chunk begins done wrote is are =
-    let on : trace_from live.paused s ≡ behind form live s h.outcomes = goes_on form live lines first x s h same in
+    let on : trace_from live.paused s ≡ afterwards form live s h.outcomes = goes_on form live lines first x s h same in
     subst (λ k. IsBrokenLive form k job text first z) (sym are)
     (subst (λ (j : Job). IsBrokenLive form live.feeds j text first z) (sym is)
     (breaks form live t lines more first x z s text done.given done.outcomes h same begins done.stretch
     (begun_all live.feeds live.job live.state (events_of more) done.given done.stretch.states done.are_sent)
-    (all_begun (behind form live s h.outcomes) a b x y z done.given done.outcomes (trace ∙ on) (chunk ∙ ap opening_text on) done.records wrote)))
+    (all_begun (afterwards form live s h.outcomes) a b x y z done.given done.outcomes (trace ∙ on) (chunk ∙ ap opening_text on) done.records wrote)))
 
 -- ---- nothing is fed yet
 

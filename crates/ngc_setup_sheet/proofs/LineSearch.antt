@@ -37,12 +37,12 @@ rest_after_line-less (b ∷ bytes) h =
     let h : length (cond (b == 10) bytes (rest_after_line bytes)) ≤ length bytes = shorter (b == 10) bytes (rest_after_line bytes) (rest_after_line-length bytes) in
     omega arith
 
-pub quote_from-next : (header key : List ℕ) (ahead number : ℕ) (bytes line behind : List ℕ) (is : Seek) → 0 < length bytes → line ≡ line_of bytes →
-    behind ≡ rest_after_line bytes
+pub quote_from-next : (header key : List ℕ) (ahead number : ℕ) (bytes line afterwards : List ℕ) (is : Seek) → 0 < length bytes → line ≡ line_of bytes →
+    afterwards ≡ rest_after_line bytes
     → is ≡ sought header key ahead line
     → quote_from header key ahead number (lines_of bytes) ≡ found_or is (shown_line number line)
-    (λ still. quote_from header key still (number + 1) (lines_of behind))
-quote_from-next header key ahead number bytes line behind is h l b s =
+    (λ still. quote_from header key still (number + 1) (lines_of afterwards))
+quote_from-next header key ahead number bytes line afterwards is h l b s =
     ap (quote_from header key ahead number) (lines_of-split bytes h) ∙ rw (s, l, b) refl
 
 pub filled : (xs : List ℕ) → (length xs == 0) ≡ false → 0 < length xs

@@ -53,9 +53,9 @@ sought header key ahead line =
     else (if ahead == 0 && gives key line then seeks.Found else seeks.Ahead ahead)
 
 abbrev pub found_or : Seek → List ℕ → (ℕ → List ℕ) → List ℕ
-found_or seeks.Found here behind = here
-found_or seeks.Ended here behind = []
-found_or (seeks.Ahead ahead) here behind = behind ahead
+found_or seeks.Found here afterwards = here
+found_or seeks.Ended here afterwards = []
+found_or (seeks.Ahead ahead) here afterwards = afterwards ahead
 
 -- The line that is found; the first line has this number.
 abbrev pub quote_from : List ℕ → List ℕ → ℕ → ℕ → List (List ℕ) → List ℕ

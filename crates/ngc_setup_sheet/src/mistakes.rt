@@ -118,10 +118,10 @@ fn is_again(value: &Value, other: &Value) -> bool
     }
 }
 
-fn is_repeated(value: &Value, behind: &[Value]) -> bool
-    ensures { result ≡ is_repeated (view value.now) (items_view behind.now) }
+fn is_repeated(value: &Value, afterwards: &[Value]) -> bool
+    ensures { result ≡ is_repeated (view value.now) (items_view afterwards.now) }
 {
-    for other in behind {
+    for other in afterwards {
         if is_again(value, other) {
             return true;
         }

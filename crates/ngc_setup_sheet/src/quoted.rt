@@ -11,7 +11,7 @@ use ngc_text::Chunk;
 /// Returns the first line and the bytes after it.
 fn split_line(bytes: &[u8]) -> (&[u8], &[u8])
     ensures line { result.0.now ≡ line_of bytes.now }
-    ensures behind { result.1.now ≡ rest_after_line bytes.now }
+    ensures afterwards { result.1.now ≡ rest_after_line bytes.now }
 {
     for (i, byte) in bytes.iter().enumerate() {
         if *byte == b'\n' {
@@ -32,10 +32,10 @@ fn unindented(line: &[u8]) -> &[u8]
     &[]
 }
 
-fn ends_key(behind: &[u8]) -> bool
-    ensures { result ≡ ends_key behind.now }
+fn ends_key(afterwards: &[u8]) -> bool
+    ensures { result ≡ ends_key afterwards.now }
 {
-    match behind {
+    match afterwards {
         [byte, ..] => *byte == b' ' || *byte == b'\t' || *byte == b'=',
         [] => false,
     }
@@ -89,14 +89,14 @@ fn add_quote_from(chunk: &mut Chunk, header: &[u8], key: &[u8], headers: u128, b
     let mut number = 1;
     let mut left = bytes;
     while !left.is_empty() {
-        let (line, behind) = split_line(left);
+        let (line, afterwards) = split_line(left);
         match sought(header, key, ahead, line) {
             Seek::Found => return chunk.add_line(number, line),
             Seek::Ended => return,
             Seek::Ahead(still) => ahead = still,
         }
         number += 1;
-        left = behind;
+        left = afterwards;
     }
 }
 

@@ -140,16 +140,21 @@ fn add_rounded(chunk: &mut Chunk, number: u128, unit: &[u8])
 }
 
 /// Adds a text, a number and a text.
-pub(crate) fn add_numbered<I: Integer>(chunk: &mut Chunk, before: &[u8], number: I, behind: &[u8])
+pub(crate) fn add_numbered<I: Integer>(
+    chunk: &mut Chunk,
+    before: &[u8],
+    number: I,
+    afterwards: &[u8],
+)
     requires room { length chunk.old + 160 ≤ CHUNK_SIZE }
     requires before { length before.now ≤ 20 }
-    requires behind { length behind.now ≤ 80 }
-    ensures text { chunk.new ≡ chunk.old ++ (before.now ++ I.text number ++ behind.now) }
+    requires afterwards { length afterwards.now ≤ 80 }
+    ensures text { chunk.new ≡ chunk.old ++ (before.now ++ I.text number ++ afterwards.now) }
     ensures short { length chunk.new ≤ length chunk.old + 160 }
 {
     chunk.add_text(before);
     chunk.add_number(number);
-    chunk.add_text(behind);
+    chunk.add_text(afterwards);
 }
 
 #[tactic(auto, unfolding(crate::specs::Spelling::figure_text))]
@@ -173,17 +178,17 @@ fn add_figure(chunk: &mut Chunk, figure: &Figure)
 }
 
 /// Adds three texts.
-fn add_named(chunk: &mut Chunk, before: &[u8], name: &[u8], behind: &[u8])
+fn add_named(chunk: &mut Chunk, before: &[u8], name: &[u8], afterwards: &[u8])
     requires room { length chunk.old + 160 ≤ CHUNK_SIZE }
     requires before { length before.now ≤ 20 }
     requires name { length name.now ≤ 20 }
-    requires behind { length behind.now ≤ 80 }
-    ensures text { chunk.new ≡ chunk.old ++ (before.now ++ name.now ++ behind.now) }
+    requires afterwards { length afterwards.now ≤ 80 }
+    ensures text { chunk.new ≡ chunk.old ++ (before.now ++ name.now ++ afterwards.now) }
     ensures short { length chunk.new ≤ length chunk.old + 160 }
 {
     chunk.add_text(before);
     chunk.add_text(name);
-    chunk.add_text(behind);
+    chunk.add_text(afterwards);
 }
 
 #[tactic(auto, unfolding(crate::specs::Spelling::warning_text))]

@@ -19,7 +19,7 @@ use Rattle.ngc_inputs.specs.Shops.{ShopResultIs}
 use Rattle.ngc_inputs.specs.Unread.{Input, unread_by}
 use Rattle.ngc_inputs.proofs.JobLaws.{keeps_same, if_known}
 use Rattle.ngc_inputs.proofs.SetupLaws.{on_setup, of_file}
-use Rattle.ngc_inputs.proofs.UnreadLaws.{Told}
+use Rattle.ngc_inputs.proofs.UnreadLaws.{ReportsIfUnread}
 use Rattle.ngc_line_reader.specs.Grammar.{Reading}
 use Rattle.ngc_line_reader.specs.ProgramText.{ProgramText, program_of, AreReadings, HaveReadings}
 use Rattle.ngc_canonical.specs.declared.fault.ProgramFault.{ProgramFault}
@@ -124,8 +124,8 @@ not_unread text old new (answers.Certificate e) fails = absurd fails
 not_unread text old new _ fails = refl
 
 pub told_none : (fails : Option (List ℕ) → Type 0) (bytes : FileBytes) (files : List Input) (old new : ℕ) (why : Option InputFault) →
-    why ≡ None → new ≡ old → Told fails bytes files old new why
-told_none fails bytes files old new why none same = subst (Told fails bytes files old new) (sym none) same
+    why ≡ None → new ≡ old → ReportsIfUnread fails bytes files old new why
+told_none fails bytes files old new why none same = subst (ReportsIfUnread fails bytes files old new) (sym none) same
 
 -- on the machine and the file that are named
 pub adapted_files : (bytes after : FileBytes) (options : AdaptOptions) (shop : Shop) (request : Request) (items file : List ℕ)

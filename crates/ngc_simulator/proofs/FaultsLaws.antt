@@ -9,7 +9,7 @@ use Rattle.ngc_simulator.specs.AllFaults.{answer_of, is_of_text}
 use Rattle.ngc_inputs.specs.Setups.{FileBytes}
 use Rattle.ngc_inputs.specs.Unread.{FailsByInput, Input, unread_by}
 use Rattle.ngc_inputs.specs.declared.fault.AnswerFault.{AnswerFault}
-use Rattle.ngc_inputs.proofs.UnreadLaws.{Told}
+use Rattle.ngc_inputs.proofs.UnreadLaws.{ReportsIfUnread}
 
 read_none : (s : Setting) (first : TextFault) → is_of_text first ≡ true → unread_by (answer_of s first) ≡ None
 read_none s (Unread (Line n e)) is = refl
@@ -27,4 +27,4 @@ answered_read s first answer is read = ap unread_by is ∙ read_none s first rea
 pub all_read : (fails : Option (List ℕ) → Type 0) (bytes : FileBytes) (files : List Input) (old new : ℕ) (r : Result (Unit {0}) AnswerFault) →
     IfErr r (λ fault. unread_by fault ≡ None) → new ≡ old → FailsByInput {T = Unit {0}} fails bytes files old new r
 all_read fails bytes files old new (Ok u) read same = same
-all_read fails bytes files old new (Err fault) read same = subst (λ why. Told fails bytes files old new why) (sym read) same
+all_read fails bytes files old new (Err fault) read same = subst (λ why. ReportsIfUnread fails bytes files old new why) (sym read) same

@@ -18,7 +18,7 @@ use Rattle.ngc_command_line.specs.declared.options.ShowOptions.{ShowOptions}
 use Rattle.ngc_command_line.specs.declared.options.Options.{Options}
 use Rattle.ngc_command_line.specs.declared.options.Options.TheVariants as commands
 use Rattle.ngc_fault_texts.specs.Numbers.{is_fault}
-use Rattle.ngc_fault_texts.specs.Told.{Tells as TellsFault}
+use Rattle.ngc_fault_texts.specs.Explanations.{ExplainsOrFails as ExplainsFault}
 use Rattle.ngc_fault_texts.specs.declared.telling.ExplainFault.TheVariants.{Unknown, Write}
 use Rattle.ngc_text.specs.Failures.{Rises}
 use Rattle.ngc_text.specs.Written.{AppendsPrefix}
@@ -389,13 +389,13 @@ MachineResult bytes options old new (Err fault) = MakesOn bytes options old new 
 
 -- `explain` reads no file, and neither do `help` and `version`
 abbrev pub ExplainResult : ℕ → Option (List ℕ) → Option (List ℕ) → Result Done AnswerFault → Type 0
-ExplainResult number old new (Ok Quietly) = TellsFault number old new (Ok tt)
+ExplainResult number old new (Ok Quietly) = ExplainsFault number old new (Ok tt)
 ExplainResult number old new (Ok (RunThrough time)) = ⊥
 ExplainResult number old new (Ok (WithNotes notes)) = ⊥
 ExplainResult number old new (Err answers.UnknownFault) =
-    TellsFault number old new (Err Unknown) × (is_fault number ≡ false)
+    ExplainsFault number old new (Err Unknown) × (is_fault number ≡ false)
 ExplainResult number old new (Err (answers.Write fault)) =
-    TellsFault number old new (Err (Write fault))
+    ExplainsFault number old new (Err (Write fault))
 ExplainResult number old new (Err fault) = ⊥
 
 abbrev pub HelpResult : Option (List ℕ) → Option (List ℕ) → Result Done AnswerFault → Type 0

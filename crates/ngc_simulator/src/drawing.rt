@@ -3,8 +3,8 @@ ghost use Rattle.std.specs.Prelude.{◌≡◌, ◌≤◌, ℕ, List, IfErr, Ok, 
 ghost use Rattle.std.specs.Prelude.{option_map};
 ghost use Rattle.ngc_canonical.specs.Interpreter.{setup_of};
 ghost use Rattle.ngc_commands.specs.Sequence.{COMMAND_LIMIT};
-ghost use Rattle.ngc_certificate_text.specs.Contents.{said_of};
-ghost use Rattle.ngc_certificate_text.specs.Said.{parsed_certificate};
+ghost use Rattle.ngc_certificate_text.specs.Contents.{certificate_data};
+ghost use Rattle.ngc_certificate_text.specs.ParsedPart.{parsed_certificate};
 ghost use Rattle.ngc_line_reader.specs.ProgramText.{program_of, HaveReadings};
 ghost use Rattle.ngc_line_reader.specs.ProgramView.{text_in};
 ghost use Rattle.ngc_machine_files.specs.Machine.{file_of};
@@ -146,7 +146,7 @@ fn checked_refusal<A: Allocator>(
     requires { length commands.now ≤ COMMAND_LIMIT }
     ensures { result ≡ refusal_answer
         (fault_at (file_of machine.now) (setting_of block_delete) commands.now
-        (said_of certificate.now)) }
+        (certificate_data certificate.now)) }
 {
     let setting = setting_of(block_delete);
     match setting_fault(machine, setting, commands, certificate.motions(setting)) {
@@ -263,7 +263,7 @@ pub fn draw_certified<A: Allocator + Copy, W: Sink>(
     // For any files from which the program and the certificate were read.
     ensures draws { (bytes text : List ℕ) → program_of bytes ≡ Ok (text_in program.now) →
         HaveReadings (text_in program.now).lines →
-        parsed_certificate text ≡ Ok (said_of certificate.now) →
+        parsed_certificate text ≡ Ok (certificate_data certificate.now) →
         DrawsNamed (setup_of machine.now tools.now) bytes text block_delete look
         (W.written output.old) (W.written output.new) result }
     ensures sink { FailsByOutput result (W.failures output.old) (W.failures output.new) }

@@ -112,12 +112,12 @@ none_beside p = omega (arith, none_on p.u, none_on p.v)
 pub entered_from : (g limit : ℕ) (b w v : Vector2) (steep : Bool) (first s : Spoke) (roll : Roll) (z : ℤ) → v ≡ w → way_to first ≡ place_of v →
     (0 < unsigned_abs v.u + unsigned_abs v.v → 0 < first.x) → z ≡ way_cross b v → z <ℤ pos 0 → steep ≡ is_steep first.quadrant b →
     IsEntry g limit steep first roll → s ≡ rolled g roll first → IsEntered g limit b w s
-entered_from g limit b w v steep first s roll z same at out area behind told entry on =
+entered_from g limit b w v steep first s roll z same at out area afterwards told entry on =
     let e : way_cross b v ≡ way_cross b w = ap (λ (x : Vector2). way_cross b x) same in (
       first,
       at ∙ ap (λ (x : Vector2). place_of x) same,
       subst (λ (x : Vector2). 0 < unsigned_abs x.u + unsigned_abs x.v → 0 < first.x) same out,
-      inr (omega (arith, ints, behind, area, e), (roll, subst (λ t. IsEntry g limit t first roll) told entry, on)),
+      inr (omega (arith, ints, afterwards, area, e), (roll, subst (λ t. IsEntry g limit t first roll) told entry, on)),
     )
 
 pub stood_from : (g limit : ℕ) (b w v : Vector2) (first : Spoke) (z : ℤ) → v ≡ w → way_to first ≡ place_of v →

@@ -168,7 +168,7 @@ joint_by_axis a g p o v limit joint b j first last h from few =
     let same : h.begun ≡ first_axis b.y = omega (arith, few, less, h.begins.soon) in
     subst (λ n. IsByAxis g (turned_by n b.quadrant) j) same (elim from [
       | inl stood ↦ stood_by_axis g b j h.begun (subst (λ (t : Spoke). Begins g b t h.begun) stood.1 h.begins) (omega (arith, few, less))
-      | inr behind ↦ (let roll = behind.1 in rolled_by_axis g limit _ b j h.begun roll.0 roll.1 (subst (λ (t : Spoke). Begins g b t h.begun) roll.2 h.begins)
+      | inr afterwards ↦ (let roll = afterwards.1 in rolled_by_axis g limit _ b j h.begun roll.0 roll.1 (subst (λ (t : Spoke). Begins g b t h.begun) roll.2 h.begins)
           (omega (arith, few, less)))
     ])
 
@@ -212,10 +212,10 @@ large_way a g p q joint b j first last h step large from root end_way end_out =
           let free = free_joint g (q + 1) v j h.joint_is.high h.joint_is.low in
           large_stands_way g q (2 * g / 5) (g / 2) (4 * g / 5) v p h.begun h.whole free.0 b j last rim h.placed_joint free.1 ray
           (subst (λ (t : Spoke). IsReached b t last h.begun h.whole) stood.1 h.reach))
-      | inr behind ↦ (
+      | inr afterwards ↦ (
           let c = cross_told b j (view_of a).start (way_from g (view_of a).centre joint) h.joint_is.start_way h.joint_is.joint_way in
-          let turned : cross (way_to b) (way_to j) <ℤ pos 0 = omega (arith, ints, behind.0, c) in
-          let roll = behind.1 in
+          let turned : cross (way_to b) (way_to j) <ℤ pos 0 = omega (arith, ints, afterwards.0, c) in
+          let roll = afterwards.1 in
           large_enters_way g q (2 * g / 5) (g / 2) (4 * g / 5) v p h.begun h.whole _ b j last roll.0 rim h.placed_joint
           (near_joint a g p (q + 1) v joint b j h.joint_is turned) ray end_out turned roll.1
           (subst (λ (t : Spoke). IsReached b t last h.begun h.whole) roll.2 h.reach))
@@ -267,10 +267,10 @@ small_way a g p q o joint b j first last h step least small from root end_way =
           let free = free_joint g o v j h.joint_is.high h.joint_is.low in
           small_stands_way g q o (2 * g / 5) (11 * g / 10) (4 * g / 5) v p h.begun h.whole free.0 b j last size small h.placed_joint free.1 ray
           (subst (λ (t : Spoke). IsReached b t last h.begun h.whole) stood.1 h.reach))
-      | inr behind ↦ (
+      | inr afterwards ↦ (
           let c = cross_told b j (view_of a).start (way_from g (view_of a).centre joint) h.joint_is.start_way h.joint_is.joint_way in
-          let turned : cross (way_to b) (way_to j) <ℤ pos 0 = omega (arith, ints, behind.0, c) in
-          let roll = behind.1 in
+          let turned : cross (way_to b) (way_to j) <ℤ pos 0 = omega (arith, ints, afterwards.0, c) in
+          let roll = afterwards.1 in
           small_enters_way g q o (2 * g / 5) (11 * g / 10) (4 * g / 5) v p h.begun h.whole _ b j last roll.0 size small h.placed_joint
           (near_joint a g p o v joint b j h.joint_is turned) ray turned roll.1
           (subst (λ (t : Spoke). IsReached b t last h.begun h.whole) roll.2 h.reach))

@@ -213,7 +213,7 @@ cross_told b j s w hb hj = ap (λ (q : Point2). cross q (way_to j)) hb ∙ ap (�
 -- step
 pub near_joint : (a : ArcShape) (g p o v : ℕ) (joint : Spot) (b j : Spoke) → HasJoint a g p o v joint b j → cross (way_to b) (way_to j) <ℤ pos 0 →
     IsNearJoint g o v (is_steep j.quadrant (view_of a).start) j
-near_joint a g p o v joint b j h behind =
+near_joint a g p o v joint b j h afterwards =
     let t = is_steep j.quadrant (view_of a).start in
     let k = h.joined in
     elim (four_ways b.quadrant j.quadrant) [
@@ -221,7 +221,7 @@ near_joint a g p o v joint b j h behind =
           let m = moved_same b.quadrant g (p + 1) o b.x b.y j.x j.y (into g p o b.quadrant j.quadrant b.quadrant b.x b.y j.x j.y same k.moved) in
           let c : cross (way_to b) (way_to j) ≡ pos (b.x * j.y) -ℤ pos (b.y * j.x) =
           ap (λ (z : Quadrant). cross (way_to b) (around z j.x j.y)) same ∙ cross_same b.quadrant b.x b.y j.x j.y in
-          let less : b.x * j.y < b.y * j.x = omega (arith, ints, behind, c) in
+          let less : b.x * j.y < b.y * j.x = omega (arith, ints, afterwards, c) in
           let steep = steep_told b j (view_of a).start h.start_way same in
           record {
             high = h.high;
@@ -246,7 +246,7 @@ near_joint a g p o v joint b j h behind =
       | inr (inl next) ↦ (
           let c : cross (way_to b) (way_to j) ≡ pos (b.x * j.x + b.y * j.y) =
           ap (λ (z : Quadrant). cross (way_to b) (around z j.x j.y)) next ∙ cross_next b.quadrant b.x b.y j.x j.y in
-          absurd (omega (arith, ints, behind, c)))
+          absurd (omega (arith, ints, afterwards, c)))
       | inr (inr (inl opposite)) ↦ (
           let m = moved_opposite b.quadrant g (p + 1) o b.x b.y j.x j.y
           (into g p o b.quadrant j.quadrant (following (following b.quadrant)) b.x b.y j.x j.y opposite k.moved) in

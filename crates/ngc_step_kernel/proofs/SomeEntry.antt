@@ -78,13 +78,13 @@ record IsSpokeAt (g o : ℕ) (v : View) (joint : Spot) (j : Spoke) : Type 0 wher
 rolls_in : (g o limit : ℕ) (v : View) (joint : Spot) (j : Spoke) (roll : Roll) → IsSpokeAt g o v joint j →
     way_cross v.start (way_from g v.centre joint) <ℤ pos 0 →
     IsEntry g limit (is_steep j.quadrant v.start) j roll → HasEntered g o limit v joint (spot_moved joint (roll_move roll j.quadrant)) (rolled g roll j)
-rolls_in g o limit v joint j roll z behind entry =
+rolls_in g o limit v joint j roll z afterwards entry =
     let can = can_enter g limit (is_steep j.quadrant v.start) j roll entry in
     let w = way_from g v.centre joint in
     record {
       about = about_rolls g (place_of v.centre) joint j.quadrant j.x j.y roll z.joined.about can;
       entered = entered_from g limit v.start w w (is_steep j.quadrant v.start) j (rolled g roll j) roll (way_cross v.start w)
-          refl z.way z.out refl behind refl entry refl;
+          refl z.way z.out refl afterwards refl entry refl;
       beside = one_beside joint (spot_moved joint (roll_move roll j.quadrant)) (roll_move roll j.quadrant) refl;
       near = rolled_near g o j roll can z.joined.near;
     }
@@ -107,8 +107,8 @@ entry_at : (g o limit : ℕ) (v : View) (joint : Spot) (j : Spoke) → IsSpokeAt
     (entry : Spot) × (first : Spoke) × HasEntered g o limit v joint entry first
 entry_at g o limit v joint j z =
     by_lt_z (way_cross v.start (way_from g v.centre joint)) (pos 0)
-    (λ behind. let found = some_entry g limit (is_steep j.quadrant v.start) j in
-    (spot_moved joint (roll_move found.0 j.quadrant), rolled g found.0 j, rolls_in g o limit v joint j found.0 z behind found.1))
+    (λ afterwards. let found = some_entry g limit (is_steep j.quadrant v.start) j in
+    (spot_moved joint (roll_move found.0 j.quadrant), rolled g found.0 j, rolls_in g o limit v joint j found.0 z afterwards found.1))
     (λ ahead. (joint, j, stands g o limit v joint j z ahead))
 
 pub some_begin : (g o limit : ℕ) (v : View) (joint : Spot) → IsJointOf g o v.centre joint → o ≤ 2000020000 → g ≤ 50000 →

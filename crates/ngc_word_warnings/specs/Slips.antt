@@ -10,7 +10,7 @@ use Rattle.ngc_machine_files.specs.declared.tools.Tool.{Tool}
 use Rattle.ngc_line_reader.specs.Letter.{letter_byte}
 use Rattle.ngc_line_reader.specs.Program.{Line}
 use Rattle.ngc_line_reader.specs.ReadLine.{line_read}
-use Rattle.ngc_line_reader.specs.ScanLine.{Parts, Said}
+use Rattle.ngc_line_reader.specs.ScanLine.{Parts, ParsedLine}
 use Rattle.ngc_line_reader.specs.declared.fault.LineFault.{LineFault}
 use Rattle.ngc_line_reader.specs.declared.letter.Letter.{Letter}
 use Rattle.ngc_line_reader.specs.declared.letter.Letter.TheVariants as letters
@@ -210,13 +210,13 @@ step_taken kind commands b number said = record {
   between = passed number commands said b;
 }
 
-abbrev pub step_said : Kind → Bool → List Command → Between → ℕ → Said → Step
+abbrev pub step_said : Kind → Bool → List Command → Between → ℕ → ParsedLine → Step
 step_said kind deletes commands b number said =
     if is_executed deletes commands number said.deleted
     then step_taken kind commands b number said.parts
     else record { slip = None; between = b }
 
-abbrev pub step_read : Kind → Bool → List Command → Between → ℕ → Result Said LineFault → Step
+abbrev pub step_read : Kind → Bool → List Command → Between → ℕ → Result ParsedLine LineFault → Step
 step_read kind deletes commands b number (Ok said) = step_said kind deletes commands b number said
 step_read kind deletes commands b number (Err fault) = record { slip = None; between = b }
 

@@ -5,7 +5,7 @@ ghost use Rattle.ngc_commands.specs.Reached.{after_all};
 ghost use Rattle.ngc_machine_files.specs.Machine.{file_of};
 ghost use Rattle.ngc_line_reader.specs.ProgramView.{text_in};
 ghost use Rattle.ngc_line_reader.specs.ReadLine.{line_read};
-ghost use Rattle.ngc_line_reader.specs.ScanLine.{parts_of, said_of};
+ghost use Rattle.ngc_line_reader.specs.ScanLine.{parts_of, parsed_line_of};
 ghost use Rattle.ngc_word_warnings.specs.Slips.{mounts_tool, is_mounted, unmounted, slip_in};
 ghost use Rattle.ngc_word_warnings.specs.Slips.{last_line, is_executed, step_taken};
 ghost use Rattle.ngc_word_warnings.specs.Slips.{step_said, step_read};
@@ -274,7 +274,7 @@ fn step_said(
 ) -> Step
     requires { before.now.count ≤ length commands.now }
     ensures value { result ≡ step_said kind deletes commands.now before.now number
-        (said_of line.now) }
+        (parsed_line_of line.now) }
     ensures few { result.between.count ≤ length commands.now }
 {
     if is_executed(deletes, commands, number, line.deleted) {

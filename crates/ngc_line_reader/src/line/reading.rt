@@ -8,7 +8,7 @@ ghost use Rattle.ngc_line_reader.specs.Scan.{Gives};
 ghost use Rattle.ngc_line_reader.specs.ScanLine.{parts_of, no_parts, refused_at as refused_in};
 ghost use Rattle.ngc_line_reader.specs.ScanLine.{items_at as items_found};
 ghost use Rattle.ngc_line_reader.specs.ScanLine.{line_number_at as line_number_found};
-ghost use Rattle.ngc_line_reader.specs.ScanLine.{after_slash as behind_slash, said_of};
+ghost use Rattle.ngc_line_reader.specs.ScanLine.{after_slash as behind_slash, parsed_line_of};
 ghost use Rattle.ngc_line_reader.specs.ScanLine.{text_at as text_found};
 ghost use Rattle.ngc_line_reader.specs.ReadLine.{line_read};
 ghost use Rattle.ngc_line_reader.specs.Refused.{WritesTooLarge, WritesManyWords};
@@ -56,12 +56,12 @@ fn items_at(columns: &[u16], room: usize, text: &[u8], line: &mut Line) -> Resul
     let mut rest = text;
     while !rest.is_empty() && !begins(b';', rest) {
         room -= 1;
-        if let Some(behind) = short_word(columns, room, rest, line) {
-            rest = behind;
+        if let Some(afterwards) = short_word(columns, room, rest, line) {
+            rest = afterwards;
             continue;
         }
         match item_at(columns, room, rest, line) {
-            Ok(behind) => rest = behind,
+            Ok(afterwards) => rest = afterwards,
             Err(why) => return Err(refused_at(columns, rest.len(), why)),
         }
     }
@@ -102,7 +102,7 @@ fn after_slash(s: &[u8]) -> &[u8]
 #[tactic(auto, unfolding(crate::specs::ScanLine::text_at))]
 fn text_at(columns: &[u16], text: &[u8], line: &mut Line) -> Result<(), LineFault>
     requires { length text.now ≤ 256 }
-    ensures reads { Gives (λ _. said_of line.new) result
+    ensures reads { Gives (λ _. parsed_line_of line.new) result
         (text_found (place_in columns.now) text.now) }
     ensures not_long { IfErr result (λ f. f.kind ≢ FaultKind.LineTooLong) }
 {
@@ -148,7 +148,7 @@ impl Line {
             IsOk result }
         // A line that is too long is refused for that reason. Any other line is refused for the
         // first fault from the left.
-        ensures first { Gives (λ _. said_of self.new) result (line_read bytes.now) }
+        ensures first { Gives (λ _. parsed_line_of self.new) result (line_read bytes.now) }
         // Only a line of more than 256 bytes is refused as too long.
         ensures long { IfErr result (λ f. f.kind ≡ FaultKind.LineTooLong → 256 < length bytes.now) }
         // A number is refused as too large only if such a number is written,
@@ -165,7 +165,7 @@ impl Line {
         ensures found { OnOk result (HoldsReading bytes.now self.new) }
         ensures only { (r : Reading) → Reads bytes.now r → WithinLimits r → length bytes.now ≤ 256 →
             IsOk result }
-        ensures first { Gives (λ _. said_of self.new) result (line_read bytes.now) }
+        ensures first { Gives (λ _. parsed_line_of self.new) result (line_read bytes.now) }
         ensures long { IfErr result (λ f. f.kind ≡ FaultKind.LineTooLong → 256 < length bytes.now) }
         ensures large { IfErr result (λ f. f.kind ≡ FaultKind.TooLarge → WritesTooLarge bytes.now) }
         ensures many { IfErr result (λ f. f.kind ≡ FaultKind.TooManyWords →
@@ -192,7 +192,7 @@ pub fn read_line(line: &[u8]) -> Result<Line, LineFault>
         IsOk result }
     // A line that is too long is refused for that reason. Any other line is refused for the first
     // fault from the left.
-    ensures first { Gives said_of result (line_read line.now) }
+    ensures first { Gives parsed_line_of result (line_read line.now) }
     // Only a line of more than 256 bytes is refused as too long.
     ensures long { IfErr result (λ f. f.kind ≡ FaultKind.LineTooLong → 256 < length line.now) }
     // A number is refused as too large only if such a number is written,

@@ -2,7 +2,7 @@ ghost use Rattle.std.specs.Prelude.{◌≡◌, ◌≢◌, ℕ, ◌+◌, ◌≤�
 ghost use Rattle.std.specs.Prelude.{IfErr, OnOk, MatchOption, MatchResult, true, None, Ok, Err};
 ghost use Rattle.ngc_line_reader.specs.ProgramText.{HaveReadings, fault_of, program_of};
 ghost use Rattle.ngc_line_reader.specs.ReadLine.{line_read};
-ghost use Rattle.ngc_line_reader.specs.ScanLine.{said_of};
+ghost use Rattle.ngc_line_reader.specs.ScanLine.{parsed_line_of};
 ghost use Rattle.ngc_line_reader.specs.ProgramView.{text_in, lines_in, FaultIs, OutcomeIs};
 ghost use Rattle.ngc_line_reader.specs.Stored.{line_of};
 ghost use Rattle.ngc_line_reader.specs.Load.{is_percent as is_percent_line, number_in, ended};
@@ -82,7 +82,7 @@ fn check_line(
     ensures number { IfOk result (λ n. n ≡ number_in phase done) }
     ensures few { OnOk result (done < 100000) }
     ensures sound { OnOk result (fault_of done (line_of (number_in phase done) bytes.now) ≡ None) }
-    ensures held { OnOk result (line_read bytes.now ≡ Ok (said_of room.new.line)) }
+    ensures held { OnOk result (line_read bytes.now ≡ Ok (parsed_line_of room.new.line)) }
     ensures refused { IfErr result
         (λ e. RefusedBy (fault_of done (line_of (number_in phase done) bytes.now)) e) }
 {
@@ -286,9 +286,9 @@ impl<A: Allocator> Loader<A> {
             room_of self.new + length chunk.now ≤ room_of self.old }
     {
         let mut rest = chunk;
-        while let Some((piece, behind)) = split_line(rest) {
+        while let Some((piece, afterwards)) = split_line(rest) {
             match self.end_line(piece, room) {
-                Ok(Step::More) => rest = behind,
+                Ok(Step::More) => rest = afterwards,
                 Ok(Step::End) => return Ok(Step::End),
                 Err(fault) => return Err(fault),
             }

@@ -139,8 +139,8 @@ fn load_tokens(kinds: &[Kind], numbers: &[Value], tokens: &mut ArrayVec<Token, 2
     tokens.clear();
     let mut rest = numbers;
     for kind in kinds {
-        let (symbol, behind) = take_symbol(*kind, rest);
-        rest = behind;
+        let (symbol, afterwards) = take_symbol(*kind, rest);
+        rest = afterwards;
         tokens.push(Token { symbol, column: 0 });
     }
 }

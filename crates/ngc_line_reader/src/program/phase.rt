@@ -17,11 +17,11 @@ fn skip_blanks(bytes: &[u8]) -> &[u8]
     ensures { result.now ≡ after_blanks bytes.now }
 {
     let mut rest = bytes;
-    while let Some((first, behind)) = rest.split_first() {
+    while let Some((first, afterwards)) = rest.split_first() {
         if *first != b' ' && *first != b'\t' {
             return rest;
         }
-        rest = behind;
+        rest = afterwards;
     }
     rest
 }

@@ -4,7 +4,7 @@ ghost use Rattle.std.specs.Option.{option_map};
 ghost use Rattle.std.proofs.Props.{props};
 ghost use Rattle.ngc_line_reader.specs.Stored.{is_stored, line_of, lines_from, start_from};
 ghost use Rattle.ngc_line_reader.specs.ReadLine.{line_read};
-ghost use Rattle.ngc_line_reader.specs.ScanLine.{parts_of, said_of};
+ghost use Rattle.ngc_line_reader.specs.ScanLine.{parts_of, parsed_line_of};
 ghost use Rattle.ngc_line_reader.specs.Kept.{parts_in, parts_at, stored_contents, LiesWithin, AreWithin};
 ghost use Rattle.ngc_line_reader.specs.Kept.{AreKept};
 ghost use Rattle.ngc_line_reader.specs.Words.{pairs_of, SaysNumbers, SaysDeleted};
@@ -176,7 +176,7 @@ impl<A: Allocator> StoredLines<A> {
     ) -> Result<(), AllocError>
         requires few { length (lines_in self.old) < 100000 }
         requires short { length bytes.now ≤ 256 }
-        requires read { line_read bytes.now ≡ Ok (said_of reading.now) }
+        requires read { line_read bytes.now ≡ Ok (parsed_line_of reading.now) }
         ensures pushed { OnOk result
             (lines_in self.new ≡ lines_in self.old ++ (line_of number bytes.now ∷ [])) }
     {

@@ -27,12 +27,12 @@ pub loop-kind-preserved : goal.loop-kind-preserved
 loop-kind-preserved g c =
     let t = turn c.args.order.now (g.M.MotionList.entries c.args.off.now) (g.M.MotionList.entries c.args.on.now) c.loop-kind.kind-index c.loop-kind.passed c.requires c.loop-kind-test.true
     c.loop-kind.invariant.rest in
-    let behind = c.after_entry-passed.ensures in
+    let afterwards = c.after_entry-passed.ensures in
     record {
       front = one_more item_lines (items_in c.args.order.now (g.M.MotionList.entries c.args.off.now) (g.M.MotionList.entries c.args.on.now)) c.loop-kind.kind-index _ _ _ _ _ _ _ t.inside
           (c.entry_there-indices.ensures.is ∙ sym (t.is _)) c.loop-kind.invariant.front c.in-Ok.ensures.text;
       failures = search rules;
-      off = rw behind (off_behind _ c.loop-kind.passed c.loop-kind.kind-index c.loop-kind.invariant.off);
-      on = rw behind (on_behind _ c.loop-kind.passed c.loop-kind.kind-index c.loop-kind.invariant.on);
-      rest = rw behind t.rest;
+      off = rw afterwards (off_behind _ c.loop-kind.passed c.loop-kind.kind-index c.loop-kind.invariant.off);
+      on = rw afterwards (on_behind _ c.loop-kind.passed c.loop-kind.kind-index c.loop-kind.invariant.on);
+      rest = rw afterwards t.rest;
     }

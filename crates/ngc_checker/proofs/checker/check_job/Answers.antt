@@ -1,6 +1,6 @@
 use Rattle.std.proofs.Common.{◌≡◌, None, Some, sym, ◌∙◌, refl}
 use Rattle.std.specs.Prelude.{Ok, true}
-use Rattle.ngc_certificate_text.specs.Contents.{said_of}
+use Rattle.ngc_certificate_text.specs.Contents.{certificate_data}
 use Rattle.ngc_job.specs.Job.{commands_in}
 use Rattle.ngc_checker.specs.FirstRefusal.{settings_fault}
 use Rattle.ngc_checker.proofs.Acceptance.{accepted}
@@ -13,7 +13,7 @@ new-requires g c =
     let job = c.args.job in
     let on = commands_in true job in
     let good = c.machine.ensures.job in
-    let said = said_of c.args.certificate.now in
+    let said = certificate_data c.args.certificate.now in
     let none : settings_fault job.machine (Ok job.off) (Ok on) said ≡ None =
     same_settings _ _ _ _ _ _ _ _ said c.machine.ensures.value c.commands-off.ensures c.commands-on.ensures c.motions-off_motions.ensures
     c.motions-on_motions.ensures ∙ sym c.settings_fault.ensures ∙ c.in-None.is in
@@ -21,12 +21,12 @@ new-requires g c =
 
 pub returns-in-Some-clause-verdict : goal.returns-in-Some-clause-verdict
 returns-in-Some-clause-verdict g c =
-    same_settings _ _ _ _ _ _ _ _ (said_of c.args.certificate.now) c.machine.ensures.value c.commands-off.ensures c.commands-on.ensures
+    same_settings _ _ _ _ _ _ _ _ (certificate_data c.args.certificate.now) c.machine.ensures.value c.commands-off.ensures c.commands-on.ensures
     c.motions-off_motions.ensures c.motions-on_motions.ensures ∙ sym c.settings_fault.ensures ∙ c.in-Some.is
 
 pub returns-in-None-clause-verdict : goal.returns-in-None-clause-verdict
 returns-in-None-clause-verdict g c = (
-  same_settings _ _ _ _ _ _ _ _ (said_of c.args.certificate.now) c.machine.ensures.value c.commands-off.ensures c.commands-on.ensures
+  same_settings _ _ _ _ _ _ _ _ (certificate_data c.args.certificate.now) c.machine.ensures.value c.commands-off.ensures c.commands-on.ensures
       c.motions-off_motions.ensures c.motions-on_motions.ensures ∙ sym c.settings_fault.ensures ∙ c.in-None.is,
   c.new.ensures,
 )
@@ -35,7 +35,7 @@ pub returns-in-Some-clause-accepts : goal.returns-in-Some-clause-accepts
 returns-in-Some-clause-accepts g c off_valid on_valid =
     let job = c.args.job in
     let on = commands_in true job in
-    let said = said_of c.args.certificate.now in
+    let said = certificate_data c.args.certificate.now in
     let some : settings_fault job.machine (Ok job.off) (Ok on) said ≡ Some c.in-Some.fault =
     same_settings _ _ _ _ _ _ _ _ said c.machine.ensures.value c.commands-off.ensures c.commands-on.ensures c.motions-off_motions.ensures
     c.motions-on_motions.ensures ∙ sym c.settings_fault.ensures ∙ c.in-Some.is in

@@ -1,6 +1,6 @@
 use Rattle.std.proofs.Common.{OnErr, List, ℕ, ap₂, subst, sym, ◌∙◌}
 use Rattle.ngc_text.specs.Written.{AppendsPrefix}
-use Rattle.ngc_fault_texts.specs.Told.{column_line}
+use Rattle.ngc_fault_texts.specs.Explanations.{column_line}
 use Rattle.ngc_fault_texts.proofs.WrittenProgress.{column_same}
 use Rattle.ngc_fault_texts.proofs.telling.write_column.Goals as goal
 

@@ -1,5 +1,5 @@
 use Rattle.std.proofs.Common.{◌≡◌, drop}
-use Rattle.ngc_fault_texts.specs.Told.{told_in}
+use Rattle.ngc_fault_texts.specs.Explanations.{told_in}
 use Rattle.ngc_fault_texts.proofs.WrittenProgress.{Reached}
 use Rattle.ngc_fault_texts.proofs.telling.write_part.Given as goal
 

@@ -1,6 +1,6 @@
 use Rattle.std.proofs.Common.{rules}
 use Rattle.std.proofs.lemmas.List.{at_drop_more}
-use Rattle.ngc_fault_texts.specs.Told.{told}
+use Rattle.ngc_fault_texts.specs.Explanations.{told}
 use Rattle.ngc_fault_texts.proofs.WrittenProgress.{stopped, went_on}
 use Rattle.ngc_fault_texts.proofs.telling.write_parts.Goals as goal
 

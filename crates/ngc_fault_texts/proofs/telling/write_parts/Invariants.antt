@@ -1,5 +1,5 @@
 use Rattle.std.proofs.Common.{◌≡◌, drop}
-use Rattle.ngc_fault_texts.specs.Told.{told}
+use Rattle.ngc_fault_texts.specs.Explanations.{told}
 use Rattle.ngc_fault_texts.proofs.WrittenProgress.{Reached}
 use Rattle.ngc_fault_texts.proofs.telling.write_parts.Given as goal
 

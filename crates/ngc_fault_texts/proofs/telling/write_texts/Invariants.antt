@@ -1,5 +1,5 @@
 use Rattle.std.proofs.Common.{◌≡◌, drop}
-use Rattle.ngc_fault_texts.specs.Told.{all_of}
+use Rattle.ngc_fault_texts.specs.Explanations.{all_of}
 use Rattle.ngc_fault_texts.proofs.WrittenProgress.{Reached}
 use Rattle.ngc_fault_texts.proofs.telling.write_texts.Given as goal
 

@@ -8,7 +8,7 @@ use Rattle.ngc_planner.proofs.stretch.can_brake.Goals as goal
 pub returns-then-brakes_within : goal.returns-then-brakes_within
 returns-then-brakes_within c =
     let short = ltb-true (braking c.args.rate c.args.change) c.args.rest (sym c.brakes_within.ensures ∙ c.if-brakes_within.true) in
-    sym (short_has_room c.args.rate c.args.change c.args.rest c.args.head.now.exit c.args.behind.now short)
+    sym (short_has_room c.args.rate c.args.change c.args.rest c.args.head.now.exit c.args.afterwards.now short)
 
 pub returns-then-slows : goal.returns-then-slows
 returns-then-slows c =
@@ -21,6 +21,6 @@ returns-then-slows c =
     let is = c.slows.ensures in
     let limit = c.passes.ensures in
     let low : slows w a d (passes c.args.head.now.exit c.in-Some.next.now) ≡ true = cc (c.if-slows.true) in
-    let room = room_first w a d c.args.head.now.exit c.args.beyond c.in-Some.next.now c.args.behind.now c.requires.change_least c.requires.some c.requires.rate
+    let room = room_first w a d c.args.head.now.exit c.args.beyond c.in-Some.next.now c.args.afterwards.now c.requires.change_least c.requires.some c.requires.rate
     c.requires.each c.in-Some.ensures.value c.if-not-next.false there (omega (arith, c.braking.type_inv)) c.requires.beyond low in
     rw way at c.ends_within.ensures ∙ sym room

@@ -5,4 +5,4 @@ use Rattle.ngc_setup_sheet.proofs.mistakes.is_repeated.Given as goal
 
 abbrev pub invariant-loop-other : goal.invariant-loop-other
 invariant-loop-other l =
-    is_repeated (view l.value) (items_view l.behind) ≡ is_repeated (view l.value) (items_view (drop l.other-index l.behind))
+    is_repeated (view l.value) (items_view l.afterwards) ≡ is_repeated (view l.value) (items_view (drop l.other-index l.afterwards))

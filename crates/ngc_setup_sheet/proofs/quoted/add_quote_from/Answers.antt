@@ -9,7 +9,7 @@ returns-in-Found c =
     (c.loop-left.invariant.same
     ∙ quote_from-next c.args.header.now c.args.key.now c.loop-left.ahead c.loop-left.number c.loop-left.left.now c.split_line.result.0.now
     c.split_line.result.1.now _
-    more c.split_line.ensures.line c.split_line.ensures.behind c.in-Found.ensures)
+    more c.split_line.ensures.line c.split_line.ensures.afterwards c.in-Found.ensures)
 
 pub returns-in-Ended : goal.returns-in-Ended
 returns-in-Ended c =
@@ -18,24 +18,24 @@ returns-in-Ended c =
     (c.loop-left.invariant.same
     ∙ quote_from-next c.args.header.now c.args.key.now c.loop-left.ahead c.loop-left.number c.loop-left.left.now c.split_line.result.0.now
     c.split_line.result.1.now _
-    more c.split_line.ensures.line c.split_line.ensures.behind c.in-Ended.ensures)
+    more c.split_line.ensures.line c.split_line.ensures.afterwards c.in-Ended.ensures)
 
 pub loop-left-smaller : goal.loop-left-smaller
 loop-left-smaller c =
     let more : 0 < length c.loop-left.left.now = filled c.loop-left.left.now (sym c.is_empty.ensures ∙ c.loop-left-test.true) in
-    let less = ap length c.split_line.ensures.behind in
+    let less = ap length c.split_line.ensures.afterwards in
     omega (arith, rest_after_line-less c.loop-left.left.now more)
 
 pub loop-left-preserved : goal.loop-left-preserved
 loop-left-preserved c =
     let more : 0 < length c.loop-left.left.now = filled c.loop-left.left.now (sym c.is_empty.ensures ∙ c.loop-left-test.true) in
-    let less = ap length c.split_line.ensures.behind in
+    let less = ap length c.split_line.ensures.afterwards in
     record {
       chunk = c.loop-left.invariant.chunk;
       same =
           c.loop-left.invariant.same
           ∙ quote_from-next c.args.header.now c.args.key.now c.loop-left.ahead c.loop-left.number c.loop-left.left.now c.split_line.result.0.now
           c.split_line.result.1.now _
-          more c.split_line.ensures.line c.split_line.ensures.behind c.in-Ahead.ensures;
+          more c.split_line.ensures.line c.split_line.ensures.afterwards c.in-Ahead.ensures;
       number = omega (arith, rest_after_line-less c.loop-left.left.now more);
     }

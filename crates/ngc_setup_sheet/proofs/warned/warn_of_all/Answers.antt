@@ -15,8 +15,8 @@ pub returns-in-Err-clause-written : goal.returns-in-Err-clause-written
 returns-in-Err-clause-written g c =
     let m = file_of c.args.machine.now in
     let ts = c.args.tools.now in
-    let behind : List Line = fixtures_from m (reach_of ts) 0 m.fixtures ++ flat_map tool_lines ts in
-    first_stopped c.args.style (g.W.Sink.written c.args.sink.now) (g.W.Sink.written c.write_warning_lines.new.sink) c.args.chunk.now (machine_lines m (reach_of ts)) behind
+    let afterwards : List Line = fixtures_from m (reach_of ts) 0 m.fixtures ++ flat_map tool_lines ts in
+    first_stopped c.args.style (g.W.Sink.written c.args.sink.now) (g.W.Sink.written c.write_warning_lines.new.sink) c.args.chunk.now (machine_lines m (reach_of ts)) afterwards
     (rw (c.as_slice.ensures.value, c.machine_lines-lines.ensures, c.of-reach.ensures.value) at c.in-Err.ensures.written)
 
 pub returns-in-Err-warn_of_fixtures-clause-written : goal.returns-in-Err-warn_of_fixtures-clause-written

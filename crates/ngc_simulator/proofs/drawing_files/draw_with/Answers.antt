@@ -1,7 +1,7 @@
 use Rattle.std.proofs.Common.{[], ◌∷◌, ◌++◌, Some, Ok, Err, refl, ◌∙◌, List, inl, inr}
 use Rattle.std.specs.contracts.alloc.Global
 use Rattle.std.specs.Prelude.{option_map}
-use Rattle.ngc_certificate_text.specs.Contents.{said_of}
+use Rattle.ngc_certificate_text.specs.Contents.{certificate_data}
 use Rattle.ngc_line_reader.specs.ProgramText.{program_of}
 use Rattle.ngc_inputs.specs.declared.fault.AnswerFault.TheVariants as answers
 use Rattle.ngc_simulator.specs.Answers.{certificate_inputs, draw_inputs, program_input, DrawResult}
@@ -12,7 +12,7 @@ use Rattle.ngc_simulator.proofs.FileLaws.{all_known, or_of_reading}
 use Rattle.ngc_report.proofs.Converted.{turned}
 use Rattle.ngc_inputs.proofs.JobLaws.{keeps_same}
 use Rattle.ngc_simulator.proofs.RunLaws.{no_certificate}
-use Rattle.ngc_inputs.proofs.UnreadLaws.{Told, all_read, draw_told, is_read, placed_read, reported_before, told_behind, unread_told}
+use Rattle.ngc_inputs.proofs.UnreadLaws.{ReportsIfUnread, all_read, draw_told, is_read, placed_read, reported_before, told_behind, unread_told}
 use Rattle.ngc_simulator.proofs.drawing_files.draw_with.Goals as goal
 
 pub returns-in_err-shop-clause-comes : goal.returns-in_err-shop-clause-comes
@@ -46,7 +46,7 @@ returns-in_err-certificate-clause-comes g c =
           (g.F.Files.bytes c.read_program.new.files) c.args.options.now c.args.certificate.now c.args.view c.in_ok-shop.shop _ _ (Err fault) (λ a. Unit {0}) _
           c.requires c.in_ok-shop.ensures.said c.read_placed.ensures.keeps c.read_program.ensures.named
           (all_known _ _ (λ a. tt)) c.in_err-certificate.ensures.said
-          (λ a b p says. (no_certificate Global.the_row.Denot said_of b c.in_err-certificate.field-0.0 says, keeps_same _)),
+          (λ a b p says. (no_certificate Global.the_row.Denot certificate_data b c.in_err-certificate.field-0.0 says, keeps_same _)),
     ))
 
 pub returns-clause-comes : goal.returns-clause-comes
@@ -98,7 +98,7 @@ returns-in_err-certificate-clause-unread g c =
     unread_told (SourceFails g.F.R.Source.remaining g.F.R.Source.failures) (g.F.Files.bytes c.args.files.now)
     (draw_inputs c.args.options.now (Some c.args.view)) _ _ _ (answers.Certificate c.in_err-certificate.field-0.0)
     c.from_residual-in_err-certificate.ensures.1
-    (with_certificate (λ (files : List Input). Told (SourceFails g.F.R.Source.remaining g.F.R.Source.failures) (g.F.Files.bytes c.args.files.now) files
+    (with_certificate (λ (files : List Input). ReportsIfUnread (SourceFails g.F.R.Source.remaining g.F.R.Source.failures) (g.F.Files.bytes c.args.files.now) files
     (g.F.Files.failures c.args.files.now) (g.F.Files.failures c.read_certificate.new.files)
     (certificate_unread c.in_err-certificate.field-0.0)) c.args.options.now c.args.view c.args.certificate.now c.requires
     (told_behind (SourceFails g.F.R.Source.remaining g.F.R.Source.failures) (g.F.Files.bytes c.args.files.now) (g.F.Files.bytes c.read_program.new.files)

@@ -5,7 +5,7 @@ use Rattle.ngc_canonical.specs.Meaning.{parsed_program}
 use Rattle.ngc_certificate_text.specs.Ahead.{certificate_of, made_with}
 use Rattle.ngc_certificate_text.specs.LinesView.{left_by}
 use Rattle.ngc_certificate_text.specs.Parted.{firm_lines}
-use Rattle.ngc_certificate_text.specs.Said.{lines_of}
+use Rattle.ngc_certificate_text.specs.ParsedPart.{lines_of}
 use Rattle.ngc_checker.specs.Checked.{judged_by}
 use Rattle.ngc_checker.specs.FirstRefusal.{first_refusal}
 use Rattle.ngc_checker.proofs.LineJudging.{made_twice}

@@ -68,10 +68,10 @@ Explains Holds number = (text : List ℕ) × IsExplanation number text × Holds 
 
 -- The text about a number: its rows, or a prefix of them if the sink failed. An unknown number
 -- leaves the output unchanged.
-abbrev pub Tells : ℕ → Option (List ℕ) → Option (List ℕ) → Result (Unit {0}) ExplainFault → Type 0
-Tells number old new (Ok u) = Explains (Appends old new) number
-Tells number old new (Err Unknown) = new ≡ old
-Tells number old new (Err (Write fault)) = Explains (AppendsPrefix old new) number
+abbrev pub ExplainsOrFails : ℕ → Option (List ℕ) → Option (List ℕ) → Result (Unit {0}) ExplainFault → Type 0
+ExplainsOrFails number old new (Ok u) = Explains (Appends old new) number
+ExplainsOrFails number old new (Err Unknown) = new ≡ old
+ExplainsOrFails number old new (Err (Write fault)) = Explains (AppendsPrefix old new) number
 
 -- the table of numbers
 abbrev pub explain_fault_number : ExplainFault → ℕ

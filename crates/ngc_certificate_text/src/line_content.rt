@@ -12,7 +12,7 @@ pub enum Version {
 
 /// The content of a line of a certificate's text.
 #[derive(Clone, Copy)]
-pub enum Told {
+pub enum LineContent {
     /// The first line: a certificate of a version.
     Header(Version),
     /// A setting of block delete, and the number of its motions.

@@ -14,8 +14,8 @@ use Rattle.ngc_certificate_text.specs.Certificate.{Entry, CertificateData, IsCer
 use Rattle.ngc_certificate_text.specs.Lines.{parsed_setting, parsed_motion, parsed_piece, parsed_end}
 use Rattle.ngc_certificate_text.specs.Lines.{are_steps}
 use Rattle.ngc_certificate_text.specs.declared.expected.RemainingEntries.{RemainingEntries}
-use Rattle.ngc_certificate_text.specs.declared.told.Version.{Version}
-use Rattle.ngc_certificate_text.specs.declared.told.Version.TheVariants.{One, Two}
+use Rattle.ngc_certificate_text.specs.declared.line_content.Version.{Version}
+use Rattle.ngc_certificate_text.specs.declared.line_content.Version.TheVariants.{One, Two}
 use Rattle.ngc_certificate_text.specs.EntryLines.{parsed_version, parsed_counts, parsed_entry, all_left}
 use Rattle.ngc_certificate_text.specs.EntryLines.{none_left, remaining_after}
 use Rattle.ngc_certificate_text.specs.Joined.{Item, IsJoined, Form, Parted, Joined, contents}
@@ -31,10 +31,10 @@ pub record Place : Type 0 where
   pub left : List (List ℕ)
 
 -- the content of a part of the text, and its end
-abbrev pub Said : Type 0 → Type 0
-Said X = Result (X × Place) CertificateFault
+abbrev pub ParsedPart : Type 0 → Type 0
+ParsedPart X = Result (X × Place) CertificateFault
 
-abbrev pub then_read : {X Y : Type 0} → Said X → (X → Place → Said Y) → Said Y
+abbrev pub then_read : {X Y : Type 0} → ParsedPart X → (X → Place → ParsedPart Y) → ParsedPart Y
 then_read (Ok r) more = more r.0 r.1
 then_read (Err fault) more = Err fault
 
@@ -47,36 +47,36 @@ fault_at number Spelling = BadLine number
 fault_at number Range = OutOfRange number
 
 -- the content of a line, before these lines
-abbrev pub line_is : {X : Type 0} → ℕ → Result X LineFlaw → List (List ℕ) → Said X
+abbrev pub line_is : {X : Type 0} → ℕ → Result X LineFlaw → List (List ℕ) → ParsedPart X
 line_is number (Ok x) left = Ok (x, record { number = next_number number; left = left })
 line_is number (Err flaw) left = Err (fault_at number flaw)
 
 -- the next line, of at most 256 bytes and with its line feed
-abbrev pub line_in : {X : Type 0} → (List ℕ → Result X LineFlaw) → ℕ → List (List ℕ) → Said X
+abbrev pub line_in : {X : Type 0} → (List ℕ → Result X LineFlaw) → ℕ → List (List ℕ) → ParsedPart X
 line_in said number [] = Err (BadLine number)
 line_in said number (last ∷ []) = Err (BadLine number)
 line_in said number (line ∷ next ∷ left) =
     if nat_le (length line) 256 then line_is number (said line) (next ∷ left)
     else Err (BadLine number)
 
-unfoldable pub line_at : {X : Type 0} → (List ℕ → Result X LineFlaw) → Place → Said X
+unfoldable pub line_at : {X : Type 0} → (List ℕ → Result X LineFlaw) → Place → ParsedPart X
 line_at said p = line_in said p.number p.left
 
 -- n parts of one kind
-unfoldable pub several : {X : Type 0} → (Place → Said X) → ℕ → Place → Said (List X)
+unfoldable pub several : {X : Type 0} → (Place → ParsedPart X) → ℕ → Place → ParsedPart (List X)
 several said zero p = Ok ([], p)
 several said (suc n) p =
     then_read (said p) (λ x q. then_read (several said n q) (λ xs r. Ok (x ∷ xs, r)))
 
 -- a motion: its line, and a line for each piece
-unfoldable pub entry_at : Place → Said Entry
+unfoldable pub entry_at : Place → ParsedPart Entry
 entry_at p =
     then_read (line_at parsed_motion p) (λ m q.
     then_read (several (line_at parsed_piece) m.pieces q) (λ pieces r.
     Ok (record { index = m.index; pieces = pieces }, r)))
 
 -- a setting: its line, and its motions
-unfoldable pub setting_at : List ℕ → Place → Said (List Entry)
+unfoldable pub setting_at : List ℕ → Place → ParsedPart (List Entry)
 setting_at name p = then_read (line_at (parsed_setting name) p) (λ n q. several entry_at n q)
 
 -- there is nothing after the last line feed
@@ -85,7 +85,7 @@ nothing_in ([] ∷ []) = true
 nothing_in _ = false
 
 -- both settings, the line `end`, and nothing after it
-unfoldable pub settings_at : Place → Said CertificateData
+unfoldable pub settings_at : Place → ParsedPart CertificateData
 settings_at p =
     then_read (setting_at (codes "off") p) (λ off q.
     then_read (setting_at (codes "on") q) (λ on r.
@@ -94,14 +94,14 @@ settings_at p =
 -- ---- version 2
 
 -- an entry: its line, and a line for each piece
-unfoldable pub item_at : RemainingEntries → Place → Said Item
+unfoldable pub item_at : RemainingEntries → Place → ParsedPart Item
 item_at left p =
     then_read (line_at (parsed_entry left) p) (λ e q.
     then_read (several (line_at parsed_piece) e.pieces q) (λ pieces r.
     Ok (record { indices = e.indices; pieces = pieces }, r)))
 
 -- entries until no motions remain: at most n
-unfoldable pub items_at : ℕ → RemainingEntries → Place → Said (List Item)
+unfoldable pub items_at : ℕ → RemainingEntries → Place → ParsedPart (List Item)
 items_at zero left p = Ok ([], p)
 items_at (suc n) left p =
     if none_left left then Ok ([], p) else
@@ -109,7 +109,7 @@ items_at (suc n) left p =
     (λ x q. then_read (items_at n (remaining_after left x.indices) q) (λ xs r. Ok (x ∷ xs, r)))
 
 -- the counts, the entries, and the line `end`
-unfoldable pub joined_at : Place → Said (List Item)
+unfoldable pub joined_at : Place → ParsedPart (List Item)
 joined_at p =
     then_read (line_at parsed_counts p) (λ c q.
     then_read (items_at (c.off + c.on) (all_left c) q) (λ items r.
@@ -118,7 +118,7 @@ joined_at p =
 -- ---- the whole text
 
 -- there is nothing after it
-abbrev pub ended : {X : Type 0} → Said X → Result X CertificateFault
+abbrev pub ended : {X : Type 0} → ParsedPart X → Result X CertificateFault
 ended (Ok r) = if nothing_in r.1.left then Ok r.0 else Err (BadLine r.1.number)
 ended (Err fault) = Err fault
 
@@ -129,20 +129,20 @@ made_with f (Ok x) = Ok (f x)
 made_with f (Err fault) = Err fault
 
 -- a value that is made from the content of a part of the text
-abbrev pub parsed_with : {X Y : Type 0} → (X → Y) → Said X → Said Y
+abbrev pub parsed_with : {X Y : Type 0} → (X → Y) → ParsedPart X → ParsedPart Y
 parsed_with f s = then_read s (λ r q. Ok (f r, q))
 
-abbrev pub version_is : Result Version LineFlaw → List (List ℕ) → Said Version
+abbrev pub version_is : Result Version LineFlaw → List (List ℕ) → ParsedPart Version
 version_is (Ok v) left = Ok (v, record { number = 2; left = left })
 version_is (Err flaw) left = Err WrongHeader
 
 -- the first line
-abbrev pub header_in : List (List ℕ) → Said Version
+abbrev pub header_in : List (List ℕ) → ParsedPart Version
 header_in [] = Err WrongHeader
 header_in (last ∷ []) = Err WrongHeader
 header_in (line ∷ next ∷ left) = version_is (parsed_version line) (next ∷ left)
 
-abbrev pub form_at : Version → Place → Said Form
+abbrev pub form_at : Version → Place → ParsedPart Form
 form_at One p = parsed_with Parted (settings_at p)
 form_at Two p = parsed_with Joined (joined_at p)
 
