@@ -6,6 +6,7 @@ use ngc_simulator::{
 use ngc_text::{Device, Sink};
 use std::alloc::Allocator;
 
+/// A machine file.
 pub const MACHINE: &str = "version = 1
 step = 10000
 ticks_per_second = 10000
@@ -20,6 +21,7 @@ home28 = [0, 0, 0]
 home30 = [0, 0, 0]
 ";
 
+/// A tool table.
 pub const TOOLS: &str = "version = 1
 [[tool]]
 number = 1
@@ -33,6 +35,7 @@ radius = 3000000
 offset = 60000000
 ";
 
+/// A certificate for a program without motions.
 pub const NO_MOTIONS: &[u8] = b"ngc-certificate 1\nsetting off 0\nsetting on 0\nend\n";
 
 /// A machine and its tools.

@@ -6,8 +6,8 @@ use Rattle.std.specs.Io.KnownBytes.{Appends}
 use Rattle.ngc_text.specs.Failures.{Rises}
 use Rattle.ngc_text.specs.Written.{AppendsPrefix}
 use Rattle.ngc_fault_texts.specs.Numbers.{fault_numbers}
-use Rattle.ngc_fault_texts.specs.declared.telling.ExplainFault.{ExplainFault}
-use Rattle.ngc_fault_texts.specs.declared.telling.ExplainFault.TheVariants.{Unknown, Write}
+use Rattle.ngc_fault_texts.specs.declared.explaining.ExplainFault.{ExplainFault}
+use Rattle.ngc_fault_texts.specs.declared.explaining.ExplainFault.TheVariants.{Unknown, Write}
 use Rattle.ngc_fault_texts.specs.declared.parts.Part.{Part}
 use Rattle.ngc_fault_texts.specs.declared.parts.Row.{Row}
 

@@ -3,13 +3,13 @@
 //! The tables of the page docs/FAULTS.md and the text of `ngc explain` are printed from them.
 #![tactic(auto)]
 
+mod explaining;
 mod parts;
 mod programs;
 mod reading;
 mod runs;
 mod setups;
 mod shapes;
-mod telling;
 
+pub use explaining::{ExplainFault, explain};
 pub use parts::{Part, Row, page};
-pub use telling::{ExplainFault, explain};

@@ -284,9 +284,9 @@ abbrev pub OfWriting : AnswerFault → Type 0
 OfWriting (answers.Write e) = Unit {0}
 OfWriting _ = ⊥
 
-abbrev pub OfTelling : AnswerFault → Type 0
-OfTelling (answers.Read e) = Unit {0}
-OfTelling fault = OfWriting fault
+abbrev pub OfExplaining : AnswerFault → Type 0
+OfExplaining (answers.Read e) = Unit {0}
+OfExplaining fault = OfWriting fault
 
 -- the sink's count of failures increased if a write failed, and is unchanged otherwise
 abbrev pub FailsWith : AnswerFault → ℕ → ℕ → Type 0

@@ -4,7 +4,7 @@ use Rattle.std.specs.Prelude.{IfErr, Result}
 use Rattle.ngc_text.specs.declared.input_fault.InputFault.{InputFault}
 use Rattle.ngc_text.specs.declared.input_fault.InputFault.TheVariants.{Device}
 use Rattle.ngc_command_line.specs.declared.options.Options.{Options}
-use Rattle.ngc_simulator.specs.Answers.{ResultsBy, Tells, status_of}
+use Rattle.ngc_simulator.specs.Answers.{ResultsBy, Prints, status_of}
 use Rattle.ngc_inputs.specs.Setups.{FileBytes}
 use Rattle.ngc_inputs.specs.Unread.{unread_by}
 use Rattle.ngc_simulator.specs.declared.done.Done.{Done}
@@ -28,7 +28,7 @@ pub record IsResult (files : FileBytes) (options : Options) (output errors : Lis
   pub comes : ResultsBy files options (Some []) (Some output) outcome
   pub says : status ≡ status_of outcome
   pub read : IfErr outcome (λ fault. ¬ ReportsUnreadable (unread_by fault))
-  pub tells : Tells outcome
+  pub tells : Prints outcome
       (record { old = Some []; new = Some errors; failures = 0; failures_now = failed })
   pub keeps : 0 < failed → length errors ≡ LINES_KEPT
 

@@ -4,7 +4,7 @@ use Rattle.std.specs.Io.KnownBytes.{Keeps}
 use Rattle.ngc_report.proofs.Converted.{turned}
 use Rattle.ngc_report.specs.declared.report_fault.ReportFault.{ReportFault}
 use Rattle.ngc_report.specs.declared.report_fault.ReportFault.TheVariants as faults
-use Rattle.ngc_program_report.specs.JobReports.{Tells}
+use Rattle.ngc_program_report.specs.JobReports.{Prints}
 
 keeps_same : (known : Option (List ℕ)) → Keeps known known
 keeps_same None = tt
@@ -12,7 +12,7 @@ keeps_same (Some bytes) = refl
 
 -- want of memory, before anything is written
 pub memory_tells : (IsText : List ℕ → Type 0) (known : Option (List ℕ)) (r : Result (Unit {0}) ReportFault) (fault : ReportFault) →
-    IsErrAnd r (λ a. a ≡ fault) → fault ≡ faults.Memory → Tells IsText known known r
+    IsErrAnd r (λ a. a ≡ fault) → fault ≡ faults.Memory → Prints IsText known known r
 memory_tells IsText known r fault is memory =
-    turned r fault (λ r. Tells IsText known known r) is
-    (subst (λ (f : ReportFault). Tells IsText known known (Err f)) (sym memory) (keeps_same known))
+    turned r fault (λ r. Prints IsText known known r) is
+    (subst (λ (f : ReportFault). Prints IsText known known (Err f)) (sym memory) (keeps_same known))

@@ -116,11 +116,11 @@ IsRefusalText false j request s k lines text =
 
 -- this text was written, or a prefix of it if the sink failed; or memory ran out, and nothing was
 -- written
-abbrev pub Tells : (List ℕ → Type 0) → Option (List ℕ) → Option (List ℕ) →
+abbrev pub Prints : (List ℕ → Type 0) → Option (List ℕ) → Option (List ℕ) →
     Result (Unit {0}) ReportFault → Type 0
-Tells IsText old new (Ok u) = (text : List ℕ) × IsText text × Appends old new text
-Tells IsText old new (Err faults.Memory) = Keeps old new
-Tells IsText old new (Err (faults.Write fault)) =
+Prints IsText old new (Ok u) = (text : List ℕ) × IsText text × Appends old new text
+Prints IsText old new (Err faults.Memory) = Keeps old new
+Prints IsText old new (Err (faults.Write fault)) =
     (text : List ℕ) × IsText text × AppendsPrefix old new text
 
 -- the sink's count of failures rose if a write failed, and is unchanged otherwise

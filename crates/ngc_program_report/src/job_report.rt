@@ -19,7 +19,7 @@ ghost use Rattle.ngc_lowest_tips.specs.Tips.{lowest_tips};
 ghost use Rattle.ngc_program_report.specs.Framed.{IsFramed};
 ghost use Rattle.ngc_program_report.specs.JobReports.{FailsByWriting, IsFitText, IsFrameAt};
 ghost use Rattle.ngc_program_report.specs.JobReports.{IsRefusalText, IsRefusalsText};
-ghost use Rattle.ngc_program_report.specs.JobReports.{IsStartClear, OffBegins, OnBegins, Tells};
+ghost use Rattle.ngc_program_report.specs.JobReports.{IsStartClear, OffBegins, OnBegins, Prints};
 ghost use Rattle.ngc_program_report.specs.JobReports.{first_text};
 ghost use Rattle.ngc_program_report.specs.Texts.{is_on};
 
@@ -108,7 +108,7 @@ pub fn report_fit<A: Allocator + Copy, W: Sink>(
         (both_planned framed.job.machine.step framed.job.off (commands_in true framed.job)
         plans.now).on }
     requires frames { IsFramed framed (text_in program.now).lines }
-    ensures tells { Tells
+    ensures tells { Prints
         (IsFitText framed.job
         (both_planned framed.job.machine.step framed.job.off (commands_in true framed.job)
         plans.now) form origins.now (text_in program.now).lines)
@@ -268,7 +268,7 @@ fn report_all<A: Allocator + Copy, W: Sink>(
 ) -> Result<(), ReportFault>
     requires { IsMade framed.now.job.machine request.cuts framed.now.job.off
         (commands_in true framed.now.job) (Err (MakeFault.NotCleared setting command)) }
-    ensures tells { (lines : List Line) → IsFramed framed.now lines → Tells
+    ensures tells { (lines : List Line) → IsFramed framed.now lines → Prints
         (IsRefusalsText framed.now.job request.cuts setting command request.form
         request.origins lines)
         (W.written output.old) (W.written output.new) result }
@@ -324,7 +324,7 @@ pub fn report_refusal<A: Allocator + Copy, W: Sink>(
     requires made { IsMade framed.now.job.machine request.cuts framed.now.job.off
         (commands_in true framed.now.job) (Err (MakeFault.NotCleared setting command)) }
     requires frames { IsFramed framed.now (text_in program.now).lines }
-    ensures tells { Tells
+    ensures tells { Prints
         (IsRefusalText request.all framed.now.job request setting command
         (text_in program.now).lines)
         (W.written output.old) (W.written output.new) result }

@@ -8,7 +8,7 @@ use Rattle.ngc_text.specs.Written.{AppendsPrefix}
 use Rattle.ngc_text.specs.declared.writing.WriteFault.{WriteFault}
 use Rattle.ngc_text.specs.Collected.{WritesPrefix}
 use Rattle.ngc_certificate_text.proofs.CollectedTexts.{front_more, front_stopped, longer, all_written, beginning_written}
-use Rattle.ngc_report.specs.Reports.{Tells}
+use Rattle.ngc_report.specs.Reports.{Prints}
 use Rattle.ngc_report.specs.Forms.{spelled, report_text}
 use Rattle.ngc_report.specs.declared.form.Form.{Form}
 use Rattle.ngc_report.specs.declared.line.Line.{Line}
@@ -56,7 +56,7 @@ stopped f old mid new before between more rest left whole is h k =
 
 -- the last are reported, or not
 pub last : (f : Form) (r : Result (Unit {0}) WriteFault) (old mid new : Option (List ℕ)) (before between after : List ℕ) (left whole : List Line)
-    → Ahead f old mid before between left whole → Tells f mid new between after r left → Tells f old new before after r whole
+    → Ahead f old mid before between left whole → Prints f mid new between after r left → Prints f old new before after r whole
 last f (Ok u) old mid new before between after left whole h k =
     subst (λ (l : List ℕ). WritesPrefix old new l after) (joined f before h.done left ∙ ap (λ l. before ++ report_text f l) (sym h.splits))
     (front_more old mid new (before ++ report_text f h.done) between after (report_text f left) h.front k)
@@ -75,7 +75,7 @@ first_went f old new before after a rest k = went f old old new before before af
 
 -- two parts
 pub both : (f : Form) (r : Result (Unit {0}) WriteFault) (old mid new : Option (List ℕ)) (before between after : List ℕ) (a rest : List Line)
-    → WritesPrefix old mid (before ++ report_text f a) between → Tells f mid new between after r rest → Tells f old new before after r (a ++ rest)
+    → WritesPrefix old mid (before ++ report_text f a) between → Prints f mid new between after r rest → Prints f old new before after r (a ++ rest)
 both f r old mid new before between after a rest h t =
     last f r old mid new before between after rest (a ++ rest) (first_went f old mid before between a rest h) t
 
@@ -86,8 +86,8 @@ second_stopped f old mid new before between a b rest h k =
     stopped f old mid new before between b rest (b ++ rest) (a ++ (b ++ rest)) refl (first_went f old mid before between a (b ++ rest) h) k
 
 pub all_three : (f : Form) (r : Result (Unit {0}) WriteFault) (old mid next new : Option (List ℕ)) (before between made after : List ℕ) (a b rest : List Line)
-    → WritesPrefix old mid (before ++ report_text f a) between → WritesPrefix mid next (between ++ report_text f b) made → Tells f next new made after r rest
-    → Tells f old new before after r (a ++ (b ++ rest))
+    → WritesPrefix old mid (before ++ report_text f a) between → WritesPrefix mid next (between ++ report_text f b) made → Prints f next new made after r rest
+    → Prints f old new before after r (a ++ (b ++ rest))
 all_three f r old mid next new before between made after a b rest h k t =
     last f r old next new before made after rest (a ++ (b ++ rest))
     (went f old mid next before between made b rest (b ++ rest) (a ++ (b ++ rest)) refl (first_went f old mid before between a (b ++ rest) h) k) t

@@ -33,9 +33,9 @@ use Rattle.ngc_report.specs.declared.warnings.Concern.TheVariants.{NoTool}
 
 -- the text of lines is added after the collected text; if a write fails, a prefix of both is
 -- written
-abbrev pub Tells : Form → Option (List ℕ) → Option (List ℕ) → List ℕ → List ℕ →
+abbrev pub Prints : Form → Option (List ℕ) → Option (List ℕ) → List ℕ → List ℕ →
     Result (Unit {0}) WriteFault → List Line → Type 0
-Tells form old new before after result told =
+Prints form old new before after result told =
     Collects old new before after result (report_text form told)
 
 -- the extent of a program along each axis

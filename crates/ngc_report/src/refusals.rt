@@ -2,7 +2,7 @@
 ghost use Rattle.std.specs.Prelude.{◌≡◌, ◌≤◌, length, take, None};
 ghost use Rattle.ngc_text.specs.Failures.{CountsFailure};
 ghost use Rattle.ngc_machine_files.specs.Machine.{file_of};
-ghost use Rattle.ngc_report.specs.Reports.{Tells, refusals_head, scene_lines, start_lines_if};
+ghost use Rattle.ngc_report.specs.Reports.{Prints, refusals_head, scene_lines, start_lines_if};
 ghost use Rattle.ngc_report.specs.Reports.{reported_extent, verdict_line};
 ghost use Rattle.ngc_report.specs.Scenes.{StandsAfter, scene_at, standing as standing_behind};
 
@@ -79,7 +79,7 @@ fn write_start_if<A: Allocator, W: Sink>(
     start: bool,
     sink: &mut W,
 ) -> Result<(), WriteFault>
-    ensures told { Tells form (W.written sink.old) (W.written sink.new) chunk.old chunk.new result
+    ensures told { Prints form (W.written sink.old) (W.written sink.new) chunk.old chunk.new result
         (start_lines_if (file_of machine.now) start) }
     ensures counts { CountsFailure (W.failures sink.old) (W.failures sink.new) result }
 {
@@ -134,7 +134,7 @@ pub fn collect_refusals_head<A: Allocator, W: Sink>(
     indices: &[u32],
     sink: &mut W,
 ) -> Result<(), WriteFault>
-    ensures told { Tells form (W.written sink.old) (W.written sink.new) chunk.old chunk.new result
+    ensures told { Prints form (W.written sink.old) (W.written sink.new) chunk.old chunk.new result
         (refusals_head (file_of machine.now) commands.now start indices.now) }
     ensures counts { CountsFailure (W.failures sink.old) (W.failures sink.new) result }
 {
@@ -170,7 +170,7 @@ pub fn collect_refused_command<A: Allocator, W: Sink>(
     sink: &mut W,
 ) -> Result<(), WriteFault>
     requires { StandsAfter (file_of machine.now) commands.now standing.old }
-    ensures told { Tells form (W.written sink.old) (W.written sink.new) chunk.old chunk.new result
+    ensures told { Prints form (W.written sink.old) (W.written sink.new) chunk.old chunk.new result
         (scene_lines (file_of machine.now) command None
         (scene_at (file_of machine.now) commands.now command)) }
     ensures stands { StandsAfter (file_of machine.now) commands.now standing.new }

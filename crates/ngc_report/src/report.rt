@@ -7,7 +7,7 @@ ghost use Rattle.ngc_text.specs.Written.{AppendsPrefix};
 ghost use Rattle.ngc_certificate_text.specs.Collects.{Collects};
 ghost use Rattle.ngc_machine_files.specs.Machine.{file_of};
 ghost use Rattle.ngc_text.specs.Collected.{HasSpaceForLine};
-ghost use Rattle.ngc_report.specs.Reports.{Tells, motions_in, along, alongs, use_lines, fit_lines};
+ghost use Rattle.ngc_report.specs.Reports.{Prints, motions_in, along, alongs, use_lines, fit_lines};
 ghost use Rattle.ngc_report.specs.Reports.{start_lines, scene_lines, cause_lines, refusal_lines};
 ghost use Rattle.ngc_report.specs.Reports.{fit_line, near_line};
 ghost use Rattle.ngc_report.specs.Uses.{tool_uses};
@@ -62,7 +62,7 @@ pub(crate) fn write_all_reasons<W: Sink>(
     lines: &[Line],
     sink: &mut W,
 ) -> Result<(), WriteFault>
-    ensures told { Tells form (W.written sink.old)
+    ensures told { Prints form (W.written sink.old)
         (W.written sink.new) chunk.old chunk.new result lines.now }
     ensures counts { CountsFailure (W.failures sink.old) (W.failures sink.new) result }
 {
@@ -123,7 +123,7 @@ fn write_uses<A: Allocator, M: MotionList, W: Sink>(
     motions: &M,
     sink: &mut W,
 ) -> Result<(), WriteFault>
-    ensures told { Tells form (W.written sink.old) (W.written sink.new) chunk.old chunk.new result
+    ensures told { Prints form (W.written sink.old) (W.written sink.new) chunk.old chunk.new result
         (use_lines (file_of machine.now) (tool_uses commands.now) (M.entries motions.now)) }
     ensures counts { CountsFailure (W.failures sink.old) (W.failures sink.new) result }
 {
@@ -157,7 +157,7 @@ fn write_fit_figures<A: Allocator, M: MotionList, W: Sink>(
     motions: &M,
     sink: &mut W,
 ) -> Result<(), WriteFault>
-    ensures told { Tells form (W.written sink.old) (W.written sink.new) chunk.old chunk.new result
+    ensures told { Prints form (W.written sink.old) (W.written sink.new) chunk.old chunk.new result
         (fit_lines (file_of machine.now) commands.now (M.entries motions.now)) }
     ensures counts { CountsFailure (W.failures sink.old) (W.failures sink.new) result }
 {
@@ -184,7 +184,7 @@ pub(crate) fn write_start_point<A: Allocator, W: Sink>(
     fixture: Option<u32>,
     sink: &mut W,
 ) -> Result<(), WriteFault>
-    ensures told { Tells form (W.written sink.old) (W.written sink.new) chunk.old chunk.new result
+    ensures told { Prints form (W.written sink.old) (W.written sink.new) chunk.old chunk.new result
         (start_lines (file_of machine.now) fixture) }
     ensures counts { CountsFailure (W.failures sink.old) (W.failures sink.new) result }
 {
@@ -207,7 +207,7 @@ pub(crate) fn write_scene<A: Allocator, W: Sink>(
     scene: &Option<Scene>,
     sink: &mut W,
 ) -> Result<(), WriteFault>
-    ensures told { Tells form (W.written sink.old) (W.written sink.new) chunk.old chunk.new result
+    ensures told { Prints form (W.written sink.old) (W.written sink.new) chunk.old chunk.new result
         (scene_lines (file_of machine.now) command fixture scene.now) }
     ensures counts { CountsFailure (W.failures sink.old) (W.failures sink.new) result }
 {
@@ -235,7 +235,7 @@ fn write_cause_words<A: Allocator, W: Sink>(
     fixture: Option<u32>,
     sink: &mut W,
 ) -> Result<(), WriteFault>
-    ensures told { Tells form (W.written sink.old) (W.written sink.new) chunk.old chunk.new result
+    ensures told { Prints form (W.written sink.old) (W.written sink.new) chunk.old chunk.new result
         (cause_lines (file_of machine.now) commands.now command fixture) }
     ensures counts { CountsFailure (W.failures sink.old) (W.failures sink.new) result }
 {
@@ -257,7 +257,7 @@ fn write_refusal_words<A: Allocator, W: Sink>(
     fixture: Option<u32>,
     sink: &mut W,
 ) -> Result<(), WriteFault>
-    ensures told { Tells form (W.written sink.old) (W.written sink.new) chunk.old chunk.new result
+    ensures told { Prints form (W.written sink.old) (W.written sink.new) chunk.old chunk.new result
         (refusal_lines (file_of machine.now) commands.now command fixture) }
     ensures counts { CountsFailure (W.failures sink.old) (W.failures sink.new) result }
 {

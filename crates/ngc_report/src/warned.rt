@@ -4,7 +4,7 @@ ghost use Rattle.std.specs.Io.KnownBytes.{Appends};
 ghost use Rattle.ngc_text.specs.Failures.{CountsFailure};
 ghost use Rattle.ngc_text.specs.Written.{AppendsPrefix};
 ghost use Rattle.ngc_machine_files.specs.Machine.{file_of};
-ghost use Rattle.ngc_report.specs.Reports.{Tells};
+ghost use Rattle.ngc_report.specs.Reports.{Prints};
 ghost use Rattle.ngc_report.specs.Warnings.{warned, traverse_lines, motion_lines, warning_lines};
 ghost use Rattle.ngc_report.specs.Forms.{report_text};
 
@@ -25,7 +25,7 @@ fn write_warned<A: Allocator, W: Sink>(
     commands: &[Command],
     sink: &mut W,
 ) -> Result<(), WriteFault>
-    ensures told { Tells form (W.written sink.old) (W.written sink.new) chunk.old chunk.new result
+    ensures told { Prints form (W.written sink.old) (W.written sink.new) chunk.old chunk.new result
         (warned (file_of machine.now) concern commands.now) }
     ensures counts { CountsFailure (W.failures sink.old) (W.failures sink.new) result }
 {
@@ -42,7 +42,7 @@ fn write_traverses<A: Allocator, W: Sink>(
     commands: &[Command],
     sink: &mut W,
 ) -> Result<(), WriteFault>
-    ensures told { Tells form (W.written sink.old) (W.written sink.new) chunk.old chunk.new result
+    ensures told { Prints form (W.written sink.old) (W.written sink.new) chunk.old chunk.new result
         (traverse_lines (file_of machine.now) commands.now) }
     ensures counts { CountsFailure (W.failures sink.old) (W.failures sink.new) result }
 {
@@ -60,7 +60,7 @@ fn write_motion_warnings<A: Allocator, W: Sink>(
     commands: &[Command],
     sink: &mut W,
 ) -> Result<(), WriteFault>
-    ensures told { Tells form (W.written sink.old) (W.written sink.new) chunk.old chunk.new result
+    ensures told { Prints form (W.written sink.old) (W.written sink.new) chunk.old chunk.new result
         (motion_lines (file_of machine.now) commands.now) }
     ensures counts { CountsFailure (W.failures sink.old) (W.failures sink.new) result }
 {
@@ -82,7 +82,7 @@ fn write_command_warnings<A: Allocator, W: Sink>(
     commands: &[Command],
     sink: &mut W,
 ) -> Result<(), WriteFault>
-    ensures told { Tells form (W.written sink.old) (W.written sink.new) chunk.old chunk.new result
+    ensures told { Prints form (W.written sink.old) (W.written sink.new) chunk.old chunk.new result
         (warning_lines (file_of machine.now) commands.now) }
     ensures counts { CountsFailure (W.failures sink.old) (W.failures sink.new) result }
 {

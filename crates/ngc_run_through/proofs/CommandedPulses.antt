@@ -33,7 +33,7 @@ abbrev Leads : Option StepPos → StepPos → StepPos → Type 0
 Leads None p q = q ≡ p
 Leads (Some told) p q = q ≡ told
 
-record Tells (old : State) (o : Outcome) (new : State) : Type 0 where
+record Prints (old : State) (o : Outcome) (new : State) : Type 0 where
   position : Option StepPos
   ended : Option Ending
   says : o ≡ Ok (Ticked position ended)
@@ -41,7 +41,7 @@ record Tells (old : State) (o : Outcome) (new : State) : Type 0 where
 
 -- ---- a tick
 
-rests_tell : (job : Job) (old : State) (o : Outcome) (new : State) → Rests job old o new → Tells old o new
+rests_tell : (job : Job) (old : State) (o : Outcome) (new : State) → Rests job old o new → Prints old o new
 rests_tell job old o new r = record { position = None; ended = None; says = r.quiet; leads = ap (λ (s : State). s.position) r.stands }
 
 by_pulse : (b : Bool) (path : List StepPos) (i k : ℕ) (p q : StepPos) → p ≡ point path i → q ≡ point path k → (b ≡ false → k ≡ i) →
@@ -51,7 +51,7 @@ by_pulse false path i k p q at is same = is ∙ ap (point path) (same refl) ∙ 
 
 travels_tell : (job : Job) (l : Queued) (ls : List Queued) (old : State) (o : Outcome) (new : State) → old.ring ≡ l ∷ ls → old.travelled ≤ millionths l - 1 →
     0 < path_steps l → WalksIn job old →
-    Travels job l ls old o new → Tells old o new
+    Travels job l ls old o new → Prints old o new
 travels_tell job l ls old o new e f some walks t =
     let fits : RingFits job walks.left (l ∷ ls) = subst (RingFits job walks.left) e walks.fits in
     let at = head_path job l ls walks.left walks.place old.travelled old.position walks.joined fits some walks.begins
@@ -67,7 +67,7 @@ travels_tell job l ls old o new e f some walks t =
           omega (arith, few, f, some)));
     }
 
-finish_tells : (job : Job) (a : Action) (old : State) (o : Outcome) (new : State) → Finishes job a old o new → Tells old o new
+finish_tells : (job : Job) (a : Action) (old : State) (o : Outcome) (new : State) → Finishes job a old o new → Prints old o new
 finish_tells job a old o new f =
     let kept = after_stays a (record (without_head 0 old) { rate = 0 }) in
     record {
@@ -78,7 +78,7 @@ finish_tells job a old o new f =
     }
 
 head_tells : (job : Job) (l : Queued) (ls : List Queued) (old : State) (o : Outcome) (new : State) → old.ring ≡ l ∷ ls → old.travelled ≤ millionths l - 1 →
-    WalksIn job old → HeadTick job l ls old o new → Tells old o new
+    WalksIn job old → HeadTick job l ls old o new → Prints old o new
 head_tells job l ls old o new e f walks t =
     elim (match_with (nat_lt 0 (path_steps l)) (Travels job l ls old o new)
     (MatchBool old.held (Rests job old o new) (Serves job l.command.action old o new)) t) [
@@ -94,7 +94,7 @@ head_tells job l ls old o new e f walks t =
     ]
 
 tick_tells : (job : Job) (stopped : Bool) (ring : List Queued) (old : State) (o : Outcome) (new : State) → old.ring ≡ ring → Fits ring old.travelled →
-    WalksIn job old → TickBy job stopped ring old o new → Tells old o new
+    WalksIn job old → TickBy job stopped ring old o new → Prints old o new
 tick_tells job true ring old o new e f walks t = rests_tell job old o new t
 tick_tells job false [] old o new e f walks t = rests_tell job old o new t
 tick_tells job false (l ∷ ls) old o new e f walks t = head_tells job l ls old o new e f walks t
@@ -134,7 +134,7 @@ tick_first : (told : Option StepPos) (p q : StepPos) (rest : List (Option StepPo
 tick_first None p q rest leads = ap (λ (r : StepPos). step_to p r ∷ pulses_over r rest) leads
 tick_first (Some told) p q rest leads = ap (λ (r : StepPos). step_to p r ∷ pulses_over r rest) leads
 
-tick_leads : (old new : State) (o : Outcome) (es : List Event) (os : List Outcome) (xs : List State) → Tells old o new → Leading new es os xs →
+tick_leads : (old new : State) (o : Outcome) (es : List Event) (os : List Outcome) (xs : List State) → Prints old o new → Leading new es os xs →
     Leading old (Tick ∷ es) (o ∷ os) (new ∷ xs)
 tick_leads old new o es os xs t rest =
     ap (λ l. step_to old.position new.position ∷ l) rest ∙ tick_first t.position old.position new.position (ticks_in os) t.leads

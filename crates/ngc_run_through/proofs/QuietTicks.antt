@@ -19,7 +19,7 @@ use Rattle.ngc_run_through.specs.declared.switches.Switches.{Switches}
 use Rattle.ngc_run_through.specs.declared.recorder.Recorder.{Recorder}
 use Rattle.ngc_run_through.specs.declared.report.Report.{Report}
 use Rattle.ngc_run_through.specs.declared.trace.Trace.{Trace}
-use Rattle.ngc_run_through.specs.declared.trace.Trace.TheVariants.{Log, Times, Pulses, Samples, Untold}
+use Rattle.ngc_run_through.specs.declared.trace.Trace.TheVariants.{Log, Times, Pulses, Samples, NotReported}
 use Rattle.ngc_run_through.specs.Log.{log}
 use Rattle.ngc_run_through.specs.Recording.{Records, IsRecorded}
 use Rattle.ngc_run_through.specs.Runs.{is_refusal, last_position}
@@ -83,7 +83,7 @@ quiet_text Log n = quiet_log n
 quiet_text (Times ticks) n = quiet_timed ticks n
 quiet_text (Pulses d) n = ap (ticks_text d) (quiet_in n) ∙ none_text n d
 quiet_text (Samples d s) n = ap (samples_text d) (quiet_sampled s.list.now n) ∙ rests_text n d
-quiet_text Untold n = refl
+quiet_text NotReported n = refl
 
 pub quiet_dumped : (n : ℕ) (d : DumpState) → trace_after (Pulses d) (replicate n quiet) ≡ Pulses (record d { ticks = d.ticks + n })
 quiet_dumped n d = ap Pulses (ap (after_ticks d) (quiet_in n) ∙ none_after n d)

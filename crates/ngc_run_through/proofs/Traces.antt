@@ -13,7 +13,7 @@ use Rattle.ngc_pulses.specs.Sampling.{SampleState, sample_text, samples_text, af
 use Rattle.ngc_pulses.proofs.SampleLaws.{samples_text-append, after_samples-append, few_rest}
 use Rattle.ngc_pulses.proofs.Dumps.{ticks_text-append, after_ticks-append, ticks_after}
 use Rattle.ngc_run_through.specs.declared.trace.Trace.{Trace}
-use Rattle.ngc_run_through.specs.declared.trace.Trace.TheVariants.{Log, Times, Pulses, Samples, Untold}
+use Rattle.ngc_run_through.specs.declared.trace.Trace.TheVariants.{Log, Times, Pulses, Samples, NotReported}
 use Rattle.ngc_run_through.specs.Log.{text_of}
 use Rattle.ngc_run_through.proofs.Timed.{ticks_after-append, timed_log-append}
 use Rattle.ngc_run_through.specs.Tracing.{tick_in, ticks_in, sampled, sample_in, samples_in, trace_text, trace_after, ticks_of}
@@ -24,7 +24,7 @@ trace_text-append (Times ticks) os ps = timed_log-append ticks os ps
 trace_text-append (Pulses d) os ps = ap (ticks_text d) (flat_map-append tick_in os ps) ∙ ticks_text-append d (ticks_in os) (ticks_in ps)
 trace_text-append (Samples d s) os ps =
     ap (samples_text d) (flat_map-append (sample_in s.list.now) os ps) ∙ samples_text-append d (samples_in s.list.now os) (samples_in s.list.now ps)
-trace_text-append Untold os ps = refl
+trace_text-append NotReported os ps = refl
 
 pub trace_after-append : (t : Trace) (os ps : List Outcome) → trace_after t (os ++ ps) ≡ trace_after (trace_after t os) ps
 trace_after-append Log os ps = refl
@@ -32,21 +32,21 @@ trace_after-append (Times ticks) os ps = ap Times (ticks_after-append ticks os p
 trace_after-append (Pulses d) os ps = ap Pulses (ap (after_ticks d) (flat_map-append tick_in os ps) ∙ after_ticks-append d (ticks_in os) (ticks_in ps))
 trace_after-append (Samples d s) os ps =
     ap (λ k. Samples k s) (ap (after_samples d) (flat_map-append (sample_in s.list.now) os ps) ∙ after_samples-append d (samples_in s.list.now os) (samples_in s.list.now ps))
-trace_after-append Untold os ps = refl
+trace_after-append NotReported os ps = refl
 
 pub trace_text-none : (t : Trace) → trace_text t [] ≡ []
 trace_text-none Log = refl
 trace_text-none (Times ticks) = refl
 trace_text-none (Pulses d) = refl
 trace_text-none (Samples d s) = refl
-trace_text-none Untold = refl
+trace_text-none NotReported = refl
 
 pub trace_after-none : (t : Trace) → trace_after t [] ≡ t
 trace_after-none Log = refl
 trace_after-none (Times ticks) = refl
 trace_after-none (Pulses d) = refl
 trace_after-none (Samples d s) = refl
-trace_after-none Untold = refl
+trace_after-none NotReported = refl
 
 -- an outcome is at most one tick
 one_tick : (o : Outcome) → length (tick_in o) ≤ 1
@@ -83,7 +83,7 @@ few_ticks Log os = omega arith
 few_ticks (Times ticks) os = omega arith
 few_ticks (Pulses d) os = omega (arith, ticks_after d (ticks_in os), few_in os)
 few_ticks (Samples d s) os = omega (arith, few_rest d (samples_in s.list.now os), few_sampled s.list.now os)
-few_ticks Untold os = omega arith
+few_ticks NotReported os = omega arith
 
 -- ---- a sampled tick
 

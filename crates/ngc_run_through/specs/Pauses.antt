@@ -4,7 +4,7 @@ use Rattle.ngc_run_through.specs.declared.switches.Switches.{Switches}
 use Rattle.ngc_run_through.specs.declared.text_state.TextState.{TextState}
 use Rattle.ngc_run_through.specs.declared.text_state.TextState.TheVariants as texts
 use Rattle.ngc_run_through.specs.declared.trace.Trace.{Trace}
-use Rattle.ngc_run_through.specs.declared.trace.Trace.TheVariants.{Log, Times, Pulses, Samples, Untold}
+use Rattle.ngc_run_through.specs.declared.trace.Trace.TheVariants.{Log, Times, Pulses, Samples, NotReported}
 
 -- the text state that is kept of a trace once all its text is written
 abbrev pub paused_at : Trace → TextState
@@ -12,7 +12,7 @@ paused_at Log = texts.Log
 paused_at (Times ticks) = texts.Times ticks
 paused_at (Pulses d) = texts.Log
 paused_at (Samples d s) = texts.Samples (settled d)
-paused_at Untold = texts.Log
+paused_at NotReported = texts.Log
 
 -- and the trace that continues from there
 abbrev pub trace_from : TextState → Switches → Trace

@@ -15,7 +15,7 @@ use Rattle.ngc_run_through.specs.declared.switches.Switches.{Switches}
 use Rattle.ngc_run_through.specs.declared.trace.Form.{Form}
 use Rattle.ngc_run_through.specs.declared.trace.Form.TheVariants as forms
 use Rattle.ngc_run_through.specs.declared.trace.Trace.{Trace}
-use Rattle.ngc_run_through.specs.declared.trace.Trace.TheVariants.{Log, Times, Pulses, Samples, Untold}
+use Rattle.ngc_run_through.specs.declared.trace.Trace.TheVariants.{Log, Times, Pulses, Samples, NotReported}
 use Rattle.ngc_run_through.specs.Log.{log}
 use Rattle.ngc_run_through.specs.Times.{ticks_after, timed_log}
 use Rattle.ngc_run_through.specs.Switching.{switch_in}
@@ -78,7 +78,7 @@ opening_text Log = []
 opening_text (Times ticks) = []
 opening_text (Pulses d) = header
 opening_text (Samples d s) = []
-opening_text Untold = []
+opening_text NotReported = []
 
 -- of a dump
 abbrev pub dump_text : DumpState → List Outcome → List ℕ
@@ -93,14 +93,14 @@ trace_text Log outcomes = log outcomes
 trace_text (Times ticks) outcomes = timed_log ticks outcomes
 trace_text (Pulses d) outcomes = dump_text d outcomes
 trace_text (Samples d s) outcomes = samples_text d (samples_in s.list.now outcomes)
-trace_text Untold outcomes = []
+trace_text NotReported outcomes = []
 
 abbrev pub trace_after : Trace → List Outcome → Trace
 trace_after Log outcomes = Log
 trace_after (Times ticks) outcomes = Times (ticks_after ticks outcomes)
 trace_after (Pulses d) outcomes = Pulses (dump_after d outcomes)
 trace_after (Samples d s) outcomes = Samples (after_samples d (samples_in s.list.now outcomes)) s
-trace_after Untold outcomes = Untold
+trace_after NotReported outcomes = NotReported
 
 -- the number of counted ticks that is bounded: for samples, those that aren't written yet
 abbrev pub ticks_of : Trace → ℕ
@@ -108,7 +108,7 @@ ticks_of Log = 0
 ticks_of (Times ticks) = 0
 ticks_of (Pulses d) = d.ticks
 ticks_of (Samples d s) = d.resting
-ticks_of Untold = 0
+ticks_of NotReported = 0
 
 -- what is switched in an outcome's tick, if that is written
 abbrev pub switched_by : Trace → Outcome → Switch
@@ -121,7 +121,7 @@ last_text Log = []
 last_text (Times ticks) = []
 last_text (Pulses d) = closing_text d
 last_text (Samples d s) = rest_bytes d
-last_text Untold = []
+last_text NotReported = []
 
 abbrev pub whole_text : Trace → List Outcome → List ℕ
 whole_text trace outcomes =

@@ -48,7 +48,7 @@ pub enum Trace<'s> {
     /// The samples, and what each command switches.
     Samples(PulseSamples, Switches<'s>),
     /// No text.
-    Untold,
+    NotReported,
 }
 
 // Counts ticks without a pulse.
@@ -282,7 +282,7 @@ impl<'s> Trace<'s> {
         ensures { result ≡ paused_at self.now }
     {
         match self {
-            Trace::Log | Trace::Pulses(_) | Trace::Untold => TextState::Log,
+            Trace::Log | Trace::Pulses(_) | Trace::NotReported => TextState::Log,
             Trace::Times(ticks) => TextState::Times(*ticks),
             Trace::Samples(samples, _) => TextState::Samples(samples.settled()),
         }
@@ -294,7 +294,7 @@ impl<'s> Trace<'s> {
         ensures { chunk.new ≡ chunk.old ++ opening_text self.now }
     {
         match self {
-            Trace::Log | Trace::Times(_) | Trace::Samples(_, _) | Trace::Untold => {}
+            Trace::Log | Trace::Times(_) | Trace::Samples(_, _) | Trace::NotReported => {}
             Trace::Pulses(dump) => dump.open(chunk),
         }
     }
@@ -305,7 +305,7 @@ impl<'s> Trace<'s> {
         ensures { self.new ≡ trace_after self.old (replicate count (Ok (Ticked None None))) }
     {
         match self {
-            Trace::Log | Trace::Untold => {}
+            Trace::Log | Trace::NotReported => {}
             Trace::Times(ticks) => *ticks = after_quiet(*ticks, count),
             Trace::Pulses(dump) => rest_for(dump, count),
             Trace::Samples(samples, _) => samples.rest(count),
@@ -345,7 +345,7 @@ impl<'s> Trace<'s> {
             Trace::Times(ticks) => write_timed(ticks, outcome, chunk, sink),
             Trace::Pulses(dump) => write_changes(dump, outcome, chunk, sink),
             Trace::Samples(samples, _) => write_tick(samples, switch, outcome, chunk, sink),
-            Trace::Untold => Ok(()),
+            Trace::NotReported => Ok(()),
         }
     }
 
@@ -365,7 +365,7 @@ impl<'s> Trace<'s> {
         ensures failures { CountsFailure (W.failures sink.old) (W.failures sink.new) result }
     {
         match self {
-            Trace::Log | Trace::Times(_) | Trace::Untold => Ok(()),
+            Trace::Log | Trace::Times(_) | Trace::NotReported => Ok(()),
             Trace::Pulses(dump) => close_dump(dump, chunk, sink),
             Trace::Samples(samples, _) => samples.write_rests(chunk, sink),
         }

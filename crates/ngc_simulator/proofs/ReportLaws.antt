@@ -26,7 +26,7 @@ use Rattle.ngc_command_line.specs.declared.options.ReportOptions.{ReportOptions}
 use Rattle.ngc_machine_files.specs.Machine.{MachineFile}
 use Rattle.ngc_machine_files.specs.declared.tools.Tool.{Tool}
 use Rattle.ngc_simulator.specs.Answers.{ReportsOn, request_of}
-use Rattle.ngc_program_report.specs.JobReports.{IsFirstText, IsFitText, IsRefusalText, IsRefusalsText, IsStartClear, OffBegins, Tells}
+use Rattle.ngc_program_report.specs.JobReports.{IsFirstText, IsFitText, IsRefusalText, IsRefusalsText, IsStartClear, OffBegins, Prints}
 use Rattle.ngc_program_report.specs.Coordinates.{History, line_of}
 use Rattle.ngc_program_report.specs.Framed.{IsHistoryAt, setup_in}
 use Rattle.ngc_inputs.specs.Jobs.{IsMadeOf, IsProgram, IsUnmade, WhyNotMade}
@@ -81,12 +81,12 @@ module _ (setup : Setup) (bytes : List ℕ) (request : ReportRequest) (text : Pr
         (frames_as Off is.off_frames is.off_executed) (frames_as On is.on_frames is.on_executed);
   }
 
-  pub told_fit : (c : CertificateData) (old new : Option (List ℕ)) → IsMadeOf j request.cuts c → Tells (IsFitText j c request.form request.origins text.lines) old new (Ok tt) →
+  pub told_fit : (c : CertificateData) (old new : Option (List ℕ)) → IsMadeOf j request.cuts c → Prints (IsFitText j c request.form request.origins text.lines) old new (Ok tt) →
       Reports setup bytes request old new (Ok tt)
   told_fit c old new made tells = (tells.0, fit_report c tells.0 made tells.1, tells.2)
 
   pub fit_stopped : (c : CertificateData) (old new : Option (List ℕ)) (fault : ReportFault) → IsMadeOf j request.cuts c
-      → Tells (IsFitText j c request.form request.origins text.lines) old new (Err fault) → Reports setup bytes request old new (Err (of_report fault))
+      → Prints (IsFitText j c request.form request.origins text.lines) old new (Err fault) → Reports setup bytes request old new (Err (of_report fault))
   fit_stopped c old new faults.Memory made tells = tells
   fit_stopped c old new (faults.Write fault) made tells = (tells.0, inl (fit_report c tells.0 made tells.1), tells.2)
 
@@ -149,11 +149,11 @@ module _ (setup : Setup) (bytes : List ℕ) (request : ReportRequest) (text : Pr
   refusal_report false s k t unmade is = first_report s k t unmade is
 
   pub told_refusal : (s : Setting) (k : ℕ) (old new : Option (List ℕ)) → IsUnmade j request.cuts (NotCleared s k)
-      → Tells (IsRefusalText request.all j request s k text.lines) old new (Ok tt) → Reports setup bytes request old new (Err (answers.Make (NotCleared s k)))
+      → Prints (IsRefusalText request.all j request s k text.lines) old new (Ok tt) → Reports setup bytes request old new (Err (answers.Make (NotCleared s k)))
   told_refusal s k old new unmade tells = (tells.0, refusal_report request.all s k tells.0 unmade tells.1, tells.2)
 
   pub refusal_stopped : (s : Setting) (k : ℕ) (old new : Option (List ℕ)) (fault : ReportFault) → IsUnmade j request.cuts (NotCleared s k)
-      → Tells (IsRefusalText request.all j request s k text.lines) old new (Err fault) → Reports setup bytes request old new (Err (of_report fault))
+      → Prints (IsRefusalText request.all j request s k text.lines) old new (Err fault) → Reports setup bytes request old new (Err (of_report fault))
   refusal_stopped s k old new faults.Memory unmade tells = tells
   refusal_stopped s k old new (faults.Write fault) unmade tells =
       (tells.0, inr (inl (s, k, refusal_report request.all s k tells.0 unmade tells.1)), tells.2)

@@ -12,7 +12,7 @@ use Rattle.ngc_line_reader.specs.declared.program.fault.ReadFault.{ReadFault}
 use Rattle.ngc_report.specs.declared.form.Form.{Form}
 use Rattle.ngc_simulator.specs.AllFaults.{ReportsFaults}
 use Rattle.ngc_simulator.specs.Answers.{ReportResult, ReportsOn, UnreadableOn, requested_form, request_of}
-use Rattle.ngc_inputs.specs.Faults.{OfCertifying, OfTelling}
+use Rattle.ngc_inputs.specs.Faults.{OfCertifying, OfExplaining}
 use Rattle.ngc_simulator.specs.Reporting.{Reports}
 use Rattle.ngc_inputs.specs.Setups.{FileBytes, KeepsFiles}
 use Rattle.ngc_inputs.specs.Shops.{PlacedResultIs}
@@ -79,13 +79,13 @@ module _ (bytes after : FileBytes) (options : ReportOptions) (shop : Shop) (sour
       on_placed bytes (Some options.machine.now) (Some options.tools.now) options.origins (setup_of shop.machine shop.tools)
       (λ setup. Known (λ text. Reports setup text (request_of options) old new outcome)) said.0 said.1 reports
 
-  abbrev Tells : Option (List ℕ) → AnswerFault → List ℕ → Type 0
-  Tells new answer text = ReportsUnreadableFile (requested_form options.json) (option_map (λ n. n.now) options.program) text old new answer
+  abbrev Prints : Option (List ℕ) → AnswerFault → List ℕ → Type 0
+  Prints new answer text = ReportsUnreadableFile (requested_form options.json) (option_map (λ n. n.now) options.program) text old new answer
 
-  unreadable_on : (new : Option (List ℕ)) (answer : AnswerFault) → Known (Tells new answer) → UnreadableOn bytes options old new answer
+  unreadable_on : (new : Option (List ℕ)) (answer : AnswerFault) → Known (Prints new answer) → UnreadableOn bytes options old new answer
   unreadable_on new answer tells =
       on_placed bytes (Some options.machine.now) (Some options.tools.now) options.origins (setup_of shop.machine shop.tools)
-      (λ setup. Known (Tells new answer)) said.0 said.1 tells
+      (λ setup. Known (Prints new answer)) said.0 said.1 tells
 
   -- where nothing is written besides the report
   pub reported_comes : (new : Option (List ℕ)) (fault : AnswerFault) → OfCertifying fault → IfSome source (Reported new (Err fault)) →
@@ -94,7 +94,7 @@ module _ (bytes after : FileBytes) (options : ReportOptions) (shop : Shop) (sour
       inr (inr (inl (
         tt,
         unreadable_on new (answers.Read e)
-            (if_known _ (Reported new (Err (answers.Read e))) (Tells new (answers.Read e)) (λ text r. (r.0, inl r.1))
+            (if_known _ (Reported new (Err (answers.Read e))) (Prints new (answers.Read e)) (λ text r. (r.0, inl r.1))
             (known (Reported new (Err (answers.Read e))) reports)),
       )))
   reported_comes new fault of reports = inr (inl (of, reports_on new (Err fault) (known (Reported new (Err fault)) reports)))
@@ -105,14 +105,14 @@ module _ (bytes after : FileBytes) (options : ReportOptions) (shop : Shop) (sour
   both_known (Some text) P Q R on p q = on text p q
 
   -- where the fault of the program is written
-  pub told_comes : (later : FileBytes) (name : List ℕ) (mid new : Option (List ℕ)) (fault : ReadFault) (answer : AnswerFault) → OfTelling answer
+  pub told_comes : (later : FileBytes) (name : List ℕ) (mid new : Option (List ℕ)) (fault : ReadFault) (answer : AnswerFault) → OfExplaining answer
       → option_map (λ n. n.now) options.program ≡ Some name → KeepsFiles after later → IfSome source (Reported mid (Err (answers.Read fault)))
       → TellsKnown (requested_form options.json) (Some name) (later (Some name)) mid new fault answer → ReportResult bytes options old new (Err answer)
   told_comes later name mid new fault answer of named keeps_later reports tells = inr (inr (inl (
     of,
     unreadable_on new answer
         (both_known _ (Reported mid (Err (answers.Read fault))) (λ text. FaultIs fault (program_of text) →
-        ReportsUnreadableFile (requested_form options.json) (Some name) text mid new answer) (Tells new answer)
+        ReportsUnreadableFile (requested_form options.json) (Some name) text mid new answer) (Prints new answer)
         (λ text r told.
         tells_behind (requested_form options.json) _ text old mid new answer r.1
         (subst (λ (n : Option (List ℕ)). ReportsUnreadableFile (requested_form options.json) n text mid new answer) (sym named) (told r.0)))

@@ -43,7 +43,7 @@ pub record IsFaultsReport (setup : Setup) (form : Form) (bytes : List ℕ) (s : 
   pub tells : text ≡ faults_text form bytes first off on
 
 -- the report was written, and its first fault is returned
-pub record ToldFaults (setup : Setup) (form : Form) (bytes : List ℕ) (old new : Option (List ℕ))
+pub record ReportedFaults (setup : Setup) (form : Form) (bytes : List ℕ) (old new : Option (List ℕ))
     (fault : AnswerFault) : Type 0 where
   pub setting : Setting
   pub first : TextFault
@@ -67,4 +67,4 @@ abbrev pub ReportsFaults : Setup → Form → List ℕ → Option (List ℕ) →
 ReportsFaults setup form bytes old new (answers.Write e) = BrokenFaults setup form bytes old new
 ReportsFaults setup form bytes old new fault =
     ((fault ≡ answers.Read Device) × Keeps old new) ⊎
-    ToldFaults setup form bytes old new fault
+    ReportedFaults setup form bytes old new fault

@@ -19,7 +19,7 @@ use Rattle.ngc_command_line.specs.declared.options.Options.{Options}
 use Rattle.ngc_command_line.specs.declared.options.Options.TheVariants as commands
 use Rattle.ngc_fault_texts.specs.Numbers.{is_fault}
 use Rattle.ngc_fault_texts.specs.Explanations.{ExplainsOrFails as ExplainsFault}
-use Rattle.ngc_fault_texts.specs.declared.telling.ExplainFault.TheVariants.{Unknown, Write}
+use Rattle.ngc_fault_texts.specs.declared.explaining.ExplainFault.TheVariants.{Unknown, Write}
 use Rattle.ngc_text.specs.Failures.{Rises}
 use Rattle.ngc_text.specs.Written.{AppendsPrefix}
 use Rattle.ngc_run_through.specs.declared.report.Report.{Report}
@@ -31,7 +31,7 @@ use Rattle.ngc_simulator.specs.declared.done.Done.TheVariants.{Quietly, RunThrou
 use Rattle.ngc_program_report.specs.declared.run_time.RunTime.{RunTime}
 use Rattle.ngc_simulator.specs.Guides.{Guides, version_text}
 use Rattle.ngc_inputs.specs.Faults.{FailsByOutput, OfCertifying, OfChecking, OfDrawing}
-use Rattle.ngc_inputs.specs.Faults.{OfListing, OfLiving, OfReporting, OfRunning, OfTelling, OfWriting}
+use Rattle.ngc_inputs.specs.Faults.{OfListing, OfLiving, OfReporting, OfRunning, OfExplaining, OfWriting}
 use Rattle.ngc_inputs.specs.Faults.{OrOfReading, answer_status, fault_line}
 use Rattle.ngc_simulator.specs.declared.writing.Writing.{Writing}
 use Rattle.ngc_simulator.specs.Writing.{writing_named}
@@ -249,7 +249,7 @@ abbrev pub ReportFails : FileBytes → ReportOptions → Option (List ℕ) → O
     AnswerFault → Type 0
 ReportFails bytes options old new fault =
     (OfReporting fault × ReportsOn bytes options old new (Err fault)) ⊎
-    ((OfTelling fault × UnreadableOn bytes options old new fault)
+    ((OfExplaining fault × UnreadableOn bytes options old new fault)
     ⊎ FaultsOn bytes options old new fault)
 
 abbrev pub ReportResult : FileBytes → ReportOptions → Option (List ℕ) → Option (List ℕ) →
@@ -594,11 +594,11 @@ IsQuiet (commands.Help command) = Unit {0}
 IsQuiet commands.Version = Unit {0}
 
 -- nothing, the time or the report if the command is done, otherwise the line that reports the fault
-abbrev pub Tells : Result Done AnswerFault → Taking → Type 0
-Tells (Ok Quietly) sink = (sink.new ≡ sink.old) × (sink.failures_now ≡ sink.failures)
-Tells (Ok (RunThrough time)) sink = Takes sink (time_line time)
-Tells (Ok (WithNotes notes)) sink = Takes sink notes.text.items
-Tells (Err fault) sink = Takes sink (fault_line fault)
+abbrev pub Prints : Result Done AnswerFault → Taking → Type 0
+Prints (Ok Quietly) sink = (sink.new ≡ sink.old) × (sink.failures_now ≡ sink.failures)
+Prints (Ok (RunThrough time)) sink = Takes sink (time_line time)
+Prints (Ok (WithNotes notes)) sink = Takes sink notes.text.items
+Prints (Err fault) sink = Takes sink (fault_line fault)
 
 -- The files of a run: their bytes, where they are known, which of them have a source that fails,
 -- and the number of files that couldn't be opened before and after.
@@ -618,4 +618,4 @@ pub record Answers (files : Given) (options : Options) (output errors : Taking) 
       (inputs_of options) files.failures files.failures_now outcome
   pub counts : FailsByOutput outcome output.failures output.failures_now
   pub says : status ≡ status_of outcome
-  pub tells : Tells outcome errors
+  pub tells : Prints outcome errors

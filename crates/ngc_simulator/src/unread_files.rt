@@ -7,7 +7,7 @@ ghost use Rattle.ngc_line_reader.specs.ProgramText.{program_of};
 ghost use Rattle.ngc_line_reader.specs.ProgramView.{FaultIs};
 ghost use Rattle.ngc_line_reader.specs.declared.program.fault.ReadFault.TheVariants.{Device};
 ghost use Rattle.ngc_simulator.specs.Answers.{program_input};
-ghost use Rattle.ngc_inputs.specs.Faults.{FailsWith, OfTelling};
+ghost use Rattle.ngc_inputs.specs.Faults.{FailsWith, OfExplaining};
 ghost use Rattle.ngc_inputs.specs.Setups.{KeepsFiles};
 ghost use Rattle.ngc_inputs.specs.Unread.{FailsByInput, SourceFails};
 ghost use Rattle.ngc_simulator.specs.Unreadable.{ReportsUnreadableFile, is_of_text, marked_fault};
@@ -106,7 +106,7 @@ pub(crate) fn report_unreadable<F: Files, W: Sink>(
         (program_input (Some name.now) ∷ []) (F.failures files.old) (F.failures files.new)
         (Err result) }
     ensures sink { FailsWith result (W.failures output.old) (W.failures output.new) }
-    ensures faults { OfTelling result }
+    ensures faults { OfExplaining result }
 {
     if !is_of_text(fault) {
         return AnswerFault::Read(fault);

@@ -5,7 +5,7 @@ use Rattle.ngc_job.specs.Job.{commands_in}
 use Rattle.ngc_certificate_text.specs.declared.piece.Setting.TheVariants.{Off, On}
 use Rattle.ngc_machine_files.specs.Machine.{file_of}
 use Rattle.ngc_program_report.specs.Framed.{IsHistoryAt, frames_at, history_in}
-use Rattle.ngc_program_report.specs.JobReports.{IsRefusalsText, IsStartClear, OffBegins, OnBegins, Tells}
+use Rattle.ngc_program_report.specs.JobReports.{IsRefusalsText, IsStartClear, OffBegins, OnBegins, Prints}
 use Rattle.ngc_program_report.specs.Texts.{refusals_text}
 use Rattle.ngc_report.specs.declared.report_fault.ReportFault.TheVariants as faults
 use Rattle.ngc_program_report.proofs.JobTexts.{alike, all_text, are_alike, once_begins}
@@ -27,7 +27,7 @@ returns-in_err-write_all_once-clause-tells g c = λ lines framed.
     let begins = subst (λ (l : List ℕ). IsStartClear j.machine → OffBegins (is_some j.on) c.args.setting c.args.command l)
     (sym c.as_slice-indices.ensures.value) c.in-Ok.ensures.begins in
     turned _ (faults.Write c.in_err-write_all_once.field-0.0)
-    (λ r. Tells (IsRefusalsText j cuts c.args.setting c.args.command c.args.request.form c.args.request.origins lines) (g.W.Sink.written c.args.output.now)
+    (λ r. Prints (IsRefusalsText j cuts c.args.setting c.args.command c.args.request.form c.args.request.origins lines) (g.W.Sink.written c.args.output.now)
     (g.W.Sink.written c.write_all_once.new.output) r)
     c.from_residual.ensures.1 (
       refusals_text c.args.request.form c.args.request.origins false file off off h on_h ks ks,
@@ -80,7 +80,7 @@ returns-in_err-write_all_both-clause-tells g c = λ lines framed.
     let on_begins = subst (λ (l : List ℕ). IsStartClear j.machine → OnBegins c.args.setting c.args.command l) (sym c.as_slice-2.ensures.value)
     c.in-Ok-on_uncleared.ensures.begins in
     turned _ (faults.Write c.in_err-write_all_both.field-0.0)
-    (λ r. Tells (IsRefusalsText j cuts c.args.setting c.args.command c.args.request.form c.args.request.origins lines) (g.W.Sink.written c.args.output.now)
+    (λ r. Prints (IsRefusalsText j cuts c.args.setting c.args.command c.args.request.form c.args.request.origins lines) (g.W.Sink.written c.args.output.now)
     (g.W.Sink.written c.write_all_both.new.output) r)
     c.from_residual-in_err-write_all_both.ensures.1 (
       refusals_text c.args.request.form c.args.request.origins true file off on off_h on_h off_ks on_ks,

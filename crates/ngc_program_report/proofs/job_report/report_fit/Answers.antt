@@ -6,7 +6,7 @@ use Rattle.ngc_certificate_text.specs.Certificate.{AreEntries}
 use Rattle.ngc_certificate_text.specs.declared.piece.Setting.TheVariants.{Off, On}
 use Rattle.ngc_job.specs.Job.{commands_in}
 use Rattle.ngc_line_reader.specs.ProgramView.{text_in}
-use Rattle.ngc_program_report.specs.JobReports.{FailsByWriting, IsFitText, Tells}
+use Rattle.ngc_program_report.specs.JobReports.{FailsByWriting, IsFitText, Prints}
 use Rattle.ngc_report.specs.declared.report_fault.ReportFault.TheVariants as faults
 use Rattle.ngc_program_report.proofs.JobTexts.{fit_both, fit_once, lasts_off, lasts_on, planned_as}
 use Rattle.ngc_program_report.proofs.MemoryLaws.{memory_tells}
@@ -58,7 +58,7 @@ returns-in_err-write_once-clause-tells g c =
     let none : is_some j.on ≡ false = sym c.has_deleted_lines-apart.ensures ∙ c.if-not-apart.true in
     let is = c.in_ok-off_time.ensures.back ∙ c.accept-accepted.ensures in
     turned _ (faults.Write c.in_err-write_once.field-0.0)
-    (λ r. Tells (IsFitText j said c.args.form c.args.origins.now (text_in c.args.program.now).lines) (g.W.Sink.written c.args.output.now)
+    (λ r. Prints (IsFitText j said c.args.form c.args.origins.now (text_in c.args.program.now).lines) (g.W.Sink.written c.args.output.now)
     (g.W.Sink.written c.write_once.new.output) r)
     c.from_residual-in_err-write_once.ensures.1 (
       _,
@@ -99,7 +99,7 @@ returns-in_err-write_both-clause-tells g c =
     let before = c.in_ok-off_time.ensures.back ∙ c.accept-accepted.ensures in
     let is = c.in_ok-on_time.ensures.back ∙ before in
     turned _ (faults.Write c.in_err-write_both.field-0.0)
-    (λ r. Tells (IsFitText j said c.args.form c.args.origins.now (text_in c.args.program.now).lines) (g.W.Sink.written c.args.output.now)
+    (λ r. Prints (IsFitText j said c.args.form c.args.origins.now (text_in c.args.program.now).lines) (g.W.Sink.written c.args.output.now)
     (g.W.Sink.written c.write_both.new.output) r)
     c.from_residual-in_err-write_both.ensures.1 (
       _,

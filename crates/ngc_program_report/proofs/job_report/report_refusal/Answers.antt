@@ -1,6 +1,6 @@
 use Rattle.std.proofs.Common.{Bool, Err, refl, subst, sym}
 use Rattle.ngc_line_reader.specs.ProgramView.{text_in}
-use Rattle.ngc_program_report.specs.JobReports.{IsRefusalText, Tells, first_text}
+use Rattle.ngc_program_report.specs.JobReports.{IsRefusalText, Prints, first_text}
 use Rattle.ngc_report.specs.declared.report_fault.ReportFault.TheVariants as faults
 use Rattle.ngc_report.proofs.Converted.{turned}
 use Rattle.ngc_program_report.proofs.job_report.report_refusal.Goals as goal
@@ -13,9 +13,9 @@ returns-in_err-report_first-clause-tells g c =
     let old = g.W.Sink.written c.args.output.now in
     let new = g.W.Sink.written c.report_first.new.output in
     turned _ (faults.Write fault)
-    (λ r. Tells (IsRefusalText c.args.request.all j c.args.request c.args.setting c.args.command lines) old new r)
+    (λ r. Prints (IsRefusalText c.args.request.all j c.args.request c.args.setting c.args.command lines) old new r)
     c.from_residual.ensures.1
-    (subst (λ (all : Bool). Tells (IsRefusalText all j c.args.request c.args.setting c.args.command lines) old new (Err (faults.Write fault)))
+    (subst (λ (all : Bool). Prints (IsRefusalText all j c.args.request c.args.setting c.args.command lines) old new (Err (faults.Write fault)))
     (sym c.if-request.false) (
       first_text j c.args.request.form c.args.request.origins c.args.setting c.args.command lines c.frame_at-frame.result,
       record { frame = c.frame_at-frame.result; executed = c.frame_at-frame.ensures lines c.requires.frames; tells = refl },
@@ -26,6 +26,6 @@ pub returns-then-request-clause-tells : goal.returns-then-request-clause-tells
 returns-then-request-clause-tells g c =
     let j = c.args.framed.now.job in
     let lines = (text_in c.args.program.now).lines in
-    subst (λ (all : Bool). Tells (IsRefusalText all j c.args.request c.args.setting c.args.command lines) (g.W.Sink.written c.args.output.now)
+    subst (λ (all : Bool). Prints (IsRefusalText all j c.args.request c.args.setting c.args.command lines) (g.W.Sink.written c.args.output.now)
     (g.W.Sink.written c.report_all.new.output) c.report_all.result) (sym c.if-request.true)
     (c.report_all.ensures.tells lines c.requires.frames)

@@ -1,7 +1,7 @@
 use Rattle.std.proofs.Common.{◌≡◌, drop}
 use Rattle.ngc_fault_texts.specs.Explanations.{told}
 use Rattle.ngc_fault_texts.proofs.WrittenProgress.{Reached}
-use Rattle.ngc_fault_texts.proofs.telling.write_parts.Given as goal
+use Rattle.ngc_fault_texts.proofs.explaining.write_parts.Given as goal
 
 abbrev pub invariant-loop-part : goal.invariant-loop-part
 invariant-loop-part g l = record {

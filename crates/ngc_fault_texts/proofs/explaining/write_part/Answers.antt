@@ -1,8 +1,8 @@
 use Rattle.std.proofs.Common.{◌∙◌}
 use Rattle.ngc_fault_texts.proofs.NumberSearch.{chosen, passed}
 use Rattle.ngc_fault_texts.proofs.WrittenProgress.{left, stopped, went_on}
-use Rattle.ngc_fault_texts.proofs.telling.write_part.Goals as goal
-use Rattle.ngc_fault_texts.proofs.telling.write_part.Goals.{else-row-number, then-row-number+in-Ok}
+use Rattle.ngc_fault_texts.proofs.explaining.write_part.Goals as goal
+use Rattle.ngc_fault_texts.proofs.explaining.write_part.Goals.{else-row-number, then-row-number+in-Ok}
 
 pub returns-in-Err-clause-fault : goal.returns-in-Err-clause-fault
 returns-in-Err-clause-fault g c =

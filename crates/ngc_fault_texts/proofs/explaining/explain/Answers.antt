@@ -2,7 +2,7 @@ use Rattle.std.proofs.Common.{◌≡◌, ◌==◌, ◌∙◌, ap, refl, sym}
 use Rattle.std.specs.List.{list_any}
 use Rattle.ngc_fault_texts.specs.Numbers.{is_fault}
 use Rattle.ngc_fault_texts.proofs.NumberSearch.{any_on_page, cannot_be}
-use Rattle.ngc_fault_texts.proofs.telling.explain.Goals as goal
+use Rattle.ngc_fault_texts.proofs.explaining.explain.Goals as goal
 
 pub returns-then-not-is_on-clause-unknown : goal.returns-then-not-is_on-clause-unknown
 returns-then-not-is_on-clause-unknown g c =

@@ -2,7 +2,7 @@ use Rattle.std.proofs.Common.{OnOk, OnErr, List, ℕ, subst, ◌∙◌}
 use Rattle.std.specs.Io.KnownBytes.{Appends}
 use Rattle.ngc_text.specs.Written.{AppendsPrefix}
 use Rattle.ngc_fault_texts.proofs.WrittenProgress.{beginning_same}
-use Rattle.ngc_fault_texts.proofs.telling.write_start.Goals as goal
+use Rattle.ngc_fault_texts.proofs.explaining.write_start.Goals as goal
 
 pub returns-clause-ok : goal.returns-clause-ok
 returns-clause-ok g c =

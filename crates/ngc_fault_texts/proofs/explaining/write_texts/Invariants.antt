@@ -1,7 +1,7 @@
 use Rattle.std.proofs.Common.{◌≡◌, drop}
 use Rattle.ngc_fault_texts.specs.Explanations.{all_of}
 use Rattle.ngc_fault_texts.proofs.WrittenProgress.{Reached}
-use Rattle.ngc_fault_texts.proofs.telling.write_texts.Given as goal
+use Rattle.ngc_fault_texts.proofs.explaining.write_texts.Given as goal
 
 abbrev pub invariant-loop-text : goal.invariant-loop-text
 invariant-loop-text g l = record {

@@ -2,7 +2,7 @@ use Rattle.std.proofs.Common.{OnErr, List, ℕ, ap₂, subst, sym, ◌∙◌}
 use Rattle.ngc_text.specs.Written.{AppendsPrefix}
 use Rattle.ngc_fault_texts.specs.Explanations.{column_line}
 use Rattle.ngc_fault_texts.proofs.WrittenProgress.{column_same}
-use Rattle.ngc_fault_texts.proofs.telling.write_column.Goals as goal
+use Rattle.ngc_fault_texts.proofs.explaining.write_column.Goals as goal
 
 pub returns-in-Some-Some-clause-fault : goal.returns-in-Some-Some-clause-fault
 returns-in-Some-Some-clause-fault g c =

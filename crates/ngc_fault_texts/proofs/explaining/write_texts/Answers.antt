@@ -2,7 +2,7 @@ use Rattle.std.proofs.Common.{rules}
 use Rattle.std.proofs.lemmas.List.{at_drop_more}
 use Rattle.ngc_fault_texts.specs.Explanations.{all_of}
 use Rattle.ngc_fault_texts.proofs.WrittenProgress.{stopped, went_on}
-use Rattle.ngc_fault_texts.proofs.telling.write_texts.Goals as goal
+use Rattle.ngc_fault_texts.proofs.explaining.write_texts.Goals as goal
 
 pub returns-in-Err-clause-fault : goal.returns-in-Err-clause-fault
 returns-in-Err-clause-fault g c =

@@ -1,6 +1,6 @@
 use Rattle.std.proofs.lemmas.Result.{on_err_weaker, on_ok_weaker}
 use Rattle.ngc_fault_texts.proofs.WrittenProgress.{first_broken, second_broken, third_broken, three_written}
-use Rattle.ngc_fault_texts.proofs.telling.write_row.Goals as goal
+use Rattle.ngc_fault_texts.proofs.explaining.write_row.Goals as goal
 
 pub returns-in-Err-clause-fault : goal.returns-in-Err-clause-fault
 returns-in-Err-clause-fault g c = first_broken _ _ _ _ c.in-Err.ensures.fault

@@ -1,7 +1,7 @@
 use Rattle.std.proofs.Common.{◌≡◌, drop}
 use Rattle.ngc_fault_texts.specs.Explanations.{told_in}
 use Rattle.ngc_fault_texts.proofs.WrittenProgress.{Reached}
-use Rattle.ngc_fault_texts.proofs.telling.write_part.Given as goal
+use Rattle.ngc_fault_texts.proofs.explaining.write_part.Given as goal
 
 abbrev pub invariant-loop-row : goal.invariant-loop-row
 invariant-loop-row g l = record {
