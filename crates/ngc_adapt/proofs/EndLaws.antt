@@ -1,5 +1,5 @@
 -- The ends of texts that are added.
-use Rattle.std.proofs.Common.{◌≡◌, ℕ, zero, suc, ◌+◌, ◌-◌, ◌≤◌, Bool, true, false, cond, List, [], ◌∷◌, ◌++◌, length, take, drop, refl, ap, ◌∙◌, sym, arith, length-append, append_assoc}
+use Rattle.std.proofs.Common.{◌≡◌, ℕ, zero, suc, ◌+◌, ◌-◌, ◌≤◌, Bool, false, cond, List, [], ◌∷◌, ◌++◌, length, take, drop, refl, ap, ◌∙◌, sym, arith, length-append, append_assoc}
 use Rattle.std.specs.Prelude.{◌==◌, codes, reverse}
 use Rattle.std.specs.List.{insert, prefix_len}
 use Rattle.ngc_adapt.specs.Numbers.{is_blank}

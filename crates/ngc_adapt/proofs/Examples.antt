@@ -14,7 +14,6 @@ use Rattle.ngc_adapt.specs.declared.dialect.Dialect.TheVariants as dialects
 use Rattle.ngc_adapt.specs.declared.rule.Cycle.{Cycle}
 use Rattle.ngc_adapt.specs.declared.rule.Cycle.TheVariants as cycles
 use Rattle.ngc_adapt.specs.declared.options.Options.{Options}
-use Rattle.ngc_adapt.specs.declared.facts.Facts.{Facts}
 use Rattle.ngc_adapt.specs.declared.facts.Levels.TheVariants as levels
 use Rattle.ngc_adapt.specs.declared.refusal.WordRefusal.TheVariants as refusals
 use Rattle.ngc_adapt.specs.Facts.{no_facts, facts_of}
@@ -23,7 +22,7 @@ use Rattle.ngc_adapt.specs.Numbers.{number_of, code_of, is_zero, is_long}
 use Rattle.ngc_adapt.specs.Items.{items_of, item_of}
 use Rattle.ngc_adapt.specs.Rules.{rule_for}
 use Rattle.ngc_adapt.specs.Refusals.{refusal_for}
-use Rattle.ngc_adapt.specs.Lines.{written, rules_of, next_modes, is_end, refusals_of}
+use Rattle.ngc_adapt.specs.Lines.{written, rules_of, next_modes, refusals_of}
 use Rattle.ngc_adapt.specs.Reports.{line_report, comment_report}
 use Rattle.ngc_adapt.specs.Sources.{lines_of}
 use Rattle.ngc_adapt.specs.Text.{text_of}

@@ -1,7 +1,7 @@
 -- Lines that add no fact.
-use Rattle.std.proofs.Common.{◌≡◌, ℕ, zero, suc, ◌+◌, ◌≤◌, Bool, true, false, List, [], ◌∷◌, length, take, drop, refl, ap, ◌∙◌, sym, arith, Option, Some, None}
+use Rattle.std.proofs.Common.{◌≡◌, ℕ, zero, suc, ◌≤◌, Bool, true, false, List, [], ◌∷◌, length, drop, refl, ap, ◌∙◌, arith, Option, Some, None}
 use Rattle.std.specs.Prelude.{◌&&◌, ◌||◌, not, nat_le, map, is_some}
-use Rattle.std.specs.List.{list_all, list_any, filter_map, cons_option}
+use Rattle.std.specs.List.{list_all, list_any, filter_map}
 use Rattle.std.proofs.lemmas.Bool.Decides.{nat_tests}
 use Rattle.ngc_adapt.specs.declared.code.TheConstants as codes
 use Rattle.ngc_adapt.specs.declared.item.Letter.{Letter}

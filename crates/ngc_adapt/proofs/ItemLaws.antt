@@ -6,7 +6,7 @@ use Rattle.std.proofs.lemmas.Bool.Decides.{nat_tests}
 use Rattle.ngc_adapt.specs.declared.item.Word.{Word}
 use Rattle.ngc_adapt.specs.declared.item.Item.{Item}
 use Rattle.ngc_adapt.specs.declared.item.Item.TheVariants as items
-use Rattle.ngc_adapt.specs.Items.{words_unless, item_length, items_within, items_of, item_of, word_in, is_unread, has_unread, words_in}
+use Rattle.ngc_adapt.specs.Items.{words_unless, item_length, items_within, items_of, item_of, word_in, is_unread, has_unread, words_in, parts_of}
 
 -- an item has a byte
 pub some_bytes : (b : ℕ) (rest : List ℕ) → 0 < item_length (b ∷ rest)
@@ -64,6 +64,16 @@ pub read_next : (b : Bool) (rest item others : List ℕ) → items_of rest ≡ i
 read_next b rest item others h e =
     ap (λ (xs : List (List ℕ)). list_any is_unread (map item_of xs)) h
     ∙ ap (λ (u : Bool). u || has_unread others) e
+
+-- the same of the kinds of the items
+pub word_front : (rest others : List ℕ) (i : Item) (w : Word) → parts_of rest ≡ i ∷ parts_of others → items.Word w ≡ i
+    → words_in rest ≡ w ∷ words_in others
+word_front rest others i w h e =
+    ap (filter_map word_in) h ∙ ap (λ (x : Item). cons_option (word_in x) (words_in others)) (sym e)
+
+pub read_front : (b : Bool) (rest others : List ℕ) (i : Item) → parts_of rest ≡ i ∷ parts_of others → is_unread i ≡ b
+    → has_unread rest ≡ (b || has_unread others)
+read_front b rest others i h e = ap (list_any is_unread) h ∙ ap (λ (u : Bool). u || has_unread others) e
 
 pub words_end : (rest : List ℕ) → length rest ≡ 0 → words_in rest ≡ []
 words_end rest h = ap (λ (xs : List (List ℕ)). filter_map word_in (map item_of xs)) (nothing rest h)

@@ -42,3 +42,9 @@ pub mod ReadItems
 pub mod PlainLaws
 -- Lines that add no fact to those about a program.
 mod Factless
+-- Lines that can change no mode but the motion.
+mod BareLaws
+-- A number in front of a text.
+pub mod FrontLaws
+-- A word whose value is a number, in front of a line.
+pub mod WordFronts

@@ -1,13 +1,13 @@
 -- Words that a rule writes, for any text that follows.
 use Rattle.std.proofs.Common.{◌≡◌, ℕ, zero, suc, ◌+◌, ◌-◌, ◌<◌, ◌≤◌, min, Bool, true, false, cond, List, [], ◌∷◌, ◌++◌, length, take, drop, refl, ap, ◌∙◌, sym, arith, add-one, length-append, append_assoc, Option, Some, None}
-use Rattle.std.specs.Prelude.{◌==◌, ◌/◌, ◌%◌, ◌&&◌, ◌||◌, not, filter, is_some, codes, decimal, nat_le}
+use Rattle.std.specs.Prelude.{◌==◌, ◌/◌, ◌%◌, ◌&&◌, not, filter, codes, decimal, nat_le}
 use Rattle.std.specs.Char.{is_ascii_digit}
 use Rattle.std.specs.List.{list_all, prefix_len}
 use Rattle.std.specs.Fmt.{digit_glyph, digits_onto, digits}
 use Rattle.std.proofs.lemmas.Bool.Decides.{nat_tests}
 use Rattle.std.proofs.lemmas.List.{length-take}
 use Rattle.std.proofs.lemmas.List.Folds.{list_all-append}
-use Rattle.ngc_adapt.specs.Numbers.{is_blank, begins, is_lead, after_lead, is_of_number, is_ink, without_blanks, depth_after, bracket_length, stays_open, value_length}
+use Rattle.ngc_adapt.specs.Numbers.{is_blank, begins, is_lead, is_of_number, is_ink, without_blanks, depth_after, bracket_length, stays_open, value_length}
 use Rattle.ngc_adapt.specs.Items.{is_in_comment, bare_length, item_length}
 use Rattle.ngc_adapt.specs.Rules.{number_text, padded, in_seconds}
 use Rattle.ngc_adapt.proofs.ValueLaws.{prefix_good, begins_head, and_parts}

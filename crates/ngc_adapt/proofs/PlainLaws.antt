@@ -1,5 +1,5 @@
 -- Lines that are plain, and texts in two parts.
-use Rattle.std.proofs.Common.{◌≡◌, ℕ, suc, ◌+◌, Bool, true, false, List, [], ◌∷◌, ◌++◌, length, take, drop, refl, ap, sym, ◌∙◌, arith}
+use Rattle.std.proofs.Common.{◌≡◌, ℕ, ◌+◌, Bool, true, false, List, [], ◌∷◌, length, take, drop, refl, ap, sym, ◌∙◌, arith}
 use Rattle.std.specs.Prelude.{◌==◌, ◌&&◌, ◌||◌, not, cond, nat_lt, nat_le}
 use Rattle.std.specs.List.{list_all, list_any, prefix_len}
 use Rattle.std.proofs.lemmas.Bool.Decides.{nat_tests}
@@ -8,7 +8,7 @@ use Rattle.ngc_adapt.specs.declared.facts.Levels.{Levels}
 use Rattle.ngc_adapt.specs.Comments.{has_odd_comment, with_plain_comment, is_before_comment, is_odd, code_length, code_of, comment_of}
 use Rattle.ngc_adapt.specs.Numbers.{is_blank, begins}
 use Rattle.ngc_adapt.specs.Plain.{has_idle_level, without_level, has_long_comment, without_long_comment, is_plain, is_special, plain_line, after_comment, is_idle}
-use Rattle.ngc_adapt.specs.Signs.{begins_operand, is_sign, opens_value, is_unary, ink_after, has_unary_after, has_inner_sign, with_signs}
+use Rattle.ngc_adapt.specs.Signs.{begins_operand, is_sign, opens_value, ink_after, has_unary_after, has_inner_sign, with_signs}
 use Rattle.ngc_adapt.proofs.ValueLaws.{and_parts, or_parts, begins_head, none_dropped}
 
 stays : (b : Bool) (x y : List ℕ) → not b ≡ true → cond b x y ≡ y

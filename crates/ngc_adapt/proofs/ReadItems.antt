@@ -13,19 +13,19 @@ use Rattle.ngc_adapt.proofs.ItemLaws.{read_next}
 use Rattle.ngc_adapt.proofs.LineLaws.{words_are}
 use Rattle.ngc_adapt.proofs.ValueLaws.{or_parts}
 
-no_letter : (b : ℕ) → is_letter b ≡ false → letter_of b ≡ None
+pub no_letter : (b : ℕ) → is_letter b ≡ false → letter_of b ≡ None
 no_letter b h = grind (arith, nat_tests)
 
-letter_no_mark : (b : ℕ) → is_letter b ≡ true → is_mark b ≡ false
+pub letter_no_mark : (b : ℕ) → is_letter b ≡ true → is_mark b ≡ false
 letter_no_mark b h = grind (arith, nat_tests)
 
-letter_no_remark : (b : ℕ) → is_letter b ≡ true → (b == 59) ≡ false
+pub letter_no_remark : (b : ℕ) → is_letter b ≡ true → (b == 59) ≡ false
 letter_no_remark b h = grind (arith, nat_tests)
 
-letter_no_comment : (b : ℕ) → is_letter b ≡ true → (b == 40) ≡ false
+pub letter_no_comment : (b : ℕ) → is_letter b ≡ true → (b == 40) ≡ false
 letter_no_comment b h = grind (arith, nat_tests)
 
-letter_no_setting : (b : ℕ) → is_letter b ≡ true → (b == 35) ≡ false
+pub letter_no_setting : (b : ℕ) → is_letter b ≡ true → (b == 35) ≡ false
 letter_no_setting b h = grind (arith, nat_tests)
 
 word_some : (l : Option Letter) (n : Option Number) → is_unread (word_item l n) ≡ false → is_some (word_in (word_item l n)) ≡ true

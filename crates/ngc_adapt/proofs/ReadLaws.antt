@@ -189,7 +189,7 @@ zero_if false n h = refl
 no_blank : (b : ℕ) → is_of_number b ≡ false → is_blank b ≡ false
 no_blank b h = grind (arith, nat_tests)
 
-good_blank : (s : List ℕ) → prefix_len is_of_number s ≡ 0 → prefix_len is_blank s ≡ 0
+pub good_blank : (s : List ℕ) → prefix_len is_of_number s ≡ 0 → prefix_len is_blank s ≡ 0
 good_blank [] h = refl
 good_blank (b ∷ s) h =
     ap (λ (c : Bool). cond c (1 + prefix_len is_blank s) 0) (no_blank b (zero_if (is_of_number b) (prefix_len is_of_number s) h))

@@ -1,6 +1,6 @@
 -- Comments that our language can't read: with parentheses inside, or not closed. The parentheses
 -- inside become brackets, and a closing one is added.
-use Rattle.std.specs.Prelude.{ℕ, ◌+◌, ◌-◌, ◌==◌, ◌&&◌, ◌||◌, not, Bool, List, ◌++◌, length, take}
+use Rattle.std.specs.Prelude.{ℕ, ◌-◌, ◌==◌, ◌&&◌, ◌||◌, not, Bool, List, ◌++◌, length, take}
 use Rattle.std.specs.Prelude.{drop, map}
 use Rattle.std.specs.Prelude.{reverse, codes, if◌then◌else◌}
 use Rattle.std.specs.Char.{is_ascii_digit}

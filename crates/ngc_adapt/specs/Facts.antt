@@ -1,7 +1,7 @@
 -- Facts about a whole program: each line adds its own.
-use Rattle.std.specs.Prelude.{ℕ, ◌-◌, ◌==◌, ◌&&◌, ◌||◌, not, nat_lt, Bool, true, false, List, []}
-use Rattle.std.specs.Prelude.{◌∷◌, length}
-use Rattle.std.specs.Prelude.{drop, map, fold, slice_index, nat_le, Option, Some, None}
+use Rattle.std.specs.Prelude.{ℕ, ◌-◌, ◌==◌, ◌&&◌, ◌||◌, not, nat_lt, Bool, true, false, List}
+use Rattle.std.specs.Prelude.{length}
+use Rattle.std.specs.Prelude.{drop, fold, slice_index, nat_le, Option, Some, None}
 use Rattle.std.specs.Prelude.{if◌then◌else◌}
 use Rattle.std.specs.Char.{is_ascii_digit}
 use Rattle.std.specs.List.{list_all, list_any, prefix_len}

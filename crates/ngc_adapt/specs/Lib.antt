@@ -13,3 +13,5 @@ pub mod Sources
 pub mod Text
 pub mod Openings
 pub mod Signs
+pub mod Bare
+pub mod Fronts

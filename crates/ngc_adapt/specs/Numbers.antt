@@ -138,6 +138,11 @@ bracket_length depth (b ∷ rest) =
 abbrev pub is_of_number : ℕ → Bool
 is_of_number b = is_ascii_digit b || ((b == 43) || ((b == 45) || ((b == 46) || is_blank b)))
 
+-- a text begins with such a byte
+abbrev pub continues : List ℕ → Bool
+continues [] = false
+continues (b ∷ text) = is_of_number b
+
 -- How many bytes a value has: blanks, signs and # in front, and then a bracket or a number.
 abbrev pub value_length : List ℕ → ℕ
 value_length text =

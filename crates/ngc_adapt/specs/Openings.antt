@@ -1,6 +1,6 @@
 -- Lines that open a program in other controls: a percent sign with the number of the program after
 -- it, and grbl's homing cycle. Our own.
-use Rattle.std.specs.Prelude.{ℕ, ◌+◌, ◌==◌, ◌&&◌, not, Bool, true, false, List, length, drop}
+use Rattle.std.specs.Prelude.{ℕ, ◌==◌, ◌&&◌, not, Bool, true, false, List, length, drop}
 use Rattle.std.specs.Prelude.{slice_index, Option, Some, None}
 use Rattle.std.specs.List.{list_any, prefix_len}
 use Rattle.ngc_adapt.specs.declared.item.Letter.{Letter}

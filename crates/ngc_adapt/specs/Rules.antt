@@ -1,8 +1,8 @@
 -- The rules by which a word of a line is left out or replaced, each with its condition, and the
 -- modes after a line.
-use Rattle.std.specs.Prelude.{ℕ, ◌+◌, ◌-◌, ◌==◌, ◌/◌, ◌%◌, ◌&&◌, ◌||◌, not, nat_lt, Bool, true}
+use Rattle.std.specs.Prelude.{ℕ, ◌-◌, ◌==◌, ◌/◌, ◌%◌, ◌&&◌, ◌||◌, not, nat_lt, Bool, true}
 use Rattle.std.specs.Prelude.{false}
-use Rattle.std.specs.Prelude.{List, [], ◌∷◌, ◌++◌, length, take, drop, filter, decimal, Option}
+use Rattle.std.specs.Prelude.{List, [], ◌++◌, length, take, drop, filter, decimal, Option}
 use Rattle.std.specs.Prelude.{Some, None}
 use Rattle.std.specs.Prelude.{codes as codes_of, if◌then◌else◌}
 use Rattle.std.specs.Option.{option_or}

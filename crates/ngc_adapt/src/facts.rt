@@ -1,9 +1,10 @@
-ghost use Rattle.std.specs.Prelude.{◌≡◌, ◌≤◌, ◌∷◌, fold, length};
-ghost use Rattle.std.specs.List.{list_any};
+ghost use Rattle.std.specs.Prelude.{◌≡◌, ◌<◌, ◌≤◌, ◌∷◌, IfSome, fold, length};
+ghost use Rattle.std.specs.List.{list_all, list_any};
 ghost use Rattle.ngc_adapt.specs.Facts as spec;
-ghost use Rattle.ngc_adapt.specs.Items.{item_of, words_of};
+ghost use Rattle.ngc_adapt.specs.Items.{item_of, parts_of, words_of};
 
 use crate::code;
+use crate::front::number_front;
 use crate::item::{
     Letter, MOST_WORDS, Word, is_comment, is_mark, is_setting, letter_of, read_words_into,
     split_item,
@@ -121,6 +122,23 @@ fn adds_nothing(item: &[u8]) -> bool
     }
 }
 
+// Returns what follows the word that a line begins with, if its value is a number with no blank
+// inside and it adds no fact.
+fn after_factless(line: &[u8]) -> Option<&[u8]>
+    ensures parts { IfSome result (λ r. list_all spec.adds_nothing (parts_of line.now)
+        ≡ list_all spec.adds_nothing (parts_of r.now)) }
+    ensures shorter { IfSome result (λ r. length r.now < length line.now) }
+{
+    let [first, text @ ..] = line else {
+        return None;
+    };
+    if has_facts(letter_of(*first)?) {
+        return None;
+    }
+    let front = number_front(text)?;
+    Some(front.rest)
+}
+
 // Returns whether a line of at most 64 bytes can be read and adds no fact but its level.
 fn is_factless(line: &[u8]) -> bool
     ensures { result ≡ spec.is_factless line.now }
@@ -130,11 +148,15 @@ fn is_factless(line: &[u8]) -> bool
     }
     let mut rest = line;
     while !rest.is_empty() {
-        let (item, others) = split_item(rest);
-        if !adds_nothing(item) {
-            return false;
+        if let Some(others) = after_factless(rest) {
+            rest = others;
+        } else {
+            let (item, others) = split_item(rest);
+            if !adds_nothing(item) {
+                return false;
+            }
+            rest = others;
         }
-        rest = others;
     }
     true
 }

@@ -1,11 +1,13 @@
-ghost use Rattle.std.specs.Prelude.{◌≡◌, ◌+◌, ◌≤◌, ◌<◌, ◌∷◌, length, Some, None, false, if◌then◌else◌};
+ghost use Rattle.std.specs.Prelude.{◌≡◌, ◌+◌, ◌≤◌, ◌<◌, ◌∷◌, length, Some, None, IfSome, false, if◌then◌else◌};
 ghost use Rattle.std.specs.List.{prefix_len};
 ghost use Rattle.std.specs.Option.{option_map};
+ghost use Rattle.ngc_adapt.specs.declared.item.Item.TheVariants as items;
 ghost use Rattle.ngc_adapt.specs.Items as spec;
 ghost use Rattle.ngc_adapt.specs.Numbers.{number_of as number};
 
+use crate::front::number_front;
 use crate::number::{
-    Number, begins, blank_length, has_byte, is_blank, is_whole, number_of, value_length,
+    Number, begins, blank_length, facts_of, has_byte, is_blank, is_whole, number_of, value_length,
 };
 use arrayvec::ArrayVec;
 
@@ -154,8 +156,9 @@ pub(crate) fn letter_of(byte: u8) -> Option<Letter>
     capital(upper(byte))
 }
 
+/// Returns whether a byte begins a word: a letter, or a colon.
 #[inline]
-fn is_letter(byte: u8) -> bool
+pub fn is_letter(byte: u8) -> bool
     ensures { result ≡ spec.is_letter byte }
 {
     byte == b':' || (upper(byte) >= b'A' && upper(byte) <= b'Z')
@@ -382,6 +385,39 @@ fn first_word(is_there: bool, words: &[Word]) -> (Option<Word>, &[Word])
     }
 }
 
+// Returns the word that a line begins with, if its value is a number with no blank inside, and what
+// follows it.
+fn front_word(line: &[u8]) -> Option<(Word, &[u8])>
+    ensures parts { IfSome result
+        (λ r. spec.parts_of line.now ≡ items.Word r.0 ∷ spec.parts_of r.1.now) }
+    ensures shorter { IfSome result (λ r. length r.1.now < length line.now) }
+{
+    let [first, text @ ..] = line else {
+        return None;
+    };
+    let letter = letter_of(*first)?;
+    let front = number_front(text)?;
+    let word = Word {
+        letter,
+        number: facts_of(front.number, front.whole, front.point),
+    };
+    Some((word, front.rest))
+}
+
+// Returns the kind of the first item of a line, and what follows it.
+fn next_item(line: &[u8]) -> (Item, &[u8])
+    requires { 0 < length line.now }
+    ensures parts { spec.parts_of line.now ≡ result.0 ∷ spec.parts_of result.1.now }
+    ensures shorter { length result.1.now < length line.now }
+{
+    // Nearly every item is such a word.
+    if let Some((word, rest)) = front_word(line) {
+        return (Item::Word(word), rest);
+    }
+    let (item, rest) = split_item(line);
+    (item_of(item), rest)
+}
+
 /// Reads the words of a line into `words`, in place of those that it holds, and returns whether the
 /// line can be read as a whole and has at most 64. Of any other line `words` holds the first ones.
 pub fn read_words_into(line: &[u8], words: &mut ArrayVec<Word, MOST_WORDS>) -> bool
@@ -390,8 +426,8 @@ pub fn read_words_into(line: &[u8], words: &mut ArrayVec<Word, MOST_WORDS>) -> b
     words.clear();
     let mut rest = line;
     while !rest.is_empty() {
-        let (item, others) = split_item(rest);
-        match item_of(item) {
+        let (part, others) = next_item(rest);
+        match part {
             Item::Word(word) => {
                 if words.is_full() {
                     return false;

@@ -7,6 +7,7 @@ mod code;
 mod comment;
 mod dialect;
 mod facts;
+mod front;
 mod item;
 pub mod laws;
 mod line;
@@ -26,14 +27,15 @@ pub use adapting::{AdaptedLine, adapt_line};
 pub use change::Change;
 pub use dialect::Dialect;
 pub use facts::{Facts, Levels};
+pub use front::{Front, number_front};
 pub use item::{
-    Item, Letter, MOST_WORDS, ReadItem, Word, item_of, may_be_deleted, read_words, read_words_into,
-    split_item, split_read, upper,
+    Item, Letter, MOST_WORDS, ReadItem, Word, is_letter, item_of, may_be_deleted, read_words,
+    read_words_into, split_item, split_read, upper,
 };
 pub use line::{MOST_REFUSALS, MOST_RULES};
 pub use number::{
-    LONGEST_NUMBER, Number, begins, byte_count, in_one_piece, is_blank, make_number, split_whole,
-    without_blanks,
+    LONGEST_NUMBER, Number, begins, byte_count, code_of, in_one_piece, is_blank, make_number,
+    split_whole, without_blanks,
 };
 pub use opening::{after_percent, has_number_alone, is_homing_line};
 pub use options::{MOST_DROPPED, Options};

@@ -80,7 +80,7 @@ pub(crate) fn without_first(text: &[u8]) -> &[u8]
 }
 
 #[tactic(auto, using(crate::proofs::Digits::counted))]
-fn digit_count(text: &[u8]) -> usize
+pub(crate) fn digit_count(text: &[u8]) -> usize
     ensures count { result ≡ prefix_len is_ascii_digit text.now }
     ensures within { result ≤ length text.now }
 {
@@ -252,7 +252,7 @@ pub(crate) fn bracket_length(text: &[u8]) -> usize
     text.len()
 }
 
-fn is_of_number(byte: u8) -> bool
+pub(crate) fn is_of_number(byte: u8) -> bool
     ensures { result ≡ numbers.is_of_number byte }
 {
     byte.is_ascii_digit() || byte == b'+' || byte == b'-' || byte == b'.' || is_blank(byte)
@@ -307,19 +307,28 @@ pub(crate) fn is_whole(value: &[u8]) -> bool
     byte_count(b'[', value) == byte_count(b']', value) && has_digit(value)
 }
 
-// Returns the number that the characters form.
-#[tactic(auto, using(crate::proofs::PlainNumbers::digits_alone))]
-fn number_in(text: &[u8]) -> Option<Number>
-    ensures { result ≡ numbers.facts_if_number text.now }
+/// Returns the code in tenths that a number is, if it is one. `whole` has its digits in front of the
+/// point, and `rest` what follows them.
+pub fn code_of(text: &[u8], whole: &[u8], rest: &[u8]) -> Option<u16>
+    requires whole { whole.now ≡ numbers.whole_digits text.now }
+    requires rest { rest.now ≡ numbers.after_whole text.now }
+    ensures { result ≡ numbers.code_of text.now }
 {
-    let (whole, rest) = split_whole(text);
-    if !make_number(whole, rest) {
-        return None;
-    }
+    code_in(begins(b'-', text), whole, without_first(rest))
+}
+
+// Returns the facts about a number, of which these are the digits in front of the point and what
+// follows them.
+#[tactic(auto, using(crate::proofs::PlainNumbers::digits_alone))]
+pub(crate) fn facts_of(text: &[u8], whole: &[u8], rest: &[u8]) -> Number
+    requires whole { whole.now ≡ numbers.whole_digits text.now }
+    requires rest { rest.now ≡ numbers.after_whole text.now }
+    ensures { result ≡ numbers.facts_of text.now }
+{
     let decimals = without_first(rest);
     let has_point = begins(b'.', rest);
-    Some(Number {
-        code: code_in(begins(b'-', text), whole, decimals),
+    Number {
+        code: code_of(text, whole, rest),
         is_zero: are_noughts(whole) && are_noughts(decimals),
         is_long: !has_sign(text) && (has_point || whole.len() > 5),
         is_count: !has_sign(text) && rest.is_empty(),
@@ -327,7 +336,19 @@ fn number_in(text: &[u8]) -> Option<Number>
         is_computed: false,
         has_name: false,
         is_signed: false,
-    })
+    }
+}
+
+// Returns the number that the characters form.
+fn number_in(text: &[u8]) -> Option<Number>
+    ensures { result ≡ numbers.facts_if_number text.now }
+{
+    let (whole, rest) = split_whole(text);
+    if make_number(whole, rest) {
+        Some(facts_of(text, whole, rest))
+    } else {
+        None
+    }
 }
 
 // Returns the number that at most 32 characters form.

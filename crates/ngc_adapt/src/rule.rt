@@ -1,11 +1,12 @@
 ghost use Rattle.std.specs.Prelude.{◌≡◌, None, if◌then◌else◌};
-ghost use Rattle.std.specs.List.{find, list_any};
+ghost use Rattle.std.specs.List.{find, list_all, list_any};
 ghost use Rattle.ngc_adapt.specs.declared.code.TheConstants as codes;
 ghost use Rattle.ngc_adapt.specs.declared.item.Word.{Word};
 ghost use Rattle.ngc_adapt.specs.declared.rule.Motion.TheVariants as motions;
 ghost use Rattle.ngc_adapt.specs.declared.rule.Plane.TheVariants as planes;
 ghost use Rattle.ngc_adapt.specs.declared.rule.Cycle.TheVariants as cycles;
 ghost use Rattle.ngc_adapt.specs.Rules as spec;
+ghost use Rattle.ngc_adapt.specs.Bare as bare;
 
 use crate::code;
 use crate::dialect::Dialect;
@@ -503,6 +504,21 @@ fn is_for_origin(word: &Word) -> bool
     is_l(word.letter) && is_same_code(word.number.code, Some(20))
 }
 
+// Returns whether a word is none that changes a mode but the motion: no M, no T, and no G but G0 and
+// G1.
+fn is_bare(word: &Word) -> bool
+    ensures { result ≡ bare.is_bare word.now }
+{
+    !(is_m(word.letter) || is_t(word.letter))
+        && (!is_g(word.letter) || is_one_of(&code::STRAIGHT, word.number.code))
+}
+
+fn are_bare(words: &[Word]) -> bool
+    ensures { result ≡ list_all bare.is_bare words.now }
+{
+    words.iter().all(is_bare)
+}
+
 fn when(holds: bool, rule: Rule) -> Option<Rule>
     ensures { result ≡ spec.when holds rule }
 {
@@ -708,6 +724,7 @@ impl Modes {
     ghost use Rattle.ngc_adapt.specs.Rules.{lost_modes};
     ghost use Rattle.ngc_adapt.specs.Rules.{has_p_elsewhere, has_left_out, has_user_of_p};
     ghost use Rattle.ngc_adapt.specs.Rules.{is_altered};
+    ghost use Rattle.ngc_adapt.specs.Bare.{is_bare_line, bare_after};
     ghost use Rattle.ngc_adapt.specs.Rules.{has_unknown_m, has_unknown, is_plain_line};
     ghost use Rattle.ngc_adapt.specs.Rules.{is_motion_line};
     ghost use Rattle.ngc_adapt.specs.Rules.{mounted_after, system_after, has_dwelling_cycle};
@@ -820,9 +837,13 @@ impl Modes {
     }
 
     // Returns whether only the motion and the modes of a line can take its words.
+    #[tactic(auto, using(crate::proofs::BareLaws::plain_is))]
     fn is_plain_line(&self, words: &[Word]) -> bool
         ensures { result ≡ is_plain_line self.now words.now }
     {
+        if are_bare(words) {
+            return true;
+        }
         !(self.has_unknown(words) || has(&code::FOR_ONE_LINE, words) || has(&code::ALTERING, words))
     }
 
@@ -908,10 +929,36 @@ impl Modes {
         self.altered || has(&code::ALTERING, words)
     }
 
+    // Returns whether a line can change no mode but the motion.
+    fn is_bare_line(&self, words: &[Word]) -> bool
+        ensures { result ≡ is_bare_line self.now words.now }
+    {
+        !self.motion.is_unnamed() && are_bare(words)
+    }
+
+    // Returns the modes after such a line.
+    fn bare_after(&self, words: &[Word]) -> Modes
+        ensures { result ≡ bare_after self.now words.now }
+    {
+        Modes {
+            motion: if has(&code::STRAIGHT, words) {
+                Motion::Straight
+            } else {
+                self.motion
+            },
+            ..*self
+        }
+    }
+
     /// Returns the modes after a line with these words.
+    #[tactic(auto, using(crate::proofs::BareLaws::bare_is))]
     pub fn after(&self, words: &[Word]) -> Modes
         ensures { result ≡ modes_after self.now words.now }
     {
+        // Nearly every line is such a line.
+        if self.is_bare_line(words) {
+            return self.bare_after(words);
+        }
         let altered = self.is_altered(words);
         if self.has_unknown(words) {
             return self.lost(altered);

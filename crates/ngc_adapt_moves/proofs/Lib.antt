@@ -14,3 +14,5 @@ pub mod PeckLaws
 pub mod TurnLaws
 -- Lines that go straight.
 mod StraightLaws
+-- A word whose value is a number, in front of a line.
+mod FrontWords

@@ -1,5 +1,6 @@
 -- The words of a line, item by item.
-use Rattle.std.proofs.Common.{◌≡◌, ℕ, ◌≤◌, Bool, false, List, [], ◌++◌, length, ap, ◌∙◌, sym, arith, append-nil, Some}
+use Rattle.std.proofs.Common.{◌≡◌, ℕ, ◌≤◌, Bool, true, false, List, [], ◌++◌, length, ap, ◌∙◌, sym, arith, append-nil, Option, Some, None}
+use Rattle.std.specs.Prelude.{if◌then◌else◌}
 use Rattle.std.specs.List.{filter_map}
 use Rattle.std.proofs.lemmas.Bool.Decides.{nat_tests}
 use Rattle.ngc_adapt.specs.Items.{has_unread}
@@ -20,3 +21,8 @@ whole_line unread found whole rest end read words few =
     let all : found ≡ whole = sym (append-nil found) ∙ ap (λ (ws : List Word). found ++ ws) (sym (words_end rest end)) ∙ words in
     let short : length whole ≤ 64 = omega (arith, ap length all) in
     all_read unread whole (sym read ∙ read_end rest end) short ∙ ap Some (sym all)
+
+-- the words of a line, if the reader has read it
+pub some_read : (read : Bool) (words : List Word) (found : Option (List Word)) → (if read then Some words else None) ≡ found → read ≡ true → Some words ≡ found
+some_read true words found e h = e
+some_read false words found e h = absurd cc

@@ -36,4 +36,4 @@ pub use rewriting::{Rewritten, rewrite_line};
 pub use rule::{MoveRefusal, Rule};
 pub use text::Text;
 pub use value::value_of;
-pub use word::{Letter, Word, read_words};
+pub use word::{Letter, Word, read_words, read_words_into};

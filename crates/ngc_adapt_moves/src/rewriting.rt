@@ -9,9 +9,9 @@ use crate::plan::{MOST_RULES, plan_of};
 use crate::report::{add_plan_report, add_refusal};
 use crate::rule::{MoveRefusal, Rule};
 use crate::straight::{is_straight, straight_after};
-use crate::word::read_words;
+use crate::word::{Word, read_words_into};
 use arrayvec::ArrayVec;
-use ngc_adapt::may_be_deleted;
+use ngc_adapt::{MOST_WORDS, may_be_deleted};
 use std::alloc::{AllocError, Allocator};
 
 /// The result of a line.
@@ -43,14 +43,16 @@ fn not_read() -> ArrayVec<MoveRefusal, MOST_RULES>
 /// number of lines written, with line feeds between them.
 ///
 /// `number` is the number of the line in the source, and `written_number` that of the source's own
-/// line in the output. A line that no rule changes is copied byte for byte. An error means that
-/// memory was refused.
+/// line in the output. A line that no rule changes is copied byte for byte. `words` may hold the words
+/// of the line, in place of those that it held before, so that one list serves all lines. An error
+/// means that memory was refused.
 #[tactic(auto, unfolding(crate::specs::LineReports::line_report, crate::specs::Lines::written, crate::specs::Lines::before_for, crate::specs::Lines::rules_for, crate::specs::Lines::refusals_for, crate::specs::Lines::places_after, crate::specs::Lines::lines_for))]
 pub fn rewrite_line<A: Allocator>(
     number: usize,
     written_number: usize,
     places: &Places,
     line: &[u8],
+    words: &mut ArrayVec<Word, MOST_WORDS>,
     out: &mut Vec<u8, A>,
     report: &mut Vec<u8, A>,
 ) -> Result<Rewritten, AllocError>
@@ -65,7 +67,7 @@ pub fn rewrite_line<A: Allocator>(
     ensures before { IfOk result (λ r. r.before_count ≡ spec.before_for places.now line.now) }
     ensures lines { IfOk result (λ r. r.line_count ≡ spec.lines_for places.now line.now) }
 {
-    let Some(words) = read_words(line) else {
+    if !read_words_into(line, words) {
         out.extend_from_slice(line)?;
         add_refusal(number, MoveRefusal::NotRead, report)?;
         return Ok(Rewritten {
@@ -75,7 +77,7 @@ pub fn rewrite_line<A: Allocator>(
             before_count: 0,
             line_count: 1,
         });
-    };
+    }
     let words = words.as_slice();
     let deletable = may_be_deleted(line);
     // Nearly every line is such a line. What other lines need is kept out of line, since each call

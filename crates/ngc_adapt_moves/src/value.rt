@@ -1,5 +1,5 @@
-ghost use Rattle.std.specs.Prelude.{◌≡◌, ◌<◌, min};
-ghost use Rattle.ngc_adapt.specs.Numbers.{digits_value};
+ghost use Rattle.std.specs.Prelude.{◌≡◌, ◌<◌, min, true};
+ghost use Rattle.ngc_adapt.specs.Numbers.{after_whole, digits_value, is_number, whole_digits};
 ghost use Rattle.ngc_adapt_moves.specs.Values as spec;
 
 use ngc_adapt::{begins, in_one_piece, make_number, split_whole, without_blanks};
@@ -74,18 +74,33 @@ pub(crate) fn signed(negative: bool, size: u64) -> i128
     }
 }
 
+/// Returns the value of a number, if it is less than 10^9 and has at most six decimals. `whole` has its
+/// digits in front of the point, and `rest` what follows them.
+pub(crate) fn value_in(text: &[u8], whole: &[u8], rest: &[u8]) -> Option<Value>
+    requires number { is_number text.now ≡ true }
+    requires whole { whole.now ≡ whole_digits text.now }
+    requires rest { rest.now ≡ after_whole text.now }
+    ensures { result ≡ spec.number_value text.now }
+{
+    let decimals = without_point(rest);
+    let units = limited_value(whole);
+    if decimals.len() > 6 || units >= WHOLE_LIMIT {
+        return None;
+    }
+    let size = 1_000_000 * units + millionths_in(decimals);
+    known(Value::from_millionths(signed(begins(b'-', text), size)))
+}
+
 // Returns the value of a number, if it is one of less than 10^9 with at most six decimals.
 fn number_value(text: &[u8]) -> Option<Value>
     ensures { result ≡ spec.number_value text.now }
 {
     let (whole, rest) = split_whole(text);
-    let decimals = without_point(rest);
-    let units = limited_value(whole);
-    if !make_number(whole, rest) || decimals.len() > 6 || units >= WHOLE_LIMIT {
-        return None;
+    if make_number(whole, rest) {
+        value_in(text, whole, rest)
+    } else {
+        None
     }
-    let size = 1_000_000 * units + millionths_in(decimals);
-    known(Value::from_millionths(signed(begins(b'-', text), size)))
 }
 
 /// Returns the value of a word in millionths, if it is a number of at most six decimals. The value

@@ -1,12 +1,12 @@
-ghost use Rattle.std.specs.Prelude.{◌≡◌, length};
+ghost use Rattle.std.specs.Prelude.{◌≡◌, ◌<◌, ◌∷◌, IfSome, None, Some, if◌then◌else◌, length};
 ghost use Rattle.std.specs.Option.{option_map};
-ghost use Rattle.ngc_adapt.specs.Items.{is_unread};
+ghost use Rattle.ngc_adapt.specs.Items.{has_unread, is_unread};
 ghost use Rattle.ngc_adapt_moves.specs.Words as spec;
 
 use crate::axis::Axis;
-use crate::value::value_of;
+use crate::value::{value_in, value_of};
 use arrayvec::ArrayVec;
-use ngc_adapt::{Item, MOST_WORDS, item_of, split_item, upper};
+use ngc_adapt::{Item, MOST_WORDS, code_of, is_letter, item_of, number_front, split_item, upper};
 use ngc_fixed_length::Value;
 
 /// The meaning of a word's letter.
@@ -115,25 +115,69 @@ pub(crate) fn word_of(item: &[u8]) -> Option<Word>
     word_from(item, &item_of(item))
 }
 
+// Returns the word that a line begins with, if its value is a number with no blank inside, and what
+// follows it.
+fn front_word(line: &[u8]) -> Option<(Word, &[u8])>
+    ensures words { IfSome result (λ r. spec.words_in line.now ≡ r.0 ∷ spec.words_in r.1.now) }
+    ensures read { IfSome result (λ r. has_unread line.now ≡ has_unread r.1.now) }
+    ensures shorter { IfSome result (λ r. length r.1.now < length line.now) }
+{
+    let [first, text @ ..] = line else {
+        return None;
+    };
+    if !is_letter(*first) {
+        return None;
+    }
+    let front = number_front(text)?;
+    let word = Word {
+        letter: capital(upper(*first)),
+        code: code_of(front.number, front.whole, front.point),
+        value: value_in(front.number, front.whole, front.point),
+    };
+    Some((word, front.rest))
+}
+
+/// Reads the words of a line into `words`, in place of those that it holds, and returns whether the
+/// line can be read as a whole and has at most 64. Of any other line `words` holds the first ones.
+pub fn read_words_into(line: &[u8], words: &mut ArrayVec<Word, MOST_WORDS>) -> bool
+    ensures { (if result then Some words.new.items else None) ≡ spec.words_of line.now }
+{
+    words.clear();
+    let mut rest = line;
+    while !rest.is_empty() {
+        // Nearly every item is such a word.
+        if let Some((word, others)) = front_word(rest) {
+            if words.is_full() {
+                return false;
+            }
+            words.push(word);
+            rest = others;
+        } else {
+            let (item, others) = split_item(rest);
+            let part = item_of(item);
+            if is_unread(&part) {
+                return false;
+            }
+            if let Some(word) = word_from(item, &part) {
+                if words.is_full() {
+                    return false;
+                }
+                words.push(word);
+            }
+            rest = others;
+        }
+    }
+    true
+}
+
 /// Reads the words of a line, if it can be read as a whole and has at most 64.
 pub fn read_words(line: &[u8]) -> Option<ArrayVec<Word, MOST_WORDS>>
     ensures { option_map (λ words. words.items) result ≡ spec.words_of line.now }
 {
     let mut words = ArrayVec::new();
-    let mut rest = line;
-    while !rest.is_empty() {
-        let (item, others) = split_item(rest);
-        let part = item_of(item);
-        if is_unread(&part) {
-            return None;
-        }
-        if let Some(word) = word_from(item, &part) {
-            if words.is_full() {
-                return None;
-            }
-            words.push(word);
-        }
-        rest = others;
+    if read_words_into(line, &mut words) {
+        Some(words)
+    } else {
+        None
     }
-    Some(words)
 }

@@ -2,7 +2,7 @@
 use Rattle.std.proofs.Common.{◌≡◌, ◌≤◌, ◌++◌, length}
 use Rattle.ngc_adapt.specs.Items.{has_unread}
 use Rattle.ngc_adapt_moves.specs.Words.{words_in}
-use Rattle.ngc_adapt_moves.proofs.word.read_words.Given as goal
+use Rattle.ngc_adapt_moves.proofs.word.read_words_into.Given as goal
 
 abbrev pub invariant-loop-rest : goal.invariant-loop-rest
 invariant-loop-rest l = record {

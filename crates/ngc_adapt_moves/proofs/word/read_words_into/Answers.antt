@@ -3,7 +3,7 @@ use Rattle.ngc_adapt.proofs.ItemLaws.{no_bytes}
 use Rattle.ngc_adapt.specs.Items.{has_unread}
 use Rattle.ngc_adapt_moves.specs.Words.{words_in}
 use Rattle.ngc_adapt_moves.proofs.WordLaws.{whole_line}
-use Rattle.ngc_adapt_moves.proofs.word.read_words.Goals as goal
+use Rattle.ngc_adapt_moves.proofs.word.read_words_into.Goals as goal
 
 pub returns : goal.returns
 returns c =
