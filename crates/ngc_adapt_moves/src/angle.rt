@@ -164,9 +164,9 @@ impl Direction {
         }
     }
 
-    // Returns the angle in units of 2^-40 of a turn.
+    /// Returns the angle in units of 2^-40 of a turn, counterclockwise from the direction of x.
     #[tactic(auto, using(crate::proofs::AngleLaws::turned_end, crate::proofs::AngleLaws::turned_next))]
-    fn angle(self) -> u64
+    pub fn angle(self) -> u64
         requires x { unsigned_abs self.x ≤ 4611686018427387904 }
         requires y { unsigned_abs self.y ≤ 4611686018427387904 }
         ensures value { result ≡ angle_of self }

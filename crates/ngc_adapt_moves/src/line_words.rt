@@ -119,14 +119,14 @@ pub(crate) fn is_machine_code(codes: &[u16], word: &Word) -> bool
 }
 
 /// Returns whether a line has a code of a kind.
-pub(crate) fn has(codes: &[u16], words: &[Word]) -> bool
+pub fn has(codes: &[u16], words: &[Word]) -> bool
     ensures { result ≡ spec.has codes.now words.now }
 {
     words.iter().any(|word| is_code(codes, word))
 }
 
 /// Returns whether a line has an M code of a kind.
-pub(crate) fn has_m(codes: &[u16], words: &[Word]) -> bool
+pub fn has_m(codes: &[u16], words: &[Word]) -> bool
     ensures { result ≡ spec.has_m codes.now words.now }
 {
     words.iter().any(|word| is_machine_code(codes, word))
@@ -398,7 +398,7 @@ fn is_unknown(word: &Word) -> bool
 }
 
 /// Returns whether the effect of a word of a line isn't known.
-pub(crate) fn has_unknown(words: &[Word]) -> bool
+pub fn has_unknown(words: &[Word]) -> bool
     ensures { result ≡ spec.has_unknown words.now }
 {
     words.iter().any(is_unknown)

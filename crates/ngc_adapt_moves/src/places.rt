@@ -210,7 +210,8 @@ fn motion_after(before: Motion, words: &[Word]) -> Motion
     }
 }
 
-fn plane_after(before: Option<Plane>, words: &[Word]) -> Option<Plane>
+/// Returns the plane after a line with these words.
+pub fn plane_after(before: Option<Plane>, words: &[Word]) -> Option<Plane>
     ensures { result ≡ spec.plane_after before words.now }
 {
     if has(&code::PLANE_XY, words) {
@@ -236,7 +237,8 @@ pub(crate) fn units_after(before: Option<Units>, words: &[Word]) -> Option<Units
     }
 }
 
-pub(crate) fn distance_after(before: Option<Distance>, words: &[Word]) -> Option<Distance>
+/// Returns the distance mode after a line with these words.
+pub fn distance_after(before: Option<Distance>, words: &[Word]) -> Option<Distance>
     ensures { result ≡ spec.distance_after before words.now }
 {
     if has(&code::ABSOLUTE, words) {
@@ -326,8 +328,8 @@ fn start_unless(lost: bool, places: &Places, words: &[Word], axis: Axis) -> Opti
     }
 }
 
-// Returns where an axis is as the motion of a line begins.
-pub(crate) fn start_along(places: &Places, words: &[Word], axis: Axis) -> Option<Value>
+/// Returns where an axis is as the motion of a line begins.
+pub fn start_along(places: &Places, words: &[Word], axis: Axis) -> Option<Value>
     ensures { result ≡ spec.start_along places.now words.now axis }
 {
     start_unless(loses_place(places.units, words), places, words, axis)

@@ -88,7 +88,7 @@ fn add_size<A: Allocator>(size: u64, out: &mut Vec<u8, A>) -> Result<(), AllocEr
 }
 
 /// Adds a value in units.
-pub(crate) fn add_value<A: Allocator>(value: Value, out: &mut Vec<u8, A>) -> Result<(), AllocError>
+pub fn add_value<A: Allocator>(value: Value, out: &mut Vec<u8, A>) -> Result<(), AllocError>
     ensures { IfOk result (λ _. out.new.items ≡ out.old.items ++ spec.value_text value) }
 {
     out.extend_from_slice(sign_text(value))?;

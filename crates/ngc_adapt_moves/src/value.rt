@@ -9,7 +9,7 @@ use ngc_fixed_length::{NumberFault, Value};
 const WHOLE_LIMIT: u64 = 1_000_000_000;
 
 /// Returns a result that is a value, and `None` where it is too large.
-pub(crate) fn known(number: Result<Value, NumberFault>) -> Option<Value>
+pub fn known(number: Result<Value, NumberFault>) -> Option<Value>
     ensures { result ≡ spec.known number }
 {
     match number {
@@ -64,7 +64,8 @@ fn without_point(rest: &[u8]) -> &[u8]
     }
 }
 
-pub(crate) fn signed(negative: bool, size: u64) -> i128
+/// Returns a number by its sign and its size.
+pub fn signed(negative: bool, size: u64) -> i128
     ensures { result ≡ spec.signed negative size }
 {
     if negative {
