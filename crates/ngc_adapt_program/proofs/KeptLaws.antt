@@ -8,7 +8,7 @@ use Rattle.ngc_adapt.specs.declared.rule.Rule.{Rule}
 use Rattle.ngc_adapt.specs.Lines.{rules_of, written}
 use Rattle.ngc_adapt.specs.Plain.{is_plain, plain_line as plain_body}
 use Rattle.ngc_adapt.proofs.PlainLaws.{plain_same}
-use Rattle.ngc_adapt.specs.Sources.{lines_of, body_of, body_length, end_of}
+use Rattle.ngc_adapt.specs.Sources.{lines_of, body_of, body_length, end_of, ends}
 use Rattle.ngc_adapt.specs.Text.{text_of}
 use Rattle.ngc_adapt.specs.Openings.{after_percent}
 use Rattle.ngc_adapt.proofs.LineLaws.{same_line}
@@ -17,9 +17,12 @@ use Rattle.ngc_adapt_moves.specs.declared.rule.Rule.{Rule as MovesRule}
 use Rattle.ngc_adapt_moves.specs.declared.places.Places.{Places}
 use Rattle.ngc_adapt_moves.specs.Lines.{rules_for, written as moves_written}
 use Rattle.ngc_adapt_moves.proofs.LineLaws.{unchanged_is_copied}
+use Rattle.ngc_adapt_polar.specs.declared.plan.PolarLine.{PolarLine}
+use Rattle.ngc_adapt_polar.specs.declared.plan.PolarLine.TheVariants as polars
+use Rattle.ngc_adapt_polar.specs.Rewritings.{replaced_text}
 use Rattle.ngc_adapt_program.specs.declared.program.Progress.{Progress}
-use Rattle.ngc_adapt_program.specs.Laws.{is_kept, are_kept, KeptIsCopied}
-use Rattle.ngc_adapt_program.specs.Programs.{start, plain_text, read_of, read_line, leaves_out, opens_number, opening_text, after_opening, opened, line_of, progress_after, progress_after_read, read_written, tool_left, tool_line, tool_before, has_refused_words, moved, body_written, line_written, feed_if, lines_written, program_written, is_executed, mounts_tool}
+use Rattle.ngc_adapt_program.specs.Laws.{is_unreplaced, is_kept, are_kept, KeptIsCopied}
+use Rattle.ngc_adapt_program.specs.Programs.{start, plain_text, read_of, read_line, leaves_out, opens_number, opening_text, after_opening, opened, line_of, progress_after, progress_after_read, read_written, tool_left, tool_line, tool_before, has_refused_words, moved, executed_written, polar_of, polar_written, after_polar, body_written, line_written, feed_if, lines_written, program_written, is_executed, mounts_tool}
 
 no_rules : (rules : List Rule) → (length rules == 0) ≡ true → rules ≡ []
 no_rules [] h = refl
@@ -58,8 +61,16 @@ kept_if : (ended changed : Bool) (body out : List ℕ) → (changed ≡ true →
 kept_if true changed body out f h = refl
 kept_if false changed body out f h = f h
 
+kept_polar : (polar : PolarLine) (p : Progress) (body : List ℕ) → is_unreplaced polar ≡ true → executed_written p body ≡ body → polar_written polar p body ≡ body
+kept_polar polars.Other p body h k = k
+kept_polar (polars.Left refusal) p body h k = refl
+kept_polar (polars.Replaced r) p body h k = absurd cc
+
+abbrev unruled : Progress → List ℕ → Bool
+unruled p body = (length (rules_of p.modes body) == 0) && (length (rules_for p.places (written p.modes body)) == 0)
+
 abbrev quiet : Progress → List ℕ → Bool
-quiet p body = (length (rules_of p.modes body) == 0) && (length (rules_for p.places (written p.modes body)) == 0)
+quiet p body = is_unreplaced (polar_of p body) && unruled p body
 
 read_kept : (p : Progress) (body : List ℕ) → (p.ended || (is_plain p.levels body && quiet p body)) ≡ true → read_of p body ≡ body
 read_kept p body h =
@@ -68,14 +79,15 @@ read_kept p body h =
 
 kept_body : (p : Progress) (body : List ℕ) → (p.ended || (is_plain p.levels body && quiet p body)) ≡ true → body_written p body ≡ body
 kept_body p body h =
-    let stays : (is_plain p.levels body && quiet p body) ≡ true → moved (has_refused_words p body) p.places (written p.modes body) ≡ body =
+    let stays : (is_plain p.levels body && quiet p body) ≡ true → polar_written (polar_of p body) p body ≡ body =
     λ (e : (is_plain p.levels body && quiet p body) ≡ true).
-    let none = both (length (rules_of p.modes body) == 0) (length (rules_for p.places (written p.modes body)) == 0)
-    (both (is_plain p.levels body) (quiet p body) e).1 in
-    kept_moved (has_refused_words p body) p.places body (written p.modes body)
+    let parts = both (is_unreplaced (polar_of p body)) (unruled p body) (both (is_plain p.levels body) (quiet p body) e).1 in
+    let none = both (length (rules_of p.modes body) == 0) (length (rules_for p.places (written p.modes body)) == 0) parts.1 in
+    kept_polar (polar_of p body) p body parts.0
+    (kept_moved (has_refused_words p body) p.places body (written p.modes body)
     (same_line p.modes body (no_rules (rules_of p.modes body) none.0))
-    (unchanged_is_copied p.places (written p.modes body) (no_moves (rules_for p.places (written p.modes body)) none.1)) in
-    kept_if p.ended (is_plain p.levels body && quiet p body) body (moved (has_refused_words p body) p.places (written p.modes body)) stays h
+    (unchanged_is_copied p.places (written p.modes body) (no_moves (rules_for p.places (written p.modes body)) none.1))) in
+    kept_if p.ended (is_plain p.levels body && quiet p body) body (polar_written (polar_of p body) p body) stays h
 
 read_line_kept : (p : Progress) (line : List ℕ) → p.tool ≡ None → (p.ended || (is_plain p.levels (body_of line) && quiet p (body_of line))) ≡ true
     → read_written p line ≡ line
@@ -105,9 +117,14 @@ tool_after : (ended : Bool) (x y : Progress) → x.tool ≡ None → y.tool ≡ 
 tool_after true x y h k = h
 tool_after false x y h k = k
 
+none_after_polar : (polar : PolarLine) (p : Progress) (body : List ℕ) (lacks : Bool) → p.tool ≡ None → (after_polar polar p body lacks).tool ≡ None
+none_after_polar polars.Other p body lacks none = none_left (is_executed body) p.tool none
+none_after_polar (polars.Left refusal) p body lacks none = refl
+none_after_polar (polars.Replaced r) p body lacks none = none_left (is_executed (replaced_text r body)) p.tool none
+
 none_after_read : (p : Progress) (line : List ℕ) → p.tool ≡ None → (progress_after_read p line).tool ≡ None
 unfolding progress_after_read
-none_after_read p line none = tool_after p.ended _ _ none (none_left (is_executed (read_line p line)) p.tool none)
+none_after_read p line none = tool_after p.ended _ _ none (none_after_polar (polar_of p (read_line p line)) p (read_line p line) (not (ends 10 line)) none)
 
 none_after : (p : Progress) (line : List ℕ) → p.tool ≡ None → (progress_after p line).tool ≡ None
 unfolding progress_after

@@ -1,14 +1,20 @@
 -- Laws about whole programs.
-use Rattle.std.specs.Prelude.{◌≡◌, ◌==◌, ◌&&◌, ◌||◌, not, Bool, true, List, [], ◌∷◌, ℕ, length, None}
+use Rattle.std.specs.Prelude.{◌≡◌, ◌==◌, ◌&&◌, ◌||◌, not, Bool, true, false, List, [], ◌∷◌, ℕ, length, None}
 use Rattle.ngc_adapt.specs.Lines.{rules_of, written}
 use Rattle.ngc_adapt.specs.Plain.{is_plain}
 use Rattle.ngc_adapt.specs.Sources.{lines_of, body_of}
 use Rattle.ngc_adapt.specs.Text.{text_of}
 use Rattle.ngc_adapt_moves.specs.Lines.{rules_for}
+use Rattle.ngc_adapt_polar.specs.declared.plan.PolarLine.{PolarLine}
+use Rattle.ngc_adapt_polar.specs.declared.plan.PolarLine.TheVariants as polars
 use Rattle.ngc_adapt_program.specs.declared.program.Progress.{Progress}
 use Rattle.ngc_adapt_program.specs.declared.request.Request.{Request}
 use Rattle.ngc_adapt_program.specs.Programs.{start, plain_text, leaves_out, progress_after, has_ending}
-use Rattle.ngc_adapt_program.specs.Programs.{program_written, opens_number}
+use Rattle.ngc_adapt_program.specs.Programs.{program_written, opens_number, polar_of}
+
+abbrev pub is_unreplaced : PolarLine → Bool
+is_unreplaced (polars.Replaced r) = false
+is_unreplaced _ = true
 
 -- a line that no rule changes, or that comes after the end
 abbrev pub is_kept : Progress → List ℕ → Bool
@@ -16,8 +22,9 @@ is_kept p body =
     not (leaves_out p body || opens_number p body)
     && (p.ended
     || (is_plain p.levels body
+    && (is_unreplaced (polar_of p body)
     && ((length (rules_of p.modes body) == 0)
-    && (length (rules_for p.places (written p.modes body)) == 0))))
+    && (length (rules_for p.places (written p.modes body)) == 0)))))
 
 -- lines that no rule changes, and an end is there
 abbrev pub are_kept : Progress → List (List ℕ) → Bool

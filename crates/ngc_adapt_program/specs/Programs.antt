@@ -24,9 +24,15 @@ use Rattle.ngc_adapt.specs.Rules.{start_modes, is_unnamed}
 use Rattle.ngc_adapt.specs.Sources.{lines_of, body_of, end_of, ends}
 use Rattle.ngc_adapt.specs.Text.{text_of}
 use Rattle.ngc_adapt_moves.specs.declared.places.Places.{Places}
+use Rattle.ngc_adapt_moves.specs.Axes.{nowhere}
 use Rattle.ngc_adapt_moves.specs.Places.{start as start_places, lost}
 use Rattle.ngc_adapt_moves.specs.Lines.{written as moves_written, refusals_for, places_after}
 use Rattle.ngc_adapt_moves.specs.LineReports.{line_report as moves_report}
+use Rattle.ngc_adapt_polar.specs.declared.plan.PolarLine.{PolarLine}
+use Rattle.ngc_adapt_polar.specs.declared.plan.PolarLine.TheVariants as polars
+use Rattle.ngc_adapt_polar.specs.declared.point.PolarPoint.{PolarPoint}
+use Rattle.ngc_adapt_polar.specs.Plans.{polar_line}
+use Rattle.ngc_adapt_polar.specs.Rewritings.{replaced_text, change_text, refusal_text as polar_refusal_text}
 use Rattle.ngc_adapt_program.specs.declared.request.Request.{Request}
 use Rattle.ngc_adapt_program.specs.declared.program.Progress.{Progress}
 use Rattle.ngc_adapt_program.specs.ToolNumbers.{tools_named, tools_text}
@@ -150,6 +156,7 @@ start request text plain =
     record {
       modes = start_modes request.options (facts_of plain);
       places = start_places request.options.dialect request.homes;
+      polar = None;
       levels = levels_of text;
       is_long = is_long text;
       begun = false;
@@ -193,6 +200,7 @@ after_body p body lacks_feed =
     record {
       modes = next_modes p.modes body;
       places = next_places p body;
+      polar = p.polar;
       levels = p.levels;
       is_long = p.is_long;
       begun = p.begun || not (list_all is_blank body);
@@ -204,12 +212,87 @@ after_body p body lacks_feed =
       lacks_feed = lacks_feed;
     }
 
+-- ---- a line by its polar words, and then by its other words
+
+-- what becomes of the polar words of a line
+abbrev pub polar_of : Progress → List ℕ → PolarLine
+polar_of p body = polar_line p.places p.polar body
+
+-- a line whose polar words are refused is copied, and any other is rewritten with X and Y
+abbrev pub polar_written : PolarLine → Progress → List ℕ → List ℕ
+polar_written polars.Other p body = executed_written p body
+polar_written (polars.Left refusal) p body = body
+polar_written (polars.Replaced r) p body = executed_written p (replaced_text r body)
+
+abbrev pub with_polar : PolarPoint → Progress → Progress
+with_polar point p =
+    record {
+      modes = p.modes;
+      places = p.places;
+      polar = Some point;
+      levels = p.levels;
+      is_long = p.is_long;
+      begun = p.begun;
+      before_percent = p.before_percent;
+      marked = p.marked;
+      closed = p.closed;
+      ended = p.ended;
+      tool = p.tool;
+      lacks_feed = p.lacks_feed;
+    }
+
+abbrev pub stranded : Places → Places
+stranded places =
+    record {
+      dialect = places.dialect;
+      homes = places.homes;
+      motion = places.motion;
+      plane = places.plane;
+      units = places.units;
+      distance = places.distance;
+      arc_distance = places.arc_distance;
+      feed_mode = places.feed_mode;
+      place = nowhere;
+      local = places.local;
+      retract = places.retract;
+      feed = places.feed;
+      saving = places.saving;
+      drilling = places.drilling;
+      motion_again = places.motion_again;
+    }
+
+-- After a line whose polar words are refused the position isn't known. What it does to the modes isn't
+-- followed, since the program isn't written.
+abbrev pub after_refused : Progress → Bool → Progress
+after_refused p lacks_feed =
+    record {
+      modes = p.modes;
+      places = stranded p.places;
+      polar = None;
+      levels = p.levels;
+      is_long = p.is_long;
+      begun = true;
+      before_percent = false;
+      marked = p.marked;
+      closed = p.closed;
+      ended = p.ended;
+      tool = None;
+      lacks_feed = lacks_feed;
+    }
+
+abbrev pub after_polar : PolarLine → Progress → List ℕ → Bool → Progress
+after_polar polars.Other p body lacks_feed = after_body p body lacks_feed
+after_polar (polars.Left refusal) p body lacks_feed = after_refused p lacks_feed
+after_polar (polars.Replaced r) p body lacks_feed =
+    with_polar r.point (after_body p (replaced_text r body) lacks_feed)
+
 -- after the end a percent sign still closes the text
 abbrev pub after_ended : Progress → List ℕ → Bool → Progress
 after_ended p body lacks_feed =
     record {
       modes = p.modes;
       places = p.places;
+      polar = p.polar;
       levels = p.levels;
       is_long = p.is_long;
       begun = p.begun;
@@ -223,7 +306,8 @@ after_ended p body lacks_feed =
 
 abbrev pub progress_after_body : Progress → List ℕ → Bool → Progress
 progress_after_body p body lacks_feed =
-    if p.ended then after_ended p body lacks_feed else after_body p body lacks_feed
+    if p.ended then after_ended p body lacks_feed
+    else after_polar (polar_of p body) p body lacks_feed
 
 -- the part of a line that is read: a plain one. After the end the line is unchanged
 abbrev pub read_of : Progress → List ℕ → List ℕ
@@ -274,6 +358,7 @@ after_opening p =
     record {
       modes = p.modes;
       places = p.places;
+      polar = p.polar;
       levels = p.levels;
       is_long = p.is_long;
       begun = true;
@@ -312,7 +397,7 @@ abbrev pub tool_before : Progress → List ℕ → Option ℕ
 tool_before p body = if not p.ended && is_executed body then p.tool else None
 
 abbrev pub body_written : Progress → List ℕ → List ℕ
-body_written p body = if p.ended then body else executed_written p body
+body_written p body = if p.ended then body else polar_written (polar_of p body) p body
 
 unfoldable pub read_written : Progress → List ℕ → List ℕ
 read_written p line =
@@ -351,11 +436,17 @@ program_written request file =
 
 -- ---- refusals
 
+abbrev pub executed_left : Progress → List ℕ → Bool
+executed_left p body =
+    has_refused_words p body || nat_lt 0 (length (refusals_for p.places (written p.modes body)))
+
+abbrev pub polar_left : PolarLine → Progress → List ℕ → Bool
+polar_left polars.Other p body = executed_left p body
+polar_left (polars.Left refusal) p body = true
+polar_left (polars.Replaced r) p body = executed_left p (replaced_text r body)
+
 abbrev pub is_left : Progress → List ℕ → Bool
-is_left p body =
-    not p.ended
-    && (has_refused_words p body
-    || nat_lt 0 (length (refusals_for p.places (written p.modes body))))
+is_left p body = not p.ended && polar_left (polar_of p body) p body
 
 unfoldable pub read_left : Progress → List ℕ → Bool
 read_left p line = is_left p (read_line p line)
@@ -394,11 +485,20 @@ moved_report number line p body =
     if has_refused_words p body then []
     else moves_report number line p.places (written p.modes body)
 
+abbrev pub executed_report : ℕ → ℕ → Progress → List ℕ → List ℕ
+executed_report number line p body =
+    line_report number line p.modes body ++ moved_report number line p body
+
+abbrev pub polar_report : PolarLine → ℕ → ℕ → Progress → List ℕ → List ℕ
+polar_report polars.Other number line p body = executed_report number line p body
+polar_report (polars.Left refusal) number line p body = polar_refusal_text number refusal
+polar_report (polars.Replaced r) number line p body =
+    change_text number line r body ++ executed_report number line p (replaced_text r body)
+
 -- the report of a line with a number, where `before` lines are written before it
 abbrev pub body_report : ℕ → ℕ → Progress → List ℕ → List ℕ
 body_report number before p body =
-    if p.ended then []
-    else line_report number (before + 1) p.modes body ++ moved_report number (before + 1) p body
+    if p.ended then [] else polar_report (polar_of p body) number (before + 1) p body
 
 -- the changes that make a line plain
 abbrev pub plainly_report : ℕ → ℕ → Progress → List ℕ → List ℕ
@@ -461,9 +561,15 @@ lines_report number before p (line ∷ rest) =
 
 -- ---- how often each rule applied
 
+abbrev pub polar_rules : PolarLine → Progress → List ℕ → List Rule
+polar_rules polars.Other p body = rules_of p.modes body
+polar_rules (polars.Left refusal) p body = []
+polar_rules (polars.Replaced r) p body = rules_of p.modes (replaced_text r body)
+
 abbrev pub word_changes : ℕ → ℕ → Progress → List ℕ → List Change
 word_changes number before p body =
-    if p.ended then [] else map (change_at number (before + 1)) (rules_of p.modes body)
+    if p.ended then []
+    else map (change_at number (before + 1)) (polar_rules (polar_of p body) p body)
 
 abbrev pub plain_changes : ℕ → ℕ → Progress → List ℕ → List Change
 plain_changes number before p body =

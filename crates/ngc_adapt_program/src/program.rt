@@ -8,6 +8,7 @@ ghost use Rattle.ngc_adapt.specs.Changes.{change_at};
 ghost use Rattle.ngc_adapt.specs.Reports.{line_report, left_out_report};
 ghost use Rattle.ngc_adapt_moves.specs.Lines.{written as moves_written, refusals_for, places_after};
 ghost use Rattle.ngc_adapt_moves.specs.LineReports.{line_report as moves_report};
+ghost use Rattle.ngc_adapt_polar.specs.Rewritings.{change_text, refusal_text, replaced_text};
 ghost use Rattle.ngc_adapt.specs.Openings as openings;
 ghost use Rattle.ngc_adapt.specs.Plain.{is_plain};
 ghost use Rattle.ngc_adapt_program.specs.Programs as spec;
@@ -24,7 +25,11 @@ use ngc_adapt::{
     has_number_alone, is_blank, is_homing_line, is_idle, is_plain, plain_rules, read_words,
     split_line, text_of,
 };
-use ngc_adapt_moves::{Places, rewrite_line};
+use ngc_adapt_moves::{Place, Places, rewrite_line};
+use ngc_adapt_polar::{
+    PolarLine, PolarPoint, PolarRefusal, Replaced, add_polar_change, add_polar_refusal,
+    add_replaced, polar_line,
+};
 use std::alloc::{AllocError, Allocator};
 
 // The greatest number of lines of a program in our language.
@@ -40,6 +45,8 @@ pub struct Progress {
     pub modes: Modes,
     /// The position of the tool.
     pub places: Places,
+    /// The point to which the last polar words led.
+    pub polar: Option<PolarPoint>,
     /// The levels of block delete in the whole text.
     pub levels: Levels,
     /// Whether the whole text has more than 100,000 lines.
@@ -228,6 +235,20 @@ fn tool_left(body: &[u8], tool: Option<u16>) -> Option<u16>
     }
 }
 
+// Returns the state at a position that isn't known.
+fn stranded(places: &Places) -> Places
+    ensures { result ≡ spec.stranded places.now }
+{
+    Places {
+        place: Place {
+            x: None,
+            y: None,
+            z: None,
+        },
+        ..*places
+    }
+}
+
 impl Progress {
     ghost use Rattle.ngc_adapt_program.specs.Programs.{start, leaves_out, after_ended, tool_before};
     ghost use Rattle.ngc_adapt_program.specs.Programs.{has_ending, homes, is_after_end};
@@ -241,6 +262,7 @@ impl Progress {
         Progress {
             modes: Modes::start(&request.options, &Facts::of(plain)),
             places: Places::start(request.options.dialect, request.homes),
+            polar: None,
             levels: Levels::of(text),
             is_long: is_long(text),
             begun: false,
@@ -329,6 +351,32 @@ impl Progress {
             closed: self.closed || is_percent_line(body),
             ended: true,
             lacks_feed,
+            ..*self
+        }
+    }
+
+    // Returns the state after a line whose polar words are refused. What it does to the modes isn't
+    // followed, since the program isn't written.
+    fn after_refused(&self, lacks_feed: bool) -> Progress
+        ensures { result ≡ spec.after_refused self.now lacks_feed }
+    {
+        Progress {
+            places: stranded(&self.places),
+            polar: None,
+            begun: true,
+            before_percent: false,
+            tool: None,
+            lacks_feed,
+            ..*self
+        }
+    }
+
+    // Returns the state with the point to which polar words led.
+    fn with_polar(&self, point: PolarPoint) -> Progress
+        ensures { result ≡ spec.with_polar point self.now }
+    {
+        Progress {
+            polar: Some(point),
             ..*self
         }
     }
@@ -714,14 +762,11 @@ fn add_executed<A: Allocator + Copy>(
     ensures text { IfOk result (λ _. out.new.text.items ≡ out.old.text.items
         ++ spec.executed_written progress.now body.now) }
     ensures report { IfOk result (λ _. out.new.report.items ≡ out.old.report.items
-        ++ (line_report number (out.old.before + 1) progress.now.modes body.now
-        ++ spec.moved_report number (out.old.before + 1) progress.now body.now)) }
+        ++ spec.executed_report number (out.old.before + 1) progress.now body.now) }
     ensures changes { IfOk result (λ _. out.new.changes.items ≡ out.old.changes.items
         ++ map (change_at number (out.old.before + 1)) (rules_of progress.now.modes body.now)) }
-    ensures left { IfOk result (λ _. out.new.is_left ≡ (out.old.is_left
-        || (spec.has_refused_words progress.now body.now
-        || nat_lt 0 (length (refusals_for progress.now.places
-        (written progress.now.modes body.now)))))) }
+    ensures left { IfOk result
+        (λ _. out.new.is_left ≡ (out.old.is_left || spec.executed_left progress.now body.now)) }
     ensures progress { IfOk result (λ p. p ≡ spec.after_body progress.now body.now lacks_feed) }
 {
     let mut line = Vec::with_capacity(alloc, body.len())?;
@@ -753,6 +798,7 @@ fn after_body(
     Progress {
         modes: executed.modes,
         places,
+        polar: progress.polar,
         levels: progress.levels,
         is_long: progress.is_long,
         begun: progress.begun || !is_blank_line(body),
@@ -766,6 +812,100 @@ fn after_body(
         },
         tool: tool_left(body, progress.tool),
         lacks_feed,
+    }
+}
+
+// Adds a line whose polar words are refused, and returns the state after it.
+#[inline(never)]
+fn add_refused<A: Allocator>(
+    number: usize,
+    progress: &Progress,
+    refusal: PolarRefusal,
+    body: &[u8],
+    lacks_feed: bool,
+    out: &mut Writing<A>,
+) -> Result<Progress, AllocError>
+    requires { out.old.before ≡ spec.feeds out.old.text.items }
+    ensures text { IfOk result (λ _. out.new.text.items ≡ out.old.text.items ++ body.now) }
+    ensures report { IfOk result (λ _. out.new.report.items ≡ out.old.report.items
+        ++ refusal_text number refusal) }
+    ensures changes { out.new.changes ≡ out.old.changes }
+    ensures left { IfOk result (λ _. out.new.is_left ≡ true) }
+    ensures progress { IfOk result
+        (λ p. p ≡ spec.after_refused progress.now lacks_feed) }
+{
+    out.text.extend_from_slice(body)?;
+    add_polar_refusal(number, refusal, &mut out.report)?;
+    out.is_left = true;
+    Ok(progress.after_refused(lacks_feed))
+}
+
+// Adds a line with X and Y in place of its polar words as it is rewritten, and returns the state
+// after it.
+#[inline(never)]
+fn add_replaced_line<A: Allocator + Copy>(
+    alloc: A,
+    number: usize,
+    progress: &Progress,
+    replaced: &Replaced,
+    body: &[u8],
+    lacks_feed: bool,
+    out: &mut Writing<A>,
+) -> Result<Progress, AllocError>
+    requires { out.old.before ≡ spec.feeds out.old.text.items }
+    ensures text { IfOk result (λ _. out.new.text.items ≡ out.old.text.items
+        ++ spec.executed_written progress.now (replaced_text replaced.now body.now)) }
+    ensures report { IfOk result (λ _. out.new.report.items ≡ out.old.report.items
+        ++ (change_text number (out.old.before + 1) replaced.now body.now
+        ++ spec.executed_report number (out.old.before + 1) progress.now
+        (replaced_text replaced.now body.now))) }
+    ensures changes { IfOk result (λ _. out.new.changes.items ≡ out.old.changes.items
+        ++ map (change_at number (out.old.before + 1))
+        (rules_of progress.now.modes (replaced_text replaced.now body.now))) }
+    ensures left { IfOk result (λ _. out.new.is_left ≡ (out.old.is_left
+        || spec.executed_left progress.now (replaced_text replaced.now body.now))) }
+    ensures progress { IfOk result (λ p. p ≡ spec.with_polar replaced.now.point
+        (spec.after_body progress.now (replaced_text replaced.now body.now) lacks_feed)) }
+{
+    let mut source = Vec::with_capacity(alloc, body.len())?;
+    add_replaced(replaced, body, &mut source)?;
+    add_polar_change(number, out.before + 1, replaced, body, &mut out.report)?;
+    let source = source.as_slice();
+    let after = add_executed(alloc, number, progress, source, lacks_feed, out)?;
+    Ok(after.with_polar(replaced.point))
+}
+
+// Adds a line that doesn't follow the end as it is rewritten, and returns the state after it.
+fn add_before_end<A: Allocator + Copy>(
+    alloc: A,
+    number: usize,
+    progress: &Progress,
+    body: &[u8],
+    lacks_feed: bool,
+    out: &mut Writing<A>,
+) -> Result<Progress, AllocError>
+    requires { out.old.before ≡ spec.feeds out.old.text.items }
+    ensures text { IfOk result (λ _. out.new.text.items ≡ out.old.text.items
+        ++ spec.polar_written (spec.polar_of progress.now body.now) progress.now body.now) }
+    ensures report { IfOk result (λ _. out.new.report.items ≡ out.old.report.items
+        ++ spec.polar_report (spec.polar_of progress.now body.now) number (out.old.before + 1)
+        progress.now body.now) }
+    ensures changes { IfOk result (λ _. out.new.changes.items ≡ out.old.changes.items
+        ++ map (change_at number (out.old.before + 1))
+        (spec.polar_rules (spec.polar_of progress.now body.now) progress.now body.now)) }
+    ensures left { IfOk result (λ _. out.new.is_left ≡ (out.old.is_left
+        || spec.polar_left (spec.polar_of progress.now body.now) progress.now body.now)) }
+    ensures progress { IfOk result (λ p. p ≡ spec.after_polar
+        (spec.polar_of progress.now body.now) progress.now body.now lacks_feed) }
+{
+    match polar_line(alloc, &progress.places, &progress.polar, body)? {
+        PolarLine::Other => add_executed(alloc, number, progress, body, lacks_feed, out),
+        PolarLine::Left(refusal) => {
+            add_refused(number, progress, refusal, body, lacks_feed, out)
+        }
+        PolarLine::Replaced(replaced) => {
+            add_replaced_line(alloc, number, progress, &replaced, body, lacks_feed, out)
+        }
     }
 }
 
@@ -794,7 +934,7 @@ fn add_body<A: Allocator + Copy>(
         out.text.extend_from_slice(body)?;
         return Ok(progress.after_ended(body, lacks_feed));
     }
-    let after = add_executed(alloc, number, progress, body, lacks_feed, out)?;
+    let after = add_before_end(alloc, number, progress, body, lacks_feed, out)?;
     Ok(after)
 }
 
