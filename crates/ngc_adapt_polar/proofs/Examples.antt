@@ -1,5 +1,5 @@
 -- Examples of cosines, points and lines, by computing the definitions.
-use Rattle.std.proofs.Common.{◌≡◌, ℕ, List, Option, Some, None, refl}
+use Rattle.std.proofs.Common.{◌≡◌, ℕ, Some, None, refl}
 use Rattle.std.specs.Prelude.{codes, ℤ, pos, negsuc}
 use Rattle.std.specs.Fmt.{digits}
 use Rattle.ngc_adapt.specs.Items.{items_of, item_of}
@@ -13,14 +13,13 @@ use Rattle.ngc_adapt_moves.specs.Angles.{turned}
 use Rattle.ngc_adapt_moves.specs.Places.{start}
 use Rattle.ngc_adapt_polar.specs.declared.plan.PolarLine.{PolarLine}
 use Rattle.ngc_adapt_polar.specs.declared.plan.PolarLine.TheVariants as lines
-use Rattle.ngc_adapt_polar.specs.declared.plan.Replaced.{Replaced}
 use Rattle.ngc_adapt_polar.specs.declared.point.PolarPoint.{PolarPoint}
 use Rattle.ngc_adapt_polar.specs.declared.refusal.PolarRefusal.TheVariants as refusals
 use Rattle.ngc_adapt_polar.specs.Circles.{cosine, low_cosine, low_sine}
 use Rattle.ngc_adapt_polar.specs.Plans.{polar_line}
 use Rattle.ngc_adapt_polar.specs.Points.{found}
 use Rattle.ngc_adapt_polar.specs.Rewritings.{replaced_text, change_text, rule_words, bound_words}
-use Rattle.ngc_adapt_polar.specs.Words.{has_polar, without_polar}
+use Rattle.ngc_adapt_polar.specs.Words.{without_polar}
 
 -- ---- cosines
 

@@ -1,5 +1,5 @@
 -- The coordinates in place of the polar words of a line, or the reason why it is left.
-use Rattle.std.specs.Prelude.{ℕ, ℤ, pos, ◌==◌, ◌&&◌, ◌||◌, not, Bool, true, false, List, [], ◌∷◌, unsigned_abs}
+use Rattle.std.specs.Prelude.{ℕ, ℤ, ◌==◌, ◌&&◌, ◌||◌, not, Bool, true, false, List, [], ◌∷◌, unsigned_abs}
 use Rattle.std.specs.Prelude.{Option, Some, None, if◌then◌else◌}
 use Rattle.std.specs.List.{list_any}
 use Rattle.ngc_adapt.specs.declared.dialect.Dialect.{Dialect}
@@ -19,7 +19,6 @@ use Rattle.ngc_adapt_moves.specs.Places.{distance_after, plane_after, start_alon
 use Rattle.ngc_adapt_moves.specs.Words.{words_of}
 use Rattle.ngc_adapt_polar.specs.declared.plan.PolarLine.{PolarLine}
 use Rattle.ngc_adapt_polar.specs.declared.plan.PolarLine.TheVariants as lines
-use Rattle.ngc_adapt_polar.specs.declared.plan.Replaced.{Replaced}
 use Rattle.ngc_adapt_polar.specs.declared.plan.Coordinates.{Coordinates}
 use Rattle.ngc_adapt_polar.specs.declared.point.PolarPoint.{PolarPoint}
 use Rattle.ngc_adapt_polar.specs.declared.refusal.PolarRefusal.{PolarRefusal}

@@ -1,7 +1,6 @@
 -- Points by their radius, in thousandths of a millionth of the unit, and their angle. Our own.
-use Rattle.std.specs.Prelude.{ℕ, ◌+◌, ◌-◌, ◌*◌, ◌%◌, ◌==◌, ◌&&◌, ◌||◌, not, nat_lt, nat_le, Bool, true, false}
+use Rattle.std.specs.Prelude.{ℕ, ◌+◌, ◌-◌, ◌*◌, ◌%◌, ◌==◌, ◌&&◌, nat_lt, Bool}
 use Rattle.std.specs.Prelude.{ℤ, pos, ◌+ℤ◌, ◌-ℤ◌, ◌*ℤ◌, int_lt, unsigned_abs, Option, Some, None, if◌then◌else◌}
-use Rattle.ngc_adapt_moves.specs.declared.angle.Direction.{Direction}
 use Rattle.ngc_adapt_moves.specs.Angles.{angle_of}
 use Rattle.ngc_adapt_moves.specs.Values.{known, signed}
 use Rattle.ngc_fixed_length.specs.Limits.{limited, difference}

@@ -1,5 +1,5 @@
 -- The rewritten text of a line with polar words, and its report.
-use Rattle.std.specs.Prelude.{ℕ, ℤ, List, [], ◌∷◌, ◌++◌, codes, decimal, Option}
+use Rattle.std.specs.Prelude.{ℕ, List, ◌++◌, codes, decimal}
 use Rattle.ngc_adapt_moves.specs.Texts.{value_text}
 use Rattle.ngc_adapt_polar.specs.declared.plan.Replaced.{Replaced}
 use Rattle.ngc_adapt_polar.specs.declared.refusal.PolarRefusal.{PolarRefusal}

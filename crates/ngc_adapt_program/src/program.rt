@@ -25,7 +25,7 @@ use ngc_adapt::{
     has_number_alone, is_blank, is_homing_line, is_idle, is_plain, plain_rules, read_words,
     split_line, text_of,
 };
-use ngc_adapt_moves::{Place, Places, rewrite_line};
+use ngc_adapt_moves::{Place, Places, Word as MoveWord, rewrite_line};
 use ngc_adapt_polar::{
     PolarLine, PolarPoint, PolarRefusal, Replaced, add_polar_change, add_polar_refusal,
     add_replaced, polar_line,
@@ -555,6 +555,8 @@ struct Writing<A: Allocator> {
     // The words of the line that was read last. One list serves all lines, since making a list takes
     // longer than reading a line.
     words: ArrayVec<Word, MOST_WORDS>,
+    // Its words as they are rewritten, with their values.
+    moves: ArrayVec<MoveWord, MOST_WORDS>,
 }
 
 impl<A: Allocator + Copy> Writing<A> {
@@ -732,6 +734,7 @@ impl<A: Allocator + Copy> Writing<A> {
             self.before + 1,
             places,
             line,
+            &mut self.moves,
             &mut self.text,
             &mut self.report,
         )?;
@@ -1283,6 +1286,7 @@ pub fn adapt_program<A: Allocator + Copy>(
         is_left: false,
         before: 0,
         words: ArrayVec::new(),
+        moves: ArrayVec::new(),
     };
     add_lines(
         alloc,

@@ -1,5 +1,4 @@
-use Rattle.std.proofs.Common.{◌≡◌, ◌++◌, ℕ, List, Bool, false, take, ap, sym, ◌∙◌}
-use Rattle.ngc_adapt.specs.Sources.{body_of}
+use Rattle.std.proofs.Common.{◌++◌, ℕ, List, take, ap, sym, ◌∙◌}
 use Rattle.ngc_adapt_program.specs.Programs.{leaves_out, opens_number}
 use Rattle.ngc_adapt_program.proofs.Openings.{unopened_changes, unopened_report}
 use Rattle.ngc_adapt_program.proofs.program.add_line.Goals as goal
