@@ -837,8 +837,9 @@ fn add_refused<A: Allocator>(
     ensures progress { IfOk result
         (λ p. p ≡ spec.after_refused progress.now lacks_feed) }
 {
-    out.text.extend_from_slice(body)?;
     add_polar_refusal(number, refusal, &mut out.report)?;
+    let text = &mut out.text;
+    text.extend_from_slice(body)?;
     out.is_left = true;
     Ok(progress.after_refused(lacks_feed))
 }
