@@ -146,6 +146,6 @@ unfolding digits
 text_of_a_line = refl
 
 report_of_a_line : change_text 7 8 (record { point = point 0 0 (pos 0) (pos 0); x = pos 0; y = pos 1000000 }) (codes "G1 @1 ^90")
-    ≡ codes "line 7 (8): polar bound: G1 @1 ^90 -> G1 X0 Y1  (X and Y within 0.0000005)\n"
+    ≡ codes "line 7 (8): polar bound: G1 @1 ^90 -> G1 X0 Y1  (X and Y within 0.0000006)\n"
 unfolding change_text rule_words bound_words digits
 report_of_a_line = refl

@@ -28,7 +28,7 @@ unfoldable pub rule_words : List ℕ
 rule_words = codes "polar bound: "
 
 unfoldable pub bound_words : List ℕ
-bound_words = codes " (X and Y within 0.0000005)\n"
+bound_words = codes " (X and Y within 0.0000006)\n"
 
 unfoldable pub left_words : List ℕ
 left_words = codes ": polar left: "
@@ -36,7 +36,7 @@ left_words = codes ": polar left: "
 abbrev pub was_text : Replaced → List ℕ → List ℕ
 was_text r line = line ++ (codes " -> " ++ (replaced_text r line ++ bound_words))
 
--- line N (M): polar bound: WAS -> NOW (X and Y within 0.0000005)
+-- line N (M): polar bound: WAS -> NOW (X and Y within 0.0000006)
 unfoldable pub change_text : ℕ → ℕ → Replaced → List ℕ → List ℕ
 change_text number written r line =
     place_text number written ++ (rule_words ++ was_text r line)

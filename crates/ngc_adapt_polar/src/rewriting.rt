@@ -109,7 +109,7 @@ fn rule_words() -> &'static [u8]
 fn bound_words() -> &'static [u8]
     ensures { result.now ≡ spec.bound_words }
 {
-    b" (X and Y within 0.0000005)\n"
+    b" (X and Y within 0.0000006)\n"
 }
 
 #[tactic(auto, unfolding(crate::specs::Rewritings::left_words))]
