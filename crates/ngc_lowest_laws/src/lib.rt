@@ -1,0 +1,4 @@
+//! What lowest heights are, without the order in which they are found.
+#![tactic(auto)]
+
+pub mod laws;
