@@ -116,7 +116,7 @@ next_point c from =
 abbrev pub is_zero : ℤ → Bool
 is_zero radius = unsigned_abs radius == 0
 
--- G91 leads to the origin by @, where ^ has nothing to turn
+-- in G91, @ leads to the origin, and ^ can't turn it
 abbrev pub turns_origin : Coordinates → PolarPoint → Bool
 turns_origin c from =
     (not c.absolute && is_known c.angle)

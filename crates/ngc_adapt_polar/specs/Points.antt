@@ -25,7 +25,7 @@ abbrev pub radius_at : ℤ → ℤ → ℕ
 radius_at x y =
     whole_root ((unsigned_abs x * unsigned_abs x + unsigned_abs y * unsigned_abs y) * 1000000)
 
--- the angle of the direction to x, y, in 2^-40 of a turn, rounded down
+-- the angle of the direction to x, y, rounded down to a whole 2^-40 of a turn
 abbrev pub angle_at : ℤ → ℤ → ℕ
 angle_at x y = angle_of (record { x = x; y = y }) * 703125
 

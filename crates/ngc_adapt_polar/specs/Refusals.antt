@@ -4,10 +4,10 @@ use Rattle.ngc_adapt_polar.specs.declared.refusal.PolarRefusal.{PolarRefusal}
 use Rattle.ngc_adapt_polar.specs.declared.refusal.PolarRefusal.TheVariants as refusals
 
 abbrev pub sentence : PolarRefusal → List ℕ
-sentence refusals.NotRead = codes "the words beside @ and ^ can't be read: post X and Y"
+sentence refusals.NotRead = codes "the words beside @ and ^ can't be read, or @ or ^ is there again: post X and Y"
 sentence refusals.WordTwice = codes "@ or ^ is there twice: write it once"
 sentence refusals.NumberNotKnown =
-    codes "@ and ^ need a number of at most six decimals: post X and Y"
+    codes "@ and ^ need plain numbers below 1,000,000,000 with at most six decimals: post X and Y"
 sentence refusals.AxisBeside =
     codes "X and Y aren't allowed beside @ and ^: write one or the other"
 sentence refusals.CodeBeside =
@@ -19,5 +19,5 @@ sentence refusals.DistanceNotKnown =
 sentence refusals.PointNotKnown =
     codes "the current point isn't known: write both @ and ^, with G90"
 sentence refusals.AtOrigin =
-    codes "the current point is the origin, which has no angle: write both @ and ^, with G90"
+    codes "the origin has no angle to keep or to turn: write both @ and ^, with G90"
 sentence refusals.TooFar = codes "the point is more than 1,000,000,000 units away: post X and Y"

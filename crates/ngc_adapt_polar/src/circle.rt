@@ -133,7 +133,8 @@ fn quarter_sine(angle: u64) -> i64
     }
 }
 
-/// Returns the cosine of an angle, in units of 10^-18.
+/// Returns the cosine in units of 10^-18, by nine terms of its series. A turn has `TURN` units of
+/// `angle`. That the series is near the cosine is only tested.
 pub(crate) fn cosine(angle: u64) -> i64
     ensures value { result ≡ spec.cosine angle }
     ensures bound { unsigned_abs result ≤ 1000000000000000000 }
@@ -147,7 +148,8 @@ pub(crate) fn cosine(angle: u64) -> i64
     }
 }
 
-/// Returns the sine of an angle, in units of 10^-18.
+/// Returns the sine in units of 10^-18, by nine terms of its series. A turn has `TURN` units of
+/// `angle`. That the series is near the sine is only tested.
 pub(crate) fn sine(angle: u64) -> i64
     ensures value { result ≡ spec.sine angle }
     ensures bound { unsigned_abs result ≤ 1000000000000000000 }

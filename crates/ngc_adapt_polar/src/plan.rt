@@ -32,7 +32,7 @@ pub struct Replaced {
     pub y: Value,
 }
 
-/// The result of a line.
+/// What becomes of a line's polar words.
 #[derive(Clone, Copy)]
 pub enum PolarLine {
     /// The line has no polar words, or isn't written for LinuxCNC.
@@ -184,7 +184,7 @@ impl Coordinates {
         target(self.next_radius(from), angle)
     }
 
-    // Returns whether they turn the origin after @ led to it.
+    // Returns whether @ leads to the origin in G91 while ^ turns.
     fn turns_origin(&self, from: &PolarPoint) -> bool
         ensures { result ≡ turns_origin self.now from.now }
     {

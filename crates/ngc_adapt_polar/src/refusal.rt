@@ -4,11 +4,11 @@ ghost use Rattle.ngc_adapt_polar.specs.Refusals as spec;
 /// The reason why a line with polar words is left.
 #[derive(Clone, Copy, PartialEq, Eq)]
 pub enum PolarRefusal {
-    /// The words beside them can't be read.
+    /// The words beside them can't be read, or have more of them.
     NotRead,
     /// One of them is there twice.
     WordTwice,
-    /// A number isn't known to the millionth.
+    /// A number isn't known to the millionth, or is too large.
     NumberNotKnown,
     /// X or Y is on the line.
     AxisBeside,
@@ -22,7 +22,7 @@ pub enum PolarRefusal {
     DistanceNotKnown,
     /// The current point isn't known.
     PointNotKnown,
-    /// The current point is the origin, which has no angle.
+    /// The current point, or the one to which @ leads in G91, is the origin, which has no angle.
     AtOrigin,
     /// The point is too far away.
     TooFar,
@@ -34,10 +34,11 @@ impl PolarRefusal {
         ensures { result.now ≡ spec.sentence self }
     {
         match self {
-            PolarRefusal::NotRead => "the words beside @ and ^ can't be read: post X and Y",
+            PolarRefusal::NotRead =>
+                "the words beside @ and ^ can't be read, or @ or ^ is there again: post X and Y",
             PolarRefusal::WordTwice => "@ or ^ is there twice: write it once",
             PolarRefusal::NumberNotKnown => {
-                "@ and ^ need a number of at most six decimals: post X and Y"
+                "@ and ^ need plain numbers below 1,000,000,000 with at most six decimals: post X and Y"
             }
             PolarRefusal::AxisBeside => {
                 "X and Y aren't allowed beside @ and ^: write one or the other"
@@ -54,7 +55,7 @@ impl PolarRefusal {
                 "the current point isn't known: write both @ and ^, with G90"
             }
             PolarRefusal::AtOrigin => {
-                "the current point is the origin, which has no angle: write both @ and ^, with G90"
+                "the origin has no angle to keep or to turn: write both @ and ^, with G90"
             }
             PolarRefusal::TooFar => "the point is more than 1,000,000,000 units away: post X and Y",
         }

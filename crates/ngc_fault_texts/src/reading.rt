@@ -38,8 +38,9 @@ pub(crate) fn lines() -> &'static [Row]
             example: "`G0 X1 @`",
             answer: "`ngc: fault 112 line 1 column 7`",
             place: Some("the character"),
-            mend: "Write `.` for a decimal comma, `#1` for a named parameter, `/` first on its line, and `%` on a\n\
-             line of its own. At line 1 column 1 look for a byte order mark: save the file without one.",
+            mend: "Write `.` for a decimal comma, `#1` for a named parameter, `/` first on its line, `%` on a line\n\
+             of its own. At line 1 column 1 look for a byte order mark. For LinuxCNC's `@` and `^` use\n\
+             `ngc adapt`.",
         },
         Row {
             number: 113,

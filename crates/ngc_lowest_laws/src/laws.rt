@@ -1,8 +1,8 @@
 //! Laws about the definitions alone.
 ghost use Rattle.ngc_lowest_laws.specs.Lowest.{LowestOfEach};
 
-/// States what the lowest heights of a program are: each is the height of a motion, no motion in the
-/// same coordinate system and with the same tool goes lower, and no such pair is there twice.
+/// States that each lowest height is the height of some motion, that no motion in the same coordinate
+/// system with the same tool has a lower one, and that each coordinate system and tool is listed once.
 pub fn lowest_of_each()
     ensures { LowestOfEach }
 {}
