@@ -16,7 +16,7 @@ pub(crate) fn setup() -> &'static [Row]
             example: "machine file `version = 3`",
             answer: "`ngc: fault 261 machine`",
             place: None,
-            mend: "Only version 2 has `axis_rate`, `jump`, `ring` and `arc_feed`.",
+            mend: "Only version 2 has `axis_rate`, `jump`, `ring`, `arc_feed` and `changer`.",
         },
         Row {
             number: 261,
@@ -51,7 +51,7 @@ pub(crate) fn setup() -> &'static [Row]
             answer: "`ngc: fault 264 machine`",
             place: None,
             mend: "`max_rate`, `axis_rate`, `change`, `corner`: 1 to 1,000,000. `jump`: 0 to 1,000,000. `turn`: 1\n\
-             to 1,000,000,000,000. `ring`: 16 to 1,024. `arc_feed`: 0 or 1.",
+             to 1,000,000,000,000. `ring`: 16 to 1,024. `arc_feed`, `changer`: 0 or 1.",
         },
         Row {
             number: 265,

@@ -11,13 +11,13 @@ use Rattle.ngc_machine_files.specs.declared.machine_contents.MachinePoints.{Mach
 
 -- ---- which keys are known
 
-pub keys_two : (version : ℤ) → has_axis_rates version ≡ true → machine_keys version ≡ codes "axis_rate" ∷ codes "jump" ∷ codes "ring" ∷ codes "arc_feed" ∷ common_keys
+pub keys_two : (version : ℤ) → has_axis_rates version ≡ true → machine_keys version ≡ codes "axis_rate" ∷ codes "jump" ∷ codes "ring" ∷ codes "arc_feed" ∷ codes "changer" ∷ common_keys
 unfolding machine_keys
-keys_two version h = ap (λ b. cond b (codes "axis_rate" ∷ codes "jump" ∷ codes "ring" ∷ codes "arc_feed" ∷ common_keys) common_keys) h
+keys_two version h = ap (λ b. cond b (codes "axis_rate" ∷ codes "jump" ∷ codes "ring" ∷ codes "arc_feed" ∷ codes "changer" ∷ common_keys) common_keys) h
 
 pub keys_one : (version : ℤ) → has_axis_rates version ≡ false → machine_keys version ≡ common_keys
 unfolding machine_keys
-keys_one version h = ap (λ b. cond b (codes "axis_rate" ∷ codes "jump" ∷ codes "ring" ∷ codes "arc_feed" ∷ common_keys) common_keys) h
+keys_one version h = ap (λ b. cond b (codes "axis_rate" ∷ codes "jump" ∷ codes "ring" ∷ codes "arc_feed" ∷ codes "changer" ∷ common_keys) common_keys) h
 
 -- ---- all parts are present
 

@@ -11,7 +11,7 @@ use Rattle.ngc_fixed_length.specs.Signed.{is_within, is_zero}
 use Rattle.ngc_machine_files.specs.Ranges.{PLACE_LIMIT, CORNER_LIMIT, IsFrom, IsSized, IsAtMost, IsBelow, IsOnGrid, IsTravel, IsFixture}
 use Rattle.ngc_machine_files.specs.Numbers.{from_to}
 use Rattle.ngc_machine_files.specs.Refusals.{◌>>◌, refuse_unless}
-use Rattle.ngc_machine_files.specs.MachineText.{MachineValues, is_sized, is_at_most, is_below, is_multiple, is_on_grid, is_rate, good_axis_rates, good_jump, good_ring, good_arc_feed, good_travel}
+use Rattle.ngc_machine_files.specs.MachineText.{MachineValues, is_sized, is_at_most, is_below, is_multiple, is_on_grid, is_rate, good_axis_rates, good_jump, good_ring, good_arc_feed, good_changer, good_travel}
 use Rattle.ngc_machine_files.specs.MachineText.{good_fixture, good_fixtures, machine_ranges, place_of, fixture_of, AreFrom, IsGood}
 use Rattle.ngc_machine_files.specs.ToolText.{ToolNumbers, TableValues, good_part, good_parts, good_tool, good_tools, table_ranges, IsPartEntry, ArePartEntries}
 use Rattle.ngc_machine_files.specs.ToolText.{IsEntry, AreEntries}
@@ -114,7 +114,8 @@ IsGood-from_ranges m h =
     let (places, h1) = passes _ _ _ h2 in
     let fixtures : good_fixtures m.fixtures ≡ true = passes_last _ _ h1 in
     let in_step = from (pos 500) (pos 50000) m.numbers.step step in
-    let (rates7, _) = and_parts _ (good_arc_feed m.numbers.arc_feed) rates in
+    let (rates8, _) = and_parts _ (good_changer m.numbers.changer) rates in
+    let (rates7, _) = and_parts _ (good_arc_feed m.numbers.arc_feed) rates8 in
     let (rates6, ring) = and_parts _ (good_ring m.numbers.ring) rates7 in
     let (rates5, jump) = and_parts _ (good_jump m.numbers.jump) rates6 in
     let (rates4, axes) = and_parts _ (good_axis_rates m.axis_rates) rates5 in

@@ -18,6 +18,7 @@ pub record MachineFile : Type 0 where
   pub turn : ℕ
   pub ring : ℕ
   pub arc_feed : Bool
+  pub changer : Bool
   pub low : Point3
   pub high : Point3
   pub start : Point3
@@ -39,6 +40,7 @@ file_of m = record {
   turn = m.turn;
   ring = m.ring;
   arc_feed = m.arc_feed;
+  changer = m.changer;
   low = m.low;
   high = m.high;
   start = m.start;
@@ -61,6 +63,7 @@ built_in_machine = record {
   turn = 1000000000;
   ring = 16;
   arc_feed = false;
+  changer = false;
   low = record { x = pos 0; y = pos 0; z = negsuc 99999999 };
   high = record { x = pos 300000000; y = pos 300000000; z = pos 0 };
   start = zero_point;

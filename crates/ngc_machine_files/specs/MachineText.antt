@@ -56,15 +56,16 @@ common_keys =
     ∷ codes "origins" ∷
     codes "fixture" ∷ []
 
--- version 2 has rates of the axes, and may have a jump, a ring and the feed of arcs; no other
--- version has them
+-- version 2 has rates of the axes, and may have a jump, a ring, the feed of arcs and a tool changer;
+-- no other version has them
 abbrev pub has_axis_rates : ℤ → Bool
 has_axis_rates version = int_eq version (pos 2)
 
 unfoldable pub machine_keys : ℤ → List (List ℕ)
 machine_keys version =
     if has_axis_rates version
-    then codes "axis_rate" ∷ codes "jump" ∷ codes "ring" ∷ codes "arc_feed" ∷ common_keys
+    then codes "axis_rate" ∷ codes "jump" ∷ codes "ring" ∷ codes "arc_feed"
+    ∷ codes "changer" ∷ common_keys
     else common_keys
 
 -- three numbers; in a version without them, those that bound no rate
@@ -74,7 +75,7 @@ machine_axis_rates version tree =
     then coordinates_at (codes "axis_rate") tree
     else Some (record { x = pos 1000000; y = pos 1000000; z = pos 1000000 })
 
--- a missing jump or feed of arcs is 0, and a missing ring is 16
+-- a missing jump, feed of arcs or tool changer is 0, and a missing ring is 16
 abbrev pub machine_numbers : Data → Option MachineNumbers
 machine_numbers tree = do
   version ← whole_at (codes "version") tree
@@ -87,6 +88,7 @@ machine_numbers tree = do
   jump ← whole_or (pos 0) (codes "jump") tree
   ring ← whole_or (pos 16) (codes "ring") tree
   arc_feed ← whole_or (pos 0) (codes "arc_feed") tree
+  changer ← whole_or (pos 0) (codes "changer") tree
   Some (record {
     version = version;
     step = step;
@@ -98,6 +100,7 @@ machine_numbers tree = do
     jump = jump;
     ring = ring;
     arc_feed = arc_feed;
+    changer = changer;
   })
 
 abbrev pub machine_points : Data → Option MachinePoints
@@ -194,6 +197,9 @@ good_ring z = from_to (pos 16) (pos 1024) z
 abbrev pub good_arc_feed : ℤ → Bool
 good_arc_feed z = from_to (pos 0) (pos 1) z
 
+abbrev pub good_changer : ℤ → Bool
+good_changer z = from_to (pos 0) (pos 1) z
+
 abbrev pub good_axis_rates : Coordinates → Bool
 good_axis_rates rates = is_rate rates.x && is_rate rates.y && is_rate rates.z
 
@@ -205,7 +211,7 @@ good_bounds m =
 abbrev pub good_rates : MachineValues → Bool
 good_rates m =
     good_bounds m && good_jump m.numbers.jump && good_ring m.numbers.ring
-    && good_arc_feed m.numbers.arc_feed
+    && good_arc_feed m.numbers.arc_feed && good_changer m.numbers.changer
 
 abbrev pub good_travel : ℤ → MachinePoints → Bool
 good_travel step p =
@@ -252,6 +258,10 @@ fixture_of f =
 abbrev pub has_arc_feed : ℤ → Bool
 has_arc_feed z = int_eq z (pos 1)
 
+-- true if the machine changes tools by itself, without a person
+abbrev pub has_changer : ℤ → Bool
+has_changer z = int_eq z (pos 1)
+
 abbrev pub machine_from : MachineValues → MachineFile
 machine_from m = record {
   step = m.numbers.step;
@@ -264,6 +274,7 @@ machine_from m = record {
   turn = unsigned_abs m.numbers.turn;
   ring = unsigned_abs m.numbers.ring;
   arc_feed = has_arc_feed m.numbers.arc_feed;
+  changer = has_changer m.numbers.changer;
   low = place_of m.points.low;
   high = place_of m.points.high;
   start = place_of m.points.start;

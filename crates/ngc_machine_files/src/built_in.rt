@@ -48,6 +48,7 @@ pub fn built_in_machine<A: Allocator>(alloc: A) -> Machine<A>
         turn: 1_000_000_000,
         ring: 16,
         arc_feed: false,
+        changer: false,
         low,
         high,
         start: zero_point(),

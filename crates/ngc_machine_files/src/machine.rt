@@ -50,6 +50,9 @@ pub struct Machine<A: Allocator> {
     /// Whether an arc runs at its feed at every point. If not, it runs at the lowest rate that its
     /// feed allows at any point.
     pub arc_feed: bool,
+    /// Whether the machine changes tools by itself. If not, a person changes them, and a program must
+    /// stop for that.
+    pub changer: bool,
     /// The least coordinates of the travel, at most 10^9 nm in size.
     pub low: Point3,
     /// The greatest coordinates of the travel, at most 10^9 nm in size.
@@ -113,6 +116,7 @@ impl<A: Allocator> Machine<A> {
             turn: self.turn,
             ring: self.ring,
             arc_feed: self.arc_feed,
+            changer: self.changer,
             low: self.low,
             high: self.high,
             start: self.start,

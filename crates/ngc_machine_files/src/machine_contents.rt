@@ -45,6 +45,7 @@ pub struct MachineNumbers {
     pub jump: i64,
     pub ring: i64,
     pub arc_feed: i64,
+    pub changer: i64,
 }
 
 /// The single points of a machine file, of any size.
@@ -106,6 +107,7 @@ fn machine_numbers(tree: &Value) -> Option<MachineNumbers>
         jump: whole_or(0, tree, "jump")?,
         ring: whole_or(16, tree, "ring")?,
         arc_feed: whole_or(0, tree, "arc_feed")?,
+        changer: whole_or(0, tree, "changer")?,
     })
 }
 
@@ -173,12 +175,13 @@ fn machine_origins(tree: &Value) -> Option<[Coordinates; 9]>
     }
 }
 
-/// The keys of a machine file of version 2. Version 1 has all but the first four.
-pub const MACHINE_KEYS: [&str; 18] = [
+/// The keys of a machine file of version 2. Version 1 has all but the first five.
+pub const MACHINE_KEYS: [&str; 19] = [
     "axis_rate",
     "jump",
     "ring",
     "arc_feed",
+    "changer",
     "version",
     "step",
     "ticks_per_second",
@@ -201,7 +204,7 @@ fn has_machine_keys(numbers: &MachineNumbers, tree: &Value) -> bool
     if has_axis_rates(numbers) {
         has_only(tree, &MACHINE_KEYS)
     } else {
-        has_only(tree, &MACHINE_KEYS[4..])
+        has_only(tree, &MACHINE_KEYS[5..])
     }
 }
 

@@ -11,7 +11,7 @@ ghost use Rattle.ngc_machine_files.specs.MachineText.{is_multiple, is_on_grid, g
 ghost use Rattle.ngc_machine_files.specs.MachineText.{good_axis_rates, good_bounds, good_rates, good_travel};
 ghost use Rattle.ngc_machine_files.specs.MachineText.{good_places, good_fixture, good_fixtures};
 ghost use Rattle.ngc_machine_files.specs.MachineText.{machine_ranges, machine_from, place_of};
-ghost use Rattle.ngc_machine_files.specs.MachineText.{axis_rates_of, fixture_of, has_arc_feed, AreFrom, IsGood};
+ghost use Rattle.ngc_machine_files.specs.MachineText.{axis_rates_of, fixture_of, has_arc_feed, has_changer, AreFrom, IsGood};
 
 use crate::fault::FileFault;
 use crate::machine::{AxisRates, Fixture, Machine};
@@ -117,6 +117,7 @@ fn are_rates_good(contents: &MachineContents) -> bool
         && is_from_to(0, 1_000_000, contents.numbers.jump)
         && is_from_to(16, 1_024, contents.numbers.ring)
         && is_from_to(0, 1, contents.numbers.arc_feed)
+        && is_from_to(0, 1, contents.numbers.changer)
 }
 
 fn is_travel_good(numbers: &MachineNumbers, points: &MachinePoints) -> bool
@@ -205,6 +206,13 @@ fn has_arc_feed(numbers: &MachineNumbers) -> bool
     ensures { result ≡ has_arc_feed numbers.now.arc_feed }
 {
     numbers.arc_feed == 1
+}
+
+/// Returns whether the machine changes tools by itself.
+fn has_changer(numbers: &MachineNumbers) -> bool
+    ensures { result ≡ has_changer numbers.now.changer }
+{
+    numbers.changer == 1
 }
 
 fn axis_rates(rates: &Coordinates) -> AxisRates
@@ -317,6 +325,7 @@ impl MachineContents {
             turn: arc_bound(self.numbers.turn),
             ring: ring(self.numbers.ring),
             arc_feed: has_arc_feed(&self.numbers),
+            changer: has_changer(&self.numbers),
             low: place(&self.points.low),
             high: place(&self.points.high),
             start: place(&self.points.start),

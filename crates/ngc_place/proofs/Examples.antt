@@ -39,6 +39,7 @@ mill = record {
   turn = built_in_machine.turn;
   ring = built_in_machine.ring;
   arc_feed = built_in_machine.arc_feed;
+  changer = built_in_machine.changer;
   low = built_in_machine.low;
   high = built_in_machine.high;
   start = built_in_machine.start;

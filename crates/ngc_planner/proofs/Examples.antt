@@ -158,6 +158,7 @@ jumping jump = record {
   turn = 1000000000;
   ring = 16;
   arc_feed = false;
+  changer = false;
   low = record { x = pos 0; y = pos 0; z = negsuc 99999999 };
   high = record { x = pos 300000000; y = pos 300000000; z = pos 0 };
   start = zero_point;

@@ -1,5 +1,3 @@
--- The written part of a list of lines, when other lines follow them.
-pub mod SheetPrefix
 -- The remaining text, one step further.
 pub mod RemainingText
 -- Lines of which only the warnings are written, in a style.

@@ -1,23 +1,19 @@
 -- Lines of which only the warnings are written, in a style.
-use Rattle.std.proofs.Common.{◌≡◌, ℕ, ◌+◌, ◌<◌, List, [], ◌∷◌, ◌++◌, length, get_or, drop, flat_map, Option, Result, true, false, cond, ap, sym, ◌∙◌, refl}
+use Rattle.std.proofs.Common.{◌≡◌, ℕ, ◌+◌, ◌<◌, List, [], ◌∷◌, ◌++◌, length, get_or, drop, flat_map, true, false, cond, ap, sym, ◌∙◌, refl}
 use Rattle.std.specs.Prelude.{map, filter}
-use Rattle.std.proofs.lemmas.List.{append-nil, map-append}
+use Rattle.std.proofs.lemmas.List.{append_assoc, append-nil, map-append}
 use Rattle.std.proofs.lemmas.List.Concat.{flat_map-append}
 use Rattle.std.proofs.lemmas.List.Elements.{filter-append}
-use Rattle.ngc_text.specs.Written.{AppendsPrefix}
-use Rattle.ngc_text.specs.declared.writing.WriteFault.{WriteFault}
-use Rattle.ngc_text.specs.Collected.{WritesPrefix}
 use Rattle.ngc_machine_files.specs.Machine.{MachineFile}
 use Rattle.ngc_machine_files.specs.declared.machine.Fixture.{Fixture}
 use Rattle.ngc_machine_files.specs.declared.tools.Tool.{Tool}
 use Rattle.ngc_setup_sheet.specs.Sheets.{fixture_lines, fixtures_from, tool_lines, is_warning, as_fact, as_remark}
 use Rattle.ngc_setup_sheet.specs.Spelling.{line_text, lines_text}
-use Rattle.ngc_setup_sheet.specs.Writes.{Writes, styled, chosen}
+use Rattle.ngc_setup_sheet.specs.Writes.{styled, chosen}
 use Rattle.ngc_setup_sheet.specs.declared.line.Line.{Line}
 use Rattle.ngc_setup_sheet.specs.declared.writer.Style.{Style}
 use Rattle.ngc_setup_sheet.specs.declared.writer.Style.TheVariants as styles
 use Rattle.ngc_setup_sheet.specs.declared.reach.Reach.{Reach}
-use Rattle.ngc_setup_sheet.proofs.SheetPrefix.{Ahead, begun, went, stopped, last}
 use Rattle.ngc_setup_sheet.proofs.RemainingText.{next_fixture, next_tool}
 
 -- ---- line by line
@@ -26,6 +22,17 @@ pub chosen-append : (s : Style) (a b : List Line) → chosen s (a ++ b) ≡ chos
 chosen-append styles.Lines a b = filter-append is_warning a b
 chosen-append styles.Facts a b = ap (map as_fact) (filter-append is_warning a b) ∙ map-append as_fact (filter is_warning a) (filter is_warning b)
 chosen-append styles.Remarks a b = ap (map as_remark) (filter-append is_warning a b) ∙ map-append as_remark (filter is_warning a) (filter is_warning b)
+
+-- ---- two lists of lines
+
+pub both_chosen : (s : Style) (a b : List Line) → lines_text (chosen s (a ++ b)) ≡ lines_text (chosen s a) ++ lines_text (chosen s b)
+both_chosen s a b = ap lines_text (chosen-append s a b) ∙ flat_map-append line_text (chosen s a) (chosen s b)
+
+pub three_chosen : (s : Style) (a b c : List Line) →
+    (lines_text (chosen s a) ++ lines_text (chosen s b)) ++ lines_text (chosen s c) ≡ lines_text (chosen s (a ++ (b ++ c)))
+three_chosen s a b c =
+    append_assoc (lines_text (chosen s a)) (lines_text (chosen s b)) (lines_text (chosen s c))
+    ∙ ap (λ t. lines_text (chosen s a) ++ t) (sym (both_chosen s b c)) ∙ sym (both_chosen s a (b ++ c))
 
 pub told : (s : Style) (l : Line) → is_warning l ≡ true → line_text (styled s l) ≡ lines_text (chosen s (l ∷ []))
 told styles.Lines l h = sym (ap (λ b. lines_text (cond b (l ∷ []) [])) h ∙ append-nil (line_text l))
@@ -55,44 +62,15 @@ told_of_all s (l ∷ ls) =
 -- ---- the remaining text, one step further
 
 pub next_fixture_warned : (s : Style) (m : MachineFile) (r : Reach) (fs : List Fixture) (i : ℕ) (f : Fixture) → i < length fs → f ≡ get_or fs i f
-    → chosen s (fixtures_from m r i (drop i fs)) ≡ chosen s (fixture_lines m r i f) ++ chosen s (fixtures_from m r (i + 1) (drop (i + 1) fs))
+    → lines_text (chosen s (fixtures_from m r i (drop i fs)))
+    ≡ lines_text (chosen s (fixture_lines m r i f)) ++ lines_text (chosen s (fixtures_from m r (i + 1) (drop (i + 1) fs)))
 next_fixture_warned s m r fs i f inside found =
-    ap (chosen s) (next_fixture m r fs i f inside found)
-    ∙ chosen-append s (fixture_lines m r i f) (fixtures_from m r (i + 1) (drop (i + 1) fs))
+    ap (λ l. lines_text (chosen s l)) (next_fixture m r fs i f inside found)
+    ∙ both_chosen s (fixture_lines m r i f) (fixtures_from m r (i + 1) (drop (i + 1) fs))
 
 pub next_tool_warned : (s : Style) (tools : List Tool) (i : ℕ) (t : Tool) → i < length tools → t ≡ get_or tools i t
-    → chosen s (flat_map tool_lines (drop i tools)) ≡ chosen s (tool_lines t) ++ chosen s (flat_map tool_lines (drop (i + 1) tools))
+    → lines_text (chosen s (flat_map tool_lines (drop i tools)))
+    ≡ lines_text (chosen s (tool_lines t)) ++ lines_text (chosen s (flat_map tool_lines (drop (i + 1) tools)))
 next_tool_warned s tools i t inside found =
-    ap (chosen s) (next_tool tools i t inside found)
-    ∙ chosen-append s (tool_lines t) (flat_map tool_lines (drop (i + 1) tools))
-
--- ---- three parts
-
-first_went : (s : Style) (old new : Option (List ℕ)) (before after : List ℕ) (a rest : List Line) →
-    WritesPrefix old new (before ++ lines_text (chosen s a)) after
-    → Ahead old new before after (chosen s rest) (chosen s (a ++ rest))
-first_went s old new before after a rest k =
-    went old old new before before after (chosen s a) (chosen s rest) (chosen s (a ++ rest)) (chosen s (a ++ rest))
-    (chosen-append s a rest) (begun old before (chosen s (a ++ rest))) k
-
-pub first_stopped : (s : Style) (old new : Option (List ℕ)) (before : List ℕ) (a rest : List Line) →
-    AppendsPrefix old new (before ++ lines_text (chosen s a))
-    → AppendsPrefix old new (before ++ lines_text (chosen s (a ++ rest)))
-first_stopped s old new before a rest k =
-    stopped old old new before before (chosen s a) (chosen s rest) (chosen s (a ++ rest)) (chosen s (a ++ rest))
-    (chosen-append s a rest) (begun old before (chosen s (a ++ rest))) k
-
-pub second_stopped : (s : Style) (old mid new : Option (List ℕ)) (before between : List ℕ) (a b rest : List Line) →
-    WritesPrefix old mid (before ++ lines_text (chosen s a)) between
-    → AppendsPrefix mid new (between ++ lines_text (chosen s b)) → AppendsPrefix old new (before ++ lines_text (chosen s (a ++ (b ++ rest))))
-second_stopped s old mid new before between a b rest h k =
-    stopped old mid new before between (chosen s b) (chosen s rest) (chosen s (b ++ rest)) (chosen s (a ++ (b ++ rest)))
-    (chosen-append s b rest) (first_went s old mid before between a (b ++ rest) h) k
-
-pub all_three : (s : Style) (r : Result (Unit {0}) WriteFault) (old mid next new : Option (List ℕ)) (before between made after : List ℕ) (a b rest : List Line)
-    → WritesPrefix old mid (before ++ lines_text (chosen s a)) between → WritesPrefix mid next (between ++ lines_text (chosen s b)) made
-    → Writes next new made after r (chosen s rest) → Writes old new before after r (chosen s (a ++ (b ++ rest)))
-all_three s r old mid next new before between made after a b rest h k t =
-    last r old next new before made after (chosen s rest) (chosen s (a ++ (b ++ rest)))
-    (went old mid next before between made (chosen s b) (chosen s rest) (chosen s (b ++ rest)) (chosen s (a ++ (b ++ rest)))
-    (chosen-append s b rest) (first_went s old mid before between a (b ++ rest) h) k) t
+    ap (λ l. lines_text (chosen s l)) (next_tool tools i t inside found)
+    ∙ both_chosen s (tool_lines t) (flat_map tool_lines (drop (i + 1) tools))

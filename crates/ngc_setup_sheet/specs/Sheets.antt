@@ -63,6 +63,10 @@ ring_facts m = line_where (not (m.ring == 16)) (lines.Fact facts.Ring (figures.C
 abbrev pub arc_feed_facts : MachineFile → List Line
 arc_feed_facts m = line_where m.arc_feed (lines.Fact facts.ArcFeed figures.ByPlace)
 
+-- the tool changer, if the machine has one
+abbrev pub changer_facts : MachineFile → List Line
+changer_facts m = line_where m.changer (lines.Fact facts.Changer figures.ByMachine)
+
 abbrev pub rate_facts : MachineFile → List Line
 rate_facts m =
     lines.Fact facts.Acceleration (figures.Acceleration (acceleration m m.change)) ∷
@@ -118,7 +122,8 @@ machine_warnings m =
 unfoldable pub machine_lines : MachineFile → Reach → List Line
 machine_lines m r =
     step_facts m ++ (jump_facts m ++ (rate_facts m ++ (ring_facts m ++ (arc_feed_facts m ++
-    (machine_places m ++ (origins_from m r systems.First m.origins ++ machine_warnings m))))))
+    (changer_facts m ++ (machine_places m ++
+    (origins_from m r systems.First m.origins ++ machine_warnings m)))))))
 
 -- ---- fixtures
 

@@ -1,10 +1,11 @@
 -- How the lines of a setup sheet are written. Our own.
-use Rattle.std.specs.Prelude.{ℕ, ◌*◌, ◌/◌, ◌%◌, ◌-ℤ◌, unsigned_abs, List, [], ◌++◌, flat_map, codes}
+use Rattle.std.specs.Prelude.{ℕ, ◌-ℤ◌, unsigned_abs, List, [], ◌++◌, flat_map, codes}
 use Rattle.std.specs.Prelude.{decimal, length, ◌==◌, if◌then◌else◌}
 use Rattle.ngc_fixed_length.specs.declared.modes.System.{System}
 use Rattle.ngc_fixed_length.specs.declared.modes.System.TheVariants as systems
 use Rattle.ngc_fixed_length.specs.declared.points.Point3.{Point3}
-use Rattle.ngc_text.specs.Millimetres.{number_text, size_text, length_text, mm_text}
+use Rattle.ngc_text.specs.Millimetres.{size_text, length_text, mm_text}
+use Rattle.ngc_sentences.specs.Parts.{thousandths_text}
 use Rattle.ngc_setup_sheet.specs.declared.line.Axis.TheVariants as axes
 use Rattle.ngc_setup_sheet.specs.declared.line.Fact.{Fact}
 use Rattle.ngc_setup_sheet.specs.declared.line.Fact.TheVariants as facts
@@ -15,9 +16,6 @@ use Rattle.ngc_setup_sheet.specs.declared.line.Line.TheVariants as lines
 use Rattle.ngc_setup_sheet.specs.declared.line.Span.{Span}
 use Rattle.ngc_setup_sheet.specs.declared.line.Warning.{Warning}
 use Rattle.ngc_setup_sheet.specs.declared.line.Warning.TheVariants as warnings
-
-abbrev pub thousandths_text : ℕ → List ℕ
-thousandths_text n = number_text (n / 1000) (1000 * (n % 1000))
 
 abbrev pub span_text : Span → List ℕ
 span_text s = length_text s.low ++ codes " to " ++ length_text s.high ++ codes " mm, "
@@ -59,6 +57,7 @@ fact_text facts.CornerSpeed = codes "  speed at corners      "
 fact_text facts.Jump = codes "  jump at corners       "
 fact_text facts.Ring = codes "  commands in the ring  "
 fact_text facts.ArcFeed = codes "  feed on arcs          "
+fact_text facts.Changer = codes "  tools are changed     "
 fact_text facts.Acceleration = codes "  acceleration          "
 fact_text facts.ArcAcceleration = codes "  acceleration on arcs  "
 fact_text (facts.Speed axes.X) = codes "  speed of X            "
@@ -83,6 +82,7 @@ figure_text (figures.PerMillimetre n) = thousandths_text n ++ codes " a mm"
 figure_text (figures.PerSecond n) = decimal n ++ codes " a second"
 figure_text (figures.Count n) = decimal n
 figure_text figures.ByPlace = codes "at each place"
+figure_text figures.ByMachine = codes "by the machine"
 figure_text (figures.Speed n) = thousandths_text n ++ codes " mm/min"
 figure_text (figures.Acceleration n) = thousandths_text n ++ codes " mm/s^2"
 figure_text (figures.Span s) = span_text s

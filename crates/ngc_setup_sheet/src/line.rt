@@ -32,6 +32,8 @@ pub enum Fact {
     Ring,
     /// Where the feed of an arc is kept.
     ArcFeed,
+    /// By what the tools are changed.
+    Changer,
     Acceleration,
     /// The greatest acceleration towards the centre of an arc.
     ArcAcceleration,
@@ -63,6 +65,8 @@ pub enum Figure {
     Count(u32),
     /// At each point.
     ByPlace,
+    /// The machine itself, without a person.
+    ByMachine,
     /// In thousandths of a millimetre per minute.
     Speed(u128),
     /// In thousandths of a millimetre per second squared.

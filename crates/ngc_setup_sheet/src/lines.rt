@@ -7,7 +7,7 @@ ghost use Rattle.ngc_setup_sheet.specs.Reaches.{IsReach};
 ghost use Rattle.ngc_fixed_length.specs.declared.modes.System.TheVariants as systems;
 ghost use Rattle.ngc_setup_sheet.specs.declared.line.Figure.TheVariants as figures;
 ghost use Rattle.ngc_setup_sheet.specs.Sheets.{line_where, warned, from, axis_speed, step_facts};
-ghost use Rattle.ngc_setup_sheet.specs.Sheets.{jump_facts, ring_facts, arc_feed_facts, rate_facts, machine_places};
+ghost use Rattle.ngc_setup_sheet.specs.Sheets.{jump_facts, ring_facts, arc_feed_facts, changer_facts, rate_facts, machine_places};
 ghost use Rattle.ngc_setup_sheet.specs.Sheets.{is_zero, origin_lines, next_system, origins_from};
 ghost use Rattle.ngc_setup_sheet.specs.Sheets.{machine_warnings, machine_lines, fixture_facts};
 ghost use Rattle.ngc_setup_sheet.specs.Sheets.{fixture_lines, part_line, part_lines, tool_facts};
@@ -117,6 +117,18 @@ fn add_arc_feed<A: Allocator>(lines: &mut Lines, machine: &Machine<A>)
         lines,
         machine.arc_feed,
         Line::Fact(Fact::ArcFeed, Figure::ByPlace),
+    );
+}
+
+fn add_changer<A: Allocator>(lines: &mut Lines, machine: &Machine<A>)
+    requires { array_vec_len lines.old < 48 }
+    ensures items { lines.new.items ≡ lines.old.items ++ changer_facts (file_of machine.now) }
+    ensures few { array_vec_len lines.new ≤ array_vec_len lines.old + 1 }
+{
+    add_where(
+        lines,
+        machine.changer,
+        Line::Fact(Fact::Changer, Figure::ByMachine),
     );
 }
 
@@ -261,6 +273,7 @@ pub(crate) fn machine_lines<A: Allocator>(machine: &Machine<A>, reach: &Reach) -
     add_all(&mut lines, &rate_facts(machine));
     add_ring(&mut lines, machine);
     add_arc_feed(&mut lines, machine);
+    add_changer(&mut lines, machine);
     add_all(&mut lines, &machine_places(machine));
     add_origins(&mut lines, machine, reach, &machine.origins);
     warn_of_machine(&mut lines, machine);

@@ -10,7 +10,7 @@ ghost use Rattle.ngc_setup_sheet.specs.Quoted.{quote_of};
 use crate::mistake::{Mistake, Rule, Section};
 use crate::quoted::add_quote;
 use crate::rows::key;
-use crate::spelling::add_numbered;
+use itoa::Integer;
 use ngc_text::{Chunk, shown_bytes};
 
 #[tactic(auto, unfolding(crate::specs::MistakeTexts::requested_text))]
@@ -35,6 +35,8 @@ fn asked(rule: Rule) -> &'static [u8]
             b"In version 2 it must be a whole number from 16 to 1,024, or left out: how many commands are loaded and not done at most. Version 1 has no such key.\n",
         Rule::ArcFeed =>
             b"In version 2 it must be 0 or 1, or left out: 1 where arcs run at their feed at every place. Version 1 has no such key.\n",
+        Rule::Changer =>
+            b"In version 2 it must be 0 or 1, or left out: 1 where the machine changes tools by itself. Version 1 has no such key.\n",
         Rule::Change =>
             b"It must be a whole number from 1 to 1,000,000: how much the rate may change in a tick, in millionths of a step a tick.\n",
         Rule::Corner =>
@@ -84,17 +86,30 @@ fn asked(rule: Rule) -> &'static [u8]
 #[tactic(auto, unfolding(crate::specs::MistakeTexts::known_text))]
 fn known(section: Section) -> &'static [u8]
     ensures text { result.now ≡ known_text section }
-    ensures short { length result.now ≤ 220 }
+    ensures short { length result.now ≤ 240 }
 {
     match section {
         Section::Machine =>
-            b"Known are `version`, `step`, `ticks_per_second`, `max_rate`, `change`, `corner`, `turn`, `low`, `high`, `start`, `home28`, `home30`, `origins`, `fixture`, and in version 2 `axis_rate`, `jump`, `ring` and `arc_feed`.\n",
+            b"Known are `version`, `step`, `ticks_per_second`, `max_rate`, `change`, `corner`, `turn`, `low`, `high`, `start`, `home28`, `home30`, `origins`, `fixture`, and in version 2 `axis_rate`, `jump`, `ring`, `arc_feed` and `changer`.\n",
         Section::FirstFixture(_) => b"Known are `low` and `high`.\n",
         Section::SecondFixture(_) => b"Known are `low`, `high` and `name`.\n",
         Section::Tools => b"Known are `version` and `tool`.\n",
         Section::FirstTool(_) => b"Known are `number`, `length`, `radius` and `offset`.\n",
         Section::SecondTool(_) => b"Known are `number`, `offset`, `bottom`, `parts` and `name`.\n",
     }
+}
+
+/// Adds a text, a number and a text.
+fn add_numbered<I: Integer>(chunk: &mut Chunk, before: &[u8], number: I, afterwards: &[u8])
+    requires room { length chunk.old + 160 ≤ CHUNK_SIZE }
+    requires before { length before.now ≤ 20 }
+    requires afterwards { length afterwards.now ≤ 80 }
+    ensures text { chunk.new ≡ chunk.old ++ (before.now ++ I.text number ++ afterwards.now) }
+    ensures short { length chunk.new ≤ length chunk.old + 160 }
+{
+    chunk.add_text(before);
+    chunk.add_number(number);
+    chunk.add_text(afterwards);
 }
 
 fn add_section(chunk: &mut Chunk, section: Section)
@@ -121,11 +136,11 @@ fn add_section(chunk: &mut Chunk, section: Section)
 
 /// Adds what is said of a key, and the requirement.
 fn add_sentence(chunk: &mut Chunk, section: Section, key: &[u8], said: &[u8], asked: &[u8])
-    requires room { length chunk.old + 660 ≤ CHUNK_SIZE }
+    requires room { length chunk.old + 680 ≤ CHUNK_SIZE }
     requires said { length said.now ≤ 10 }
-    requires asked { length asked.now ≤ 220 }
+    requires asked { length asked.now ≤ 240 }
     ensures text { chunk.new ≡ chunk.old ++ sentence_text section key.now said.now asked.now }
-    ensures short { length chunk.new ≤ length chunk.old + 660 }
+    ensures short { length chunk.new ≤ length chunk.old + 680 }
 {
     add_section(chunk, section);
     chunk.add_text(b" key `");

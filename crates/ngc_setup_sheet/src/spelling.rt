@@ -1,56 +1,49 @@
-//! How lines are written.
-ghost use Rattle.std.specs.Prelude.{◌≡◌, ◌+◌, ◌≤◌, ◌++◌, codes, decimal, length};
-ghost use Rattle.ngc_text.specs.Collected.{CHUNK_SIZE, HasSpaceForLine};
+//! How lines are said.
+ghost use Rattle.std.specs.Prelude.{◌≡◌, ◌++◌, codes, decimal};
 ghost use Rattle.ngc_text.specs.Millimetres.{mm_text};
-ghost use Rattle.ngc_setup_sheet.specs.Spelling.{thousandths_text, span_text, place_text};
+ghost use Rattle.ngc_sentences.specs.Parts.{parts_text};
+ghost use Rattle.ngc_sentences.specs.Saying.{Says};
+ghost use Rattle.ngc_setup_sheet.specs.declared.line.Warning.TheVariants as warnings;
+ghost use Rattle.ngc_setup_sheet.specs.Spelling.{span_text, place_text};
 ghost use Rattle.ngc_setup_sheet.specs.Spelling.{system_text, origin_text, fact_text};
 ghost use Rattle.ngc_setup_sheet.specs.Spelling.{figure_text, warning_text};
-ghost use Rattle.ngc_setup_sheet.specs.Spelling.{warning_object, warning_remark, bracketed, line_text};
+ghost use Rattle.ngc_setup_sheet.specs.Spelling.{bracketed, line_text};
 
 use crate::line::{Axis, Fact, Figure, Line, Span, Warning};
-use itoa::Integer;
 use ngc_fixed_length::{Point3, System};
 use ngc_machine_files::Name;
-use ngc_text::Chunk;
+use ngc_sentences::{Page, Part, say};
+use ngc_text::Sink;
 
-fn add_thousandths(chunk: &mut Chunk, number: u128)
-    requires { length chunk.old + 47 ≤ CHUNK_SIZE }
-    ensures text { chunk.new ≡ chunk.old ++ thousandths_text number }
-    ensures short { length chunk.new ≤ length chunk.old + 47 }
+fn span(span: &Span) -> [Part<'static>; 6]
+    ensures { parts_text result ≡ span_text span.now }
 {
-    chunk.add_millionths(number / 1_000, 1_000 * (number % 1_000) as u32);
+    [
+        Part::Length(span.low),
+        Part::Text(b" to "),
+        Part::Length(span.high),
+        Part::Text(b" mm, "),
+        Part::Size(u128::from(span.high.abs_diff(span.low))),
+        Part::Text(b" mm long"),
+    ]
 }
 
-fn add_span(chunk: &mut Chunk, span: &Span)
-    requires { length chunk.old + 160 ≤ CHUNK_SIZE }
-    ensures text { chunk.new ≡ chunk.old ++ span_text span.now }
-    ensures short { length chunk.new ≤ length chunk.old + 160 }
+fn place(place: &Point3) -> [Part<'static>; 6]
+    ensures { parts_text result ≡ place_text place.now }
 {
-    chunk.add_length(i128::from(span.low));
-    chunk.add_text(b" to ");
-    chunk.add_length(i128::from(span.high));
-    chunk.add_text(b" mm, ");
-    chunk.add_size(u128::from(span.high.abs_diff(span.low)));
-    chunk.add_text(b" mm long");
-}
-
-fn add_place(chunk: &mut Chunk, place: &Point3)
-    requires { length chunk.old + 160 ≤ CHUNK_SIZE }
-    ensures text { chunk.new ≡ chunk.old ++ place_text place.now }
-    ensures short { length chunk.new ≤ length chunk.old + 160 }
-{
-    chunk.add_text(b"X ");
-    chunk.add_length(i128::from(place.x.nanometres()));
-    chunk.add_text(b" Y ");
-    chunk.add_length(i128::from(place.y.nanometres()));
-    chunk.add_text(b" Z ");
-    chunk.add_millimetres(i128::from(place.z.nanometres()));
+    [
+        Part::Text(b"X "),
+        Part::Length(place.x.nanometres()),
+        Part::Text(b" Y "),
+        Part::Length(place.y.nanometres()),
+        Part::Text(b" Z "),
+        Part::Millimetres(place.z.nanometres()),
+    ]
 }
 
 #[tactic(auto, unfolding(crate::specs::Spelling::system_text))]
 fn system_name(system: System) -> &'static [u8]
-    ensures text { result.now ≡ system_text system }
-    ensures short { length result.now ≤ 5 }
+    ensures { result.now ≡ system_text system }
 {
     match system {
         System::First => b"G54",
@@ -67,8 +60,7 @@ fn system_name(system: System) -> &'static [u8]
 
 #[tactic(auto, unfolding(crate::specs::Spelling::origin_text))]
 fn origin(system: System) -> &'static [u8]
-    ensures text { result.now ≡ origin_text system }
-    ensures short { length result.now ≤ 24 }
+    ensures { result.now ≡ origin_text system }
 {
     match system {
         System::First => b"  origin of G54         ",
@@ -85,8 +77,7 @@ fn origin(system: System) -> &'static [u8]
 
 #[tactic(auto, unfolding(crate::specs::Spelling::fact_text))]
 fn fact(fact: &Fact) -> &'static [u8]
-    ensures text { result.now ≡ fact_text fact.now }
-    ensures short { length result.now ≤ 24 }
+    ensures { result.now ≡ fact_text fact.now }
 {
     match fact {
         Fact::Step => b"  step                  ",
@@ -97,6 +88,7 @@ fn fact(fact: &Fact) -> &'static [u8]
         Fact::Jump => b"  jump at corners       ",
         Fact::Ring => b"  commands in the ring  ",
         Fact::ArcFeed => b"  feed on arcs          ",
+        Fact::Changer => b"  tools are changed     ",
         Fact::Acceleration => b"  acceleration          ",
         Fact::ArcAcceleration => b"  acceleration on arcs  ",
         Fact::Speed(Axis::X) => b"  speed of X            ",
@@ -117,203 +109,144 @@ fn fact(fact: &Fact) -> &'static [u8]
     }
 }
 
-fn add_part(chunk: &mut Chunk, heights: &Span, diameter: i64)
-    requires { length chunk.old + 230 ≤ CHUNK_SIZE }
-    ensures text { chunk.new ≡ chunk.old
-        ++ (span_text heights.now ++ codes ", diameter " ++ mm_text diameter) }
-    ensures short { length chunk.new ≤ length chunk.old + 230 }
+fn say_length<W: Sink>(nanometres: &i64, page: &mut Page, output: &mut W)
+    ensures { Says (W.written output.old) (W.written output.new)
+        (W.failures output.old) (W.failures output.new) page.old page.new (mm_text nanometres.now) }
 {
-    add_span(chunk, heights);
-    chunk.add_text(b", diameter ");
-    chunk.add_millimetres(i128::from(diameter));
-}
-
-/// Adds a number with its unit after it.
-fn add_rounded(chunk: &mut Chunk, number: u128, unit: &[u8])
-    requires room { length chunk.old + 60 ≤ CHUNK_SIZE }
-    requires unit { length unit.now ≤ 10 }
-    ensures text { chunk.new ≡ chunk.old ++ (thousandths_text number ++ unit.now) }
-    ensures short { length chunk.new ≤ length chunk.old + 60 }
-{
-    add_thousandths(chunk, number);
-    chunk.add_text(unit);
-}
-
-/// Adds a text, a number and a text.
-pub(crate) fn add_numbered<I: Integer>(
-    chunk: &mut Chunk,
-    before: &[u8],
-    number: I,
-    afterwards: &[u8],
-)
-    requires room { length chunk.old + 160 ≤ CHUNK_SIZE }
-    requires before { length before.now ≤ 20 }
-    requires afterwards { length afterwards.now ≤ 80 }
-    ensures text { chunk.new ≡ chunk.old ++ (before.now ++ I.text number ++ afterwards.now) }
-    ensures short { length chunk.new ≤ length chunk.old + 160 }
-{
-    chunk.add_text(before);
-    chunk.add_number(number);
-    chunk.add_text(afterwards);
+    say!(page, output; Part::Millimetres(*nanometres));
 }
 
 #[tactic(auto, unfolding(crate::specs::Spelling::figure_text))]
-fn add_figure(chunk: &mut Chunk, figure: &Figure)
-    requires { length chunk.old + 230 ≤ CHUNK_SIZE }
-    ensures text { chunk.new ≡ chunk.old ++ figure_text figure.now }
-    ensures short { length chunk.new ≤ length chunk.old + 230 }
+fn say_figure<W: Sink>(figure: &Figure, page: &mut Page, output: &mut W)
+    ensures { Says (W.written output.old) (W.written output.new)
+        (W.failures output.old) (W.failures output.new) page.old page.new (figure_text figure.now) }
 {
     match figure {
-        Figure::Length(nanometres) => chunk.add_millimetres(i128::from(*nanometres)),
-        Figure::PerMillimetre(number) => add_rounded(chunk, *number, b" a mm"),
-        Figure::PerSecond(number) => add_numbered(chunk, b"", *number, b" a second"),
-        Figure::Count(number) => chunk.add_number(*number),
-        Figure::ByPlace => chunk.add_text(b"at each place"),
-        Figure::Speed(number) => add_rounded(chunk, *number, b" mm/min"),
-        Figure::Acceleration(number) => add_rounded(chunk, *number, b" mm/s^2"),
-        Figure::Span(span) => add_span(chunk, span),
-        Figure::Place(place) => add_place(chunk, place),
-        Figure::Part(heights, diameter) => add_part(chunk, heights, *diameter),
+        Figure::Length(nanometres) => say_length(nanometres, page, output),
+        Figure::PerMillimetre(number) => {
+            say!(page, output; Part::Thousandths(*number), b" a mm")
+        }
+        Figure::PerSecond(number) =>
+            say!(page, output; Part::Number(u128::from(*number)), b" a second"),
+        Figure::Count(number) => say!(page, output; Part::Number(u128::from(*number))),
+        Figure::ByPlace => say!(page, output; b"at each place"),
+        Figure::ByMachine => say!(page, output; b"by the machine"),
+        Figure::Speed(number) => { say!(page, output; Part::Thousandths(*number), b" mm/min") }
+        Figure::Acceleration(number) => {
+            say!(page, output; Part::Thousandths(*number), b" mm/s^2")
+        }
+        Figure::Span(heights) => page.say(output, &span(heights)),
+        Figure::Place(point) => page.say(output, &place(point)),
+        Figure::Part(heights, diameter) => {
+            page.say(output, &span(heights));
+            say!(page, output; b", diameter ");
+            say_length(diameter, page, output);
+        }
     }
-}
-
-/// Adds three texts.
-fn add_named(chunk: &mut Chunk, before: &[u8], name: &[u8], afterwards: &[u8])
-    requires room { length chunk.old + 160 ≤ CHUNK_SIZE }
-    requires before { length before.now ≤ 20 }
-    requires name { length name.now ≤ 20 }
-    requires afterwards { length afterwards.now ≤ 80 }
-    ensures text { chunk.new ≡ chunk.old ++ (before.now ++ name.now ++ afterwards.now) }
-    ensures short { length chunk.new ≤ length chunk.old + 160 }
-{
-    chunk.add_text(before);
-    chunk.add_text(name);
-    chunk.add_text(afterwards);
 }
 
 #[tactic(auto, unfolding(crate::specs::Spelling::warning_text))]
-fn add_warning(chunk: &mut Chunk, warning: &Warning)
-    requires { length chunk.old + 160 ≤ CHUNK_SIZE }
-    ensures text { chunk.new ≡ chunk.old ++ warning_text warning.now }
-    ensures short { length chunk.new ≤ length chunk.old + 160 }
+fn short_travel(axis: Axis) -> &'static [u8]
+    ensures { result.now ≡ warning_text (warnings.Travel axis) }
 {
-    match warning {
-        Warning::Speed => chunk.add_text(b"the greatest speed is not from 0.1 to 1000 mm/s"),
-        Warning::Acceleration => chunk.add_text(b"the acceleration is not from 1 to 20000 mm/s^2"),
-        Warning::Arcs => chunk.add_text(
-            b"the acceleration on arcs is below 1 mm/s^2, so arcs crawl: raise `turn` to about 500000 times `change`",
-        ),
-        Warning::Travel(Axis::X) => chunk.add_text(b"the travel on X is less than 10 mm"),
-        Warning::Travel(Axis::Y) => chunk.add_text(b"the travel on Y is less than 10 mm"),
-        Warning::Travel(Axis::Z) => chunk.add_text(b"the travel on Z is less than 10 mm"),
-        Warning::Origin(system) => add_named(
-            chunk,
-            b"the origin of ",
-            system_name(*system),
-            b" is outside the travel: no tool reaches it",
-        ),
-        Warning::Thin(number) => add_numbered(
-            chunk,
-            b"fixture ",
-            *number,
-            b" is thinner than 0.1 mm: its corners are in nanometres",
-        ),
-        Warning::OutOfReach(number) => {
-            add_numbered(chunk, b"fixture ", *number, b" is where no tool reaches")
-        }
-        Warning::Short(number) => add_numbered(
-            chunk,
-            b"tool ",
-            *number,
-            b" is shorter than 1 mm: lengths are in nanometres",
-        ),
-        Warning::Offset(number) => add_numbered(
-            chunk,
-            b"tool ",
-            *number,
-            b" has an offset of more than twice or less than half its length",
-        ),
+    match axis {
+        Axis::X => b"the travel on X is less than 10 mm",
+        Axis::Y => b"the travel on Y is less than 10 mm",
+        Axis::Z => b"the travel on Z is less than 10 mm",
     }
 }
 
-/// Adds a line with a fact.
-fn add_fact(chunk: &mut Chunk, told: &Fact, figure: &Figure)
-    requires { HasSpaceForLine chunk.old }
-    ensures { chunk.new ≡ chunk.old
-        ++ (fact_text told.now ++ figure_text figure.now ++ codes "\n") }
+#[tactic(auto, unfolding(crate::specs::Spelling::warning_text))]
+fn say_warning_text<W: Sink>(warning: &Warning, page: &mut Page, output: &mut W)
+    ensures { Says (W.written output.old) (W.written output.new)
+        (W.failures output.old) (W.failures output.new) page.old page.new
+        (warning_text warning.now) }
 {
-    chunk.add_text(fact(told));
-    add_figure(chunk, figure);
-    chunk.add_text(b"\n");
+    match warning {
+        Warning::Speed => say!(page, output; b"the greatest speed is not from 0.1 to 1000 mm/s"),
+        Warning::Acceleration =>
+            say!(page, output; b"the acceleration is not from 1 to 20000 mm/s^2"),
+        Warning::Arcs =>
+            say!(page, output; b"the acceleration on arcs is below 1 mm/s^2, so arcs crawl: raise `turn` to about 500000 times `change`"),
+        Warning::Travel(axis) => say!(page, output; Part::Text(short_travel(*axis))),
+        Warning::Origin(system) =>
+            say!(page, output; b"the origin of ", Part::Text(system_name(*system)), b" is outside the travel: no tool reaches it"),
+        Warning::Thin(number) =>
+            say!(page, output; b"fixture ", Part::Number(*number as u128), b" is thinner than 0.1 mm: its corners are in nanometres"),
+        Warning::OutOfReach(number) =>
+            say!(page, output; b"fixture ", Part::Number(*number as u128), b" is where no tool reaches"),
+        Warning::Short(number) =>
+            say!(page, output; Part::Tool(*number), b" is shorter than 1 mm: lengths are in nanometres"),
+        Warning::Offset(number) =>
+            say!(page, output; Part::Tool(*number), b" has an offset of more than twice or less than half its length"),
+    }
 }
 
-fn add_warned(chunk: &mut Chunk, warning: &Warning)
-    requires { HasSpaceForLine chunk.old }
-    ensures { chunk.new ≡ chunk.old
-        ++ (codes "warning: " ++ warning_text warning.now ++ codes "\n") }
+/// Says a warning between two texts.
+fn say_warning<W: Sink>(
+    before: &[u8],
+    told: &Warning,
+    afterwards: &[u8],
+    page: &mut Page,
+    output: &mut W,
+)
+    ensures { Says (W.written output.old) (W.written output.new)
+        (W.failures output.old) (W.failures output.new) page.old page.new
+        (before.now ++ warning_text told.now ++ afterwards.now) }
 {
-    chunk.add_text(b"warning: ");
-    add_warning(chunk, warning);
-    chunk.add_text(b"\n");
+    say!(page, output; Part::Text(before));
+    say_warning_text(told, page, output);
+    say!(page, output; Part::Text(afterwards));
 }
 
-fn add_warning_object(chunk: &mut Chunk, warning: &Warning)
-    requires { HasSpaceForLine chunk.old }
-    ensures { chunk.new ≡ chunk.old ++ warning_object warning.now }
-{
-    chunk.add_text(b",\n{\"fact\":\"warning\",\"text\":\"");
-    add_warning(chunk, warning);
-    chunk.add_text(b"\"}");
-}
-
-fn add_warning_remark(chunk: &mut Chunk, warning: &Warning)
-    requires { HasSpaceForLine chunk.old }
-    ensures { chunk.new ≡ chunk.old ++ warning_remark warning.now }
-{
-    chunk.add_text(b"# Warning: ");
-    add_warning(chunk, warning);
-    chunk.add_text(b"\n");
-}
-
-/// Adds a name after a number, if there is one.
-fn add_bracketed(chunk: &mut Chunk, name: &Name)
-    requires { length chunk.old + 60 ≤ CHUNK_SIZE }
-    ensures text { chunk.new ≡ chunk.old ++ bracketed name.now }
-    ensures short { length chunk.new ≤ length chunk.old + 60 }
+/// Says a name after a number, if there is one.
+fn say_bracketed<W: Sink>(name: &Name, page: &mut Page, output: &mut W)
+    ensures { Says (W.written output.old) (W.written output.new)
+        (W.failures output.old) (W.failures output.new) page.old page.new (bracketed name.now) }
 {
     let name = name.as_bytes();
     if !name.is_empty() {
-        chunk.add_text(b" (");
-        chunk.add_text(name);
-        chunk.add_text(b")");
+        say!(page, output; b" (", Part::Text(name), b")");
     }
 }
 
-/// Adds the heading of a fixture or a tool.
-fn add_heading<I: Integer>(chunk: &mut Chunk, kind: &[u8], number: I, name: &Name)
-    requires room { HasSpaceForLine chunk.old }
-    requires kind { length kind.now ≤ 20 }
-    ensures { chunk.new ≡ chunk.old
-        ++ (kind.now ++ I.text number ++ bracketed name.now ++ codes "\n") }
+/// Says the heading of a fixture or a tool.
+fn say_heading<W: Sink>(kind: &[u8], number: u128, name: &Name, page: &mut Page, output: &mut W)
+    ensures { Says (W.written output.old) (W.written output.new)
+        (W.failures output.old) (W.failures output.new) page.old page.new
+        (kind.now ++ decimal number ++ bracketed name.now ++ codes "\n") }
 {
-    chunk.add_text(kind);
-    chunk.add_number(number);
-    add_bracketed(chunk, name);
-    chunk.add_text(b"\n");
+    say!(page, output; Part::Text(kind), Part::Number(number));
+    say_bracketed(name, page, output);
+    say!(page, output; b"\n");
 }
 
-/// Adds the text of a line.
-pub(crate) fn add_line(chunk: &mut Chunk, line: &Line)
-    requires { HasSpaceForLine chunk.old }
-    ensures { chunk.new ≡ chunk.old ++ line_text line.now }
+/// Says a line.
+pub(crate) fn say_line<W: Sink>(line: &Line, page: &mut Page, output: &mut W)
+    ensures { Says (W.written output.old) (W.written output.new)
+        (W.failures output.old) (W.failures output.new) page.old page.new (line_text line.now) }
 {
     match line {
-        Line::Machine => chunk.add_text(b"machine\n"),
-        Line::Fixture(number, name) => add_heading(chunk, b"fixture ", *number, name),
-        Line::Tool(number, name) => add_heading(chunk, b"tool ", *number, name),
-        Line::Fact(fact, figure) => add_fact(chunk, fact, figure),
-        Line::Warning(warning) => add_warned(chunk, warning),
-        Line::WarningFact(warning) => add_warning_object(chunk, warning),
-        Line::WarningRemark(warning) => add_warning_remark(chunk, warning),
+        Line::Machine => say!(page, output; b"machine\n"),
+        Line::Fixture(number, name) => {
+            say_heading(b"fixture ", *number as u128, name, page, output)
+        }
+        Line::Tool(number, name) => {
+            say_heading(b"tool ", u128::from(*number), name, page, output)
+        }
+        Line::Fact(told, figure) => {
+            say!(page, output; Part::Text(fact(told)));
+            say_figure(figure, page, output);
+            say!(page, output; b"\n");
+        }
+        Line::Warning(told) => say_warning(b"warning: ", told, b"\n", page, output),
+        Line::WarningFact(told) => say_warning(
+            b",\n{\"fact\":\"warning\",\"text\":\"",
+            told,
+            b"\"}",
+            page,
+            output,
+        ),
+        Line::WarningRemark(told) => say_warning(b"# Warning: ", told, b"\n", page, output),
     }
 }

@@ -1,86 +1,70 @@
 //! The warnings of a sheet on their own.
-ghost use Rattle.std.specs.Prelude.{◌≡◌, ◌++◌, flat_map, OnOk, OnErr};
+ghost use Rattle.std.specs.Prelude.{◌≡◌, flat_map, OnOk, OnErr};
 ghost use Rattle.std.specs.Io.KnownBytes.{Appends};
 ghost use Rattle.ngc_text.specs.Failures.{CountsFailure};
 ghost use Rattle.ngc_text.specs.Written.{AppendsPrefix};
 ghost use Rattle.ngc_machine_files.specs.Machine.{file_of};
+ghost use Rattle.ngc_sentences.specs.Saying.{Says};
 ghost use Rattle.ngc_setup_sheet.specs.Reaches.{IsReach};
 ghost use Rattle.ngc_setup_sheet.specs.Sheets.{fixtures_from, tool_lines, sheet, warnings_text};
 ghost use Rattle.ngc_setup_sheet.specs.Sheets.{warning_facts, warning_remarks};
-ghost use Rattle.ngc_setup_sheet.specs.Writes.{Writes, chosen};
+ghost use Rattle.ngc_setup_sheet.specs.Spelling.{lines_text};
+ghost use Rattle.ngc_setup_sheet.specs.Writes.{chosen};
 
 use crate::lines::{fixture_lines, machine_lines, tool_lines};
 use crate::reach::Reach;
-use crate::writer::{Style, write_warning_lines};
+use crate::writer::{Style, say_warning_lines};
 use ngc_machine_files::{Machine, Tool};
-use ngc_text::{Chunk, Sink, WriteFault};
+use ngc_sentences::Page;
+use ngc_text::{Sink, WriteFault};
 use std::alloc::Allocator;
 
 fn warn_of_fixtures<A: Allocator, W: Sink>(
-    chunk: &mut Chunk,
     style: Style,
     machine: &Machine<A>,
     reach: &Reach,
-    sink: &mut W,
-) -> Result<(), WriteFault>
+    page: &mut Page,
+    output: &mut W,
+)
     requires { IsReach reach.now }
-    ensures written { Writes (W.written sink.old) (W.written sink.new) chunk.old chunk.new result
-        (chosen style
-        (fixtures_from (file_of machine.now) reach.now 0 (file_of machine.now).fixtures)) }
-    ensures counts { CountsFailure (W.failures sink.old) (W.failures sink.new) result }
+    ensures { Says (W.written output.old) (W.written output.new)
+        (W.failures output.old) (W.failures output.new) page.old page.new
+        (lines_text (chosen style
+        (fixtures_from (file_of machine.now) reach.now 0 (file_of machine.now).fixtures))) }
 {
     for (i, fixture) in machine.fixtures.as_slice().iter().enumerate() {
         let lines = fixture_lines(machine, reach, i, fixture);
-        match write_warning_lines(chunk, style, lines.as_slice(), sink) {
-            Ok(()) => {}
-            Err(fault) => return Err(fault),
-        }
+        say_warning_lines(style, lines.as_slice(), page, output);
     }
-    Ok(())
 }
 
-fn warn_of_tools<W: Sink>(
-    chunk: &mut Chunk,
-    style: Style,
-    tools: &[Tool],
-    sink: &mut W,
-) -> Result<(), WriteFault>
-    ensures written { Writes (W.written sink.old) (W.written sink.new) chunk.old chunk.new result
-        (chosen style (flat_map tool_lines tools.now)) }
-    ensures counts { CountsFailure (W.failures sink.old) (W.failures sink.new) result }
+fn warn_of_tools<W: Sink>(style: Style, tools: &[Tool], page: &mut Page, output: &mut W)
+    ensures { Says (W.written output.old) (W.written output.new)
+        (W.failures output.old) (W.failures output.new) page.old page.new
+        (lines_text (chosen style (flat_map tool_lines tools.now))) }
 {
     for tool in tools {
         let lines = tool_lines(tool);
-        match write_warning_lines(chunk, style, lines.as_slice(), sink) {
-            Ok(()) => {}
-            Err(fault) => return Err(fault),
-        }
+        say_warning_lines(style, lines.as_slice(), page, output);
     }
-    Ok(())
 }
 
 fn warn_of_all<A: Allocator, W: Sink>(
-    chunk: &mut Chunk,
     style: Style,
     machine: &Machine<A>,
     tools: &[Tool],
-    sink: &mut W,
-) -> Result<(), WriteFault>
-    ensures written { Writes (W.written sink.old) (W.written sink.new) chunk.old chunk.new result
-        (chosen style (sheet (file_of machine.now) tools.now)) }
-    ensures counts { CountsFailure (W.failures sink.old) (W.failures sink.new) result }
+    page: &mut Page,
+    output: &mut W,
+)
+    ensures { Says (W.written output.old) (W.written output.new)
+        (W.failures output.old) (W.failures output.new) page.old page.new
+        (lines_text (chosen style (sheet (file_of machine.now) tools.now))) }
 {
     let reach = Reach::of(tools);
     let lines = machine_lines(machine, &reach);
-    match write_warning_lines(chunk, style, lines.as_slice(), sink) {
-        Ok(()) => {}
-        Err(fault) => return Err(fault),
-    }
-    match warn_of_fixtures(chunk, style, machine, &reach, sink) {
-        Ok(()) => {}
-        Err(fault) => return Err(fault),
-    }
-    warn_of_tools(chunk, style, tools, sink)
+    say_warning_lines(style, lines.as_slice(), page, output);
+    warn_of_fixtures(style, machine, &reach, page, output);
+    warn_of_tools(style, tools, page, output);
 }
 
 /// Writes only the warnings of the setup sheet of a machine and its tools, in the sheet's order.
@@ -101,11 +85,9 @@ pub fn write_warnings<A: Allocator, W: Sink>(
         (warnings_text (file_of machine.now) tools.now)) }
     ensures counts { CountsFailure (W.failures sink.old) (W.failures sink.new) result }
 {
-    let mut chunk = Chunk::new();
-    match warn_of_all(&mut chunk, Style::Lines, machine, tools, sink) {
-        Ok(()) => chunk.write_out(sink),
-        Err(fault) => Err(fault),
-    }
+    let mut page = Page::new();
+    warn_of_all(Style::Lines, machine, tools, &mut page, sink);
+    page.finish(sink)
 }
 
 /// Writes the warnings that `write_warnings` writes, in its order, each as an object of a JSON
@@ -127,11 +109,9 @@ pub fn write_warning_facts<A: Allocator, W: Sink>(
         (warning_facts (file_of machine.now) tools.now)) }
     ensures counts { CountsFailure (W.failures sink.old) (W.failures sink.new) result }
 {
-    let mut chunk = Chunk::new();
-    match warn_of_all(&mut chunk, Style::Facts, machine, tools, sink) {
-        Ok(()) => chunk.write_out(sink),
-        Err(fault) => Err(fault),
-    }
+    let mut page = Page::new();
+    warn_of_all(Style::Facts, machine, tools, &mut page, sink);
+    page.finish(sink)
 }
 
 /// Writes the warnings that `write_warnings` writes, in its order, each as a comment of a TOML
@@ -153,9 +133,7 @@ pub fn write_warning_remarks<A: Allocator, W: Sink>(
         (warning_remarks (file_of machine.now) tools.now)) }
     ensures counts { CountsFailure (W.failures sink.old) (W.failures sink.new) result }
 {
-    let mut chunk = Chunk::new();
-    match warn_of_all(&mut chunk, Style::Remarks, machine, tools, sink) {
-        Ok(()) => chunk.write_out(sink),
-        Err(fault) => Err(fault),
-    }
+    let mut page = Page::new();
+    warn_of_all(Style::Remarks, machine, tools, &mut page, sink);
+    page.finish(sink)
 }

@@ -1,15 +1,14 @@
-//! How lines are written.
+//! Which lines are said, and in which style.
 ghost use Rattle.std.specs.Prelude.{◌≡◌, ◌∷◌, []};
-ghost use Rattle.ngc_text.specs.Failures.{CountsFailure};
-ghost use Rattle.ngc_text.specs.Collected.{HasSpaceForLine};
-ghost use Rattle.ngc_certificate_text.specs.Collects.{Collects};
+ghost use Rattle.ngc_sentences.specs.Saying.{Says};
 ghost use Rattle.ngc_setup_sheet.specs.Sheets.{is_warning, as_fact, as_remark};
-ghost use Rattle.ngc_setup_sheet.specs.Spelling.{line_text};
-ghost use Rattle.ngc_setup_sheet.specs.Writes.{Writes, styled, chosen};
+ghost use Rattle.ngc_setup_sheet.specs.Spelling.{lines_text};
+ghost use Rattle.ngc_setup_sheet.specs.Writes.{styled, chosen};
 
 use crate::line::Line;
-use crate::spelling::add_line;
-use ngc_text::{Chunk, Sink, WriteFault};
+use crate::spelling::say_line;
+use ngc_sentences::Page;
+use ngc_text::Sink;
 
 /// The style of warnings.
 #[derive(Clone, Copy)]
@@ -22,36 +21,14 @@ pub(crate) enum Style {
     Remarks,
 }
 
-fn write_line<W: Sink>(chunk: &mut Chunk, line: &Line, sink: &mut W) -> Result<(), WriteFault>
-    ensures text { Collects (W.written sink.old) (W.written sink.new) chunk.old chunk.new result
-        (line_text line.now) }
-    ensures counts { CountsFailure (W.failures sink.old) (W.failures sink.new) result }
-{
-    match chunk.make_space(sink) {
-        Ok(()) => {}
-        Err(fault) => return Err(fault),
-    }
-    add_line(chunk, line);
-    Ok(())
-}
-
-/// Writes lines in order.
-pub(crate) fn write_lines<W: Sink>(
-    chunk: &mut Chunk,
-    lines: &[Line],
-    sink: &mut W,
-) -> Result<(), WriteFault>
-    ensures written { Writes (W.written sink.old)
-        (W.written sink.new) chunk.old chunk.new result lines.now }
-    ensures counts { CountsFailure (W.failures sink.old) (W.failures sink.new) result }
+/// Says lines in order.
+pub(crate) fn say_lines<W: Sink>(lines: &[Line], page: &mut Page, output: &mut W)
+    ensures { Says (W.written output.old) (W.written output.new)
+        (W.failures output.old) (W.failures output.new) page.old page.new (lines_text lines.now) }
 {
     for line in lines {
-        match write_line(chunk, line, sink) {
-            Ok(()) => {}
-            Err(fault) => return Err(fault),
-        }
+        say_line(line, page, output);
     }
-    Ok(())
 }
 
 fn is_warning(line: &Line) -> bool
@@ -106,39 +83,28 @@ fn styled(style: Style, line: &Line) -> Line
     }
 }
 
-fn write_if_warning<W: Sink>(
-    chunk: &mut Chunk,
-    style: Style,
-    line: &Line,
-    sink: &mut W,
-) -> Result<(), WriteFault>
-    ensures written { Writes (W.written sink.old) (W.written sink.new) chunk.old chunk.new result
-        (chosen style (line.now ∷ [])) }
-    ensures counts { CountsFailure (W.failures sink.old) (W.failures sink.new) result }
+fn say_if_warning<W: Sink>(style: Style, line: &Line, page: &mut Page, output: &mut W)
+    ensures { Says (W.written output.old) (W.written output.new)
+        (W.failures output.old) (W.failures output.new) page.old page.new
+        (lines_text (chosen style (line.now ∷ []))) }
 {
     if is_warning(line) {
-        write_line(chunk, &styled(style, line), sink)
-    } else {
-        Ok(())
+        say_line(&styled(style, line), page, output);
     }
 }
 
-/// Writes the warnings among the lines in order, in a style.
-pub(crate) fn write_warning_lines<W: Sink>(
-    chunk: &mut Chunk,
+/// Says the warnings among the lines in order, in a style.
+pub(crate) fn say_warning_lines<W: Sink>(
     style: Style,
     lines: &[Line],
-    sink: &mut W,
-) -> Result<(), WriteFault>
-    ensures written { Writes (W.written sink.old) (W.written sink.new) chunk.old chunk.new result
-        (chosen style lines.now) }
-    ensures counts { CountsFailure (W.failures sink.old) (W.failures sink.new) result }
+    page: &mut Page,
+    output: &mut W,
+)
+    ensures { Says (W.written output.old) (W.written output.new)
+        (W.failures output.old) (W.failures output.new) page.old page.new
+        (lines_text (chosen style lines.now)) }
 {
     for line in lines {
-        match write_if_warning(chunk, style, line, sink) {
-            Ok(()) => {}
-            Err(fault) => return Err(fault),
-        }
+        say_if_warning(style, line, page, output);
     }
-    Ok(())
 }

@@ -1,10 +1,7 @@
-use Rattle.ngc_machine_files.specs.Machine.{file_of}
-use Rattle.ngc_setup_sheet.specs.Sheets.{sheet_text}
-use Rattle.ngc_setup_sheet.proofs.SheetPrefix.{part_out}
+use Rattle.ngc_sentences.proofs.Said.{whole, IsWritten}
 use Rattle.ngc_setup_sheet.proofs.sheet.write_sheet.Goals as goal
 
-pub returns-in-Ok-clause-fault : goal.returns-in-Ok-clause-fault
-returns-in-Ok-clause-fault g c =
-    part_out c.write_out.result (g.W.Sink.written c.args.sink.now) (g.W.Sink.written c.write_all.new.sink) (g.W.Sink.written c.write_out.new.sink)
-    (sheet_text (file_of c.args.machine.now) c.args.tools.now) c.write_all.new.chunk
-    (rw c.new-chunk.ensures at c.in-Ok.ensures.written) c.write_out.ensures.fault
+pub returns : goal.returns
+returns g c =
+    let all = whole c.new-page.ensures c.say_all.ensures c.finish.ensures in
+    record { ok = all.ok; fault = all.fault; counts = all.counts }

@@ -45,6 +45,7 @@ returns c =
       turn,
       ring,
       c.has_arc_feed.ensures,
+      c.has_changer.ensures,
       c.place.ensures,
       c.place-2.ensures,
       c.place-3.ensures,

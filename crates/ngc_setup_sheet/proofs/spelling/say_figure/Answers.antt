@@ -1,0 +1,8 @@
+use Rattle.ngc_sentences.proofs.Said.{then, says_as}
+use Rattle.ngc_setup_sheet.specs.Spelling.{figure_text}
+use Rattle.ngc_setup_sheet.proofs.spelling.say_figure.Goals as goal
+
+pub returns-in-Part : goal.returns-in-Part
+unfolding figure_text
+returns-in-Part g c =
+    rw c.in-Part.is (then (then (says_as c.say-in-Part.ensures c.span-in-Part.ensures) c.say-in-Part-2.ensures) c.say_length-in-Part.ensures)
