@@ -1,5 +1,5 @@
 -- Texts that a page says in order.
-use Rattle.std.proofs.Common.{◌≡◌, ◌+◌, ◌<◌, ℕ, List, [], ◌∷◌, ◌++◌, length, get_or, take, drop, flat_map, Option, Result, Ok, Err, Bool, true, false, ◌≤◌}
+use Rattle.std.proofs.Common.{◌≡◌, ◌+◌, ◌<◌, ℕ, List, [], ◌∷◌, ◌++◌, length, get_or, take, flat_map, Option, Result, Ok, Err, Bool, true, false, ◌≤◌}
 use Rattle.std.proofs.Common.{OnOk, OnErr, ap, sym, subst, refl, ◌∙◌}
 use Rattle.std.proofs.KnownBytes.{Appends-nil}
 use Rattle.std.proofs.lemmas.List.{append_assoc, append-nil, flat_map_more, take_more, take_all}

@@ -1,8 +1,6 @@
-ghost use Rattle.std.specs.Prelude.{◌≡◌, ◌+◌, ◌≤◌, ◌++◌, false, flat_map, length, OnOk, OnErr};
-ghost use Rattle.std.specs.Io.KnownBytes.{Appends};
+ghost use Rattle.std.specs.Prelude.{◌≡◌, ◌+◌, ◌++◌, false, flat_map};
 ghost use Rattle.ngc_text.specs.Failures.{CountsFailure};
-ghost use Rattle.ngc_text.specs.Written.{AppendsPrefix};
-ghost use Rattle.ngc_text.specs.Collected.{CHUNK_SIZE, HasSpaceForLine};
+ghost use Rattle.ngc_text.specs.Collected.{HasSpaceForLine};
 ghost use Rattle.ngc_sentences.specs.Parts.{part_text, parts_text, is_text};
 ghost use Rattle.ngc_sentences.specs.Saying.{Collects, Says, IsFresh, Finishes};
 

@@ -1,6 +1,5 @@
 //! How mistakes are written.
 ghost use Rattle.std.specs.Prelude.{◌≡◌, ◌+◌, ◌≤◌, ◌++◌, codes, length};
-ghost use Rattle.ngc_machine_files.specs.Faults.{number_of};
 ghost use Rattle.ngc_text.specs.Collected.{CHUNK_SIZE};
 ghost use Rattle.ngc_setup_sheet.specs.Keys.{key_text};
 ghost use Rattle.ngc_setup_sheet.specs.MistakeTexts.{requested_text, known_text, section_text};

@@ -1,8 +1,8 @@
 //! The reach of the tools of a table.
-ghost use Rattle.std.specs.Prelude.{◌≡◌, ◌≤◌, ◌+◌, ◌+ℤ◌, ◌-ℤ◌, ◌||◌, unsigned_abs, int_le};
+ghost use Rattle.std.specs.Prelude.{◌≡◌, ◌≤◌, ◌+◌, ◌+ℤ◌, ◌-ℤ◌, ◌||◌, unsigned_abs};
 ghost use Rattle.std.specs.Int.{int_min, int_max};
 ghost use Rattle.ngc_machine_files.specs.Machine.{file_of};
-ghost use Rattle.ngc_setup_sheet.specs.Reaches.{IsReach, top_of, widest, nothing, with_tool};
+ghost use Rattle.ngc_setup_sheet.specs.Reaches.{IsReach, top_of, widest, with_tool};
 ghost use Rattle.ngc_setup_sheet.specs.Reaches.{reach_of, is_beyond, is_out_of_reach, is_outside};
 ghost use Rattle.ngc_setup_sheet.specs.Reaches.{is_outside_travel};
 

@@ -1,5 +1,5 @@
 //! The warnings of a sheet on their own.
-ghost use Rattle.std.specs.Prelude.{◌≡◌, flat_map, OnOk, OnErr};
+ghost use Rattle.std.specs.Prelude.{flat_map, OnOk, OnErr};
 ghost use Rattle.std.specs.Io.KnownBytes.{Appends};
 ghost use Rattle.ngc_text.specs.Failures.{CountsFailure};
 ghost use Rattle.ngc_text.specs.Written.{AppendsPrefix};

@@ -1,5 +1,4 @@
 use Rattle.ngc_sentences.proofs.Said.{then, says_as}
-use Rattle.ngc_setup_sheet.specs.Spelling.{line_text}
 use Rattle.ngc_setup_sheet.proofs.spelling.say_line.Goals as goal
 
 pub returns-in-Fact : goal.returns-in-Fact

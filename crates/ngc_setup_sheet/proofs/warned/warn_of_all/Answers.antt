@@ -1,4 +1,4 @@
-use Rattle.std.proofs.Common.{sym, ap, flat_map, ◌++◌, ◌∙◌}
+use Rattle.std.proofs.Common.{ap, flat_map}
 use Rattle.ngc_machine_files.specs.Machine.{file_of}
 use Rattle.ngc_sentences.proofs.Said.{then, says_as}
 use Rattle.ngc_setup_sheet.specs.Reaches.{reach_of}

@@ -1,4 +1,4 @@
-use Rattle.ngc_sentences.proofs.Said.{whole, IsWritten}
+use Rattle.ngc_sentences.proofs.Said.{whole}
 use Rattle.ngc_setup_sheet.proofs.warned.write_warnings.Goals as goal
 
 pub returns : goal.returns

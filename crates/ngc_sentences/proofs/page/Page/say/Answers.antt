@@ -1,7 +1,4 @@
 use Rattle.std.proofs.Common.{rules}
-use Rattle.std.specs.Prelude.{flat_map}
-use Rattle.ngc_sentences.specs.Parts.{part_text}
-use Rattle.ngc_sentences.specs.Saying.{Says}
 use Rattle.ngc_sentences.proofs.Said.{says_as, said_by, parts_flat}
 use Rattle.ngc_sentences.proofs.page.Page.say.Goals as goal
 
