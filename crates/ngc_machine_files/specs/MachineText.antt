@@ -12,6 +12,7 @@ use Rattle.ngc_machine_files.specs.declared.machine.Fixture.{Fixture}
 use Rattle.ngc_machine_files.specs.declared.machine_contents.Coordinates.{Coordinates}
 use Rattle.ngc_machine_files.specs.declared.machine_contents.Corners.{Corners}
 use Rattle.ngc_machine_files.specs.declared.machine_contents.MachineNumbers.{MachineNumbers}
+use Rattle.ngc_machine_files.specs.declared.machine_contents.OptionalNumbers.{OptionalNumbers}
 use Rattle.ngc_machine_files.specs.declared.machine_contents.MachinePoints.{MachinePoints}
 use Rattle.ngc_machine_files.specs.declared.machine_contents.MachineContents.{MachineContents}
 use Rattle.ngc_machine_files.specs.declared.fault.FileFault.{FileFault}
@@ -76,6 +77,14 @@ machine_axis_rates version tree =
     else Some (record { x = pos 1000000; y = pos 1000000; z = pos 1000000 })
 
 -- a missing jump, feed of arcs or tool changer is 0, and a missing ring is 16
+abbrev pub optional_numbers : Data → Option OptionalNumbers
+optional_numbers tree = do
+  jump ← whole_or (pos 0) (codes "jump") tree
+  ring ← whole_or (pos 16) (codes "ring") tree
+  arc_feed ← whole_or (pos 0) (codes "arc_feed") tree
+  changer ← whole_or (pos 0) (codes "changer") tree
+  Some (record { jump = jump; ring = ring; arc_feed = arc_feed; changer = changer })
+
 abbrev pub machine_numbers : Data → Option MachineNumbers
 machine_numbers tree = do
   version ← whole_at (codes "version") tree
@@ -85,10 +94,7 @@ machine_numbers tree = do
   change ← whole_at (codes "change") tree
   corner ← whole_at (codes "corner") tree
   turn ← whole_at (codes "turn") tree
-  jump ← whole_or (pos 0) (codes "jump") tree
-  ring ← whole_or (pos 16) (codes "ring") tree
-  arc_feed ← whole_or (pos 0) (codes "arc_feed") tree
-  changer ← whole_or (pos 0) (codes "changer") tree
+  optional ← optional_numbers tree
   Some (record {
     version = version;
     step = step;
@@ -97,10 +103,7 @@ machine_numbers tree = do
     change = change;
     corner = corner;
     turn = turn;
-    jump = jump;
-    ring = ring;
-    arc_feed = arc_feed;
-    changer = changer;
+    optional = optional;
   })
 
 abbrev pub machine_points : Data → Option MachinePoints
@@ -210,8 +213,8 @@ good_bounds m =
 
 abbrev pub good_rates : MachineValues → Bool
 good_rates m =
-    good_bounds m && good_jump m.numbers.jump && good_ring m.numbers.ring
-    && good_arc_feed m.numbers.arc_feed && good_changer m.numbers.changer
+    good_bounds m && good_jump m.numbers.optional.jump && good_ring m.numbers.optional.ring
+    && good_arc_feed m.numbers.optional.arc_feed && good_changer m.numbers.optional.changer
 
 abbrev pub good_travel : ℤ → MachinePoints → Bool
 good_travel step p =
@@ -270,11 +273,11 @@ machine_from m = record {
   axis_rates = axis_rates_of m.axis_rates;
   change = unsigned_abs m.numbers.change;
   corner = unsigned_abs m.numbers.corner;
-  jump = unsigned_abs m.numbers.jump;
+  jump = unsigned_abs m.numbers.optional.jump;
   turn = unsigned_abs m.numbers.turn;
-  ring = unsigned_abs m.numbers.ring;
-  arc_feed = has_arc_feed m.numbers.arc_feed;
-  changer = has_changer m.numbers.changer;
+  ring = unsigned_abs m.numbers.optional.ring;
+  arc_feed = has_arc_feed m.numbers.optional.arc_feed;
+  changer = has_changer m.numbers.optional.changer;
   low = place_of m.points.low;
   high = place_of m.points.high;
   start = place_of m.points.start;
@@ -296,11 +299,11 @@ pub record IsGood (m : MachineValues) : Type 0 where
   pub ticks_per_second : IsFrom (pos 1) (pos 1000000) m.numbers.ticks_per_second
   pub max_rate : IsFrom (pos 1) (pos 1000000) m.numbers.max_rate
   pub axis_rates : AreFrom (pos 1) (pos 1000000) m.axis_rates
-  pub jump : IsFrom (pos 0) (pos 1000000) m.numbers.jump
+  pub jump : IsFrom (pos 0) (pos 1000000) m.numbers.optional.jump
   pub change : IsFrom (pos 1) (pos 1000000) m.numbers.change
   pub corner : IsFrom (pos 1) (pos 1000000) m.numbers.corner
   pub turn : IsFrom (pos 1) (pos 1000000000000) m.numbers.turn
-  pub ring : IsFrom (pos 16) (pos 1024) m.numbers.ring
+  pub ring : IsFrom (pos 16) (pos 1024) m.numbers.optional.ring
   pub travel : IsTravel m.numbers.step (place_of m.points.low) (place_of m.points.high)
       (place_of m.points.start)
   pub home28 : IsSized PLACE_LIMIT (place_of m.points.home28)

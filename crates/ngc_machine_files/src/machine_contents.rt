@@ -3,8 +3,8 @@ ghost use Rattle.std.specs.Prelude.{option_map};
 ghost use Rattle.toml.specs.Data.{get};
 ghost use Rattle.toml.specs.View.{view, items_view};
 ghost use Rattle.ngc_machine_files.specs.Tree.{has_only};
-ghost use Rattle.ngc_machine_files.specs.MachineText.{values_of, machine_numbers, machine_points};
-ghost use Rattle.ngc_machine_files.specs.MachineText.{machine_origins, has_axis_rates};
+ghost use Rattle.ngc_machine_files.specs.MachineText.{values_of, optional_numbers, machine_numbers};
+ghost use Rattle.ngc_machine_files.specs.MachineText.{machine_points, machine_origins, has_axis_rates};
 ghost use Rattle.ngc_machine_files.specs.MachineText.{machine_axis_rates, corners, machine_keys};
 ghost use Rattle.ngc_machine_files.specs.MachineText.{machine_values, nine_coordinates, has_fixture_keys};
 
@@ -42,6 +42,12 @@ pub struct MachineNumbers {
     pub change: i64,
     pub corner: i64,
     pub turn: i64,
+    pub optional: OptionalNumbers,
+}
+
+/// The single numbers that may be missing, of any size.
+#[derive(Clone, Copy)]
+pub struct OptionalNumbers {
     pub jump: i64,
     pub ring: i64,
     pub arc_feed: i64,
@@ -93,6 +99,17 @@ impl Entry for Corners {
     }
 }
 
+fn optional_numbers(tree: &Value) -> Option<OptionalNumbers>
+    ensures { result ≡ optional_numbers (view tree.now) }
+{
+    Some(OptionalNumbers {
+        jump: whole_or(0, tree, "jump")?,
+        ring: whole_or(16, tree, "ring")?,
+        arc_feed: whole_or(0, tree, "arc_feed")?,
+        changer: whole_or(0, tree, "changer")?,
+    })
+}
+
 fn machine_numbers(tree: &Value) -> Option<MachineNumbers>
     ensures { result ≡ machine_numbers (view tree.now) }
 {
@@ -104,10 +121,7 @@ fn machine_numbers(tree: &Value) -> Option<MachineNumbers>
         change: whole_at(tree, "change")?,
         corner: whole_at(tree, "corner")?,
         turn: whole_at(tree, "turn")?,
-        jump: whole_or(0, tree, "jump")?,
-        ring: whole_or(16, tree, "ring")?,
-        arc_feed: whole_or(0, tree, "arc_feed")?,
-        changer: whole_or(0, tree, "changer")?,
+        optional: optional_numbers(tree)?,
     })
 }
 

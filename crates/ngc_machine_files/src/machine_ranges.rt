@@ -16,7 +16,7 @@ ghost use Rattle.ngc_machine_files.specs.MachineText.{axis_rates_of, fixture_of,
 use crate::fault::FileFault;
 use crate::machine::{AxisRates, Fixture, Machine};
 use crate::machine_contents::{
-    Coordinates, Corners, MachineContents, MachineNumbers, MachinePoints,
+    Coordinates, Corners, MachineContents, MachineNumbers, MachinePoints, OptionalNumbers,
 };
 use crate::name::name_from;
 use crate::numbers::{is_from_to, length};
@@ -114,10 +114,10 @@ fn are_rates_good(contents: &MachineContents) -> bool
     ensures { result ≡ good_rates (values_of contents.now) }
 {
     are_bounds_good(contents)
-        && is_from_to(0, 1_000_000, contents.numbers.jump)
-        && is_from_to(16, 1_024, contents.numbers.ring)
-        && is_from_to(0, 1, contents.numbers.arc_feed)
-        && is_from_to(0, 1, contents.numbers.changer)
+        && is_from_to(0, 1_000_000, contents.numbers.optional.jump)
+        && is_from_to(16, 1_024, contents.numbers.optional.ring)
+        && is_from_to(0, 1, contents.numbers.optional.arc_feed)
+        && is_from_to(0, 1, contents.numbers.optional.changer)
 }
 
 fn is_travel_good(numbers: &MachineNumbers, points: &MachinePoints) -> bool
@@ -202,14 +202,14 @@ fn ring(value: i64) -> u32
 }
 
 /// Returns whether arcs run at their feed at every point.
-fn has_arc_feed(numbers: &MachineNumbers) -> bool
+fn has_arc_feed(numbers: &OptionalNumbers) -> bool
     ensures { result ≡ has_arc_feed numbers.now.arc_feed }
 {
     numbers.arc_feed == 1
 }
 
 /// Returns whether the machine changes tools by itself.
-fn has_changer(numbers: &MachineNumbers) -> bool
+fn has_changer(numbers: &OptionalNumbers) -> bool
     ensures { result ≡ has_changer numbers.now.changer }
 {
     numbers.changer == 1
@@ -321,11 +321,11 @@ impl MachineContents {
             axis_rates: axis_rates(&self.axis_rates),
             change: rate(self.numbers.change),
             corner: rate(self.numbers.corner),
-            jump: jump(self.numbers.jump),
+            jump: jump(self.numbers.optional.jump),
             turn: arc_bound(self.numbers.turn),
-            ring: ring(self.numbers.ring),
-            arc_feed: has_arc_feed(&self.numbers),
-            changer: has_changer(&self.numbers),
+            ring: ring(self.numbers.optional.ring),
+            arc_feed: has_arc_feed(&self.numbers.optional),
+            changer: has_changer(&self.numbers.optional),
             low: place(&self.points.low),
             high: place(&self.points.high),
             start: place(&self.points.start),

@@ -30,9 +30,9 @@ returns c =
     let max_rate : c.rate-2.result ≡ unsigned_abs n.max_rate = omega (arith, ints, c.rate-2.ensures.value) in
     let change : c.rate-3.result ≡ unsigned_abs n.change = omega (arith, ints, c.rate-3.ensures.value) in
     let corner : c.rate-4.result ≡ unsigned_abs n.corner = omega (arith, ints, c.rate-4.ensures.value) in
-    let jump : c.jump.result ≡ unsigned_abs n.jump = omega (arith, ints, c.jump.ensures.value) in
+    let jump : c.jump.result ≡ unsigned_abs n.optional.jump = omega (arith, ints, c.jump.ensures.value) in
     let turn : c.arc_bound.result ≡ unsigned_abs n.turn = omega (arith, ints, c.arc_bound.ensures.value) in
-    let ring : c.ring.result ≡ unsigned_abs n.ring = omega (arith, ints, c.ring.ensures.value) in
+    let ring : c.ring.result ≡ unsigned_abs n.optional.ring = omega (arith, ints, c.ring.ensures.value) in
     let fixtures = c.in_ok-fixtures.ensures ∙ ap (map fixture_of) c.as_slice.ensures.value in
     rw (
       c.step_length.ensures,
