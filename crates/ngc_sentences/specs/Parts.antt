@@ -1,8 +1,9 @@
 -- The text of the parts of a sentence. Our own.
 use Rattle.std.specs.Prelude.{ℕ, ◌*◌, ◌/◌, ◌%◌, List, [], ◌∷◌, ◌++◌, codes, decimal, Bool, true, false}
+use Rattle.std.specs.Fmt.{signed_decimal}
 use Rattle.ngc_text.specs.Millimetres.{number_text, size_text, length_text, mm_text}
 use Rattle.ngc_sentences.specs.declared.part.Part.{Part}
-use Rattle.ngc_sentences.specs.declared.part.Part.TheVariants.{Text, Number, Size, Length, Millimetres}
+use Rattle.ngc_sentences.specs.declared.part.Part.TheVariants.{Text, Number, Signed, Size, Length, Millimetres}
 use Rattle.ngc_sentences.specs.declared.part.Part.TheVariants.{Thousandths, Tool, Clock, Seconds}
 
 -- a number below 100, and one below 1000
@@ -23,6 +24,7 @@ thousandths_text n = number_text (n / 1000) (1000 * (n % 1000))
 abbrev pub part_text : Part → List ℕ
 part_text (Text text) = text.now
 part_text (Number n) = decimal n
+part_text (Signed z) = signed_decimal z
 part_text (Size n) = size_text n
 part_text (Length z) = length_text z
 part_text (Millimetres z) = mm_text z

@@ -50,6 +50,7 @@ fn add_number(chunk: &mut Chunk, part: &Part)
     match part {
         Part::Text(_) => {}
         Part::Number(number) => chunk.add_number(*number),
+        Part::Signed(number) => chunk.add_number(*number),
         Part::Size(nanometres) => chunk.add_size(*nanometres),
         Part::Length(nanometres) => chunk.add_length(i128::from(*nanometres)),
         Part::Millimetres(nanometres) => chunk.add_millimetres(i128::from(*nanometres)),

@@ -5,6 +5,8 @@ pub enum Part<'a> {
     Text(&'a [u8]),
     /// A whole number, in decimal.
     Number(u128),
+    /// A whole number that may be below zero, in decimal: `-5`.
+    Signed(i64),
     /// A size in nanometres, as millimetres without the unit: `0.5`.
     Size(u128),
     /// A length in nanometres, as millimetres without the unit: `-0.5`.
