@@ -78,10 +78,11 @@ abbrev pub greatest_speed : MachineFile → Way → ℕ
 greatest_speed machine way =
     greatest_rate machine (reach machine.step way) * step_speed machine
 
--- a feed in nanometres per minute that is above it
+-- A feed in nanometres per minute that is above it. A speed is rounded down to a whole millionth in
+-- a machine file, so a feed below the speed of the next rate is not above it.
 abbrev pub is_fast : MachineFile → Way → Pace → Bool
 is_fast machine way (Feed (PerMinute feed)) =
-    nat_lt (60 * greatest_speed machine way) (1000000 * feed)
+    nat_le (60 * (greatest_speed machine way + step_speed machine)) (1000000 * feed)
 is_fast machine way _ = false
 
 -- ---- nearly a full circle

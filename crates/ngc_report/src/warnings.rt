@@ -135,7 +135,8 @@ fn is_fast<A: Allocator>(machine: &Machine<A>, way: &Way, pace: &Pace) -> bool
 {
     match pace {
         Pace::Feed(Feed::PerMinute(feed)) => {
-            60 * u128::from(greatest_speed(machine, way)) < 1_000_000 * u128::from(*feed)
+            let above = greatest_speed(machine, way) + step_speed(machine);
+            60 * u128::from(above) <= 1_000_000 * u128::from(*feed)
         }
         Pace::Feed(Feed::Inverse(_)) | Pace::Rapid => false,
     }
