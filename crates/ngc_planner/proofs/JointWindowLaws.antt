@@ -16,7 +16,7 @@ use Rattle.ngc_planner.proofs.BoundLaws.{actions_least}
 use Rattle.ngc_planner.proofs.JointLaws.{into, keeps_jump}
 use Rattle.ngc_planner.proofs.WindowLaws.{less_times, rate_law, difference_small, heading_is, passing_is}
 use Rattle.ngc_planner.specs.Headings.{IsHeading, difference_of, start_vector, end_vector, start_heading, end_heading}
-use Rattle.ngc_planner.specs.Window.{Passed, is_line, line_steps, passing_heading, goes_straight, steps_of, passed_with, passed_on, window}
+use Rattle.ngc_planner.specs.Window.{Passed, passing_heading, way_of, way_on, passed_with, passed_on, window}
 use Rattle.ngc_planner.specs.Joints.{rate_through, joint_by_headings, plain_joint, joint_of, MayHead, heading_rate, MayHeadFrom, rate_from_all, joint_by_window, joint_of_actions, KeepsTurn, IsBetween, KeepsJumpInWindow, IsGreatestOfWindow, KeepsTurnInWindow}
 
 -- ---- the two neighbours
@@ -63,24 +63,18 @@ keeps_jump_in_window m before k l v h = let less = most m before k l in keeps_ju
 abbrev AreHeadings : List Passed → Type 0
 AreHeadings ps = AllByRecursion (λ p. IsHeading p.heading) ps
 
-headings_with : (h : Option Point3) (straight : Bool) (way : ℕ) (ps : List Passed) → ((d : Point3) → h ≡ Some d → IsHeading d) → AreHeadings ps →
-    AreHeadings (passed_with h way (cond straight ps []))
-headings_with None straight way ps each afterwards = tt
-headings_with (Some d) true way ps each afterwards = (each d refl, afterwards)
-headings_with (Some d) false way ps each afterwards = (each d refl, tt)
+headings_with : (h : Option Point3) (way : ℕ) (ps : List Passed) → ((d : Point3) → h ≡ Some d → IsHeading d) → AreHeadings ps → AreHeadings (passed_with h way ps)
+headings_with None way ps each afterwards = tt
+headings_with (Some d) way ps each afterwards = (each d refl, afterwards)
 
 headings_on : (m : MachineFile) (way : ℕ) (cs : List Command) → AreHeadings (passed_on m way cs)
 headings_on m way [] = tt
 headings_on m way (c ∷ cs) =
-    headings_with (passing_heading m c.action) (goes_straight c.action) way (passed_on m (way + steps_of m c.action) cs) (λ d h. passing_is m c.action d h)
-    (headings_on m (way + steps_of m c.action) cs)
-
-unless_by : (line : Bool) (ps : List Passed) → AreHeadings ps → AreHeadings (cond line ps [])
-unless_by true ps h = h
-unless_by false ps h = tt
+    headings_with (passing_heading m c.action) way (passed_on m (way + way_on m c.action) cs) (λ d h. passing_is m c.action d h)
+    (headings_on m (way + way_on m c.action) cs)
 
 headings_of : (m : MachineFile) (d : Point3) (w : Way) (before : List Command) → IsHeading d → AreHeadings (window m d w before)
-headings_of m d w before first = (first, unless_by (is_line w) (passed_on m (line_steps m w) before) (headings_on m (line_steps m w) before))
+headings_of m d w before first = (first, headings_on m (way_of m w) before)
 
 all_out : (m : MachineFile) (e : Point3) (v : ℕ) (ps : List Passed) → IsHeading e → AreHeadings ps → v ≤ rate_from_all m e ps →
     (v ≤ MILLION) × AllByRecursion (MayHeadFrom m e v) ps
@@ -120,7 +114,7 @@ greatest_of_window m before w x d e v ends starts =
 
 -- ---- at a constant rate through the window
 
-one_axis : (jump turn n way v a : ℕ) → a ≤ n → MayHead jump turn n way v → v * (v * a) ≤ MILLION * (jump * v + turn * way)
+one_axis : (jump turn n way v a : ℕ) → a ≤ n → MayHead jump turn n way v → v * (v * a) ≤ MILLION * (jump * v) + turn * way
 one_axis jump turn n way v a less may = let p = mul-le (v * v) a (v * v) n (omega arith) less in omega (arith, p, may)
 
 turns_within : (m : MachineFile) (v : ℕ) (e : Point3) (p : Passed) → MayHeadFrom m e v p → KeepsTurn m v e p

@@ -22,6 +22,8 @@ pub mod JointLaws
 pub mod WindowLaws
 -- The joint over a window compared with that of the two neighbours, and its properties.
 pub mod JointWindowLaws
+-- Where a path is smooth, a window allows each rate that the machine's turn allows.
+pub mod SmoothLaws
 -- Joints over a window, by evaluating the definitions.
 pub mod WindowExamples
 -- The summary of the motions ahead: from load to load, and as motions leave.

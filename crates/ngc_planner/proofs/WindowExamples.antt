@@ -1,5 +1,5 @@
 -- Joints over a window, by evaluating the definitions.
-use Rattle.std.proofs.Common.{◌≡◌, ℕ, zero, suc, ◌+◌, pos, Bool, true, false, List, [], ◌∷◌, refl}
+use Rattle.std.proofs.Common.{◌≡◌, ℕ, zero, suc, ◌+◌, pos, negsuc, Bool, true, false, List, [], ◌∷◌, refl}
 use Rattle.ngc_fixed_length.specs.Roots.{whole_root}
 use Rattle.ngc_fixed_length.specs.declared.modes.Turn.TheVariants.{Counterclockwise}
 use Rattle.ngc_fixed_length.specs.declared.points.Point3.{Point3}
@@ -101,12 +101,27 @@ window_corner : joint_at (turning 1000000000) (straight (at (pos 0) (pos 0) (pos
 unfolding whole_root
 window_corner = refl
 
--- nothing before an arc counts: it ends along y, and the lines after it continue along y
+-- A quarter of a circle of 500 steps from x to y, and ten steps on: a million millionths over 510
+-- steps, and 236053^2 * 10^6 ≤ 10^6 * 20000 * 236053 + 10^8 * 510 * 10^6. The arc turns by a
+-- million, which is one radius; its chord is 500 steps too.
 window_arc : joint_at (turning 100000000) (command from_left false ∷ command (ways.Arc (bow Counterclockwise (pos 5000000))) false
     ∷ straight (at (pos 5000000) (pos 5000000) (pos 0)) (at (pos 5000000) (pos 5100000) (pos 0))
-    ∷ straight (at (pos 5000000) (pos 5100000) (pos 0)) (at (pos 5000000) (pos 9000000) (pos 0)) ∷ []) 2 ≡ 1000000
+    ∷ straight (at (pos 5000000) (pos 5100000) (pos 0)) (at (pos 5000000) (pos 9000000) (pos 0)) ∷ []) 2 ≡ 236053
 unfolding whole_root
 window_arc = refl
+
+-- at the end of the arc itself there are 500 steps
+window_quarter : joint_at (turning 100000000) (command from_left false ∷ command (ways.Arc (bow Counterclockwise (pos 5000000))) false
+    ∷ straight (at (pos 5000000) (pos 5000000) (pos 0)) (at (pos 5000000) (pos 5100000) (pos 0)) ∷ []) 1 ≡ 233830
+unfolding whole_root
+window_quarter = refl
+
+-- a line along y, a whole circle from x to x, and a line along x: the circle counts two radii
+window_circle : joint_at (turning 100000000) (straight (at (pos 0) (negsuc 999999) (pos 0)) (at (pos 0) (pos 0) (pos 0))
+    ∷ command (ways.Arc (record (bow Counterclockwise (pos 5000000)) { end = at (pos 0) (pos 0) (pos 0) })) false
+    ∷ straight (at (pos 0) (pos 0) (pos 0)) (at (pos 1000000) (pos 0) (pos 0)) ∷ []) 1 ≡ 326385
+unfolding whole_root
+window_circle = refl
 
 -- a line along x, and then steps along y: the window of 32 motions still includes the line, and the
 -- next one does not

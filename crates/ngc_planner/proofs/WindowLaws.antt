@@ -1,7 +1,8 @@
 -- The rates that a window allows: the greatest one, and when no earlier heading lowers it.
-use Rattle.std.proofs.Common.{◌≡◌, inl, inr, ℕ, zero, suc, ◌+◌, ◌-◌, ◌*◌, ◌^◌, ◌≤◌, ◌<◌, ◌↔◌, ◌==◌, nat_le, min, cond, ℤ, pos, ◌*ℤ◌, unsigned_abs, Bool, true, false, Option, Some, None, List, [], ◌∷◌, reverse, length, arith, refl, sym, subst, ap, ◌∙◌}
+use Rattle.std.proofs.Common.{◌≡◌, inl, inr, ℕ, zero, suc, ◌+◌, ◌-◌, ◌*◌, ◌/◌, ◌%◌, ◌^◌, ◌≤◌, ◌<◌, ◌↔◌, ◌==◌, nat_le, min, cond, ℤ, pos, ◌*ℤ◌, unsigned_abs, Bool, true, false, Option, Some, None, List, [], ◌∷◌, reverse, length, arith, refl, sym, subst, ap, ◌∙◌}
 use Rattle.std.proofs.lemmas.Bool.Decides.{nat_tests}
 use Rattle.std.proofs.lemmas.Bool.{cases_lt}
+use Rattle.std.proofs.lemmas.Grind.{div_ceil_times}
 use Rattle.std.proofs.lemmas.Int.{ints}
 use Rattle.std.specs.Prelude.{◌||◌}
 use Rattle.std.proofs.lemmas.Nat.{mul-le}
@@ -19,8 +20,8 @@ use Rattle.ngc_commands.specs.declared.command.Action.TheVariants.{Move}
 use Rattle.ngc_commands.specs.declared.command.Command.{Command}
 use Rattle.ngc_commands.specs.declared.movement.Way.{Way}
 use Rattle.ngc_planner.proofs.HeadingLaws.{heading_small}
-use Rattle.ngc_planner.specs.Headings.{IsHeading, greatest_size, in_millionths, heading_of, difference_of, end_vector}
-use Rattle.ngc_planner.specs.Window.{Passed, line_steps, is_line, is_still, passing_heading, goes_straight, steps_of, passed_with, passed_on, window}
+use Rattle.ngc_planner.specs.Headings.{IsHeading, greatest_size, in_millionths, heading_of, difference_of, difference_between, end_vector}
+use Rattle.ngc_planner.specs.Window.{Passed, is_still, passing_heading, way_of, way_on, passed_with, passed_on, window}
 use Rattle.ngc_planner.specs.Joints.{MayHead, may_head, greatest_root, heading_rate, rate_from_all}
 
 -- ---- the greatest root
@@ -112,9 +113,6 @@ root_bits n j t few over =
     let product = mul-le (4 * n) t 8000000 2000000000000000000 (omega (arith, few)) t_most in
     omega (arith, square, product)
 
-scaled : (jump turn way v : ℕ) → MILLION * (jump * v + turn * way) ≡ (MILLION * jump) * v + MILLION * (turn * way)
-scaled jump turn way v = omega arith
-
 -- the allowed rates extend from 0 up
 lower_by : (slow : Bool) (jump turn n way v w : ℕ) → slow ≡ nat_le (v * n) (MILLION * jump) → v ≤ w → MayHead jump turn n way w → MayHead jump turn n way v
 lower_by true jump turn n way v w test less h =
@@ -139,14 +137,14 @@ below_top : (v top most : ℕ) → v ≤ most → (top ≤ most → ⊥) → v �
 below_top v top most h over = elim (cases_lt most top) [ inl less ↦ omega (arith, h, less) | inr more ↦ absurd (over more) ]
 
 rate_by : (all : Bool) (jump turn n way v : ℕ) → all ≡ may_head jump turn n way MILLION → n ≤ 2000000 →
-    (v ≤ cond all MILLION (greatest_root n (MILLION * jump) (MILLION * (turn * way)))) ↔ ((v ≤ MILLION) × MayHead jump turn n way v)
+    (v ≤ cond all MILLION (greatest_root n (MILLION * jump) (turn * way))) ↔ ((v ≤ MILLION) × MayHead jump turn n way v)
 rate_by true jump turn n way v test few =
     let may : MayHead jump turn n way MILLION = grind (arith, nat_tests) in
     (λ h. (h, lower jump turn n way v MILLION h may), λ h. h.0)
 rate_by false jump turn n way v test few =
-    let over : MILLION * (jump * MILLION + turn * way) < MILLION * MILLION * n = grind (arith, nat_tests) in
+    let over : MILLION * (jump * MILLION) + turn * way < MILLION * MILLION * n = grind (arith, nat_tests) in
     let j = MILLION * jump in
-    let t = MILLION * (turn * way) in
+    let t = turn * way in
     let some : 1 ≤ n = omega (arith, over) in
     let bits = root_bits n j t few (omega (arith, over)) in
     let law = root_law n j t v some bits in
@@ -166,7 +164,7 @@ rate_law jump turn n way v few = rate_by (may_head jump turn n way MILLION) jump
 may_out : (jump turn n way v : ℕ) → may_head jump turn n way v ≡ true → MayHead jump turn n way v
 may_out jump turn n way v h = grind (arith, nat_tests)
 
-may_not_out : (jump turn n way v : ℕ) → may_head jump turn n way v ≡ false → MILLION * (jump * v + turn * way) < v * v * n
+may_not_out : (jump turn n way v : ℕ) → may_head jump turn n way v ≡ false → MILLION * (jump * v) + turn * way < v * v * n
 may_not_out jump turn n way v h = grind (arith, nat_tests)
 
 pub lowered_keeps : (jump turn n way v : ℕ) → n ≤ 2000000 → v ≤ MILLION → may_head jump turn n way v ≡ true → v ≡ min v (heading_rate jump turn n way)
@@ -179,7 +177,7 @@ root_where true r v small h = absurd (omega (arith, small, h))
 root_where false r v small h = omega (arith, h)
 
 pub lowered_to : (jump turn n way v : ℕ) → n ≤ 2000000 → v ≤ MILLION → may_head jump turn n way v ≡ false →
-    greatest_root n (MILLION * jump) (MILLION * (turn * way)) ≡ min v (heading_rate jump turn n way)
+    greatest_root n (MILLION * jump) (turn * way) ≡ min v (heading_rate jump turn n way)
 lowered_to jump turn n way v few small h =
     let over = may_not_out jump turn n way v h in
     let most = heading_rate jump turn n way in
@@ -187,7 +185,7 @@ lowered_to jump turn n way v few small h =
       | inl below ↦ below
       | inr more ↦ absurd (let may = ((rate_law jump turn n way v few).0 more).1 in omega (arith, may, over))
     ] in
-    root_where (may_head jump turn n way MILLION) (greatest_root n (MILLION * jump) (MILLION * (turn * way))) v small less
+    root_where (may_head jump turn n way MILLION) (greatest_root n (MILLION * jump) (turn * way)) v small less
 
 pub kept_small : (r v most : ℕ) → r ≡ min v most → v ≤ MILLION → r ≤ MILLION
 kept_small r v most e small = omega (arith, e)
@@ -237,6 +235,23 @@ pub passing_is : (m : MachineFile) (a : Action) (d : Point3) → passing_heading
 passing_is m (Move k) d h = passing_by (k.stop || is_still m k.way) (end_vector k.way) d h
 passing_is m _ d h = cc
 
+between_by : (s t : Option Point3) → ((d : Point3) → s ≡ Some d → IsHeading d) → ((d : Point3) → t ≡ Some d → IsHeading d) → difference_between s t ≤ 2000000
+between_by (Some d) (Some e) p q = difference_small d e (p d refl) (q e refl)
+between_by (Some d) None p q = omega arith
+between_by None t p q = omega arith
+
+pub between_small : (p q : Point3) → difference_between (heading_of p) (heading_of q) ≤ 2000000
+between_small p q = between_by (heading_of p) (heading_of q) (λ d h. heading_is p d h) (λ d h. heading_is q d h)
+
+-- n millionths of r nanometres in steps of g, rounded up
+pub round_small : (n r g q : ℕ) → n ≤ 2000000 → r ≤ 2000020000 → 500 ≤ g → g ≤ 50000 → q ≡ n * r / g + min 1 (n * r % g) → q ≤ 400000000000000
+round_small n r g q few near least greatest is =
+    let whole = mul-le n r 2000000 2000020000 few near in
+    let times = (div_ceil_times (n * r) g (omega (arith, least))).1 in
+    let some : q * 500 ≤ q * g = mul-le q 500 q g (omega arith) least in
+    let rounded : q * g < n * r + g = rw is times in
+    omega (arith, whole, some, rounded, greatest)
+
 -- ---- if two opposite headings may follow each other, any two may
 
 may_any : (jump turn n way w v : ℕ) → n ≤ 2000000 → way ≤ w → MayHead jump turn 2000000 way v → MayHead jump turn n w v
@@ -245,24 +260,20 @@ may_any jump turn n way w v few more h =
     let longer = mul-le turn way turn w (omega arith) more in
     omega (arith, h, less, longer)
 
-free_with : (h : Option Point3) (straight : Bool) (m : MachineFile) (e : Point3) (v way : ℕ) (ps : List Passed) → ((d : Point3) → h ≡ Some d → IsHeading d) → IsHeading e →
-    v ≤ MILLION → MayHead m.jump m.turn 2000000 way v → v ≤ rate_from_all m e ps → v ≤ rate_from_all m e (passed_with h way (cond straight ps []))
-free_with None straight m e v way ps each next small may afterwards = small
-free_with (Some d) true m e v way ps each next small may afterwards =
+free_with : (h : Option Point3) (m : MachineFile) (e : Point3) (v way : ℕ) (ps : List Passed) → ((d : Point3) → h ≡ Some d → IsHeading d) → IsHeading e →
+    v ≤ MILLION → MayHead m.jump m.turn 2000000 way v → v ≤ rate_from_all m e ps → v ≤ rate_from_all m e (passed_with h way ps)
+free_with None m e v way ps each next small may afterwards = small
+free_with (Some d) m e v way ps each next small may afterwards =
     let few = difference_small d e (each d refl) next in
     let here = (rate_law m.jump m.turn (difference_of d e) way v few).1 (small, may_any m.jump m.turn (difference_of d e) way way v few (omega arith) may) in
     omega (arith, here, afterwards)
-free_with (Some d) false m e v way ps each next small may afterwards =
-    let few = difference_small d e (each d refl) next in
-    let here = (rate_law m.jump m.turn (difference_of d e) way v few).1 (small, may_any m.jump m.turn (difference_of d e) way way v few (omega arith) may) in
-    omega (arith, here, small)
 
 free_on : (m : MachineFile) (e : Point3) (v way : ℕ) (cs : List Command) → IsHeading e → v ≤ MILLION → MayHead m.jump m.turn 2000000 way v →
     v ≤ rate_from_all m e (passed_on m way cs)
 free_on m e v way [] next small may = small
 free_on m e v way (c ∷ cs) next small may =
-    let on = way + steps_of m c.action in
-    free_with (passing_heading m c.action) (goes_straight c.action) m e v way (passed_on m on cs) (λ d h. passing_is m c.action d h) next small may
+    let on = way + way_on m c.action in
+    free_with (passing_heading m c.action) m e v way (passed_on m on cs) (λ d h. passing_is m c.action d h) next small may
     (free_on m e v on cs next small (may_any m.jump m.turn 2000000 way on v (omega arith) (omega arith) may))
 
 -- no heading that is passed on the rest lowers the rate
@@ -272,7 +283,7 @@ ends_free m e v way cs next small may =
     let free = free_on m e v way cs next small (may_out m.jump m.turn 2000000 way v may) in
     omega (arith, free)
 
--- ---- the window of a line
+-- ---- a window
 
 heading_rate_most : (jump turn n way : ℕ) → n ≤ 2000000 → heading_rate jump turn n way ≤ MILLION
 heading_rate_most jump turn n way few = ((rate_law jump turn n way (heading_rate jump turn n way) few).0 (omega arith)).0
@@ -280,20 +291,19 @@ heading_rate_most jump turn n way few = ((rate_law jump turn n way (heading_rate
 least_of_both : (r rate h x y : ℕ) → r ≡ min rate x → rate ≡ min MILLION h → h ≤ MILLION → y ≡ x → r ≡ min h y
 least_of_both r rate h x y p q s t = omega (arith, p, q, s, t)
 
-pub line_window : (m : MachineFile) (e d : Point3) (w : Way) (cs : List Command) (rate r steps : ℕ) → IsHeading d → IsHeading e → is_line w ≡ true →
-    steps ≡ line_steps m w → rate ≡ min MILLION (heading_rate m.jump m.turn (difference_of d e) 0) →
-    r ≡ min rate (rate_from_all m e (passed_on m steps cs)) → r ≡ rate_from_all m e (window m d w cs)
-line_window m e d w cs rate r steps passed next line length first all =
+pub whole_window : (m : MachineFile) (e d : Point3) (w : Way) (cs : List Command) (rate r way : ℕ) → IsHeading d → IsHeading e →
+    way ≡ way_of m w → rate ≡ min MILLION (heading_rate m.jump m.turn (difference_of d e) 0) →
+    r ≡ min rate (rate_from_all m e (passed_on m way cs)) → r ≡ rate_from_all m e (window m d w cs)
+whole_window m e d w cs rate r way passed next length first all =
     let most = heading_rate_most m.jump m.turn (difference_of d e) 0 (difference_small d e passed next) in
     let h = heading_rate m.jump m.turn (difference_of d e) 0 in
-    let afterwards : rate_from_all m e (cond (is_line w) (passed_on m (line_steps m w) cs) []) ≡ rate_from_all m e (passed_on m steps cs) =
-    ap (λ b. rate_from_all m e (cond b (passed_on m (line_steps m w) cs) [])) line ∙ ap (λ n. rate_from_all m e (passed_on m n cs)) (sym length) in
-    least_of_both r rate h (rate_from_all m e (passed_on m steps cs)) _ all first most afterwards
+    let afterwards : rate_from_all m e (passed_on m (way_of m w) cs) ≡ rate_from_all m e (passed_on m way cs) = ap (λ n. rate_from_all m e (passed_on m n cs)) (sym length) in
+    least_of_both r rate h (rate_from_all m e (passed_on m way cs)) _ all first most afterwards
 
--- ---- the walk back: from the rate v, where the last of cs ended way path steps ago, to the rate
--- r, where that of ds did
+-- ---- the walk back: from the rate v, where the last of cs ended way millionths of a path step ago,
+-- to the rate r, where that of ds did
 
 pub record IsAsFar (m : MachineFile) (e : Point3) (v way : ℕ) (cs : List Command) (r on : ℕ) (ds : List Command) : Type 0 where
   pub same : min v (rate_from_all m e (passed_on m way (reverse cs))) ≡ min r (rate_from_all m e (passed_on m on (reverse ds)))
   pub small : r ≤ MILLION
-  pub within : on + 400000000 * length ds ≤ 12800000000
+  pub within : on + 400000000000000 * length ds ≤ 12800000000000000

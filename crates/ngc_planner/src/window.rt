@@ -3,29 +3,32 @@ ghost use Rattle.std.specs.Prelude.{◌≡◌, ◌+◌, ◌*◌, ◌^◌, ◌≤
 ghost use Rattle.ngc_fixed_length.specs.Limits.{MILLION};
 ghost use Rattle.ngc_machine_files.specs.Machine.{file_of};
 ghost use Rattle.ngc_planner.specs.Headings.{IsHeading};
-ghost use Rattle.ngc_planner.specs.Window.{line_steps, is_line, is_still, passing_heading};
-ghost use Rattle.ngc_planner.specs.Window.{steps_of, goes_straight, passed_on, window};
+ghost use Rattle.ngc_planner.specs.Window.{line_steps, way_at_greatest, way_round, turn_way};
+ghost use Rattle.ngc_planner.specs.Window.{way_of, is_still};
+ghost use Rattle.ngc_planner.specs.Window.{passing_heading, way_on, passed_on, window};
 ghost use Rattle.ngc_planner.specs.Joints.{may_head, greatest_root, heading_rate, rate_from_all};
 
 use crate::displacement::Displacement;
-use crate::headings::end_heading;
+use crate::headings::{end_heading, turned_on};
+use ngc_arc_geometry::Arc;
 use ngc_commands::{Action, Command, Way};
-use ngc_fixed_length::root_floor;
+use ngc_fixed_length::{Point3, root_floor};
 use ngc_machine_files::Machine;
 use std::alloc::Allocator;
 
-/// Returns whether a rate may change its heading by `difference` millionths over `way` path steps.
+/// Returns whether a rate may change its heading by `difference` millionths over `way` millionths of
+/// a path step.
 fn may_head(jump: u32, turn: u64, difference: u64, way: u64, rate: u64) -> bool
     requires jump { jump ≤ MILLION }
     requires turn { turn ≤ 10 ^ 12 }
     requires difference { difference ≤ 2000000 }
-    requires way { way ≤ 12800000000 }
+    requires way { way ≤ 12800000000000000 }
     requires rate { rate ≤ MILLION }
     ensures { result ≡ may_head jump turn difference way rate }
 {
     let wanted = u128::from(rate * rate) * u128::from(difference);
-    let jumped = u128::from(jump) * u128::from(rate);
-    wanted <= 1_000_000 * (jumped + u128::from(turn) * u128::from(way))
+    let jumped = 1_000_000 * (u128::from(jump) * u128::from(rate));
+    wanted <= jumped + u128::from(turn) * u128::from(way)
 }
 
 /// Returns the greatest `v` with `v * v * n` at most `j * v + t`. The root is of a number below 2 *
@@ -42,12 +45,12 @@ fn greatest_root(n: u64, j: u128, t: u128) -> u64
 }
 
 /// Returns a rate, lowered to one that may change its heading by `difference` millionths over `way`
-/// path steps.
+/// millionths of a path step.
 fn lowered(rate: u64, jump: u32, turn: u64, difference: u64, way: u64) -> u64
     requires jump { jump ≤ MILLION }
     requires turn { turn ≤ 10 ^ 12 }
     requires difference { difference ≤ 2000000 }
-    requires way { way ≤ 12800000000 }
+    requires way { way ≤ 12800000000000000 }
     requires rate { rate ≤ MILLION }
     ensures value { result ≡ min rate (heading_rate jump turn difference way) }
     ensures greatest { result ≤ MILLION }
@@ -56,29 +59,72 @@ fn lowered(rate: u64, jump: u32, turn: u64, difference: u64, way: u64) -> u64
         rate
     } else {
         let jump = 1_000_000 * u128::from(jump);
-        let turn = 1_000_000 * (u128::from(turn) * u128::from(way));
+        let turn = u128::from(turn) * u128::from(way);
         greatest_root(difference, jump, turn)
     }
 }
 
-/// Returns the path steps of a line, and 0 for an arc.
-fn line_steps<A: Allocator>(way: &Way, machine: &Machine<A>) -> u64
-    ensures value { result ≡ line_steps (file_of machine.now) way.now }
+/// Returns the path steps of a line. An arc between the same points has no fewer.
+fn line_steps<A: Allocator>(start: &Point3, end: &Point3, machine: &Machine<A>) -> u64
+    ensures value { result ≡ line_steps (file_of machine.now) start.now end.now }
     ensures bound { result ≤ 400000000 }
 {
+    let from = start.to_grid(machine.step);
+    let to = end.to_grid(machine.step);
+    u64::from(from.greatest_distance(&to))
+}
+
+/// Returns the distance over which a machine's turn allows a turn by `turned` millionths at its
+/// greatest rate, in millionths of a path step, rounded up.
+fn way_at_greatest<A: Allocator>(machine: &Machine<A>, turned: u64) -> u64
+    requires { turned ≤ 2000000 }
+    ensures { result ≡ way_at_greatest (file_of machine.now) turned }
+{
+    let rate = u64::from(machine.max_rate);
+    (turned * (rate * rate)).div_ceil(machine.turn)
+}
+
+/// Returns the same at the greatest rate that it allows on an arc.
+fn way_round<A: Allocator>(machine: &Machine<A>, arc: &Arc, turned: u64) -> u64
+    requires { turned ≤ 2000000 }
+    ensures value { result ≡ way_round (file_of machine.now) arc.now turned }
+    ensures bound { result ≤ 400000000000000 }
+{
+    let step = machine.step.nanometres().unsigned_abs();
+    (turned * arc.inner_radius().max(step)).div_ceil(step)
+}
+
+/// Returns the distance that an arc's own turn needs, in millionths of a path step.
+fn turn_way<A: Allocator>(machine: &Machine<A>, arc: &Arc) -> u64
+    ensures value { result ≡ turn_way (file_of machine.now) arc.now }
+    ensures bound { result ≤ 400000000000000 }
+{
+    let turned = turned_on(arc);
+    way_round(machine, arc, turned).min(way_at_greatest(machine, turned))
+}
+
+/// Returns the distance that a motion counts, in millionths of a path step.
+fn way_of<A: Allocator>(way: &Way, machine: &Machine<A>) -> u64
+    ensures value { result ≡ way_of (file_of machine.now) way.now }
+    ensures bound { result ≤ 400000000000000 }
+{
     match way {
-        Way::Line { start, end } => {
-            let step = machine.step;
-            u64::from(start.to_grid(step).greatest_distance(&end.to_grid(step)))
+        Way::Line { start, end } => line_steps(start, end, machine) * 1_000_000,
+        Way::Arc(arc) => {
+            let steps = line_steps(&arc.start(), &arc.end(), machine);
+            (steps * 1_000_000).max(turn_way(machine, arc))
         }
-        Way::Arc(_) => 0,
     }
 }
 
-fn is_line(way: &Way) -> bool
-    ensures { result ≡ is_line way.now }
+/// Returns whether a path is a line without path steps.
+fn is_still<A: Allocator>(way: &Way, machine: &Machine<A>) -> bool
+    ensures { result ≡ is_still (file_of machine.now) way.now }
 {
-    matches!(way, Way::Line { .. })
+    match way {
+        Way::Line { start, end } => line_steps(start, end, machine) == 0,
+        Way::Arc(_) => false,
+    }
 }
 
 /// Returns the heading of an action at its end, if it is a motion with path steps that doesn't stop
@@ -86,38 +132,30 @@ fn is_line(way: &Way) -> bool
 fn passing_heading<A: Allocator>(action: &Action, machine: &Machine<A>) -> Option<Displacement>
     ensures { result ≡ passing_heading (file_of machine.now) action.now }
 {
-    let Action::Move(motion) = action else {
-        return None;
-    };
-    let still = is_line(&motion.way) && line_steps(&motion.way, machine) == 0;
-    if motion.stop || still {
-        None
-    } else {
-        end_heading(&motion.way)
+    match action {
+        Action::Move(motion) => {
+            if motion.stop || is_still(&motion.way, machine) {
+                None
+            } else {
+                end_heading(&motion.way)
+            }
+        }
+        _ => None,
     }
 }
 
-fn steps_of<A: Allocator>(action: &Action, machine: &Machine<A>) -> u64
-    ensures value { result ≡ steps_of (file_of machine.now) action.now }
-    ensures bound { result ≤ 400000000 }
+fn way_on<A: Allocator>(action: &Action, machine: &Machine<A>) -> u64
+    ensures value { result ≡ way_on (file_of machine.now) action.now }
+    ensures bound { result ≤ 400000000000000 }
 {
     match action {
-        Action::Move(motion) => line_steps(&motion.way, machine),
+        Action::Move(motion) => way_of(&motion.way, machine),
         _ => 0,
     }
 }
 
-fn goes_straight(action: &Action) -> bool
-    ensures { result ≡ goes_straight action.now }
-{
-    match action {
-        Action::Move(motion) => is_line(&motion.way),
-        _ => false,
-    }
-}
-
 /// Returns a rate, lowered to one that may change into a heading from each heading that was passed
-/// on these commands. The last command ended `way` path steps ago.
+/// on these commands. The last command ended `way` millionths of a path step ago.
 fn lowered_on<A: Allocator>(
     rate: u64,
     next: &Displacement,
@@ -127,7 +165,7 @@ fn lowered_on<A: Allocator>(
 ) -> u64
     requires rate { rate ≤ MILLION }
     requires next { IsHeading next.now }
-    requires way { way ≤ 400000000 }
+    requires way { way ≤ 400000000000000 }
     requires length { length commands.now ≤ 31 }
     ensures value { result ≡ min rate (rate_from_all (file_of machine.now) next.now
         (passed_on (file_of machine.now) way (reverse commands.now))) }
@@ -151,10 +189,7 @@ fn lowered_on<A: Allocator>(
             heading.difference(next),
             way,
         );
-        if !goes_straight(&command.action) {
-            return rate;
-        }
-        way += steps_of(&command.action, machine);
+        way += way_on(&command.action, machine);
         commands = before;
     }
     rate
@@ -178,9 +213,5 @@ pub(crate) fn window_rate<A: Allocator>(
 {
     let difference = heading.difference(next);
     let rate = lowered(1_000_000, machine.jump, machine.turn, difference, 0);
-    if is_line(way) {
-        lowered_on(rate, next, line_steps(way, machine), earlier, machine)
-    } else {
-        rate
-    }
+    lowered_on(rate, next, way_of(way, machine), earlier, machine)
 }

@@ -48,9 +48,6 @@ lowered-rate-requires-clause-way g c = omega (arith, c.loop-command.invariant.wi
 pub lowered-rate-requires-clause-rate : goal.lowered-rate-requires-clause-rate
 lowered-rate-requires-clause-rate g c = c.loop-command.invariant.small
 
-pub returns-then-not-goes_straight-clause-value : goal.returns-then-not-goes_straight-clause-value
-returns-then-not-goes_straight-clause-value g c = grind (arith, common_steps)
-
 pub overflow_add-way : goal.overflow_add-way
 overflow_add-way g c = omega arith
 
