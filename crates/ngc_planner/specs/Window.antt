@@ -33,7 +33,7 @@ line_steps machine b e = greatest_distance (grid machine.step b) (grid machine.s
 abbrev pub way_at_greatest : MachineFile → ℕ → ℕ
 way_at_greatest machine n = div_ceil (n * (machine.max_rate * machine.max_rate)) machine.turn
 
--- the same at the greatest rate that it allows on an arc: so many radii
+-- the same at the greatest rate that it allows on an arc: n millionths of the radius
 abbrev pub way_round : MachineFile → ArcShape → ℕ → ℕ
 way_round machine a n =
     div_ceil (n * max (inner_radius a) (unsigned_abs machine.step)) (unsigned_abs machine.step)
