@@ -1,0 +1,9 @@
+pub mod Numbers
+pub mod Comparisons
+pub mod SquareRoots
+pub mod Series
+pub mod Circles
+pub mod Tangents
+pub mod Arcs
+pub mod Growth
+pub mod Powers
