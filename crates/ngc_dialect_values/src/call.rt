@@ -109,7 +109,7 @@ fn answer_to_call(call: &str) -> Answer {
     }
 }
 
-/// Returns the answer to a line, which is a call, or a call and a number behind `nearly`: then it is 1
+/// Returns the answer to a line, which is a call, or a call and a number after `nearly`: then it is 1
 /// if the value is within 10^-15 of that number, as a part of its size.
 pub fn answer_to(line: &str) -> Answer {
     let Some(rest) = line.strip_prefix("nearly ") else {
