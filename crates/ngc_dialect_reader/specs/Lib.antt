@@ -1,0 +1,9 @@
+pub mod Faults
+pub mod Table
+pub mod Text
+pub mod Number
+pub mod Steps
+pub mod Value
+pub mod Item
+pub mod Flow
+pub mod Line
