@@ -1,7 +1,9 @@
-//! The text of a placement as JSON.
-ghost use Rattle.std.specs.Prelude.{◌≡◌, ◌+◌, ◌≤◌, ◌++◌, length};
+//! What is said of a placement, as JSON.
+ghost use Rattle.std.specs.Prelude.{◌≡◌, ◌*ℤ◌};
+ghost use Rattle.std.specs.Fmt.{signed_decimal};
 ghost use Rattle.ngc_fixed_length.specs.Length.{IsStep};
-ghost use Rattle.ngc_text.specs.Collected.{CHUNK_SIZE};
+ghost use Rattle.ngc_sentences.specs.Parts.{part_text, parts_text};
+ghost use Rattle.ngc_sentences.specs.Saying.{Says};
 ghost use Rattle.ngc_place_report.specs.Facts as spec;
 
 use crate::nearest::{Shift, shortest};
@@ -11,40 +13,38 @@ use crate::words::axis_text;
 use ngc_certificate_text::Setting;
 use ngc_fixed_length::{Nm, Point3, System, nanometres_at};
 use ngc_place::{Axis, Interval};
-use ngc_text::Chunk;
+use ngc_sentences::{Page, Part, say};
+use ngc_text::Sink;
 
 #[tactic(auto, unfolding(crate::specs::Facts::place_fact))]
-fn add_place(chunk: &mut Chunk, place: &Point3)
-    requires { length chunk.old + 150 ≤ CHUNK_SIZE }
-    ensures text { chunk.new ≡ chunk.old ++ spec.place_fact place.now }
-    ensures short { length chunk.new ≤ length chunk.old + 150 }
+fn place(place: &Point3) -> [Part<'static>; 7]
+    ensures { parts_text result ≡ spec.place_fact place.now }
 {
-    chunk.add_text(b"[");
-    chunk.add_number(place.x.nanometres());
-    chunk.add_text(b",");
-    chunk.add_number(place.y.nanometres());
-    chunk.add_text(b",");
-    chunk.add_number(place.z.nanometres());
-    chunk.add_text(b"]");
+    [
+        Part::Text(b"["),
+        Part::Signed(place.x.nanometres()),
+        Part::Text(b","),
+        Part::Signed(place.y.nanometres()),
+        Part::Text(b","),
+        Part::Signed(place.z.nanometres()),
+        Part::Text(b"]"),
+    ]
 }
 
 #[tactic(auto, unfolding(crate::specs::Facts::origin_fact))]
-fn add_origin(chunk: &mut Chunk, system: System, origin: &Point3)
-    requires { length chunk.old + 250 ≤ CHUNK_SIZE }
-    ensures text { chunk.new ≡ chunk.old ++ spec.origin_fact system origin.now }
-    ensures short { length chunk.new ≤ length chunk.old + 250 }
+fn say_origin<W: Sink>(system: System, origin: &Point3, page: &mut Page, output: &mut W)
+    ensures { Says (W.written output.old) (W.written output.new)
+        (W.failures output.old) (W.failures output.new) page.old page.new
+        (spec.origin_fact system origin.now) }
 {
-    chunk.add_text(b",\n{\"fact\":\"origin\",\"system\":\"");
-    chunk.add_text(code_text(system));
-    chunk.add_text(b"\",\"at\":");
-    add_place(chunk, origin);
-    chunk.add_text(b"}");
+    say!(page, output; b",\n{\"fact\":\"origin\",\"system\":\"", Part::Text(code_text(system)), b"\",\"at\":");
+    page.say(output, &place(origin));
+    say!(page, output; b"}");
 }
 
 #[tactic(auto, unfolding(crate::specs::Facts::setting_fact))]
 fn setting_fact(setting: Setting) -> &'static [u8]
-    ensures text { result.now ≡ spec.setting_fact setting }
-    ensures short { length result.now ≤ 5 }
+    ensures { result.now ≡ spec.setting_fact setting }
 {
     match setting {
         Setting::Off => b"false",
@@ -53,145 +53,137 @@ fn setting_fact(setting: Setting) -> &'static [u8]
 }
 
 #[tactic(auto, unfolding(crate::specs::Facts::here_fact))]
-fn add_here(chunk: &mut Chunk, here: &Here)
-    requires { length chunk.old + 250 ≤ CHUNK_SIZE }
-    ensures text { chunk.new ≡ chunk.old ++ spec.here_fact here.now }
-    ensures short { length chunk.new ≤ length chunk.old + 250 }
+fn say_here<W: Sink>(here: &Here, page: &mut Page, output: &mut W)
+    ensures { Says (W.written output.old) (W.written output.new)
+        (W.failures output.old) (W.failures output.new) page.old page.new
+        (spec.here_fact here.now) }
 {
     match here {
-        Here::Fits => chunk.add_text(b",\n{\"fact\":\"here\",\"fits\":true}"),
-        Here::NotCleared { setting, line } => {
-            chunk.add_text(b",\n{\"fact\":\"here\",\"fits\":false,\"block_delete\":");
-            chunk.add_text(setting_fact(*setting));
-            chunk.add_text(b",\"line\":");
-            chunk.add_number(*line);
-            chunk.add_text(b"}");
-        }
+        Here::Fits => say!(page, output; b",\n{\"fact\":\"here\",\"fits\":true}"),
+        Here::NotCleared { setting, line } =>
+            say!(page, output; b",\n{\"fact\":\"here\",\"fits\":false,\"block_delete\":", Part::Text(setting_fact(*setting)), b",\"line\":", Part::Number(u128::from(*line)), b"}"),
     }
 }
 
-#[tactic(auto, unfolding(crate::specs::Facts::interval_fact))]
-fn add_interval(chunk: &mut Chunk, step: Nm, interval: Interval)
-    requires step { IsStep step }
-    requires room { length chunk.old + 200 ≤ CHUNK_SIZE }
-    ensures text { chunk.new ≡ chunk.old ++ spec.interval_fact step interval }
-    ensures short { length chunk.new ≤ length chunk.old + 200 }
+/// Returns a shift's length in nanometres.
+fn length(step: Nm, shift: &i32) -> Part<'static>
+    requires { IsStep step }
+    ensures { part_text result ≡ signed_decimal (shift.now *ℤ step) }
 {
-    chunk.add_text(b",\"moves\":true,\"fits\":true,\"from\":");
-    chunk.add_number(nanometres_at(step, interval.from));
-    chunk.add_text(b",\"to\":");
-    chunk.add_number(nanometres_at(step, interval.to));
+    Part::Signed(nanometres_at(step, *shift))
+}
+
+#[tactic(auto, unfolding(crate::specs::Facts::interval_fact))]
+fn say_interval<W: Sink>(step: Nm, interval: &Interval, page: &mut Page, output: &mut W)
+    requires { IsStep step }
+    ensures { Says (W.written output.old) (W.written output.new)
+        (W.failures output.old) (W.failures output.new) page.old page.new
+        (spec.interval_fact step interval.now) }
+{
+    say!(page, output; b",\"moves\":true,\"fits\":true,\"from\":", length(step, &interval.from), b",\"to\":", length(step, &interval.to));
 }
 
 #[tactic(auto, unfolding(crate::specs::Facts::finding_fact))]
-fn add_finding(chunk: &mut Chunk, step: Nm, finding: &Finding)
-    requires step { IsStep step }
-    requires room { length chunk.old + 200 ≤ CHUNK_SIZE }
-    ensures text { chunk.new ≡ chunk.old ++ spec.finding_fact step finding.now }
-    ensures short { length chunk.new ≤ length chunk.old + 200 }
+fn say_finding<W: Sink>(step: Nm, finding: &Finding, page: &mut Page, output: &mut W)
+    requires { IsStep step }
+    ensures { Says (W.written output.old) (W.written output.new)
+        (W.failures output.old) (W.failures output.new) page.old page.new
+        (spec.finding_fact step finding.now) }
 {
     match finding {
-        Finding::Unmoved => chunk.add_text(
-            b",\"moves\":false,\"fits\":null,\"from\":null,\"to\":null",
-        ),
-        Finding::Nowhere => chunk.add_text(
-            b",\"moves\":true,\"fits\":false,\"from\":null,\"to\":null",
-        ),
-        Finding::Fits(interval) => add_interval(chunk, step, *interval),
+        Finding::Unmoved =>
+            say!(page, output; b",\"moves\":false,\"fits\":null,\"from\":null,\"to\":null"),
+        Finding::Nowhere =>
+            say!(page, output; b",\"moves\":true,\"fits\":false,\"from\":null,\"to\":null"),
+        Finding::Fits(interval) => say_interval(step, interval, page, output),
     }
 }
 
 #[tactic(auto, unfolding(crate::specs::Facts::staying_fact))]
-fn add_staying(chunk: &mut Chunk, staying: &Option<Staying>)
-    requires { length chunk.old + 200 ≤ CHUNK_SIZE }
-    ensures text { chunk.new ≡ chunk.old ++ spec.staying_fact staying.now }
-    ensures short { length chunk.new ≤ length chunk.old + 200 }
+fn say_staying<W: Sink>(staying: &Option<Staying>, page: &mut Page, output: &mut W)
+    ensures { Says (W.written output.old) (W.written output.new)
+        (W.failures output.old) (W.failures output.new) page.old page.new
+        (spec.staying_fact staying.now) }
 {
     match staying {
-        None => chunk.add_text(b",\"staying\":0,\"first_line\":null}"),
-        Some(staying) => {
-            chunk.add_text(b",\"staying\":");
-            chunk.add_number(staying.motions);
-            chunk.add_text(b",\"first_line\":");
-            chunk.add_number(staying.line);
-            chunk.add_text(b"}");
-        }
+        None => say!(page, output; b",\"staying\":0,\"first_line\":null}"),
+        Some(staying) =>
+            say!(page, output; b",\"staying\":", Part::Number(staying.motions as u128), b",\"first_line\":", Part::Number(u128::from(staying.line)), b"}"),
     }
 }
 
 #[tactic(auto, unfolding(crate::specs::Facts::along_fact))]
-fn add_along(chunk: &mut Chunk, axis: Axis, step: Nm, along: &AlongAxis)
-    requires step { IsStep step }
-    requires room { length chunk.old + 500 ≤ CHUNK_SIZE }
-    ensures text { chunk.new ≡ chunk.old ++ spec.along_fact axis step along.now }
-    ensures short { length chunk.new ≤ length chunk.old + 500 }
+fn say_along<W: Sink>(axis: Axis, step: Nm, along: &AlongAxis, page: &mut Page, output: &mut W)
+    requires { IsStep step }
+    ensures { Says (W.written output.old) (W.written output.new)
+        (W.failures output.old) (W.failures output.new) page.old page.new
+        (spec.along_fact axis step along.now) }
 {
-    chunk.add_text(b",\n{\"fact\":\"along\",\"axis\":\"");
-    chunk.add_text(axis_text(axis));
-    chunk.add_text(b"\"");
-    add_finding(chunk, step, &along.finding);
-    add_staying(chunk, &along.staying);
+    say!(page, output; b",\n{\"fact\":\"along\",\"axis\":\"", Part::Text(axis_text(axis)), b"\"");
+    say_finding(step, &along.finding, page, output);
+    say_staying(&along.staying, page, output);
 }
 
 #[tactic(auto, unfolding(crate::specs::Facts::axes_facts))]
-fn add_axes(chunk: &mut Chunk, step: Nm, placement: &Placement)
-    requires step { IsStep step }
-    requires room { length chunk.old + 1500 ≤ CHUNK_SIZE }
-    ensures text { chunk.new ≡ chunk.old ++ spec.axes_facts step placement.now }
-    ensures short { length chunk.new ≤ length chunk.old + 1500 }
+fn say_axes<W: Sink>(step: Nm, placement: &Placement, page: &mut Page, output: &mut W)
+    requires { IsStep step }
+    ensures { Says (W.written output.old) (W.written output.new)
+        (W.failures output.old) (W.failures output.new) page.old page.new
+        (spec.axes_facts step placement.now) }
 {
-    add_along(chunk, Axis::X, step, &placement.x);
-    add_along(chunk, Axis::Y, step, &placement.y);
-    add_along(chunk, Axis::Z, step, &placement.z);
+    say_along(Axis::X, step, &placement.x, page, output);
+    say_along(Axis::Y, step, &placement.y, page, output);
+    say_along(Axis::Z, step, &placement.z, page, output);
 }
 
 #[tactic(auto, unfolding(crate::specs::Facts::shift_fact))]
-fn add_shift(chunk: &mut Chunk, step: Nm, shift: &Shift)
-    requires step { IsStep step }
-    requires room { length chunk.old + 150 ≤ CHUNK_SIZE }
-    ensures text { chunk.new ≡ chunk.old ++ spec.shift_fact step shift.now }
-    ensures short { length chunk.new ≤ length chunk.old + 150 }
+fn say_shift<W: Sink>(step: Nm, shift: &Shift, page: &mut Page, output: &mut W)
+    requires { IsStep step }
+    ensures { Says (W.written output.old) (W.written output.new)
+        (W.failures output.old) (W.failures output.new) page.old page.new
+        (spec.shift_fact step shift.now) }
 {
-    chunk.add_text(b",\n{\"fact\":\"nearest\",\"axis\":\"");
-    chunk.add_text(axis_text(shift.axis));
-    chunk.add_text(b"\",\"shift\":");
-    chunk.add_number(nanometres_at(step, shift.steps));
-    chunk.add_text(b"}");
+    say!(page, output; b",\n{\"fact\":\"nearest\",\"axis\":\"", Part::Text(axis_text(shift.axis)), b"\",\"shift\":", length(step, &shift.steps), b"}");
 }
 
 #[tactic(auto, unfolding(crate::specs::Facts::nearest_fact))]
-fn add_nearest(chunk: &mut Chunk, here: &Here, step: Nm, nearest: &Option<Shift>)
-    requires step { IsStep step }
-    requires room { length chunk.old + 150 ≤ CHUNK_SIZE }
-    ensures text { chunk.new ≡ chunk.old ++ spec.nearest_fact here.now step nearest.now }
-    ensures short { length chunk.new ≤ length chunk.old + 150 }
+fn say_nearest<W: Sink>(
+    here: &Here,
+    step: Nm,
+    nearest: &Option<Shift>,
+    page: &mut Page,
+    output: &mut W,
+)
+    requires { IsStep step }
+    ensures { Says (W.written output.old) (W.written output.new)
+        (W.failures output.old) (W.failures output.new) page.old page.new
+        (spec.nearest_fact here.now step nearest.now) }
 {
-    match here {
-        Here::Fits => chunk.add_text(b""),
-        Here::NotCleared { .. } => match nearest {
-            None => chunk.add_text(b""),
-            Some(shift) => add_shift(chunk, step, shift),
-        },
+    match (here, nearest) {
+        (Here::NotCleared { .. }, Some(shift)) => say_shift(step, shift, page, output),
+        _ => {}
     }
 }
 
-/// Adds a placement as a JSON document. Space for 3,000 bytes must be free.
+/// Says a placement as a JSON document.
 #[tactic(auto, unfolding(crate::specs::Facts::placement_facts))]
-pub(crate) fn add_document(
-    chunk: &mut Chunk,
+pub(crate) fn say_document<W: Sink>(
     system: System,
     origin: &Point3,
     step: Nm,
     placement: &Placement,
+    page: &mut Page,
+    output: &mut W,
 )
-    requires step { IsStep step }
-    requires room { length chunk.old + 3000 ≤ CHUNK_SIZE }
-    ensures { chunk.new ≡ chunk.old ++ spec.placement_facts system origin.now step placement.now }
+    requires { IsStep step }
+    ensures { Says (W.written output.old) (W.written output.new)
+        (W.failures output.old) (W.failures output.new) page.old page.new
+        (spec.placement_facts system origin.now step placement.now) }
 {
-    chunk.add_text(b"[{\"fact\":\"place\",\"version\":1}");
-    add_origin(chunk, system, origin);
-    add_here(chunk, &placement.here);
-    add_axes(chunk, step, placement);
-    add_nearest(chunk, &placement.here, step, &shortest(placement));
-    chunk.add_text(b"\n]\n");
+    say!(page, output; b"[{\"fact\":\"place\",\"version\":1}");
+    say_origin(system, origin, page, output);
+    say_here(&placement.here, page, output);
+    say_axes(step, placement, page, output);
+    say_nearest(&placement.here, step, &shortest(placement), page, output);
+    say!(page, output; b"\n]\n");
 }

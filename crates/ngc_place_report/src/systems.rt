@@ -1,5 +1,5 @@
 //! The names of coordinate systems.
-ghost use Rattle.std.specs.Prelude.{◌≡◌, ◌<◌, ◌≤◌, length, option_map};
+ghost use Rattle.std.specs.Prelude.{◌≡◌, ◌<◌, option_map};
 ghost use Rattle.ngc_offsets.specs.Frames.{index};
 ghost use Rattle.ngc_place_report.specs.Systems.{code_text, system_in, system_named};
 
@@ -35,8 +35,7 @@ pub fn system_named(name: Option<&str>) -> Option<System>
 
 /// Returns the code that selects a system.
 pub(crate) fn code_text(system: System) -> &'static [u8]
-    ensures text { result.now ≡ code_text system }
-    ensures short { length result.now ≤ 5 }
+    ensures { result.now ≡ code_text system }
 {
     match system {
         System::First => b"G54",

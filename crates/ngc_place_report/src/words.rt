@@ -1,8 +1,7 @@
-//! The text of a placement in words.
-ghost use Rattle.std.specs.Prelude.{◌≡◌, ◌+◌, ◌≤◌, ◌++◌, length};
+//! What is said of a placement, in words.
+ghost use Rattle.std.specs.Prelude.{◌≡◌};
 ghost use Rattle.ngc_fixed_length.specs.Length.{IsStep};
-ghost use Rattle.ngc_text.specs.Collected.{CHUNK_SIZE};
-ghost use Rattle.ngc_text.specs.Millimetres.{mm_text};
+ghost use Rattle.ngc_sentences.specs.Saying.{Says};
 ghost use Rattle.ngc_place_report.specs.Words as spec;
 
 use crate::nearest::{Shift, shortest};
@@ -11,37 +10,22 @@ use crate::systems::code_text;
 use ngc_certificate_text::Setting;
 use ngc_fixed_length::{Nm, Point3, System, nanometres_at};
 use ngc_place::{Axis, Interval};
-use ngc_text::Chunk;
+use ngc_sentences::{Page, Part, say};
+use ngc_text::Sink;
 
-fn add_length(chunk: &mut Chunk, nanometres: Nm)
-    requires { length chunk.old + 60 ≤ CHUNK_SIZE }
-    ensures text { chunk.new ≡ chunk.old ++ mm_text nanometres }
-    ensures short { length chunk.new ≤ length chunk.old + 51 }
-{
-    chunk.add_millimetres(i128::from(nanometres.nanometres()));
-}
-
-/// Adds where the origin is.
+/// Says where the origin is.
 #[tactic(auto, unfolding(crate::specs::Words::origin_words))]
-fn add_origin(chunk: &mut Chunk, system: System, origin: &Point3)
-    requires { length chunk.old + 400 ≤ CHUNK_SIZE }
-    ensures text { chunk.new ≡ chunk.old ++ spec.origin_words system origin.now }
-    ensures short { length chunk.new ≤ length chunk.old + 400 }
+fn say_origin<W: Sink>(system: System, origin: &Point3, page: &mut Page, output: &mut W)
+    ensures { Says (W.written output.old) (W.written output.new)
+        (W.failures output.old) (W.failures output.new) page.old page.new
+        (spec.origin_words system origin.now) }
 {
-    chunk.add_text(code_text(system));
-    chunk.add_text(b" is at X ");
-    add_length(chunk, origin.x);
-    chunk.add_text(b", Y ");
-    add_length(chunk, origin.y);
-    chunk.add_text(b", Z ");
-    add_length(chunk, origin.z);
-    chunk.add_text(b".\n");
+    say!(page, output; Part::Text(code_text(system)), b" is at X ", Part::Millimetres(origin.x.nanometres()), b", Y ", Part::Millimetres(origin.y.nanometres()), b", Z ", Part::Millimetres(origin.z.nanometres()), b".\n");
 }
 
 #[tactic(auto, unfolding(crate::specs::Words::setting_words))]
 fn setting_words(setting: Setting) -> &'static [u8]
-    ensures text { result.now ≡ spec.setting_words setting }
-    ensures short { length result.now ≤ 40 }
+    ensures { result.now ≡ spec.setting_words setting }
 {
     match setting {
         Setting::Off => b" with block delete off",
@@ -49,28 +33,23 @@ fn setting_words(setting: Setting) -> &'static [u8]
     }
 }
 
-/// Adds whether the program fits there.
+/// Says whether the program fits there.
 #[tactic(auto, unfolding(crate::specs::Words::here_words))]
-fn add_here(chunk: &mut Chunk, here: &Here)
-    requires { length chunk.old + 400 ≤ CHUNK_SIZE }
-    ensures text { chunk.new ≡ chunk.old ++ spec.here_words here.now }
-    ensures short { length chunk.new ≤ length chunk.old + 400 }
+fn say_here<W: Sink>(here: &Here, page: &mut Page, output: &mut W)
+    ensures { Says (W.written output.old) (W.written output.new)
+        (W.failures output.old) (W.failures output.new) page.old page.new
+        (spec.here_words here.now) }
 {
     match here {
-        Here::Fits => chunk.add_text(b"The program fits there.\n"),
-        Here::NotCleared { setting, line } => {
-            chunk.add_text(b"The program doesn't fit there: see line ");
-            chunk.add_number(*line);
-            chunk.add_text(setting_words(*setting));
-            chunk.add_text(b". `ngc report` tells more.\n");
-        }
+        Here::Fits => say!(page, output; b"The program fits there.\n"),
+        Here::NotCleared { setting, line } =>
+            say!(page, output; b"The program doesn't fit there: see line ", Part::Number(u128::from(*line)), Part::Text(setting_words(*setting)), b". `ngc report` tells more.\n"),
     }
 }
 
 /// Returns the name of an axis.
 pub(crate) fn axis_text(axis: Axis) -> &'static [u8]
-    ensures text { result.now ≡ spec.axis_text axis }
-    ensures short { length result.now ≤ 1 }
+    ensures { result.now ≡ spec.axis_text axis }
 {
     match axis {
         Axis::X => b"X",
@@ -81,58 +60,58 @@ pub(crate) fn axis_text(axis: Axis) -> &'static [u8]
 
 #[tactic(auto, unfolding(crate::specs::Words::plus_text))]
 fn plus_text(shift: i32) -> &'static [u8]
-    ensures text { result.now ≡ spec.plus_text shift }
-    ensures short { length result.now ≤ 1 }
+    ensures { result.now ≡ spec.plus_text shift }
 {
     if shift > 0 { b"+" } else { b"" }
 }
 
-/// Adds a shift in millimetres, with its sign.
+/// Says a shift in millimetres, with its sign.
 #[tactic(auto, unfolding(crate::specs::Words::shift_words))]
-fn add_shift(chunk: &mut Chunk, step: Nm, shift: i32)
-    requires step { IsStep step }
-    requires room { length chunk.old + 100 ≤ CHUNK_SIZE }
-    ensures text { chunk.new ≡ chunk.old ++ spec.shift_words step shift }
-    ensures short { length chunk.new ≤ length chunk.old + 60 }
+fn say_shift<W: Sink>(step: Nm, shift: &i32, page: &mut Page, output: &mut W)
+    requires { IsStep step }
+    ensures { Says (W.written output.old) (W.written output.new)
+        (W.failures output.old) (W.failures output.new) page.old page.new
+        (spec.shift_words step shift.now) }
 {
-    chunk.add_text(plus_text(shift));
-    chunk.add_millimetres(i128::from(nanometres_at(step, shift)));
+    say!(page, output; Part::Text(plus_text(*shift)), Part::Millimetres(nanometres_at(step, *shift)));
 }
 
 #[tactic(auto, unfolding(crate::specs::Words::interval_words))]
-fn add_interval(chunk: &mut Chunk, step: Nm, interval: Interval)
-    requires step { IsStep step }
-    requires room { length chunk.old + 200 ≤ CHUNK_SIZE }
-    ensures text { chunk.new ≡ chunk.old ++ spec.interval_words step interval }
-    ensures short { length chunk.new ≤ length chunk.old + 200 }
+fn say_interval<W: Sink>(step: Nm, interval: &Interval, page: &mut Page, output: &mut W)
+    requires { IsStep step }
+    ensures { Says (W.written output.old) (W.written output.new)
+        (W.failures output.old) (W.failures output.new) page.old page.new
+        (spec.interval_words step interval.now) }
 {
-    chunk.add_text(b" it fits at shifts from ");
-    add_shift(chunk, step, interval.from);
-    chunk.add_text(b" to ");
-    add_shift(chunk, step, interval.to);
+    say!(page, output; b" it fits at shifts from ");
+    say_shift(step, &interval.from, page, output);
+    say!(page, output; b" to ");
+    say_shift(step, &interval.to, page, output);
 }
 
 #[tactic(auto, unfolding(crate::specs::Words::finding_words))]
-fn add_finding(chunk: &mut Chunk, system: System, step: Nm, finding: &Finding)
-    requires step { IsStep step }
-    requires room { length chunk.old + 200 ≤ CHUNK_SIZE }
-    ensures text { chunk.new ≡ chunk.old ++ spec.finding_words system step finding.now }
-    ensures short { length chunk.new ≤ length chunk.old + 200 }
+fn say_finding<W: Sink>(
+    system: System,
+    step: Nm,
+    finding: &Finding,
+    page: &mut Page,
+    output: &mut W,
+)
+    requires { IsStep step }
+    ensures { Says (W.written output.old) (W.written output.new)
+        (W.failures output.old) (W.failures output.new) page.old page.new
+        (spec.finding_words system step finding.now) }
 {
     match finding {
-        Finding::Unmoved => {
-            chunk.add_text(b" nothing is known: with ");
-            chunk.add_text(code_text(system));
-            chunk.add_text(b" shifted it is refused or moves otherwise");
-        }
-        Finding::Nowhere => chunk.add_text(b" it fits at no shift that was tried"),
-        Finding::Fits(interval) => add_interval(chunk, step, *interval),
+        Finding::Unmoved =>
+            say!(page, output; b" nothing is known: with ", Part::Text(code_text(system)), b" shifted it is refused or moves otherwise"),
+        Finding::Nowhere => say!(page, output; b" it fits at no shift that was tried"),
+        Finding::Fits(interval) => say_interval(step, interval, page, output),
     }
 }
 
 fn motions_text(motions: usize) -> &'static [u8]
-    ensures text { result.now ≡ spec.motions_words motions }
-    ensures short { length result.now ≤ 40 }
+    ensures { result.now ≡ spec.motions_words motions }
 {
     if motions == 1 {
         b" motion stays, in line "
@@ -142,109 +121,114 @@ fn motions_text(motions: usize) -> &'static [u8]
 }
 
 #[tactic(auto, unfolding(crate::specs::Words::staying_words))]
-fn add_staying(chunk: &mut Chunk, staying: &Option<Staying>)
-    requires { length chunk.old + 200 ≤ CHUNK_SIZE }
-    ensures text { chunk.new ≡ chunk.old ++ spec.staying_words staying.now }
-    ensures short { length chunk.new ≤ length chunk.old + 200 }
+fn say_staying<W: Sink>(staying: &Option<Staying>, page: &mut Page, output: &mut W)
+    ensures { Says (W.written output.old) (W.written output.new)
+        (W.failures output.old) (W.failures output.new) page.old page.new
+        (spec.staying_words staying.now) }
 {
     match staying {
-        None => chunk.add_text(b""),
-        Some(staying) => {
-            chunk.add_text(b"; ");
-            chunk.add_number(staying.motions);
-            chunk.add_text(motions_text(staying.motions));
-            chunk.add_number(staying.line);
-        }
+        None => {}
+        Some(staying) =>
+            say!(page, output; b"; ", Part::Number(staying.motions as u128), Part::Text(motions_text(staying.motions)), Part::Number(u128::from(staying.line))),
     }
 }
 
-/// Adds what is known of one axis.
+/// Says what is known of one axis.
 #[tactic(auto, unfolding(crate::specs::Words::along_words))]
-fn add_along(chunk: &mut Chunk, axis: Axis, system: System, step: Nm, along: &AlongAxis)
-    requires step { IsStep step }
-    requires room { length chunk.old + 500 ≤ CHUNK_SIZE }
-    ensures text { chunk.new ≡ chunk.old ++ spec.along_words axis system step along.now }
-    ensures short { length chunk.new ≤ length chunk.old + 500 }
+fn say_along<W: Sink>(
+    axis: Axis,
+    system: System,
+    step: Nm,
+    along: &AlongAxis,
+    page: &mut Page,
+    output: &mut W,
+)
+    requires { IsStep step }
+    ensures { Says (W.written output.old) (W.written output.new)
+        (W.failures output.old) (W.failures output.new) page.old page.new
+        (spec.along_words axis system step along.now) }
 {
-    chunk.add_text(b"Along ");
-    chunk.add_text(axis_text(axis));
-    add_finding(chunk, system, step, &along.finding);
-    add_staying(chunk, &along.staying);
-    chunk.add_text(b".\n");
+    say!(page, output; b"Along ", Part::Text(axis_text(axis)));
+    say_finding(system, step, &along.finding, page, output);
+    say_staying(&along.staying, page, output);
+    say!(page, output; b".\n");
 }
 
 #[tactic(auto, unfolding(crate::specs::Words::axes_words))]
-fn add_axes(chunk: &mut Chunk, system: System, step: Nm, placement: &Placement)
-    requires step { IsStep step }
-    requires room { length chunk.old + 1500 ≤ CHUNK_SIZE }
-    ensures text { chunk.new ≡ chunk.old ++ spec.axes_words system step placement.now }
-    ensures short { length chunk.new ≤ length chunk.old + 1500 }
+fn say_axes<W: Sink>(
+    system: System,
+    step: Nm,
+    placement: &Placement,
+    page: &mut Page,
+    output: &mut W,
+)
+    requires { IsStep step }
+    ensures { Says (W.written output.old) (W.written output.new)
+        (W.failures output.old) (W.failures output.new) page.old page.new
+        (spec.axes_words system step placement.now) }
 {
-    add_along(chunk, Axis::X, system, step, &placement.x);
-    add_along(chunk, Axis::Y, system, step, &placement.y);
-    add_along(chunk, Axis::Z, system, step, &placement.z);
+    say_along(Axis::X, system, step, &placement.x, page, output);
+    say_along(Axis::Y, system, step, &placement.y, page, output);
+    say_along(Axis::Z, system, step, &placement.z, page, output);
 }
 
 #[tactic(auto, unfolding(crate::specs::Words::shortest_words))]
-fn add_shortest(chunk: &mut Chunk, here: &Here, step: Nm, shift: &Shift)
-    requires step { IsStep step }
-    requires room { length chunk.old + 200 ≤ CHUNK_SIZE }
-    ensures text { chunk.new ≡ chunk.old ++ spec.shortest_words here.now step shift.now }
-    ensures short { length chunk.new ≤ length chunk.old + 200 }
+fn say_shortest<W: Sink>(here: &Here, step: Nm, shift: &Shift, page: &mut Page, output: &mut W)
+    requires { IsStep step }
+    ensures { Says (W.written output.old) (W.written output.new)
+        (W.failures output.old) (W.failures output.new) page.old page.new
+        (spec.shortest_words here.now step shift.now) }
 {
     match here {
-        Here::Fits => chunk.add_text(b""),
+        Here::Fits => {}
         Here::NotCleared { .. } => {
-            chunk.add_text(b"Nearest: ");
-            chunk.add_text(axis_text(shift.axis));
-            chunk.add_text(b" ");
-            add_shift(chunk, step, shift.steps);
-            chunk.add_text(b".\n");
+            say!(page, output; b"Nearest: ", Part::Text(axis_text(shift.axis)), b" ");
+            say_shift(step, &shift.steps, page, output);
+            say!(page, output; b".\n");
         }
     }
 }
 
-#[tactic(auto, unfolding(crate::specs::Words::tested_words))]
-fn add_tested(chunk: &mut Chunk)
-    requires { length chunk.old + 100 ≤ CHUNK_SIZE }
-    ensures text { chunk.new ≡ chunk.old ++ spec.tested_words }
-    ensures short { length chunk.new ≤ length chunk.old + 100 }
-{
-    chunk.add_text(b"Both ends of each interval were tested by executing the program there.\n");
-}
-
-/// Adds how the intervals were tested, and the shortest shift, where there is one.
+/// Says how the intervals were tested, and the shortest shift, where there is one.
 #[tactic(auto, unfolding(crate::specs::Words::nearest_words))]
-fn add_nearest(chunk: &mut Chunk, here: &Here, step: Nm, nearest: &Option<Shift>)
-    requires step { IsStep step }
-    requires room { length chunk.old + 300 ≤ CHUNK_SIZE }
-    ensures text { chunk.new ≡ chunk.old ++ spec.nearest_words here.now step nearest.now }
-    ensures short { length chunk.new ≤ length chunk.old + 300 }
+fn say_nearest<W: Sink>(
+    here: &Here,
+    step: Nm,
+    nearest: &Option<Shift>,
+    page: &mut Page,
+    output: &mut W,
+)
+    requires { IsStep step }
+    ensures { Says (W.written output.old) (W.written output.new)
+        (W.failures output.old) (W.failures output.new) page.old page.new
+        (spec.nearest_words here.now step nearest.now) }
 {
     match nearest {
-        None => chunk.add_text(b""),
+        None => {}
         Some(shift) => {
-            add_tested(chunk);
-            add_shortest(chunk, here, step, shift);
+            say!(page, output; b"Both ends of each interval were tested by executing the program there.\n");
+            say_shortest(here, step, shift, page, output);
         }
     }
 }
 
-/// Adds a placement in words. Space for 3,000 bytes must be free.
+/// Says a placement in words.
 #[tactic(auto, unfolding(crate::specs::Words::placement_words))]
-pub(crate) fn add_words(
-    chunk: &mut Chunk,
+pub(crate) fn say_words<W: Sink>(
     system: System,
     origin: &Point3,
     step: Nm,
     placement: &Placement,
+    page: &mut Page,
+    output: &mut W,
 )
-    requires step { IsStep step }
-    requires room { length chunk.old + 3000 ≤ CHUNK_SIZE }
-    ensures { chunk.new ≡ chunk.old ++ spec.placement_words system origin.now step placement.now }
+    requires { IsStep step }
+    ensures { Says (W.written output.old) (W.written output.new)
+        (W.failures output.old) (W.failures output.new) page.old page.new
+        (spec.placement_words system origin.now step placement.now) }
 {
-    add_origin(chunk, system, origin);
-    add_here(chunk, &placement.here);
-    add_axes(chunk, system, step, placement);
-    add_nearest(chunk, &placement.here, step, &shortest(placement));
+    say_origin(system, origin, page, output);
+    say_here(&placement.here, page, output);
+    say_axes(system, step, placement, page, output);
+    say_nearest(&placement.here, step, &shortest(placement), page, output);
 }

@@ -4,24 +4,23 @@ ghost use Rattle.std.specs.Io.KnownBytes.{Appends};
 ghost use Rattle.ngc_text.specs.Failures.{CountsFailure};
 ghost use Rattle.ngc_text.specs.Written.{AppendsPrefix};
 ghost use Rattle.ngc_machine_files.specs.Machine.{file_of};
+ghost use Rattle.ngc_shifted_program.specs.Origins.{origin_in};
 ghost use Rattle.ngc_place_report.specs.Texts.{document_text, words_text};
 
-use crate::facts::add_document;
+use crate::facts::say_document;
 use crate::placement::Placement;
 use crate::systems::index_of;
-use crate::words::add_words;
-use ngc_fixed_length::System;
+use crate::words::say_words;
+use ngc_fixed_length::{Point3, System};
 use ngc_machine_files::Machine;
-use ngc_text::{Chunk, Sink, WriteFault};
+use ngc_sentences::Page;
+use ngc_text::{Sink, WriteFault};
 use std::alloc::Allocator;
 
-fn words_text<A: Allocator>(machine: &Machine<A>, system: System, placement: &Placement) -> Chunk
-    ensures { result ≡ words_text (file_of machine.now) system placement.now }
+fn origin_in<A: Allocator>(machine: &Machine<A>, system: System) -> &Point3
+    ensures { result.now ≡ origin_in (file_of machine.now) system }
 {
-    let origin = &machine.origins[index_of(system)];
-    let mut chunk = Chunk::new();
-    add_words(&mut chunk, system, origin, machine.step, placement);
-    chunk
+    &machine.origins[index_of(system)]
 }
 
 /// Writes what is known of the shifts of an origin, in words. After a fault (902, only if
@@ -38,17 +37,10 @@ pub fn write_words<A: Allocator, W: Sink>(
         (words_text (file_of machine.now) system placement.now)) }
     ensures counts { CountsFailure (W.failures sink.old) (W.failures sink.new) result }
 {
-    let mut chunk = words_text(machine, system, placement);
-    chunk.write_out(sink)
-}
-
-fn document_text<A: Allocator>(machine: &Machine<A>, system: System, placement: &Placement) -> Chunk
-    ensures { result ≡ document_text (file_of machine.now) system placement.now }
-{
-    let origin = &machine.origins[index_of(system)];
-    let mut chunk = Chunk::new();
-    add_document(&mut chunk, system, origin, machine.step, placement);
-    chunk
+    let origin = origin_in(machine, system);
+    let mut page = Page::new();
+    say_words(system, origin, machine.step, placement, &mut page, sink);
+    page.finish(sink)
 }
 
 /// Writes what is known of the shifts of an origin, as a JSON document. After a fault (902, only if
@@ -65,6 +57,8 @@ pub fn write_document<A: Allocator, W: Sink>(
         (document_text (file_of machine.now) system placement.now)) }
     ensures counts { CountsFailure (W.failures sink.old) (W.failures sink.new) result }
 {
-    let mut chunk = document_text(machine, system, placement);
-    chunk.write_out(sink)
+    let origin = origin_in(machine, system);
+    let mut page = Page::new();
+    say_document(system, origin, machine.step, placement, &mut page, sink);
+    page.finish(sink)
 }

@@ -1,17 +1,19 @@
-//! How the values of a refused line's fault are written.
-ghost use Rattle.std.specs.Prelude.{◌≡◌, ◌+◌, ◌≤◌, ◌++◌, codes, length, OnOk, OnErr};
+//! How the values of a refused line's fault are said.
+ghost use Rattle.std.specs.Prelude.{◌≡◌, codes, OnOk, OnErr};
 ghost use Rattle.std.specs.Fmt.{signed_decimal};
 ghost use Rattle.std.specs.Io.KnownBytes.{Appends};
-ghost use Rattle.ngc_text.specs.Collected.{CHUNK_SIZE};
 ghost use Rattle.ngc_text.specs.Failures.{CountsFailure};
+ghost use Rattle.ngc_text.specs.Millimetres.{sign_text};
 ghost use Rattle.ngc_text.specs.Written.{AppendsPrefix};
 ghost use Rattle.ngc_line_reader.specs.ProgramView.{text_in};
-ghost use Rattle.ngc_report.specs.Words.{shift_text, thousandths_text};
+ghost use Rattle.ngc_report.specs.Words.{shift_text};
+ghost use Rattle.ngc_sentences.specs.Parts.{part_text, parts_text};
+ghost use Rattle.ngc_sentences.specs.Saying.{Says};
 ghost use Rattle.ngc_refused_values.specs.Texts.{arc_line, axis_text, cycle_line, cycle_phrase};
-ghost use Rattle.ngc_refused_values.specs.Texts.{far_line, far_phrase, far_text, far_values};
+ghost use Rattle.ngc_refused_values.specs.Texts.{fact_of, far_phrase, far_text, far_values, words_of};
 ghost use Rattle.ngc_refused_values.specs.Texts.{frame_line, inches_fact, inches_phrase, quantity_text};
-ghost use Rattle.ngc_refused_values.specs.Texts.{near_text, radii_line, radii_phrase, radii_values};
-ghost use Rattle.ngc_refused_values.specs.Texts.{selection_line, selection_phrase, selection_text};
+ghost use Rattle.ngc_refused_values.specs.Texts.{near_text, radii_phrase, radii_values};
+ghost use Rattle.ngc_refused_values.specs.Texts.{selection_phrase, selection_text};
 ghost use Rattle.ngc_refused_values.specs.Texts.{selection_values, value_line};
 
 use crate::last_words::LastWord;
@@ -21,354 +23,330 @@ use ngc_canonical::Fault;
 use ngc_line_reader::Program;
 use ngc_offsets::{Axis, FrameFault, Quantity};
 use ngc_report::Form;
-use ngc_text::{Chunk, Sink, WriteFault};
+use ngc_sentences::{Page, Part, say};
+use ngc_text::{Sink, WriteFault};
 use std::alloc::Allocator;
 
-fn begin_fact(chunk: &mut Chunk)
-    requires { length chunk.old + 40 ≤ CHUNK_SIZE }
-    ensures text { chunk.new ≡ chunk.old ++ codes ",\n{\"fact\":\"reason\",\"text\":\"" }
-    ensures short { length chunk.new ≤ length chunk.old + 40 }
+fn begin_fact<W: Sink>(page: &mut Page, output: &mut W)
+    ensures { Says (W.written output.old) (W.written output.new)
+        (W.failures output.old) (W.failures output.new) page.old page.new
+        (codes ",\n{\"fact\":\"reason\",\"text\":\"") }
 {
-    chunk.add_text(b",\n{\"fact\":\"reason\",\"text\":\"");
+    say!(page, output; b",\n{\"fact\":\"reason\",\"text\":\"");
+}
+
+// Says a phrase on a line of its own.
+fn say_line<W: Sink>(phrase: &[Part], page: &mut Page, output: &mut W)
+    ensures { Says (W.written output.old) (W.written output.new)
+        (W.failures output.old) (W.failures output.new) page.old page.new
+        (words_of (parts_text phrase.now)) }
+{
+    page.say(output, phrase);
+    say!(page, output; b"\n");
+}
+
+// Says a phrase as a fact, and what it says as numbers.
+fn say_fact<W: Sink>(phrase: &[Part], values: &[Part], page: &mut Page, output: &mut W)
+    ensures { Says (W.written output.old) (W.written output.new)
+        (W.failures output.old) (W.failures output.new) page.old page.new
+        (fact_of (parts_text phrase.now) (parts_text values.now)) }
+{
+    begin_fact(page, output);
+    page.say(output, phrase);
+    say!(page, output; b"\"");
+    page.say(output, values);
+    say!(page, output; b"}");
 }
 
 #[tactic(auto, unfolding(crate::specs::Texts::selection_phrase))]
-fn add_selection_phrase(chunk: &mut Chunk, line: u32)
-    requires { length chunk.old + 100 ≤ CHUNK_SIZE }
-    ensures text { chunk.new ≡ chunk.old ++ selection_phrase line }
-    ensures short { length chunk.new ≤ length chunk.old + 60 }
+fn selection_phrase(line: u32) -> [Part<'static>; 3]
+    ensures { parts_text result ≡ selection_phrase line }
 {
-    chunk.add_text(b"Line ");
-    chunk.add_number(line);
-    chunk.add_text(b" selects it.");
+    [
+        Part::Text(b"Line "),
+        Part::Number(u128::from(line)),
+        Part::Text(b" selects it."),
+    ]
 }
 
-fn add_selection_values(chunk: &mut Chunk, line: u32, tool: u32)
-    requires { length chunk.old + 200 ≤ CHUNK_SIZE }
-    ensures text { chunk.new ≡ chunk.old ++ selection_values line tool }
-    ensures short { length chunk.new ≤ length chunk.old + 100 }
+fn selection_values(line: u32, tool: u32) -> [Part<'static>; 4]
+    ensures { parts_text result ≡ selection_values line tool }
 {
-    chunk.add_text(b",\"tool\":");
-    chunk.add_number(tool);
-    chunk.add_text(b",\"line\":");
-    chunk.add_number(line);
-}
-
-fn add_selection_line(chunk: &mut Chunk, form: Form, line: u32, tool: u32)
-    requires { length chunk.old + 400 ≤ CHUNK_SIZE }
-    ensures { chunk.new ≡ chunk.old ++ selection_line form line tool }
-{
-    match form {
-        Form::Words => {
-            add_selection_phrase(chunk, line);
-            chunk.add_text(b"\n");
-        }
-        Form::Json => {
-            begin_fact(chunk);
-            add_selection_phrase(chunk, line);
-            chunk.add_text(b"\"");
-            add_selection_values(chunk, line, tool);
-            chunk.add_text(b"}");
-        }
-    }
+    [
+        Part::Text(b",\"tool\":"),
+        Part::Number(u128::from(tool)),
+        Part::Text(b",\"line\":"),
+        Part::Number(u128::from(line)),
+    ]
 }
 
 #[tactic(auto, unfolding(crate::specs::Texts::selection_text))]
-fn add_selection(chunk: &mut Chunk, form: Form, tool: u32, selection: &Option<LastWord>)
-    requires { length chunk.old + 400 ≤ CHUNK_SIZE }
-    ensures { chunk.new ≡ chunk.old ++ selection_text form tool selection.now }
+fn say_selection<W: Sink>(
+    form: Form,
+    tool: u32,
+    selection: &Option<LastWord>,
+    page: &mut Page,
+    output: &mut W,
+)
+    ensures { Says (W.written output.old) (W.written output.new)
+        (W.failures output.old) (W.failures output.new) page.old page.new
+        (selection_text form tool selection.now) }
 {
-    match selection {
-        None => {}
-        Some(word) => add_selection_line(chunk, form, word.line, tool),
+    let Some(word) = selection else { return };
+    let phrase = selection_phrase(word.line);
+    match form {
+        Form::Words => say_line(&phrase, page, output),
+        Form::Json => say_fact(&phrase, &selection_values(word.line, tool), page, output),
     }
 }
 
-fn add_thousandths(chunk: &mut Chunk, thousandths: u128)
-    requires { length chunk.old + 47 ≤ CHUNK_SIZE }
-    ensures text { chunk.new ≡ chunk.old ++ thousandths_text thousandths }
-    ensures short { length chunk.new ≤ length chunk.old + 47 }
+// Returns a distance with at most three decimals, rounded up.
+#[tactic(auto, unfolding(ngc_report::specs::Words::shift_text))]
+fn size(size: u64) -> Part<'static>
+    ensures { part_text result ≡ shift_text size }
 {
-    chunk.add_millionths(thousandths / 1000, (thousandths % 1000) as u32 * 1000);
+    Part::Thousandths(u128::from(size.div_ceil(1000)))
 }
 
-// Adds a distance with at most three decimals, rounded up.
-#[tactic(auto, unfolding(ngc_report::specs::Words::shift_text))]
-fn add_size(chunk: &mut Chunk, size: u64)
-    requires { length chunk.old + 47 ≤ CHUNK_SIZE }
-    ensures text { chunk.new ≡ chunk.old ++ shift_text size }
-    ensures short { length chunk.new ≤ length chunk.old + 47 }
+fn sign(length: &i64) -> &'static [u8]
+    ensures { result.now ≡ sign_text length.now }
 {
-    add_thousandths(chunk, u128::from(size.div_ceil(1000)));
+    if *length < 0 { b"-" } else { b"" }
 }
 
 #[tactic(auto, unfolding(crate::specs::Texts::far_text))]
-fn add_far(chunk: &mut Chunk, at: i64)
-    requires { length chunk.old + 48 ≤ CHUNK_SIZE }
-    ensures text { chunk.new ≡ chunk.old ++ far_text at }
-    ensures short { length chunk.new ≤ length chunk.old + 48 }
+fn far(at: &i64) -> [Part<'static>; 2]
+    ensures { parts_text result ≡ far_text at.now }
 {
-    chunk.add_sign(i128::from(at));
-    add_size(chunk, at.unsigned_abs());
+    [Part::Text(sign(at)), size(at.unsigned_abs())]
 }
 
-fn add_axis(chunk: &mut Chunk, axis: Axis)
-    requires { length chunk.old + 1 ≤ CHUNK_SIZE }
-    ensures text { chunk.new ≡ chunk.old ++ axis_text axis }
-    ensures short { length chunk.new ≤ length chunk.old + 1 }
+fn axis_name(axis: Axis) -> &'static [u8]
+    ensures { result.now ≡ axis_text axis }
 {
     match axis {
-        Axis::X => chunk.add_text(b"X"),
-        Axis::Y => chunk.add_text(b"Y"),
-        Axis::Z => chunk.add_text(b"Z"),
+        Axis::X => b"X",
+        Axis::Y => b"Y",
+        Axis::Z => b"Z",
     }
 }
 
-fn add_quantity(chunk: &mut Chunk, quantity: Quantity)
-    requires { length chunk.old + 24 ≤ CHUNK_SIZE }
-    ensures text { chunk.new ≡ chunk.old ++ quantity_text quantity }
-    ensures short { length chunk.new ≤ length chunk.old + 24 }
+fn quantity_name(quantity: Quantity) -> &'static [u8]
+    ensures { result.now ≡ quantity_text quantity }
 {
     match quantity {
-        Quantity::Coordinate => {}
-        Quantity::Offset => chunk.add_text(b"The origin or offset of "),
+        Quantity::Coordinate => b"",
+        Quantity::Offset => b"The origin or offset of ",
     }
 }
 
 #[tactic(auto, unfolding(crate::specs::Texts::inches_phrase))]
-fn add_inches_phrase(chunk: &mut Chunk, inches: Option<u32>)
-    requires { length chunk.old + 80 ≤ CHUNK_SIZE }
-    ensures text { chunk.new ≡ chunk.old ++ inches_phrase inches }
-    ensures short { length chunk.new ≤ length chunk.old + 80 }
+fn say_inches_phrase<W: Sink>(inches: Option<u32>, page: &mut Page, output: &mut W)
+    ensures { Says (W.written output.old) (W.written output.new)
+        (W.failures output.old) (W.failures output.new) page.old page.new
+        (inches_phrase inches) }
 {
     match inches {
         None => {}
-        Some(line) => {
-            chunk.add_text(b" Lengths are in inches since line ");
-            chunk.add_number(line);
-            chunk.add_text(b".");
-        }
+        Some(line) =>
+            say!(page, output; b" Lengths are in inches since line ", Part::Number(u128::from(line)), b"."),
     }
 }
 
 #[tactic(auto, unfolding(crate::specs::Texts::far_phrase))]
-fn add_far_phrase(chunk: &mut Chunk, inches: Option<u32>, axis: Axis, quantity: Quantity, at: i64)
-    requires { length chunk.old + 300 ≤ CHUNK_SIZE }
-    ensures text { chunk.new ≡ chunk.old ++ far_phrase inches axis quantity at }
-    ensures short { length chunk.new ≤ length chunk.old + 260 }
-{
-    add_quantity(chunk, quantity);
-    add_axis(chunk, axis);
-    chunk.add_text(b" is at ");
-    add_far(chunk, at);
-    chunk.add_text(b" mm, but the limit is ");
-    add_size(chunk, quantity.limit());
-    chunk.add_text(b" mm either way.");
-    add_inches_phrase(chunk, inches);
-}
-
-#[tactic(auto, unfolding(crate::specs::Texts::inches_fact))]
-fn add_inches_fact(chunk: &mut Chunk, inches: Option<u32>)
-    requires { length chunk.old + 80 ≤ CHUNK_SIZE }
-    ensures text { chunk.new ≡ chunk.old ++ inches_fact inches }
-    ensures short { length chunk.new ≤ length chunk.old + 80 }
-{
-    match inches {
-        None => {}
-        Some(line) => {
-            chunk.add_text(b",\"inches_since\":");
-            chunk.add_number(line);
-        }
-    }
-}
-
-fn add_nanometres(chunk: &mut Chunk, nanometres: i64)
-    requires { length chunk.old + 40 ≤ CHUNK_SIZE }
-    ensures text { chunk.new ≡ chunk.old ++ signed_decimal nanometres }
-    ensures short { length chunk.new ≤ length chunk.old + 40 }
-{
-    chunk.add_number(nanometres);
-}
-
-#[tactic(auto, unfolding(crate::specs::Texts::far_values))]
-fn add_far_values(chunk: &mut Chunk, inches: Option<u32>, axis: Axis, quantity: Quantity, at: i64)
-    requires { length chunk.old + 260 ≤ CHUNK_SIZE }
-    ensures text { chunk.new ≡ chunk.old ++ far_values inches axis quantity at }
-    ensures short { length chunk.new ≤ length chunk.old + 200 }
-{
-    chunk.add_text(b",\"axis\":\"");
-    add_axis(chunk, axis);
-    chunk.add_text(b"\",\"at\":");
-    add_nanometres(chunk, at);
-    chunk.add_text(b",\"limit\":");
-    chunk.add_number(quantity.limit());
-    add_inches_fact(chunk, inches);
-}
-
-fn add_far_line(
-    chunk: &mut Chunk,
-    form: Form,
+fn say_far_phrase<W: Sink>(
     inches: Option<u32>,
     axis: Axis,
     quantity: Quantity,
-    at: i64,
+    at: &i64,
+    page: &mut Page,
+    output: &mut W,
 )
-    requires { length chunk.old + 600 ≤ CHUNK_SIZE }
-    ensures { chunk.new ≡ chunk.old ++ far_line form inches axis quantity at }
+    ensures { Says (W.written output.old) (W.written output.new)
+        (W.failures output.old) (W.failures output.new) page.old page.new
+        (far_phrase inches axis quantity at.now) }
 {
-    match form {
-        Form::Words => {
-            add_far_phrase(chunk, inches, axis, quantity, at);
-            chunk.add_text(b"\n");
-        }
-        Form::Json => {
-            begin_fact(chunk);
-            add_far_phrase(chunk, inches, axis, quantity, at);
-            chunk.add_text(b"\"");
-            add_far_values(chunk, inches, axis, quantity, at);
-            chunk.add_text(b"}");
-        }
+    say!(page, output; Part::Text(quantity_name(quantity)), Part::Text(axis_name(axis)), b" is at ");
+    page.say(output, &far(at));
+    say!(page, output; b" mm, but the limit is ", size(quantity.limit()), b" mm either way.");
+    say_inches_phrase(inches, page, output);
+}
+
+fn nanometres(length: &i64) -> Part<'static>
+    ensures { part_text result ≡ signed_decimal length.now }
+{
+    Part::Signed(*length)
+}
+
+#[tactic(auto, unfolding(crate::specs::Texts::inches_fact))]
+fn say_inches_fact<W: Sink>(inches: Option<u32>, page: &mut Page, output: &mut W)
+    ensures { Says (W.written output.old) (W.written output.new)
+        (W.failures output.old) (W.failures output.new) page.old page.new
+        (inches_fact inches) }
+{
+    match inches {
+        None => {}
+        Some(line) => say!(page, output; b",\"inches_since\":", Part::Number(u128::from(line))),
     }
 }
 
-fn add_frame_line(chunk: &mut Chunk, form: Form, inches: Option<u32>, fault: &FrameFault)
-    requires { length chunk.old + 600 ≤ CHUNK_SIZE }
-    ensures { chunk.new ≡ chunk.old ++ frame_line form inches fault.now }
+#[tactic(auto, unfolding(crate::specs::Texts::far_values))]
+fn say_far_values<W: Sink>(
+    inches: Option<u32>,
+    axis: Axis,
+    quantity: Quantity,
+    at: &i64,
+    page: &mut Page,
+    output: &mut W,
+)
+    ensures { Says (W.written output.old) (W.written output.new)
+        (W.failures output.old) (W.failures output.new) page.old page.new
+        (far_values inches axis quantity at.now) }
 {
-    match fault {
-        FrameFault::BeyondRange { axis, quantity, at } => {
-            add_far_line(chunk, form, inches, *axis, *quantity, *at);
+    say!(page, output; b",\"axis\":\"", Part::Text(axis_name(axis)), b"\",\"at\":", nanometres(at), b",\"limit\":", Part::Number(u128::from(quantity.limit())));
+    say_inches_fact(inches, page, output);
+}
+
+fn say_frame_line<W: Sink>(
+    form: Form,
+    inches: Option<u32>,
+    fault: &FrameFault,
+    page: &mut Page,
+    output: &mut W,
+)
+    ensures { Says (W.written output.old) (W.written output.new)
+        (W.failures output.old) (W.failures output.new) page.old page.new
+        (frame_line form inches fault.now) }
+{
+    let FrameFault::BeyondRange { axis, quantity, at } = fault else {
+        return;
+    };
+    match form {
+        Form::Words => {
+            say_far_phrase(inches, *axis, *quantity, at, page, output);
+            say!(page, output; b"\n");
         }
-        FrameFault::NoSuchTool => {}
+        Form::Json => {
+            begin_fact(page, output);
+            say_far_phrase(inches, *axis, *quantity, at, page, output);
+            say!(page, output; b"\"");
+            say_far_values(inches, *axis, *quantity, at, page, output);
+            say!(page, output; b"}");
+        }
     }
 }
 
 #[tactic(auto, unfolding(crate::specs::Texts::cycle_phrase))]
-fn add_cycle_phrase(chunk: &mut Chunk, inches: Option<u32>)
-    requires { length chunk.old + 200 ≤ CHUNK_SIZE }
-    ensures text { chunk.new ≡ chunk.old ++ cycle_phrase inches }
-    ensures short { length chunk.new ≤ length chunk.old + 140 }
+fn say_cycle_phrase<W: Sink>(inches: Option<u32>, page: &mut Page, output: &mut W)
+    ensures { Says (W.written output.old) (W.written output.new)
+        (W.failures output.old) (W.failures output.new) page.old page.new
+        (cycle_phrase inches) }
 {
-    chunk.add_text(b"A height or a hole of the cycle is over 1000 mm from zero.");
-    add_inches_phrase(chunk, inches);
+    say!(page, output; b"A height or a hole of the cycle is over 1000 mm from zero.");
+    say_inches_phrase(inches, page, output);
 }
 
-fn add_cycle_line(chunk: &mut Chunk, form: Form, inches: Option<u32>)
-    requires { length chunk.old + 600 ≤ CHUNK_SIZE }
-    ensures { chunk.new ≡ chunk.old ++ cycle_line form inches }
+fn say_cycle_line<W: Sink>(form: Form, inches: Option<u32>, page: &mut Page, output: &mut W)
+    ensures { Says (W.written output.old) (W.written output.new)
+        (W.failures output.old) (W.failures output.new) page.old page.new
+        (cycle_line form inches) }
 {
     match form {
         Form::Words => {
-            add_cycle_phrase(chunk, inches);
-            chunk.add_text(b"\n");
+            say_cycle_phrase(inches, page, output);
+            say!(page, output; b"\n");
         }
         Form::Json => {
-            begin_fact(chunk);
-            add_cycle_phrase(chunk, inches);
-            chunk.add_text(b"\"");
-            add_inches_fact(chunk, inches);
-            chunk.add_text(b"}");
+            begin_fact(page, output);
+            say_cycle_phrase(inches, page, output);
+            say!(page, output; b"\"");
+            say_inches_fact(inches, page, output);
+            say!(page, output; b"}");
         }
     }
 }
 
-// Adds a length with at most three decimals, the nearest one.
+// Returns a length with at most three decimals, the nearest one.
 #[tactic(auto, unfolding(crate::specs::Texts::near_text))]
-fn add_near(chunk: &mut Chunk, nanometres: u64)
-    requires { length chunk.old + 47 ≤ CHUNK_SIZE }
-    ensures text { chunk.new ≡ chunk.old ++ near_text nanometres }
-    ensures short { length chunk.new ≤ length chunk.old + 47 }
+fn near(nanometres: u64) -> Part<'static>
+    ensures { part_text result ≡ near_text nanometres }
 {
-    add_thousandths(chunk, (u128::from(nanometres) + 500) / 1000);
+    Part::Thousandths((u128::from(nanometres) + 500) / 1000)
 }
 
 #[tactic(auto, unfolding(crate::specs::Texts::radii_phrase))]
-fn add_radii_phrase(chunk: &mut Chunk, at_start: u64, at_end: u64)
-    requires { length chunk.old + 300 ≤ CHUNK_SIZE }
-    ensures text { chunk.new ≡ chunk.old ++ radii_phrase at_start at_end }
-    ensures short { length chunk.new ≤ length chunk.old + 260 }
+fn radii_phrase(at_start: u64, at_end: u64) -> [Part<'static>; 7]
+    ensures { parts_text result ≡ radii_phrase at_start at_end }
 {
-    chunk.add_text(b"The radius is ");
-    add_near(chunk, at_start);
-    chunk.add_text(b" mm at the start and ");
-    add_near(chunk, at_end);
-    chunk.add_text(b" mm at the end: they differ by ");
-    add_size(chunk, at_start.abs_diff(at_end));
-    chunk.add_text(b" mm.");
+    [
+        Part::Text(b"The radius is "),
+        near(at_start),
+        Part::Text(b" mm at the start and "),
+        near(at_end),
+        Part::Text(b" mm at the end: they differ by "),
+        size(at_start.abs_diff(at_end)),
+        Part::Text(b" mm."),
+    ]
 }
 
 #[tactic(auto, unfolding(crate::specs::Texts::radii_values))]
-fn add_radii_values(chunk: &mut Chunk, at_start: u64, at_end: u64)
-    requires { length chunk.old + 260 ≤ CHUNK_SIZE }
-    ensures text { chunk.new ≡ chunk.old ++ radii_values at_start at_end }
-    ensures short { length chunk.new ≤ length chunk.old + 200 }
+fn radii_values(at_start: u64, at_end: u64) -> [Part<'static>; 6]
+    ensures { parts_text result ≡ radii_values at_start at_end }
 {
-    chunk.add_text(b",\"start_radius\":");
-    chunk.add_number(at_start);
-    chunk.add_text(b",\"end_radius\":");
-    chunk.add_number(at_end);
-    chunk.add_text(b",\"difference\":");
-    chunk.add_number(at_start.abs_diff(at_end));
+    [
+        Part::Text(b",\"start_radius\":"),
+        Part::Number(u128::from(at_start)),
+        Part::Text(b",\"end_radius\":"),
+        Part::Number(u128::from(at_end)),
+        Part::Text(b",\"difference\":"),
+        Part::Number(u128::from(at_start.abs_diff(at_end))),
+    ]
 }
 
-fn add_radii_line(chunk: &mut Chunk, form: Form, at_start: u64, at_end: u64)
-    requires { length chunk.old + 600 ≤ CHUNK_SIZE }
-    ensures { chunk.new ≡ chunk.old ++ radii_line form at_start at_end }
+fn say_arc_line<W: Sink>(form: Form, fault: &ArcFault, page: &mut Page, output: &mut W)
+    ensures { Says (W.written output.old) (W.written output.new)
+        (W.failures output.old) (W.failures output.new) page.old page.new
+        (arc_line form fault.now) }
 {
+    let ArcFault::RadiiDiffer { at_start, at_end } = fault else {
+        return;
+    };
+    let phrase = radii_phrase(*at_start, *at_end);
     match form {
-        Form::Words => {
-            add_radii_phrase(chunk, at_start, at_end);
-            chunk.add_text(b"\n");
-        }
-        Form::Json => {
-            begin_fact(chunk);
-            add_radii_phrase(chunk, at_start, at_end);
-            chunk.add_text(b"\"");
-            add_radii_values(chunk, at_start, at_end);
-            chunk.add_text(b"}");
-        }
+        Form::Words => say_line(&phrase, page, output),
+        Form::Json => say_fact(&phrase, &radii_values(*at_start, *at_end), page, output),
     }
 }
 
-fn add_arc_line(chunk: &mut Chunk, form: Form, fault: &ArcFault)
-    requires { length chunk.old + 600 ≤ CHUNK_SIZE }
-    ensures { chunk.new ≡ chunk.old ++ arc_line form fault.now }
-{
-    match fault {
-        ArcFault::RadiiDiffer { at_start, at_end } => {
-            add_radii_line(chunk, form, *at_start, *at_end);
-        }
-        _ => {}
-    }
-}
-
-fn value_line<A: Allocator>(
+fn say_value_line<A: Allocator, W: Sink>(
     form: Form,
     deletes: bool,
     program: &Program<A>,
     number: u32,
     fault: &Fault,
-) -> Chunk
-    ensures { result ≡ value_line form deletes number fault.now (text_in program.now).lines }
+    page: &mut Page,
+    output: &mut W,
+)
+    ensures { Says (W.written output.old) (W.written output.new)
+        (W.failures output.old) (W.failures output.new) page.old page.new
+        (value_line form deletes number fault.now (text_in program.now).lines) }
 {
-    let mut chunk = Chunk::new();
     match fault {
         Fault::NoSuchTool(tool) => {
             let selection = selected_tool(deletes, program, number);
-            add_selection(&mut chunk, form, *tool, &selection);
+            say_selection(form, *tool, &selection, page, output);
         }
         Fault::Frame(fault) => {
             let inches = inches_since(deletes, program, number);
-            add_frame_line(&mut chunk, form, inches, fault);
+            say_frame_line(form, inches, fault, page, output);
         }
         Fault::CycleBeyondRange => {
             let inches = inches_since(deletes, program, number);
-            add_cycle_line(&mut chunk, form, inches);
+            say_cycle_line(form, inches, page, output);
         }
-        Fault::Arc(fault) => add_arc_line(&mut chunk, form, fault),
+        Fault::Arc(fault) => say_arc_line(form, fault, page, output),
         _ => {}
     }
-    chunk
 }
 
 /// Writes the values of a fault, below what `write_line` writes of its line, by its number in the
@@ -401,6 +379,7 @@ pub fn write_values<A: Allocator, W: Sink>(
         (value_line form deletes number fault.now (text_in program.now).lines)) }
     ensures counts { CountsFailure (W.failures sink.old) (W.failures sink.new) result }
 {
-    let mut chunk = value_line(form, deletes, program, number, fault);
-    chunk.write_out(sink)
+    let mut page = Page::new();
+    say_value_line(form, deletes, program, number, fault, &mut page, sink);
+    page.finish(sink)
 }

@@ -1,0 +1,6 @@
+use Rattle.ngc_refused_values.specs.Texts.{inches_fact}
+use Rattle.ngc_refused_values.proofs.texts.say_inches_fact.Goals as goal
+
+pub returns-in-Some : goal.returns-in-Some
+unfolding inches_fact
+returns-in-Some g c = rw (c.in-Some.is, ← c.from.ensures) c.say.ensures
