@@ -1,5 +1,5 @@
 -- The text of a placement as a JSON document. Our own.
-use Rattle.std.specs.Prelude.{ℕ, ℤ, ◌*ℤ◌, List, [], ◌++◌, codes, decimal, Option, Some, None}
+use Rattle.std.specs.Prelude.{ℕ, ℤ, ◌*ℤ◌, List, [], ◌++◌, codes, decimal, Option, Some, None, if◌then◌else◌}
 use Rattle.std.specs.Fmt.{signed_decimal}
 use Rattle.ngc_fixed_length.specs.declared.modes.System.{System}
 use Rattle.ngc_fixed_length.specs.declared.points.Point3.{Point3}
@@ -10,7 +10,7 @@ use Rattle.ngc_place.specs.declared.axis.Axis.TheVariants.{X, Y, Z}
 use Rattle.ngc_place.specs.declared.interval.Interval.{Interval}
 use Rattle.ngc_place_report.specs.Nearest.{shortest}
 use Rattle.ngc_place_report.specs.Systems.{code_text}
-use Rattle.ngc_place_report.specs.Words.{axis_text}
+use Rattle.ngc_place_report.specs.Words.{axis_text, is_missing}
 use Rattle.ngc_place_report.specs.declared.nearest.Shift.{Shift}
 use Rattle.ngc_place_report.specs.declared.placement.AlongAxis.{AlongAxis}
 use Rattle.ngc_place_report.specs.declared.placement.Finding.{Finding}
@@ -72,10 +72,22 @@ nearest_fact heres.Fits step s = []
 nearest_fact (heres.NotCleared setting line) step None = []
 nearest_fact (heres.NotCleared setting line) step (Some s) = shift_fact step s
 
+unfoldable pub missing_line_fact : System → Point3 → List ℕ
+missing_line_fact system p =
+    if is_missing p
+    then codes ",\n{\"fact\":\"no_origin\",\"system\":\"" ++ code_text system ++ codes "\"}"
+    else []
+
+-- a missing origin, where the program fits neither there nor at a shift
+unfoldable pub missing_fact : System → Point3 → Here → Option Shift → List ℕ
+missing_fact system p (heres.NotCleared setting line) None = missing_line_fact system p
+missing_fact system p _ _ = []
+
 unfoldable pub axes_facts : ℤ → Placement → List ℕ
 axes_facts step p = along_fact X step p.x ++ along_fact Y step p.y ++ along_fact Z step p.z
 
 unfoldable pub placement_facts : System → Point3 → ℤ → Placement → List ℕ
 placement_facts system origin step p =
     codes "[{\"fact\":\"place\",\"version\":1}" ++ origin_fact system origin ++ here_fact p.here
-    ++ axes_facts step p ++ nearest_fact p.here step (shortest p) ++ codes "\n]\n"
+    ++ axes_facts step p ++ nearest_fact p.here step (shortest p)
+    ++ missing_fact system origin p.here (shortest p) ++ codes "\n]\n"

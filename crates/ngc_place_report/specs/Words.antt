@@ -1,6 +1,7 @@
 -- The text of a placement in words. Our own.
 use Rattle.std.specs.Prelude.{ℕ, ◌==◌, ℤ, pos, int_lt, ◌*ℤ◌, List, [], ◌++◌, codes}
-use Rattle.std.specs.Prelude.{decimal, Option, Some, None, if◌then◌else◌}
+use Rattle.std.specs.Prelude.{decimal, Option, Some, None, Bool, ◌&&◌, if◌then◌else◌}
+use Rattle.ngc_fixed_length.specs.Signed.{is_zero}
 use Rattle.ngc_fixed_length.specs.declared.modes.System.{System}
 use Rattle.ngc_fixed_length.specs.declared.points.Point3.{Point3}
 use Rattle.ngc_text.specs.Millimetres.{mm_text}
@@ -88,6 +89,22 @@ unfoldable pub nearest_words : Here → ℤ → Option Shift → List ℕ
 nearest_words here step None = []
 nearest_words here step (Some s) = tested_words ++ shortest_words here step s
 
+-- an origin at the machine's zero, as where the machine file has none
+abbrev pub is_missing : Point3 → Bool
+is_missing p = is_zero p.x && (is_zero p.y && is_zero p.z)
+
+unfoldable pub missing_line : System → Point3 → List ℕ
+missing_line system p =
+    if is_missing p
+    then code_text system
+    ++ codes " has no origin in the machine file: give it there or with `--origin`.\n"
+    else []
+
+-- a missing origin, where the program fits neither there nor at a shift
+unfoldable pub missing_words : System → Point3 → Here → Option Shift → List ℕ
+missing_words system p (heres.NotCleared setting line) None = missing_line system p
+missing_words system p _ _ = []
+
 unfoldable pub axes_words : System → ℤ → Placement → List ℕ
 axes_words system step p =
     along_words X system step p.x ++ along_words Y system step p.y ++ along_words Z system step p.z
@@ -96,3 +113,4 @@ unfoldable pub placement_words : System → Point3 → ℤ → Placement → Lis
 placement_words system origin step p =
     origin_words system origin ++ here_words p.here ++ axes_words system step p
     ++ nearest_words p.here step (shortest p)
+    ++ missing_words system origin p.here (shortest p)

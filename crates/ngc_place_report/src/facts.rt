@@ -9,7 +9,7 @@ ghost use Rattle.ngc_place_report.specs.Facts as spec;
 use crate::nearest::{Shift, shortest};
 use crate::placement::{AlongAxis, Finding, Here, Placement, Staying};
 use crate::systems::code_text;
-use crate::words::axis_text;
+use crate::words::{axis_text, is_missing};
 use ngc_certificate_text::Setting;
 use ngc_fixed_length::{Nm, Point3, System, nanometres_at};
 use ngc_place::{Axis, Interval};
@@ -165,6 +165,36 @@ fn say_nearest<W: Sink>(
     }
 }
 
+#[tactic(auto, unfolding(crate::specs::Facts::missing_line_fact))]
+fn say_missing_line<W: Sink>(system: System, origin: &Point3, page: &mut Page, output: &mut W)
+    ensures { Says (W.written output.old) (W.written output.new)
+        (W.failures output.old) (W.failures output.new) page.old page.new
+        (spec.missing_line_fact system origin.now) }
+{
+    if is_missing(origin) {
+        say!(page, output; b",\n{\"fact\":\"no_origin\",\"system\":\"", Part::Text(code_text(system)), b"\"}");
+    }
+}
+
+#[tactic(auto, unfolding(crate::specs::Facts::missing_fact))]
+fn say_missing<W: Sink>(
+    system: System,
+    origin: &Point3,
+    here: &Here,
+    nearest: &Option<Shift>,
+    page: &mut Page,
+    output: &mut W,
+)
+    ensures { Says (W.written output.old) (W.written output.new)
+        (W.failures output.old) (W.failures output.new) page.old page.new
+        (spec.missing_fact system origin.now here.now nearest.now) }
+{
+    match (here, nearest) {
+        (Here::NotCleared { .. }, None) => say_missing_line(system, origin, page, output),
+        _ => {}
+    }
+}
+
 /// Says a placement as a JSON document.
 #[tactic(auto, unfolding(crate::specs::Facts::placement_facts))]
 pub(crate) fn say_document<W: Sink>(
@@ -184,6 +214,8 @@ pub(crate) fn say_document<W: Sink>(
     say_origin(system, origin, page, output);
     say_here(&placement.here, page, output);
     say_axes(step, placement, page, output);
-    say_nearest(&placement.here, step, &shortest(placement), page, output);
+    let nearest = shortest(placement);
+    say_nearest(&placement.here, step, &nearest, page, output);
+    say_missing(system, origin, &placement.here, &nearest, page, output);
     say!(page, output; b"\n]\n");
 }

@@ -212,6 +212,45 @@ fn say_nearest<W: Sink>(
     }
 }
 
+/// Returns whether an origin is the machine's zero.
+pub(crate) fn is_missing(origin: &Point3) -> bool
+    ensures { result ≡ spec.is_missing origin.now }
+{
+    origin.x.nanometres() == 0 && origin.y.nanometres() == 0 && origin.z.nanometres() == 0
+}
+
+/// Says that the machine file has no origin, if this one is the machine's zero.
+#[tactic(auto, unfolding(crate::specs::Words::missing_line))]
+fn say_missing_line<W: Sink>(system: System, origin: &Point3, page: &mut Page, output: &mut W)
+    ensures { Says (W.written output.old) (W.written output.new)
+        (W.failures output.old) (W.failures output.new) page.old page.new
+        (spec.missing_line system origin.now) }
+{
+    if is_missing(origin) {
+        say!(page, output; Part::Text(code_text(system)), b" has no origin in the machine file: give it there or with `--origin`.\n");
+    }
+}
+
+/// Says so where the program fits neither there nor at a shift.
+#[tactic(auto, unfolding(crate::specs::Words::missing_words))]
+fn say_missing<W: Sink>(
+    system: System,
+    origin: &Point3,
+    here: &Here,
+    nearest: &Option<Shift>,
+    page: &mut Page,
+    output: &mut W,
+)
+    ensures { Says (W.written output.old) (W.written output.new)
+        (W.failures output.old) (W.failures output.new) page.old page.new
+        (spec.missing_words system origin.now here.now nearest.now) }
+{
+    match (here, nearest) {
+        (Here::NotCleared { .. }, None) => say_missing_line(system, origin, page, output),
+        _ => {}
+    }
+}
+
 /// Says a placement in words.
 #[tactic(auto, unfolding(crate::specs::Words::placement_words))]
 pub(crate) fn say_words<W: Sink>(
@@ -230,5 +269,7 @@ pub(crate) fn say_words<W: Sink>(
     say_origin(system, origin, page, output);
     say_here(&placement.here, page, output);
     say_axes(system, step, placement, page, output);
-    say_nearest(&placement.here, step, &shortest(placement), page, output);
+    let nearest = shortest(placement);
+    say_nearest(&placement.here, step, &nearest, page, output);
+    say_missing(system, origin, &placement.here, &nearest, page, output);
 }
