@@ -1,4 +1,4 @@
-use Rattle.ngc_sentences.proofs.Said.{whole, IsWritten}
+use Rattle.ngc_sentences.proofs.Said.{whole}
 use Rattle.ngc_place_report.proofs.writer.write_words.Goals as goal
 
 pub returns : goal.returns

@@ -1,4 +1,4 @@
-use Rattle.ngc_sentences.proofs.Said.{whole, IsWritten}
+use Rattle.ngc_sentences.proofs.Said.{whole}
 use Rattle.ngc_refused_values.proofs.texts.write_values.Goals as goal
 
 pub returns : goal.returns
