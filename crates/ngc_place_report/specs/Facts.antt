@@ -72,15 +72,16 @@ nearest_fact heres.Fits step s = []
 nearest_fact (heres.NotCleared setting line) step None = []
 nearest_fact (heres.NotCleared setting line) step (Some s) = shift_fact step s
 
-unfoldable pub missing_line_fact : System → Point3 → List ℕ
-missing_line_fact system p =
-    if is_missing p
-    then codes ",\n{\"fact\":\"no_origin\",\"system\":\"" ++ code_text system ++ codes "\"}"
-    else []
+abbrev pub missing_line_fact : System → List ℕ
+missing_line_fact system =
+    codes ",\n{\"fact\":\"no_origin\",\"system\":\"" ++ code_text system ++ codes "\"}"
+
+abbrev pub missing_fact_at : System → Point3 → List ℕ
+missing_fact_at system p = if is_missing p then missing_line_fact system else []
 
 -- a missing origin, where the program fits neither there nor at a shift
 unfoldable pub missing_fact : System → Point3 → Here → Option Shift → List ℕ
-missing_fact system p (heres.NotCleared setting line) None = missing_line_fact system p
+missing_fact system p (heres.NotCleared setting line) None = missing_fact_at system p
 missing_fact system p _ _ = []
 
 unfoldable pub axes_facts : ℤ → Placement → List ℕ

@@ -93,16 +93,17 @@ nearest_words here step (Some s) = tested_words ++ shortest_words here step s
 abbrev pub is_missing : Point3 → Bool
 is_missing p = is_zero p.x && (is_zero p.y && is_zero p.z)
 
-unfoldable pub missing_line : System → Point3 → List ℕ
-missing_line system p =
-    if is_missing p
-    then code_text system
+abbrev pub missing_line : System → List ℕ
+missing_line system =
+    code_text system
     ++ codes " has no origin in the machine file: give it there or with `--origin`.\n"
-    else []
+
+abbrev pub missing_at : System → Point3 → List ℕ
+missing_at system p = if is_missing p then missing_line system else []
 
 -- a missing origin, where the program fits neither there nor at a shift
 unfoldable pub missing_words : System → Point3 → Here → Option Shift → List ℕ
-missing_words system p (heres.NotCleared setting line) None = missing_line system p
+missing_words system p (heres.NotCleared setting line) None = missing_at system p
 missing_words system p _ _ = []
 
 unfoldable pub axes_words : System → ℤ → Placement → List ℕ

@@ -165,14 +165,21 @@ fn say_nearest<W: Sink>(
     }
 }
 
-#[tactic(auto, unfolding(crate::specs::Facts::missing_line_fact))]
-fn say_missing_line<W: Sink>(system: System, origin: &Point3, page: &mut Page, output: &mut W)
+fn say_missing_line<W: Sink>(system: System, page: &mut Page, output: &mut W)
     ensures { Says (W.written output.old) (W.written output.new)
         (W.failures output.old) (W.failures output.new) page.old page.new
-        (spec.missing_line_fact system origin.now) }
+        (spec.missing_line_fact system) }
+{
+    say!(page, output; b",\n{\"fact\":\"no_origin\",\"system\":\"", Part::Text(code_text(system)), b"\"}");
+}
+
+fn say_if_missing<W: Sink>(system: System, origin: &Point3, page: &mut Page, output: &mut W)
+    ensures { Says (W.written output.old) (W.written output.new)
+        (W.failures output.old) (W.failures output.new) page.old page.new
+        (spec.missing_fact_at system origin.now) }
 {
     if is_missing(origin) {
-        say!(page, output; b",\n{\"fact\":\"no_origin\",\"system\":\"", Part::Text(code_text(system)), b"\"}");
+        say_missing_line(system, page, output);
     }
 }
 
@@ -190,7 +197,7 @@ fn say_missing<W: Sink>(
         (spec.missing_fact system origin.now here.now nearest.now) }
 {
     match (here, nearest) {
-        (Here::NotCleared { .. }, None) => say_missing_line(system, origin, page, output),
+        (Here::NotCleared { .. }, None) => say_if_missing(system, origin, page, output),
         _ => {}
     }
 }

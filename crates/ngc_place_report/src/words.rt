@@ -219,15 +219,23 @@ pub(crate) fn is_missing(origin: &Point3) -> bool
     origin.x.nanometres() == 0 && origin.y.nanometres() == 0 && origin.z.nanometres() == 0
 }
 
-/// Says that the machine file has no origin, if this one is the machine's zero.
-#[tactic(auto, unfolding(crate::specs::Words::missing_line))]
-fn say_missing_line<W: Sink>(system: System, origin: &Point3, page: &mut Page, output: &mut W)
+/// Says that the machine file has no origin.
+fn say_missing_line<W: Sink>(system: System, page: &mut Page, output: &mut W)
     ensures { Says (W.written output.old) (W.written output.new)
         (W.failures output.old) (W.failures output.new) page.old page.new
-        (spec.missing_line system origin.now) }
+        (spec.missing_line system) }
+{
+    say!(page, output; Part::Text(code_text(system)), b" has no origin in the machine file: give it there or with `--origin`.\n");
+}
+
+/// Says so if this origin is the machine's zero.
+fn say_if_missing<W: Sink>(system: System, origin: &Point3, page: &mut Page, output: &mut W)
+    ensures { Says (W.written output.old) (W.written output.new)
+        (W.failures output.old) (W.failures output.new) page.old page.new
+        (spec.missing_at system origin.now) }
 {
     if is_missing(origin) {
-        say!(page, output; Part::Text(code_text(system)), b" has no origin in the machine file: give it there or with `--origin`.\n");
+        say_missing_line(system, page, output);
     }
 }
 
@@ -246,7 +254,7 @@ fn say_missing<W: Sink>(
         (spec.missing_words system origin.now here.now nearest.now) }
 {
     match (here, nearest) {
-        (Here::NotCleared { .. }, None) => say_missing_line(system, origin, page, output),
+        (Here::NotCleared { .. }, None) => say_if_missing(system, origin, page, output),
         _ => {}
     }
 }
