@@ -12,8 +12,9 @@ pub(crate) fn cycles() -> &'static [Row]
     const ROWS: &[Row] = &[
         Row {
             number: 231,
-            rule: "`R` is below the bottom of the hole: exchange the two numbers, or correct a sign.\n\
-             The cycle feeds from `R` down to the bottom.",
+            rule: "`R` is below the bottom of the hole, along the axis across the selected plane: if `G18`\n\
+             or `G19` is left in force, write `G17`; otherwise exchange the two numbers, or correct a\n\
+             sign. The cycle feeds from `R` down to the bottom.",
             example: "`G81 X1 Z-5 R-10 F60`",
             answer: "`ngc: fault 231 line 1`",
             place: None,

@@ -5,15 +5,17 @@ use Rattle.ngc_commands.specs.declared.command.Command.{Command}
 use Rattle.ngc_frames.specs.InForce.{frame_at}
 use Rattle.ngc_frames.specs.declared.change.FrameChange.{FrameChange}
 use Rattle.ngc_frames.specs.declared.frame.Frame.{Frame}
+use Rattle.ngc_machine_files.specs.declared.tools.Tool.{Tool}
 use Rattle.ngc_lowest_tips.specs.Tips.{tool_after, tip_of, is_same_pair, lowest_tips}
 use Rattle.ngc_lowest_tips.specs.declared.tip.LowestTip.{LowestTip}
 
 -- the lowest height of each motion, with its coordinate system, tool and line
-abbrev pub heights_from : Frame → List FrameChange → Option ℕ → List Command → List LowestTip
-heights_from start changes tool [] = []
-heights_from start changes tool (c ∷ cs) =
-    cons_option (tip_of (frame_at start changes c.line) tool c.line c.action)
-    (heights_from start changes (tool_after tool c.action) cs)
+abbrev pub heights_from : List Tool → Frame → List FrameChange → Option Tool → List Command →
+    List LowestTip
+heights_from tools start changes tool [] = []
+heights_from tools start changes tool (c ∷ cs) =
+    cons_option (tip_of tools (frame_at start changes c.line) tool c.line c.action)
+    (heights_from tools start changes (tool_after tool c.action) cs)
 
 -- x is in a list
 abbrev pub IsAmong : LowestTip → List LowestTip → Type 0
@@ -38,5 +40,6 @@ pub record AreLowest (heights lowest : List LowestTip) : Type 0 where
 
 abbrev pub LowestOfEach : Type 0
 LowestOfEach =
-    (start : Frame) (changes : List FrameChange) (commands : List Command)
-    → AreLowest (heights_from start changes None commands) (lowest_tips start changes commands)
+    (tools : List Tool) (start : Frame) (changes : List FrameChange) (commands : List Command)
+    → AreLowest (heights_from tools start changes None commands)
+    (lowest_tips tools start changes commands)

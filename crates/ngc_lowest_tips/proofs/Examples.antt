@@ -43,7 +43,7 @@ unfolding whole_root_above
 flat = refl
 
 abbrev tip : System → Option ℕ → ℤ → ℕ → LowestTip
-tip system tool height line = record { system = system; tool = tool; height = height; line = line }
+tip system tool height line = record { system = system; tool = tool; by = None; height = height; line = line }
 
 -- of equal heights the first one's line stays
 equal : with_new (tip First (Some 2) (pos 5) 3 ∷ []) (tip First (Some 2) (pos 5) 7) ≡ tip First (Some 2) (pos 5) 3 ∷ []

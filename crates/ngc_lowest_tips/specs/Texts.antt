@@ -25,8 +25,13 @@ unfoldable pub height_words : LowestTip → List ℕ
 height_words t =
     codes ": Z " ++ mm_text t.height ++ codes ", in line " ++ decimal t.line ++ codes ".\n"
 
+-- the tool whose offset is in force, if it isn't the mounted one
+unfoldable pub by_words : Option ℕ → List ℕ
+by_words None = []
+by_words (Some number) = codes ", by the offset of tool " ++ decimal number
+
 abbrev pub tip_words : LowestTip → List ℕ
-tip_words t = pair_words t ++ height_words t
+tip_words t = pair_words t ++ by_words t.by ++ height_words t
 
 unfoldable pub pair_fact : LowestTip → List ℕ
 pair_fact t = codes ",\n{\"fact\":\"lowest\",\"system\":\"" ++ system_text t.system
@@ -36,8 +41,12 @@ unfoldable pub height_fact : LowestTip → List ℕ
 height_fact t = codes ",\"z\":" ++ signed_decimal t.height ++ codes ",\"line\":"
     ++ decimal t.line ++ codes "}"
 
+unfoldable pub by_fact : Option ℕ → List ℕ
+by_fact None = []
+by_fact (Some number) = codes ",\"offset_of\":" ++ decimal number
+
 abbrev pub tip_fact : LowestTip → List ℕ
-tip_fact t = pair_fact t ++ height_fact t
+tip_fact t = pair_fact t ++ by_fact t.by ++ height_fact t
 
 unfoldable pub tip_text : Form → LowestTip → List ℕ
 tip_text Words t = tip_words t

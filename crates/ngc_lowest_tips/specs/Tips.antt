@@ -1,8 +1,10 @@
 -- The lowest heights of a program's commands, one for each coordinate system and mounted tool. Our
 -- own.
-use Rattle.std.specs.Prelude.{ℕ, ◌==◌, int_lt, List, [], ◌∷◌, ◌++◌, slice_index_or, slice_set}
-use Rattle.std.specs.Prelude.{Option, Some, None, Bool, true, false, ◌&&◌, if◌then◌else◌}
+use Rattle.std.specs.Prelude.{ℕ, ◌==◌, nat_lt, ℤ, pos, ◌-ℤ◌, int_lt, unsigned_abs, List, [], ◌∷◌}
+use Rattle.std.specs.Prelude.{◌++◌, find, slice_index_or, slice_set}
+use Rattle.std.specs.Prelude.{Option, Some, None, Bool, true, false, ◌&&◌, ◌||◌, if◌then◌else◌}
 use Rattle.std.specs.List.{position}
+use Rattle.std.specs.Ordering.{int_eq}
 use Rattle.ngc_commands.specs.declared.command.Action.{Action}
 use Rattle.ngc_commands.specs.declared.command.Action.TheVariants.{Move, Mount}
 use Rattle.ngc_commands.specs.declared.command.Command.{Command}
@@ -18,22 +20,42 @@ abbrev pub number_of : Option Tool → Option ℕ
 number_of None = None
 number_of (Some tool) = Some tool.number
 
--- the number of the tool that is mounted after an action
-abbrev pub tool_after : Option ℕ → Action → Option ℕ
-tool_after had (Mount tool) = number_of tool
+-- the tool that is mounted after an action
+abbrev pub tool_after : Option Tool → Action → Option Tool
+tool_after had (Mount tool) = tool
 tool_after had _ = had
+
+-- ---- the offset of another tool
+
+-- an offset is that of the mounted tool; a difference below 10 nm is none
+abbrev pub is_own : ℤ → Option Tool → Bool
+is_own offset None = false
+is_own offset (Some tool) = nat_lt (unsigned_abs (offset -ℤ tool.offset)) 10
+
+abbrev pub has_offset : ℤ → Tool → Bool
+has_offset offset tool = int_eq tool.offset offset
+
+-- the first tool in the table with the offset in force, if there is one and it isn't that of the
+-- mounted tool
+abbrev pub offset_of : List Tool → ℤ → Option Tool → Option ℕ
+offset_of tools offset tool =
+    if int_eq offset (pos 0) || is_own offset tool then None
+    else number_of (find (has_offset offset) tools)
+
+-- ---- a motion
 
 -- the lowest height of an action of this line, in a frame and with a mounted tool; none if it
 -- doesn't move
-abbrev pub tip_of : Frame → Option ℕ → ℕ → Action → Option LowestTip
-tip_of f tool line (Move motion) =
+abbrev pub tip_of : List Tool → Frame → Option Tool → ℕ → Action → Option LowestTip
+tip_of tools f tool line (Move motion) =
     Some (record {
       system = f.frames.active;
-      tool = tool;
+      tool = number_of tool;
+      by = offset_of tools f.frames.length tool;
       height = height_in f (lowest_of motion.way);
       line = line;
     })
-tip_of f tool line _ = None
+tip_of tools f tool line _ = None
 
 -- ---- the lowest so far
 
@@ -65,13 +87,13 @@ with_tip tips (Some new) = with_new tips new
 -- ---- of all commands
 
 -- the lowest after more commands, where this tool is mounted and these were the lowest before them
-abbrev pub tips_from : Frame → List FrameChange → Option ℕ → List LowestTip → List Command →
-    List LowestTip
-tips_from start changes tool tips [] = tips
-tips_from start changes tool tips (c ∷ cs) =
-    tips_from start changes (tool_after tool c.action)
-    (with_tip tips (tip_of (frame_at start changes c.line) tool c.line c.action)) cs
+abbrev pub tips_from : List Tool → Frame → List FrameChange → Option Tool → List LowestTip →
+    List Command → List LowestTip
+tips_from tools start changes tool tips [] = tips
+tips_from tools start changes tool tips (c ∷ cs) =
+    tips_from tools start changes (tool_after tool c.action)
+    (with_tip tips (tip_of tools (frame_at start changes c.line) tool c.line c.action)) cs
 
--- the lowest of a program's commands, where the program has these frames
-abbrev pub lowest_tips : Frame → List FrameChange → List Command → List LowestTip
-lowest_tips start changes commands = tips_from start changes None [] commands
+-- the lowest of a program's commands, where the program has these frames, and this is the tool table
+abbrev pub lowest_tips : List Tool → Frame → List FrameChange → List Command → List LowestTip
+lowest_tips tools start changes commands = tips_from tools start changes None [] commands

@@ -6,6 +6,7 @@
 //! ```text
 //! Lowest in G54 with tool 2: Z -18 mm, in line 11.
 //! Lowest in G55 with no tool: Z 5 mm, in line 3.
+//! Lowest in G54 with tool 3, by the offset of tool 2: Z -14 mm, in line 17.
 //! ```
 #![tactic(auto)]
 

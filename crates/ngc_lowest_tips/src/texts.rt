@@ -3,7 +3,8 @@ ghost use Rattle.std.specs.Prelude.{◌≡◌, ◌+◌, ◌≤◌, ◌++◌, len
 ghost use Rattle.std.specs.Fmt.{signed_decimal};
 ghost use Rattle.ngc_text.specs.Collected.{CHUNK_SIZE, HasSpaceForLine};
 ghost use Rattle.ngc_text.specs.Millimetres.{mm_text};
-ghost use Rattle.ngc_lowest_tips.specs.Texts.{height_fact, height_words, pair_fact, pair_words};
+ghost use Rattle.ngc_lowest_tips.specs.Texts.{by_fact, by_words, height_fact, height_words};
+ghost use Rattle.ngc_lowest_tips.specs.Texts.{pair_fact, pair_words};
 ghost use Rattle.ngc_lowest_tips.specs.Texts.{tip_fact, tip_text, tip_words, tool_value, tool_words};
 
 use crate::tip::LowestTip;
@@ -78,11 +79,24 @@ fn add_height_words(chunk: &mut Chunk, tip: &LowestTip)
     chunk.add_text(b".\n");
 }
 
+#[tactic(auto, unfolding(crate::specs::Texts::by_words))]
+fn add_by_words(chunk: &mut Chunk, by: Option<u32>)
+    requires { length chunk.old + 80 ≤ CHUNK_SIZE }
+    ensures text { chunk.new ≡ chunk.old ++ by_words by }
+    ensures short { length chunk.new ≤ length chunk.old + 80 }
+{
+    if let Some(number) = by {
+        chunk.add_text(b", by the offset of tool ");
+        chunk.add_number(number);
+    }
+}
+
 fn add_words(chunk: &mut Chunk, tip: &LowestTip)
     requires { HasSpaceForLine chunk.old }
     ensures { chunk.new ≡ chunk.old ++ tip_words tip.now }
 {
     add_pair_words(chunk, tip);
+    add_by_words(chunk, tip.by);
     add_height_words(chunk, tip);
 }
 
@@ -110,11 +124,24 @@ fn add_height_fact(chunk: &mut Chunk, tip: &LowestTip)
     chunk.add_text(b"}");
 }
 
+#[tactic(auto, unfolding(crate::specs::Texts::by_fact))]
+fn add_by_fact(chunk: &mut Chunk, by: Option<u32>)
+    requires { length chunk.old + 80 ≤ CHUNK_SIZE }
+    ensures text { chunk.new ≡ chunk.old ++ by_fact by }
+    ensures short { length chunk.new ≤ length chunk.old + 80 }
+{
+    if let Some(number) = by {
+        chunk.add_text(b",\"offset_of\":");
+        chunk.add_number(number);
+    }
+}
+
 fn add_fact(chunk: &mut Chunk, tip: &LowestTip)
     requires { HasSpaceForLine chunk.old }
     ensures { chunk.new ≡ chunk.old ++ tip_fact tip.now }
 {
     add_pair_fact(chunk, tip);
+    add_by_fact(chunk, tip.by);
     add_height_fact(chunk, tip);
 }
 

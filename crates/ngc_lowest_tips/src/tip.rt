@@ -12,6 +12,9 @@ pub struct LowestTip {
     pub system: System,
     /// The number of the mounted tool; `None` without a tool.
     pub tool: Option<u32>,
+    /// The number of the tool whose offset is in force, unless it is that of the mounted tool or
+    /// none is in force.
+    pub by: Option<u32>,
     /// The height in the program's coordinates, in nanometres.
     pub height: i64,
     /// The line of the first motion that goes to it.

@@ -1,10 +1,11 @@
 //! The lowest heights of a program's commands.
-ghost use Rattle.std.specs.Prelude.{◌≡◌, ◌<◌, length, IfOk, IfSome, OnOk};
+ghost use Rattle.std.specs.Prelude.{◌≡◌, ◌<◌, find, length, IfOk, IfSome, OnOk};
 ghost use Rattle.std.specs.List.{position};
 ghost use Rattle.ngc_frames.specs.InForce.{frame_at};
 ghost use Rattle.ngc_frames.specs.Walks.{WalksOver};
 ghost use Rattle.ngc_lowest_tips.specs.Tips.{is_same_pair, lowest_tips, tip_of, tool_after};
-ghost use Rattle.ngc_lowest_tips.specs.Tips.{number_of, with_new, with_tip};
+ghost use Rattle.ngc_lowest_tips.specs.Tips.{has_offset, is_own, number_of, offset_of};
+ghost use Rattle.ngc_lowest_tips.specs.Tips.{with_new, with_tip};
 
 use crate::heights::{height_in, lowest_of};
 use crate::tip::{LowestTip, is_same_pair, lower};
@@ -22,23 +23,62 @@ fn number_of(tool: &Option<Tool>) -> Option<u32>
     }
 }
 
-fn tool_after(had: Option<u32>, action: &Action) -> Option<u32>
+fn tool_after(had: Option<Tool>, action: &Action) -> Option<Tool>
     ensures { result ≡ tool_after had action.now }
 {
     match action {
-        Action::Mount(tool) => number_of(tool),
+        Action::Mount(tool) => *tool,
         _ => had,
     }
 }
 
+// Returns whether a length offset is that of the mounted tool: a difference below 10 nm is none.
+fn is_own(offset: i64, tool: &Option<Tool>) -> bool
+    ensures { result ≡ is_own offset tool.now }
+{
+    match tool {
+        None => false,
+        Some(tool) => offset.abs_diff(tool.offset.nanometres()) < 10,
+    }
+}
+
+fn has_offset(offset: i64, tool: &Tool) -> bool
+    ensures { result ≡ has_offset offset tool.now }
+{
+    tool.offset.nanometres() == offset
+}
+
+fn tool_with(tools: &[Tool], offset: i64) -> Option<Tool>
+    ensures { result ≡ find (has_offset offset) tools.now }
+{
+    tools.iter().find(|tool| has_offset(offset, tool)).copied()
+}
+
+// Returns the number of the tool whose length offset is in force, if that isn't the mounted tool.
+fn offset_of(tools: &[Tool], offset: i64, tool: &Option<Tool>) -> Option<u32>
+    ensures { result ≡ offset_of tools.now offset tool.now }
+{
+    if offset == 0 || is_own(offset, tool) {
+        return None;
+    }
+    number_of(&tool_with(tools, offset))
+}
+
 // Returns the lowest height of an action in a frame, with a mounted tool.
-fn tip_of(frame: &Frame, tool: Option<u32>, line: u32, action: &Action) -> Option<LowestTip>
-    ensures { result ≡ tip_of frame.now tool line action.now }
+fn tip_of(
+    tools: &[Tool],
+    frame: &Frame,
+    tool: &Option<Tool>,
+    line: u32,
+    action: &Action,
+) -> Option<LowestTip>
+    ensures { result ≡ tip_of tools.now frame.now tool.now line action.now }
 {
     match action {
         Action::Move(motion) => Some(LowestTip {
             system: frame.system(),
-            tool,
+            tool: number_of(tool),
+            by: offset_of(tools, frame.tool_length(), tool),
             height: height_in(frame, lowest_of(&motion.way)),
             line,
         }),
@@ -47,19 +87,20 @@ fn tip_of(frame: &Frame, tool: Option<u32>, line: u32, action: &Action) -> Optio
 }
 
 fn tip_at<A: Allocator>(
+    tools: &[Tool],
     history: &FrameHistory<A>,
     walk: &mut FrameWalk,
-    tool: Option<u32>,
+    tool: &Option<Tool>,
     command: &Command,
 ) -> Option<LowestTip>
     requires { WalksOver history.now.start history.now.changes.items walk.old }
-    ensures value { result ≡ tip_of
-        (frame_at history.now.start history.now.changes.items command.now.line) tool
+    ensures value { result ≡ tip_of tools.now
+        (frame_at history.now.start history.now.changes.items command.now.line) tool.now
         command.now.line command.now.action }
     ensures walk { WalksOver history.now.start history.now.changes.items walk.new }
 {
     let frame = walk.in_force(history, command.line);
-    tip_of(&frame.frame, tool, command.line, &command.action)
+    tip_of(tools, &frame.frame, tool, command.line, &command.action)
 }
 
 // Returns where the height of the same coordinate system and tool is in a list.
@@ -99,10 +140,12 @@ fn add_tip<A: Allocator>(
 
 /// Returns the lowest height that the motions of a program go to, for each coordinate system and
 /// mounted tool, in the order of their first motions. `history` has the program's frames at a
-/// setting of block delete, and `commands` its commands there.
+/// setting of block delete, and `commands` its commands there. `tools` is the tool table.
 ///
 /// A height is in the program's coordinates: that of the tool's tip if its length offset is in
-/// force, otherwise that of the spindle nose. A motion's start doesn't count, since it is the end
+/// force, otherwise that of the spindle nose. If the length offset in force is that of another tool,
+/// it is the height that a tip with that offset has, and the other tool is named: the first in the
+/// table with this offset. A motion's start doesn't count, since it is the end
 /// of an earlier motion; only an arc that begins at one of its quadrant points goes there again. Of
 /// several motions that go equally low, the first counts. Motions home (G28, G30) and in machine
 /// coordinates (G53) count too.
@@ -110,17 +153,18 @@ fn add_tip<A: Allocator>(
 /// It returns an error only if memory runs out.
 pub fn lowest_tips<A: Allocator + Copy>(
     alloc: A,
+    tools: &[Tool],
     history: &FrameHistory<A>,
     commands: &[Command],
 ) -> Result<Vec<LowestTip, A>, AllocError>
     ensures { IfOk result (λ v. v.items
-        ≡ lowest_tips history.now.start history.now.changes.items commands.now) }
+        ≡ lowest_tips tools.now history.now.start history.now.changes.items commands.now) }
 {
     let mut walk = FrameWalk::start(history);
     let mut tool = None;
     let mut tips = Vec::new(alloc);
     for command in commands {
-        let tip = tip_at(history, &mut walk, tool, command);
+        let tip = tip_at(tools, history, &mut walk, &tool, command);
         match add_tip(&mut tips, &tip) {
             Ok(()) => tool = tool_after(tool, &command.action),
             Err(fault) => return Err(fault),

@@ -1,3 +1,4 @@
 pub mod Origins
 pub mod Warnings
 pub mod Texts
+pub mod Missing

@@ -1,5 +1,6 @@
 //! Warnings of origins outside of the travel from which a program moves: those that its lines put
-//! there, and those that a machine file with other origins leaves at the machine's zero.
+//! there, and those that a machine file with other origins leaves at the machine's zero. And a
+//! sentence about a machine file without any origins.
 //!
 //! Each is a line of text, or a fact of a JSON document:
 //!
@@ -9,10 +10,12 @@
 //! ```
 #![tactic(auto)]
 
+mod missing;
 mod origin;
 mod texts;
 mod warned;
 mod written;
 
+pub use missing::write_missing_origin;
 pub use origin::{Origin, lowest, outside_origin};
 pub use written::write_origin_warnings;

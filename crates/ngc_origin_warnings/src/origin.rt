@@ -116,7 +116,7 @@ fn beyond<A: Allocator>(machine: &Machine<A>, lowest: Nm, at: &Place) -> i64
     greater(x, greater(y, z))
 }
 
-fn put_by(frame: &FrameInForce) -> u32
+pub(crate) fn put_by(frame: &FrameInForce) -> u32
     ensures { result ≡ put_by frame.now }
 {
     frame.origin_line.max(frame.axis_offset_line)
@@ -134,7 +134,7 @@ fn are_zero(points: &[Point3]) -> bool
     points.iter().all(|point| is_zero(point))
 }
 
-fn has_origins<A: Allocator>(machine: &Machine<A>) -> bool
+pub(crate) fn has_origins<A: Allocator>(machine: &Machine<A>) -> bool
     ensures { result ≡ has_origins (file_of machine.now) }
 {
     !are_zero(&machine.origins)

@@ -35,6 +35,7 @@ use Rattle.ngc_word_warnings.specs.Spelling.{word_warnings}
 use Rattle.ngc_lowest_tips.specs.Texts.{tips_text}
 use Rattle.ngc_lowest_tips.specs.Tips.{lowest_tips}
 use Rattle.ngc_origin_warnings.specs.Warnings.{origin_warnings}
+use Rattle.ngc_tool_warnings.specs.Spelling.{tool_warnings}
 use Rattle.ngc_setup_sheet.specs.Sheets.{warning_facts, warnings_text}
 use Rattle.ngc_program_report.specs.declared.run_time.RunTime.{RunTime}
 use Rattle.ngc_program_report.specs.Coordinates.{History, coordinates_text, line_of, refused_path}
@@ -94,14 +95,20 @@ abbrev pub is_on : Setting → Bool
 is_on Off = false
 is_on On = true
 
--- the lowest heights at a setting, and the warnings: for the commands there, for the words of the
+-- the warnings at a setting: for the commands there, for tool changes, for the words of the
 -- program's lines, and for the origins from which it moves
+abbrev pub warnings : Form → Setting → Setup → History → List Command → List Line → List ℕ
+warnings form s setup h commands lines =
+    report_text form (warning_lines setup.machine commands)
+    ++ (tool_warnings form setup.machine commands
+    ++ (word_warnings form (is_on s) setup.machine setup.tools commands lines
+    ++ origin_warnings form setup.machine setup.tools h.start h.changes commands))
+
+-- the lowest heights at a setting, and the warnings
 abbrev pub remarks : Form → Setting → Setup → History → List Command → List Line → List ℕ
 remarks form s setup h commands lines =
-    tips_text form (lowest_tips h.start h.changes commands)
-    ++ (report_text form (warning_lines setup.machine commands)
-    ++ (word_warnings form (is_on s) setup.machine commands lines
-    ++ origin_warnings form setup.machine setup.tools h.start h.changes commands))
+    tips_text form (lowest_tips setup.tools h.start h.changes commands)
+    ++ warnings form s setup h commands lines
 
 -- what fits at a setting, the time there, the lowest heights, and the warnings
 abbrev pub setting_text : Form → OriginList → Bool → Bool → Setting → Setup → List Command →

@@ -5,12 +5,13 @@ ghost use Rattle.ngc_canonical.specs.Interpreter.{setup_of};
 ghost use Rattle.ngc_text.specs.Failures.{CountsFailure};
 ghost use Rattle.ngc_text.specs.Written.{AppendsPrefix};
 ghost use Rattle.ngc_machine_files.specs.Machine.{file_of};
+ghost use Rattle.ngc_machine_files.specs.Tools.{tools_of};
 ghost use Rattle.ngc_report.specs.Forms.{closing};
 ghost use Rattle.ngc_line_reader.specs.ProgramView.{text_in};
 ghost use Rattle.ngc_lowest_tips.specs.Tips.{lowest_tips};
 ghost use Rattle.ngc_program_report.specs.Coordinates.{history_of};
 ghost use Rattle.ngc_program_report.specs.Texts.{accepted_text, duration_text, is_on, remarks};
-ghost use Rattle.ngc_program_report.specs.Texts.{setting_text, shop_text, takes_line};
+ghost use Rattle.ngc_program_report.specs.Texts.{setting_text, shop_text, takes_line, warnings};
 
 use crate::program_time::ProgramTime;
 use crate::report_frame::{closing, write_heading};
@@ -30,6 +31,7 @@ use ngc_origins::Origins;
 use ngc_report::{Form, write_fit, write_warnings};
 use ngc_setup_sheet::{write_warning_facts, write_warnings as write_shop_warnings};
 use ngc_text::{Chunk, Sink, WriteFault, write_all};
+use ngc_tool_warnings::write_tool_warnings;
 use ngc_word_warnings::write_word_warnings;
 use std::alloc::Allocator;
 
@@ -75,6 +77,37 @@ pub(crate) fn is_on(setting: Setting) -> bool
     }
 }
 
+// Writes the warnings at a setting.
+pub(crate) fn write_setting_warnings<A: Allocator, W: Sink>(
+    form: Form,
+    program: &Program<A>,
+    setting: Setting,
+    machine: &Machine<A>,
+    tools: &Tools<A>,
+    history: &FrameHistory<A>,
+    commands: &[Command],
+    output: &mut W,
+) -> Result<(), WriteFault>
+    ensures ok { OnOk result
+        (Appends (W.written output.old) (W.written output.new)
+        (warnings form setting (setup_of machine.now tools.now)
+        (history_of history.now.start history.now.changes.items) commands.now
+        (text_in program.now).lines)) }
+    ensures fault { OnErr result
+        (AppendsPrefix (W.written output.old) (W.written output.new)
+        (warnings form setting (setup_of machine.now tools.now)
+        (history_of history.now.start history.now.changes.items) commands.now
+        (text_in program.now).lines)) }
+    ensures counts { CountsFailure (W.failures output.old) (W.failures output.new) result }
+{
+    let deletes = is_on(setting);
+    let table = tools.tools();
+    write_warnings(form, machine, commands, output)?;
+    write_tool_warnings(form, machine, commands, output)?;
+    write_word_warnings(form, deletes, program, machine, table, commands, output)?;
+    write_origin_warnings(form, machine, table, history, commands, output)
+}
+
 // Writes the lowest heights and the warnings at a setting.
 fn write_remarks<A: Allocator, W: Sink>(
     form: Form,
@@ -88,7 +121,8 @@ fn write_remarks<A: Allocator, W: Sink>(
     output: &mut W,
 ) -> Result<(), WriteFault>
     requires tips { tips.now
-        ≡ lowest_tips history.now.start history.now.changes.items commands.now }
+        ≡ lowest_tips (tools_of tools.now) history.now.start history.now.changes.items
+        commands.now }
     ensures ok { OnOk result
         (Appends (W.written output.old) (W.written output.new)
         (remarks form setting (setup_of machine.now tools.now)
@@ -102,9 +136,9 @@ fn write_remarks<A: Allocator, W: Sink>(
     ensures counts { CountsFailure (W.failures output.old) (W.failures output.new) result }
 {
     write_lowest_tips(form, tips, output)?;
-    write_warnings(form, machine, commands, output)?;
-    write_word_warnings(form, is_on(setting), program, machine, commands, output)?;
-    write_origin_warnings(form, machine, tools.tools(), history, commands, output)
+    write_setting_warnings(
+        form, program, setting, machine, tools, history, commands, output,
+    )
 }
 
 // Writes what fits at a setting, the time there, the lowest heights, and the warnings.
@@ -125,7 +159,8 @@ fn write_setting<A: Allocator, M: MotionList, W: Sink>(
     output: &mut W,
 ) -> Result<(), WriteFault>
     requires tips { tips.now
-        ≡ lowest_tips history.now.start history.now.changes.items commands.now }
+        ≡ lowest_tips (tools_of tools.now) history.now.start history.now.changes.items
+        commands.now }
     ensures ok { OnOk result
         (Appends (W.written output.old) (W.written output.new)
         (setting_text form origins.now first named setting (setup_of machine.now tools.now)
@@ -147,7 +182,7 @@ fn write_setting<A: Allocator, M: MotionList, W: Sink>(
 }
 
 // Writes the warnings about the machine and its tools.
-fn write_shop<A: Allocator, W: Sink>(
+pub(crate) fn write_shop<A: Allocator, W: Sink>(
     form: Form,
     machine: &Machine<A>,
     tools: &Tools<A>,
@@ -200,7 +235,8 @@ pub(crate) fn write_once<A: Allocator, M: MotionList, W: Sink>(
     output: &mut W,
 ) -> Result<(), WriteFault>
     requires tips { tips.now
-        ≡ lowest_tips history.now.start history.now.changes.items accepted.now.off }
+        ≡ lowest_tips accepted.now.tools history.now.start history.now.changes.items
+        accepted.now.off }
     ensures ok { OnOk result
         (Appends (W.written output.old) (W.written output.new)
         (accepted_text form origins.now false accepted.now
@@ -255,9 +291,11 @@ pub(crate) fn write_both<A: Allocator, M: MotionList, W: Sink>(
     output: &mut W,
 ) -> Result<(), WriteFault>
     requires off_tips { off_tips.now
-        ≡ lowest_tips off_history.now.start off_history.now.changes.items accepted.now.off }
+        ≡ lowest_tips accepted.now.tools off_history.now.start off_history.now.changes.items
+        accepted.now.off }
     requires on_tips { on_tips.now
-        ≡ lowest_tips on_history.now.start on_history.now.changes.items accepted.now.on }
+        ≡ lowest_tips accepted.now.tools on_history.now.start on_history.now.changes.items
+        accepted.now.on }
     ensures ok { OnOk result
         (Appends (W.written output.old) (W.written output.new)
         (accepted_text form origins.now true accepted.now

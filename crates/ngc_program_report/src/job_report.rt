@@ -69,11 +69,12 @@ fn tips_at<A: Allocator + Copy>(
     block_delete: bool,
 ) -> Result<Vec<LowestTip, A>, ReportFault>
     ensures are { IfOk result (λ v. v.items
-        ≡ lowest_tips history.now.start history.now.changes.items
+        ≡ lowest_tips accepted.now.tools history.now.start history.now.changes.items
         (commands_at block_delete accepted.now)) }
     ensures memory { IfErr result (λ fault. fault ≡ ReportFault.Memory) }
 {
-    match lowest_tips(alloc, history, accepted.commands(block_delete)) {
+    let table = accepted.tools().tools();
+    match lowest_tips(alloc, table, history, accepted.commands(block_delete)) {
         Ok(tips) => Ok(tips),
         Err(_) => Err(ReportFault::Memory),
     }

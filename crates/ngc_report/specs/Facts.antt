@@ -1,7 +1,7 @@
 -- The lines of a report as facts: objects of one JSON document (RFC 8259), each after a comma, on
 -- its own line. Lengths are in nanometres. Our own.
 use Rattle.std.specs.Prelude.{ℕ, ℤ, List, [], ◌++◌, codes, decimal, Option, Some, None, length}
-use Rattle.std.specs.Prelude.{◌==◌, flat_map, if◌then◌else◌}
+use Rattle.std.specs.Prelude.{◌==◌, flat_map, Bool, true, false, if◌then◌else◌}
 use Rattle.std.specs.Fmt.{signed_decimal}
 use Rattle.ngc_fixed_length.specs.declared.points.Point3.{Point3}
 use Rattle.ngc_machine_files.specs.declared.tools.Tool.{Tool}
@@ -146,8 +146,16 @@ unfoldable pub fits_fact : Option Warning → List ℕ
 fits_fact None = codes ",\n{\"fact\":\"verdict\",\"fits\":true}"
 fits_fact (Some w) = nose_fact w
 
+-- whether the machine file describes a fixture
+abbrev pub described_fact : Bool → List ℕ
+described_fact true = []
+described_fact false = codes ",\n{\"fact\":\"fixtures\",\"described\":0}"
+
+abbrev pub verdict_fact : Option Warning → Bool → List ℕ
+verdict_fact nose described = fits_fact nose ++ described_fact described
+
 unfoldable pub line_fact : Line → List ℕ
-line_fact (lines.Fits nose) = fits_fact nose
+line_fact (lines.Fits nose described) = verdict_fact nose described
 line_fact lines.Refused = codes ",\n{\"fact\":\"verdict\",\"fits\":false}"
 line_fact (lines.Along a) = along_fact a
 line_fact (lines.Use u) = use_fact u

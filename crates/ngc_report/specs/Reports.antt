@@ -1,6 +1,6 @@
 -- The lines of reports. Our own.
 use Rattle.std.specs.Prelude.{ℕ, ◌+◌, ℤ, ◌*ℤ◌, List, [], ◌∷◌, ◌++◌, take, drop, Bool}
-use Rattle.std.specs.Prelude.{true, false, Option, Some, None, Result, IsTrue}
+use Rattle.std.specs.Prelude.{true, false, not, ◌==◌, length, Option, Some, None, Result, IsTrue}
 use Rattle.std.specs.List.{All, list_all}
 use Rattle.ngc_fixed_length.specs.Length.{IsStep}
 use Rattle.ngc_fixed_length.specs.declared.points.GridBox.{GridBox}
@@ -29,7 +29,7 @@ use Rattle.ngc_report.specs.declared.margins.Axis.TheVariants.{X, Y, Z}
 use Rattle.ngc_report.specs.declared.scene.Scene.{Scene}
 use Rattle.ngc_report.specs.declared.travel.AxisSpace.{AxisSpace}
 use Rattle.ngc_report.specs.declared.uses.ToolUse.{ToolUse}
-use Rattle.ngc_report.specs.declared.warnings.Concern.TheVariants.{NoTool}
+use Rattle.ngc_report.specs.declared.warnings.Concern.TheVariants.{Untested}
 
 -- the text of lines is added after the collected text; if a write fails, a prefix of both is
 -- written
@@ -66,9 +66,11 @@ use_lines machine (u ∷ us) motions =
 
 -- ---- reports
 
--- without a tool, a motion is tested only for the spindle nose
+-- A program that fits. Without a tool, a motion is tested only for the spindle nose. Without
+-- fixtures, it is tested only for the travel.
 abbrev pub fit_line : MachineFile → List Command → Line
-fit_line machine commands = lines.Fits (warning_about machine NoTool commands)
+fit_line machine commands =
+    lines.Fits (warning_about machine Untested commands) (not (length machine.fixtures == 0))
 
 -- the lines of a program that fits
 abbrev pub fit_lines : MachineFile → List Command → List Entry → List Line

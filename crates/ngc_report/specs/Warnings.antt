@@ -1,7 +1,7 @@
 -- Mistakes in a program that passes. Our own.
 use Rattle.std.specs.Prelude.{ℕ, ◌+◌, ◌*◌, min, nat_lt, nat_le, ℤ, int_lt, unsigned_abs, List, []}
 use Rattle.std.specs.Prelude.{◌∷◌, ◌++◌}
-use Rattle.std.specs.Prelude.{length, Option, Some, None, Bool, false, not, ◌&&◌, ◌||◌}
+use Rattle.std.specs.Prelude.{length, Option, Some, None, Bool, true, false, not, ◌&&◌, ◌||◌}
 use Rattle.std.specs.Prelude.{if◌then◌else◌}
 use Rattle.std.specs.List.{list_any}
 use Rattle.std.specs.Ordering.{int_eq}
@@ -35,7 +35,7 @@ use Rattle.ngc_report.specs.declared.tool_state.ToolState.{ToolState}
 use Rattle.ngc_report.specs.declared.warnings.Concern.{Concern}
 use Rattle.ngc_report.specs.declared.warnings.Concern.TheVariants.{NoTool, IdleSpindle}
 use Rattle.ngc_report.specs.declared.warnings.Concern.TheVariants.{FastFeed, NearlyFull, LowHome}
-use Rattle.ngc_report.specs.declared.warnings.Concern.TheVariants.{LowAcross}
+use Rattle.ngc_report.specs.declared.warnings.Concern.TheVariants.{LowAcross, Untested}
 use Rattle.ngc_report.specs.declared.warnings.Warning.{Warning}
 
 -- ---- without a tool
@@ -48,6 +48,15 @@ leaves p b = not (int_eq b.low.z p.z) || not (int_eq b.high.z p.z)
 abbrev pub is_unarmed : MachineFile → Option Tool → Way → Bool
 is_unarmed machine None way = leaves (grid machine.step machine.start) (reach machine.step way)
 is_unarmed machine (Some tool) way = false
+
+-- a feed without a tool
+abbrev pub is_bare_feed : Option Tool → Pace → Bool
+is_bare_feed None (Feed feed) = true
+is_bare_feed tool pace = false
+
+-- without a tool, a feed, or a motion that leaves the height of the start
+abbrev pub is_untested : MachineFile → Option Tool → Way → Pace → Bool
+is_untested machine tool way pace = is_bare_feed tool pace || is_unarmed machine tool way
 
 -- ---- the spindle off
 
@@ -170,6 +179,7 @@ concerns machine FastFeed s m = is_fast machine m.way m.pace
 concerns machine NearlyFull s m = is_nearly_full m.way
 concerns machine LowHome s m = is_low_home machine s.reached.tool m.way m.pace
 concerns machine LowAcross s m = is_low_across machine.step s.area s.entry m.way m.pace
+concerns machine Untested s m = is_untested machine s.reached.tool m.way m.pace
 
 -- a motion, with the tool and the spindle at that point
 abbrev pub is_concerned : MachineFile → Concern → ToolState → Action → Bool

@@ -1,6 +1,6 @@
 -- The lines of a report, in words and millimetres. Our own.
 use Rattle.std.specs.Prelude.{ℕ, ◌*◌, ◌/◌, ◌%◌, ℤ, pos, negsuc, unsigned_abs, List, [], ◌++◌, codes, decimal}
-use Rattle.std.specs.Prelude.{Option, Some, None, length, ◌==◌, if◌then◌else◌}
+use Rattle.std.specs.Prelude.{Option, Some, None, length, ◌==◌, Bool, true, false, if◌then◌else◌}
 use Rattle.std.specs.Int.{div_ceil}
 use Rattle.ngc_fixed_length.specs.declared.points.Point3.{Point3}
 use Rattle.ngc_text.specs.Millimetres.{number_text, size_text, mm_text}
@@ -25,7 +25,7 @@ use Rattle.ngc_report.specs.declared.uses.ToolUse.{ToolUse}
 use Rattle.ngc_report.specs.declared.warnings.Concern.{Concern}
 use Rattle.ngc_report.specs.declared.warnings.Concern.TheVariants.{NoTool, IdleSpindle}
 use Rattle.ngc_report.specs.declared.warnings.Concern.TheVariants.{FastFeed, NearlyFull, LowHome}
-use Rattle.ngc_report.specs.declared.warnings.Concern.TheVariants.{LowAcross}
+use Rattle.ngc_report.specs.declared.warnings.Concern.TheVariants.{LowAcross, Untested}
 use Rattle.ngc_report.specs.declared.warnings.Warning.{Warning}
 
 -- ---- lengths
@@ -152,6 +152,7 @@ concern_text FastFeed = codes "feeds above the greatest speed of the machine"
 concern_text NearlyFull = codes "arcs of over 359 degrees with ends less than 0.01 mm apart"
 concern_text LowHome = codes "traverses home along X or Y, below the top of a fixture"
 concern_text LowAcross = codes "traverses across the work without a retract before them"
+concern_text Untested = codes "motions on which only the spindle nose is tested"
 
 abbrev pub warning_text : Warning → List ℕ
 warning_text w =
@@ -170,8 +171,16 @@ fits_text None =
     codes "The program fits: every position is inside the travel and clear of every fixture.\n"
 fits_text (Some w) = nose_text w
 
+-- whether the machine file describes a fixture
+abbrev pub described_text : Bool → List ℕ
+described_text true = []
+described_text false = codes "No fixture is described: only the travel was tested.\n"
+
+abbrev pub verdict_text : Option Warning → Bool → List ℕ
+verdict_text nose described = fits_text nose ++ described_text described
+
 unfoldable pub line_text : Line → List ℕ
-line_text (lines.Fits nose) = fits_text nose
+line_text (lines.Fits nose described) = verdict_text nose described
 line_text lines.Refused = codes "The program does not fit.\n"
 line_text (lines.Along a) = along_text a
 line_text (lines.Use u) = use_text u

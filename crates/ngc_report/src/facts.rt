@@ -9,7 +9,8 @@ ghost use Rattle.ngc_report.specs.Facts.{side_fact, start_fact, command_fact, ov
 ghost use Rattle.ngc_report.specs.Facts.{travel_fact, fixture_fact, obstacle_fact, warning_fact};
 ghost use Rattle.ngc_report.specs.Facts.{distances, passed_fact, distance_fact, inward_fact};
 ghost use Rattle.ngc_report.specs.Facts.{clearing_fact};
-ghost use Rattle.ngc_report.specs.Facts.{nose_fact, fits_fact, line_fact};
+ghost use Rattle.ngc_report.specs.Facts.{nose_fact, fits_fact, described_fact, verdict_fact};
+ghost use Rattle.ngc_report.specs.Facts.{line_fact};
 ghost use Rattle.ngc_report.specs.Words.{concern_text};
 
 use crate::clearing::{Clearing, Inward, Passed};
@@ -319,7 +320,8 @@ fn add_warning(chunk: &mut Chunk, warning: &Warning)
 // Adds that a program fits, and the motions on which only the spindle nose was tested.
 fn add_nose(chunk: &mut Chunk, nose: &Warning)
     requires { HasSpaceForLine chunk.old }
-    ensures { chunk.new ≡ chunk.old ++ nose_fact nose.now }
+    ensures text { chunk.new ≡ chunk.old ++ nose_fact nose.now }
+    ensures short { length chunk.new ≤ length chunk.old + 300 }
 {
     chunk.add_text(b",\n{\"fact\":\"verdict\",\"fits\":true,\"tested\":\"nose\",\"motions\":");
     chunk.add_number(nose.count);
@@ -333,12 +335,32 @@ fn add_nose(chunk: &mut Chunk, nose: &Warning)
 #[tactic(auto, unfolding(crate::specs::Facts::fits_fact))]
 fn add_fits(chunk: &mut Chunk, nose: &Option<Warning>)
     requires { HasSpaceForLine chunk.old }
-    ensures { chunk.new ≡ chunk.old ++ fits_fact nose.now }
+    ensures text { chunk.new ≡ chunk.old ++ fits_fact nose.now }
+    ensures short { length chunk.new ≤ length chunk.old + 300 }
 {
     match nose {
         None => chunk.add_text(b",\n{\"fact\":\"verdict\",\"fits\":true}"),
         Some(nose) => add_nose(chunk, nose),
     }
+}
+
+fn described(described: bool) -> &'static [u8]
+    ensures text { result.now ≡ described_fact described }
+    ensures short { length result.now ≤ 60 }
+{
+    if described {
+        b""
+    } else {
+        b",\n{\"fact\":\"fixtures\",\"described\":0}"
+    }
+}
+
+fn add_verdict(chunk: &mut Chunk, nose: &Option<Warning>, is_described: bool)
+    requires { HasSpaceForLine chunk.old }
+    ensures { chunk.new ≡ chunk.old ++ verdict_fact nose.now is_described }
+{
+    add_fits(chunk, nose);
+    chunk.add_text(described(is_described));
 }
 
 /// Adds the fact of a line.
@@ -348,7 +370,7 @@ pub(crate) fn add_fact(chunk: &mut Chunk, line: &Line)
     ensures { chunk.new ≡ chunk.old ++ line_fact line.now }
 {
     match line {
-        Line::Fits(nose) => add_fits(chunk, nose),
+        Line::Fits(nose, described) => add_verdict(chunk, nose, *described),
         Line::Refused => chunk.add_text(b",\n{\"fact\":\"verdict\",\"fits\":false}"),
         Line::Along(along) => add_along(chunk, along),
         Line::Use(one) => add_use(chunk, one),

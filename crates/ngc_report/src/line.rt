@@ -20,8 +20,9 @@ pub struct Along {
 #[derive(Clone, Copy)]
 pub enum Line {
     /// Every position is inside the travel and clear of every fixture. On the motions of the
-    /// warning, if there is one, no tool is mounted, so that only the spindle nose was tested.
-    Fits(Option<Warning>),
+    /// warning, if there is one, no tool is mounted, so that only the spindle nose was tested. The
+    /// flag says whether the machine file describes a fixture.
+    Fits(Option<Warning>, bool),
     /// A motion, a tool change or the start isn't clear.
     Refused,
     /// The extent along an axis.

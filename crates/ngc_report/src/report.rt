@@ -142,11 +142,13 @@ fn write_uses<A: Allocator, M: MotionList, W: Sink>(
     Ok(())
 }
 
-/// Returns the line that a program fits, and the motions on which only the spindle nose was tested.
+/// Returns the line that a program fits, with the motions on which only the spindle nose was tested,
+/// and with whether the machine file describes a fixture.
 pub(crate) fn fit_line<A: Allocator>(machine: &Machine<A>, commands: &[Command]) -> Line
     ensures { result ≡ fit_line (file_of machine.now) commands.now }
 {
-    Line::Fits(warning_about(machine, Concern::NoTool, commands))
+    let nose = warning_about(machine, Concern::Untested, commands);
+    Line::Fits(nose, !machine.fixtures.is_empty())
 }
 
 fn write_fit_figures<A: Allocator, M: MotionList, W: Sink>(

@@ -14,6 +14,7 @@ ghost use Rattle.ngc_report.specs.Warnings.{is_low_home, concerns, is_concerned,
 ghost use Rattle.ngc_report.specs.Warnings.{is_across, is_over, is_lower, is_low_across, is_sideways};
 ghost use Rattle.ngc_report.specs.Warnings.{is_into_x, is_into_y};
 ghost use Rattle.ngc_report.specs.Warnings.{warning_about, counted, number_of};
+ghost use Rattle.ngc_report.specs.Warnings.{is_bare_feed, is_untested};
 
 use crate::bounds::reach;
 use crate::tool_state::{Entry, ToolState};
@@ -45,6 +46,9 @@ pub enum Concern {
     /// last feeds began, that reach inside the area of the program's feeds, as seen from above:
     /// usually a retract that is missing, or that isn't high enough.
     LowAcross,
+    /// Motions without a tool that feed or leave the height of the start. The verdict reports them,
+    /// since only the spindle nose is tested there.
+    Untested,
 }
 
 /// A warning about the commands of a program.
@@ -85,6 +89,26 @@ fn is_idle(is_turning: bool, tool: &Option<Tool>, pace: &Pace) -> bool
         (Some(_), Pace::Feed(_)) => !is_turning,
         (None, _) | (Some(_), Pace::Rapid) => false,
     }
+}
+
+fn is_bare_feed(tool: &Option<Tool>, pace: &Pace) -> bool
+    ensures { result ≡ is_bare_feed tool.now pace.now }
+{
+    match (tool, pace) {
+        (None, Pace::Feed(_)) => true,
+        (None, Pace::Rapid) | (Some(_), _) => false,
+    }
+}
+
+fn is_untested<A: Allocator>(
+    machine: &Machine<A>,
+    tool: &Option<Tool>,
+    way: &Way,
+    pace: &Pace,
+) -> bool
+    ensures { result ≡ is_untested (file_of machine.now) tool.now way.now pace.now }
+{
+    is_bare_feed(tool, pace) || is_unarmed(machine, tool, way)
 }
 
 fn size_of(step: Nm) -> u64
@@ -318,6 +342,7 @@ fn concerns<A: Allocator>(
             &motion.way,
             &motion.pace,
         ),
+        Concern::Untested => is_untested(machine, tool, &motion.way, &motion.pace),
     }
 }
 

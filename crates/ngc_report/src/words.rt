@@ -3,7 +3,7 @@ ghost use Rattle.std.specs.Prelude.{◌≡◌, ◌+◌, ◌≤◌, ◌++◌, cod
 ghost use Rattle.ngc_text.specs.Collected.{CHUNK_SIZE, HasSpaceForLine};
 ghost use Rattle.ngc_collision.specs.Inside.{place_of};
 ghost use Rattle.ngc_text.specs.Millimetres.{mm_text};
-ghost use Rattle.ngc_report.specs.Words.{space_words, space_text, place_text, axis_text, side_text};
+ghost use Rattle.ngc_report.specs.Words.{described_text, verdict_text, space_words, space_text, place_text, axis_text, side_text};
 ghost use Rattle.ngc_report.specs.Words.{bracketed, called_text, nearest_text, along_text, use_text};
 ghost use Rattle.ngc_report.specs.Words.{command_text, over_text, met_text, obstacle_text};
 ghost use Rattle.ngc_report.specs.Words.{concern_text, warning_text, nose_text, fits_text};
@@ -393,6 +393,7 @@ pub(crate) fn concern_words(concern: Concern) -> &'static [u8]
         Concern::NearlyFull => b"arcs of over 359 degrees with ends less than 0.01 mm apart",
         Concern::LowHome => b"traverses home along X or Y, below the top of a fixture",
         Concern::LowAcross => b"traverses across the work without a retract before them",
+        Concern::Untested => b"motions on which only the spindle nose is tested",
     }
 }
 
@@ -412,7 +413,8 @@ fn add_warning(chunk: &mut Chunk, warning: &Warning)
 // Adds that a program fits, and the motions on which only the spindle nose was tested.
 fn add_nose(chunk: &mut Chunk, nose: &Warning)
     requires { HasSpaceForLine chunk.old }
-    ensures { chunk.new ≡ chunk.old ++ nose_text nose.now }
+    ensures text { chunk.new ≡ chunk.old ++ nose_text nose.now }
+    ensures short { length chunk.new ≤ length chunk.old + 300 }
 {
     chunk.add_text(
         b"The program fits, but without a tool only the spindle nose was tested: motions ",
@@ -428,7 +430,8 @@ fn add_nose(chunk: &mut Chunk, nose: &Warning)
 #[tactic(auto, unfolding(crate::specs::Words::fits_text))]
 fn add_fits(chunk: &mut Chunk, nose: &Option<Warning>)
     requires { HasSpaceForLine chunk.old }
-    ensures { chunk.new ≡ chunk.old ++ fits_text nose.now }
+    ensures text { chunk.new ≡ chunk.old ++ fits_text nose.now }
+    ensures short { length chunk.new ≤ length chunk.old + 300 }
 {
     match nose {
         None => chunk.add_text(
@@ -438,6 +441,25 @@ fn add_fits(chunk: &mut Chunk, nose: &Option<Warning>)
     }
 }
 
+fn described(described: bool) -> &'static [u8]
+    ensures text { result.now ≡ described_text described }
+    ensures short { length result.now ≤ 60 }
+{
+    if described {
+        b""
+    } else {
+        b"No fixture is described: only the travel was tested.\n"
+    }
+}
+
+fn add_verdict(chunk: &mut Chunk, nose: &Option<Warning>, is_described: bool)
+    requires { HasSpaceForLine chunk.old }
+    ensures { chunk.new ≡ chunk.old ++ verdict_text nose.now is_described }
+{
+    add_fits(chunk, nose);
+    chunk.add_text(described(is_described));
+}
+
 /// Adds the text of a line.
 #[tactic(auto, unfolding(crate::specs::Words::line_text))]
 pub(crate) fn add_line(chunk: &mut Chunk, line: &Line)
@@ -445,7 +467,7 @@ pub(crate) fn add_line(chunk: &mut Chunk, line: &Line)
     ensures { chunk.new ≡ chunk.old ++ line_text line.now }
 {
     match line {
-        Line::Fits(nose) => add_fits(chunk, nose),
+        Line::Fits(nose, described) => add_verdict(chunk, nose, *described),
         Line::Refused => chunk.add_text(b"The program does not fit.\n"),
         Line::Along(along) => add_along(chunk, along),
         Line::Use(one) => add_use(chunk, one),

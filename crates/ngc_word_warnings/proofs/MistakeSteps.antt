@@ -2,6 +2,7 @@
 use Rattle.std.proofs.Common.{◌≡◌, ℕ, zero, suc, ◌+◌, List, [], ◌∷◌, ◌++◌, length, drop, Option, Some, None, Bool, ap, sym, ◌∙◌, refl, arith}
 use Rattle.std.specs.List.{slice_get}
 use Rattle.std.specs.Option.{option_map}
+use Rattle.ngc_machine_files.specs.declared.tools.Tool.{Tool}
 use Rattle.ngc_line_reader.specs.Program.{Line}
 use Rattle.ngc_line_reader.specs.ReadLine.{line_read}
 use Rattle.ngc_commands.specs.declared.command.Command.{Command}
@@ -51,12 +52,12 @@ pub none_later : (found : Option Slips) → with_later found [] ≡ found
 none_later None = refl
 none_later (Some s) = ap (λ (n : ℕ). Some (record s { count = n })) (omega arith)
 
-pub further : (kind : Kind) (deletes : Bool) (commands : List Command) (lines : List Line) (i number : ℕ) (bytes : List ℕ) (b : Between) (found : Option Slips)
+pub further : (kind : Kind) (tools : List Tool) (deletes : Bool) (commands : List Command) (lines : List Line) (i number : ℕ) (bytes : List ℕ) (b : Between) (found : Option Slips)
     → At lines i number bytes →
-    with_later (counted found number (step_read kind deletes commands b number (line_read bytes)).slip)
-    (all_found kind deletes commands (step_read kind deletes commands b number (line_read bytes)).between (drop (i + 1) lines))
-    ≡ with_later found (all_found kind deletes commands b (drop i lines))
-further kind deletes commands lines i number bytes b found here =
-    one_more found number (step_read kind deletes commands b number (line_read bytes)).slip
-    (all_found kind deletes commands (step_read kind deletes commands b number (line_read bytes)).between (drop (i + 1) lines))
+    with_later (counted found number (step_read kind tools deletes commands b number (line_read bytes)).slip)
+    (all_found kind tools deletes commands (step_read kind tools deletes commands b number (line_read bytes)).between (drop (i + 1) lines))
+    ≡ with_later found (all_found kind tools deletes commands b (drop i lines))
+further kind tools deletes commands lines i number bytes b found here =
+    one_more found number (step_read kind tools deletes commands b number (line_read bytes)).slip
+    (all_found kind tools deletes commands (step_read kind tools deletes commands b number (line_read bytes)).between (drop (i + 1) lines))
     ∙ rw (next_here lines i here.line here.is, here.number_is, here.bytes_are) refl

@@ -1,2 +1,4 @@
+pub mod Words
+pub mod Offsets
 pub mod Slips
 pub mod Spelling

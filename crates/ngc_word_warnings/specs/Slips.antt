@@ -24,7 +24,10 @@ use Rattle.ngc_commands.specs.declared.movement.Pace.TheVariants.{Rapid, Feed}
 use Rattle.ngc_commands.specs.declared.reached.Reached.{Reached}
 use Rattle.ngc_commands.specs.Movement.{end_of}
 use Rattle.ngc_commands.specs.Reached.{after, after_all, at_start}
-use Rattle.ngc_report.specs.Marks.{written_number}
+use Rattle.ngc_word_warnings.specs.Offsets.{is_applied, is_apart, is_other, offset_after, offset_of}
+use Rattle.ngc_word_warnings.specs.Words.{axis_words, has_code, is_zero, number_after, zero_words}
+use Rattle.ngc_word_warnings.specs.declared.offset.Offset.{Offset}
+use Rattle.ngc_word_warnings.specs.declared.offset.Offset.TheVariants as offsets
 use Rattle.ngc_word_warnings.specs.declared.between.Between.{Between}
 use Rattle.ngc_word_warnings.specs.declared.between.Step.{Step}
 use Rattle.ngc_word_warnings.specs.declared.slip.Found.{Found}
@@ -33,17 +36,6 @@ use Rattle.ngc_word_warnings.specs.declared.slip.Kind.TheVariants as kinds
 use Rattle.ngc_word_warnings.specs.declared.slip.Slip.{Slip}
 use Rattle.ngc_word_warnings.specs.declared.slip.Slip.TheVariants as slips
 use Rattle.ngc_word_warnings.specs.declared.slip.Slips.{Slips}
-
--- ---- words
-
-abbrev pub has_letter : Letter → RawWord → Bool
-has_letter letter word = letter_byte word.letter == letter_byte letter
-
--- The number after a letter in a line, in millionths. There is none if the line has no such word,
--- or if that word's value has brackets or a parameter.
-abbrev pub number_after : Letter → Parts → Option ℤ
-number_after letter said =
-    option_and_then (written_number said.tokens) (find (has_letter letter) said.words)
 
 -- ---- a tool that is never mounted
 
@@ -67,20 +59,7 @@ unmounted commands number =
 abbrev pub other_offset : Option Tool → ℤ → Option Slip
 other_offset None offset = None
 other_offset (Some tool) offset =
-    if int_lt (pos 0) offset && not (int_eq offset (pos (tool.number * 1000000)))
-    then Some (slips.OtherOffset offset tool.number) else None
-
-abbrev pub is_number : ℤ → Option ℤ → Bool
-is_number number None = false
-is_number number (Some written) = int_eq written number
-
--- a word that is written as this letter and number, in millionths
-abbrev pub is_code : Letter → ℤ → List Token → RawWord → Bool
-is_code letter number tokens word =
-    has_letter letter word && is_number number (written_number tokens word)
-
-abbrev pub has_code : Letter → ℤ → Parts → Bool
-has_code letter number said = list_any (is_code letter number said.tokens) said.words
+    if is_other tool offset then Some (slips.OtherOffset offset tool.number) else None
 
 -- G43 with a number after H, while this tool is mounted
 abbrev pub wrong_offset : Option Tool → Parts → Option Slip
@@ -91,30 +70,8 @@ wrong_offset mounted said =
 
 -- ---- home along some axes
 
-abbrev pub count_if : Bool → ℕ
-count_if false = 0
-count_if true = 1
-
-abbrev pub has_word : Letter → Parts → Bool
-has_word letter said = list_any (has_letter letter) said.words
-
--- the number of axis words in a line
-abbrev pub axis_words : Parts → ℕ
-axis_words said =
-    count_if (has_word letters.X said) + count_if (has_word letters.Y said)
-    + count_if (has_word letters.Z said)
-
 abbrev pub goes_home : Parts → Bool
 goes_home said = has_code letters.G (pos 28000000) said || has_code letters.G (pos 30000000) said
-
--- the number of them that are written as 0
-abbrev pub is_zero : Letter → Parts → Bool
-is_zero letter said = is_number (pos 0) (number_after letter said)
-
-abbrev pub zero_words : Parts → ℕ
-zero_words said =
-    count_if (is_zero letters.X said) + count_if (is_zero letters.Y said)
-    + count_if (is_zero letters.Z said)
 
 -- `G91 G28 Z0` as posts write it: one or two axis words, each 0
 abbrev pub names_some : ℕ → ℕ → Bool
@@ -125,14 +82,7 @@ part_home said =
     if goes_home said && names_some (axis_words said) (zero_words said)
     then Some slips.PartHome else None
 
--- ---- no length offset
-
--- whether a length offset is in force after the words of a line: G43 applies one, except with H0,
--- and G49 cancels it
-abbrev pub is_offset_after : Bool → Parts → Bool
-is_offset_after before said =
-    if has_code letters.G (pos 43000000) said then not (is_zero letters.H said)
-    else (if has_code letters.G (pos 49000000) said then false else before)
+-- ---- no length offset, or that of another tool
 
 abbrev pub is_feed : Pace → Bool
 is_feed Rapid = false
@@ -159,14 +109,36 @@ bare_feed r [] = None
 bare_feed r (c ∷ cs) =
     or_else (bare_tool r.tool (feeds_down r c.action)) (bare_feed (after r c.action) cs)
 
-abbrev pub without_offset : Bool → Reached → List Command → Option Slip
-without_offset is_offset r cs = if is_offset then None else bare_feed r cs
+abbrev pub without_offset : Offset → Reached → List Command → Option Slip
+without_offset offset r cs = if is_applied offset then None else bare_feed r cs
+
+abbrev pub feeds : Action → Bool
+feeds (Move m) = is_feed m.pace
+feeds _ = false
+
+-- a tool feeds with the offset of the tool with another number, in millionths
+abbrev pub stale_tool : List Tool → ℤ → Option Tool → Bool → Option Slip
+stale_tool tools number None feeding = None
+stale_tool tools number (Some tool) feeding =
+    if feeding && is_apart (offset_of tools number) tool
+    then Some (slips.StaleOffset number tool.number) else None
+
+-- the first of these commands that feeds with it
+abbrev pub stale_feed : List Tool → ℤ → Reached → List Command → Option Slip
+stale_feed tools number r [] = None
+stale_feed tools number r (c ∷ cs) =
+    or_else (stale_tool tools number r.tool (feeds c.action))
+    (stale_feed tools number (after r c.action) cs)
+
+abbrev pub with_stale : List Tool → Offset → Reached → List Command → Option Slip
+with_stale tools (offsets.Of number) r cs = stale_feed tools number r cs
+with_stale tools _ r cs = None
 
 -- ---- from line to line
 
 -- the state before the first line
 abbrev pub beginning : MachineFile → Between
-beginning machine = record { count = 0; reached = at_start machine; is_offset = false }
+beginning machine = record { count = 0; reached = at_start machine; offset = offsets.Off }
 
 -- the commands of the line with this number
 abbrev pub given : ℕ → List Command → Between → List Command
@@ -177,20 +149,24 @@ abbrev pub passed : ℕ → List Command → Parts → Between → Between
 passed number commands said b = record {
   count = b.count + length (given number commands b);
   reached = after_all b.reached (given number commands b);
-  is_offset = is_offset_after b.is_offset said;
+  offset =
+      offset_after (after_all b.reached (given number commands b)).tool b.offset said;
 }
 
 -- ---- a line
 
 -- the mistake of this kind in a line with these words and its own commands
-abbrev pub slip_in : Kind → List Command → Between → List Command → Parts → Between → Option Slip
-slip_in kinds.Unmounted commands before own said after_it =
+abbrev pub slip_in : Kind → List Tool → List Command → Between → List Command → Parts → Between →
+    Option Slip
+slip_in kinds.Unmounted tools commands before own said after_it =
     option_and_then (unmounted commands) (number_after letters.T said)
-slip_in kinds.OtherOffset commands before own said after_it =
+slip_in kinds.OtherOffset tools commands before own said after_it =
     wrong_offset after_it.reached.tool said
-slip_in kinds.NoOffset commands before own said after_it =
-    without_offset after_it.is_offset before.reached own
-slip_in kinds.PartHome commands before own said after_it = part_home said
+slip_in kinds.NoOffset tools commands before own said after_it =
+    without_offset after_it.offset before.reached own
+slip_in kinds.StaleOffset tools commands before own said after_it =
+    with_stale tools after_it.offset before.reached own
+slip_in kinds.PartHome tools commands before own said after_it = part_home said
 
 -- the line of the last command
 abbrev pub last_line : Option Command → ℕ
@@ -204,21 +180,22 @@ is_executed deletes commands number deleted =
     nat_le number (last_line (slice_get commands (length commands - 1))) && not (deletes && deleted)
 
 -- the mistake in the line with this number, and the state after it
-abbrev pub step_taken : Kind → List Command → Between → ℕ → Parts → Step
-step_taken kind commands b number said = record {
-  slip = slip_in kind commands b (given number commands b) said (passed number commands said b);
+abbrev pub step_taken : Kind → List Tool → List Command → Between → ℕ → Parts → Step
+step_taken kind tools commands b number said = record {
+  slip = slip_in kind tools commands b (given number commands b) said (passed number commands said b);
   between = passed number commands said b;
 }
 
-abbrev pub step_said : Kind → Bool → List Command → Between → ℕ → ParsedLine → Step
-step_said kind deletes commands b number said =
+abbrev pub step_said : Kind → List Tool → Bool → List Command → Between → ℕ → ParsedLine → Step
+step_said kind tools deletes commands b number said =
     if is_executed deletes commands number said.deleted
-    then step_taken kind commands b number said.parts
+    then step_taken kind tools commands b number said.parts
     else record { slip = None; between = b }
 
-abbrev pub step_read : Kind → Bool → List Command → Between → ℕ → Result ParsedLine LineFault → Step
-step_read kind deletes commands b number (Ok said) = step_said kind deletes commands b number said
-step_read kind deletes commands b number (Err fault) = record { slip = None; between = b }
+abbrev pub step_read : Kind → List Tool → Bool → List Command → Between → ℕ →
+    Result ParsedLine LineFault → Step
+step_read kind tools deletes commands b number (Ok said) = step_said kind tools deletes commands b number said
+step_read kind tools deletes commands b number (Err fault) = record { slip = None; between = b }
 
 -- ---- over a program
 
@@ -226,25 +203,26 @@ abbrev pub found_in : ℕ → Option Slip → List Found
 found_in number None = []
 found_in number (Some slip) = record { line = number; slip = slip } ∷ []
 
-abbrev pub step_of : Kind → Bool → List Command → Between → Line → Step
-step_of kind deletes commands b l =
-    step_read kind deletes commands b l.number (line_read l.bytes)
+abbrev pub step_of : Kind → List Tool → Bool → List Command → Between → Line → Step
+step_of kind tools deletes commands b l =
+    step_read kind tools deletes commands b l.number (line_read l.bytes)
 
 -- the mistakes of a kind in these lines, in order; the commands are those of the whole program
-abbrev pub all_found : Kind → Bool → List Command → Between → List Line → List Found
-all_found kind deletes commands b [] = []
-all_found kind deletes commands b (l ∷ ls) =
-    found_in l.number (step_of kind deletes commands b l).slip
-    ++ all_found kind deletes commands (step_of kind deletes commands b l).between ls
+abbrev pub all_found : Kind → List Tool → Bool → List Command → Between → List Line → List Found
+all_found kind tools deletes commands b [] = []
+all_found kind tools deletes commands b (l ∷ ls) =
+    found_in l.number (step_of kind tools deletes commands b l).slip
+    ++ all_found kind tools deletes commands (step_of kind tools deletes commands b l).between ls
 
 -- the first and the number of all, or none
 abbrev pub slips_among : List Found → Option Slips
 slips_among [] = None
 slips_among (f ∷ fs) = Some (record { first = f; count = length (f ∷ fs) })
 
-abbrev pub slips_of : Kind → Bool → MachineFile → List Command → List Line → Option Slips
-slips_of kind deletes machine commands lines =
-    slips_among (all_found kind deletes commands (beginning machine) lines)
+abbrev pub slips_of : Kind → List Tool → Bool → MachineFile → List Command → List Line →
+    Option Slips
+slips_of kind tools deletes machine commands lines =
+    slips_among (all_found kind tools deletes commands (beginning machine) lines)
 
 -- ---- the count of mistakes
 

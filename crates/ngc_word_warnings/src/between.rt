@@ -1,5 +1,6 @@
 ghost use Rattle.std.specs.Prelude.{◌≡◌, None};
 
+use crate::offset::Offset;
 use crate::slip::Slip;
 use ngc_commands::Reached;
 
@@ -10,8 +11,8 @@ pub struct Between {
     pub count: usize,
     /// The tool and the position after these commands.
     pub reached: Reached,
-    /// Whether a length offset is in force.
-    pub is_offset: bool,
+    /// The length offset in force.
+    pub offset: Offset,
 }
 
 /// The mistake in a line, and the state after it.

@@ -1,9 +1,9 @@
 //! The words of a program's line that are written as numbers.
 ghost use Rattle.std.specs.Prelude.{◌≡◌, find};
 ghost use Rattle.ngc_line_reader.specs.ScanLine.{parts_of};
-ghost use Rattle.ngc_word_warnings.specs.Slips.{axis_words, count_if, has_code, has_letter};
-ghost use Rattle.ngc_word_warnings.specs.Slips.{has_word, is_code, is_number, is_zero};
-ghost use Rattle.ngc_word_warnings.specs.Slips.{number_after, zero_words};
+ghost use Rattle.ngc_word_warnings.specs.Words.{axis_words, count_if, has_code, has_letter};
+ghost use Rattle.ngc_word_warnings.specs.Words.{has_word, is_code, is_number, is_zero};
+ghost use Rattle.ngc_word_warnings.specs.Words.{number_after, zero_words};
 
 use ngc_line_reader::{Letter, Line, RawWord, Token};
 use ngc_report::{letter_byte, written_number};

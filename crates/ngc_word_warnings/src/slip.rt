@@ -8,6 +8,10 @@ pub enum Kind {
     /// A feed downwards with a tool whose offset in the tool table isn't 0, while no length offset
     /// is in force: before any G43, after G49, or after G43 H0.
     NoOffset,
+    /// A feed while the length offset of another tool than the mounted one is in force, which
+    /// differs by 10 nm or more: after M6 without G43. The line of a G43 with the H of another tool
+    /// is a mistake of `OtherOffset`, so an offset that it applies isn't one of this kind.
+    StaleOffset,
     /// G28 or G30 with one or two of the words X, Y and Z, each 0. Other controls move only those
     /// axes home.
     PartHome,
@@ -22,6 +26,8 @@ pub enum Slip {
     OtherOffset { offset: i64, tool: u32 },
     /// The number of the tool that feeds downwards.
     NoOffset { tool: u32 },
+    /// The number of the tool whose offset is in force, in millionths, and that of the mounted tool.
+    StaleOffset { offset: i64, tool: u32 },
     /// G28 or G30 with some axis words, each 0.
     PartHome,
 }

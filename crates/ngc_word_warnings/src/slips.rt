@@ -11,11 +11,14 @@ ghost use Rattle.ngc_word_warnings.specs.Slips.{last_line, is_executed, step_tak
 ghost use Rattle.ngc_word_warnings.specs.Slips.{step_said, step_read};
 ghost use Rattle.ngc_word_warnings.specs.Slips.{slips_of, counted, count_of, given};
 ghost use Rattle.ngc_word_warnings.specs.Slips.{other_offset, wrong_offset, goes_home, names_some};
-ghost use Rattle.ngc_word_warnings.specs.Slips.{part_home, beginning, is_offset_after, is_feed};
+ghost use Rattle.ngc_word_warnings.specs.Slips.{part_home, beginning, is_feed, feeds};
 ghost use Rattle.ngc_word_warnings.specs.Slips.{feeds_down, bare_tool, bare_feed, without_offset};
+ghost use Rattle.ngc_word_warnings.specs.Slips.{stale_tool, stale_feed, with_stale};
+ghost use Rattle.ngc_word_warnings.specs.Offsets.{offset_after};
 
 use crate::between::{Between, Step};
-use crate::said::{axis_words, has_code, is_zero, number_after, zero_words};
+use crate::offset::{Offset, is_apart, is_other};
+use crate::said::{axis_words, has_code, number_after, zero_words};
 use crate::slip::{Found, Kind, Slip, Slips};
 use ngc_commands::{Action, Command, Pace, Reached};
 use ngc_line_reader::{Letter, Line, Program, read_line};
@@ -53,13 +56,11 @@ fn unmounted(commands: &[Command], number: i64) -> Option<Slip>
 fn other_offset(mounted: Option<Tool>, offset: i64) -> Option<Slip>
     ensures { result ≡ other_offset mounted offset }
 {
-    match mounted {
-        Some(tool) if 0 < offset && offset != i64::from(tool.number) * 1_000_000 => {
-            Some(Slip::OtherOffset {
-                offset,
-                tool: tool.number,
-            })
-        }
+    match &mounted {
+        Some(tool) if is_other(tool, offset) => Some(Slip::OtherOffset {
+            offset,
+            tool: tool.number,
+        }),
         _ => None,
     }
 }
@@ -95,18 +96,6 @@ fn part_home(line: &Line) -> Option<Slip>
         Some(Slip::PartHome)
     } else {
         None
-    }
-}
-
-fn is_offset_after(before: bool, line: &Line) -> bool
-    ensures { result ≡ is_offset_after before (parts_of line.now) }
-{
-    if has_code(line, Letter::G, 43_000_000) {
-        !is_zero(line, Letter::H)
-    } else if has_code(line, Letter::G, 49_000_000) {
-        false
-    } else {
-        before
     }
 }
 
@@ -155,13 +144,62 @@ fn bare_feed(reached: Reached, commands: &[Command]) -> Option<Slip>
     None
 }
 
-fn without_offset(is_offset: bool, reached: Reached, commands: &[Command]) -> Option<Slip>
-    ensures { result ≡ without_offset is_offset reached commands.now }
+fn without_offset(offset: &Offset, reached: Reached, commands: &[Command]) -> Option<Slip>
+    ensures { result ≡ without_offset offset.now reached commands.now }
 {
-    if is_offset {
+    if offset.is_applied() {
         None
     } else {
         bare_feed(reached, commands)
+    }
+}
+
+fn feeds(action: &Action) -> bool
+    ensures { result ≡ feeds action.now }
+{
+    match action {
+        Action::Move(motion) => is_feed(&motion.pace),
+        _ => false,
+    }
+}
+
+fn stale_tool(tools: &[Tool], number: &i64, tool: &Option<Tool>, feeding: bool) -> Option<Slip>
+    ensures { result ≡ stale_tool tools.now number.now tool.now feeding }
+{
+    match tool {
+        Some(tool) if feeding && is_apart(tools, *number, tool) => Some(Slip::StaleOffset {
+            offset: *number,
+            tool: tool.number,
+        }),
+        _ => None,
+    }
+}
+
+fn stale_feed(tools: &[Tool], number: &i64, reached: Reached, commands: &[Command]) -> Option<Slip>
+    ensures { result ≡ stale_feed tools.now number.now reached commands.now }
+{
+    let mut before = reached;
+    for command in commands {
+        let slip = stale_tool(tools, number, &before.tool, feeds(&command.action));
+        if slip.is_some() {
+            return slip;
+        }
+        before = before.after(&command.action);
+    }
+    None
+}
+
+fn with_stale(
+    tools: &[Tool],
+    offset: &Offset,
+    reached: Reached,
+    commands: &[Command],
+) -> Option<Slip>
+    ensures { result ≡ with_stale tools.now offset.now reached commands.now }
+{
+    match offset {
+        Offset::Of(number) => stale_feed(tools, number, reached, commands),
+        Offset::Off | Offset::Other => None,
     }
 }
 
@@ -185,7 +223,7 @@ impl Between {
         Between {
             count: 0,
             reached: Reached::at_start(machine),
-            is_offset: false,
+            offset: Offset::Off,
         }
     }
 
@@ -204,30 +242,35 @@ impl Between {
         ensures { result ≡ record {
           count = self.now.count + length given.now;
           reached = after_all self.now.reached given.now;
-          is_offset = is_offset_after self.now.is_offset (parts_of line.now);
+          offset = offset_after (after_all self.now.reached given.now).tool self.now.offset
+              (parts_of line.now);
         } }
     {
+        let reached = self.reached.after_all(given);
         Between {
             count: self.count + given.len(),
-            reached: self.reached.after_all(given),
-            is_offset: is_offset_after(self.is_offset, line),
+            reached,
+            offset: self.offset.after(&reached.tool, line),
         }
     }
 }
 
 fn slip_in(
     kind: Kind,
+    tools: &[Tool],
     commands: &[Command],
     before: &Between,
     given: &[Command],
     line: &Line,
     after: &Between,
 ) -> Option<Slip>
-    ensures { result ≡ slip_in kind commands.now before.now given.now (parts_of line.now) after.now }
+    ensures { result ≡ slip_in kind tools.now commands.now before.now given.now
+        (parts_of line.now) after.now }
 {
     match kind {
         Kind::OtherOffset => wrong_offset(after.reached.tool, line),
-        Kind::NoOffset => without_offset(after.is_offset, before.reached, given),
+        Kind::NoOffset => without_offset(&after.offset, before.reached, given),
+        Kind::StaleOffset => with_stale(tools, &after.offset, before.reached, given),
         Kind::PartHome => part_home(line),
         Kind::Unmounted => match number_after(line, Letter::T) {
             Some(number) => unmounted(commands, number),
@@ -251,21 +294,30 @@ fn is_executed(deletes: bool, commands: &[Command], number: u32, deleted: bool) 
     number <= last_line(commands) && !(deletes && deleted)
 }
 
-fn step_taken(kind: Kind, commands: &[Command], before: &Between, number: u32, line: &Line) -> Step
+fn step_taken(
+    kind: Kind,
+    tools: &[Tool],
+    commands: &[Command],
+    before: &Between,
+    number: u32,
+    line: &Line,
+) -> Step
     requires { before.now.count ≤ length commands.now }
-    ensures value { result ≡ step_taken kind commands.now before.now number (parts_of line.now) }
+    ensures value { result ≡ step_taken kind tools.now commands.now before.now number
+        (parts_of line.now) }
     ensures few { result.between.count ≤ length commands.now }
 {
     let given = before.given(number, commands);
     let after = before.after_line(line, given);
     Step {
-        slip: slip_in(kind, commands, before, given, line, &after),
+        slip: slip_in(kind, tools, commands, before, given, line, &after),
         between: after,
     }
 }
 
 fn step_said(
     kind: Kind,
+    tools: &[Tool],
     deletes: bool,
     commands: &[Command],
     before: &Between,
@@ -273,12 +325,12 @@ fn step_said(
     line: &Line,
 ) -> Step
     requires { before.now.count ≤ length commands.now }
-    ensures value { result ≡ step_said kind deletes commands.now before.now number
+    ensures value { result ≡ step_said kind tools.now deletes commands.now before.now number
         (parsed_line_of line.now) }
     ensures few { result.between.count ≤ length commands.now }
 {
     if is_executed(deletes, commands, number, line.deleted) {
-        step_taken(kind, commands, before, number, line)
+        step_taken(kind, tools, commands, before, number, line)
     } else {
         Step::nothing(before)
     }
@@ -286,6 +338,7 @@ fn step_said(
 
 fn step_read(
     kind: Kind,
+    tools: &[Tool],
     deletes: bool,
     commands: &[Command],
     before: &Between,
@@ -293,12 +346,12 @@ fn step_read(
     bytes: &[u8],
 ) -> Step
     requires { before.now.count ≤ length commands.now }
-    ensures value { result ≡ step_read kind deletes commands.now before.now number
+    ensures value { result ≡ step_read kind tools.now deletes commands.now before.now number
         (line_read bytes.now) }
     ensures few { result.between.count ≤ length commands.now }
 {
     match read_line(bytes) {
-        Ok(line) => step_said(kind, deletes, commands, before, number, &line),
+        Ok(line) => step_said(kind, tools, deletes, commands, before, number, &line),
         Err(_) => Step::nothing(before),
     }
 }
@@ -321,17 +374,18 @@ fn counted(found: Option<Slips>, line: u32, slip: Option<Slip>) -> Option<Slips>
     }
 }
 
-/// Returns the mistakes of a kind in the lines of a program that are executed on a machine, or
-/// `None` if no line has one. `commands` are the program's commands at the same setting of block
+/// Returns the mistakes of a kind in the lines of a program that are executed on a machine with its
+/// tools, or `None` if no line has one. `commands` are the program's commands at the same setting of block
 /// delete. The time is in proportion to the lines and the commands.
 pub fn slips_of<A: Allocator, B: Allocator>(
     kind: Kind,
     deletes: bool,
     program: &Program<A>,
     machine: &Machine<B>,
+    tools: &[Tool],
     commands: &[Command],
 ) -> Option<Slips>
-    ensures { result ≡ slips_of kind deletes (file_of machine.now) commands.now
+    ensures { result ≡ slips_of kind tools.now deletes (file_of machine.now) commands.now
         (text_in program.now).lines }
 {
     let mut found = None;
@@ -340,6 +394,7 @@ pub fn slips_of<A: Allocator, B: Allocator>(
         let number = program.number(index);
         let step = step_read(
             kind,
+            tools,
             deletes,
             commands,
             &between,

@@ -1,124 +1,90 @@
-//! How mistakes are written, in words or as facts of a JSON document.
-ghost use Rattle.std.specs.Prelude.{◌≡◌, ◌+◌, ◌≤◌, ◌++◌, length};
-ghost use Rattle.ngc_text.specs.Collected.{CHUNK_SIZE};
-ghost use Rattle.ngc_word_warnings.specs.Spelling.{kind_text, offset_remark, remark_text, number_facts};
-ghost use Rattle.ngc_word_warnings.specs.Spelling.{slips_words, slips_fact, spelled};
+//! How mistakes are said, in words or as facts of a JSON document.
+ghost use Rattle.std.specs.Prelude.{◌≡◌};
+ghost use Rattle.ngc_text.specs.Millimetres.{length_text};
+ghost use Rattle.ngc_sentences.specs.Parts.{part_text};
+ghost use Rattle.ngc_sentences.specs.Saying.{Says};
+ghost use Rattle.ngc_word_warnings.specs.Spelling.{kind_text, number_facts, remark_text};
+ghost use Rattle.ngc_word_warnings.specs.Spelling.{slips_fact, slips_words, spelled};
 
 use crate::slip::{Slip, Slips};
 use ngc_report::Form;
-use ngc_text::Chunk;
+use ngc_sentences::{Page, Part, say};
+use ngc_text::Sink;
 
-#[tactic(auto, unfolding(crate::specs::Spelling::kind_text))]
 fn kind_text(slip: &Slip) -> &'static [u8]
-    ensures text { result.now ≡ kind_text slip.now }
-    ensures short { length result.now ≤ 60 }
+    ensures { result.now ≡ kind_text slip.now }
 {
     match slip {
         Slip::Unmounted { .. } => b"T words of tools that are never mounted",
         Slip::OtherOffset { .. } => b"G43 with the H of another tool",
         Slip::NoOffset { .. } => b"feeds downwards without a length offset",
+        Slip::StaleOffset { .. } => b"feeds with the length offset of another tool",
         Slip::PartHome => b"G28 or G30 with one or two axis words, each 0",
     }
 }
 
-fn add_offset_remark(chunk: &mut Chunk, offset: i64, tool: u32)
-    requires { length chunk.old + 120 ≤ CHUNK_SIZE }
-    ensures text { chunk.new ≡ chunk.old ++ offset_remark offset tool }
-    ensures short { length chunk.new ≤ length chunk.old + 120 }
+fn length(number: &i64) -> Part<'static>
+    ensures { part_text result ≡ length_text number.now }
 {
-    chunk.add_text(b"H");
-    chunk.add_length(i128::from(offset));
-    chunk.add_text(b", but tool ");
-    chunk.add_number(tool);
-    chunk.add_text(b" is mounted");
+    Part::Length(*number)
 }
 
-#[tactic(auto, unfolding(crate::specs::Spelling::remark_text))]
-fn add_remark(chunk: &mut Chunk, slip: &Slip)
-    requires { length chunk.old + 120 ≤ CHUNK_SIZE }
-    ensures text { chunk.new ≡ chunk.old ++ remark_text slip.now }
-    ensures short { length chunk.new ≤ length chunk.old + 120 }
+fn say_remark<W: Sink>(slip: &Slip, page: &mut Page, output: &mut W)
+    ensures { Says (W.written output.old) (W.written output.new)
+        (W.failures output.old) (W.failures output.new) page.old page.new (remark_text slip.now) }
 {
     match slip {
-        Slip::Unmounted { tool } => {
-            chunk.add_text(b"write M6 T");
-            chunk.add_length(i128::from(*tool));
-        }
-        Slip::OtherOffset { offset, tool } => add_offset_remark(chunk, *offset, *tool),
-        Slip::NoOffset { tool } => {
-            chunk.add_text(b"write G43 H");
-            chunk.add_number(*tool);
-        }
-        Slip::PartHome => chunk.add_text(b"X, Y and Z all go home"),
+        Slip::Unmounted { tool } => say!(page, output; b"write M6 T", length(tool)),
+        Slip::OtherOffset { offset, tool } =>
+            say!(page, output; b"H", length(offset), b", but tool ", Part::Number(u128::from(*tool)), b" is mounted"),
+        Slip::NoOffset { tool } =>
+            say!(page, output; b"write G43 H", Part::Number(u128::from(*tool))),
+        Slip::StaleOffset { offset, tool } =>
+            say!(page, output; b"H", length(offset), b" is in force, so write G43 H", Part::Number(u128::from(*tool)), b" after M6"),
+        Slip::PartHome => say!(page, output; b"X, Y and Z all go home"),
     }
 }
 
-#[tactic(auto, unfolding(crate::specs::Spelling::number_facts))]
-fn add_numbers(chunk: &mut Chunk, slip: &Slip)
-    requires { length chunk.old + 150 ≤ CHUNK_SIZE }
-    ensures text { chunk.new ≡ chunk.old ++ number_facts slip.now }
-    ensures short { length chunk.new ≤ length chunk.old + 150 }
+fn say_numbers<W: Sink>(slip: &Slip, page: &mut Page, output: &mut W)
+    ensures { Says (W.written output.old) (W.written output.new)
+        (W.failures output.old) (W.failures output.new) page.old page.new (number_facts slip.now) }
 {
     match slip {
-        Slip::Unmounted { tool } => {
-            chunk.add_text(b",\"tool\":");
-            chunk.add_length(i128::from(*tool));
-        }
-        Slip::OtherOffset { offset, tool } => {
-            chunk.add_text(b",\"offset\":");
-            chunk.add_length(i128::from(*offset));
-            chunk.add_text(b",\"tool\":");
-            chunk.add_number(*tool);
-        }
-        Slip::NoOffset { tool } => {
-            chunk.add_text(b",\"tool\":");
-            chunk.add_number(*tool);
-        }
+        Slip::Unmounted { tool } => say!(page, output; b",\"tool\":", length(tool)),
+        Slip::OtherOffset { offset, tool } | Slip::StaleOffset { offset, tool } =>
+            say!(page, output; b",\"offset\":", length(offset), b",\"tool\":", Part::Number(u128::from(*tool))),
+        Slip::NoOffset { tool } =>
+            say!(page, output; b",\"tool\":", Part::Number(u128::from(*tool))),
         Slip::PartHome => {}
     }
 }
 
-fn add_words(chunk: &mut Chunk, slips: &Slips)
-    requires { length chunk.old + 400 ≤ CHUNK_SIZE }
-    ensures text { chunk.new ≡ chunk.old ++ slips_words slips.now }
-    ensures short { length chunk.new ≤ length chunk.old + 400 }
+fn say_words<W: Sink>(slips: &Slips, page: &mut Page, output: &mut W)
+    ensures { Says (W.written output.old) (W.written output.new)
+        (W.failures output.old) (W.failures output.new) page.old page.new (slips_words slips.now) }
 {
-    chunk.add_text(b"warning: ");
-    chunk.add_text(kind_text(&slips.first.slip));
-    chunk.add_text(b": ");
-    chunk.add_number(slips.count);
-    chunk.add_text(b", the first in line ");
-    chunk.add_number(slips.first.line);
-    chunk.add_text(b": ");
-    add_remark(chunk, &slips.first.slip);
-    chunk.add_text(b".\n");
+    say!(page, output; b"warning: ", Part::Text(kind_text(&slips.first.slip)), b": ", Part::Number(slips.count as u128), b", the first in line ", Part::Number(u128::from(slips.first.line)), b": ");
+    say_remark(&slips.first.slip, page, output);
+    say!(page, output; b".\n");
 }
 
-fn add_fact(chunk: &mut Chunk, slips: &Slips)
-    requires { length chunk.old + 400 ≤ CHUNK_SIZE }
-    ensures text { chunk.new ≡ chunk.old ++ slips_fact slips.now }
-    ensures short { length chunk.new ≤ length chunk.old + 400 }
+fn say_fact<W: Sink>(slips: &Slips, page: &mut Page, output: &mut W)
+    ensures { Says (W.written output.old) (W.written output.new)
+        (W.failures output.old) (W.failures output.new) page.old page.new (slips_fact slips.now) }
 {
-    chunk.add_text(b",\n{\"fact\":\"warning\",\"text\":\"");
-    chunk.add_text(kind_text(&slips.first.slip));
-    chunk.add_text(b"\",\"count\":");
-    chunk.add_number(slips.count);
-    chunk.add_text(b",\"line\":");
-    chunk.add_number(slips.first.line);
-    add_numbers(chunk, &slips.first.slip);
-    chunk.add_text(b"}");
+    say!(page, output; b",\n{\"fact\":\"warning\",\"text\":\"", Part::Text(kind_text(&slips.first.slip)), b"\",\"count\":", Part::Number(slips.count as u128), b",\"line\":", Part::Number(u128::from(slips.first.line)));
+    say_numbers(&slips.first.slip, page, output);
+    say!(page, output; b"}");
 }
 
-/// Adds the line of the mistakes that were found, or nothing if there are none.
-#[tactic(auto, unfolding(crate::specs::Spelling::spelled))]
-pub(crate) fn add_slips(chunk: &mut Chunk, form: Form, found: &Option<Slips>)
-    requires { length chunk.old + 400 ≤ CHUNK_SIZE }
-    ensures text { chunk.new ≡ chunk.old ++ spelled form found.now }
-    ensures short { length chunk.new ≤ length chunk.old + 400 }
+/// Says the line of the mistakes that were found, or nothing if there are none.
+pub(crate) fn say_slips<W: Sink>(form: Form, found: &Option<Slips>, page: &mut Page, output: &mut W)
+    ensures { Says (W.written output.old) (W.written output.new)
+        (W.failures output.old) (W.failures output.new) page.old page.new (spelled form found.now) }
 {
     match (form, found) {
         (_, None) => {}
-        (Form::Words, Some(slips)) => add_words(chunk, slips),
-        (Form::Json, Some(slips)) => add_fact(chunk, slips),
+        (Form::Words, Some(slips)) => say_words(slips, page, output),
+        (Form::Json, Some(slips)) => say_fact(slips, page, output),
     }
 }

@@ -1,99 +1,124 @@
 //! How all mistakes in the words of a program are written.
-ghost use Rattle.std.specs.Prelude.{◌≡◌, ◌+◌, ◌≤◌, ◌++◌, length, OnOk, OnErr};
+ghost use Rattle.std.specs.Prelude.{OnOk, OnErr};
 ghost use Rattle.std.specs.Io.KnownBytes.{Appends};
-ghost use Rattle.ngc_text.specs.Collected.{CHUNK_SIZE};
 ghost use Rattle.ngc_text.specs.Failures.{CountsFailure};
 ghost use Rattle.ngc_text.specs.Written.{AppendsPrefix};
 ghost use Rattle.ngc_machine_files.specs.Machine.{file_of};
 ghost use Rattle.ngc_line_reader.specs.ProgramView.{text_in};
+ghost use Rattle.ngc_sentences.specs.Saying.{Says};
 ghost use Rattle.ngc_word_warnings.specs.Spelling.{kind_line, word_warnings};
 
 use crate::slip::Kind;
 use crate::slips::slips_of;
-use crate::spelling::add_slips;
+use crate::spelling::say_slips;
 use ngc_commands::Command;
 use ngc_line_reader::Program;
-use ngc_machine_files::Machine;
+use ngc_machine_files::{Machine, Tool};
 use ngc_report::Form;
-use ngc_text::{Chunk, Sink, WriteFault};
+use ngc_sentences::Page;
+use ngc_text::{Sink, WriteFault};
 use std::alloc::Allocator;
 
-fn add_kind<A: Allocator, B: Allocator>(
-    chunk: &mut Chunk,
+fn say_kind<A: Allocator, B: Allocator, W: Sink>(
     form: Form,
     kind: Kind,
     deletes: bool,
     program: &Program<A>,
     machine: &Machine<B>,
+    tools: &[Tool],
     commands: &[Command],
+    page: &mut Page,
+    output: &mut W,
 )
-    requires { length chunk.old + 400 ≤ CHUNK_SIZE }
-    ensures text { chunk.new ≡ chunk.old
-        ++ kind_line form kind deletes (file_of machine.now) commands.now
-        (text_in program.now).lines }
-    ensures short { length chunk.new ≤ length chunk.old + 400 }
+    ensures { Says (W.written output.old) (W.written output.new)
+        (W.failures output.old) (W.failures output.new) page.old page.new
+        (kind_line form kind tools.now deletes (file_of machine.now) commands.now
+        (text_in program.now).lines) }
 {
-    let found = slips_of(kind, deletes, program, machine, commands);
-    add_slips(chunk, form, &found);
+    let found = slips_of(kind, deletes, program, machine, tools, commands);
+    say_slips(form, &found, page, output);
 }
 
-fn warnings_of<A: Allocator, B: Allocator>(
+fn say_all<A: Allocator, B: Allocator, W: Sink>(
     form: Form,
     deletes: bool,
     program: &Program<A>,
     machine: &Machine<B>,
+    tools: &[Tool],
     commands: &[Command],
-) -> Chunk
-    ensures { result ≡ word_warnings form deletes (file_of machine.now) commands.now
-        (text_in program.now).lines }
+    page: &mut Page,
+    output: &mut W,
+)
+    ensures { Says (W.written output.old) (W.written output.new)
+        (W.failures output.old) (W.failures output.new) page.old page.new
+        (word_warnings form deletes (file_of machine.now) tools.now commands.now
+        (text_in program.now).lines) }
 {
-    let mut chunk = Chunk::new();
-    add_kind(
-        &mut chunk,
+    say_kind(
         form,
         Kind::Unmounted,
         deletes,
         program,
         machine,
+        tools,
         commands,
+        page,
+        output,
     );
-    add_kind(
-        &mut chunk,
+    say_kind(
         form,
         Kind::OtherOffset,
         deletes,
         program,
         machine,
+        tools,
         commands,
+        page,
+        output,
     );
-    add_kind(
-        &mut chunk,
+    say_kind(
         form,
         Kind::NoOffset,
         deletes,
         program,
         machine,
+        tools,
         commands,
+        page,
+        output,
     );
-    add_kind(
-        &mut chunk,
+    say_kind(
+        form,
+        Kind::StaleOffset,
+        deletes,
+        program,
+        machine,
+        tools,
+        commands,
+        page,
+        output,
+    );
+    say_kind(
         form,
         Kind::PartHome,
         deletes,
         program,
         machine,
+        tools,
         commands,
+        page,
+        output,
     );
-    chunk
 }
 
-/// Writes the warnings about the words of a program on a machine, at a setting of block delete.
-/// `commands` are the program's commands there.
+/// Writes the warnings about the words of a program on a machine with its tools, at a setting of
+/// block delete. `commands` are the program's commands there.
 ///
 /// The kinds are T words of tools that are never mounted, G43 with the H of a tool that isn't the
 /// mounted one, feeds downwards without a length offset with a tool whose offset in the tool table
-/// isn't 0, and G28 or G30 with one or two axis words, each 0, where other controls move only these
-/// axes home. Each kind that occurs has a line with the number of the program's lines that have it,
+/// isn't 0, feeds with the length offset of another tool, which was applied before the mounted one
+/// was mounted, and G28 or G30 with one or two axis words, each 0, where other controls move only
+/// these axes home. Each kind that occurs has a line with the number of the program's lines that have it,
 /// and the first of them, from 1, with its numbers. A program without mistakes has no line. Words
 /// whose values have brackets or parameters are ignored, and so are lines after that of the last
 /// command.
@@ -105,19 +130,23 @@ pub fn write_word_warnings<A: Allocator, B: Allocator, W: Sink>(
     deletes: bool,
     program: &Program<A>,
     machine: &Machine<B>,
+    tools: &[Tool],
     commands: &[Command],
     sink: &mut W,
 ) -> Result<(), WriteFault>
     ensures ok { OnOk result
         (Appends (W.written sink.old) (W.written sink.new)
-        (word_warnings form deletes (file_of machine.now) commands.now
+        (word_warnings form deletes (file_of machine.now) tools.now commands.now
         (text_in program.now).lines)) }
     ensures fault { OnErr result
         (AppendsPrefix (W.written sink.old) (W.written sink.new)
-        (word_warnings form deletes (file_of machine.now) commands.now
+        (word_warnings form deletes (file_of machine.now) tools.now commands.now
         (text_in program.now).lines)) }
     ensures counts { CountsFailure (W.failures sink.old) (W.failures sink.new) result }
 {
-    let mut chunk = warnings_of(form, deletes, program, machine, commands);
-    chunk.write_out(sink)
+    let mut page = Page::new();
+    say_all(
+        form, deletes, program, machine, tools, commands, &mut page, sink,
+    );
+    page.finish(sink)
 }

@@ -6,7 +6,7 @@ use Rattle.ngc_lowest_tips.proofs.tips.lowest_tips.Given as goal
 
 abbrev pub invariant-loop-command : goal.invariant-loop-command
 invariant-loop-command g l = record {
-  ahead : tips_from l.history.start l.history.changes.items l.tool l.tips.items (drop l.command-index l.commands)
-      ≡ lowest_tips l.history.start l.history.changes.items l.commands;
+  ahead : tips_from l.tools l.history.start l.history.changes.items l.tool l.tips.items (drop l.command-index l.commands)
+      ≡ lowest_tips l.tools l.history.start l.history.changes.items l.commands;
   walk : WalksOver l.history.start l.history.changes.items l.walk;
 }

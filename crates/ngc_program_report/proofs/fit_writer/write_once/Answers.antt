@@ -1,10 +1,11 @@
-use Rattle.std.proofs.Common.{◌∙◌, List, true, false, ap, sym}
+use Rattle.std.proofs.Common.{◌∙◌, List, true, false, ap, ap₂, sym}
 use Rattle.ngc_certificate_text.specs.declared.piece.Setting.TheVariants.{Off}
 use Rattle.ngc_commands.specs.declared.command.Command.{Command}
 use Rattle.ngc_text.proofs.AppendedTexts.{appends_both}
 use Rattle.ngc_line_reader.specs.ProgramView.{text_in}
 use Rattle.ngc_lowest_tips.specs.Tips.{lowest_tips}
 use Rattle.ngc_machine_files.specs.Machine.{file_of}
+use Rattle.ngc_machine_files.specs.declared.tools.Tool.{Tool}
 use Rattle.ngc_machine_files.specs.Tools.{tools_of}
 use Rattle.ngc_program_report.specs.Coordinates.{history_of}
 use Rattle.ngc_program_report.proofs.FitLaws.{setting_as, shop_as}
@@ -14,7 +15,7 @@ use Rattle.ngc_program_report.proofs.fit_writer.write_once.Goals as goal
 pub write_setting-requires : goal.write_setting-requires
 write_setting-requires g c =
     let h = c.args.history.now in
-    record { tips = c.requires.tips ∙ ap (λ (cs : List Command). lowest_tips h.start h.changes.items cs) (sym c.commands-off.ensures) }
+    record { tips = c.requires.tips ∙ ap₂ (λ (ts : List Tool) (cs : List Command). lowest_tips ts h.start h.changes.items cs) (sym c.tools-tools.ensures) (sym c.commands-off.ensures) }
 
 pub returns-in_err-write_setting-clause-fault : goal.returns-in_err-write_setting-clause-fault
 returns-in_err-write_setting-clause-fault g c =

@@ -1,8 +1,8 @@
 use Rattle.std.proofs.lemmas.List.{append_assoc}
 use Rattle.ngc_report.proofs.facts.add_nose.Goals as goal
 
-pub returns : goal.returns
-returns c =
+pub returns-clause-text : goal.returns-clause-text
+returns-clause-text c =
     rw (
       c.add_text-4.ensures,
       c.add_number-3.ensures.text,

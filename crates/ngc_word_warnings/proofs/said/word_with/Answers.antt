@@ -2,7 +2,7 @@
 use Rattle.std.proofs.Common.{◌∙◌, rules, tests}
 use Rattle.std.proofs.lemmas.Iterator.{YieldsList-from_slice}
 use Rattle.std.proofs.lemmas.Iterator.Search.{find_from_yields_List}
-use Rattle.ngc_word_warnings.specs.Slips.{has_letter}
+use Rattle.ngc_word_warnings.specs.Words.{has_letter}
 use Rattle.ngc_word_warnings.proofs.said.word_with.Goals as goal
 
 pub returns : goal.returns

@@ -10,7 +10,7 @@ loop-index-preserved g c =
     let here = at lines i c.number-number.result c.bytes.result.now c.number-number.ensures c.bytes.ensures.value in record {
       same =
           rw (c.counted-found.ensures.value, c.step_read-step.ensures.value)
-          (further c.args.kind c.args.deletes c.args.commands.now lines i c.number-number.result c.bytes.result.now c.loop-index.between c.loop-index.found here
+          (further c.args.kind c.args.tools.now c.args.deletes c.args.commands.now lines i c.number-number.result c.bytes.result.now c.loop-index.between c.loop-index.found here
           ∙ c.loop-index.invariant.same);
       few = omega (arith, c.counted-found.ensures.few, c.loop-index.invariant.few);
       inside = c.step_read-step.ensures.few;

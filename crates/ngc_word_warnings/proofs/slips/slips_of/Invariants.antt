@@ -7,8 +7,8 @@ use Rattle.ngc_word_warnings.proofs.slips.slips_of.Given as goal
 
 abbrev pub invariant-loop-index : goal.invariant-loop-index
 invariant-loop-index g l = record {
-  same : with_later l.found (all_found l.kind l.deletes l.commands l.between (drop l.index (text_in l.program).lines))
-      ≡ slips_of l.kind l.deletes (file_of l.machine) l.commands (text_in l.program).lines;
+  same : with_later l.found (all_found l.kind l.tools l.deletes l.commands l.between (drop l.index (text_in l.program).lines))
+      ≡ slips_of l.kind l.tools l.deletes (file_of l.machine) l.commands (text_in l.program).lines;
   few : count_of l.found ≤ l.index;
   inside : l.between.count ≤ length l.commands;
 }

@@ -1,0 +1,3 @@
+pub mod Betweens
+pub mod Slips
+pub mod Spelling

@@ -1,0 +1,12 @@
+-- The tools are searched one by one.
+use Rattle.std.proofs.Common.{◌∙◌, rules, tests}
+use Rattle.std.proofs.lemmas.Iterator.{YieldsList-from_slice}
+use Rattle.std.proofs.lemmas.Iterator.Search.{find_from_yields_List}
+use Rattle.ngc_word_warnings.specs.Offsets.{has_number}
+use Rattle.ngc_word_warnings.proofs.offset.tool_with.Goals as goal
+
+pub returns : goal.returns
+returns c =
+    let e = find_from_yields_List (λ t. has_number c.args.number t) _ _ c.find.result c.find.ensures.ran
+    (YieldsList-from_slice c.args.tools.now cc) (λ x b q k. search (rules, tests)) in
+    c.copied.ensures ∙ e
