@@ -106,8 +106,11 @@ class Live:
         sys.exit("ngc live ended with status %d\n%s" % (status, self.errors.read()))
 
     def close(self):
+        """Ends the input, and returns what the process still writes: it brakes to rest before it ends."""
         self.process.stdin.close()
+        rest = self.process.stdout.read()
         self.process.wait()
+        return rest
 
 
 class Player:
@@ -211,6 +214,13 @@ class Run:
         self.tick += ticks
         self.track.append((self.tick, self.position))
 
+    def end(self):
+        """Ends both processes, and plays how the machine comes to rest if it still moves."""
+        self.log.close()
+        if self.samples:
+            samples = self.samples.close()
+            self.player.play(samples, len(samples) // 2)
+
     def rate(self):
         """Returns the rate over the last batches in mm a minute."""
         (first, start), (last, end) = self.track[0], self.track[-1]
@@ -286,13 +296,14 @@ def main():
     with tempfile.TemporaryDirectory() as folder:
         try:
             run = Run(Job(arguments, pathlib.Path(folder)), arguments)
-            curses.wrapper(operate, run)
+            try:
+                curses.wrapper(operate, run)
+            finally:
+                run.end()
         except BrokenPipeError:
             sys.exit("The reader of the samples has gone away.")
         except (OSError, KeyboardInterrupt) as problem:
             sys.exit(str(problem) or "Broken off.")
-    for live in filter(None, (run.log, run.samples)):
-        live.close()
 
 
 main()

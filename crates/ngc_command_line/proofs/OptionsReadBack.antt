@@ -363,19 +363,19 @@ FindsLive machine tools certificate program delete output feed_ring (Some found)
     × (first_of (codes "tools") found.1 ≡ Some tools) × (first_of (codes "certificate") found.1 ≡ Some certificate)
     × (first_of (codes "program") found.1 ≡ Some program) × (is_set (codes "delete") found.1 ≡ delete)
     × (first_of (codes "output") found.1 ≡ output) × (first_of (codes "inverted") found.1 ≡ None) × (is_set (codes "feed-ring") found.1 ≡ feed_ring)
-    × (all_of (codes "origin") found.1 ≡ None)
+    × (is_set (codes "abort") found.1 ≡ false) × (all_of (codes "origin") found.1 ≡ None)
 
 live_spells : (machine tools certificate program : Text) (delete : Bool) (output : Option Text) (feed_ring : Bool)
     → Spells (live_words machine tools certificate program delete output feed_ring) (FindsLive machine tools certificate program delete output feed_ring)
 unfolding clap_on_literals
-live_spells machine tools certificate program false None false = (refl, (refl, refl, refl, refl, refl, refl, refl, refl, refl, refl))
-live_spells machine tools certificate program false None true = (refl, (refl, refl, refl, refl, refl, refl, refl, refl, refl, refl))
-live_spells machine tools certificate program false (Some output) false = (refl, (refl, refl, refl, refl, refl, refl, refl, refl, refl, refl))
-live_spells machine tools certificate program false (Some output) true = (refl, (refl, refl, refl, refl, refl, refl, refl, refl, refl, refl))
-live_spells machine tools certificate program true None false = (refl, (refl, refl, refl, refl, refl, refl, refl, refl, refl, refl))
-live_spells machine tools certificate program true None true = (refl, (refl, refl, refl, refl, refl, refl, refl, refl, refl, refl))
-live_spells machine tools certificate program true (Some output) false = (refl, (refl, refl, refl, refl, refl, refl, refl, refl, refl, refl))
-live_spells machine tools certificate program true (Some output) true = (refl, (refl, refl, refl, refl, refl, refl, refl, refl, refl, refl))
+live_spells machine tools certificate program false None false = (refl, (refl, refl, refl, refl, refl, refl, refl, refl, refl, refl, refl))
+live_spells machine tools certificate program false None true = (refl, (refl, refl, refl, refl, refl, refl, refl, refl, refl, refl, refl))
+live_spells machine tools certificate program false (Some output) false = (refl, (refl, refl, refl, refl, refl, refl, refl, refl, refl, refl, refl))
+live_spells machine tools certificate program false (Some output) true = (refl, (refl, refl, refl, refl, refl, refl, refl, refl, refl, refl, refl))
+live_spells machine tools certificate program true None false = (refl, (refl, refl, refl, refl, refl, refl, refl, refl, refl, refl, refl))
+live_spells machine tools certificate program true None true = (refl, (refl, refl, refl, refl, refl, refl, refl, refl, refl, refl, refl))
+live_spells machine tools certificate program true (Some output) false = (refl, (refl, refl, refl, refl, refl, refl, refl, refl, refl, refl, refl))
+live_spells machine tools certificate program true (Some output) true = (refl, (refl, refl, refl, refl, refl, refl, refl, refl, refl, refl, refl))
 
 requested_live : (machine tools certificate program : Text) (delete : Bool) (output : Option Text) (feed_ring : Bool) (found : Option (Text × List Row)) (options : Options)
     → FindsLive machine tools certificate program delete output feed_ring found → AreOptions found options →
@@ -390,7 +390,8 @@ requested_live machine tools certificate program delete output feed_ring (Some f
   are.1.output ∙ finds.6,
   no_mask _ live.inverted are.1.inverted finds.7,
   are.1.feed_ring ∙ finds.8,
-  none_replaced found.1 live.origins are.1.origins finds.9,
+  are.1.aborts ∙ finds.9,
+  none_replaced found.1 live.origins are.1.origins finds.10,
 )
 requested_live machine tools certificate program delete output feed_ring (Some found) (ToList list) finds are =
     other_third (codes "live") (codes "list") (sym finds.0 ∙ are.0) (λ thirds. omega (arith, thirds))
@@ -428,7 +429,7 @@ live_taken words machine tools certificate program delete output feed_ring spell
 
 live_have : (found : Option (Text × List Row)) (machine : Text) (tools : Text) (certificate : Text) (program : Text) (delete : Bool) (output : Option Text) (feed_ring : Bool) → FindsLive machine tools certificate program delete output feed_ring found → HaveOrigins found
 live_have None machine tools certificate program delete output feed_ring finds = absurd finds
-live_have (Some found) machine tools certificate program delete output feed_ring finds = none_wrong found finds.9
+live_have (Some found) machine tools certificate program delete output feed_ring finds = none_wrong found finds.10
 
 pub live_origins : (words : List Text) (machine tools certificate program : Text) (delete : Bool) (output : Option Text) (feed_ring : Bool) → words ≡ live_words machine tools certificate program delete output feed_ring → HaveOrigins (subcommand_of ngc_app words)
 live_origins words machine tools certificate program delete output feed_ring spelled =

@@ -198,8 +198,9 @@ live_sound =
     let output = set_is_sound FitsMask _ refl refl refl (λ v none. no_mask (codes "output") v refl) in
     let inverted = set_is_sound FitsMask _ refl refl refl (λ v none same. mask_fits v none) in
     let feeds = flag_is_sound FitsMask _ (codes "true") (codes "false") refl refl refl (λ v. no_mask (codes "feed-ring") v refl) in
+    let aborts = flag_is_sound FitsMask _ (codes "true") (codes "false") refl refl refl (λ v. no_mask (codes "abort") v refl) in
     let origin = append_is_sound FitsMask _ refl refl refl (λ v. no_mask (codes "origin") v refl) in
-    (machine, (tools, (certificate, (program, (delete, (output, (inverted, (feeds, (origin, (help_is_sound FitsMask _ refl refl, tt))))))))))
+    (machine, (tools, (certificate, (program, (delete, (output, (inverted, (feeds, (aborts, (origin, (help_is_sound FitsMask _ refl refl, tt)))))))))))
 
 live_values : (words : List Text) → level_fault live_shape [] nothing_held words false [] ≡ [] → HasLiveValues (rows_after live_shape.rules [] words)
 live_values words none =

@@ -81,13 +81,13 @@ abbrev pub pulses_app : App
 pulses_app = with_run_rules (new_app (codes "pulses"))
 
 -- `live --machine FILE --tools FILE --certificate FILE --program FILE [--delete] [--output FORM]
--- [--inverted MASK] [--feed-ring] [--origin SYSTEM=X,Y,Z]..`
+-- [--inverted MASK] [--feed-ring] [--abort] [--origin SYSTEM=X,Y,Z]..`
 abbrev pub live_app : App
 live_app = fold with_rule (new_app (codes "live"))
     (required_file (codes "machine") ∷ required_file (codes "tools")
     ∷ required_file (codes "certificate") ∷ required_file (codes "program")
     ∷ flag (codes "delete") ∷ file_option (codes "output") ∷ inverted_option
-    ∷ flag (codes "feed-ring") ∷ origin_option ∷ [])
+    ∷ flag (codes "feed-ring") ∷ flag (codes "abort") ∷ origin_option ∷ [])
 
 -- `draw --machine FILE --tools FILE [--certificate FILE] [--program FILE] [--view VIEW] [--delete]
 -- [--bodies] [--whole] [--origin SYSTEM=X,Y,Z]..`

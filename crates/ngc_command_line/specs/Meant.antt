@@ -156,6 +156,7 @@ pub record AreLiveOptions (rows : List Row) (options : LiveOptions) : Type 0 whe
   pub output : option_map (λ name. name.now) options.output ≡ first_of (codes "output") rows
   pub inverted : IsMask (first_of (codes "inverted") rows) options.inverted
   pub feed_ring : options.feed_ring ≡ is_set (codes "feed-ring") rows
+  pub aborts : options.aborts ≡ is_set (codes "abort") rows
   pub origins : origins_in rows ≡ Ok options.origins
 
 -- each option of `draw` by the first value that was found under its own name
@@ -376,14 +377,15 @@ IsRunRequest recording machine tools certificate None program delete output (ToR
     × (run.origins ≡ no_origins)
 IsRunRequest recording machine tools certificate events program delete output other = ⊥
 
--- `live` is requested, with these options, and no bits are inverted and no
+-- `live` is requested, with these options; no bits are inverted, the run ends at rest, and no
 -- origin is replaced
 abbrev pub IsLiveRequest : Text → Text → Text → Text → Bool → Option Text → Bool → Options → Type 0
 IsLiveRequest machine tools certificate program delete output feed_ring (ToLive live) =
     (live.machine.now ≡ machine) × (live.tools.now ≡ tools)
     × (live.certificate.now ≡ certificate) × (live.program.now ≡ program)
     × (live.delete ≡ delete) × (option_map (λ name. name.now) live.output ≡ output)
-    × (live.inverted ≡ 0) × (live.feed_ring ≡ feed_ring) × (live.origins ≡ no_origins)
+    × (live.inverted ≡ 0) × (live.feed_ring ≡ feed_ring) × (live.aborts ≡ false)
+    × (live.origins ≡ no_origins)
 IsLiveRequest machine tools certificate program delete output feed_ring other = ⊥
 
 -- `draw` is requested, with these options, and no origin is replaced

@@ -30,6 +30,14 @@ const FEED_RING: Argument<'static> = Argument {
     help: "Load commands before each tick, while the ring\nhas space [default: events load them]",
 };
 
+const ABORT: Argument<'static> = Argument {
+    name: "abort",
+    is_named: true,
+    is_required: false,
+    takes: Takes::Nothing,
+    help: "End at the last line at once, even at full speed\n[default: hold, and end at rest]",
+};
+
 pub(crate) static LIVE: SubcommandRow<'static> = SubcommandRow {
     name: "live",
     about: "Run a part program over events as they arrive on standard input",
@@ -46,6 +54,7 @@ pub(crate) static LIVE: SubcommandRow<'static> = SubcommandRow {
         LOG_OUTPUT,
         INVERTED,
         FEED_RING,
+        ABORT,
         ORIGIN,
     ],
 };
@@ -64,6 +73,7 @@ pub(crate) fn live_options<'a>(found: &ArgMatches<'a>, origins: Origins) -> Live
         output: found.get_str("output"),
         inverted: mask_of(found),
         feed_ring: flag_is_set(found, "feed-ring"),
+        aborts: flag_is_set(found, "abort"),
         origins,
     }
 }

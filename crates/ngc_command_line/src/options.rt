@@ -177,6 +177,9 @@ pub struct LiveOptions<'a> {
     pub inverted: u8,
     /// Whether commands are loaded before each tick, while the ring has space.
     pub feed_ring: bool,
+    /// Whether the run ends at the last line at once. Otherwise the machine is held after it until it
+    /// is at rest.
+    pub aborts: bool,
     /// The origins that replace those of the machine file.
     pub origins: Origins,
 }

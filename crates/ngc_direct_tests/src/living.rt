@@ -3,11 +3,12 @@
 use crate::checks::{holds, same};
 use crate::given::{MACHINE, TOOLS};
 use ngc_line_reader::Program;
+use ngc_run_log::{LiveInput, feed_from, feed_next};
 use ngc_simulator::{
     Accepted, Certificate, EventsFault, Format, LiveFault, LiveForm, LiveRun, Machine, Tools,
-    certify, check, feed_from, read_events, run, write_samples, write_timed_log,
+    certify, check, read_events, run, write_samples, write_timed_log,
 };
-use ngc_test_devices::{FailingSink, SlowSource};
+use ngc_test_devices::{EndlessSource, FailingSink, SlowSource};
 use ngc_text::Device;
 use std::alloc::Global;
 use std::process::Abort;
@@ -106,6 +107,59 @@ fn each_line_is_answered_before_the_next(rt: HostRuntime) -> Result<(), Fail> {
             holds(&rt, &end, sink.taken.as_slice() == wanted.as_slice());
         }
     }
+    Ok(())
+}
+
+// Each of the lines that arrive together has a write of its own: a sink that accepts some writes has
+// the results of that number of lines.
+#[test]
+fn lines_that_arrive_together_have_a_write_each(rt: HostRuntime) -> Result<(), Fail> {
+    let text = "override 50\nhold\nresume\n";
+    for (writes, wanted) in [
+        (1usize, "override 50\n"),
+        (2, "override 50\nhold\n"),
+        (3, "override 50\nhold\nresume\n"),
+    ] {
+        let mut live = LiveRun::new(
+            rt.alloc(),
+            accepted(rt.alloc())?,
+            false,
+            LiveForm::Log,
+            false,
+        )?;
+        let mut sink = FailingSink::new(rt.alloc(), writes, 100_000);
+        let mut source = SlowSource::new(text.as_bytes(), 4_096, usize::MAX);
+        let ended = feed_from(&mut live, &mut source, &mut sink);
+        holds(&rt, &writes, ended.is_ok() == (writes == 3));
+        holds(&rt, &writes, sink.taken.as_slice() == wanted.as_bytes());
+    }
+    Ok(())
+}
+
+// Two lines and the first bytes of a third arrive in one reading. Each turn writes the result of one
+// of them, and nothing is read before all bytes are fed.
+#[test]
+fn a_turn_reads_only_if_no_byte_waits(rt: HostRuntime) -> Result<(), Fail> {
+    let mut live = LiveRun::new(
+        rt.alloc(),
+        accepted(rt.alloc())?,
+        false,
+        LiveForm::Log,
+        false,
+    )?;
+    let mut sink = FailingSink::new(rt.alloc(), 1_000, 100_000);
+    let mut source = EndlessSource::new(b"override 50\nhold\n", b'0');
+    let mut input = LiveInput::new();
+    for wanted in ["override 50\n", "override 50\nhold\n"] {
+        let goes_on = feed_next(&mut live, &mut input, &mut source, &mut sink)?;
+        holds(&rt, &wanted, goes_on && source.pulls == 1);
+        holds(&rt, &wanted, sink.taken.as_slice() == wanted.as_bytes());
+    }
+    // A line of zeros is too long at its 13th byte.
+    let ended = feed_next(&mut live, &mut input, &mut source, &mut sink);
+    let wanted = LiveFault::Events(EventsFault::BadLine(3));
+    holds(&rt, &"zeros", ended == Err(wanted));
+    holds(&rt, &"zeros", source.pulls == 1);
     Ok(())
 }
 

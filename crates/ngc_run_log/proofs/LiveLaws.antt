@@ -1,5 +1,5 @@
 -- A run that continues from piece to piece of its events' text.
-use Rattle.std.proofs.Common.{◌≡◌, ◌++◌, [], ℕ, List, Option, Some, None, Bool, true, false, refl, ap, ap₂, subst, sym, ◌∙◌, arith}
+use Rattle.std.proofs.Common.{◌≡◌, ◌++◌, [], ◌∷◌, ℕ, List, replicate, Option, Bool, true, false, refl, ap, ap₂, subst, sym, ◌∙◌, arith}
 use Rattle.std.proofs.lemmas.List.{append_assoc, append-nil}
 use Rattle.std.proofs.lemmas.Grind.{flat_map-append}
 use Rattle.std.proofs.KnownBytes.{Appends-nil}
@@ -11,7 +11,7 @@ use Rattle.ngc_checker.specs.Accepted.{AcceptedData, IsAccepted, commands_at}
 use Rattle.ngc_commands.specs.Movement.{actions_of, ways_of, AreJoined}
 use Rattle.ngc_commands.specs.declared.command.Command.{Command}
 use Rattle.ngc_machine_files.specs.MachineRanges.{IsMachine}
-use Rattle.ngc_events.specs.Arriving.{Arriving, Begins, HaveArrived}
+use Rattle.ngc_events.specs.Arriving.{Arriving, HaveArrived}
 use Rattle.ngc_events.specs.declared.event.Event.{Event}
 use Rattle.ngc_events.specs.declared.event.EventLine.{EventLine}
 use Rattle.ngc_machine_model.specs.Headline.{job_of, RunsInTime, RunsSafely}
@@ -33,11 +33,11 @@ use Rattle.ngc_run_through.specs.Forms.{text_as}
 use Rattle.ngc_run_through.specs.declared.text_state.TextState.{TextState}
 use Rattle.ngc_run_through.specs.declared.text_state.TextState.TheVariants as texts
 use Rattle.ngc_run_through.specs.Pauses.{paused_at, trace_from}
-use Rattle.ngc_run_log.specs.Living.{form_of, first_paused, paused, LiveData, IsReady, HasRun, IsLive, IsBrokenLive}
+use Rattle.ngc_run_log.specs.Living.{form_of, first_paused, paused, LiveData, IsReady, HasRun, IsCutRun, IsLive}
 use Rattle.ngc_run_through.specs.Log.{log, text_of}
 use Rattle.ngc_run_through.specs.Times.{ticks_after, timed_log}
 use Rattle.ngc_run_through.proofs.Timed.{ticks_after-append, timed_log-append}
-use Rattle.ngc_run_log.specs.Feeding.{AreBegun, AreSent, IsFed, IsFedShort}
+use Rattle.ngc_run_log.specs.Feeding.{AreBegun, AreSent, IsFed, IsFedShort, Processes}
 use Rattle.ngc_run_through.specs.Recording.{HasFew}
 use Rattle.ngc_run_through.specs.Runs.{IsRun}
 use Rattle.ngc_run_through.specs.Switching.{AreSwitches}
@@ -228,12 +228,12 @@ has_run form live new lines more first x y z s a b h same trace chunk done wrote
 
 -- ---- a write failed
 
-breaks : (form : LiveForm) (live : LiveData) (t : State) (lines more : List EventLine) (first x z : Option (List ℕ)) (s : Switches) (text : List ℕ)
+breaks : (form : LiveForm) (live : LiveData) (t : State) (lines more : List EventLine) (first x z : Option (List ℕ)) (s : Switches)
     (given : List Event) (ps : List Outcome) → (h : HasRun form live lines first x) → s.list.now ≡ live.switches →
-    Begins text (lines ++ more) → (stretch : Stretch live.job live.state t given ps) →
+    (stretch : Stretch live.job live.state t given ps) →
     AreBegun live.feeds live.job live.state (events_of more) given stretch.states →
-    AppendsPrefix x z (whole_text (afterwards form live s h.outcomes) ps) → IsBrokenLive form live.feeds live.job text first z
-breaks form live t lines more first x z s text given ps h same begins stretch are wrote =
+    AppendsPrefix x z (whole_text (afterwards form live s h.outcomes) ps) → IsCutRun form live.feeds live.job (lines ++ more) first z
+breaks form live t lines more first x z s given ps h same stretch are wrote =
     let job : Job = live.job in
     let os : List Outcome = h.outcomes in
     let whole : Stretch job (opening job.machine) t (h.given ++ given) (os ++ ps) =
@@ -244,8 +244,6 @@ breaks form live t lines more first x z s text given ps h same begins stretch ar
     let now : List ℕ = whole_text (afterwards form live s os) ps in
     let P : List ℕ → Type 0 = λ l. AppendsPrefix first z l in
     record {
-      lines = lines ++ more;
-      begins = begins;
       given = h.given ++ given;
       outcomes = os ++ ps;
       run = run_over job t (h.given ++ given) (os ++ ps) h.ready.safe h.ready.in_time whole;
@@ -258,30 +256,59 @@ breaks form live t lines more first x z s text given ps h same begins stretch ar
           (begins_after first x z old now [] (wrote_before form live lines first x s h same) wrote);
     }
 
--- before all events of a piece were processed
-pub broken_within : (form : LiveForm) (live : LiveData) (job : Job) (feeds : Bool) (lines more : List EventLine) (first x z : Option (List ℕ)) (s : Switches)
-    (a : Recorder) (text : List ℕ) → HasRun form live lines first x → s.list.now ≡ live.switches → a.trace ≡ trace_from live.paused s →
-    a.chunk ≡ opening_text (trace_from live.paused s) → Begins text (lines ++ more) → IsFedShort live.feeds live.job live.state a x z (events_of more) →
-    job ≡ live.job → feeds ≡ live.feeds → IsBrokenLive form feeds job text first z
-broken_within form live job feeds lines more first x z s a text h same trace chunk begins cut is are =
+-- before all events of a line were processed
+pub cut_within : (form : LiveForm) (live : LiveData) (lines more : List EventLine) (first x z : Option (List ℕ)) (s : Switches)
+    (a : Recorder) → HasRun form live lines first x → s.list.now ≡ live.switches → a.trace ≡ trace_from live.paused s →
+    a.chunk ≡ opening_text (trace_from live.paused s) → IsFedShort live.feeds live.job live.state a x z (events_of more) →
+    IsCutRun form live.feeds live.job (lines ++ more) first z
+cut_within form live lines more first x z s a h same trace chunk cut =
     let on : trace_from live.paused s ≡ afterwards form live s h.outcomes = goes_on form live lines first x s h same in
-    subst (λ b. IsBrokenLive form b job text first z) (sym are)
-    (subst (λ (j : Job). IsBrokenLive form live.feeds j text first z) (sym is)
-    (breaks form live cut.reached lines more first x z s text cut.given cut.outcomes h same begins cut.stretch cut.are_begun
-    (some_begun (afterwards form live s h.outcomes) a x z cut.outcomes (trace ∙ on) (chunk ∙ ap opening_text on) cut.begun)))
+    breaks form live cut.reached lines more first x z s cut.given cut.outcomes h same cut.stretch cut.are_begun
+    (some_begun (afterwards form live s h.outcomes) a x z cut.outcomes (trace ∙ on) (chunk ∙ ap opening_text on) cut.begun)
 
 -- and after it
-pub broken_behind : (form : LiveForm) (live : LiveData) (job : Job) (feeds : Bool) (t : State) (lines more : List EventLine) (first x y z : Option (List ℕ))
-    (s : Switches) (a b : Recorder) (text : List ℕ) → HasRun form live lines first x → s.list.now ≡ live.switches → a.trace ≡ trace_from live.paused s →
-    a.chunk ≡ opening_text (trace_from live.paused s) → Begins text (lines ++ more) → IsFed live.feeds live.job live.state t a b x y (events_of more) →
-    AppendsPrefix y z (b.chunk ++ last_text b.trace) → job ≡ live.job → feeds ≡ live.feeds → IsBrokenLive form feeds job text first z
-broken_behind form live job feeds t lines more first x y z s a b text h same trace chunk begins done wrote is are =
+pub cut_behind : (form : LiveForm) (live : LiveData) (t : State) (lines more : List EventLine) (first x y z : Option (List ℕ))
+    (s : Switches) (a b : Recorder) → HasRun form live lines first x → s.list.now ≡ live.switches → a.trace ≡ trace_from live.paused s →
+    a.chunk ≡ opening_text (trace_from live.paused s) → IsFed live.feeds live.job live.state t a b x y (events_of more) →
+    AppendsPrefix y z (b.chunk ++ last_text b.trace) → IsCutRun form live.feeds live.job (lines ++ more) first z
+cut_behind form live t lines more first x y z s a b h same trace chunk done wrote =
     let on : trace_from live.paused s ≡ afterwards form live s h.outcomes = goes_on form live lines first x s h same in
-    subst (λ k. IsBrokenLive form k job text first z) (sym are)
-    (subst (λ (j : Job). IsBrokenLive form live.feeds j text first z) (sym is)
-    (breaks form live t lines more first x z s text done.given done.outcomes h same begins done.stretch
+    breaks form live t lines more first x z s done.given done.outcomes h same done.stretch
     (begun_all live.feeds live.job live.state (events_of more) done.given done.stretch.states done.are_sent)
-    (all_begun (afterwards form live s h.outcomes) a b x y z done.given done.outcomes (trace ∙ on) (chunk ∙ ap opening_text on) done.records wrote)))
+    (all_begun (afterwards form live s h.outcomes) a b x y z done.given done.outcomes (trace ∙ on) (chunk ∙ ap opening_text on) done.records wrote)
+
+-- ---- a line is one of a list
+
+of_one : (line : EventLine) → replicate line.times line.event ≡ events_of (line ∷ [])
+of_one line = sym (append-nil (replicate line.times line.event))
+
+pub one_fed : (feeds : Bool) (job : Job) (s t : State) (a b : Recorder) (x y : Option (List ℕ)) (line : EventLine) →
+    IsFed feeds job s t a b x y (replicate line.times line.event) → IsFed feeds job s t a b x y (events_of (line ∷ []))
+one_fed feeds job s t a b x y line done = subst (λ es. IsFed feeds job s t a b x y es) (of_one line) done
+
+pub one_cut_short : (feeds : Bool) (job : Job) (s : State) (a : Recorder) (x y : Option (List ℕ)) (line : EventLine) →
+    IsFedShort feeds job s a x y (replicate line.times line.event) → IsFedShort feeds job s a x y (events_of (line ∷ []))
+one_cut_short feeds job s a x y line cut = subst (λ es. IsFedShort feeds job s a x y es) (of_one line) cut
+
+pub fed_processes : (feeds : Bool) (job : Job) (s t : State) (a b : Recorder) (x y : Option (List ℕ)) (sent : List Event) →
+    IsFed feeds job s t a b x y sent → Processes feeds job s t sent
+fed_processes feeds job s t a b x y sent done =
+    record { given = done.given; outcomes = done.outcomes; stretch = done.stretch; are_sent = done.are_sent }
+
+-- a run whose text has arrived further
+pub arrives : (form : LiveForm) (live : LiveData) (arriving : Arriving) (lines : List EventLine) (first now : Option (List ℕ)) →
+    HasRun form live lines first now →
+    HasRun form (record { job = live.job; state = live.state; arriving = arriving; switches = live.switches; paused = live.paused; feeds = live.feeds }) lines first now
+arrives form live arriving lines first now h = record {
+  given = h.given;
+  outcomes = h.outcomes;
+  run = h.run;
+  are_sent = h.are_sent;
+  written = h.written;
+  reached = h.reached;
+  ready = h.ready;
+  paused = h.paused;
+}
 
 -- ---- nothing is fed yet
 

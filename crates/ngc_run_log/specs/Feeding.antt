@@ -41,6 +41,13 @@ AreBegun feeds job s (e ∷ sent) (g ∷ given) (t ∷ states) =
     ((g ≡ Load) × AreBegun feeds job t (e ∷ sent) given states)
     ((g ≡ e) × AreBegun feeds job t sent given states)
 
+-- events were sent, and the machine processed those that this takes
+pub record Processes (feeds : Bool) (job : Job) (old new : State) (sent : List Event) : Type 0 where
+  pub given : List Event
+  pub outcomes : List Outcome
+  pub stretch : Stretch job old new given outcomes
+  pub are_sent : AreSent feeds job old sent given stretch.states
+
 -- ---- intermediate results
 
 -- events were sent, and those that the machine processed for them are recorded

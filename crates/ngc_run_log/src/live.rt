@@ -1,14 +1,15 @@
 //! A run whose events arrive while it is in progress.
-ghost use Rattle.std.specs.Prelude.{◌≡◌, ◌≢◌, ◌≤◌, ◌+◌, ◌^◌, ℕ, Err, List, [], ◌++◌, length, Option};
-ghost use Rattle.std.specs.Prelude.{IfOk, IfErr, OnOk, OnErr};
+ghost use Rattle.std.specs.Prelude.{◌≡◌, ◌≢◌, ◌<◌, ◌≤◌, ◌+◌, ℕ, Err, List, [], ◌∷◌, ◌++◌, length, replicate};
+ghost use Rattle.std.specs.Prelude.{Option, MatchOption, IfOk, IfErr, IfSome, OnOk, OnErr};
+ghost use Rattle.ngc_machine_files.specs.MachineRanges.{IsMachine};
 ghost use Rattle.ngc_machine_model.specs.Headline.{job_of};
 ghost use Rattle.ngc_checker.specs.Accepted.{commands_at};
 ghost use Rattle.ngc_events.specs.Arriving.{Ends, HaveArrived, MOST_TEXT, filled};
 ghost use Rattle.ngc_events.specs.declared.event.EventLine.{EventLine as Line};
-ghost use Rattle.ngc_run_log.specs.Living.{CutsPiece, FailsLive, Feeds, GivesPiece, IsLive};
-ghost use Rattle.ngc_run_log.specs.Living.{first_paused, form_of, live_result};
+ghost use Rattle.ngc_run_log.specs.Feeding.{Processes};
+ghost use Rattle.ngc_run_log.specs.Living.{FailsLive, FeedsLine, HasRun, IsCutRun, IsLive};
+ghost use Rattle.ngc_run_log.specs.Living.{first_paused, form_of};
 ghost use Rattle.ngc_run_log.specs.declared.live_form.LiveForm.{LiveForm as Written};
-ghost use Rattle.ngc_run_through.specs.Recording.{HasFew};
 ghost use Rattle.ngc_text.specs.Failures.{CountsFailure};
 
 use crate::feeding::send_line;
@@ -16,7 +17,7 @@ use crate::live_fault::LiveFault;
 use crate::live_form::LiveForm;
 use ngc_checker::Accepted;
 use ngc_controller::Controller;
-use ngc_events::{EventLines, EventsFault};
+use ngc_events::{EventLine, EventLines, EventsFault};
 use ngc_fixed_length::StepPos;
 use ngc_pulses::{PulseSamples, Switch};
 use ngc_run_through::{Form, Recorder, RunFault, Switches, TextState, Trace, switches_for};
@@ -39,6 +40,7 @@ pub struct LiveRun<A: Allocator> {
 }
 
 impl<A: Allocator> Model for LiveRun<A> {
+    ghost use Rattle.ngc_machine_files.specs.MachineRanges.{IsMachine};
     ghost use Rattle.ngc_run_log.specs.Living.{LiveData};
 
     ghost Value = { LiveData };
@@ -52,7 +54,7 @@ impl<A: Allocator> Model for LiveRun<A> {
       feeds = l.feeds_ring;
     } };
 
-    ghost invariant = { λ l. Unit {0} };
+    ghost invariant = { λ l. IsMachine l.controller.job.machine };
 }
 
 fn form_of(form: LiveForm) -> Form
@@ -72,58 +74,6 @@ fn first_paused(form: LiveForm, position: StepPos) -> TextState
         LiveForm::Log => TextState::Log,
         LiveForm::Times => TextState::Times(0),
         LiveForm::Samples(inverted) => { TextState::Samples(PulseSamples::new(inverted, position)) }
-    }
-}
-
-fn ended(taken: Result<(), EventsFault>) -> Result<(), LiveFault>
-    ensures is { result ≡ live_result taken }
-    ensures not_read { result ≢ Err LiveFault.Read }
-{
-    match taken {
-        Ok(()) => Ok(()),
-        Err(fault) => Err(LiveFault::Events(fault)),
-    }
-}
-
-// Processes the events of the lines that a piece completes, up to a line that isn't an event.
-fn send_lines<A: Allocator + Copy, W: Sink>(
-    controller: &mut Controller<ArcPath, A>,
-    feeds_ring: bool,
-    lines: &mut EventLines,
-    piece: &[u8],
-    recorder: &mut Recorder,
-    sink: &mut W,
-) -> Result<Result<(), EventsFault>, WriteFault>
-    requires { HasFew 0 recorder.old }
-    ensures job { controller.new.job ≡ controller.old.job }
-    ensures gives { IfOk result
-        (λ r. (text : List ℕ) (before : List Line) → HaveArrived text before lines.old →
-        GivesPiece feeds_ring controller.old.job controller.old.state controller.new.state recorder.old
-        recorder.new (W.written sink.old) (W.written sink.new) (text ++ piece.now) before lines.new
-        r) }
-    ensures cut { OnErr result
-        ((text : List ℕ) (before : List Line) → HaveArrived text before lines.old →
-        CutsPiece feeds_ring controller.old.job controller.old.state recorder.old (W.written sink.old)
-        (W.written sink.new) (text ++ piece.now) before) }
-    ensures few { OnOk result (HasFew (2 ^ 110) recorder.new) }
-    ensures fills { IfOk result
-        (λ r. OnOk r (filled lines.old + length piece.now ≤ filled lines.new)) }
-    ensures bound { IfOk result (λ r. OnOk r (filled lines.new ≤ MOST_TEXT)) }
-    ensures failures { CountsFailure (W.failures sink.old) (W.failures sink.new) result }
-{
-    let mut left = piece;
-    'lines: loop {
-        match lines.take(left) {
-            Ok(Some((line, rest))) => {
-                match send_line(controller, feeds_ring, &line, recorder, sink) {
-                    Ok(()) => {}
-                    Err(fault) => return Err(fault),
-                }
-                left = rest;
-            }
-            Ok(None) => return Ok(Ok(())),
-            Err(fault) => return Ok(Err(fault)),
-        }
     }
 }
 
@@ -165,50 +115,94 @@ impl<A: Allocator + Copy> LiveRun<A> {
         })
     }
 
-    /// Takes a piece of the text of events, processes the event of each line that is complete now,
-    /// and writes all resulting text.
+    /// Takes the bytes of a piece up to the end of the first line that is complete now, processes
+    /// the event of that line, and writes its whole result. Returns the bytes after the line. If the
+    /// piece completes no line, it takes all bytes and returns `None`.
     ///
     /// Each line is an event as in an events file. Their number isn't limited. A line that isn't an
-    /// event stops the run with 711 and its number, when its line feed or its 13th byte arrives;
-    /// the text of the lines before it is written. If a write fails (902), a prefix of the text is
-    /// written. Feed nothing more after a fault.
-    pub fn feed<W: Sink>(&mut self, piece: &[u8], sink: &mut W) -> Result<(), LiveFault>
-        // For any text that arrived before: the sink has the text of the run over the events of all
-        // complete lines.
-        ensures feeds { (form : Written) (text : List ℕ) (first : Option (List ℕ)) →
-            IsLive form self.old text first (W.written sink.old) →
-            Feeds form self.new (text ++ piece.now) first (W.written sink.new) result }
+    /// event is 711 with its number, when its line feed or its 13th byte arrives. If a write fails
+    /// (902), a prefix of the text is written. Feed nothing more after a fault.
+    pub fn feed<'p, W: Sink>(
+        &mut self,
+        piece: &'p [u8],
+        sink: &mut W,
+    ) -> Result<Option<&'p [u8]>, LiveFault>
+        // For any text of these lines that arrived before: the sink has the text of the run over
+        // these lines and the one that was fed.
+        ensures feeds { (form : Written) (text : List ℕ) (lines : List Line)
+            (first : Option (List ℕ)) → HaveArrived text lines self.old.arriving →
+            HasRun form self.old lines first (W.written sink.old) →
+            FeedsLine form self.new text piece.now lines first (W.written sink.new) result }
         ensures job { self.new.job ≡ self.old.job }
         ensures feeds_ring { self.new.feeds ≡ self.old.feeds }
+        ensures shorter { IfOk result (λ o. IfSome o (λ rest. length rest.now < length piece.now)) }
         // A text is no longer than its lines may be.
-        ensures fills { OnOk result
-            (filled self.old.arriving + length piece.now ≤ filled self.new.arriving) }
+        ensures fills { IfOk result (λ o. MatchOption o
+            (filled self.old.arriving + length piece.now ≤ filled self.new.arriving)
+            (λ rest. filled self.old.arriving + length piece.now
+            ≤ filled self.new.arriving + length rest.now)) }
         ensures bound { OnOk result (filled self.new.arriving ≤ MOST_TEXT) }
         ensures not_read { result ≢ Err LiveFault.Read }
         ensures failures { FailsLive result (W.failures sink.old) (W.failures sink.new) }
+    {
+        match self.lines.take(piece) {
+            Ok(Some((line, rest))) => match self.send(&line, sink) {
+                Ok(()) => Ok(Some(rest)),
+                Err(fault) => Err(LiveFault::Write(fault)),
+            },
+            Ok(None) => Ok(None),
+            Err(fault) => Err(LiveFault::Events(fault)),
+        }
+    }
+
+    /// Processes the event of a line the number of times that the line says, and writes its whole
+    /// result. The line needn't have arrived.
+    pub(crate) fn send<W: Sink>(&mut self, line: &EventLine, sink: &mut W) -> Result<(), WriteFault>
+        ensures runs { OnOk result ((form : Written) (lines : List Line) (first : Option (List ℕ)) →
+            HasRun form self.old lines first (W.written sink.old) →
+            HasRun form self.new (lines ++ line.now ∷ []) first (W.written sink.new)) }
+        ensures processes { OnOk result
+            (Processes self.old.feeds self.old.job self.old.state self.new.state
+            (replicate line.now.times line.now.event)) }
+        ensures cut { OnErr result ((form : Written) (lines : List Line) (first : Option (List ℕ)) →
+            HasRun form self.old lines first (W.written sink.old) →
+            IsCutRun form self.old.feeds self.old.job (lines ++ line.now ∷ []) first
+            (W.written sink.new)) }
+        ensures job { self.new.job ≡ self.old.job }
+        ensures feeds_ring { self.new.feeds ≡ self.old.feeds }
+        ensures arriving { self.new.arriving ≡ self.old.arriving }
+        ensures failures { CountsFailure (W.failures sink.old) (W.failures sink.new) result }
     {
         let switches = Switches {
             list: self.switches.as_slice(),
         };
         let trace = Trace::going_on(&self.paused, switches);
         let mut recorder = Recorder::new(trace, self.controller.position());
-        let taken = match send_lines(
+        match send_line(
             &mut self.controller,
             self.feeds_ring,
-            &mut self.lines,
-            piece,
+            line,
             &mut recorder,
             sink,
         ) {
-            Ok(taken) => taken,
-            Err(fault) => return Err(LiveFault::Write(fault)),
-        };
+            Ok(()) => {}
+            Err(fault) => return Err(fault),
+        }
         self.paused = recorder.paused();
         match recorder.finish(sink) {
             Ok(_) => {}
-            Err(fault) => return Err(LiveFault::Write(fault)),
+            Err(fault) => return Err(fault),
         }
-        ended(taken)
+        Ok(())
+    }
+
+    /// Returns the rate of the last tick, in millionths of a path step: 0 to 1,000,000, and 0 while
+    /// the machine is at rest.
+    pub fn rate(&self) -> u64
+        ensures value { result ≡ self.now.state.rate }
+        ensures machine { IsMachine self.now.job.machine }
+    {
+        self.controller.rate()
     }
 
     /// Returns whether the text of events is complete. A last line without its line feed is 711.

@@ -43,6 +43,7 @@ use Rattle.ngc_report.specs.declared.form.Form.{Form}
 use Rattle.ngc_report.specs.declared.form.Form.TheVariants.{Words, Json}
 use Rattle.ngc_simulator.specs.Placing.{PlaceWritten}
 use Rattle.ngc_simulator.specs.Reporting.{Reports}
+use Rattle.ngc_simulator.specs.declared.live_request.LiveRequest.{LiveRequest}
 use Rattle.ngc_simulator.specs.declared.place_request.PlaceRequest.{PlaceRequest}
 use Rattle.ngc_fixed_length.specs.declared.modes.System.{System}
 use Rattle.ngc_place_report.specs.Systems.{system_named}
@@ -323,6 +324,10 @@ abbrev pub requested_live : LiveOptions → Option LiveForm
 requested_live options =
     live_named (option_map (λ name. name.now) options.output) options.inverted
 
+abbrev pub live_request : LiveOptions → LiveForm → LiveRequest
+live_request options form =
+    record { form = form; feeds_ring = options.feed_ring; aborts = options.aborts }
+
 abbrev pub LivesOnFiles : FileBytes → LiveOptions → LiveForm → Option (List ℕ) →
     Option (List ℕ) → Result (Unit {0}) AnswerFault → Type 0
 LivesOnFiles bytes options form old new outcome =
@@ -331,7 +336,8 @@ LivesOnFiles bytes options form old new outcome =
     IfSome (bytes (Some options.program.now)) (λ text.
     IfSome (bytes (Some options.certificate.now))
     (λ certificate. (rest : Option (List ℕ)) ×
-    Lives form options.feed_ring setup text certificate options.delete (bytes None) rest old new outcome)))
+    Lives (live_request options form) setup text certificate options.delete (bytes None) rest old
+    new outcome)))
 
 -- a form that isn't known is rejected before a file is read
 abbrev pub LiveResult : FileBytes → LiveOptions → Option LiveForm → Option (List ℕ) →

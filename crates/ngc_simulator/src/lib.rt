@@ -11,6 +11,7 @@ mod drawing_files;
 mod faults_files;
 mod guide;
 mod lister;
+mod live_request;
 mod living;
 mod making;
 mod mistaken_files;
@@ -30,6 +31,7 @@ pub use checking::check_program;
 pub use done::{Done, Notes};
 pub use drawing::{draw_certified, draw_program};
 pub use lister::list;
+pub use live_request::LiveRequest;
 pub use living::run_live;
 pub use ngc_canonical::{
     Action, Command, CoolantState, Fault, Feed, Motion, Pace, ProgramFault, SpindleState, Way,
@@ -53,7 +55,7 @@ pub use ngc_machine_files::{FileFault, Fixture, Machine, Tool, Tools, built_in_m
 pub use ngc_program_report::{ReportRequest, RunTime};
 pub use ngc_report::Form;
 pub use ngc_run_log::{
-    LiveFault, LiveForm, LiveRun, feed_from, run, write_pulses, write_samples, write_timed_log,
+    LiveFault, LiveForm, LiveRun, run, write_pulses, write_samples, write_timed_log,
 };
 pub use ngc_run_through::{
     Report, RunFault, run_through, write_pulses_through, write_samples_through,

@@ -1,17 +1,21 @@
 //! `ngc live`: a run over events that arrive on standard input.
-ghost use Rattle.std.specs.Prelude.{◌≡◌, ℕ, List, IfErr, Err, Some, option_map};
+ghost use Rattle.std.specs.Prelude.{◌≡◌, ℕ, [], List, IfErr, Err, Option, Some, option_map, MatchBool, OnOk};
+ghost use Rattle.std.specs.Io.KnownBytes.{IsAtEnd};
 ghost use Rattle.ngc_canonical.specs.State.{Setup};
 ghost use Rattle.ngc_text.specs.Failures.{Rises};
 ghost use Rattle.ngc_simulator.specs.Answers.{LiveResult, requested_live, live_inputs};
 ghost use Rattle.ngc_inputs.specs.Faults.{FailsByOutput, OfLiving};
 ghost use Rattle.ngc_inputs.specs.Judging.{IsVerdict};
+ghost use Rattle.ngc_run_log.specs.Living.{FailsBeforeRest, FailsLive, IsLive, LivesOn, LivesToRest};
+ghost use Rattle.ngc_run_log.specs.declared.live_form.LiveForm.{LiveForm as Written};
 ghost use Rattle.ngc_simulator.specs.Lives.{Lives, live_named};
 ghost use Rattle.ngc_inputs.specs.Unread.{FailsByInput, SourceFails};
 
 use crate::done::Done;
+use crate::live_request::LiveRequest;
 use ngc_command_line::LiveOptions;
 use ngc_inputs::{AnswerFault, Files, Verdict, judge_file, open_file, read_placed, read_program};
-use ngc_run_log::{LiveForm, LiveRun, feed_from};
+use ngc_run_log::{LiveFault, LiveForm, LiveRun, feed_from, feed_to_rest};
 use ngc_text::{InputFault, Sink, Source};
 use std::alloc::{Allocator, Global};
 
@@ -35,26 +39,53 @@ fn live_form(output: Option<&str>, inverted: u8) -> Option<LiveForm>
     }
 }
 
+// Feeds a run with the bytes of a source to its end. Unless the run is aborted there, the machine
+// comes to rest.
+fn feed_all<A: Allocator + Copy, S: Source, W: Sink>(
+    live: &mut LiveRun<A>,
+    aborts: bool,
+    source: &mut S,
+    output: &mut W,
+) -> Result<(), LiveFault>
+    ensures lives { (form : Written) (first : Option (List ℕ)) →
+        IsLive form live.old [] first (W.written output.old) →
+        MatchBool aborts
+        (LivesOn form live.new (S.remaining source.old) (S.remaining source.new) first
+        (W.written output.new) result)
+        (LivesToRest form live.new (S.remaining source.old) (S.remaining source.new) first
+        (W.written output.new) result) }
+    ensures job { live.new.job ≡ live.old.job }
+    ensures feeds_ring { live.new.feeds ≡ live.old.feeds }
+    ensures end { OnOk result (IsAtEnd (S.remaining source.new)) }
+    ensures source { FailsBeforeRest result (S.failures source.old) (S.failures source.new) }
+    ensures failures { FailsLive result (W.failures output.old) (W.failures output.new) }
+{
+    if aborts {
+        return feed_from(live, source, output);
+    }
+    feed_to_rest(live, source, output)
+}
+
 /// Runs a program at a setting of block delete over the events of a source as they arrive, and
-/// writes the output of each line before it reads the next one. If `feeds_ring` is set, commands
-/// that are left are loaded before each tick while the ring has space for one.
+/// writes the whole result of each line before it processes the next one.
 ///
 /// `verdict` is what `check` or `judge` returned for the program. A program that is refused isn't
 /// run, and nothing is read or written. A line that isn't an event (711) ends the run; the output
-/// of the lines before it is written. Where a write fails, a prefix of the output is written.
+/// of the lines before it is written. At the end, also after a wrong line, the machine is held until
+/// it is at rest, unless the run is aborted there. Where a write fails, a prefix of the output is
+/// written.
 pub fn run_live<A: Allocator + Copy, S: Source, W: Sink>(
     alloc: A,
     verdict: Verdict<A>,
     source: &mut S,
     block_delete: bool,
-    form: LiveForm,
-    feeds_ring: bool,
+    request: LiveRequest,
     output: &mut W,
 ) -> Result<(), AnswerFault>
     // For any files that the verdict is about: the result is that of these files and of the bytes
     // from the source.
     ensures lives { (setup : Setup) (bytes text : List ℕ) → IsVerdict setup bytes text verdict →
-        Lives form feeds_ring setup bytes text block_delete (S.remaining source.old) (S.remaining source.new)
+        Lives request setup bytes text block_delete (S.remaining source.old) (S.remaining source.new)
         (W.written output.old) (W.written output.new) result }
     // The source failed if the result says so.
     ensures source { result ≡ Err (AnswerFault.Input InputFault.Device) →
@@ -63,8 +94,14 @@ pub fn run_live<A: Allocator + Copy, S: Source, W: Sink>(
     ensures faults { IfErr result OfLiving }
 {
     let accepted = verdict?;
-    let mut live = LiveRun::new(alloc, accepted, block_delete, form, feeds_ring)?;
-    feed_from(&mut live, source, output)?;
+    let mut live = LiveRun::new(
+        alloc,
+        accepted,
+        block_delete,
+        request.form,
+        request.feeds_ring,
+    )?;
+    feed_all(&mut live, request.aborts, source, output)?;
     Ok(())
 }
 
@@ -93,15 +130,12 @@ fn live_files<F: Files, W: Sink>(
     let program = read_program(alloc, Some(options.program), files)?;
     let verdict = judge_file(alloc, &program, &shop, options.certificate, files)?;
     let mut events = open_file(None, files)?;
-    run_live(
-        alloc,
-        verdict,
-        &mut events,
-        options.delete,
+    let request = LiveRequest {
         form,
-        options.feed_ring,
-        output,
-    )?;
+        feeds_ring: options.feed_ring,
+        aborts: options.aborts,
+    };
+    run_live(alloc, verdict, &mut events, options.delete, request, output)?;
     Ok(Done::Quietly)
 }
 

@@ -13,5 +13,6 @@ returns c = record {
   output = c.get_str.ensures ∙ first_value-rows (found_of c.args.found.now) (codes "output");
   inverted = c.mask_of.ensures;
   feed_ring = c.flag_is_set-2.ensures;
+  aborts = c.flag_is_set-3.ensures;
   origins = c.requires.origins;
 }

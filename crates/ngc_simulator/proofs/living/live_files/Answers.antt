@@ -6,7 +6,7 @@ use Rattle.ngc_report.proofs.Converted.{turned}
 use Rattle.ngc_inputs.proofs.JobLaws.{keeps_same}
 use Rattle.ngc_simulator.proofs.LiveLaws.{from_input, lived_files}
 use Rattle.ngc_inputs.specs.Faults.{OfLiving}
-use Rattle.ngc_simulator.specs.Answers.{LiveResult, certificate_input, live_inputs, program_input}
+use Rattle.ngc_simulator.specs.Answers.{LiveResult, certificate_input, live_inputs, live_request, program_input}
 use Rattle.ngc_inputs.specs.Unread.{OfCertificate, OfProgram, OfSource, SourceFails, certificate_unread, program_unread, shop_inputs, unread_by}
 use Rattle.ngc_inputs.proofs.UnreadLaws.{all_read, is_read, live_told, placed_read, reported_before, told_behind, unopened, unread_told}
 use Rattle.ngc_line_reader.specs.ProgramText.{program_of}
@@ -57,7 +57,7 @@ returns-clause-comes g c =
     lived_files (g.F.Files.bytes c.args.files.now) (g.F.Files.bytes c.read_placed.new.files) (g.F.Files.bytes c.read_program.new.files) c.args.options.now c.args.form c.in_ok-shop.shop (g.W.Sink.written c.args.output.now) (g.W.Sink.written c.run_live.new.output) (Ok tt) _ _
     c.in_ok-shop.ensures.said c.read_placed.ensures.keeps c.read_program.ensures.named c.in_ok-program.ensures.text (c.in_ok-verdict.ensures.judges c.in_ok-program.ensures.readings.readings c.in_ok-program.ensures.readings.are)
     (λ a b is_text judges.
-    from_input c.args.form c.args.options.now.feed_ring (setup_of c.in_ok-shop.shop.machine c.in_ok-shop.shop.tools) a b c.args.options.now.delete _ _ _ _ _ (Ok tt) (c.in_ok-events.ensures.bytes ∙ c.judge_file.ensures.keeps None ∙ c.read_program.ensures.keeps refl None ∙ c.read_placed.ensures.keeps None)
+    from_input (live_request c.args.options.now c.args.form) (setup_of c.in_ok-shop.shop.machine c.in_ok-shop.shop.tools) a b c.args.options.now.delete _ _ _ _ _ (Ok tt) (c.in_ok-events.ensures.bytes ∙ c.judge_file.ensures.keeps None ∙ c.read_program.ensures.keeps refl None ∙ c.read_placed.ensures.keeps None)
     (c.in_ok-run_live.ensures.lives (setup_of c.in_ok-shop.shop.machine c.in_ok-shop.shop.tools) a b
     (verdict_on (setup_of c.in_ok-shop.shop.machine c.in_ok-shop.shop.tools) a b (text_in c.in_ok-program.program) c.in_ok-verdict.verdict
     is_text c.in_ok-program.ensures.readings judges)))
@@ -72,7 +72,7 @@ returns-in_err-run_live-clause-comes g c =
       lived_files (g.F.Files.bytes c.args.files.now) (g.F.Files.bytes c.read_placed.new.files) (g.F.Files.bytes c.read_program.new.files) c.args.options.now c.args.form c.in_ok-shop.shop (g.W.Sink.written c.args.output.now) (g.W.Sink.written c.run_live.new.output) (Err fault) _ _
           c.in_ok-shop.ensures.said c.read_placed.ensures.keeps c.read_program.ensures.named c.in_ok-program.ensures.text (c.in_ok-verdict.ensures.judges c.in_ok-program.ensures.readings.readings c.in_ok-program.ensures.readings.are)
           (λ a b is_text judges.
-          from_input c.args.form c.args.options.now.feed_ring (setup_of c.in_ok-shop.shop.machine c.in_ok-shop.shop.tools) a b c.args.options.now.delete _ _ _ _ _ (Err fault) (c.in_ok-events.ensures.bytes ∙ c.judge_file.ensures.keeps None ∙ c.read_program.ensures.keeps refl None ∙ c.read_placed.ensures.keeps None)
+          from_input (live_request c.args.options.now c.args.form) (setup_of c.in_ok-shop.shop.machine c.in_ok-shop.shop.tools) a b c.args.options.now.delete _ _ _ _ _ (Err fault) (c.in_ok-events.ensures.bytes ∙ c.judge_file.ensures.keeps None ∙ c.read_program.ensures.keeps refl None ∙ c.read_placed.ensures.keeps None)
           (c.in_err-run_live.ensures.lives (setup_of c.in_ok-shop.shop.machine c.in_ok-shop.shop.tools) a b
           (verdict_on (setup_of c.in_ok-shop.shop.machine c.in_ok-shop.shop.tools) a b (text_in c.in_ok-program.program) c.in_ok-verdict.verdict
           is_text c.in_ok-program.ensures.readings judges))),
