@@ -1,12 +1,8 @@
 -- The texts of a job, from those of the accepted program.
 use Rattle.std.proofs.Common.{◌≡◌, ℕ, List, Option, Some, None, Bool, false, ap, ap₂, refl, subst, sym, ◌∙◌}
-use Rattle.std.specs.Prelude.{is_some, slice_get, true}
+use Rattle.std.specs.Prelude.{is_some, true}
 use Rattle.ngc_origins.specs.Texts.{OriginList}
-use Rattle.ngc_canonical.specs.Meaning.{with_readings}
-use Rattle.ngc_frames.specs.Changes.{frame_changes, start_frame}
-use Rattle.ngc_frames.specs.InForce.{frame_in_force}
 use Rattle.ngc_frames.specs.declared.history.FrameHistory.{FrameHistory}
-use Rattle.ngc_frames.specs.declared.in_force.FrameInForce.{FrameInForce}
 use Rattle.ngc_commands.specs.declared.command.Command.{Command}
 use Rattle.ngc_certificate.specs.declared.plan.Plan.{Plan}
 use Rattle.ngc_certificate.specs.Planned.{planned}
@@ -15,14 +11,15 @@ use Rattle.ngc_certificate_text.specs.declared.piece.Setting.{Setting}
 use Rattle.ngc_certificate_text.specs.declared.piece.Setting.TheVariants.{Off, On}
 use Rattle.ngc_line_reader.specs.Program.{Line}
 use Rattle.ngc_machine_files.specs.Machine.{MachineFile}
+use Rattle.ngc_machine_files.specs.declared.tools.Tool.{Tool}
 use Rattle.ngc_certificate_text.specs.Certificate.{CertificateData, Entry}
 use Rattle.ngc_checker.specs.Accepted.{AcceptedData, commands_at}
 use Rattle.ngc_checker.specs.Held.{accepted_of}
 use Rattle.ngc_job.specs.Job.{JobData, commands_in, on_or}
 use Rattle.ngc_report.specs.declared.form.Form.{Form}
-use Rattle.ngc_program_report.specs.Coordinates.{History, line_of}
+use Rattle.ngc_program_report.specs.Coordinates.{History}
 use Rattle.ngc_program_report.specs.Framed.{IsFramed, IsHistoryAt, frames_at, frames_or, history_in, setup_in}
-use Rattle.ngc_program_report.specs.JobReports.{IsFitText, IsFrameAt, IsRefusalsText, IsStartClear, OffBegins, OnBegins, first_text}
+use Rattle.ngc_program_report.specs.JobReports.{IsFitText, IsRefusalsText, IsStartClear, OffBegins, OnBegins, first_text}
 use Rattle.ngc_program_report.specs.Texts.{LastsFor, accepted_text, fits_text, is_on, refusal_text, refusals_text}
 use Rattle.ngc_program_report.specs.Times.{ProgramTimeData}
 use Rattle.ngc_program_report.specs.declared.framed.FramedJob.{FramedJob}
@@ -105,35 +102,27 @@ planned_as j a b plan is = ap (λ (x : AcceptedData). planned x.machine.step (co
 
 -- ---- obstacles
 
-pub first_as : (j : JobData) (form : Form) (origins : OriginList) (s : Setting) (k : ℕ) (lines : List Line) (frame : FrameInForce) (named : Bool) (m : MachineFile) (b : Bool)
-    (cs : List Command) → named ≡ is_some j.on → m ≡ j.machine → b ≡ is_on s → cs ≡ commands_in b j
-    → refusal_text form origins named s m cs k lines frame ≡ first_text j form origins s k lines frame
-first_as j form origins s k lines frame named m b cs is_named is_machine is_set are =
-    ap (λ (d : Bool). refusal_text form origins d s m cs k lines frame) is_named
-    ∙ ap (λ (x : MachineFile). refusal_text form origins (is_some j.on) s x cs k lines frame) is_machine
-    ∙ ap (λ (l : List Command). refusal_text form origins (is_some j.on) s j.machine l k lines frame) (are ∙ ap (λ (x : Bool). commands_in x j) is_set)
+pub first_as : (j : JobData) (form : Form) (origins : OriginList) (s : Setting) (k : ℕ) (lines : List Line) (h : History) (named : Bool) (m : MachineFile)
+    (ts : List Tool) (b : Bool) (cs : List Command) → named ≡ is_some j.on → m ≡ j.machine → ts ≡ j.tools → b ≡ is_on s → cs ≡ commands_in b j
+    → refusal_text form origins named s (record { machine = m; tools = ts }) cs k lines h ≡ first_text j form origins s k lines h
+first_as j form origins s k lines h named m ts b cs is_named is_machine are_tools is_set are =
+    ap (λ (d : Bool). refusal_text form origins d s (record { machine = m; tools = ts }) cs k lines h) is_named
+    ∙ ap₂ (λ (x : MachineFile) (us : List Tool). refusal_text form origins (is_some j.on) s (record { machine = x; tools = us }) cs k lines h) is_machine are_tools
+    ∙ ap (λ (l : List Command). refusal_text form origins (is_some j.on) s (setup_in j) l k lines h) (are ∙ ap (λ (x : Bool). commands_in x j) is_set)
 
--- the frame of a command, from its computed value
-pub frame_as : {A : Type 0} (f : FramedJob A) (s : Setting) (k : ℕ) (b : Bool) (cs : List Command) (n : ℕ) (frames : FrameHistory A)
-    (frame : FrameInForce) (lines : List Line)
-    → b ≡ is_on s → cs ≡ commands_in b f.job → n ≡ line_of (slice_get cs k) → frames ≡ frames_at s f
-    → frame ≡ frame_in_force frames.start frames.changes.items n → IsFramed f lines → IsFrameAt f.job s k lines frame
-frame_as f s k b cs n frames frame lines is_set are is_line same is framed rs readings =
-    let j : JobData = f.job in
-    let line : n ≡ line_of (slice_get (commands_in (is_on s) j) k) =
-    is_line ∙ ap (λ (l : List Command). line_of (slice_get l k)) (are ∙ ap (λ (x : Bool). commands_in x j) is_set) in
-    is
-    ∙ ap (λ (h : History). frame_in_force h.start h.changes n) (ap history_in same ∙ framed s rs readings)
-    ∙ ap (λ (x : ℕ). frame_in_force (start_frame (setup_in j)) (frame_changes (setup_in j) (with_readings lines rs) (is_on s)) x) line
+-- the frames at a setting
+pub frames_as : {A : Type 0} (f : FramedJob A) (s : Setting) (frames : FrameHistory A) (lines : List Line) → frames ≡ frames_at s f → IsFramed f lines →
+    IsHistoryAt f.job s lines (history_in frames)
+frames_as f s frames lines same framed = subst (IsHistoryAt f.job s lines) (sym (ap history_in same)) (framed s)
 
-pub all_text : (j : JobData) (cuts : ℕ) (s : Setting) (k : ℕ) (form : Form) (origins : OriginList) (lines : List Line) (named : Bool) (m : MachineFile) (off on : List Command)
-    (off_h on_h : History) (off_ks on_ks : List ℕ)
-    → named ≡ is_some j.on → m ≡ j.machine → off ≡ j.off → on ≡ commands_in true j
+pub all_text : (j : JobData) (cuts : ℕ) (s : Setting) (k : ℕ) (form : Form) (origins : OriginList) (lines : List Line) (named : Bool) (m : MachineFile) (ts : List Tool)
+    (off on : List Command) (off_h on_h : History) (off_ks on_ks : List ℕ)
+    → named ≡ is_some j.on → m ≡ j.machine → ts ≡ j.tools → off ≡ j.off → on ≡ commands_in true j
     → AreUncleared j.machine cuts j.off off_ks → (IsStartClear j.machine → OffBegins (is_some j.on) s k off_ks)
     → AreUncleared j.machine cuts (commands_in true j) on_ks → (IsStartClear j.machine → OnBegins s k on_ks)
     → IsHistoryAt j Off lines off_h → IsHistoryAt j On lines on_h
-    → IsRefusalsText j cuts s k form origins lines (refusals_text form origins named m off on off_h on_h off_ks on_ks)
-all_text j cuts s k form origins lines named m off on off_h on_h off_ks on_ks is_named is_machine is_off is_on off_are off_begins on_are on_begins off_is on_is = record {
+    → IsRefusalsText j cuts s k form origins lines (refusals_text form origins named (record { machine = m; tools = ts }) off on off_h on_h off_ks on_ks lines)
+all_text j cuts s k form origins lines named m ts off on off_h on_h off_ks on_ks is_named is_machine are_tools is_off is_on off_are off_begins on_are on_begins off_is on_is = record {
   off_ks = off_ks;
   off_uncleared = off_are;
   off_begins = off_begins;
@@ -144,10 +133,11 @@ all_text j cuts s k form origins lines named m off on off_h on_h off_ks on_ks is
   off_executed = off_is;
   on_frames = on_h;
   on_executed = on_is;
-  tells = ap (λ (d : Bool). refusals_text form origins d m off on off_h on_h off_ks on_ks) is_named
-      ∙ ap (λ (x : MachineFile). refusals_text form origins (is_some j.on) x off on off_h on_h off_ks on_ks) is_machine
-      ∙ ap (λ (cs : List Command). refusals_text form origins (is_some j.on) j.machine cs on off_h on_h off_ks on_ks) is_off
-      ∙ ap (λ (cs : List Command). refusals_text form origins (is_some j.on) j.machine j.off cs off_h on_h off_ks on_ks) is_on;
+  tells = ap (λ (d : Bool). refusals_text form origins d (record { machine = m; tools = ts }) off on off_h on_h off_ks on_ks lines) is_named
+      ∙ ap₂ (λ (x : MachineFile) (us : List Tool). refusals_text form origins (is_some j.on) (record { machine = x; tools = us }) off on off_h on_h off_ks on_ks lines)
+      is_machine are_tools
+      ∙ ap (λ (cs : List Command). refusals_text form origins (is_some j.on) (setup_in j) cs on off_h on_h off_ks on_ks lines) is_off
+      ∙ ap (λ (cs : List Command). refusals_text form origins (is_some j.on) (setup_in j) j.off cs off_h on_h off_ks on_ks lines) is_on;
 }
 
 -- if both settings have the same commands, the commands that aren't cleared are reported once

@@ -1,18 +1,12 @@
 -- The text of the report of a job. Our own.
 use Rattle.std.specs.Prelude.{◌≡◌, ℕ, List, [], Option, None, is_some, Result, Ok, Err, Bool}
-use Rattle.std.specs.Prelude.{true, false, IsTrue, slice_get}
+use Rattle.std.specs.Prelude.{true, false, IsTrue}
 use Rattle.std.specs.List.{list_all}
 use Rattle.std.specs.Io.KnownBytes.{Appends, Keeps}
 use Rattle.ngc_origins.specs.Texts.{OriginList}
 use Rattle.ngc_text.specs.Failures.{Rises}
 use Rattle.ngc_text.specs.Written.{AppendsPrefix}
-use Rattle.ngc_line_reader.specs.Grammar.{Reading}
 use Rattle.ngc_line_reader.specs.Program.{Line}
-use Rattle.ngc_line_reader.specs.ProgramText.{AreReadings}
-use Rattle.ngc_canonical.specs.Meaning.{with_readings}
-use Rattle.ngc_frames.specs.Changes.{frame_changes, start_frame}
-use Rattle.ngc_frames.specs.InForce.{frame_in_force}
-use Rattle.ngc_frames.specs.declared.in_force.FrameInForce.{FrameInForce}
 use Rattle.ngc_fixed_length.specs.Grid.{grid}
 use Rattle.ngc_machine_files.specs.Machine.{MachineFile}
 use Rattle.ngc_machine_files.specs.MachineRanges.{IsMachine}
@@ -29,7 +23,7 @@ use Rattle.ngc_report.specs.declared.form.Form.{Form}
 use Rattle.ngc_report.specs.declared.report_fault.ReportFault.{ReportFault}
 use Rattle.ngc_report.specs.declared.report_fault.ReportFault.TheVariants as faults
 use Rattle.ngc_program_report.specs.declared.request.ReportRequest.{ReportRequest}
-use Rattle.ngc_program_report.specs.Coordinates.{History, line_of}
+use Rattle.ngc_program_report.specs.Coordinates.{History}
 use Rattle.ngc_program_report.specs.Framed.{IsHistoryAt, setup_in}
 use Rattle.ngc_program_report.specs.Texts.{LastsFor, fits_text, is_on, refusal_text, refusals_text}
 use Rattle.ngc_program_report.specs.Times.{ProgramTimeData}
@@ -83,28 +77,19 @@ pub record IsRefusalsText (j : JobData) (cuts : ℕ) (s : Setting) (k : ℕ) (fo
   pub off_executed : IsHistoryAt j Off lines off_frames
   pub on_frames : History
   pub on_executed : IsHistoryAt j On lines on_frames
-  pub tells : text ≡ refusals_text form origins (is_some j.on) j.machine j.off
-      (commands_in true j) off_frames on_frames off_ks on_ks
+  pub tells : text ≡ refusals_text form origins (is_some j.on) (setup_in j) j.off
+      (commands_in true j) off_frames on_frames off_ks on_ks lines
 
 -- the report of only command `k`, which isn't cleared at a setting
-abbrev pub first_text : JobData → Form → OriginList → Setting → ℕ → List Line → FrameInForce →
-    List ℕ
-first_text j form origins s k lines frame =
-    refusal_text form origins (is_some j.on) s j.machine (commands_in (is_on s) j) k lines frame
-
--- command `k` is executed in this frame at a setting, whatever the readings of the program's lines
--- are
-abbrev pub IsFrameAt : JobData → Setting → ℕ → List Line → FrameInForce → Type 0
-IsFrameAt j s k lines frame = (rs : List Reading) → AreReadings lines rs →
-    frame ≡ frame_in_force (start_frame (setup_in j))
-    (frame_changes (setup_in j) (with_readings lines rs) (is_on s))
-    (line_of (slice_get (commands_in (is_on s) j) k))
+abbrev pub first_text : JobData → Form → OriginList → Setting → ℕ → List Line → History → List ℕ
+first_text j form origins s k lines h =
+    refusal_text form origins (is_some j.on) s (setup_in j) (commands_in (is_on s) j) k lines h
 
 pub record IsFirstText (j : JobData) (form : Form) (origins : OriginList) (s : Setting) (k : ℕ)
     (lines : List Line) (text : List ℕ) : Type 0 where
-  pub frame : FrameInForce
-  pub executed : IsFrameAt j s k lines frame
-  pub tells : text ≡ first_text j form origins s k lines frame
+  pub frames : History
+  pub executed : IsHistoryAt j s lines frames
+  pub tells : text ≡ first_text j form origins s k lines frames
 
 -- the report of a job whose command `k` isn't cleared: of all such commands, or of only that one
 abbrev pub IsRefusalText : Bool → JobData → ReportRequest → Setting → ℕ → List Line → List ℕ →

@@ -1,13 +1,14 @@
 -- The texts of reports of programs. Our own.
-use Rattle.std.specs.Prelude.{◌≡◌, ℕ, List, [], ◌++◌, codes, decimal, slice_get, Option, Some}
+use Rattle.std.specs.Prelude.{◌≡◌, ℕ, List, [], ◌∷◌, ◌++◌, codes, decimal, slice_get, Option, Some}
 use Rattle.std.specs.Prelude.{None, is_some, option_map, flat_map, Bool, true, false}
 use Rattle.std.specs.Prelude.{if◌then◌else◌}
 use Rattle.ngc_origins.specs.Lines.{origins_facts, origins_words}
-use Rattle.ngc_origins.specs.Texts.{OriginList}
+use Rattle.ngc_origins.specs.Texts.{OriginList, replaces}
 use Rattle.ngc_fixed_length.specs.Grid.{grid}
 use Rattle.ngc_line_reader.specs.Program.{Line}
 use Rattle.ngc_machine_files.specs.Machine.{MachineFile}
 use Rattle.ngc_commands.specs.declared.command.Command.{Command}
+use Rattle.ngc_commands.specs.declared.movement.Way.{Way}
 use Rattle.ngc_canonical.specs.Faults.{fault_number}
 use Rattle.ngc_canonical.specs.declared.fault.Fault.{Fault}
 use Rattle.ngc_canonical.specs.declared.fault.ProgramFault.{ProgramFault}
@@ -34,6 +35,7 @@ use Rattle.ngc_report.specs.declared.form.Form.TheVariants.{Words, Json}
 use Rattle.ngc_word_warnings.specs.Spelling.{word_warnings}
 use Rattle.ngc_lowest_tips.specs.Texts.{tips_text}
 use Rattle.ngc_lowest_tips.specs.Tips.{lowest_tips}
+use Rattle.ngc_origin_warnings.specs.Missing.{missing_text}
 use Rattle.ngc_origin_warnings.specs.Warnings.{origin_warnings}
 use Rattle.ngc_tool_warnings.specs.Spelling.{tool_warnings}
 use Rattle.ngc_setup_sheet.specs.Sheets.{warning_facts, warnings_text}
@@ -165,31 +167,60 @@ abbrev pub quoted_if : Form → Option ℕ → List Line → List ℕ
 quoted_if form None lines = []
 quoted_if form (Some number) lines = quoted form number lines
 
+-- the frame of command `k`
+abbrev pub frame_of : List Command → History → ℕ → FrameInForce
+frame_of commands h k = frame_in_force h.start h.changes (line_of (slice_get commands k))
+
+-- a motion that meets no fixture has coordinates whose origin isn't in the machine file, and isn't
+-- replaced
+abbrev pub missing_if : Form → OriginList → MachineFile → Option ℕ → Option Way → FrameInForce →
+    List ℕ
+missing_if form origins machine None (Some way) f =
+    if replaces origins f.frame.frames.active then [] else missing_text form machine f
+missing_if form origins machine fixture way f = []
+
+-- the same of the reported command
+abbrev pub missing_at : Form → OriginList → MachineFile → List Command → History → Option ℕ →
+    List ℕ
+missing_at form origins machine commands h None = []
+missing_at form origins machine commands h (Some k) =
+    missing_if form origins machine (met_at machine commands k) (refused_path commands (Some k))
+    (frame_of commands h k)
+
+-- the warnings at a setting, those about the machine and its tools, and the end
+abbrev pub refusal_end : Form → Setting → Setup → History → List Command → List Line → List ℕ
+refusal_end form s setup h commands lines =
+    warnings form s setup h commands lines ++ (shop_text form setup ++ ending form 304)
+
 -- the obstacle of a command, its program line, and its coordinates in the program
 abbrev pub cause_text : Form → OriginList → MachineFile → List Command → Option ℕ → Option ℕ →
     List Line → FrameInForce → List ℕ
 cause_text form origins machine commands told fixture lines frame =
     report_text form (refusal_lines machine commands told fixture)
     ++ (quoted_if form (refused_number commands told) lines
-    ++ (coordinates_text form origins frame (refused_path commands told) ++ ending form 304))
+    ++ coordinates_text form origins frame (refused_path commands told))
 
--- the obstacle of command `k` at a setting
-abbrev pub refusal_text : Form → OriginList → Bool → Setting → MachineFile → List Command → ℕ →
-    List Line → FrameInForce → List ℕ
-refusal_text form origins named s machine commands k lines frame =
+-- command `k`, unless the start point isn't clear
+abbrev pub told_at : MachineFile → ℕ → Option ℕ
+told_at machine k =
+    refused_command (place_fault machine None (grid machine.step machine.start)) k
+
+-- the obstacle of command `k` at a setting, and the warnings there
+abbrev pub refusal_text : Form → OriginList → Bool → Setting → Setup → List Command → ℕ →
+    List Line → History → List ℕ
+refusal_text form origins named s setup commands k lines h =
     heading form origins true named s
-    ++ cause_text form origins machine commands
-    (refused_command (place_fault machine None (grid machine.step machine.start)) k)
-    (met_at machine commands k) lines frame
+    ++ (missing_at form origins setup.machine commands h (told_at setup.machine k)
+    ++ (cause_text form origins setup.machine commands (told_at setup.machine k)
+    (met_at setup.machine commands k) lines (frame_of commands h k)
+    ++ refusal_end form s setup h commands lines))
 
 -- the obstacle of command `k`, and its coordinates in the program
 abbrev pub command_refusal : Form → OriginList → MachineFile → List Command → History → ℕ →
     List ℕ
 command_refusal form origins machine commands h k =
     report_text form (scene_lines machine k None (scene_at machine commands k))
-    ++ coordinates_text form origins
-    (frame_in_force h.start h.changes (line_of (slice_get commands k)))
-    (refused_path commands (Some k))
+    ++ coordinates_text form origins (frame_of commands h k) (refused_path commands (Some k))
 
 -- those of commands in order
 abbrev pub command_refusals : Form → OriginList → MachineFile → List Command → History →
@@ -206,20 +237,30 @@ all_refusals form origins machine commands h ks =
     (is_some (place_fault machine None (grid machine.step machine.start))) ks)
     ++ command_refusals form origins machine commands h ks
 
--- all obstacles at a setting, where the program has these frames
-abbrev pub setting_refusals : Form → OriginList → Bool → Bool → Setting → MachineFile →
-    List Command → History → List ℕ → List ℕ
-setting_refusals form origins first named s machine commands h ks =
-    heading form origins first named s ++ all_refusals form origins machine commands h ks
+abbrev pub first_of : List ℕ → Option ℕ
+first_of [] = None
+first_of (k ∷ ks) = Some k
 
--- the text for both settings, or once if they have the same commands
-abbrev pub refusals_text : Form → OriginList → Bool → MachineFile → List Command → List Command →
-    History → History → List ℕ → List ℕ → List ℕ
-refusals_text form origins false machine off on off_h on_h off_ks on_ks =
-    setting_refusals form origins true false Off machine off off_h off_ks ++ ending form 304
-refusals_text form origins true machine off on off_h on_h off_ks on_ks =
-    setting_refusals form origins true true Off machine off off_h off_ks
-    ++ (setting_refusals form origins false true On machine on on_h on_ks ++ ending form 304)
+-- all obstacles at a setting, where the program has these frames, and the warnings there
+abbrev pub setting_refusals : Form → OriginList → Bool → Bool → Setting → Setup → List Command →
+    History → List ℕ → List Line → List ℕ
+setting_refusals form origins first named s setup commands h ks lines =
+    heading form origins first named s
+    ++ (missing_at form origins setup.machine commands h (first_of ks)
+    ++ (all_refusals form origins setup.machine commands h ks
+    ++ warnings form s setup h commands lines))
+
+-- the text for both settings, or once if they have the same commands; and the warnings about
+-- machine and tools
+abbrev pub refusals_text : Form → OriginList → Bool → Setup → List Command → List Command →
+    History → History → List ℕ → List ℕ → List Line → List ℕ
+refusals_text form origins false setup off on off_h on_h off_ks on_ks lines =
+    setting_refusals form origins true false Off setup off off_h off_ks lines
+    ++ (shop_text form setup ++ ending form 304)
+refusals_text form origins true setup off on off_h on_h off_ks on_ks lines =
+    setting_refusals form origins true true Off setup off off_h off_ks lines
+    ++ (setting_refusals form origins false true On setup on on_h on_ks lines
+    ++ (shop_text form setup ++ ending form 304))
 
 -- the line for a program that is refused
 abbrev pub refused_line : Form → List ℕ

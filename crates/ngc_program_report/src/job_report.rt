@@ -17,13 +17,13 @@ ghost use Rattle.ngc_line_reader.specs.Program.{Line};
 ghost use Rattle.ngc_line_reader.specs.ProgramView.{text_in};
 ghost use Rattle.ngc_lowest_tips.specs.Tips.{lowest_tips};
 ghost use Rattle.ngc_program_report.specs.Framed.{IsFramed};
-ghost use Rattle.ngc_program_report.specs.JobReports.{FailsByWriting, IsFitText, IsFrameAt};
+ghost use Rattle.ngc_program_report.specs.Coordinates.{history_of};
+ghost use Rattle.ngc_program_report.specs.JobReports.{FailsByWriting, IsFitText};
 ghost use Rattle.ngc_program_report.specs.JobReports.{IsRefusalText, IsRefusalsText};
 ghost use Rattle.ngc_program_report.specs.JobReports.{IsStartClear, OffBegins, OnBegins, Prints};
 ghost use Rattle.ngc_program_report.specs.JobReports.{first_text};
 ghost use Rattle.ngc_program_report.specs.Texts.{is_on};
 
-use crate::coordinates::line_of;
 use crate::fit_writer::{is_on, write_both, write_once};
 use crate::framed::{FramedJob, frames_or};
 use crate::refusal_writer::{is_start_refused, write_all_both, write_all_once, write_refused};
@@ -34,7 +34,7 @@ use ngc_certificate::{
 };
 use ngc_checker::Accepted;
 use ngc_commands::Command;
-use ngc_frames::{FrameHistory, FrameInForce};
+use ngc_frames::FrameHistory;
 use ngc_job::Job;
 use ngc_line_reader::Program;
 use ngc_lowest_tips::{LowestTip, lowest_tips};
@@ -160,34 +160,25 @@ pub fn report_fit<A: Allocator + Copy, W: Sink>(
     Ok(())
 }
 
-// Returns the frame in which a command is executed at a setting.
-fn frame_at<A: Allocator>(framed: &FramedJob<A>, setting: Setting, command: u32) -> FrameInForce
-    ensures { (lines : List Line) → IsFramed framed.now lines →
-        IsFrameAt framed.now.job setting command lines result }
-{
-    let line = line_of(framed.job.commands(is_on(setting)), command as usize);
-    framed.frames(setting).in_force(line)
-}
-
 // Writes the report of a command that isn't cleared at a setting.
 fn report_first<A: Allocator, W: Sink>(
     program: &Program<A>,
     job: &Job<A>,
     setting: Setting,
     command: u32,
-    frame: &FrameInForce,
+    history: &FrameHistory<A>,
     form: Form,
     origins: &Origins,
     output: &mut W,
 ) -> Result<(), WriteFault>
     ensures ok { OnOk result
         (Appends (W.written output.old) (W.written output.new)
-        (first_text job.now form origins.now setting command
-        (text_in program.now).lines frame.now)) }
+        (first_text job.now form origins.now setting command (text_in program.now).lines
+        (history_of history.now.start history.now.changes.items))) }
     ensures fault { OnErr result
         (AppendsPrefix (W.written output.old) (W.written output.new)
-        (first_text job.now form origins.now setting command
-        (text_in program.now).lines frame.now)) }
+        (first_text job.now form origins.now setting command (text_in program.now).lines
+        (history_of history.now.start history.now.changes.items))) }
     ensures counts { CountsFailure (W.failures output.old) (W.failures output.new) result }
 {
     write_refused(
@@ -195,11 +186,12 @@ fn report_first<A: Allocator, W: Sink>(
         origins,
         program,
         job.machine(),
+        job.tools(),
         job.has_deleted_lines(),
         setting,
         job.commands(is_on(setting)),
         command,
-        frame,
+        history,
         output,
     )
 }
@@ -261,23 +253,26 @@ fn on_uncleared<A: Allocator + Copy>(
 // Writes the report of all commands that aren't cleared, if no certificate is made because of one.
 fn report_all<A: Allocator + Copy, W: Sink>(
     alloc: A,
+    program: &Program<A>,
     framed: &FramedJob<A>,
     setting: Setting,
     command: u32,
     request: ReportRequest,
     output: &mut W,
 ) -> Result<(), ReportFault>
-    requires { IsMade framed.now.job.machine request.cuts framed.now.job.off
+    requires made { IsMade framed.now.job.machine request.cuts framed.now.job.off
         (commands_in true framed.now.job) (Err (MakeFault.NotCleared setting command)) }
-    ensures tells { (lines : List Line) → IsFramed framed.now lines → Prints
+    requires frames { IsFramed framed.now (text_in program.now).lines }
+    ensures tells { Prints
         (IsRefusalsText framed.now.job request.cuts setting command request.form
-        request.origins lines)
+        request.origins (text_in program.now).lines)
         (W.written output.old) (W.written output.new) result }
     ensures counts { FailsByWriting result (W.failures output.old) (W.failures output.new) }
 {
     let (form, cuts, origins) = (request.form, request.cuts, &request.origins);
     let job = &framed.job;
     let machine = job.machine();
+    let tools = job.tools();
     let off = job.commands(false);
     let off_indices = match off_uncleared(alloc, job, setting, command, cuts) {
         Ok(indices) => indices,
@@ -285,7 +280,17 @@ fn report_all<A: Allocator + Copy, W: Sink>(
     };
     if !job.has_deleted_lines() {
         let indices = off_indices.as_slice();
-        write_all_once(form, origins, machine, off, indices, &framed.off, output)?;
+        write_all_once(
+            form,
+            origins,
+            program,
+            machine,
+            tools,
+            off,
+            indices,
+            &framed.off,
+            output,
+        )?;
         return Ok(());
     }
     let on_indices = match on_uncleared(alloc, job, setting, command, cuts) {
@@ -295,7 +300,9 @@ fn report_all<A: Allocator + Copy, W: Sink>(
     write_all_both(
         form,
         origins,
+        program,
         machine,
+        tools,
         off,
         off_indices.as_slice(),
         &framed.off,
@@ -309,8 +316,8 @@ fn report_all<A: Allocator + Copy, W: Sink>(
 
 /// Writes the report of a job without a certificate, because a command, counted from 0, isn't
 /// cleared at a setting of block delete. It reports the obstacle of that command, or those of all
-/// commands that aren't cleared, and the coordinates of these commands in the program, whose frames
-/// are those of the job.
+/// commands that aren't cleared, the coordinates of these commands in the program, whose frames are
+/// those of the job, and the warnings about the program, the machine and its tools.
 ///
 /// If memory runs out (900), nothing is written. If a write fails (902), a prefix is written.
 pub fn report_refusal<A: Allocator + Copy, W: Sink>(
@@ -332,15 +339,14 @@ pub fn report_refusal<A: Allocator + Copy, W: Sink>(
     ensures counts { FailsByWriting result (W.failures output.old) (W.failures output.new) }
 {
     if request.all {
-        return report_all(alloc, framed, setting, command, request, output);
+        return report_all(alloc, program, framed, setting, command, request, output);
     }
-    let frame = frame_at(framed, setting, command);
     report_first(
         program,
         &framed.job,
         setting,
         command,
-        &frame,
+        framed.frames(setting),
         request.form,
         &request.origins,
         output,

@@ -2,6 +2,7 @@
 ghost use Rattle.std.specs.Prelude.{◌≡◌, ◌++◌, OnOk, OnErr, None, is_some, true, false};
 ghost use Rattle.std.specs.Io.KnownBytes.{Appends};
 ghost use Rattle.ngc_canonical.specs.Faults.{fault_number};
+ghost use Rattle.ngc_canonical.specs.Interpreter.{setup_of};
 ghost use Rattle.ngc_certificate.specs.PieceFault.{place_fault};
 ghost use Rattle.ngc_certificate_text.specs.Collects.{Collects};
 ghost use Rattle.ngc_text.specs.Failures.{CountsFailure};
@@ -15,12 +16,13 @@ ghost use Rattle.ngc_report.specs.Marks.{named_line};
 ghost use Rattle.ngc_report.specs.Scenes.{StandsAfter};
 ghost use Rattle.ngc_program_report.specs.Coordinates.{coordinates_text, history_of};
 ghost use Rattle.ngc_program_report.specs.Texts.{all_refusals, cause_text, command_refusal};
-ghost use Rattle.ngc_program_report.specs.Texts.{command_refusals, ending, is_on, quoted_if, refusal_text};
+ghost use Rattle.ngc_program_report.specs.Texts.{command_refusals, ending, first_of, is_on};
+ghost use Rattle.ngc_program_report.specs.Texts.{missing_at, missing_if, quoted_if, refusal_end, refusal_text};
 ghost use Rattle.ngc_program_report.specs.Texts.{refusals_text, refused_line, rejection_text};
 ghost use Rattle.ngc_program_report.specs.Texts.{setting_refusals, refused_command, refused_number};
 
 use crate::coordinates::{collect_coordinates, line_of, refused_path, write_coordinates};
-use crate::fit_writer::is_on;
+use crate::fit_writer::{is_on, write_setting_warnings, write_shop};
 use crate::met::met_at;
 use crate::report_frame::{write_ending, write_heading};
 use ngc_canonical::Fault;
@@ -28,7 +30,8 @@ use ngc_certificate::{Setting, place_fault};
 use ngc_commands::{Command, Way};
 use ngc_frames::{FrameHistory, FrameInForce, FrameWalk};
 use ngc_line_reader::Program;
-use ngc_machine_files::Machine;
+use ngc_machine_files::{Machine, Tools};
+use ngc_origin_warnings::write_missing_origin;
 use ngc_origins::Origins;
 use ngc_refused_values::write_values;
 use ngc_report::{
@@ -83,27 +86,7 @@ fn write_refused_line<A: Allocator, W: Sink>(
     }
 }
 
-// Writes the program coordinates of the reported command, and the end.
-fn write_way_end<W: Sink>(
-    form: Form,
-    origins: &Origins,
-    frame: &FrameInForce,
-    way: &Option<Way>,
-    output: &mut W,
-) -> Result<(), WriteFault>
-    ensures ok { OnOk result
-        (Appends (W.written output.old) (W.written output.new)
-        (coordinates_text form origins.now frame.now way.now ++ ending form 304)) }
-    ensures fault { OnErr result
-        (AppendsPrefix (W.written output.old) (W.written output.new)
-        (coordinates_text form origins.now frame.now way.now ++ ending form 304)) }
-    ensures counts { CountsFailure (W.failures output.old) (W.failures output.new) result }
-{
-    write_coordinates(form, origins, frame, way, output)?;
-    write_ending(form, 304, output)
-}
-
-// Writes the program line of the reported command, its program coordinates, and the end.
+// Writes the program line of the reported command, and its program coordinates.
 fn write_cause_end<A: Allocator, W: Sink>(
     form: Form,
     origins: &Origins,
@@ -116,15 +99,15 @@ fn write_cause_end<A: Allocator, W: Sink>(
     ensures ok { OnOk result
         (Appends (W.written output.old) (W.written output.new)
         (quoted_if form number (text_in program.now).lines
-        ++ (coordinates_text form origins.now frame.now way.now ++ ending form 304))) }
+        ++ coordinates_text form origins.now frame.now way.now)) }
     ensures fault { OnErr result
         (AppendsPrefix (W.written output.old) (W.written output.new)
         (quoted_if form number (text_in program.now).lines
-        ++ (coordinates_text form origins.now frame.now way.now ++ ending form 304))) }
+        ++ coordinates_text form origins.now frame.now way.now)) }
     ensures counts { CountsFailure (W.failures output.old) (W.failures output.new) result }
 {
     write_refused_line(form, program, number, output)?;
-    write_way_end(form, origins, frame, way, output)
+    write_coordinates(form, origins, frame, way, output)
 }
 
 // Writes the obstacle of a command, and its program line.
@@ -155,34 +138,129 @@ fn write_cause<A: Allocator, W: Sink>(
     write_cause_end(form, origins, program, number, frame, &way, output)
 }
 
-// Writes the obstacle of a command at a setting.
-pub(crate) fn write_refused<A: Allocator, W: Sink>(
+// Writes that a coordinate system has no origin, if a motion in it leaves the travel.
+fn write_missing_if<A: Allocator, W: Sink>(
     form: Form,
     origins: &Origins,
-    program: &Program<A>,
     machine: &Machine<A>,
-    named: bool,
-    setting: Setting,
-    commands: &[Command],
-    command: u32,
+    fixture: Option<u32>,
+    way: &Option<Way>,
     frame: &FrameInForce,
     output: &mut W,
 ) -> Result<(), WriteFault>
     ensures ok { OnOk result
         (Appends (W.written output.old) (W.written output.new)
-        (refusal_text form origins.now named setting (file_of machine.now) commands.now command
-        (text_in program.now).lines frame.now)) }
+        (missing_if form origins.now (file_of machine.now) fixture way.now frame.now)) }
     ensures fault { OnErr result
         (AppendsPrefix (W.written output.old) (W.written output.new)
-        (refusal_text form origins.now named setting (file_of machine.now) commands.now command
-        (text_in program.now).lines frame.now)) }
+        (missing_if form origins.now (file_of machine.now) fixture way.now frame.now)) }
+    ensures counts { CountsFailure (W.failures output.old) (W.failures output.new) result }
+{
+    match (fixture, way) {
+        (None, Some(_)) if !origins.replaces(frame.frame.system()) => {
+            write_missing_origin(form, machine, frame, output)
+        }
+        _ => write_all(output, b""),
+    }
+}
+
+// Writes the same of the reported command.
+fn write_missing<A: Allocator, W: Sink>(
+    form: Form,
+    origins: &Origins,
+    machine: &Machine<A>,
+    commands: &[Command],
+    history: &FrameHistory<A>,
+    told: Option<usize>,
+    output: &mut W,
+) -> Result<(), WriteFault>
+    ensures ok { OnOk result
+        (Appends (W.written output.old) (W.written output.new)
+        (missing_at form origins.now (file_of machine.now) commands.now
+        (history_of history.now.start history.now.changes.items) told)) }
+    ensures fault { OnErr result
+        (AppendsPrefix (W.written output.old) (W.written output.new)
+        (missing_at form origins.now (file_of machine.now) commands.now
+        (history_of history.now.start history.now.changes.items) told)) }
+    ensures counts { CountsFailure (W.failures output.old) (W.failures output.new) result }
+{
+    match told {
+        None => write_all(output, b""),
+        Some(command) => {
+            let fixture = met_at(machine, commands, command);
+            let path = refused_path(commands, Some(command));
+            let frame = history.in_force(line_of(commands, command));
+            write_missing_if(form, origins, machine, fixture, &path, &frame, output)
+        }
+    }
+}
+
+// Writes the warnings at a setting, those about the machine and its tools, and the end.
+fn write_refusal_end<A: Allocator, W: Sink>(
+    form: Form,
+    program: &Program<A>,
+    setting: Setting,
+    machine: &Machine<A>,
+    tools: &Tools<A>,
+    history: &FrameHistory<A>,
+    commands: &[Command],
+    output: &mut W,
+) -> Result<(), WriteFault>
+    ensures ok { OnOk result
+        (Appends (W.written output.old) (W.written output.new)
+        (refusal_end form setting (setup_of machine.now tools.now)
+        (history_of history.now.start history.now.changes.items) commands.now
+        (text_in program.now).lines)) }
+    ensures fault { OnErr result
+        (AppendsPrefix (W.written output.old) (W.written output.new)
+        (refusal_end form setting (setup_of machine.now tools.now)
+        (history_of history.now.start history.now.changes.items) commands.now
+        (text_in program.now).lines)) }
+    ensures counts { CountsFailure (W.failures output.old) (W.failures output.new) result }
+{
+    write_setting_warnings(
+        form, program, setting, machine, tools, history, commands, output,
+    )?;
+    write_shop(form, machine, tools, output)?;
+    write_ending(form, 304, output)
+}
+
+// Writes the obstacle of a command at a setting, and the warnings there.
+pub(crate) fn write_refused<A: Allocator, W: Sink>(
+    form: Form,
+    origins: &Origins,
+    program: &Program<A>,
+    machine: &Machine<A>,
+    tools: &Tools<A>,
+    named: bool,
+    setting: Setting,
+    commands: &[Command],
+    command: u32,
+    history: &FrameHistory<A>,
+    output: &mut W,
+) -> Result<(), WriteFault>
+    ensures ok { OnOk result
+        (Appends (W.written output.old) (W.written output.new)
+        (refusal_text form origins.now named setting (setup_of machine.now tools.now) commands.now
+        command (text_in program.now).lines
+        (history_of history.now.start history.now.changes.items))) }
+    ensures fault { OnErr result
+        (AppendsPrefix (W.written output.old) (W.written output.new)
+        (refusal_text form origins.now named setting (setup_of machine.now tools.now) commands.now
+        command (text_in program.now).lines
+        (history_of history.now.start history.now.changes.items))) }
     ensures counts { CountsFailure (W.failures output.old) (W.failures output.new) result }
 {
     write_heading(form, origins, true, named, setting, output)?;
     let told = refused_command(machine, command);
+    write_missing(form, origins, machine, commands, history, told, output)?;
     let fixture = met_at(machine, commands, command as usize);
+    let frame = history.in_force(line_of(commands, command as usize));
     write_cause(
-        form, origins, program, machine, commands, told, fixture, frame, output,
+        form, origins, program, machine, commands, told, fixture, &frame, output,
+    )?;
+    write_refusal_end(
+        form, program, setting, machine, tools, history, commands, output,
     )
 }
 
@@ -318,14 +396,26 @@ fn write_obstacles<A: Allocator, W: Sink>(
     }
 }
 
-// Writes all obstacles at a setting.
+// Returns the first of the commands that are refused.
+fn first_of(indices: &[u32]) -> Option<usize>
+    ensures { result ≡ first_of indices.now }
+{
+    match indices {
+        [] => None,
+        [index, ..] => Some(*index as usize),
+    }
+}
+
+// Writes all obstacles at a setting, and the warnings there.
 fn write_setting_refusals<A: Allocator, W: Sink>(
     form: Form,
     origins: &Origins,
+    program: &Program<A>,
     first: bool,
     named: bool,
     setting: Setting,
     machine: &Machine<A>,
+    tools: &Tools<A>,
     commands: &[Command],
     indices: &[u32],
     history: &FrameHistory<A>,
@@ -333,23 +423,39 @@ fn write_setting_refusals<A: Allocator, W: Sink>(
 ) -> Result<(), WriteFault>
     ensures ok { OnOk result
         (Appends (W.written output.old) (W.written output.new)
-        (setting_refusals form origins.now first named setting (file_of machine.now) commands.now
-        (history_of history.now.start history.now.changes.items) indices.now)) }
+        (setting_refusals form origins.now first named setting (setup_of machine.now tools.now)
+        commands.now (history_of history.now.start history.now.changes.items) indices.now
+        (text_in program.now).lines)) }
     ensures fault { OnErr result
         (AppendsPrefix (W.written output.old) (W.written output.new)
-        (setting_refusals form origins.now first named setting (file_of machine.now) commands.now
-        (history_of history.now.start history.now.changes.items) indices.now)) }
+        (setting_refusals form origins.now first named setting (setup_of machine.now tools.now)
+        commands.now (history_of history.now.start history.now.changes.items) indices.now
+        (text_in program.now).lines)) }
     ensures counts { CountsFailure (W.failures output.old) (W.failures output.new) result }
 {
     write_heading(form, origins, first, named, setting, output)?;
-    write_obstacles(form, origins, machine, commands, indices, history, output)
+    write_missing(
+        form,
+        origins,
+        machine,
+        commands,
+        history,
+        first_of(indices),
+        output,
+    )?;
+    write_obstacles(form, origins, machine, commands, indices, history, output)?;
+    write_setting_warnings(
+        form, program, setting, machine, tools, history, commands, output,
+    )
 }
 
 /// Writes all obstacles at both settings, which have the same commands.
 pub(crate) fn write_all_once<A: Allocator, W: Sink>(
     form: Form,
     origins: &Origins,
+    program: &Program<A>,
     machine: &Machine<A>,
+    tools: &Tools<A>,
     commands: &[Command],
     indices: &[u32],
     history: &FrameHistory<A>,
@@ -357,28 +463,33 @@ pub(crate) fn write_all_once<A: Allocator, W: Sink>(
 ) -> Result<(), WriteFault>
     ensures ok { OnOk result
         (Appends (W.written output.old) (W.written output.new)
-        (refusals_text form origins.now false (file_of machine.now) commands.now commands.now
-        (history_of history.now.start history.now.changes.items)
-        (history_of history.now.start history.now.changes.items) indices.now indices.now)) }
+        (refusals_text form origins.now false (setup_of machine.now tools.now) commands.now
+        commands.now (history_of history.now.start history.now.changes.items)
+        (history_of history.now.start history.now.changes.items) indices.now indices.now
+        (text_in program.now).lines)) }
     ensures fault { OnErr result
         (AppendsPrefix (W.written output.old) (W.written output.new)
-        (refusals_text form origins.now false (file_of machine.now) commands.now commands.now
-        (history_of history.now.start history.now.changes.items)
-        (history_of history.now.start history.now.changes.items) indices.now indices.now)) }
+        (refusals_text form origins.now false (setup_of machine.now tools.now) commands.now
+        commands.now (history_of history.now.start history.now.changes.items)
+        (history_of history.now.start history.now.changes.items) indices.now indices.now
+        (text_in program.now).lines)) }
     ensures counts { CountsFailure (W.failures output.old) (W.failures output.new) result }
 {
     write_setting_refusals(
         form,
         origins,
+        program,
         true,
         false,
         Setting::Off,
         machine,
+        tools,
         commands,
         indices,
         history,
         output,
     )?;
+    write_shop(form, machine, tools, output)?;
     write_ending(form, 304, output)
 }
 
@@ -386,7 +497,9 @@ pub(crate) fn write_all_once<A: Allocator, W: Sink>(
 pub(crate) fn write_all_both<A: Allocator, W: Sink>(
     form: Form,
     origins: &Origins,
+    program: &Program<A>,
     machine: &Machine<A>,
+    tools: &Tools<A>,
     off: &[Command],
     off_indices: &[u32],
     off_history: &FrameHistory<A>,
@@ -397,25 +510,27 @@ pub(crate) fn write_all_both<A: Allocator, W: Sink>(
 ) -> Result<(), WriteFault>
     ensures ok { OnOk result
         (Appends (W.written output.old) (W.written output.new)
-        (refusals_text form origins.now true (file_of machine.now) off.now on.now
+        (refusals_text form origins.now true (setup_of machine.now tools.now) off.now on.now
         (history_of off_history.now.start off_history.now.changes.items)
         (history_of on_history.now.start on_history.now.changes.items) off_indices.now
-        on_indices.now)) }
+        on_indices.now (text_in program.now).lines)) }
     ensures fault { OnErr result
         (AppendsPrefix (W.written output.old) (W.written output.new)
-        (refusals_text form origins.now true (file_of machine.now) off.now on.now
+        (refusals_text form origins.now true (setup_of machine.now tools.now) off.now on.now
         (history_of off_history.now.start off_history.now.changes.items)
         (history_of on_history.now.start on_history.now.changes.items) off_indices.now
-        on_indices.now)) }
+        on_indices.now (text_in program.now).lines)) }
     ensures counts { CountsFailure (W.failures output.old) (W.failures output.new) result }
 {
     write_setting_refusals(
         form,
         origins,
+        program,
         true,
         true,
         Setting::Off,
         machine,
+        tools,
         off,
         off_indices,
         off_history,
@@ -424,15 +539,18 @@ pub(crate) fn write_all_both<A: Allocator, W: Sink>(
     write_setting_refusals(
         form,
         origins,
+        program,
         false,
         true,
         Setting::On,
         machine,
+        tools,
         on,
         on_indices,
         on_history,
         output,
     )?;
+    write_shop(form, machine, tools, output)?;
     write_ending(form, 304, output)
 }
 

@@ -1,16 +1,14 @@
 -- The result of reporting whether a program fits, from the results of its parts.
 use Rattle.std.proofs.Common.{◌≡◌, ℕ, List, Option, Some, Bool, true, false, Result, Ok, Err, IfSome, ap, ap₂, inl, inr, refl, subst, sym}
 use Rattle.std.proofs.Common.{◌∙◌}
-use Rattle.std.specs.Prelude.{is_some, option_map, slice_get}
-use Rattle.ngc_frames.specs.Changes.{frame_changes, start_frame}
-use Rattle.ngc_frames.specs.InForce.{frame_in_force}
+use Rattle.std.specs.Prelude.{is_some, option_map}
 use Rattle.std.specs.Io.KnownBytes.{Appends, Keeps}
 use Rattle.ngc_text.specs.Written.{AppendsPrefix}
 use Rattle.ngc_text.specs.declared.writing.WriteFault.{WriteFault}
 use Rattle.ngc_line_reader.specs.Grammar.{Reading}
 use Rattle.ngc_line_reader.specs.ProgramText.{ProgramText, program_of, AreReadings, HaveReadings}
 use Rattle.ngc_canonical.specs.Interpreter.{setup_of}
-use Rattle.ngc_canonical.specs.Meaning.{Program as ProgramLines, has_deleted, parsed_program, with_readings}
+use Rattle.ngc_canonical.specs.Meaning.{Program as ProgramLines, has_deleted, parsed_program}
 use Rattle.ngc_canonical.specs.State.{Setup}
 use Rattle.ngc_commands.specs.declared.command.Command.{Command}
 use Rattle.ngc_canonical.specs.declared.fault.Fault.{Fault}
@@ -27,7 +25,7 @@ use Rattle.ngc_machine_files.specs.Machine.{MachineFile}
 use Rattle.ngc_machine_files.specs.declared.tools.Tool.{Tool}
 use Rattle.ngc_simulator.specs.Answers.{ReportsOn, request_of}
 use Rattle.ngc_program_report.specs.JobReports.{IsFirstText, IsFitText, IsRefusalText, IsRefusalsText, IsStartClear, OffBegins, Prints}
-use Rattle.ngc_program_report.specs.Coordinates.{History, line_of}
+use Rattle.ngc_program_report.specs.Coordinates.{History}
 use Rattle.ngc_program_report.specs.Framed.{IsHistoryAt, setup_in}
 use Rattle.ngc_inputs.specs.Jobs.{IsMadeOf, IsProgram, IsUnmade, WhyNotMade}
 use Rattle.ngc_simulator.specs.Reporting.{IsAllReport, IsFirstReport, IsFitReport, IsReportOf, IsRejectionReport, Reports, frames_of}
@@ -108,17 +106,11 @@ module _ (setup : Setup) (bytes : List ℕ) (request : ReportRequest) (text : Pr
     on = commands_in true j;
     means = means_job setup bytes text j is_text have is_job;
     made = refused_made s k unmade;
-    frame = is.frame;
-    executed = is.executed have.readings have.are
-        ∙ ap (λ (of : Setup). frame_in_force (start_frame of) (frame_changes of (with_readings text.lines have.readings) (is_on s))
-        (line_of (slice_get (commands_in (is_on s) j) k))) same_setup
-        ∙ ap (λ (cs : List Command). frame_in_force (start_frame setup) (frame_changes setup (with_readings text.lines have.readings) (is_on s))
-        (line_of (slice_get cs k))) (at_setting s);
     tells = is.tells
-        ∙ ap (λ (cs : List Command). refusal_text request.form request.origins (is_some j.on) s j.machine cs k text.lines is.frame) (at_setting s)
-        ∙ ap (λ (d : Bool). refusal_text request.form request.origins d s j.machine (commands_of s j.off (commands_in true j)) k text.lines is.frame) the_job.apart
-        ∙ ap (λ (m : MachineFile). refusal_text request.form request.origins (has_deleted (parsed_program text have.readings).lines) s m
-        (commands_of s j.off (commands_in true j)) k text.lines is.frame) the_job.machine;
+        ∙ ap (λ (cs : List Command). refusal_text request.form request.origins (is_some j.on) s (setup_in j) cs k text.lines is.frames) (at_setting s)
+        ∙ ap (λ (d : Bool). refusal_text request.form request.origins d s (setup_in j) (commands_of s j.off (commands_in true j)) k text.lines is.frames) the_job.apart
+        ∙ ap₂ (λ (of : Setup) (h : History). refusal_text request.form request.origins (has_deleted (parsed_program text have.readings).lines) s of
+        (commands_of s j.off (commands_in true j)) k text.lines h) same_setup (frames_as s is.frames is.executed);
   }
 
   all_report : (s : Setting) (k : ℕ) (t : List ℕ) → IsUnmade j request.cuts (NotCleared s k) → IsRefusalsText j request.cuts s k request.form request.origins text.lines t
@@ -135,11 +127,12 @@ module _ (setup : Setup) (bytes : List ℕ) (request : ReportRequest) (text : Pr
     on_uncleared = subst (λ (m : MachineFile). AreUncleared m request.cuts (commands_in true j) is.on_ks) the_job.machine is.on_uncleared;
     on_begins = λ start. is.on_begins (subst IsStartClear (sym the_job.machine) start);
     tells = is.tells
-        ∙ ap (λ (d : Bool). refusals_text request.form request.origins d j.machine j.off (commands_in true j) is.off_frames is.on_frames is.off_ks is.on_ks) the_job.apart
-        ∙ ap (λ (m : MachineFile). refusals_text request.form request.origins (has_deleted (parsed_program text have.readings).lines) m j.off (commands_in true j)
-        is.off_frames is.on_frames is.off_ks is.on_ks) the_job.machine
-        ∙ ap₂ (λ (off_h on_h : History). refusals_text request.form request.origins (has_deleted (parsed_program text have.readings).lines) setup.machine j.off
-        (commands_in true j) off_h on_h is.off_ks is.on_ks)
+        ∙ ap (λ (d : Bool). refusals_text request.form request.origins d (setup_in j) j.off (commands_in true j) is.off_frames is.on_frames is.off_ks is.on_ks text.lines)
+        the_job.apart
+        ∙ ap (λ (of : Setup). refusals_text request.form request.origins (has_deleted (parsed_program text have.readings).lines) of j.off (commands_in true j)
+        is.off_frames is.on_frames is.off_ks is.on_ks text.lines) same_setup
+        ∙ ap₂ (λ (off_h on_h : History). refusals_text request.form request.origins (has_deleted (parsed_program text have.readings).lines) setup j.off
+        (commands_in true j) off_h on_h is.off_ks is.on_ks text.lines)
         (frames_as Off is.off_frames is.off_executed) (frames_as On is.on_frames is.on_executed);
   }
 

@@ -1,6 +1,6 @@
 -- The result of reporting whether a program fits. Our own.
 use Rattle.std.specs.Prelude.{◌≡◌, ◌⊎◌, ℕ, List, Option}
-use Rattle.std.specs.Prelude.{Result, Ok, Err, Bool, true, false, slice_get}
+use Rattle.std.specs.Prelude.{Result, Ok, Err, Bool, true, false}
 use Rattle.std.specs.Io.KnownBytes.{Appends, Keeps}
 use Rattle.ngc_text.specs.Written.{AppendsPrefix}
 use Rattle.ngc_line_reader.specs.ProgramText.{program_of}
@@ -19,9 +19,7 @@ use Rattle.ngc_inputs.specs.declared.fault.AnswerFault.{AnswerFault}
 use Rattle.ngc_inputs.specs.declared.fault.AnswerFault.TheVariants as answers
 use Rattle.ngc_inputs.specs.Jobs.{AreMeanings, IsMadeFor, IsProgram, IsRefusedAt}
 use Rattle.ngc_frames.specs.Changes.{frame_changes, start_frame}
-use Rattle.ngc_frames.specs.InForce.{frame_in_force}
-use Rattle.ngc_frames.specs.declared.in_force.FrameInForce.{FrameInForce}
-use Rattle.ngc_program_report.specs.Coordinates.{History, history_of, line_of}
+use Rattle.ngc_program_report.specs.Coordinates.{History, history_of}
 use Rattle.ngc_program_report.specs.JobReports.{IsStartClear, OffBegins, OnBegins}
 use Rattle.ngc_program_report.specs.Texts.{LastsFor, commands_of, fault_text, fits_text, is_on}
 use Rattle.ngc_program_report.specs.Texts.{refusal_text, refusals_text}
@@ -53,14 +51,9 @@ pub record IsFirstReport (setup : Setup) (bytes : List ℕ) (request : ReportReq
   pub on : List Command
   pub means : AreMeanings setup bytes off on
   pub made : IsMade setup.machine request.cuts off on (Err (NotCleared s k))
-  -- the frame in which command k is executed
-  pub frame : FrameInForce
-  pub executed : frame ≡ frame_in_force (start_frame setup)
-      (frame_changes setup means.program.lines (is_on s))
-      (line_of (slice_get (commands_of s off on) k))
   pub tells : text ≡ refusal_text request.form request.origins
-      (has_deleted means.program.lines) s setup.machine
-      (commands_of s off on) k means.is_program.text.lines frame
+      (has_deleted means.program.lines) s setup (commands_of s off on) k
+      means.is_program.text.lines (frames_of setup means.program.lines s)
 
 -- the report of all commands that aren't cleared, at either setting: at least command k of that
 -- setting, or the start point
@@ -78,9 +71,9 @@ pub record IsAllReport (setup : Setup) (bytes : List ℕ) (request : ReportReque
   pub on_uncleared : AreUncleared setup.machine request.cuts on on_ks
   pub on_begins : IsStartClear setup.machine → OnBegins s k on_ks
   pub tells : text ≡ refusals_text request.form request.origins
-      (has_deleted means.program.lines) setup.machine off on
+      (has_deleted means.program.lines) setup off on
       (frames_of setup means.program.lines Off) (frames_of setup means.program.lines On)
-      off_ks on_ks
+      off_ks on_ks means.is_program.text.lines
 
 abbrev pub IsReportOf : Bool → Setup → List ℕ → ReportRequest → Setting → ℕ → List ℕ → Type 0
 IsReportOf false setup bytes request s k text = IsFirstReport setup bytes request s k text

@@ -3,7 +3,9 @@ use Rattle.std.specs.Prelude.{is_some}
 use Rattle.ngc_certificate.specs.Uncleared.{AreUncleared}
 use Rattle.ngc_job.specs.Job.{commands_in}
 use Rattle.ngc_certificate_text.specs.declared.piece.Setting.TheVariants.{Off, On}
+use Rattle.ngc_line_reader.specs.ProgramView.{text_in}
 use Rattle.ngc_machine_files.specs.Machine.{file_of}
+use Rattle.ngc_machine_files.specs.Tools.{tools_of}
 use Rattle.ngc_program_report.specs.Framed.{IsHistoryAt, frames_at, history_in}
 use Rattle.ngc_program_report.specs.JobReports.{IsRefusalsText, IsStartClear, OffBegins, OnBegins, Prints}
 use Rattle.ngc_program_report.specs.Texts.{refusals_text}
@@ -13,11 +15,14 @@ use Rattle.ngc_report.proofs.Converted.{turned}
 use Rattle.ngc_program_report.proofs.job_report.report_all.Goals as goal
 
 pub returns-in_err-write_all_once-clause-tells : goal.returns-in_err-write_all_once-clause-tells
-returns-in_err-write_all_once-clause-tells g c = λ lines framed.
+returns-in_err-write_all_once-clause-tells g c =
+    let lines = (text_in c.args.program.now).lines in
+    let framed = c.requires.frames in
     let f = c.args.framed.now in
     let j = f.job in
     let cuts = c.args.request.cuts in
     let file = file_of c.machine-machine.result.now in
+    let table = tools_of c.tools-tools.result.now in
     let off = c.commands-off.result.now in
     let ks = c.as_slice-indices.result.now in
     let h = history_in f.off in
@@ -30,19 +35,22 @@ returns-in_err-write_all_once-clause-tells g c = λ lines framed.
     (λ r. Prints (IsRefusalsText j cuts c.args.setting c.args.command c.args.request.form c.args.request.origins lines) (g.W.Sink.written c.args.output.now)
     (g.W.Sink.written c.write_all_once.new.output) r)
     c.from_residual.ensures.1 (
-      refusals_text c.args.request.form c.args.request.origins false file off off h on_h ks ks,
-      all_text j cuts c.args.setting c.args.command c.args.request.form c.args.request.origins lines false file off off h on_h ks ks (sym none) c.machine-machine.ensures.value
+      refusals_text c.args.request.form c.args.request.origins false (record { machine = file; tools = table }) off off h on_h ks ks lines,
+      all_text j cuts c.args.setting c.args.command c.args.request.form c.args.request.origins lines false file table off off h on_h ks ks (sym none) c.machine-machine.ensures.value c.tools-tools.ensures
           c.commands-off.ensures (c.commands-off.ensures ∙ sym (alike j.off j.on none)) are begins (are_alike j cuts ks none are)
           (λ start. once_begins (is_some j.on) c.args.setting c.args.command ks none (begins start)) (framed Off) (framed On),
       c.in_err-write_all_once.ensures.fault,
     )
 
 pub returns-then-not-has_deleted_lines-clause-tells : goal.returns-then-not-has_deleted_lines-clause-tells
-returns-then-not-has_deleted_lines-clause-tells g c = λ lines framed.
+returns-then-not-has_deleted_lines-clause-tells g c =
+    let lines = (text_in c.args.program.now).lines in
+    let framed = c.requires.frames in
     let f = c.args.framed.now in
     let j = f.job in
     let cuts = c.args.request.cuts in
     let file = file_of c.machine-machine.result.now in
+    let table = tools_of c.tools-tools.result.now in
     let off = c.commands-off.result.now in
     let ks = c.as_slice-indices.result.now in
     let h = history_in f.off in
@@ -51,19 +59,22 @@ returns-then-not-has_deleted_lines-clause-tells g c = λ lines framed.
     let are = subst (λ (l : List ℕ). AreUncleared j.machine cuts j.off l) (sym c.as_slice-indices.ensures.value) c.in-Ok.ensures.are in
     let begins = subst (λ (l : List ℕ). IsStartClear j.machine → OffBegins (is_some j.on) c.args.setting c.args.command l)
     (sym c.as_slice-indices.ensures.value) c.in-Ok.ensures.begins in (
-      refusals_text c.args.request.form c.args.request.origins false file off off h on_h ks ks,
-      all_text j cuts c.args.setting c.args.command c.args.request.form c.args.request.origins lines false file off off h on_h ks ks (sym none) c.machine-machine.ensures.value
+      refusals_text c.args.request.form c.args.request.origins false (record { machine = file; tools = table }) off off h on_h ks ks lines,
+      all_text j cuts c.args.setting c.args.command c.args.request.form c.args.request.origins lines false file table off off h on_h ks ks (sym none) c.machine-machine.ensures.value c.tools-tools.ensures
           c.commands-off.ensures (c.commands-off.ensures ∙ sym (alike j.off j.on none)) are begins (are_alike j cuts ks none are)
           (λ start. once_begins (is_some j.on) c.args.setting c.args.command ks none (begins start)) (framed Off) (framed On),
       c.in_ok-write_all_once.ensures.ok,
     )
 
 pub returns-in_err-write_all_both-clause-tells : goal.returns-in_err-write_all_both-clause-tells
-returns-in_err-write_all_both-clause-tells g c = λ lines framed.
+returns-in_err-write_all_both-clause-tells g c =
+    let lines = (text_in c.args.program.now).lines in
+    let framed = c.requires.frames in
     let f = c.args.framed.now in
     let j = f.job in
     let cuts = c.args.request.cuts in
     let file = file_of c.machine-machine.result.now in
+    let table = tools_of c.tools-tools.result.now in
     let off = c.commands-off.result.now in
     let on = c.commands.result.now in
     let off_ks = c.as_slice.result.now in
@@ -83,18 +94,21 @@ returns-in_err-write_all_both-clause-tells g c = λ lines framed.
     (λ r. Prints (IsRefusalsText j cuts c.args.setting c.args.command c.args.request.form c.args.request.origins lines) (g.W.Sink.written c.args.output.now)
     (g.W.Sink.written c.write_all_both.new.output) r)
     c.from_residual-in_err-write_all_both.ensures.1 (
-      refusals_text c.args.request.form c.args.request.origins true file off on off_h on_h off_ks on_ks,
-      all_text j cuts c.args.setting c.args.command c.args.request.form c.args.request.origins lines true file off on off_h on_h off_ks on_ks some c.machine-machine.ensures.value
+      refusals_text c.args.request.form c.args.request.origins true (record { machine = file; tools = table }) off on off_h on_h off_ks on_ks lines,
+      all_text j cuts c.args.setting c.args.command c.args.request.form c.args.request.origins lines true file table off on off_h on_h off_ks on_ks some c.machine-machine.ensures.value c.tools-tools.ensures
           c.commands-off.ensures c.commands.ensures off_are off_begins on_are on_begins (framed Off) on_is,
       c.in_err-write_all_both.ensures.fault,
     )
 
 pub returns-clause-tells : goal.returns-clause-tells
-returns-clause-tells g c = λ lines framed.
+returns-clause-tells g c =
+    let lines = (text_in c.args.program.now).lines in
+    let framed = c.requires.frames in
     let f = c.args.framed.now in
     let j = f.job in
     let cuts = c.args.request.cuts in
     let file = file_of c.machine-machine.result.now in
+    let table = tools_of c.tools-tools.result.now in
     let off = c.commands-off.result.now in
     let on = c.commands.result.now in
     let off_ks = c.as_slice.result.now in
@@ -110,8 +124,8 @@ returns-clause-tells g c = λ lines framed.
     c.in-Ok-on_uncleared.ensures.are in
     let on_begins = subst (λ (l : List ℕ). IsStartClear j.machine → OnBegins c.args.setting c.args.command l) (sym c.as_slice-2.ensures.value)
     c.in-Ok-on_uncleared.ensures.begins in (
-      refusals_text c.args.request.form c.args.request.origins true file off on off_h on_h off_ks on_ks,
-      all_text j cuts c.args.setting c.args.command c.args.request.form c.args.request.origins lines true file off on off_h on_h off_ks on_ks some c.machine-machine.ensures.value
+      refusals_text c.args.request.form c.args.request.origins true (record { machine = file; tools = table }) off on off_h on_h off_ks on_ks lines,
+      all_text j cuts c.args.setting c.args.command c.args.request.form c.args.request.origins lines true file table off on off_h on_h off_ks on_ks some c.machine-machine.ensures.value c.tools-tools.ensures
           c.commands-off.ensures c.commands.ensures off_are off_begins on_are on_begins (framed Off) on_is,
       c.in_ok-write_all_both.ensures.ok,
     )

@@ -1,8 +1,10 @@
-use Rattle.std.proofs.Common.{Bool, Err, refl, subst, sym}
+use Rattle.std.proofs.Common.{Bool, Err, Ok, refl, subst, sym}
 use Rattle.ngc_line_reader.specs.ProgramView.{text_in}
 use Rattle.ngc_program_report.specs.JobReports.{IsRefusalText, Prints, first_text}
 use Rattle.ngc_report.specs.declared.report_fault.ReportFault.TheVariants as faults
 use Rattle.ngc_report.proofs.Converted.{turned}
+use Rattle.ngc_program_report.specs.Framed.{history_in}
+use Rattle.ngc_program_report.proofs.JobTexts.{frames_as}
 use Rattle.ngc_program_report.proofs.job_report.report_refusal.Goals as goal
 
 pub returns-in_err-report_first-clause-tells : goal.returns-in_err-report_first-clause-tells
@@ -17,8 +19,12 @@ returns-in_err-report_first-clause-tells g c =
     c.from_residual.ensures.1
     (subst (λ (all : Bool). Prints (IsRefusalText all j c.args.request c.args.setting c.args.command lines) old new (Err (faults.Write fault)))
     (sym c.if-request.false) (
-      first_text j c.args.request.form c.args.request.origins c.args.setting c.args.command lines c.frame_at-frame.result,
-      record { frame = c.frame_at-frame.result; executed = c.frame_at-frame.ensures lines c.requires.frames; tells = refl },
+      first_text j c.args.request.form c.args.request.origins c.args.setting c.args.command lines (history_in c.frames.result.now),
+      record {
+        frames = history_in c.frames.result.now;
+        executed = frames_as c.args.framed.now c.args.setting c.frames.result.now lines c.frames.ensures c.requires.frames;
+        tells = refl;
+      },
       c.in_err-report_first.ensures.fault,
     ))
 
@@ -28,4 +34,19 @@ returns-then-request-clause-tells g c =
     let lines = (text_in c.args.program.now).lines in
     subst (λ (all : Bool). Prints (IsRefusalText all j c.args.request c.args.setting c.args.command lines) (g.W.Sink.written c.args.output.now)
     (g.W.Sink.written c.report_all.new.output) c.report_all.result) (sym c.if-request.true)
-    (c.report_all.ensures.tells lines c.requires.frames)
+    c.report_all.ensures.tells
+
+pub returns-clause-tells : goal.returns-clause-tells
+returns-clause-tells g c =
+    let j = c.args.framed.now.job in
+    let lines = (text_in c.args.program.now).lines in
+    subst (λ (all : Bool). Prints (IsRefusalText all j c.args.request c.args.setting c.args.command lines) (g.W.Sink.written c.args.output.now)
+    (g.W.Sink.written c.report_first.new.output) (Ok tt)) (sym c.if-request.false) (
+      first_text j c.args.request.form c.args.request.origins c.args.setting c.args.command lines (history_in c.frames.result.now),
+      record {
+        frames = history_in c.frames.result.now;
+        executed = frames_as c.args.framed.now c.args.setting c.frames.result.now lines c.frames.ensures c.requires.frames;
+        tells = refl;
+      },
+      c.in_ok-report_first.ensures.ok,
+    )

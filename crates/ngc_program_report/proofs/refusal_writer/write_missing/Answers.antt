@@ -1,0 +1,38 @@
+use Rattle.std.proofs.Common.{◌∙◌, ℕ, List, Option, Some, ap, sym}
+use Rattle.ngc_commands.specs.declared.movement.Way.{Way}
+use Rattle.ngc_frames.specs.InForce.{frame_in_force}
+use Rattle.ngc_frames.specs.declared.in_force.FrameInForce.{FrameInForce}
+use Rattle.ngc_machine_files.specs.Machine.{file_of}
+use Rattle.ngc_program_report.specs.Coordinates.{history_of, refused_path}
+use Rattle.ngc_program_report.specs.Met.{met_at}
+use Rattle.ngc_program_report.specs.Texts.{missing_at, missing_if}
+use Rattle.ngc_program_report.proofs.WrittenLaws.{appends_as, begins_as, err_weaker, ok_weaker}
+use Rattle.ngc_program_report.proofs.refusal_writer.write_missing.Goals as goal
+
+pub returns-in-Some-clause-ok : goal.returns-in-Some-clause-ok
+returns-in-Some-clause-ok g c =
+    let m = file_of c.args.machine.now in
+    let cs = c.args.commands.now in
+    let h = c.args.history.now in
+    let k = c.in-Some.command in
+    let missing : Option ℕ → Option Way → FrameInForce → List ℕ = λ fixture way frame. missing_if c.args.form c.args.origins.now m fixture way frame in
+    let is = ap (λ fixture. missing fixture c.refused_path-path.result c.in_force-frame.result) c.met_at-fixture.ensures
+    ∙ ap (λ way. missing (met_at m cs k) way c.in_force-frame.result) c.refused_path-path.ensures
+    ∙ ap (missing (met_at m cs k) (refused_path cs (Some k)))
+    (c.in_force-frame.ensures ∙ ap (λ line. frame_in_force h.start h.changes.items line) c.line_of.ensures)
+    ∙ ap (missing_at c.args.form c.args.origins.now m cs (history_of h.start h.changes.items)) (sym c.in-Some.is) in
+    ok_weaker c.write_missing_if.result _ _ (appends_as _ _ _ _ is) c.write_missing_if.ensures.ok
+
+pub returns-in-Some-clause-fault : goal.returns-in-Some-clause-fault
+returns-in-Some-clause-fault g c =
+    let m = file_of c.args.machine.now in
+    let cs = c.args.commands.now in
+    let h = c.args.history.now in
+    let k = c.in-Some.command in
+    let missing : Option ℕ → Option Way → FrameInForce → List ℕ = λ fixture way frame. missing_if c.args.form c.args.origins.now m fixture way frame in
+    let is = ap (λ fixture. missing fixture c.refused_path-path.result c.in_force-frame.result) c.met_at-fixture.ensures
+    ∙ ap (λ way. missing (met_at m cs k) way c.in_force-frame.result) c.refused_path-path.ensures
+    ∙ ap (missing (met_at m cs k) (refused_path cs (Some k)))
+    (c.in_force-frame.ensures ∙ ap (λ line. frame_in_force h.start h.changes.items line) c.line_of.ensures)
+    ∙ ap (missing_at c.args.form c.args.origins.now m cs (history_of h.start h.changes.items)) (sym c.in-Some.is) in
+    err_weaker c.write_missing_if.result _ _ (begins_as _ _ _ _ is) c.write_missing_if.ensures.fault
