@@ -136,3 +136,8 @@ window_long = refl
 window_past : joint_at (turning 100000000) (straight (at (pos 0) (pos 0) (pos 0)) (at (pos 1000000) (pos 0) (pos 0)) ∷ upward 34 0) 32 ≡ 1000000
 unfolding whole_root
 window_past = refl
+
+-- with a ring of 33 it does, after 32 steps
+window_of_ring : joint_at (record (turning 100000000) { ring = 33 }) (straight (at (pos 0) (pos 0) (pos 0)) (at (pos 1000000) (pos 0) (pos 0)) ∷ upward 34 0) 32 ≡ 67445
+unfolding whole_root
+window_of_ring = refl

@@ -306,4 +306,4 @@ whole_window m e d w cs rate r way passed next length first all =
 pub record IsAsFar (m : MachineFile) (e : Point3) (v way : ℕ) (cs : List Command) (r on : ℕ) (ds : List Command) : Type 0 where
   pub same : min v (rate_from_all m e (passed_on m way (reverse cs))) ≡ min r (rate_from_all m e (passed_on m on (reverse ds)))
   pub small : r ≤ MILLION
-  pub within : on + 400000000000000 * length ds ≤ 12800000000000000
+  pub within : on + 400000000000000 * length ds ≤ 409600000000000000

@@ -15,9 +15,9 @@ use Rattle.ngc_commands.specs.declared.movement.Way.{Way}
 use Rattle.ngc_commands.specs.declared.movement.Way.TheVariants.{Line, Arc}
 use Rattle.ngc_planner.specs.Headings.{end_heading, turned_on}
 
--- the greatest number of motions in a window
-abbrev pub WINDOW : ℕ
-WINDOW = 32
+-- the greatest number of motions in a window: as many as the ring has, and at least 32
+abbrev pub window_length : MachineFile → ℕ
+window_length machine = max 32 machine.ring
 
 -- a heading that was passed, and the millionths of a path step since
 pub record Passed : Type 0 where
@@ -83,5 +83,6 @@ window machine d w earlier =
     record { heading = d; way = 0 } ∷ passed_on machine (way_of machine w) earlier
 
 -- the commands before command k that its window may include, nearest first
-abbrev pub earlier : List Command → ℕ → List Command
-earlier commands k = reverse (drop (k - (WINDOW - 1)) (take k commands))
+abbrev pub earlier : MachineFile → List Command → ℕ → List Command
+earlier machine commands k =
+    reverse (drop (k - (window_length machine - 1)) (take k commands))

@@ -3,8 +3,8 @@ ghost use Rattle.std.specs.Prelude.{◌≡◌, ◌+◌, ◌*◌, ◌^◌, ◌≤
 ghost use Rattle.ngc_fixed_length.specs.Limits.{MILLION};
 ghost use Rattle.ngc_machine_files.specs.Machine.{file_of};
 ghost use Rattle.ngc_planner.specs.Headings.{IsHeading};
-ghost use Rattle.ngc_planner.specs.Window.{line_steps, way_at_greatest, way_round, turn_way};
-ghost use Rattle.ngc_planner.specs.Window.{way_of, is_still};
+ghost use Rattle.ngc_planner.specs.Window.{window_length, line_steps, way_at_greatest, way_round};
+ghost use Rattle.ngc_planner.specs.Window.{turn_way, way_of, is_still};
 ghost use Rattle.ngc_planner.specs.Window.{passing_heading, way_on, passed_on, window};
 ghost use Rattle.ngc_planner.specs.Joints.{may_head, greatest_root, heading_rate, rate_from_all};
 
@@ -22,7 +22,7 @@ fn may_head(jump: u32, turn: u64, difference: u64, way: u64, rate: u64) -> bool
     requires jump { jump ≤ MILLION }
     requires turn { turn ≤ 10 ^ 12 }
     requires difference { difference ≤ 2000000 }
-    requires way { way ≤ 12800000000000000 }
+    requires way { way ≤ 409600000000000000 }
     requires rate { rate ≤ MILLION }
     ensures { result ≡ may_head jump turn difference way rate }
 {
@@ -31,13 +31,13 @@ fn may_head(jump: u32, turn: u64, difference: u64, way: u64, rate: u64) -> bool
     wanted <= jumped + u128::from(turn) * u128::from(way)
 }
 
-/// Returns the greatest `v` with `v * v * n` at most `j * v + t`. The root is of a number below 2 *
-/// 10^35.
+/// Returns the greatest `v` with `v * v * n` at most `j * v + t`. The root is of a number below 5 *
+/// 10^36.
 fn greatest_root(n: u64, j: u128, t: u128) -> u64
     requires least { 1 ≤ n }
     requires greatest { n ≤ 2000000 }
     requires j { j ≤ 10 ^ 12 }
-    requires t { t ≤ 2 * 10 ^ 28 }
+    requires t { t ≤ 5 * 10 ^ 29 }
     ensures { result ≡ greatest_root n j t }
 {
     let root = root_floor(j * j + 4 * u128::from(n) * t);
@@ -50,7 +50,7 @@ fn lowered(rate: u64, jump: u32, turn: u64, difference: u64, way: u64) -> u64
     requires jump { jump ≤ MILLION }
     requires turn { turn ≤ 10 ^ 12 }
     requires difference { difference ≤ 2000000 }
-    requires way { way ≤ 12800000000000000 }
+    requires way { way ≤ 409600000000000000 }
     requires rate { rate ≤ MILLION }
     ensures value { result ≡ min rate (heading_rate jump turn difference way) }
     ensures greatest { result ≤ MILLION }
@@ -62,6 +62,14 @@ fn lowered(rate: u64, jump: u32, turn: u64, difference: u64, way: u64) -> u64
         let turn = u128::from(turn) * u128::from(way);
         greatest_root(difference, jump, turn)
     }
+}
+
+/// Returns the greatest number of motions in a window, 32 to 1,024.
+pub(crate) fn window_length<A: Allocator>(machine: &Machine<A>) -> usize
+    ensures value { result ≡ window_length (file_of machine.now) }
+    ensures bound { result ≤ 1024 }
+{
+    machine.ring.max(32) as usize
 }
 
 /// Returns the path steps of a line. An arc between the same points has no fewer.
@@ -166,7 +174,7 @@ fn lowered_on<A: Allocator>(
     requires rate { rate ≤ MILLION }
     requires next { IsHeading next.now }
     requires way { way ≤ 400000000000000 }
-    requires length { length commands.now ≤ 31 }
+    requires length { length commands.now ≤ 1023 }
     ensures value { result ≡ min rate (rate_from_all (file_of machine.now) next.now
         (passed_on (file_of machine.now) way (reverse commands.now))) }
     ensures greatest { result ≤ MILLION }
@@ -204,7 +212,7 @@ pub(crate) fn window_rate<A: Allocator>(
     next: &Displacement,
     machine: &Machine<A>,
 ) -> u64
-    requires length { length earlier.now ≤ 31 }
+    requires length { length earlier.now ≤ 1023 }
     requires heading { IsHeading heading.now }
     requires next { IsHeading next.now }
     ensures value { result ≡ rate_from_all (file_of machine.now) next.now
