@@ -7,6 +7,7 @@ use Rattle.ngc_origins.specs.Texts.{OriginList, replaces}
 use Rattle.ngc_fixed_length.specs.Grid.{grid}
 use Rattle.ngc_line_reader.specs.Program.{Line}
 use Rattle.ngc_machine_files.specs.Machine.{MachineFile}
+use Rattle.ngc_machine_files.specs.declared.tools.Tool.{Tool}
 use Rattle.ngc_commands.specs.declared.command.Command.{Command}
 use Rattle.ngc_commands.specs.declared.movement.Way.{Way}
 use Rattle.ngc_canonical.specs.Faults.{fault_number}
@@ -37,6 +38,7 @@ use Rattle.ngc_lowest_tips.specs.Texts.{tips_text}
 use Rattle.ngc_lowest_tips.specs.Tips.{lowest_tips}
 use Rattle.ngc_origin_warnings.specs.Missing.{missing_text}
 use Rattle.ngc_origin_warnings.specs.Warnings.{origin_warnings}
+use Rattle.ngc_tool_figures.specs.Texts.{figures_text}
 use Rattle.ngc_tool_warnings.specs.Spelling.{tool_warnings}
 use Rattle.ngc_setup_sheet.specs.Sheets.{warning_facts, warnings_text}
 use Rattle.ngc_program_report.specs.declared.run_time.RunTime.{RunTime}
@@ -69,9 +71,16 @@ abbrev pub takes_line : Form → RunTime → List ℕ
 takes_line Words time = takes_words time
 takes_line Json time = takes_fact time
 
--- the time of the whole and of each use
-abbrev pub duration_text : Form → List Command → ProgramTimeData → List ℕ
-duration_text form commands time = takes_line form time.whole ++ uses_text form commands time
+-- the figures of each tool that feeds, with its time
+abbrev pub tool_figures : Form → List Tool → List Command → ProgramTimeData → List ℕ
+tool_figures form tools commands time =
+    figures_text form time.whole.ticks_per_second tools commands time.parts
+
+-- the time of the whole and of each use, and the figures of the tools
+abbrev pub duration_text : Form → List Tool → List Command → ProgramTimeData → List ℕ
+duration_text form tools commands time =
+    takes_line form time.whole
+    ++ (uses_text form commands time ++ tool_figures form tools commands time)
 
 -- ---- texts
 
@@ -112,13 +121,15 @@ remarks form s setup h commands lines =
     tips_text form (lowest_tips setup.tools h.start h.changes commands)
     ++ warnings form s setup h commands lines
 
--- what fits at a setting, the time there, the lowest heights, and the warnings
+-- what fits at a setting, the time and the figures of the tools there, the lowest heights, and the
+-- warnings
 abbrev pub setting_text : Form → OriginList → Bool → Bool → Setting → Setup → List Command →
     List Entry → ProgramTimeData → History → List Line → List ℕ
 setting_text form origins first named s setup commands motions time h lines =
     heading form origins first named s
     ++ (report_text form (fit_lines setup.machine commands motions)
-    ++ (duration_text form commands time ++ remarks form s setup h commands lines))
+    ++ (duration_text form setup.tools commands time
+    ++ remarks form s setup h commands lines))
 
 -- the warnings about the machine and its tools
 abbrev pub shop_text : Form → Setup → List ℕ

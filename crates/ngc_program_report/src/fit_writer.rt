@@ -11,7 +11,8 @@ ghost use Rattle.ngc_line_reader.specs.ProgramView.{text_in};
 ghost use Rattle.ngc_lowest_tips.specs.Tips.{lowest_tips};
 ghost use Rattle.ngc_program_report.specs.Coordinates.{history_of};
 ghost use Rattle.ngc_program_report.specs.Texts.{accepted_text, duration_text, is_on, remarks};
-ghost use Rattle.ngc_program_report.specs.Texts.{setting_text, shop_text, takes_line, warnings};
+ghost use Rattle.ngc_program_report.specs.Texts.{setting_text, shop_text, takes_line, tool_figures};
+ghost use Rattle.ngc_program_report.specs.Texts.{warnings};
 
 use crate::program_time::ProgramTime;
 use crate::report_frame::{closing, write_heading};
@@ -31,6 +32,7 @@ use ngc_origins::Origins;
 use ngc_report::{Form, write_fit, write_warnings};
 use ngc_setup_sheet::{write_warning_facts, write_warnings as write_shop_warnings};
 use ngc_text::{Chunk, Sink, WriteFault, write_all};
+use ngc_tool_figures::write_tool_figures;
 use ngc_tool_warnings::write_tool_warnings;
 use ngc_word_warnings::write_word_warnings;
 use std::alloc::Allocator;
@@ -48,23 +50,45 @@ fn write_takes_line<W: Sink>(form: Form, time: &RunTime, output: &mut W) -> Resu
     chunk.write_out(output)
 }
 
-// Writes the time of a program, and the time with each tool.
-fn write_duration<A: Allocator, W: Sink>(
+// Writes the figures of each tool that feeds.
+fn write_figures<A: Allocator, W: Sink>(
     form: Form,
+    tools: &Tools<A>,
     commands: &[Command],
     time: &ProgramTime<A>,
     output: &mut W,
 ) -> Result<(), WriteFault>
     ensures ok { OnOk result
         (Appends (W.written output.old) (W.written output.new)
-        (duration_text form commands.now time.now)) }
+        (tool_figures form (tools_of tools.now) commands.now time.now)) }
     ensures fault { OnErr result
         (AppendsPrefix (W.written output.old) (W.written output.new)
-        (duration_text form commands.now time.now)) }
+        (tool_figures form (tools_of tools.now) commands.now time.now)) }
+    ensures counts { CountsFailure (W.failures output.old) (W.failures output.new) result }
+{
+    let (per_second, parts) = (time.whole.ticks_per_second, time.parts.as_slice());
+    write_tool_figures(form, per_second, tools.tools(), commands, parts, output)
+}
+
+// Writes the time of a program, the time with each tool, and the figures of each tool.
+fn write_duration<A: Allocator, W: Sink>(
+    form: Form,
+    tools: &Tools<A>,
+    commands: &[Command],
+    time: &ProgramTime<A>,
+    output: &mut W,
+) -> Result<(), WriteFault>
+    ensures ok { OnOk result
+        (Appends (W.written output.old) (W.written output.new)
+        (duration_text form (tools_of tools.now) commands.now time.now)) }
+    ensures fault { OnErr result
+        (AppendsPrefix (W.written output.old) (W.written output.new)
+        (duration_text form (tools_of tools.now) commands.now time.now)) }
     ensures counts { CountsFailure (W.failures output.old) (W.failures output.new) result }
 {
     write_takes_line(form, &time.whole, output)?;
-    write_use_times(form, commands, time, output)
+    write_use_times(form, commands, time, output)?;
+    write_figures(form, tools, commands, time, output)
 }
 
 // Returns whether block delete removes lines at a setting.
@@ -141,7 +165,8 @@ fn write_remarks<A: Allocator, W: Sink>(
     )
 }
 
-// Writes what fits at a setting, the time there, the lowest heights, and the warnings.
+// Writes what fits at a setting, the time and the figures of the tools there, the lowest heights,
+// and the warnings.
 fn write_setting<A: Allocator, M: MotionList, W: Sink>(
     form: Form,
     origins: &Origins,
@@ -175,7 +200,7 @@ fn write_setting<A: Allocator, M: MotionList, W: Sink>(
 {
     write_heading(form, origins, first, named, setting, output)?;
     write_fit(form, machine, commands, motions, output)?;
-    write_duration(form, commands, time, output)?;
+    write_duration(form, tools, commands, time, output)?;
     write_remarks(
         form, program, setting, machine, tools, history, commands, tips, output,
     )

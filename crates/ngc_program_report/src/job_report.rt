@@ -81,8 +81,8 @@ fn tips_at<A: Allocator + Copy>(
 }
 
 /// Writes the report of a job with plans of its motions: its extent and margins, the use of each
-/// tool, the time, the lowest heights, and the warnings about its commands, the words of the program
-/// and the origins from which it moves. The plans are those of the job's commands, and their
+/// tool, the time, the figures of each tool that feeds, the lowest heights, and the warnings about
+/// its commands, the words of the program and the origins from which it moves. The plans are those of the job's commands, and their
 /// motions are valid for it. The frames are those of the program.
 ///
 /// Nothing is written before the time and the lowest heights are computed, and nothing if memory

@@ -1,5 +1,5 @@
 -- The remaining text, one step further.
-use Rattle.std.proofs.Common.{◌≡◌, ℕ, ◌+◌, ◌<◌, List, ◌++◌, length, get_or, drop, ap, sym, flat_map, ◌∙◌}
+use Rattle.std.proofs.Common.{◌≡◌, ℕ, ◌+◌, ◌<◌, Bool, List, ◌++◌, length, get_or, drop, ap, sym, flat_map, ◌∙◌}
 use Rattle.std.proofs.lemmas.List.{append_assoc, drop_more}
 use Rattle.std.proofs.lemmas.List.Concat.{flat_map-append}
 use Rattle.ngc_machine_files.specs.Machine.{MachineFile}
@@ -15,10 +15,10 @@ pub next_fixture : (m : MachineFile) (r : Reach) (fs : List Fixture) (i : ℕ) (
 next_fixture m r fs i f inside found =
     ap (fixtures_from m r i) (drop_more fs i f inside) ∙ ap (λ (x : Fixture). fixture_lines m r i x ++ fixtures_from m r (i + 1) (drop (i + 1) fs)) (sym found)
 
-pub next_tool : (tools : List Tool) (i : ℕ) (t : Tool) → i < length tools → t ≡ get_or tools i t
-    → flat_map tool_lines (drop i tools) ≡ tool_lines t ++ flat_map tool_lines (drop (i + 1) tools)
-next_tool tools i t inside found =
-    ap (flat_map tool_lines) (drop_more tools i t inside) ∙ ap (λ (x : Tool). tool_lines x ++ flat_map tool_lines (drop (i + 1) tools)) (sym found)
+pub next_tool : (b : Bool) (tools : List Tool) (i : ℕ) (t : Tool) → i < length tools → t ≡ get_or tools i t
+    → flat_map (tool_lines b) (drop i tools) ≡ tool_lines b t ++ flat_map (tool_lines b) (drop (i + 1) tools)
+next_tool b tools i t inside found =
+    ap (flat_map (tool_lines b)) (drop_more tools i t inside) ∙ ap (λ (x : Tool). tool_lines b x ++ flat_map (tool_lines b) (drop (i + 1) tools)) (sym found)
 
 -- ---- and as text
 
@@ -30,9 +30,9 @@ pub next_fixture_text : (m : MachineFile) (r : Reach) (fs : List Fixture) (i : �
 next_fixture_text m r fs i f inside found = ap lines_text (next_fixture m r fs i f inside found)
     ∙ both (fixture_lines m r i f) (fixtures_from m r (i + 1) (drop (i + 1) fs))
 
-pub next_tool_text : (tools : List Tool) (i : ℕ) (t : Tool) → i < length tools → t ≡ get_or tools i t
-    → lines_text (flat_map tool_lines (drop i tools)) ≡ lines_text (tool_lines t) ++ lines_text (flat_map tool_lines (drop (i + 1) tools))
-next_tool_text tools i t inside found = ap lines_text (next_tool tools i t inside found) ∙ both (tool_lines t) (flat_map tool_lines (drop (i + 1) tools))
+pub next_tool_text : (b : Bool) (tools : List Tool) (i : ℕ) (t : Tool) → i < length tools → t ≡ get_or tools i t
+    → lines_text (flat_map (tool_lines b) (drop i tools)) ≡ lines_text (tool_lines b t) ++ lines_text (flat_map (tool_lines b) (drop (i + 1) tools))
+next_tool_text b tools i t inside found = ap lines_text (next_tool b tools i t inside found) ∙ both (tool_lines b t) (flat_map (tool_lines b) (drop (i + 1) tools))
 
 -- ---- three lists of lines
 

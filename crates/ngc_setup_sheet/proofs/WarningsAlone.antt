@@ -1,5 +1,5 @@
 -- Lines of which only the warnings are written, in a style.
-use Rattle.std.proofs.Common.{◌≡◌, ℕ, ◌+◌, ◌<◌, List, [], ◌∷◌, ◌++◌, length, get_or, drop, flat_map, true, false, cond, ap, sym, ◌∙◌, refl}
+use Rattle.std.proofs.Common.{◌≡◌, ℕ, ◌+◌, ◌<◌, Bool, List, [], ◌∷◌, ◌++◌, length, get_or, drop, flat_map, true, false, cond, ap, sym, ◌∙◌, refl}
 use Rattle.std.specs.Prelude.{map, filter}
 use Rattle.std.proofs.lemmas.List.{append_assoc, append-nil, map-append}
 use Rattle.std.proofs.lemmas.List.Concat.{flat_map-append}
@@ -68,9 +68,9 @@ next_fixture_warned s m r fs i f inside found =
     ap (λ l. lines_text (chosen s l)) (next_fixture m r fs i f inside found)
     ∙ both_chosen s (fixture_lines m r i f) (fixtures_from m r (i + 1) (drop (i + 1) fs))
 
-pub next_tool_warned : (s : Style) (tools : List Tool) (i : ℕ) (t : Tool) → i < length tools → t ≡ get_or tools i t
-    → lines_text (chosen s (flat_map tool_lines (drop i tools)))
-    ≡ lines_text (chosen s (tool_lines t)) ++ lines_text (chosen s (flat_map tool_lines (drop (i + 1) tools)))
-next_tool_warned s tools i t inside found =
-    ap (λ l. lines_text (chosen s l)) (next_tool tools i t inside found)
-    ∙ both_chosen s (tool_lines t) (flat_map tool_lines (drop (i + 1) tools))
+pub next_tool_warned : (s : Style) (b : Bool) (tools : List Tool) (i : ℕ) (t : Tool) → i < length tools → t ≡ get_or tools i t
+    → lines_text (chosen s (flat_map (tool_lines b) (drop i tools)))
+    ≡ lines_text (chosen s (tool_lines b t)) ++ lines_text (chosen s (flat_map (tool_lines b) (drop (i + 1) tools)))
+next_tool_warned s b tools i t inside found =
+    ap (λ l. lines_text (chosen s l)) (next_tool b tools i t inside found)
+    ∙ both_chosen s (tool_lines b t) (flat_map (tool_lines b) (drop (i + 1) tools))

@@ -15,6 +15,7 @@ use Rattle.ngc_setup_sheet.specs.Reaches.{reach_of, is_out_of_reach, is_outside_
 use Rattle.ngc_setup_sheet.specs.Spelling.{lines_text}
 use Rattle.ngc_setup_sheet.specs.Warnings.{is_odd_speed, is_odd_acceleration, is_short_travel}
 use Rattle.ngc_setup_sheet.specs.Warnings.{is_slow_on_arcs, is_thin, is_short_tool, is_odd_offset}
+use Rattle.ngc_setup_sheet.specs.Warnings.{are_unset}
 use Rattle.ngc_setup_sheet.specs.declared.line.Axis.TheVariants as axes
 use Rattle.ngc_setup_sheet.specs.declared.line.Fact.{Fact}
 use Rattle.ngc_setup_sheet.specs.declared.line.Fact.TheVariants as facts
@@ -160,18 +161,24 @@ abbrev pub tool_facts : Tool → List Line
 tool_facts t =
     lines.Tool t.number t.name ∷ lines.Fact facts.Offset (figures.Length t.offset) ∷ []
 
-abbrev pub tool_lines : Tool → List Line
-tool_lines t =
+-- in a table without offsets, no tool has a warning of its own about it
+abbrev pub tool_lines : Bool → Tool → List Line
+tool_lines unset t =
     tool_facts t ++ (part_lines t.bottom t.parts ++
     (warned (is_short_tool t) (warnings.Short t.number)
-    ++ warned (is_odd_offset t) (warnings.Offset t.number)))
+    ++ warned (not unset && is_odd_offset t) (warnings.Offset t.number)))
+
+-- one warning after the tools takes the place of those
+abbrev pub table_lines : List Tool → List Line
+table_lines tools =
+    flat_map (tool_lines (are_unset tools)) tools ++ warned (are_unset tools) warnings.Unset
 
 -- ---- the whole sheet
 
 abbrev pub sheet : MachineFile → List Tool → List Line
 sheet m tools =
     machine_lines m (reach_of tools)
-    ++ (fixtures_from m (reach_of tools) 0 m.fixtures ++ flat_map tool_lines tools)
+    ++ (fixtures_from m (reach_of tools) 0 m.fixtures ++ table_lines tools)
 
 -- its text
 abbrev pub sheet_text : MachineFile → List Tool → List ℕ

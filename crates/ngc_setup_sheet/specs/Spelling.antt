@@ -107,6 +107,7 @@ warning_text (warnings.Short n) = codes "tool " ++ decimal n
     ++ codes " is shorter than 1 mm: lengths are in nanometres"
 warning_text (warnings.Offset n) = codes "tool " ++ decimal n
     ++ codes " has an offset of more than twice or less than half its length"
+warning_text warnings.Unset = codes "every tool of the table has an offset of 0: G43 changes nothing"
 
 -- An object of a JSON document, after a comma and a line feed. A JSON string has its characters as
 -- they are, except quotation marks, backslashes and control characters, which it escapes (RFC

@@ -1,5 +1,7 @@
 -- What looks wrong in a machine file or in a tool table, though it is within its range. Our own.
-use Rattle.std.specs.Prelude.{nat_lt, ℤ, pos, ◌-ℤ◌, ◌*ℤ◌, int_lt, Bool, ◌||◌}
+use Rattle.std.specs.Prelude.{nat_lt, ℤ, pos, ◌-ℤ◌, ◌*ℤ◌, int_lt, List, length, Bool, ◌&&◌, ◌||◌}
+use Rattle.std.specs.List.{list_all}
+use Rattle.std.specs.Ordering.{int_eq}
 use Rattle.ngc_machine_files.specs.Machine.{MachineFile}
 use Rattle.ngc_machine_files.specs.declared.machine.Fixture.{Fixture}
 use Rattle.ngc_machine_files.specs.declared.tools.Tool.{Tool}
@@ -48,3 +50,11 @@ is_short_tool t = int_lt (body_length t) (pos 1000000)
 abbrev pub is_odd_offset : Tool → Bool
 is_odd_offset t =
     int_lt (pos 2 *ℤ body_length t) t.offset || int_lt (pos 2 *ℤ t.offset) (body_length t)
+
+-- the offset is 0, though the tool has a body
+abbrev pub is_unset : Tool → Bool
+is_unset t = int_eq t.offset (pos 0) && is_odd_offset t
+
+-- a table of at least two tools, and none has an offset
+abbrev pub are_unset : List Tool → Bool
+are_unset tools = nat_lt 1 (length tools) && list_all is_unset tools

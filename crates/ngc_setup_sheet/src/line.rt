@@ -95,6 +95,8 @@ pub enum Warning {
     Short(u32),
     /// A tool whose offset isn't its length, by its number.
     Offset(u32),
+    /// A table in which no tool has an offset.
+    Unset,
 }
 
 /// A line of a setup sheet, or another form of a warning.

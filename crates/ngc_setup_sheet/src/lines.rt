@@ -12,6 +12,7 @@ ghost use Rattle.ngc_setup_sheet.specs.Sheets.{is_zero, origin_lines, next_syste
 ghost use Rattle.ngc_setup_sheet.specs.Sheets.{machine_warnings, machine_lines, fixture_facts};
 ghost use Rattle.ngc_setup_sheet.specs.Sheets.{fixture_lines, part_line, part_lines, tool_facts};
 ghost use Rattle.ngc_setup_sheet.specs.Sheets.{tool_lines};
+ghost use Rattle.ngc_setup_sheet.specs.declared.line.Warning.TheVariants as warnings;
 
 use crate::figures::{acceleration, arc_acceleration, millimetres_a_minute, steps_a_millimetre};
 use crate::line::{Axis, Fact, Figure, Line, Span, Warning};
@@ -344,8 +345,10 @@ fn tool_facts(tool: &Tool) -> [Line; 2]
     ]
 }
 
-pub(crate) fn tool_lines(tool: &Tool) -> Lines
-    ensures { result.items ≡ tool_lines tool.now }
+/// Returns the lines of a tool, which has a warning about its offset unless no tool of the table
+/// has one.
+pub(crate) fn tool_lines(unset: bool, tool: &Tool) -> Lines
+    ensures { result.items ≡ tool_lines unset tool.now }
 {
     let mut lines = ArrayVec::new();
     add_all(&mut lines, &tool_facts(tool));
@@ -353,8 +356,17 @@ pub(crate) fn tool_lines(tool: &Tool) -> Lines
     warn(&mut lines, is_short_tool(tool), Warning::Short(tool.number));
     warn(
         &mut lines,
-        is_odd_offset(tool),
+        !unset && is_odd_offset(tool),
         Warning::Offset(tool.number),
     );
+    lines
+}
+
+/// Returns the lines after those of the tools: a warning if no tool of the table has an offset.
+pub(crate) fn lines_after_tools(unset: bool) -> Lines
+    ensures { result.items ≡ warned unset warnings.Unset }
+{
+    let mut lines = ArrayVec::new();
+    warn(&mut lines, unset, Warning::Unset);
     lines
 }

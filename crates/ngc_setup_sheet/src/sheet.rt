@@ -6,11 +6,12 @@ ghost use Rattle.ngc_text.specs.Written.{AppendsPrefix};
 ghost use Rattle.ngc_machine_files.specs.Machine.{file_of};
 ghost use Rattle.ngc_sentences.specs.Saying.{Says};
 ghost use Rattle.ngc_setup_sheet.specs.Reaches.{IsReach};
-ghost use Rattle.ngc_setup_sheet.specs.Sheets.{fixtures_from, tool_lines, sheet, sheet_text};
+ghost use Rattle.ngc_setup_sheet.specs.Sheets.{fixtures_from, tool_lines, table_lines, sheet, sheet_text};
 ghost use Rattle.ngc_setup_sheet.specs.Spelling.{lines_text};
 
-use crate::lines::{fixture_lines, machine_lines, tool_lines};
+use crate::lines::{fixture_lines, lines_after_tools, machine_lines, tool_lines};
 use crate::reach::Reach;
+use crate::warnings::are_unset;
 use crate::writer::say_lines;
 use ngc_machine_files::{Machine, Tool};
 use ngc_sentences::Page;
@@ -35,15 +36,26 @@ fn say_fixtures<A: Allocator, W: Sink>(
     }
 }
 
-fn say_tools<W: Sink>(tools: &[Tool], page: &mut Page, output: &mut W)
+fn say_tools<W: Sink>(unset: bool, tools: &[Tool], page: &mut Page, output: &mut W)
     ensures { Says (W.written output.old) (W.written output.new)
         (W.failures output.old) (W.failures output.new) page.old page.new
-        (lines_text (flat_map tool_lines tools.now)) }
+        (lines_text (flat_map (tool_lines unset) tools.now)) }
 {
     for tool in tools {
-        let lines = tool_lines(tool);
+        let lines = tool_lines(unset, tool);
         say_lines(lines.as_slice(), page, output);
     }
+}
+
+fn say_table<W: Sink>(tools: &[Tool], page: &mut Page, output: &mut W)
+    ensures { Says (W.written output.old) (W.written output.new)
+        (W.failures output.old) (W.failures output.new) page.old page.new
+        (lines_text (table_lines tools.now)) }
+{
+    let unset = are_unset(tools);
+    say_tools(unset, tools, page, output);
+    let lines = lines_after_tools(unset);
+    say_lines(lines.as_slice(), page, output);
 }
 
 fn say_all<A: Allocator, W: Sink>(
@@ -60,7 +72,7 @@ fn say_all<A: Allocator, W: Sink>(
     let lines = machine_lines(machine, &reach);
     say_lines(lines.as_slice(), page, output);
     say_fixtures(machine, &reach, page, output);
-    say_tools(tools, page, output);
+    say_table(tools, page, output);
 }
 
 /// Writes the setup sheet of a machine and of its tools, in millimetres, with a warning below each

@@ -179,6 +179,8 @@ fn say_warning_text<W: Sink>(warning: &Warning, page: &mut Page, output: &mut W)
             say!(page, output; Part::Tool(*number), b" is shorter than 1 mm: lengths are in nanometres"),
         Warning::Offset(number) =>
             say!(page, output; Part::Tool(*number), b" has an offset of more than twice or less than half its length"),
+        Warning::Unset =>
+            say!(page, output; b"every tool of the table has an offset of 0: G43 changes nothing"),
     }
 }
 

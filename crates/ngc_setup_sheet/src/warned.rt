@@ -6,13 +6,15 @@ ghost use Rattle.ngc_text.specs.Written.{AppendsPrefix};
 ghost use Rattle.ngc_machine_files.specs.Machine.{file_of};
 ghost use Rattle.ngc_sentences.specs.Saying.{Says};
 ghost use Rattle.ngc_setup_sheet.specs.Reaches.{IsReach};
-ghost use Rattle.ngc_setup_sheet.specs.Sheets.{fixtures_from, tool_lines, sheet, warnings_text};
+ghost use Rattle.ngc_setup_sheet.specs.Sheets.{fixtures_from, tool_lines, table_lines, sheet};
+ghost use Rattle.ngc_setup_sheet.specs.Sheets.{warnings_text};
 ghost use Rattle.ngc_setup_sheet.specs.Sheets.{warning_facts, warning_remarks};
 ghost use Rattle.ngc_setup_sheet.specs.Spelling.{lines_text};
 ghost use Rattle.ngc_setup_sheet.specs.Writes.{chosen};
 
-use crate::lines::{fixture_lines, machine_lines, tool_lines};
+use crate::lines::{fixture_lines, lines_after_tools, machine_lines, tool_lines};
 use crate::reach::Reach;
+use crate::warnings::are_unset;
 use crate::writer::{Style, say_warning_lines};
 use ngc_machine_files::{Machine, Tool};
 use ngc_sentences::Page;
@@ -38,15 +40,32 @@ fn warn_of_fixtures<A: Allocator, W: Sink>(
     }
 }
 
-fn warn_of_tools<W: Sink>(style: Style, tools: &[Tool], page: &mut Page, output: &mut W)
+fn warn_of_tools<W: Sink>(
+    style: Style,
+    unset: bool,
+    tools: &[Tool],
+    page: &mut Page,
+    output: &mut W,
+)
     ensures { Says (W.written output.old) (W.written output.new)
         (W.failures output.old) (W.failures output.new) page.old page.new
-        (lines_text (chosen style (flat_map tool_lines tools.now))) }
+        (lines_text (chosen style (flat_map (tool_lines unset) tools.now))) }
 {
     for tool in tools {
-        let lines = tool_lines(tool);
+        let lines = tool_lines(unset, tool);
         say_warning_lines(style, lines.as_slice(), page, output);
     }
+}
+
+fn warn_of_table<W: Sink>(style: Style, tools: &[Tool], page: &mut Page, output: &mut W)
+    ensures { Says (W.written output.old) (W.written output.new)
+        (W.failures output.old) (W.failures output.new) page.old page.new
+        (lines_text (chosen style (table_lines tools.now))) }
+{
+    let unset = are_unset(tools);
+    warn_of_tools(style, unset, tools, page, output);
+    let lines = lines_after_tools(unset);
+    say_warning_lines(style, lines.as_slice(), page, output);
 }
 
 fn warn_of_all<A: Allocator, W: Sink>(
@@ -64,7 +83,7 @@ fn warn_of_all<A: Allocator, W: Sink>(
     let lines = machine_lines(machine, &reach);
     say_warning_lines(style, lines.as_slice(), page, output);
     warn_of_fixtures(style, machine, &reach, page, output);
-    warn_of_tools(style, tools, page, output);
+    warn_of_table(style, tools, page, output);
 }
 
 /// Writes only the warnings of the setup sheet of a machine and its tools, in the sheet's order.

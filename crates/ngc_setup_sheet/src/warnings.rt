@@ -1,9 +1,10 @@
 //! What looks wrong in a machine file or in a tool table.
 ghost use Rattle.std.specs.Prelude.{◌≡◌, ◌||◌};
+ghost use Rattle.std.specs.List.{list_all};
 ghost use Rattle.ngc_machine_files.specs.Machine.{file_of};
 ghost use Rattle.ngc_setup_sheet.specs.Warnings.{is_odd_speed, is_odd_acceleration, is_shorter};
 ghost use Rattle.ngc_setup_sheet.specs.Warnings.{is_slow_on_arcs, is_thin, is_short_tool};
-ghost use Rattle.ngc_setup_sheet.specs.Warnings.{is_odd_offset};
+ghost use Rattle.ngc_setup_sheet.specs.Warnings.{is_odd_offset, is_unset, are_unset};
 
 use crate::figures::{gain, pull, speed};
 use crate::reach::top_of;
@@ -59,4 +60,23 @@ pub(crate) fn is_odd_offset(tool: &Tool) -> bool
     let long = top_of(Nm::zero(), &tool.parts);
     let offset = tool.offset.nanometres();
     2 * long < offset || 2 * offset < long
+}
+
+fn is_unset(tool: &Tool) -> bool
+    ensures { result ≡ is_unset tool.now }
+{
+    tool.offset.nanometres() == 0 && is_odd_offset(tool)
+}
+
+fn all_unset(tools: &[Tool]) -> bool
+    ensures { result ≡ list_all is_unset tools.now }
+{
+    tools.iter().all(|tool| is_unset(tool))
+}
+
+/// Returns whether a table has at least two tools, and none has an offset.
+pub(crate) fn are_unset(tools: &[Tool]) -> bool
+    ensures { result ≡ are_unset tools.now }
+{
+    1 < tools.len() && all_unset(tools)
 }

@@ -1,8 +1,8 @@
-use Rattle.std.proofs.Common.{ap, flat_map}
+use Rattle.std.proofs.Common.{ap}
 use Rattle.ngc_machine_files.specs.Machine.{file_of}
 use Rattle.ngc_sentences.proofs.Said.{then, says_as}
 use Rattle.ngc_setup_sheet.specs.Reaches.{reach_of}
-use Rattle.ngc_setup_sheet.specs.Sheets.{machine_lines, fixtures_from, tool_lines}
+use Rattle.ngc_setup_sheet.specs.Sheets.{machine_lines, fixtures_from, table_lines}
 use Rattle.ngc_setup_sheet.specs.Spelling.{lines_text}
 use Rattle.ngc_setup_sheet.proofs.RemainingText.{three}
 use Rattle.ngc_setup_sheet.proofs.sheet.say_all.Goals as goal
@@ -13,5 +13,5 @@ returns g c =
     let ts = c.args.tools.now in
     let reach = c.of-reach.ensures.value in
     says_as (then (then (rw (c.as_slice.ensures.value, c.machine_lines-lines.ensures, reach) at c.say_lines.ensures)
-    (says_as c.say_fixtures.ensures (ap (λ r. lines_text (fixtures_from m r 0 m.fixtures)) reach))) c.say_tools.ensures)
-    (three (machine_lines m (reach_of ts)) (fixtures_from m (reach_of ts) 0 m.fixtures) (flat_map tool_lines ts))
+    (says_as c.say_fixtures.ensures (ap (λ r. lines_text (fixtures_from m r 0 m.fixtures)) reach))) c.say_table.ensures)
+    (three (machine_lines m (reach_of ts)) (fixtures_from m (reach_of ts) 0 m.fixtures) (table_lines ts))

@@ -1,8 +1,8 @@
-use Rattle.std.proofs.Common.{ap, flat_map}
+use Rattle.std.proofs.Common.{ap}
 use Rattle.ngc_machine_files.specs.Machine.{file_of}
 use Rattle.ngc_sentences.proofs.Said.{then, says_as}
 use Rattle.ngc_setup_sheet.specs.Reaches.{reach_of}
-use Rattle.ngc_setup_sheet.specs.Sheets.{machine_lines, fixtures_from, tool_lines}
+use Rattle.ngc_setup_sheet.specs.Sheets.{machine_lines, fixtures_from, table_lines}
 use Rattle.ngc_setup_sheet.specs.Spelling.{lines_text}
 use Rattle.ngc_setup_sheet.specs.Writes.{chosen}
 use Rattle.ngc_setup_sheet.proofs.WarningsAlone.{three_chosen}
@@ -14,5 +14,5 @@ returns g c =
     let ts = c.args.tools.now in
     let reach = c.of-reach.ensures.value in
     says_as (then (then (rw (c.as_slice.ensures.value, c.machine_lines-lines.ensures, reach) at c.say_warning_lines.ensures)
-    (says_as c.warn_of_fixtures.ensures (ap (λ r. lines_text (chosen c.args.style (fixtures_from m r 0 m.fixtures))) reach))) c.warn_of_tools.ensures)
-    (three_chosen c.args.style (machine_lines m (reach_of ts)) (fixtures_from m (reach_of ts) 0 m.fixtures) (flat_map tool_lines ts))
+    (says_as c.warn_of_fixtures.ensures (ap (λ r. lines_text (chosen c.args.style (fixtures_from m r 0 m.fixtures))) reach))) c.warn_of_table.ensures)
+    (three_chosen c.args.style (machine_lines m (reach_of ts)) (fixtures_from m (reach_of ts) 0 m.fixtures) (table_lines ts))

@@ -1,0 +1,2 @@
+-- The remaining text of the tools, one tool further.
+pub mod ToolsLeft
