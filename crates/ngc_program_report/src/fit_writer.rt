@@ -66,7 +66,8 @@ fn write_figures<A: Allocator, W: Sink>(
         (tool_figures form (tools_of tools.now) commands.now time.now)) }
     ensures counts { CountsFailure (W.failures output.old) (W.failures output.new) result }
 {
-    let (per_second, parts) = (time.whole.ticks_per_second, time.parts.as_slice());
+    let per_second = time.whole.ticks_per_second;
+    let parts = time.parts.as_slice();
     write_tool_figures(form, per_second, tools.tools(), commands, parts, output)
 }
 

@@ -1,2 +1,4 @@
+-- Worked programs, by evaluating the definitions.
+pub mod Examples
 -- The remaining text of the tools, one tool further.
 pub mod ToolsLeft
