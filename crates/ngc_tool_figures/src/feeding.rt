@@ -1,8 +1,8 @@
 //! The feeds with a tool: their rates, the spindle's speeds, and how far they go straight down.
-ghost use Rattle.std.specs.Prelude.{◌≡◌, None, pos};
+ghost use Rattle.std.specs.Prelude.{◌≡◌};
 ghost use Rattle.std.specs.Int.{int_max};
 ghost use Rattle.ngc_tool_figures.specs.Dives.{fall};
-ghost use Rattle.ngc_tool_figures.specs.Feedings.{deeper, fed, feeding_of, no_feeding, with_feed};
+ghost use Rattle.ngc_tool_figures.specs.Feedings.{deeper, fed, feeding_of, with_feed};
 ghost use Rattle.ngc_tool_figures.specs.Feedings.{with_motion, with_rate, with_spindle};
 
 use crate::dive::fall;

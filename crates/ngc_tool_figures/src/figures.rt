@@ -1,5 +1,5 @@
 //! The figures of a tool.
-ghost use Rattle.std.specs.Prelude.{◌≡◌, ◌+ℤ◌, min, max};
+ghost use Rattle.std.specs.Prelude.{◌≡◌, min, max};
 ghost use Rattle.ngc_tool_figures.specs.Feedings.{with_number};
 
 /// The least and the greatest of some numbers.
