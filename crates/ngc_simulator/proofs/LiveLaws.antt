@@ -86,7 +86,7 @@ device_failed (live.Events e) old new same is = absurd (cc is)
 device_failed live.Read old new rises is = rises
 device_failed (live.Write e) old new same is = absurd (cc is)
 
-pub output_failed : (fault : LiveFault) (old new : ℕ) → FailsLive (Err fault) old new → FailsWith (of_live fault) old new
+pub output_failed : (fault : LiveFault) (old new : ℕ) → FailsLive {A = Unit {0}} (Err fault) old new → FailsWith (of_live fault) old new
 output_failed (live.Events e) old new same = same
 output_failed live.Read old new same = same
 output_failed (live.Write e) old new rises = rises
