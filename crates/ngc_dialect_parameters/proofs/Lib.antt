@@ -1,0 +1,8 @@
+-- One more part, and how it changes the numbers of values and statements.
+pub mod Steps
+-- Each part of a line that was read finds its values.
+pub mod Balance
+-- A name that is set.
+pub mod NameLaws
+-- One more setting.
+pub mod SettingLaws

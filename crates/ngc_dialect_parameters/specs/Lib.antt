@@ -1,0 +1,10 @@
+pub mod Faults
+pub mod Rules
+pub mod Index
+pub mod Operations
+pub mod Settings
+pub mod Names
+pub mod Stored
+pub mod Known
+pub mod Evaluation
+pub mod Heights
