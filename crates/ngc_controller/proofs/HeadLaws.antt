@@ -170,13 +170,13 @@ place_on job (l ∷ ls) old r s wish aimed v place due ended next p h on =
 pub order_goes_on : {A : Type 0} (job : Job) (done : ℕ) (ring after : RingData) (drive new : Drive A) (dwelt : ℕ) (panel : Panel) (old : State) (s : RampState) (wish v : ℕ)
     (due ended : Bool) (p : StepPos) → IsInOrder job done ring drive dwelt panel →
     IsTravelOn job ring.loaded old drive.ramp s wish drive.target v ring.place due ended after.place p → ended ≡ false → after.loaded ≡ ring.loaded → after.room ≡ ring.room →
-    panel.stopped ≡ false → new.ramp ≡ s → new.continues_travel ≡ drive.continues_travel → new.entry ≡ drive.entry →
+    panel.stopped ≡ false → new.ramp ≡ s → new.continues_travel ≡ drive.continues_travel → new.joints ≡ drive.joints →
     IsTarget job.machine (effective_at panel) after.loaded after.place new.target →
     IsInOrder {A = A} job done after new dwelt panel
-order_goes_on {A = A} job done ring after drive new dwelt panel old s wish v due ended p o h go queue room runs ramp flows entry target =
+order_goes_on {A = A} job done ring after drive new dwelt panel old s wish v due ended p o h go queue room runs ramp flows joints target =
     let on = place_on job ring.loaded old drive.ramp s wish drive.target v ring.place due ended after.place p h go in
     let here : IsInOrder {A = A} job done (record { loaded = ring.loaded; place = after.place; room = ring.room })
-    (record { ramp = s; target = new.target; entry = drive.entry; continues_travel = drive.continues_travel }) dwelt panel = record {
+    (record { ramp = s; target = new.target; joints = drive.joints; continues_travel = drive.continues_travel }) dwelt panel = record {
       machine = o.machine;
       change = on.2 ∙ o.change;
       room = o.room;
@@ -185,7 +185,7 @@ order_goes_on {A = A} job done ring after drive new dwelt panel old s wish v due
       left = on.3;
       slow = λ still. absurd (still h.moves);
       whole = λ still. absurd (still h.moves);
-      entry = o.entry;
+      joints = o.joints;
       continues_travel = o.continues_travel;
       place = on.0;
       target = subst (λ xs. IsTarget job.machine (effective_at panel) xs after.place new.target) queue target;
@@ -193,7 +193,7 @@ order_goes_on {A = A} job done ring after drive new dwelt panel old s wish v due
       brief = o.brief;
       still = λ stopped. cc;
     } in
-    rw (same_ring after ring.loaded after.place ring.room queue refl room, same_drive new s drive.continues_travel drive.entry ramp flows entry) here
+    rw (same_ring after ring.loaded after.place ring.room queue refl room, same_drive new s drive.continues_travel drive.joints ramp flows joints) here
 
 -- ---- if it ends
 

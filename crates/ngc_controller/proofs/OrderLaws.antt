@@ -11,7 +11,7 @@ use Rattle.ngc_commands.specs.declared.command.Command.{Command}
 use Rattle.ngc_commands.specs.declared.command.Action.{Action}
 use Rattle.ngc_commands.specs.declared.command.Action.TheVariants.{Move}
 use Rattle.ngc_fixed_length.specs.Limits.{MILLION}
-use Rattle.ngc_planner.specs.Joints.{joint_at, joint_before}
+use Rattle.ngc_planner.specs.Trail.{JointsData, joints_before}
 use Rattle.ngc_planner.specs.Ramp.{RampState, IsRest, next_rest}
 use Rattle.ngc_events.specs.declared.reply.Reply.TheVariants.{Loaded}
 use Rattle.ngc_events.specs.declared.event_fault.EventFault.TheVariants.{RingFull}
@@ -42,30 +42,30 @@ pub same_ring : (r : RingData) (xs : List Queued) (p n : ℕ) → r.loaded ≡ x
 same_ring r xs p n e f k =
     ap₂ (λ (ys : List Queued) (q : ℕ). record { loaded = ys; place = q; room = r.room }) e f ∙ ap (λ m. record { loaded = xs; place = p; room = m }) k
 
-pub same_drive : {A : Type 0} (d : Drive A) (r : RampState) (b : Bool) (n : ℕ) → d.ramp ≡ r → d.continues_travel ≡ b → d.entry ≡ n →
-    d ≡ record { ramp = r; target = d.target; entry = n; continues_travel = b }
-same_drive d r b n e f k =
-    ap₂ (λ (x : RampState) (y : Bool). record { ramp = x; target = d.target; entry = d.entry; continues_travel = y }) e f
-    ∙ ap (λ m. record { ramp = r; target = d.target; entry = m; continues_travel = b }) k
+pub same_drive : {A : Type 0} (d : Drive A) (r : RampState) (b : Bool) (j : JointsData) → d.ramp ≡ r → d.continues_travel ≡ b → d.joints ≡ j →
+    d ≡ record { ramp = r; target = d.target; joints = j; continues_travel = b }
+same_drive d r b j e f k =
+    ap₂ (λ (x : RampState) (y : Bool). record { ramp = x; target = d.target; joints = d.joints; continues_travel = y }) e f
+    ∙ ap (λ (i : JointsData). record { ramp = r; target = d.target; joints = i; continues_travel = b }) k
 
 last_of_drop : (b : Bool) (ring : List Queued) → b ≡ last_flows_on b ring → b ≡ last_flows_on b (drop 1 ring)
 last_of_drop b [] h = refl
 last_of_drop b (l ∷ ls) h = last_of_rest b l ls h
 
 pub left_order : {A : Type 0} (job : Job) (done : ℕ) (ring : List Queued) (ramp : RampState) (on : Bool) (panel : Panel) (next : ℕ) (after : RingData) (new : Drive A)
-    (dwelt entry : ℕ) →
+    (dwelt : ℕ) (joints : JointsData) →
     IsMachine job.machine → IsLeft job (suc done) (drop 1 ring) ramp → travelled_of (drop 1 ring) ramp.rest / MILLION ≡ 0 → on ≡ last_flows_on on ring →
     (panel.stopped ≡ true → ramp.rate ≡ 0) →
     done + length ring ≤ length job.commands → 1 ≤ length ring →
     after.loaded ≡ drop 1 ring → after.place ≡ 0 → after.room ≡ job.machine.ring → next ≡ done + 1 → dwelt ≡ 0 → new.ramp ≡ ramp → new.continues_travel ≡ on →
     IsTarget job.machine (effective_at panel) after.loaded after.place new.target →
-    entry ≡ joint_before job.machine job.commands (done + length ring) → new.entry ≡ entry →
+    joints ≡ joints_before job.machine job.commands (done + length ring) → new.joints ≡ joints →
     IsInOrder job next after new dwelt panel
-left_order {A = A} job done ring ramp on panel next after new dwelt entry machine o zero last still few some queue place room more brief same flows target joint kept =
+left_order {A = A} job done ring ramp on panel next after new dwelt joints machine o zero last still few some queue place room more brief same flows target joint kept =
     let shorter = length-drop 1 ring in
     let then : next ≡ suc done = omega arith in
     let order : IsInOrder {A = A} job (suc done) (record { loaded = drop 1 ring; place = 0; room = job.machine.ring })
-    (record { ramp = ramp; target = new.target; entry = entry; continues_travel = on }) 0 panel =
+    (record { ramp = ramp; target = new.target; joints = joints; continues_travel = on }) 0 panel =
     record {
       machine = machine;
       change = o.change;
@@ -75,7 +75,7 @@ left_order {A = A} job done ring ramp on panel next after new dwelt entry machin
       left = o.left;
       slow = o.slow;
       whole = o.whole;
-      entry = (let afterwards : done + length ring ≡ suc done + length (drop 1 ring) = omega arith in joint ∙ ap (λ k. joint_before job.machine job.commands k) afterwards);
+      joints = (let afterwards : done + length ring ≡ suc done + length (drop 1 ring) = omega arith in joint ∙ ap (λ k. joints_before job.machine job.commands k) afterwards);
       continues_travel = last_of_drop on ring last;
       place = sym zero;
       target = subst (λ xs. IsTarget job.machine (effective_at panel) xs 0 new.target) queue
@@ -84,7 +84,7 @@ left_order {A = A} job done ring ramp on panel next after new dwelt entry machin
       brief = omega arith;
       still = still;
     } in
-    rw (then, brief, same_ring after (drop 1 ring) 0 job.machine.ring queue place room, same_drive new ramp on entry same flows kept) order
+    rw (then, brief, same_ring after (drop 1 ring) 0 job.machine.ring queue place room, same_drive new ramp on joints same flows kept) order
 
 pub target_as : (machine asked : MachineFile) (percent counted : ℕ) (ring : List Queued) (place target : ℕ) → IsTarget asked counted ring place target →
     asked ≡ machine → counted ≡ percent → IsTarget machine percent ring place target
@@ -177,18 +177,18 @@ few_on job done ring drive dwelt panel o room =
     let few = few_legs job done o.legs.0 ring.loaded in
     omega (arith, few, ap length o.legs.1, o.places, room)
 
--- the joint before the first command
-pub first_joint : (machine : MachineFile) (commands : List Command) (done entry : ℕ) (ring : List Queued) → entry ≡ MILLION → done ≡ 0 → ring ≡ [] →
-    entry ≡ joint_before machine commands (done + length ring)
-first_joint machine commands done entry ring e f k = rw (e, f, k) refl
+-- the joints before the first command
+pub first_joints : (machine : MachineFile) (commands : List Command) (done : ℕ) (joints : JointsData) (ring : List Queued) →
+    joints ≡ joints_before machine commands 0 → done ≡ 0 → ring ≡ [] → joints ≡ joints_before machine commands (done + length ring)
+first_joints machine commands done joints ring e f k = rw (e, f, k) refl
 
-pub joint_as : (machine asked : MachineFile) (commands given : List Command) (k entry : ℕ) → entry ≡ joint_at asked given k → asked ≡ machine → given ≡ commands →
-    entry ≡ joint_at machine commands k
-joint_as machine asked commands given k entry h e f = rw (sym e, sym f) h
+pub joints_as : (machine asked : MachineFile) (commands given : List Command) (k : ℕ) (joints : JointsData) → joints ≡ joints_before asked given k → asked ≡ machine →
+    given ≡ commands → joints ≡ joints_before machine commands k
+joints_as machine asked commands given k joints h e f = rw (sym e, sym f) h
 
-pub joint_of : (machine asked : MachineFile) (commands given : List Command) (k entry : ℕ) → entry ≡ joint_before machine commands k → asked ≡ machine → given ≡ commands →
-    entry ≡ joint_before asked given k
-joint_of machine asked commands given k entry h e f = rw (e, f) h
+pub joints_of : (machine asked : MachineFile) (commands given : List Command) (k : ℕ) (joints : JointsData) → joints ≡ joints_before machine commands k → asked ≡ machine →
+    given ≡ commands → joints ≡ joints_before asked given k
+joints_of machine asked commands given k joints h e f = rw (e, f) h
 
 pub more_as : (machine asked : MachineFile) (commands given : List Command) (k : ℕ) (on : Bool) (q : Queued) (old new : RampState) →
     new ≡ with_one_more (job_of asked given) k on q old → asked ≡ machine → given ≡ commands → new ≡ with_one_more (job_of machine commands) k on q old
@@ -201,7 +201,7 @@ still_before (l ∷ ls) q still moves = still moves
 pub loaded_order : {A : Type 0} (job : Job) (done : ℕ) (ring : RingData) (drive : Drive A) (dwelt : ℕ) (panel : Panel) (q : Queued) (k : ℕ) (after : RingData) (d : Drive A)
     (n : ℕ) → IsInOrder job done ring drive dwelt panel →
     d.ramp ≡ with_one_more job (done + length ring.loaded) drive.continues_travel q drive.ramp → d.continues_travel ≡ continues_travel q →
-    d.entry ≡ joint_at job.machine job.commands (done + length ring.loaded) →
+    d.joints ≡ joints_before job.machine job.commands (done + length ring.loaded + 1) →
     IsTarget job.machine (effective_at panel) after.loaded after.place d.target →
     done + length ring.loaded < length job.commands → k ≡ done → n ≡ dwelt → after.loaded ≡ ring.loaded ++ q ∷ [] → after.place ≡ ring.place → after.room ≡ ring.room →
     IsInOrder job k after d n panel
@@ -220,8 +220,8 @@ loaded_order job done ring drive dwelt panel q k after d n o is flows joint targ
       left = has.left o.left;
       slow = λ still. (let slow = o.slow (still_before ring.loaded q still) in omega (arith, has.rate, slow));
       whole = λ still. has.whole (o.whole (still_before ring.loaded q still));
-      entry = (let afterwards : suc (done + length ring.loaded) ≡ done + length all = omega (arith, more) in
-          joint ∙ ap (λ k. joint_before job.machine job.commands k) afterwards);
+      joints = (let afterwards : done + length ring.loaded + 1 ≡ done + length all = omega (arith, more) in
+          joint ∙ ap (λ k. joints_before job.machine job.commands k) afterwards);
       continues_travel = flows ∙ sym (last_of_more d.continues_travel ring.loaded q);
       place = o.place ∙ ap (λ x. x / MILLION) (sym far);
       target = subst (λ xs. IsTarget job.machine (effective_at panel) xs ring.place d.target) queue

@@ -7,7 +7,7 @@ use Rattle.ngc_commands.specs.declared.command.Action.TheVariants as actions
 use Rattle.ngc_machine_files.specs.MachineRanges.{IsMachine}
 use Rattle.ngc_machine_files.specs.declared.tools.Tool.{Tool}
 use Rattle.ngc_fixed_length.specs.Limits.{MILLION}
-use Rattle.ngc_planner.specs.Joints.{joint_before}
+use Rattle.ngc_planner.specs.Trail.{joints_before}
 use Rattle.ngc_planner.specs.Ramp.{IsRest, next_rest}
 use Rattle.ngc_machine_model.specs.State.{Job, State, Queued, path_steps, millionths}
 use Rattle.ngc_machine_model.specs.Progress.{TravelsAtLeast}
@@ -58,8 +58,8 @@ pub record IsInOrder {A : Type 0} (job : Job) (done : ℕ) (ring : RingData) (dr
   pub left : IsRest drive.ramp.rest drive.ramp.legs
   pub slow : (IsMoving ring.loaded → ⊥) → drive.ramp.rate ≤ job.machine.change
   pub whole : (IsMoving ring.loaded → ⊥) → drive.ramp.rest ≡ next_rest 0 drive.ramp.legs
-  pub entry : drive.entry
-      ≡ joint_before job.machine job.commands (done + length ring.loaded)
+  pub joints : drive.joints
+      ≡ joints_before job.machine job.commands (done + length ring.loaded)
   pub continues_travel : drive.continues_travel ≡ last_flows_on drive.continues_travel ring.loaded
   pub place : ring.place ≡ travelled_of ring.loaded drive.ramp.rest / MILLION
   pub target : IsTarget job.machine (effective_at panel) ring.loaded ring.place drive.target

@@ -2,7 +2,7 @@
 ghost use Rattle.std.specs.Prelude.{◌≡◌, ◌≤◌, ◌<◌, ◌+◌, length};
 ghost use Rattle.ngc_machine_files.specs.Machine.{file_of};
 ghost use Rattle.ngc_planner.specs.Bounds.{bound_of};
-ghost use Rattle.ngc_planner.specs.Joints.{joint_at, joint_before};
+ghost use Rattle.ngc_planner.specs.Trail.{joints_before};
 ghost use Rattle.ngc_planner.specs.Leg.{IsLeg};
 ghost use Rattle.ngc_machine_model.specs.Headline.{job_of};
 ghost use Rattle.ngc_machine_model.specs.State.{path_steps, millionths};
@@ -12,7 +12,7 @@ ghost use Rattle.ngc_controller.specs.Drive.{continues_travel, with_one_more};
 use crate::route::Loaded;
 use ngc_commands::{Action, Command};
 use ngc_machine_files::Machine;
-use ngc_planner::{Leg, Ramp, bound_of, joint_at};
+use ngc_planner::{Joints, Leg, Ramp, bound_of};
 use ngc_step_kernel::ArcKernel;
 use std::alloc::Allocator;
 
@@ -22,9 +22,8 @@ pub struct Drive<A: Allocator> {
     pub ramp: Ramp<A>,
     /// In millionths of a path step per tick. It is stored, so that a tick need not compute it.
     pub target: u64,
-    /// The bound of the joint between the command that was loaded last and the next one, 1,000,000
-    /// before the first one. It is stored, so that it is computed once for both of them.
-    pub entry: u64,
+    /// The joints up to the command that was loaded last.
+    pub joints: Joints<A>,
     /// Whether the last loaded command is a motion with path steps at whose end the axes need not
     /// stop.
     pub continues_travel: bool,
@@ -84,21 +83,22 @@ impl<A: Allocator> Drive<A> {
         machine: &Machine<B>,
     )
         requires room { length self.old.ramp.legs < self.old.ramp.room }
-        requires entry { self.old.entry ≡ joint_before (file_of machine.now) commands.now index }
+        requires joints { self.old.joints ≡ joints_before (file_of machine.now) commands.now index }
         ensures ramp { self.new.ramp ≡ with_one_more
             (job_of (file_of machine.now) commands.now) index self.old.continues_travel loaded.now.queued
             self.old.ramp }
         ensures target { self.new.target ≡ self.old.target }
-        ensures entry { self.new.entry ≡ joint_at (file_of machine.now) commands.now index }
+        ensures joints { self.new.joints
+            ≡ joints_before (file_of machine.now) commands.now (index + 1) }
         ensures continues_travel { self.new.continues_travel ≡ continues_travel loaded.now.queued }
     {
         let moves = loaded.path_steps() > 0;
-        let exit = joint_at(commands, index, machine);
+        let entry = self.joints.entry();
+        let exit = self.joints.pass(commands, index, machine);
         if moves {
-            let leg = leg_between(self.entry, exit, self.continues_travel, loaded, machine);
+            let leg = leg_between(entry, exit, self.continues_travel, loaded, machine);
             self.ramp.load(leg);
         }
-        self.entry = exit;
         self.continues_travel = moves && !stops(&loaded.command().action);
     }
 

@@ -4,7 +4,7 @@ ghost use Rattle.std.specs.Prelude.{IfOk};
 ghost use Rattle.ngc_machine_files.specs.Machine.{file_of};
 ghost use Rattle.ngc_fixed_length.specs.Limits.{MILLION};
 ghost use Rattle.ngc_machine_model.specs.Headline.{job_of};
-ghost use Rattle.ngc_planner.specs.Joints.{joint_at, joint_before};
+ghost use Rattle.ngc_planner.specs.Trail.{joints_before};
 ghost use Rattle.ngc_planner.specs.Ramp.{MOST_LEGS};
 ghost use Rattle.ngc_controller.specs.Drive.{continues_travel, with_one_more, IsTarget, is_head_by_place};
 ghost use Rattle.ngc_controller.specs.Loaded.{next_place};
@@ -17,7 +17,7 @@ use crate::route::Loaded;
 use ngc_commands::{Action, Command};
 use ngc_fixed_length::StepPos;
 use ngc_machine_files::Machine;
-use ngc_planner::{Ramp, is_by_place, target_on};
+use ngc_planner::{Joints, Ramp, is_by_place, target_on};
 use ngc_step_kernel::ArcKernel;
 use std::alloc::{AllocError, Allocator};
 
@@ -44,13 +44,14 @@ impl<K: ArcKernel + Drop, A: Allocator + Copy> Progress<K, A> {
         ensures { IfOk result (IsOpening change ring) }
     {
         let ramp = Ramp::with_ring(alloc, change, ring)?;
+        let joints = Joints::new(alloc, ring)?;
         let ring = Ring::new(alloc, ring)?;
         Ok(Progress {
             ring,
             drive: Drive {
                 ramp,
                 target: 0,
-                entry: 1_000_000,
+                joints,
                 continues_travel: false,
             },
             done: 0,
@@ -82,7 +83,7 @@ impl<K: ArcKernel + Drop, A: Allocator + Copy> Progress<K, A> {
         requires beginning { loaded.place ≡ 0 }
         requires aimed { IsTarget (file_of machine.now) percent self.old.ring.loaded
             self.old.ring.place self.old.drive.target }
-        requires entry { self.old.drive.entry ≡ joint_before (file_of machine.now) commands.now
+        requires joints { self.old.drive.joints ≡ joints_before (file_of machine.now) commands.now
             (self.old.done + length self.old.ring.loaded) }
         ensures loaded { self.new.ring.loaded ≡ self.old.ring.loaded ++ loaded.queued ∷ [] }
         ensures place { self.new.ring.place ≡ self.old.ring.place }
@@ -93,8 +94,8 @@ impl<K: ArcKernel + Drop, A: Allocator + Copy> Progress<K, A> {
             (job_of (file_of machine.now) commands.now)
             (self.old.done + length self.old.ring.loaded) self.old.drive.continues_travel loaded.queued
             self.old.drive.ramp }
-        ensures entry { self.new.drive.entry ≡ joint_at (file_of machine.now) commands.now
-            (self.old.done + length self.old.ring.loaded) }
+        ensures joints { self.new.drive.joints ≡ joints_before (file_of machine.now) commands.now
+            (self.old.done + length self.old.ring.loaded + 1) }
         ensures continues_travel { self.new.drive.continues_travel ≡ continues_travel loaded.queued }
         ensures target { IsTarget (file_of machine.now) percent self.new.ring.loaded
             self.new.ring.place self.new.drive.target }
@@ -118,7 +119,7 @@ impl<K: ArcKernel + Drop, A: Allocator + Copy> Progress<K, A> {
         ensures done { self.new.done ≡ self.old.done + 1 }
         ensures dwelt { self.new.dwelt ≡ 0 }
         ensures ramp { self.new.drive.ramp ≡ self.old.drive.ramp }
-        ensures entry { self.new.drive.entry ≡ self.old.drive.entry }
+        ensures joints { self.new.drive.joints ≡ self.old.drive.joints }
         ensures continues_travel { self.new.drive.continues_travel ≡ self.old.drive.continues_travel }
         ensures target { IsTarget (file_of machine.now) percent self.new.ring.loaded
             self.new.ring.place self.new.drive.target }
@@ -135,7 +136,7 @@ impl<K: ArcKernel + Drop, A: Allocator + Copy> Progress<K, A> {
         ensures done { self.new.done ≡ self.old.done }
         ensures dwelt { self.new.dwelt ≡ self.old.dwelt }
         ensures ramp { self.new.drive.ramp ≡ self.old.drive.ramp }
-        ensures entry { self.new.drive.entry ≡ self.old.drive.entry }
+        ensures joints { self.new.drive.joints ≡ self.old.drive.joints }
         ensures continues_travel { self.new.drive.continues_travel ≡ self.old.drive.continues_travel }
         ensures target { IsTarget (file_of machine.now) percent self.old.ring.loaded
             self.old.ring.place self.new.drive.target }
@@ -177,7 +178,7 @@ impl<K: ArcKernel + Drop, A: Allocator + Copy> Progress<K, A> {
         ensures done { self.new.done ≡ self.old.done }
         ensures dwelt { self.new.dwelt ≡ self.old.dwelt }
         ensures ramp { self.new.drive.ramp ≡ self.old.drive.ramp }
-        ensures entry { self.new.drive.entry ≡ self.old.drive.entry }
+        ensures joints { self.new.drive.joints ≡ self.old.drive.joints }
         ensures continues_travel { self.new.drive.continues_travel ≡ self.old.drive.continues_travel }
         ensures target { IsTarget (file_of machine.now) percent self.new.ring.loaded
             self.new.ring.place self.new.drive.target }

@@ -18,10 +18,13 @@ pub mod HeadingLaws
 pub mod StraightLaws
 -- The change of the axes' rates at a joint.
 pub mod JointLaws
--- The rates that a window allows: the greatest one, and when no earlier heading lowers it.
+-- The rates that a window allows.
 pub mod WindowLaws
 -- The joint over a window compared with that of the two neighbours, and its properties.
 pub mod JointWindowLaws
+-- The motions passed before a joint: what a block of them allows, and how a trail follows the
+-- commands.
+pub mod TrailLaws
 -- Where a path is smooth, a window allows each rate that the machine's turn allows.
 pub mod SmoothLaws
 -- Joints over a window, by evaluating the definitions.

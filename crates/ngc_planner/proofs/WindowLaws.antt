@@ -1,4 +1,4 @@
--- The rates that a window allows: the greatest one, and when no earlier heading lowers it.
+-- The rates that a window allows.
 use Rattle.std.proofs.Common.{◌≡◌, inl, inr, ℕ, zero, suc, ◌+◌, ◌-◌, ◌*◌, ◌/◌, ◌%◌, ◌^◌, ◌≤◌, ◌<◌, ◌↔◌, ◌==◌, nat_le, min, cond, ℤ, pos, ◌*ℤ◌, unsigned_abs, Bool, true, false, Option, Some, None, List, [], ◌∷◌, reverse, length, arith, refl, sym, subst, ap, ◌∙◌}
 use Rattle.std.proofs.lemmas.Bool.Decides.{nat_tests}
 use Rattle.std.proofs.lemmas.Bool.{cases_lt}
@@ -161,7 +161,7 @@ rate_law jump turn n way v few = rate_by (may_head jump turn n way MILLION) jump
 
 -- ---- a rate that is lowered to it
 
-may_out : (jump turn n way v : ℕ) → may_head jump turn n way v ≡ true → MayHead jump turn n way v
+pub may_out : (jump turn n way v : ℕ) → may_head jump turn n way v ≡ true → MayHead jump turn n way v
 may_out jump turn n way v h = grind (arith, nat_tests)
 
 may_not_out : (jump turn n way v : ℕ) → may_head jump turn n way v ≡ false → MILLION * (jump * v) + turn * way < v * v * n
@@ -252,37 +252,6 @@ round_small n r g q few near least greatest is =
     let rounded : q * g < n * r + g = rw is times in
     omega (arith, whole, some, rounded, greatest)
 
--- ---- if two opposite headings may follow each other, any two may
-
-may_any : (jump turn n way w v : ℕ) → n ≤ 2000000 → way ≤ w → MayHead jump turn 2000000 way v → MayHead jump turn n w v
-may_any jump turn n way w v few more h =
-    let less = mul-le (v * v) n (v * v) 2000000 (omega arith) few in
-    let longer = mul-le turn way turn w (omega arith) more in
-    omega (arith, h, less, longer)
-
-free_with : (h : Option Point3) (m : MachineFile) (e : Point3) (v way : ℕ) (ps : List Passed) → ((d : Point3) → h ≡ Some d → IsHeading d) → IsHeading e →
-    v ≤ MILLION → MayHead m.jump m.turn 2000000 way v → v ≤ rate_from_all m e ps → v ≤ rate_from_all m e (passed_with h way ps)
-free_with None m e v way ps each next small may afterwards = small
-free_with (Some d) m e v way ps each next small may afterwards =
-    let few = difference_small d e (each d refl) next in
-    let here = (rate_law m.jump m.turn (difference_of d e) way v few).1 (small, may_any m.jump m.turn (difference_of d e) way way v few (omega arith) may) in
-    omega (arith, here, afterwards)
-
-free_on : (m : MachineFile) (e : Point3) (v way : ℕ) (cs : List Command) → IsHeading e → v ≤ MILLION → MayHead m.jump m.turn 2000000 way v →
-    v ≤ rate_from_all m e (passed_on m way cs)
-free_on m e v way [] next small may = small
-free_on m e v way (c ∷ cs) next small may =
-    let on = way + way_on m c.action in
-    free_with (passing_heading m c.action) m e v way (passed_on m on cs) (λ d h. passing_is m c.action d h) next small may
-    (free_on m e v on cs next small (may_any m.jump m.turn 2000000 way on v (omega arith) (omega arith) may))
-
--- no heading that is passed on the rest lowers the rate
-pub ends_free : (m : MachineFile) (e : Point3) (v way : ℕ) (cs : List Command) → IsHeading e → v ≤ MILLION → may_head m.jump m.turn 2000000 way v ≡ true →
-    v ≡ min v (rate_from_all m e (passed_on m way cs))
-ends_free m e v way cs next small may =
-    let free = free_on m e v way cs next small (may_out m.jump m.turn 2000000 way v may) in
-    omega (arith, free)
-
 -- ---- a window
 
 heading_rate_most : (jump turn n way : ℕ) → n ≤ 2000000 → heading_rate jump turn n way ≤ MILLION
@@ -299,11 +268,3 @@ whole_window m e d w cs rate r way passed next length first all =
     let h = heading_rate m.jump m.turn (difference_of d e) 0 in
     let afterwards : rate_from_all m e (passed_on m (way_of m w) cs) ≡ rate_from_all m e (passed_on m way cs) = ap (λ n. rate_from_all m e (passed_on m n cs)) (sym length) in
     least_of_both r rate h (rate_from_all m e (passed_on m way cs)) _ all first most afterwards
-
--- ---- the walk back: from the rate v, where the last of cs ended way millionths of a path step ago,
--- to the rate r, where that of ds did
-
-pub record IsAsFar (m : MachineFile) (e : Point3) (v way : ℕ) (cs : List Command) (r on : ℕ) (ds : List Command) : Type 0 where
-  pub same : min v (rate_from_all m e (passed_on m way (reverse cs))) ≡ min r (rate_from_all m e (passed_on m on (reverse ds)))
-  pub small : r ≤ MILLION
-  pub within : on + 400000000000000 * length ds ≤ 409600000000000000

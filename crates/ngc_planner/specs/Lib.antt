@@ -6,6 +6,7 @@ pub mod Headings
 pub mod ArcFeed
 pub mod Joints
 pub mod Window
+pub mod Trail
 pub mod Smooth
 pub mod Pulses
 pub mod Leg

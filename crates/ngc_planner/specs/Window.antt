@@ -1,6 +1,6 @@
 -- The headings that were passed before a joint. Our own.
 use Rattle.std.specs.Prelude.{ℕ, ◌+◌, ◌-◌, ◌*◌, ◌==◌, min, max, unsigned_abs, Option, Some, None, Bool, false, ◌||◌}
-use Rattle.std.specs.Prelude.{List, [], ◌∷◌, take, drop, reverse, if◌then◌else◌}
+use Rattle.std.specs.Prelude.{List, [], ◌∷◌, take, reverse, if◌then◌else◌}
 use Rattle.std.specs.Int.{div_ceil}
 use Rattle.ngc_fixed_length.specs.Grid.{grid, greatest_distance}
 use Rattle.ngc_fixed_length.specs.Limits.{MILLION}
@@ -84,5 +84,4 @@ window machine d w earlier =
 
 -- the commands before command k that its window may include, nearest first
 abbrev pub earlier : MachineFile → List Command → ℕ → List Command
-earlier machine commands k =
-    reverse (drop (k - (window_length machine - 1)) (take k commands))
+earlier machine commands k = take (window_length machine - 1) (reverse (take k commands))

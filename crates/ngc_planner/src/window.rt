@@ -1,24 +1,22 @@
-//! The greatest rate that a joint's window allows.
-ghost use Rattle.std.specs.Prelude.{◌≡◌, ◌+◌, ◌*◌, ◌^◌, ◌≤◌, ◌<◌, min, reverse, length};
+//! What a motion adds to the window of a joint, and the rates that a change of heading allows.
+ghost use Rattle.std.specs.Prelude.{◌≡◌, ◌*◌, ◌^◌, ◌≤◌, min};
 ghost use Rattle.ngc_fixed_length.specs.Limits.{MILLION};
 ghost use Rattle.ngc_machine_files.specs.Machine.{file_of};
-ghost use Rattle.ngc_planner.specs.Headings.{IsHeading};
-ghost use Rattle.ngc_planner.specs.Window.{window_length, line_steps, way_at_greatest, way_round};
-ghost use Rattle.ngc_planner.specs.Window.{turn_way, way_of, is_still};
-ghost use Rattle.ngc_planner.specs.Window.{passing_heading, way_on, passed_on, window};
-ghost use Rattle.ngc_planner.specs.Joints.{may_head, greatest_root, heading_rate, rate_from_all};
+ghost use Rattle.ngc_planner.specs.Window.{line_steps, way_at_greatest, way_round};
+ghost use Rattle.ngc_planner.specs.Window.{turn_way, way_of, is_still, passing_heading, way_on};
+ghost use Rattle.ngc_planner.specs.Joints.{may_head, greatest_root, heading_rate};
 
 use crate::displacement::Displacement;
 use crate::headings::{end_heading, turned_on};
 use ngc_arc_geometry::Arc;
-use ngc_commands::{Action, Command, Way};
+use ngc_commands::{Action, Way};
 use ngc_fixed_length::{Point3, root_floor};
 use ngc_machine_files::Machine;
 use std::alloc::Allocator;
 
 /// Returns whether a rate may change its heading by `difference` millionths over `way` millionths of
 /// a path step.
-fn may_head(jump: u32, turn: u64, difference: u64, way: u64, rate: u64) -> bool
+pub(crate) fn may_head(jump: u32, turn: u64, difference: u64, way: u64, rate: u64) -> bool
     requires jump { jump ≤ MILLION }
     requires turn { turn ≤ 10 ^ 12 }
     requires difference { difference ≤ 2000000 }
@@ -46,7 +44,7 @@ fn greatest_root(n: u64, j: u128, t: u128) -> u64
 
 /// Returns a rate, lowered to one that may change its heading by `difference` millionths over `way`
 /// millionths of a path step.
-fn lowered(rate: u64, jump: u32, turn: u64, difference: u64, way: u64) -> u64
+pub(crate) fn lowered(rate: u64, jump: u32, turn: u64, difference: u64, way: u64) -> u64
     requires jump { jump ≤ MILLION }
     requires turn { turn ≤ 10 ^ 12 }
     requires difference { difference ≤ 2000000 }
@@ -62,14 +60,6 @@ fn lowered(rate: u64, jump: u32, turn: u64, difference: u64, way: u64) -> u64
         let turn = u128::from(turn) * u128::from(way);
         greatest_root(difference, jump, turn)
     }
-}
-
-/// Returns the greatest number of motions in a window, 32 to 1,024.
-pub(crate) fn window_length<A: Allocator>(machine: &Machine<A>) -> usize
-    ensures value { result ≡ window_length (file_of machine.now) }
-    ensures bound { result ≤ 1024 }
-{
-    machine.ring.max(32) as usize
 }
 
 /// Returns the path steps of a line. An arc between the same points has no fewer.
@@ -112,7 +102,7 @@ fn turn_way<A: Allocator>(machine: &Machine<A>, arc: &Arc) -> u64
 }
 
 /// Returns the distance that a motion counts, in millionths of a path step.
-fn way_of<A: Allocator>(way: &Way, machine: &Machine<A>) -> u64
+pub(crate) fn way_of<A: Allocator>(way: &Way, machine: &Machine<A>) -> u64
     ensures value { result ≡ way_of (file_of machine.now) way.now }
     ensures bound { result ≤ 400000000000000 }
 {
@@ -137,7 +127,10 @@ fn is_still<A: Allocator>(way: &Way, machine: &Machine<A>) -> bool
 
 /// Returns the heading of an action at its end, if it is a motion with path steps that doesn't stop
 /// there.
-fn passing_heading<A: Allocator>(action: &Action, machine: &Machine<A>) -> Option<Displacement>
+pub(crate) fn passing_heading<A: Allocator>(
+    action: &Action,
+    machine: &Machine<A>,
+) -> Option<Displacement>
     ensures { result ≡ passing_heading (file_of machine.now) action.now }
 {
     match action {
@@ -152,7 +145,8 @@ fn passing_heading<A: Allocator>(action: &Action, machine: &Machine<A>) -> Optio
     }
 }
 
-fn way_on<A: Allocator>(action: &Action, machine: &Machine<A>) -> u64
+/// Returns the distance that an action counts, in millionths of a path step: 0 if it is no motion.
+pub(crate) fn way_on<A: Allocator>(action: &Action, machine: &Machine<A>) -> u64
     ensures value { result ≡ way_on (file_of machine.now) action.now }
     ensures bound { result ≤ 400000000000000 }
 {
@@ -160,66 +154,4 @@ fn way_on<A: Allocator>(action: &Action, machine: &Machine<A>) -> u64
         Action::Move(motion) => way_of(&motion.way, machine),
         _ => 0,
     }
-}
-
-/// Returns a rate, lowered to one that may change into a heading from each heading that was passed
-/// on these commands. The last command ended `way` millionths of a path step ago.
-fn lowered_on<A: Allocator>(
-    rate: u64,
-    next: &Displacement,
-    way: u64,
-    commands: &[Command],
-    machine: &Machine<A>,
-) -> u64
-    requires rate { rate ≤ MILLION }
-    requires next { IsHeading next.now }
-    requires way { way ≤ 400000000000000 }
-    requires length { length commands.now ≤ 1023 }
-    ensures value { result ≡ min rate (rate_from_all (file_of machine.now) next.now
-        (passed_on (file_of machine.now) way (reverse commands.now))) }
-    ensures greatest { result ≤ MILLION }
-{
-    let mut rate = rate;
-    let mut way = way;
-    let mut commands = commands;
-    while let Some((command, before)) = commands.split_last() {
-        // No two headings differ by more than 2,000,000, so no passed heading lowers the rate.
-        if may_head(machine.jump, machine.turn, 2_000_000, way, rate) {
-            return rate;
-        }
-        let Some(heading) = passing_heading(&command.action, machine) else {
-            return rate;
-        };
-        rate = lowered(
-            rate,
-            machine.jump,
-            machine.turn,
-            heading.difference(next),
-            way,
-        );
-        way += way_on(&command.action, machine);
-        commands = before;
-    }
-    rate
-}
-
-/// Returns the greatest rate that may change into a heading from each heading of a window: the one
-/// at the end of a path, and those that were passed on the earlier commands.
-pub(crate) fn window_rate<A: Allocator>(
-    earlier: &[Command],
-    way: &Way,
-    heading: &Displacement,
-    next: &Displacement,
-    machine: &Machine<A>,
-) -> u64
-    requires length { length earlier.now ≤ 1023 }
-    requires heading { IsHeading heading.now }
-    requires next { IsHeading next.now }
-    ensures value { result ≡ rate_from_all (file_of machine.now) next.now
-        (window (file_of machine.now) heading.now way.now (reverse earlier.now)) }
-    ensures greatest { result ≤ MILLION }
-{
-    let difference = heading.difference(next);
-    let rate = lowered(1_000_000, machine.jump, machine.turn, difference, 0);
-    lowered_on(rate, next, way_of(way, machine), earlier, machine)
 }

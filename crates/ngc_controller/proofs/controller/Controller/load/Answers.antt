@@ -6,7 +6,7 @@ use Rattle.ngc_machine_files.specs.Machine.{MachineFile}
 use Rattle.ngc_checker.specs.Accepted.{commands_at}
 use Rattle.ngc_controller.specs.Panel.{effective_at}
 use Rattle.ngc_controller.specs.Fields.{state_of}
-use Rattle.ngc_controller.proofs.OrderLaws.{few_on, joint_as, joint_of, more_as, target_as, loaded_order, loads, loads_not}
+use Rattle.ngc_controller.proofs.OrderLaws.{few_on, joints_as, joints_of, more_as, target_as, loaded_order, loads, loads_not}
 use Rattle.ngc_controller.proofs.controller.Controller.load.Goals as goal
 
 found_in : (xs ys : List Command) (i j : ℕ) (x : Command) → i < length xs → x ≡ get_or xs i x → xs ≡ ys → i ≡ j → slice_get ys j ≡ Some x
@@ -19,11 +19,11 @@ load-requires-clause-legs g c =
     few_on (job_of c.self.inside.accepted.machine (commands_at c.self.inside.block_delete c.self.inside.accepted)) p.done p.ring p.drive p.dwelt
     c.self.inside.panel c.self.invariant (omega (arith, ring, c.len-2.ensures.value, c.if-len-machine.false))
 
-pub load-requires-clause-entry : goal.load-requires-clause-entry
-load-requires-clause-entry g c =
+pub load-requires-clause-joints : goal.load-requires-clause-joints
+load-requires-clause-joints g c =
     let i = c.self.inside in
     let p = i.progress in
-    joint_of i.accepted.machine _ (commands_at i.block_delete i.accepted) _ (p.done + length p.ring.loaded) p.drive.entry c.self.invariant.entry
+    joints_of i.accepted.machine _ (commands_at i.block_delete i.accepted) _ (p.done + length p.ring.loaded) p.drive.joints c.self.invariant.joints
     c.machine-machine.ensures.value c.commands-commands.ensures
 
 pub returns-then-len-machine-clause-loads : goal.returns-then-len-machine-clause-loads
@@ -50,7 +50,7 @@ invariant_of-self g c =
     let q = c.new-loaded.result.queued in
     let ramp = more_as machine _ commands _ (p.done + length p.ring.loaded) p.drive.continues_travel q p.drive.ramp n.drive.ramp c.load.ensures.ramp
     c.machine-machine.ensures.value c.commands-commands.ensures in
-    let joint = joint_as machine _ commands _ (p.done + length p.ring.loaded) n.drive.entry c.load.ensures.entry c.machine-machine.ensures.value
+    let joint = joints_as machine _ commands _ (p.done + length p.ring.loaded + 1) n.drive.joints c.load.ensures.joints c.machine-machine.ensures.value
     c.commands-commands.ensures in
     let target = target_as machine _ (effective_at i.panel) _ n.ring.loaded n.ring.place n.drive.target c.load.ensures.target c.machine-machine.ensures.value
     c.effective.ensures in

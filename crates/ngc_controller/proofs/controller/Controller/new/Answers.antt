@@ -1,6 +1,7 @@
-use Rattle.std.proofs.Common.{rules}
+use Rattle.std.proofs.Common.{rules, ap, sym}
+use Rattle.ngc_machine_files.specs.Machine.{MachineFile}
 use Rattle.ngc_checker.specs.Accepted.{commands_at}
-use Rattle.ngc_controller.proofs.OrderLaws.{first_joint}
+use Rattle.ngc_controller.proofs.OrderLaws.{first_joints}
 use Rattle.ngc_controller.proofs.controller.Controller.new.Goals as goal
 
 pub returns-clause-made : goal.returns-clause-made
@@ -16,7 +17,9 @@ invariant_of-result g c = record {
   left = search rules;
   slow = search rules;
   whole = search rules;
-  entry = first_joint c.args.accepted.machine (commands_at c.args.block_delete c.args.accepted) _ _ _ c.in-Ok.ensures.entry c.in-Ok.ensures.done c.in-Ok.ensures.none;
+  joints = (let ring = ap (λ (m : MachineFile). m.ring) c.machine.ensures.value in
+      first_joints c.args.accepted.machine (commands_at c.args.block_delete c.args.accepted) _ _ _
+      (c.in-Ok.ensures.joints c.args.accepted.machine (commands_at c.args.block_delete c.args.accepted) (sym ring)) c.in-Ok.ensures.done c.in-Ok.ensures.none);
   continues_travel = search rules;
   place = search rules;
   target = search rules;

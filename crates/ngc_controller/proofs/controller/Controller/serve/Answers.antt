@@ -45,12 +45,12 @@ invariant_of-self-2 g c =
     let left = served_left job p.done p.ring p.drive p.dwelt i.panel c.args.action o served in
     let target = target_as i.accepted.machine _ (effective_at panel) _ n.ring.loaded n.ring.place n.drive.target c.leave.ensures.target c.machine-machine.ensures.value
     c.effective.ensures in
-    left_order job p.done p.ring.loaded ramp p.drive.continues_travel panel n.done n.ring n.drive n.dwelt p.drive.entry o.machine left.0 (ap (λ x. x / MILLION) left.1) o.continues_travel
+    left_order job p.done p.ring.loaded ramp p.drive.continues_travel panel n.done n.ring n.drive n.dwelt p.drive.joints o.machine left.0 (ap (λ x. x / MILLION) left.1) o.continues_travel
     (λ stopped. refl) o.few (served_some p.ring.loaded c.args.action served) c.leave.ensures.loaded c.leave.ensures.place (c.leave.ensures.room ∙ o.room) c.leave.ensures.done
     c.leave.ensures.dwelt
     (c.leave.ensures.ramp ∙ ap (λ (d : Drive _). d.ramp) {y = halted} c.halt.ensures)
     (c.leave.ensures.continues_travel ∙ ap (λ (d : Drive _). d.continues_travel) {y = halted} c.halt.ensures) target
-    o.entry (c.leave.ensures.entry ∙ ap (λ (d : Drive _). d.entry) {y = halted} c.halt.ensures)
+    o.joints (c.leave.ensures.joints ∙ ap (λ (d : Drive _). d.joints) {y = halted} c.halt.ensures)
 
 pub returns-clause-serves : goal.returns-clause-serves
 returns-clause-serves g c =

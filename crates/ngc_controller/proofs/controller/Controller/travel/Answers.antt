@@ -26,7 +26,7 @@ invariant_of-self g c =
     c.effective-percent.ensures in
     rw (f.ensures.done, f.ensures.dwelt)
     (order_goes_on _ p.done p.ring q.ring p.drive q.drive p.dwelt i.panel _ t.new.self c.wish-wish.result t.result.rate t.result.due t.result.ended f.result o h
-    (goes_if t.result.ended c.if-not-travel.true) f.ensures.loaded f.ensures.room runs f.ensures.ramp f.ensures.continues_travel f.ensures.entry target)
+    (goes_if t.result.ended c.if-not-travel.true) f.ensures.loaded f.ensures.room runs f.ensures.ramp f.ensures.continues_travel f.ensures.joints target)
 
 pub returns-then-not-travel-clause-travels : goal.returns-then-not-travel-clause-travels
 returns-then-not-travel-clause-travels g c =
@@ -63,10 +63,10 @@ invariant_of-self-2 g c =
     let queue = c.leave.ensures.loaded ∙ ap (λ xs. drop 1 xs) f.ensures.loaded in
     let target = target_as i.accepted.machine _ (effective_at i.panel) _ n.ring.loaded n.ring.place n.drive.target c.leave.ensures.target c.machine-2.ensures.value
     c.effective.ensures in
-    left_order job p.done p.ring.loaded t.new.self p.drive.continues_travel i.panel n.done n.ring n.drive n.dwelt p.drive.entry o.machine e.left e.place o.continues_travel
+    left_order job p.done p.ring.loaded t.new.self p.drive.continues_travel i.panel n.done n.ring n.drive n.dwelt p.drive.joints o.machine e.left e.place o.continues_travel
     (λ stopped. cc) o.few e.some queue c.leave.ensures.place (c.leave.ensures.room ∙ f.ensures.room ∙ o.room)
     (c.leave.ensures.done ∙ ap (λ k. k + 1) f.ensures.done) c.leave.ensures.dwelt
-    (c.leave.ensures.ramp ∙ f.ensures.ramp) (c.leave.ensures.continues_travel ∙ f.ensures.continues_travel) target o.entry (c.leave.ensures.entry ∙ f.ensures.entry)
+    (c.leave.ensures.ramp ∙ f.ensures.ramp) (c.leave.ensures.continues_travel ∙ f.ensures.continues_travel) target o.joints (c.leave.ensures.joints ∙ f.ensures.joints)
 
 pub returns-clause-travels : goal.returns-clause-travels
 returns-clause-travels g c =
