@@ -17,7 +17,7 @@ invariant_of-result g c = record {
   left = search rules;
   slow = search rules;
   whole = search rules;
-  joints = (let ring = ap (λ (m : MachineFile). m.ring) c.machine.ensures.value in
+  joints = (let ring = ap (λ (m : MachineFile). m.ring) c.machine-machine.ensures.value in
       first_joints c.args.accepted.machine (commands_at c.args.block_delete c.args.accepted) _ _ _
       (c.in-Ok.ensures.joints c.args.accepted.machine (commands_at c.args.block_delete c.args.accepted) (sym ring)) c.in-Ok.ensures.done c.in-Ok.ensures.none);
   continues_travel = search rules;
