@@ -53,7 +53,7 @@ const CORNER: Argument<'static> = Argument {
     is_named: true,
     is_required: false,
     takes: Takes::Text("SPEED"),
-    help: "Speed through a corner, in mm/s\n[default: 5]",
+    help: "Speed through a corner, in mm/s\n[default: what is reached in 5 ms, at least 2]",
 };
 
 const TICKS: Argument<'static> = Argument {
@@ -77,7 +77,7 @@ const JUMP: Argument<'static> = Argument {
     is_named: true,
     is_required: false,
     takes: Takes::Text("SPEED"),
-    help: "Change of speed where two motions meet, in mm/s\n[default: 0]",
+    help: "Change of speed where two motions meet, in mm/s\n[default: as the corner]",
 };
 
 const TURN: Argument<'static> = Argument {
@@ -117,7 +117,7 @@ const RING: Argument<'static> = Argument {
     is_named: true,
     is_required: false,
     takes: Takes::Text("N"),
-    help: "Commands that are loaded and not done at most,\n16 to 1024 [default: 16]",
+    help: "Commands that are loaded and not done at most,\n16 to 1024 [default: 256]",
 };
 
 const ARC_FEED: Argument<'static> = Argument {
@@ -125,7 +125,7 @@ const ARC_FEED: Argument<'static> = Argument {
     is_named: true,
     is_required: false,
     takes: Takes::Nothing,
-    help: "Run arcs at their feed at every place [default: at the\nleast that the feed allows anywhere on the arc]",
+    help: "Run arcs at their feed at every place: the default\n(`arc_feed = 0` in the file switches it off)",
 };
 
 pub(crate) static MACHINE: SubcommandRow<'static> = SubcommandRow {

@@ -13,6 +13,7 @@ use Rattle.ngc_machine_maker.specs.declared.refusal.FigureRefusal.TheVariants as
 use Rattle.ngc_machine_maker.specs.declared.refusal.Stop.TheVariants as stops
 use Rattle.ngc_machine_maker.specs.Formulas.{nearest_step}
 use Rattle.ngc_machine_maker.specs.Numbers.{numbers_of, ring_of}
+use Rattle.ngc_machine_maker.specs.Options.{usual_corner}
 
 abbrev pub three : {T : Type 0} → T → T → T → PerAxis T
 three x y z = record { x = x; y = y; z = z }
@@ -27,6 +28,20 @@ mm_a_minute n = record { micrometres_a_minute = n * 1000 }
 abbrev pub mm_a_second_squared : ℕ → Acceleration
 mm_a_second_squared n = record { micrometres_a_second_squared = n * 1000 }
 
+-- 800 mm/s^2 reach 4 mm/s in 5 ms, which is 240 mm/min; 401 mm/s^2 reach 2.005 mm/s. 400 mm/s^2 reach
+-- 2 mm/s, and so does the corner with any smaller acceleration
+corner_by_acceleration : usual_corner (three (mm_a_second_squared 1000) (mm_a_second_squared 800) (mm_a_second_squared 900)) ≡ mm_a_minute 240
+corner_by_acceleration = refl
+
+corner_above_the_least : (usual_corner (three (mm_a_second_squared 401) (mm_a_second_squared 401) (mm_a_second_squared 401))).micrometres_a_minute ≡ 120300
+corner_above_the_least = refl
+
+least_corner : usual_corner (three (mm_a_second_squared 400) (mm_a_second_squared 400) (mm_a_second_squared 400)) ≡ mm_a_minute 120
+least_corner = refl
+
+corner_of_a_slow_machine : usual_corner (three (mm_a_second_squared 30) (mm_a_second_squared 30) (mm_a_second_squared 20)) ≡ mm_a_minute 120
+corner_of_a_slow_machine = refl
+
 -- 188.976 steps per millimetre are steps of 5,291.677 nm; 20 turns per inch with 1,600 steps per
 -- turn are 1259.84252 steps per millimetre, and steps of 793.75 nm
 nearest_of_188_976 : nearest_step 188976000 ≡ 5292
@@ -40,19 +55,20 @@ nearest_of_800 = refl
 
 -- A small router with 800 steps per millimetre, 300 by 180 by 45 mm. 1,000 mm/min are 13,333.3
 -- steps per second, so 27,000 ticks, of which a step takes 0.493827. 20 mm/s^2 are 16,000 steps per
--- second squared, over 27,000 twice 21.95 millionths.
+-- second squared, over 27,000 twice 21.95 millionths. In 5 ms they reach 0.1 mm/s, so the corner has
+-- 2 mm/s: 1,600 steps per second, over 27,000 0.059259. The jump has the same rate.
 abbrev pub small_router : Figures
 small_router = record {
   steps = record { millionths = 800000000 };
   travel = three (mm 300) (mm 180) (mm 45);
   feed = three (mm_a_minute 1000) (mm_a_minute 1000) (mm_a_minute 600);
   acceleration = three (mm_a_second_squared 30) (mm_a_second_squared 30) (mm_a_second_squared 20);
-  corner = mm_a_minute 300;
-  jump = mm_a_minute 0;
+  corner = usual_corner (three (mm_a_second_squared 30) (mm_a_second_squared 30) (mm_a_second_squared 20));
+  jump = None;
   arcs = None;
   ticks = None;
-  ring = None;
-  arc_feed = false;
+  ring = 256;
+  arc_feed = true;
   zero = three ends.Low ends.Low ends.High;
   start = three (mm 0) (mm 0) (mm 0);
   home28 = None;
@@ -64,12 +80,12 @@ numbers_of_a_small_router : numbers_of small_router ≡ Ok (record {
   ticks_per_second = 27000;
   max_rate = 493827;
   change = 21;
-  corner = 148148;
+  corner = 59259;
   turn = 10973936;
   axis_rate = three 493827 493827 296296;
-  jump = 0;
-  ring = None;
-  arc_feed = false;
+  jump = 59259;
+  ring = 256;
+  arc_feed = true;
   low = three (pos 0) (pos 0) (neg_ℤ (pos 45000000));
   high = three (pos 300000000) (pos 180000000) (pos 0);
   start = three (pos 0) (pos 0) (pos 0);
@@ -88,10 +104,10 @@ bench_mill = record {
   feed = three (mm_a_minute 558) (mm_a_minute 558) (mm_a_minute 400);
   acceleration = three (mm_a_second_squared 50) (mm_a_second_squared 50) (mm_a_second_squared 50);
   corner = mm_a_minute 300;
-  jump = mm_a_minute 0;
+  jump = Some (mm_a_minute 0);
   arcs = None;
   ticks = None;
-  ring = None;
+  ring = 16;
   arc_feed = false;
   zero = three ends.High ends.High ends.High;
   start = three (mm 1) (mm 1) (mm 1);
@@ -108,7 +124,7 @@ numbers_of_a_bench_mill : numbers_of bench_mill ≡ Ok (record {
   turn = 54663448;
   axis_rate = three 488035 488035 349846;
   jump = 0;
-  ring = None;
+  ring = 16;
   arc_feed = false;
   low = three (neg_ℤ (pos 219999932)) (neg_ℤ (pos 126999506)) (neg_ℤ (pos 158999294));
   high = three (pos 0) (pos 0) (pos 0);
@@ -127,10 +143,10 @@ large_router = record {
   feed = three (mm_a_minute 10000) (mm_a_minute 10000) (mm_a_minute 5000);
   acceleration = three (mm_a_second_squared 200) (mm_a_second_squared 200) (mm_a_second_squared 150);
   corner = mm_a_minute 600;
-  jump = mm_a_minute 1200;
+  jump = Some (mm_a_minute 1200);
   arcs = Some (mm_a_second_squared 300);
   ticks = Some 40000;
-  ring = Some 64;
+  ring = 64;
   arc_feed = true;
   zero = three ends.Low ends.Low ends.Low;
   start = three (mm 0) (mm 0) (mm 100);
@@ -147,7 +163,7 @@ numbers_of_a_large_router : numbers_of large_router ≡ Ok (record {
   turn = 17715419;
   axis_rate = three 787351 787351 393675;
   jump = 94482;
-  ring = Some 64;
+  ring = 64;
   arc_feed = true;
   low = three (pos 0) (pos 0) (pos 0);
   high = three (pos 799996932) (pos 599996376) (pos 99997632);
@@ -175,14 +191,14 @@ start_outside : numbers_of (record large_router { start = three (mm 0) (mm 0) (m
 start_outside = refl
 
 -- a ring of 16 commands is the least, and one of 1,024 the greatest
-least_ring : ring_of (Some 16) ≡ Ok (Some 16)
+least_ring : ring_of 16 ≡ Ok 16
 least_ring = refl
 
-short_ring : numbers_of (record large_router { ring = Some 15 }) ≡ Err refusals.Ring
+short_ring : numbers_of (record large_router { ring = 15 }) ≡ Err refusals.Ring
 short_ring = refl
 
-greatest_ring : ring_of (Some 1024) ≡ Ok (Some 1024)
+greatest_ring : ring_of 1024 ≡ Ok 1024
 greatest_ring = refl
 
-long_ring : numbers_of (record large_router { ring = Some 1025 }) ≡ Err refusals.Ring
+long_ring : numbers_of (record large_router { ring = 1025 }) ≡ Err refusals.Ring
 long_ring = refl

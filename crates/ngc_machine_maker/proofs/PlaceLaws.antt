@@ -1,6 +1,6 @@
 -- The travel and the places in it, as nanometres of a file.
 use Rattle.std.proofs.Common.{◌≡◌, ℕ, ◌≤◌, ◌<◌, ◌+◌, ◌*◌, ◌%◌, ap, subst, arith}
-use Rattle.std.specs.Prelude.{pos, neg_ℤ, ◌-ℤ◌, ◌≤ℤ◌, unsigned_abs, Option, IfSome}
+use Rattle.std.specs.Prelude.{pos, neg_ℤ, ◌-ℤ◌, ◌≤ℤ◌, unsigned_abs}
 use Rattle.std.proofs.lemmas.Int.{ints}
 use Rattle.std.proofs.Math.Nat.{mul_assoc}
 use Rattle.std.proofs.lemmas.Nat.{mul-le, mod-mul-add}
@@ -93,8 +93,8 @@ axis_in_file scale zero travel start home28 home30 m t s a b =
       home30_to = place_to scale zero travel home30 bb;
     }
 
-pub numbers_in_file : (f : Figures) (scale : Scale) (rates : Rates) (steps : Steps) (ring : Option ℕ) → IsScale scale → AreAllRates rates → AreStepsWithin scale steps
-    → IfSome ring IsRing → AreInFile (numbers_by f scale rates steps ring)
+pub numbers_in_file : (f : Figures) (scale : Scale) (rates : Rates) (steps : Steps) (ring : ℕ) → IsScale scale → AreAllRates rates → AreStepsWithin scale steps
+    → IsRing ring → AreInFile (numbers_by f scale rates steps ring)
 numbers_in_file f scale rates steps ring s r w i = record {
   least_step = s.least;
   greatest_step = s.greatest;
@@ -116,7 +116,7 @@ numbers_in_file f scale rates steps ring s r w i = record {
 abbrev scale_with : ℕ → ℕ → Scale
 scale_with steps step = record { steps = steps; step = step }
 
-pub numbers_as_asked : (f : Figures) (scale : Scale) (rates : Rates) (steps : Steps) (ring : Option ℕ) → scale.steps ≡ f.steps.millionths → AreSafe scale rates f
+pub numbers_as_asked : (f : Figures) (scale : Scale) (rates : Rates) (steps : Steps) (ring : ℕ) → scale.steps ≡ f.steps.millionths → AreSafe scale rates f
     → AreNoFarther scale steps.travel f.travel → IsWithinRequest (numbers_by f scale rates steps ring) f
 numbers_as_asked f scale rates steps ring same r w =
     let own : scale ≡ scale_in (numbers_by f scale rates steps ring) f = ap (λ (n : ℕ). scale_with n scale.step) same in

@@ -13,7 +13,8 @@ use Rattle.ngc_machine_maker.specs.declared.refusal.Stop.TheVariants as stops
 use Rattle.ngc_machine_maker.specs.Choices.{place_in, ring_in}
 use Rattle.ngc_machine_maker.specs.Decimals.{number_in}
 use Rattle.ngc_machine_maker.specs.File.{heading, scale_text, scale_after, steps_text, errors_text}
-use Rattle.ngc_machine_maker.specs.File.{step_lines, speed_lines, acceleration_lines, requested_lines, place_lines}
+use Rattle.ngc_machine_maker.specs.File.{step_lines, speed_lines, joint_lines, corner_comment, jump_comment}
+use Rattle.ngc_machine_maker.specs.File.{acceleration_lines, ring_lines, arc_feed_comment, arc_feed_lines, place_lines}
 use Rattle.ngc_machine_maker.specs.File.{file_text, notes_text}
 use Rattle.ngc_machine_maker.specs.Grbl.{lines_of, has_setting, value_of, setting, figures_in}
 use Rattle.ngc_machine_maker.specs.Options.{lengths_in, speeds_in, second_speed_in, frame_in}
@@ -29,12 +30,12 @@ small_numbers = record {
   ticks_per_second = 27000;
   max_rate = 493827;
   change = 21;
-  corner = 148148;
+  corner = 59259;
   turn = 10973936;
   axis_rate = three 493827 493827 296296;
-  jump = 0;
-  ring = None;
-  arc_feed = false;
+  jump = 59259;
+  ring = 256;
+  arc_feed = true;
   low = three (pos 0) (pos 0) (neg_ℤ (pos 45000000));
   high = three (pos 300000000) (pos 180000000) (pos 0);
   start = three (pos 0) (pos 0) (pos 0);
@@ -43,15 +44,18 @@ small_numbers = record {
 }
 
 -- 21 millionths per tick at 27,000 ticks per second are 15,309 steps per second squared: 19.136
--- mm/s^2
-file_of_a_small_router : file_text small_numbers small_router ≡ codes "# Made by `ngc machine`. Lengths are nanometres, rates are millionths of a step in a\n# tick, three numbers are X, Y, Z, and remarks are in the units of a shop.\n\nversion = 2\nstep = 1250 # 0.00125 mm\nticks_per_second = 27000 # how often the controller may make steps\nmax_rate = 493827 # 1000 mm/min\naxis_rate = [493827, 493827, 296296] # X 1000, Y 1000, Z 599.999 mm/min\ncorner = 148148 # 300 mm/min\njump = 0 # 0 mm/min\nchange = 21 # 19.136 mm/s^2\nturn = 10973936 # 20 mm/s^2 on arcs at most\nlow = [0, 0, -45000000] # X 0, Y 0, Z -45 mm\nhigh = [300000000, 180000000, 0] # X 300, Y 180, Z 0 mm\nstart = [0, 0, 0] # X 0, Y 0, Z 0 mm\nhome28 = [0, 0, 0] # X 0, Y 0, Z 0 mm\nhome30 = [0, 0, 0] # X 0, Y 0, Z 0 mm\n"
-unfolding digits number_text length_text heading scale_after step_lines speed_lines acceleration_lines requested_lines place_lines line_text value_text remark_text
+-- mm/s^2. 59,259 millionths of a step of 1,250 nm per tick are 119.999475 mm/min
+file_of_a_small_router : file_text small_numbers small_router ≡ codes "# Made by `ngc machine`. Lengths are nanometres, rates are millionths of a step in a\n# tick, three numbers are X, Y, Z, and remarks are in the units of a shop.\n\nversion = 2\nstep = 1250 # 0.00125 mm\nticks_per_second = 27000 # how often the controller may make steps\nmax_rate = 493827 # 1000 mm/min\naxis_rate = [493827, 493827, 296296] # X 1000, Y 1000, Z 599.999 mm/min\n# `corner`: motions may meet at this speed at any angle. By default it is what the axis\n# with the least acceleration reaches in 5 ms, and at least 2 mm/s.\ncorner = 59259 # 119.999 mm/min\n# `jump`: an axis may gain or lose this speed at once where motions meet. At the machine\n# start with half of it, raise it until you hear lost steps, and keep two thirds.\njump = 59259 # 119.999 mm/min\nchange = 21 # 19.136 mm/s^2\nturn = 10973936 # 20 mm/s^2 on arcs at most\n# `ring`: the controller looks ahead over this many. If short lines are slow, try 1024.\nring = 256 # how many commands are loaded and not done at most\n# `arc_feed`: if arcs run roughly at the machine, try 0. Then they are slower.\narc_feed = 1 # arcs run at their feed at every place\nlow = [0, 0, -45000000] # X 0, Y 0, Z -45 mm\nhigh = [300000000, 180000000, 0] # X 300, Y 180, Z 0 mm\nstart = [0, 0, 0] # X 0, Y 0, Z 0 mm\nhome28 = [0, 0, 0] # X 0, Y 0, Z 0 mm\nhome30 = [0, 0, 0] # X 0, Y 0, Z 0 mm\n"
+unfolding digits number_text length_text heading scale_after step_lines speed_lines joint_lines corner_comment jump_comment acceleration_lines ring_lines arc_feed_comment place_lines line_text value_text remark_text
 file_of_a_small_router = refl
 
--- a ring and arcs at their feed have a line each, in this order
-lines_that_are_asked_for : requested_lines (record small_numbers { ring = Some 64; arc_feed = true }) ≡ codes "ring = 64 # how many commands are loaded and not done at most\narc_feed = 1 # arcs run at their feed at every place\n"
-unfolding digits requested_lines line_text value_text remark_text
-lines_that_are_asked_for = refl
+-- another ring, and no line without arcs at their feed
+lines_of_a_ring : ring_lines 64 ≡ codes "# `ring`: the controller looks ahead over this many. If short lines are slow, try 1024.\nring = 64 # how many commands are loaded and not done at most\n"
+unfolding digits ring_lines line_text value_text remark_text
+lines_of_a_ring = refl
+
+no_lines_of_arcs : arc_feed_lines false ≡ codes ""
+no_lines_of_arcs = refl
 
 no_note_of_a_small_router : notes_text small_numbers small_router ≡ codes ""
 unfolding scale_after
@@ -109,7 +113,7 @@ corner_speed : second_speed_in fields.Corner (codes "5") ≡ Ok (mm_a_minute 300
 unfolding number_in
 corner_speed = refl
 
-ring_of_64 : ring_in (codes "64") ≡ Ok (Some 64)
+ring_of_64 : ring_in (codes "64") ≡ Ok 64
 unfolding number_in
 ring_of_64 = refl
 

@@ -21,9 +21,16 @@ use Rattle.ngc_machine_maker.specs.Options.{each_of, length_of, acceleration_of,
 use Rattle.ngc_machine_maker.specs.Options.{second_speed_in}
 
 -- a speed in millimetres per second
-abbrev pub speed_by : Field → Speed → Option (Bor (List ℕ)) → Result Speed FigureRefusal
-speed_by field otherwise None = Ok otherwise
-speed_by field otherwise (Some text) = second_speed_in field text.now
+abbrev pub corner_by : Speed → Option (Bor (List ℕ)) → Result Speed FigureRefusal
+corner_by otherwise None = Ok otherwise
+corner_by otherwise (Some text) = second_speed_in fields.Corner text.now
+
+abbrev pub some_speed : Speed → Result (Option Speed) FigureRefusal
+some_speed speed = Ok (Some speed)
+
+abbrev pub jump_by : Option Speed → Option (Bor (List ℕ)) → Result (Option Speed) FigureRefusal
+jump_by otherwise None = Ok otherwise
+jump_by otherwise (Some text) = and_then (second_speed_in fields.Jump text.now) some_speed
 
 abbrev pub some_acceleration : ℕ → Option Acceleration
 some_acceleration n = Some (acceleration_of n)
@@ -46,13 +53,13 @@ abbrev pub ticks_by : Option ℕ → Option (Bor (List ℕ)) → Result (Option 
 ticks_by otherwise None = Ok otherwise
 ticks_by otherwise (Some text) = ticks_in text.now
 
-abbrev pub some_commands : ℕ → Option ℕ
-some_commands n = Some n
+abbrev pub commands : ℕ → ℕ
+commands n = n
 
-abbrev pub ring_in : List ℕ → Result (Option ℕ) FigureRefusal
-ring_in text = read_by fields.Ring some_commands (number_in 0 text)
+abbrev pub ring_in : List ℕ → Result ℕ FigureRefusal
+ring_in text = read_by fields.Ring commands (number_in 0 text)
 
-abbrev pub ring_by : Option ℕ → Option (Bor (List ℕ)) → Result (Option ℕ) FigureRefusal
+abbrev pub ring_by : ℕ → Option (Bor (List ℕ)) → Result ℕ FigureRefusal
 ring_by otherwise None = Ok otherwise
 ring_by otherwise (Some text) = ring_in text.now
 
@@ -96,8 +103,8 @@ home_by zero stop otherwise (Some text) = and_then (place_in zero stop text.now)
 
 abbrev pub chosen : Figures → Choices → Result Figures FigureRefusal
 chosen f choices =
-    and_then (speed_by fields.Corner f.corner choices.corner) (λ corner.
-    and_then (speed_by fields.Jump f.jump choices.jump) (λ jump.
+    and_then (corner_by f.corner choices.corner) (λ corner.
+    and_then (jump_by f.jump choices.jump) (λ jump.
     and_then (arcs_by f.arcs choices.arcs) (λ arcs.
     and_then (ticks_by f.ticks choices.ticks) (λ ticks.
     and_then (ring_by f.ring choices.ring) (λ ring.

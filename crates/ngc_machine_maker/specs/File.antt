@@ -1,6 +1,5 @@
 -- A machine file, line by line.
-use Rattle.std.specs.Prelude.{ℕ, ℤ, List, [], ◌++◌, codes, decimal, Bool, Option, Some, None}
-use Rattle.std.specs.Prelude.{if◌then◌else◌}
+use Rattle.std.specs.Prelude.{ℕ, ℤ, List, [], ◌++◌, codes, decimal, Bool, if◌then◌else◌}
 use Rattle.ngc_text.specs.Millimetres.{size_text}
 use Rattle.ngc_machine_maker.specs.declared.figures.Figures.{Figures}
 use Rattle.ngc_machine_maker.specs.declared.figures.PerAxis.{PerAxis}
@@ -50,24 +49,42 @@ rate_line key n rate = line_text key (values.Number rate) (remarks.Speed (speed 
 unfoldable pub speed_lines : MachineNumbers → List ℕ
 speed_lines n = rate_line (codes "max_rate") n n.max_rate
     ++ line_text (codes "axis_rate") (values.Rates n.axis_rate) (remarks.Speeds (speeds n))
-    ++ rate_line (codes "corner") n n.corner ++ rate_line (codes "jump") n n.jump
+
+-- where two motions meet: each key is preceded by a comment on what it does and how to try it
+unfoldable pub corner_comment : List ℕ
+corner_comment =
+    codes "# `corner`: motions may meet at this speed at any angle. By default it is what the axis\n"
+    ++ codes "# with the least acceleration reaches in 5 ms, and at least 2 mm/s.\n"
+
+unfoldable pub jump_comment : List ℕ
+jump_comment =
+    codes "# `jump`: an axis may gain or lose this speed at once where motions meet. At the machine\n"
+    ++ codes "# start with half of it, raise it until you hear lost steps, and keep two thirds.\n"
+
+unfoldable pub joint_lines : MachineNumbers → List ℕ
+joint_lines n = corner_comment ++ rate_line (codes "corner") n n.corner ++ jump_comment
+    ++ rate_line (codes "jump") n n.jump
 
 unfoldable pub acceleration_lines : MachineNumbers → List ℕ
 acceleration_lines n =
     line_text (codes "change") (values.Number n.change) (remarks.Acceleration (acceleration n))
     ++ line_text (codes "turn") (values.Number n.turn) (remarks.Arcs (arc_acceleration n))
 
--- keys that are written only on request
-abbrev pub ring_line : Option ℕ → List ℕ
-ring_line None = []
-ring_line (Some ring) = line_text (codes "ring") (values.Number ring) remarks.Ring
+-- how far the controller looks ahead, and the feed on arcs, if it is kept at every place
+unfoldable pub ring_lines : ℕ → List ℕ
+ring_lines ring =
+    codes "# `ring`: the controller looks ahead over this many. If short lines are slow, try 1024.\n"
+    ++ line_text (codes "ring") (values.Number ring) remarks.Ring
 
-abbrev pub arc_feed_line : Bool → List ℕ
-arc_feed_line arc_feed =
-    if arc_feed then line_text (codes "arc_feed") (values.Number 1) remarks.ArcFeed else []
+unfoldable pub arc_feed_comment : List ℕ
+arc_feed_comment =
+    codes "# `arc_feed`: if arcs run roughly at the machine, try 0. Then they are slower.\n"
 
-unfoldable pub requested_lines : MachineNumbers → List ℕ
-requested_lines n = ring_line n.ring ++ arc_feed_line n.arc_feed
+abbrev pub arc_feed_lines : Bool → List ℕ
+arc_feed_lines arc_feed =
+    if arc_feed
+    then arc_feed_comment ++ line_text (codes "arc_feed") (values.Number 1) remarks.ArcFeed
+    else []
 
 abbrev pub place_line : List ℕ → PerAxis ℤ → List ℕ
 place_line key place = line_text key (values.Place place) (remarks.Place place)
@@ -80,7 +97,8 @@ place_lines n = place_line (codes "low") n.low ++ place_line (codes "high") n.hi
 -- the whole file
 abbrev pub file_text : MachineNumbers → Figures → List ℕ
 file_text n f = heading ++ scale_after (codes "# ") n f ++ step_lines n ++ speed_lines n
-    ++ acceleration_lines n ++ requested_lines n ++ place_lines n
+    ++ joint_lines n ++ acceleration_lines n ++ ring_lines n.ring ++ arc_feed_lines n.arc_feed
+    ++ place_lines n
 
 -- the notes on it
 abbrev pub notes_text : MachineNumbers → Figures → List ℕ

@@ -113,8 +113,18 @@ abbrev pub corner_of : Scale → ℕ → ℕ → Speed → Result ℕ FigureRefu
 corner_of scale ticks most speed =
     some refusals.SlowCorner (min (rate_of scale ticks speed) most)
 
-abbrev pub jump_of : Scale → ℕ → Speed → ℕ
-jump_of scale ticks speed = min (rate_of scale ticks speed) 1000000
+-- the jump is the corner's rate, unless a speed is specified
+abbrev pub jump_of : Scale → ℕ → ℕ → Option Speed → ℕ
+jump_of scale ticks corner None = corner
+jump_of scale ticks corner (Some speed) = min (rate_of scale ticks speed) 1000000
+
+-- the speed that the jump is requested to have
+abbrev pub speed_or : Speed → Option Speed → Speed
+speed_or otherwise None = otherwise
+speed_or otherwise (Some speed) = speed
+
+abbrev pub jump_speed : Figures → Speed
+jump_speed f = speed_or f.corner f.jump
 
 -- one change serves all axes: the one that the slowest axis can follow
 abbrev pub limited_change : Scale → ℕ → PerAxis Acceleration → Result ℕ FigureRefusal
@@ -149,5 +159,5 @@ rates_of scale f =
       change = change;
       corner = corner;
       turn = turn;
-      jump = jump_of scale ticks f.jump;
+      jump = jump_of scale ticks corner f.jump;
     }))))))

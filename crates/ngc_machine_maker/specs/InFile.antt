@@ -1,5 +1,5 @@
 -- The allowed numbers of a machine file, as in docs/FORMATS.md.
-use Rattle.std.specs.Prelude.{ℕ, ◌≤◌, ◌%◌, ◌≡◌, ℤ, ◌≤ℤ◌, unsigned_abs, IfSome}
+use Rattle.std.specs.Prelude.{ℕ, ◌≤◌, ◌%◌, ◌≡◌, ℤ, ◌≤ℤ◌, unsigned_abs}
 use Rattle.ngc_machine_maker.specs.declared.numbers.MachineNumbers.{MachineNumbers}
 use Rattle.ngc_machine_maker.specs.declared.numbers.Steps.{Steps}
 use Rattle.ngc_machine_maker.specs.declared.scale.Scale.{Scale}
@@ -33,7 +33,7 @@ pub record AreInFile (n : MachineNumbers) : Type 0 where
   pub turn : IsTurn n.turn
   pub axis_rate : AreRates n.axis_rate
   pub jump : n.jump ≤ 1000000
-  pub ring : IfSome n.ring IsRing
+  pub ring : IsRing n.ring
   pub places : ArePlacesInFile n
 
 -- the steps of such places

@@ -1,5 +1,5 @@
 -- The numbers of a machine file, from the figures of a machine.
-use Rattle.std.specs.Prelude.{ℕ, ◌||◌, nat_lt, Option, Some, None, Result, Ok, Err, if◌then◌else◌}
+use Rattle.std.specs.Prelude.{ℕ, ◌||◌, nat_lt, Result, Ok, Err, if◌then◌else◌}
 use Rattle.ngc_machine_maker.specs.declared.figures.Figures.{Figures}
 use Rattle.ngc_machine_maker.specs.declared.numbers.MachineNumbers.{MachineNumbers}
 use Rattle.ngc_machine_maker.specs.declared.numbers.Steps.{Steps}
@@ -21,13 +21,11 @@ placed scale f =
     and_then (stops_by scale travel f.travel stops.Home30 start f.home30) (λ home30.
     Ok (record { travel = travel; start = start; home28 = home28; home30 = home30 })))))
 
--- a ring is from 16 to 1,024 commands, if one is requested
-abbrev pub ring_of : Option ℕ → Result (Option ℕ) FigureRefusal
-ring_of None = Ok None
-ring_of (Some ring) =
-    if nat_lt ring 16 || nat_lt 1024 ring then Err refusals.Ring else Ok (Some ring)
+-- a ring is from 16 to 1,024 commands
+abbrev pub ring_of : ℕ → Result ℕ FigureRefusal
+ring_of ring = if nat_lt ring 16 || nat_lt 1024 ring then Err refusals.Ring else Ok ring
 
-abbrev pub numbers_by : Figures → Scale → Rates → Steps → Option ℕ → MachineNumbers
+abbrev pub numbers_by : Figures → Scale → Rates → Steps → ℕ → MachineNumbers
 numbers_by f scale rates steps ring =
     record {
       step = scale.step;

@@ -1,7 +1,7 @@
 -- The figures in the texts of options.
 use Rattle.std.specs.Borrow.{Bor}
-use Rattle.std.specs.Prelude.{ℕ, ◌*◌, nat_lt, List, codes, bytes_eq, Option, Some, None, Result}
-use Rattle.std.specs.Prelude.{Ok, Err, false, if◌then◌else◌}
+use Rattle.std.specs.Prelude.{ℕ, ◌*◌, ◌/◌, max, nat_lt, List, codes, bytes_eq, Option, Some, None}
+use Rattle.std.specs.Prelude.{Result, Ok, Err, true, if◌then◌else◌}
 use Rattle.ngc_machine_maker.specs.declared.figures.Acceleration.{Acceleration}
 use Rattle.ngc_machine_maker.specs.declared.figures.End.{End}
 use Rattle.ngc_machine_maker.specs.declared.figures.End.TheVariants as ends
@@ -16,7 +16,7 @@ use Rattle.ngc_machine_maker.specs.declared.refusal.Field.TheVariants as fields
 use Rattle.ngc_machine_maker.specs.declared.refusal.FigureRefusal.{FigureRefusal}
 use Rattle.ngc_machine_maker.specs.declared.refusal.FigureRefusal.TheVariants as refusals
 use Rattle.ngc_machine_maker.specs.Decimals.{number_in, numbers_in}
-use Rattle.ngc_machine_maker.specs.Formulas.{and_then}
+use Rattle.ngc_machine_maker.specs.Formulas.{and_then, least}
 
 abbrev pub same_for_all : {T : Type 0} → T → PerAxis T
 same_for_all value = record { x = value; y = value; z = value }
@@ -86,8 +86,18 @@ abbrev pub frame_by : Option (Bor (List ℕ)) → Result (PerAxis End) FigureRef
 frame_by None = Ok usual_frame
 frame_by (Some text) = frame_in text.now
 
--- ---- the figures of a machine: it takes up 5 mm/s at once, and starts at zero
+-- ---- what is used where nothing is chosen
 
+-- the speed that an acceleration reaches in 5 ms, in thousandths of a millimetre per minute
+abbrev pub reached_in_5_ms : ℕ → ℕ
+reached_in_5_ms acceleration = acceleration * 5 * 60 / 1000
+
+-- the corner speed: what the axis with the least acceleration reaches in 5 ms, and at least 2 mm/s
+abbrev pub usual_corner : PerAxis Acceleration → Speed
+usual_corner accelerations = speed_of (max (reached_in_5_ms (least accelerations)) 120000)
+
+-- the figures of a machine with this corner speed, the same jump, a ring of 256 commands and arcs
+-- at their feed. It starts at zero
 abbrev pub figures_by : StepsPerMillimetre → PerAxis Length → PerAxis Speed →
     PerAxis Acceleration → PerAxis End → Figures
 figures_by steps travel feed acceleration zero =
@@ -96,12 +106,12 @@ figures_by steps travel feed acceleration zero =
       travel = travel;
       feed = feed;
       acceleration = acceleration;
-      corner = speed_of 300000;
-      jump = speed_of 0;
+      corner = usual_corner acceleration;
+      jump = None;
       arcs = None;
       ticks = None;
-      ring = None;
-      arc_feed = false;
+      ring = 256;
+      arc_feed = true;
       zero = zero;
       start = same_for_all (length_of 0);
       home28 = None;

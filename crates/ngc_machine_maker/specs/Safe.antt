@@ -7,7 +7,7 @@ use Rattle.ngc_machine_maker.specs.declared.figures.Figures.{Figures}
 use Rattle.ngc_machine_maker.specs.declared.figures.Length.{Length}
 use Rattle.ngc_machine_maker.specs.declared.rates.Rates.{Rates}
 use Rattle.ngc_machine_maker.specs.declared.scale.Scale.{Scale}
-use Rattle.ngc_machine_maker.specs.Formulas.{arcs_of}
+use Rattle.ngc_machine_maker.specs.Formulas.{arcs_of, jump_speed}
 
 -- a number of steps is no longer than an amount of nanometres over a divisor, with the file's step
 -- and with the motor's
@@ -43,7 +43,7 @@ IsFollowedBy scale ticks change a = IsNoGreaterAcceleration scale ticks change a
 pub record AreSafe (scale : Scale) (rates : Rates) (f : Figures) : Type 0 where
   pub feed : AreNoFaster scale rates.ticks rates.axis_rate f.feed
   pub corner : IsNoFaster scale rates.ticks rates.corner f.corner
-  pub jump : IsNoFaster scale rates.ticks rates.jump f.jump
+  pub jump : IsNoFaster scale rates.ticks rates.jump (jump_speed f)
   pub x_follows : IsFollowedBy scale rates.ticks rates.change f.acceleration.x
   pub y_follows : IsFollowedBy scale rates.ticks rates.change f.acceleration.y
   pub z_follows : IsFollowedBy scale rates.ticks rates.change f.acceleration.z

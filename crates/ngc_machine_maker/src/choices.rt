@@ -10,20 +10,20 @@ use crate::refusal::{Field, FigureRefusal, Stop};
 /// The texts of the optional options.
 #[derive(Clone, Copy)]
 pub struct Choices<'a> {
-    /// The speed that an axis may take up at once, in millimetres per second. `None`: 5.
+    /// The speed that an axis may take up at once, in millimetres per second. `None`: what the axis
+    /// with the least acceleration reaches in 5 ms, and at least 2.
     pub corner: Option<&'a [u8]>,
     /// The greatest change of an axis' speed where two motions meet, in millimetres per second.
-    /// `None`: 0, so that only the corner speed counts.
+    /// `None`: the corner speed. With 0 only the corner speed counts.
     pub jump: Option<&'a [u8]>,
     /// The greatest acceleration towards the centre of an arc, in millimetres per second squared.
     /// `None`: the least of the axes' accelerations.
     pub arcs: Option<&'a [u8]>,
     /// Ticks per second. `None`: about two for each step of the fastest axis.
     pub ticks: Option<&'a [u8]>,
-    /// The greatest number of loaded commands that are not done, 16 to 1,024. `None`: the file has
-    /// no such key, which means 16.
+    /// The greatest number of loaded commands that are not done, 16 to 1,024. `None`: 256.
     pub ring: Option<&'a [u8]>,
-    /// Whether arcs run at their feed at every place.
+    /// Whether arcs run at their feed at every place. They do so by default.
     pub arc_feed: bool,
     /// The coordinates of the start in millimetres, as `0,0,-1`.
     pub start: Option<&'a [u8]>,
@@ -44,12 +44,24 @@ fn second_speed_in(field: Field, text: &[u8]) -> Result<Speed, FigureRefusal>
     }
 }
 
-fn speed_by(field: Field, otherwise: Speed, text: Option<&[u8]>) -> Result<Speed, FigureRefusal>
-    ensures { result ≡ spec.speed_by field otherwise text.entry }
+fn corner_by(otherwise: Speed, text: Option<&[u8]>) -> Result<Speed, FigureRefusal>
+    ensures { result ≡ spec.corner_by otherwise text.entry }
 {
     match text {
         None => Ok(otherwise),
-        Some(text) => second_speed_in(field, text),
+        Some(text) => second_speed_in(Field::Corner, text),
+    }
+}
+
+fn jump_by(otherwise: Option<Speed>, text: Option<&[u8]>) -> Result<Option<Speed>, FigureRefusal>
+    ensures { result ≡ spec.jump_by otherwise text.entry }
+{
+    match text {
+        None => Ok(otherwise),
+        Some(text) => {
+            let speed = second_speed_in(Field::Jump, text)?;
+            Ok(Some(speed))
+        }
     }
 }
 
@@ -94,16 +106,16 @@ fn ticks_by(otherwise: Option<u32>, text: Option<&[u8]>) -> Result<Option<u32>, 
     }
 }
 
-fn ring_in(text: &[u8]) -> Result<Option<u32>, FigureRefusal>
+fn ring_in(text: &[u8]) -> Result<u32, FigureRefusal>
     ensures { result ≡ spec.ring_in text.now }
 {
     match number_in(text, 0) {
         None => Err(FigureRefusal::Unread(Field::Ring)),
-        Some(ring) => Ok(Some(ring)),
+        Some(ring) => Ok(ring),
     }
 }
 
-fn ring_by(otherwise: Option<u32>, text: Option<&[u8]>) -> Result<Option<u32>, FigureRefusal>
+fn ring_by(otherwise: u32, text: Option<&[u8]>) -> Result<u32, FigureRefusal>
     ensures { result ≡ spec.ring_by otherwise text.entry }
 {
     match text {
@@ -205,8 +217,8 @@ impl Figures {
     pub fn with_choices(&self, choices: &Choices<'_>) -> Result<Figures, FigureRefusal>
         ensures { result ≡ spec.chosen self.now choices.now }
     {
-        let corner = speed_by(Field::Corner, self.corner, choices.corner)?;
-        let jump = speed_by(Field::Jump, self.jump, choices.jump)?;
+        let corner = corner_by(self.corner, choices.corner)?;
+        let jump = jump_by(self.jump, choices.jump)?;
         let arcs = arcs_by(self.arcs, choices.arcs)?;
         let ticks = ticks_by(self.ticks, choices.ticks)?;
         let ring = ring_by(self.ring, choices.ring)?;

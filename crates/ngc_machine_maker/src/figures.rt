@@ -63,14 +63,15 @@ pub struct Figures {
     pub acceleration: PerAxis<Acceleration>,
     /// The speed that an axis may take up or lose at once.
     pub corner: Speed,
-    /// The greatest change of an axis' speed where two motions meet. 0: only `corner` counts.
-    pub jump: Speed,
+    /// The greatest change of an axis' speed where two motions meet. `None`: as `corner`. With 0 only
+    /// `corner` counts.
+    pub jump: Option<Speed>,
     /// The greatest acceleration towards the centre of an arc. `None`: the least of the axes'.
     pub arcs: Option<Acceleration>,
     /// Ticks per second. `None`: about two for each step of the fastest axis.
     pub ticks: Option<u32>,
-    /// The greatest number of loaded commands that are not done. `None`: the file has no such key.
-    pub ring: Option<u32>,
+    /// The greatest number of loaded commands that are not done.
+    pub ring: u32,
     /// Whether arcs run at their feed at every place.
     pub arc_feed: bool,
     pub zero: PerAxis<End>,

@@ -8,8 +8,8 @@ ghost use Rattle.ngc_text.specs.Written.{AppendsPrefix};
 ghost use Rattle.ngc_machine_maker.specs.Asked.{scale_in};
 ghost use Rattle.ngc_machine_maker.specs.File.{heading, direction_text, steps_text, errors_text};
 ghost use Rattle.ngc_machine_maker.specs.File.{scale_text, scale_after, step_lines, rate_line};
-ghost use Rattle.ngc_machine_maker.specs.File.{speed_lines, acceleration_lines, place_line};
-ghost use Rattle.ngc_machine_maker.specs.File.{ring_line, arc_feed_line, requested_lines, place_lines};
+ghost use Rattle.ngc_machine_maker.specs.File.{speed_lines, joint_lines, acceleration_lines, place_line};
+ghost use Rattle.ngc_machine_maker.specs.File.{corner_comment, jump_comment, ring_lines, arc_feed_comment, arc_feed_lines, place_lines};
 ghost use Rattle.ngc_machine_maker.specs.File.{file_text, notes_text};
 ghost use Rattle.ngc_machine_maker.specs.InFile.{AreInFile};
 ghost use Rattle.ngc_machine_maker.specs.Ranges.{IsScale};
@@ -142,15 +142,53 @@ fn add_rate(chunk: &mut Chunk, key: &[u8], numbers: &MachineNumbers, rate: u32)
 
 #[tactic(auto, unfolding(crate::specs::File::speed_lines))]
 fn add_speed_lines(chunk: &mut Chunk, numbers: &MachineNumbers)
-    requires room { length chunk.old + 1400 ≤ CHUNK_SIZE }
+    requires room { length chunk.old + 700 ≤ CHUNK_SIZE }
     requires numbers { AreInFile numbers.now }
     ensures text { chunk.new ≡ chunk.old ++ speed_lines numbers.now }
-    ensures short { length chunk.new ≤ length chunk.old + 1400 }
+    ensures short { length chunk.new ≤ length chunk.old + 700 }
 {
     let rates = Value::Rates(numbers.axis_rate);
     add_rate(chunk, b"max_rate", numbers, numbers.max_rate);
     add_line(chunk, b"axis_rate", rates, Remark::Speeds(speeds(numbers)));
+}
+
+#[tactic(auto, unfolding(crate::specs::File::corner_comment))]
+fn add_corner_comment(chunk: &mut Chunk)
+    requires { length chunk.old + 200 ≤ CHUNK_SIZE }
+    ensures text { chunk.new ≡ chunk.old ++ corner_comment }
+    ensures short { length chunk.new ≤ length chunk.old + 200 }
+{
+    chunk.add_text(
+        b"# `corner`: motions may meet at this speed at any angle. By default it is what the axis\n",
+    );
+    chunk.add_text(b"# with the least acceleration reaches in 5 ms, and at least 2 mm/s.\n");
+}
+
+#[tactic(auto, unfolding(crate::specs::File::jump_comment))]
+fn add_jump_comment(chunk: &mut Chunk)
+    requires { length chunk.old + 200 ≤ CHUNK_SIZE }
+    ensures text { chunk.new ≡ chunk.old ++ jump_comment }
+    ensures short { length chunk.new ≤ length chunk.old + 200 }
+{
+    chunk.add_text(
+        b"# `jump`: an axis may gain or lose this speed at once where motions meet. At the machine\n",
+    );
+    chunk.add_text(
+        b"# start with half of it, raise it until you hear lost steps, and keep two thirds.\n",
+    );
+}
+
+// Adds the keys of the speeds at which two motions may meet.
+#[tactic(auto, unfolding(crate::specs::File::joint_lines))]
+fn add_joint_lines(chunk: &mut Chunk, numbers: &MachineNumbers)
+    requires room { length chunk.old + 1100 ≤ CHUNK_SIZE }
+    requires numbers { AreInFile numbers.now }
+    ensures text { chunk.new ≡ chunk.old ++ joint_lines numbers.now }
+    ensures short { length chunk.new ≤ length chunk.old + 1100 }
+{
+    add_corner_comment(chunk);
     add_rate(chunk, b"corner", numbers, numbers.corner);
+    add_jump_comment(chunk);
     add_rate(chunk, b"jump", numbers, numbers.jump);
 }
 
@@ -177,36 +215,39 @@ fn add_acceleration_lines(chunk: &mut Chunk, numbers: &MachineNumbers)
     );
 }
 
-fn add_ring(chunk: &mut Chunk, ring: Option<u32>)
-    requires { length chunk.old + 330 ≤ CHUNK_SIZE }
-    ensures text { chunk.new ≡ chunk.old ++ ring_line ring }
-    ensures short { length chunk.new ≤ length chunk.old + 330 }
+#[tactic(auto, unfolding(crate::specs::File::ring_lines))]
+fn add_ring(chunk: &mut Chunk, ring: u32)
+    requires { length chunk.old + 430 ≤ CHUNK_SIZE }
+    ensures text { chunk.new ≡ chunk.old ++ ring_lines ring }
+    ensures short { length chunk.new ≤ length chunk.old + 430 }
 {
-    if let Some(commands) = ring {
-        let value = Value::Number(u64::from(commands));
-        add_line(chunk, b"ring", value, Remark::Ring);
-    }
+    let value = Value::Number(u64::from(ring));
+    chunk.add_text(
+        b"# `ring`: the controller looks ahead over this many. If short lines are slow, try 1024.\n",
+    );
+    add_line(chunk, b"ring", value, Remark::Ring);
+}
+
+#[tactic(auto, unfolding(crate::specs::File::arc_feed_comment))]
+fn add_arc_feed_comment(chunk: &mut Chunk)
+    requires { length chunk.old + 100 ≤ CHUNK_SIZE }
+    ensures text { chunk.new ≡ chunk.old ++ arc_feed_comment }
+    ensures short { length chunk.new ≤ length chunk.old + 100 }
+{
+    chunk.add_text(
+        b"# `arc_feed`: if arcs run roughly at the machine, try 0. Then they are slower.\n",
+    );
 }
 
 fn add_arc_feed(chunk: &mut Chunk, arc_feed: bool)
-    requires { length chunk.old + 330 ≤ CHUNK_SIZE }
-    ensures text { chunk.new ≡ chunk.old ++ arc_feed_line arc_feed }
-    ensures short { length chunk.new ≤ length chunk.old + 330 }
+    requires { length chunk.old + 430 ≤ CHUNK_SIZE }
+    ensures text { chunk.new ≡ chunk.old ++ arc_feed_lines arc_feed }
+    ensures short { length chunk.new ≤ length chunk.old + 430 }
 {
     if arc_feed {
+        add_arc_feed_comment(chunk);
         add_line(chunk, b"arc_feed", Value::Number(1), Remark::ArcFeed);
     }
-}
-
-// Adds the keys that are written only on request.
-#[tactic(auto, unfolding(crate::specs::File::requested_lines))]
-fn add_requested_lines(chunk: &mut Chunk, numbers: &MachineNumbers)
-    requires { length chunk.old + 660 ≤ CHUNK_SIZE }
-    ensures text { chunk.new ≡ chunk.old ++ requested_lines numbers.now }
-    ensures short { length chunk.new ≤ length chunk.old + 660 }
-{
-    add_ring(chunk, numbers.ring);
-    add_arc_feed(chunk, numbers.arc_feed);
 }
 
 // Adds the line of a key that is a place.
@@ -233,7 +274,7 @@ fn add_place_lines(chunk: &mut Chunk, numbers: &MachineNumbers)
 }
 
 fn add_file(chunk: &mut Chunk, numbers: &MachineNumbers, figures: &Figures)
-    requires room { length chunk.old + 6100 ≤ CHUNK_SIZE }
+    requires room { length chunk.old + 7000 ≤ CHUNK_SIZE }
     requires numbers { AreInFile numbers.now }
     requires scale { IsScale (scale_in numbers.now figures.now) }
     ensures { chunk.new ≡ chunk.old ++ file_text numbers.now figures.now }
@@ -242,8 +283,10 @@ fn add_file(chunk: &mut Chunk, numbers: &MachineNumbers, figures: &Figures)
     add_scale_after(chunk, b"# ", numbers, figures);
     add_step_lines(chunk, numbers);
     add_speed_lines(chunk, numbers);
+    add_joint_lines(chunk, numbers);
     add_acceleration_lines(chunk, numbers);
-    add_requested_lines(chunk, numbers);
+    add_ring(chunk, numbers.ring);
+    add_arc_feed(chunk, numbers.arc_feed);
     add_place_lines(chunk, numbers);
 }
 

@@ -1,5 +1,5 @@
 //! The numbers of a machine file.
-ghost use Rattle.std.specs.Prelude.{◌≡◌, IfOk, IfSome};
+ghost use Rattle.std.specs.Prelude.{◌≡◌, IfOk};
 ghost use Rattle.ngc_machine_maker.specs.Numbers.{numbers_of, placed, numbers_by, ring_of};
 ghost use Rattle.ngc_machine_maker.specs.Ranges.{IsScale, AreAllRates, AreTravels, AreStops, IsRing};
 ghost use Rattle.ngc_machine_maker.specs.InFile.{AreInFile, ArePlacesInFile, AreStepsWithin};
@@ -24,8 +24,7 @@ pub struct MachineNumbers {
     pub turn: u64,
     pub axis_rate: PerAxis<u32>,
     pub jump: u32,
-    /// `None`: the file has no such key.
-    pub ring: Option<u32>,
+    pub ring: u32,
     /// Whether the file has this key, with the value 1.
     pub arc_feed: bool,
     pub low: PerAxis<i64>,
@@ -77,15 +76,14 @@ fn steps_of(scale: &Scale, figures: &Figures) -> Result<Steps, FigureRefusal>
     })
 }
 
-fn ring_of(ring: Option<u32>) -> Result<Option<u32>, FigureRefusal>
+fn ring_of(ring: u32) -> Result<u32, FigureRefusal>
     ensures value { result ≡ ring_of ring }
-    ensures range { IfOk result (λ ring. IfSome ring IsRing) }
+    ensures range { IfOk result IsRing }
 {
-    match ring {
-        None => Ok(None),
-        Some(commands) if commands < 16 || commands > 1_024 => Err(FigureRefusal::Ring),
-        Some(commands) => Ok(Some(commands)),
+    if ring < 16 || ring > 1_024 {
+        return Err(FigureRefusal::Ring);
     }
+    Ok(ring)
 }
 
 /// Returns the numbers of a machine file for some figures, or the first refusal. The file's step is

@@ -5,6 +5,7 @@ ghost use Rattle.ngc_machine_maker.specs.Options as spec;
 
 use crate::decimal::{number_in, numbers_in};
 use crate::figures::{Acceleration, End, Figures, Length, PerAxis, Speed, StepsPerMillimetre};
+use crate::rates::least;
 use crate::refusal::{Field, FigureRefusal};
 
 /// The texts of the required options, and of the frame.
@@ -145,7 +146,16 @@ fn frame_by(text: Option<&[u8]>) -> Result<PerAxis<End>, FigureRefusal>
     }
 }
 
-/// Returns the figures of a machine that takes up 5 mm/s at once and starts at zero.
+// Returns the speed that the axis with the least acceleration reaches in 5 ms, and at least 2 mm/s.
+fn usual_corner(accelerations: &PerAxis<Acceleration>) -> Speed
+    ensures { result ≡ spec.usual_corner accelerations.now }
+{
+    let reached = u64::from(least(accelerations)) * 5 * 60 / 1_000;
+    speed_of(reached.max(120_000) as u32)
+}
+
+/// Returns the figures of a machine that starts at zero. It has the usual corner speed, the same
+/// jump, a ring of 256 commands, and arcs that run at their feed at every place.
 pub(crate) fn figures_by(
     steps: StepsPerMillimetre,
     travel: PerAxis<Length>,
@@ -160,12 +170,12 @@ pub(crate) fn figures_by(
         travel,
         feed,
         acceleration,
-        corner: speed_of(300_000),
-        jump: speed_of(0),
+        corner: usual_corner(&acceleration),
+        jump: None,
         arcs: None,
         ticks: None,
-        ring: None,
-        arc_feed: false,
+        ring: 256,
+        arc_feed: true,
         zero,
         start: PerAxis {
             x: length_of(0),

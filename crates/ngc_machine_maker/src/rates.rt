@@ -2,7 +2,7 @@
 ghost use Rattle.std.specs.Prelude.{◌≡◌, ◌+◌, ◌*◌, ◌/◌, ◌<◌, ◌≤◌, ◌^◌, min, max, IfOk};
 ghost use Rattle.ngc_machine_maker.specs.Formulas.{rate_of, change_of, turn_of, axis_rate};
 ghost use Rattle.ngc_machine_maker.specs.Formulas.{each_rate, fastest, least};
-ghost use Rattle.ngc_machine_maker.specs.Formulas.{chosen_ticks, ticks_of, corner_of, jump_of};
+ghost use Rattle.ngc_machine_maker.specs.Formulas.{chosen_ticks, ticks_of, corner_of, jump_of, jump_speed};
 ghost use Rattle.ngc_machine_maker.specs.Formulas.{limited_change, limited_turn, arcs_of};
 ghost use Rattle.ngc_machine_maker.specs.Formulas.{greatest_of, rates_of};
 ghost use Rattle.ngc_machine_maker.specs.Ranges.{IsScale, IsRate, AreRates, IsTurn, AreAllRates};
@@ -39,7 +39,8 @@ fn fastest(speeds: &PerAxis<Speed>) -> u32
         .max(speeds.z.micrometres_a_minute)
 }
 
-fn least(accelerations: &PerAxis<Acceleration>) -> u32
+/// Returns the least of three accelerations, in thousandths of a millimetre per second squared.
+pub(crate) fn least(accelerations: &PerAxis<Acceleration>) -> u32
     ensures { result ≡ least accelerations.now }
 {
     accelerations
@@ -148,14 +149,20 @@ fn corner_of(scale: &Scale, ticks: u32, most: u32, speed: Speed) -> Result<u32, 
     Ok(rate as u32)
 }
 
-fn jump_of(scale: &Scale, ticks: u32, speed: Speed) -> u32
+// Returns the rate of the jump: that of the corner, unless a speed is requested.
+fn jump_of(scale: &Scale, ticks: u32, corner: u32, figures: &Figures) -> u32
     requires scale { IsScale scale.now }
     requires ticks { IsRate ticks }
-    ensures value { result ≡ jump_of scale.now ticks speed }
+    requires corner { IsRate corner }
+    requires safe { IsNoFaster scale.now ticks corner figures.now.corner }
+    ensures value { result ≡ jump_of scale.now ticks corner figures.now.jump }
     ensures range { result ≤ 1000000 }
-    ensures safe { IsNoFaster scale.now ticks result speed }
+    ensures safe { IsNoFaster scale.now ticks result (jump_speed figures.now) }
 {
-    rate_of(scale, ticks, speed).min(GREATEST_RATE) as u32
+    match figures.jump {
+        None => corner,
+        Some(speed) => rate_of(scale, ticks, speed).min(GREATEST_RATE) as u32,
+    }
 }
 
 // Returns a change that the slowest axis can follow, at most a step per tick in each tick.
@@ -230,6 +237,6 @@ pub(crate) fn rates_of(scale: &Scale, figures: &Figures) -> Result<Rates, Figure
         change,
         corner,
         turn,
-        jump: jump_of(scale, ticks, figures.jump),
+        jump: jump_of(scale, ticks, corner, figures),
     })
 }
