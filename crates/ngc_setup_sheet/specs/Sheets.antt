@@ -111,6 +111,11 @@ abbrev pub origins_from : MachineFile → Reach → System → List Point3 → L
 origins_from m r s [] = []
 origins_from m r s (p ∷ ps) = origin_lines m r s p ++ origins_from m r (next_system s) ps
 
+-- without a jump the corner speed alone bounds where motions meet
+abbrev pub corner_notes : MachineFile → List Line
+corner_notes m =
+    line_where (m.jump == 0) (lines.CornerNote (millimetres_a_minute m m.corner))
+
 abbrev pub machine_warnings : MachineFile → List Line
 machine_warnings m =
     warned (is_odd_speed m) warnings.Speed
@@ -124,7 +129,7 @@ unfoldable pub machine_lines : MachineFile → Reach → List Line
 machine_lines m r =
     step_facts m ++ (jump_facts m ++ (rate_facts m ++ (ring_facts m ++ (arc_feed_facts m ++
     (changer_facts m ++ (machine_places m ++
-    (origins_from m r systems.First m.origins ++ machine_warnings m)))))))
+    (origins_from m r systems.First m.origins ++ (corner_notes m ++ machine_warnings m))))))))
 
 -- ---- fixtures
 

@@ -123,12 +123,18 @@ warning_remark w = codes "# Warning: " ++ warning_text w ++ codes "\n"
 abbrev pub bracketed : List ℕ → List ℕ
 bracketed name = if length name == 0 then [] else codes " (" ++ name ++ codes ")"
 
+-- the keys that let motions meet faster, in a file without them
+abbrev pub corner_note : ℕ → List ℕ
+corner_note speed = codes "note: motions meet at " ++ thousandths_text speed
+    ++ codes " mm/min at most, except lines in one direction: `jump`, `ring` and `arc_feed` in the machine file would make it faster (docs/RUNNING.md)\n"
+
 abbrev pub line_text : Line → List ℕ
 line_text lines.Machine = codes "machine\n"
 line_text (lines.Fixture n name) =
     codes "fixture " ++ decimal n ++ bracketed name ++ codes "\n"
 line_text (lines.Tool n name) = codes "tool " ++ decimal n ++ bracketed name ++ codes "\n"
 line_text (lines.Fact f figure) = fact_text f ++ figure_text figure ++ codes "\n"
+line_text (lines.CornerNote speed) = corner_note speed
 line_text (lines.Warning w) = codes "warning: " ++ warning_text w ++ codes "\n"
 line_text (lines.WarningFact w) = warning_object w
 line_text (lines.WarningRemark w) = warning_remark w

@@ -109,6 +109,9 @@ pub enum Line {
     /// The heading of the lines of the tool with this number and name.
     Tool(u32, Name),
     Fact(Fact, Figure),
+    /// The note that the corner speed alone bounds where motions meet, in thousandths of a millimetre
+    /// per minute.
+    CornerNote(u128),
     Warning(Warning),
     /// The warning as an object of a JSON document.
     WarningFact(Warning),

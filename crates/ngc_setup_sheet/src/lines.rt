@@ -7,7 +7,7 @@ ghost use Rattle.ngc_setup_sheet.specs.Reaches.{IsReach};
 ghost use Rattle.ngc_fixed_length.specs.declared.modes.System.TheVariants as systems;
 ghost use Rattle.ngc_setup_sheet.specs.declared.line.Figure.TheVariants as figures;
 ghost use Rattle.ngc_setup_sheet.specs.Sheets.{line_where, warned, from, axis_speed, step_facts};
-ghost use Rattle.ngc_setup_sheet.specs.Sheets.{jump_facts, ring_facts, arc_feed_facts, changer_facts, rate_facts, machine_places};
+ghost use Rattle.ngc_setup_sheet.specs.Sheets.{jump_facts, ring_facts, arc_feed_facts, changer_facts, rate_facts, machine_places, corner_notes};
 ghost use Rattle.ngc_setup_sheet.specs.Sheets.{is_zero, origin_lines, next_system, origins_from};
 ghost use Rattle.ngc_setup_sheet.specs.Sheets.{machine_warnings, machine_lines, fixture_facts};
 ghost use Rattle.ngc_setup_sheet.specs.Sheets.{fixture_lines, part_line, part_lines, tool_facts};
@@ -203,6 +203,15 @@ fn add_origin<A: Allocator>(
     }
 }
 
+fn add_corner_note<A: Allocator>(lines: &mut Lines, machine: &Machine<A>)
+    requires { array_vec_len lines.old < 48 }
+    ensures items { lines.new.items ≡ lines.old.items ++ corner_notes (file_of machine.now) }
+    ensures few { array_vec_len lines.new ≤ array_vec_len lines.old + 1 }
+{
+    let speed = millimetres_a_minute(machine, machine.corner);
+    add_where(lines, machine.jump == 0, Line::CornerNote(speed));
+}
+
 /// Returns the coordinate system that comes next in the machine file.
 fn next_system(system: System) -> System
     ensures { result ≡ next_system system }
@@ -277,6 +286,7 @@ pub(crate) fn machine_lines<A: Allocator>(machine: &Machine<A>, reach: &Reach) -
     add_changer(&mut lines, machine);
     add_all(&mut lines, &machine_places(machine));
     add_origins(&mut lines, machine, reach, &machine.origins);
+    add_corner_note(&mut lines, machine);
     warn_of_machine(&mut lines, machine);
     lines
 }

@@ -7,7 +7,7 @@ ghost use Rattle.ngc_setup_sheet.specs.declared.line.Warning.TheVariants as warn
 ghost use Rattle.ngc_setup_sheet.specs.Spelling.{span_text, place_text};
 ghost use Rattle.ngc_setup_sheet.specs.Spelling.{system_text, origin_text, fact_text};
 ghost use Rattle.ngc_setup_sheet.specs.Spelling.{figure_text, warning_text};
-ghost use Rattle.ngc_setup_sheet.specs.Spelling.{bracketed, line_text};
+ghost use Rattle.ngc_setup_sheet.specs.Spelling.{bracketed, corner_note, line_text};
 
 use crate::line::{Axis, Fact, Figure, Line, Span, Warning};
 use ngc_fixed_length::{Point3, System};
@@ -223,6 +223,14 @@ fn say_heading<W: Sink>(kind: &[u8], number: u128, name: &Name, page: &mut Page,
     say!(page, output; b"\n");
 }
 
+/// Says the note on a machine file without a jump.
+fn say_corner_note<W: Sink>(speed: u128, page: &mut Page, output: &mut W)
+    ensures { Says (W.written output.old) (W.written output.new)
+        (W.failures output.old) (W.failures output.new) page.old page.new (corner_note speed) }
+{
+    say!(page, output; b"note: motions meet at ", Part::Thousandths(speed), b" mm/min at most, except lines in one direction: `jump`, `ring` and `arc_feed` in the machine file would make it faster (docs/RUNNING.md)\n");
+}
+
 /// Says a line.
 pub(crate) fn say_line<W: Sink>(line: &Line, page: &mut Page, output: &mut W)
     ensures { Says (W.written output.old) (W.written output.new)
@@ -241,6 +249,7 @@ pub(crate) fn say_line<W: Sink>(line: &Line, page: &mut Page, output: &mut W)
             say_figure(figure, page, output);
             say!(page, output; b"\n");
         }
+        Line::CornerNote(speed) => say_corner_note(*speed, page, output),
         Line::Warning(told) => say_warning(b"warning: ", told, b"\n", page, output),
         Line::WarningFact(told) => say_warning(
             b",\n{\"fact\":\"warning\",\"text\":\"",

@@ -40,6 +40,7 @@ fn is_warning(line: &Line) -> bool
         | Line::Fixture(..)
         | Line::Tool(..)
         | Line::Fact(_, _)
+        | Line::CornerNote(_)
         | Line::WarningFact(_)
         | Line::WarningRemark(_) => false,
     }
@@ -54,6 +55,7 @@ fn as_fact(line: &Line) -> Line
         | Line::Fixture(..)
         | Line::Tool(..)
         | Line::Fact(_, _)
+        | Line::CornerNote(_)
         | Line::WarningFact(_)
         | Line::WarningRemark(_) => *line,
     }
@@ -68,6 +70,7 @@ fn as_remark(line: &Line) -> Line
         | Line::Fixture(..)
         | Line::Tool(..)
         | Line::Fact(_, _)
+        | Line::CornerNote(_)
         | Line::WarningFact(_)
         | Line::WarningRemark(_) => *line,
     }
