@@ -7,9 +7,3 @@ pub five_added : (old a b c d e p q r s t : List ℕ)
     → e ≡ old ++ (p ++ q ++ r ++ s ++ t)
 five_added old a b c d e p q r s t ha hb hc hd he =
     he ∙ ap (λ l. l ++ t) (hd ∙ ap (λ l. l ++ s) (hc ∙ ap (λ l. l ++ r) (hb ∙ ap (λ l. l ++ q) ha))) ∙ simp append_assoc
-
-pub seven_added : (old a b c d e f g p q r s t u v : List ℕ)
-    → a ≡ old ++ p → b ≡ a ++ q → c ≡ b ++ r → d ≡ c ++ s → e ≡ d ++ t → f ≡ e ++ u → g ≡ f ++ v
-    → g ≡ old ++ (p ++ q ++ r ++ s ++ t ++ u ++ v)
-seven_added old a b c d e f g p q r s t u v ha hb hc hd he hf hg =
-    hg ∙ ap (λ l. l ++ v) (hf ∙ ap (λ l. l ++ u) (five_added old a b c d e p q r s t ha hb hc hd he)) ∙ simp append_assoc

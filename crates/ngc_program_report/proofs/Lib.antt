@@ -1,5 +1,7 @@
 -- A text that is written in pieces, from the text of each piece.
 pub mod WrittenLaws
+-- Texts that are written in order.
+pub mod WritingLaws
 -- Texts that are added in order.
 pub mod JoinedTexts
 -- Times of uses are written in order.

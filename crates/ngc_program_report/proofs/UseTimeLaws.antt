@@ -1,5 +1,5 @@
 -- Times of uses are written in order.
-use Rattle.std.proofs.Common.{◌≡◌, ℕ, ◌*◌, ◌/◌, ◌%◌, List, [], ◌∷◌, ◌++◌, Option, codes, ap, ap₂, refl, subst, sym, ◌∙◌}
+use Rattle.std.proofs.Common.{◌≡◌, ℕ, ◌*◌, ◌/◌, ◌%◌, List, [], ◌∷◌, ◌++◌, Option, codes, ap, ap₂, subst, sym, ◌∙◌}
 use Rattle.std.specs.Prelude.{decimal}
 use Rattle.std.proofs.KnownBytes.{Appends-nil}
 use Rattle.std.proofs.lemmas.List.{append_assoc, append-nil}
@@ -11,9 +11,13 @@ use Rattle.ngc_report.specs.Words.{tool_text}
 use Rattle.ngc_report.specs.declared.form.Form.{Form}
 use Rattle.ngc_report.specs.declared.form.Form.TheVariants.{Words, Json}
 use Rattle.ngc_report.specs.declared.uses.ToolUse.{ToolUse}
-use Rattle.ngc_program_report.specs.Times.{clock_text, three_digits, tool_value, use_time, use_times}
+use Rattle.ngc_program_report.specs.Times.{tool_value, use_time, use_times}
+use Rattle.ngc_sentences.proofs.Said.{says_as}
+use Rattle.ngc_sentences.specs.Parts.{clock_text, three_digits}
+use Rattle.ngc_sentences.specs.Saying.{Says}
+use Rattle.ngc_sentences.specs.declared.page.Page.{Page}
 use Rattle.ngc_program_report.specs.declared.run_time.RunTime.{RunTime}
-use Rattle.ngc_program_report.proofs.WrittenLaws.{appends_as, begins_as, begins_first, begins_last}
+use Rattle.ngc_program_report.proofs.WrittenLaws.{begins_first, begins_last}
 
 -- a prefix of a text is written, and the rest remains
 pub record IsLeft (old now : Option (List ℕ)) (left all : List ℕ) : Type 0 where
@@ -58,15 +62,9 @@ same_time Json tool a b same even =
     ap₂ (λ x y. codes ",\n{\"fact\":\"use_time\",\"tool\":" ++ tool_value tool ++ codes ",\"ticks\":" ++ decimal x ++ codes ",\"seconds\":"
     ++ (decimal (x / y) ++ codes "." ++ three_digits (x % y * 1000 / y)) ++ codes "}") same even
 
-pub time_appended : (old new : Option (List ℕ)) (form : Form) (tool : Option Tool) (a b : RunTime) → Appends old new (use_time form tool a) →
-    a.ticks ≡ b.ticks → a.ticks_per_second ≡ b.ticks_per_second →
-    Appends old new (use_time form tool b)
-time_appended old new form tool a b wrote same even = appends_as old new (use_time form tool a) (use_time form tool b) (same_time form tool a b same even) wrote
-
-pub time_begun : (old new : Option (List ℕ)) (form : Form) (tool : Option Tool) (a b : RunTime) → AppendsPrefix old new (use_time form tool a) →
-    a.ticks ≡ b.ticks → a.ticks_per_second ≡ b.ticks_per_second →
-    AppendsPrefix old new (use_time form tool b)
-time_begun old new form tool a b wrote same even = begins_as old new (use_time form tool a) (use_time form tool b) (same_time form tool a b same even) wrote
+pub time_said : {old new : Option (List ℕ)} {n m : ℕ} {p q : Page} (form : Form) (tool : Option Tool) (a b : RunTime) →
+    Says old new n m p q (use_time form tool a) → a.ticks ≡ b.ticks → a.ticks_per_second ≡ b.ticks_per_second → Says old new n m p q (use_time form tool b)
+time_said {old} {new} {n} {m} {p} {q} form tool a b said same even = says_as said (same_time form tool a b same even)
 
 -- ---- the lines
 
@@ -74,13 +72,3 @@ pub next_time : (form : Form) (whole : RunTime) (us : List ToolUse) (u : ToolUse
     ns ≡ n ∷ later →
     use_times form whole us ns ≡ use_time form u.tool (record whole { ticks = n }) ++ use_times form whole more later
 next_time form whole us u more ns n later is_use is_ticks = ap₂ (λ x y. use_times form whole x y) is_use is_ticks
-
-pub no_use : (form : Form) (whole : RunTime) (us : List ToolUse) (ns : List ℕ) → us ≡ [] → use_times form whole us ns ≡ []
-no_use form whole us ns is = ap (λ x. use_times form whole x ns) is
-
-no_ticks_of : (form : Form) (whole : RunTime) (us : List ToolUse) → use_times form whole us [] ≡ []
-no_ticks_of form whole [] = refl
-no_ticks_of form whole (u ∷ us) = refl
-
-pub no_ticks : (form : Form) (whole : RunTime) (us : List ToolUse) (ns : List ℕ) → ns ≡ [] → use_times form whole us ns ≡ []
-no_ticks form whole us ns is = ap (λ x. use_times form whole us x) is ∙ no_ticks_of form whole us

@@ -1,4 +1,5 @@
 -- Reports of programs.
+pub mod Writing
 pub mod Times
 pub mod Met
 pub mod Coordinates

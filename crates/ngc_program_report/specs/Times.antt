@@ -7,20 +7,9 @@ use Rattle.ngc_report.specs.Uses.{moves, tool_uses, use_of}
 use Rattle.ngc_report.specs.Words.{tool_text}
 use Rattle.ngc_report.specs.declared.form.Form.{Form}
 use Rattle.ngc_report.specs.declared.form.Form.TheVariants.{Words, Json}
+use Rattle.ngc_sentences.specs.Parts.{clock_text, three_digits}
 use Rattle.ngc_report.specs.declared.uses.ToolUse.{ToolUse}
 use Rattle.ngc_program_report.specs.declared.run_time.RunTime.{RunTime}
-
--- a number below 100, and one below 1000
-abbrev pub two_digits : ℕ → List ℕ
-two_digits n = decimal (n / 10) ++ decimal (n % 10)
-
-abbrev pub three_digits : ℕ → List ℕ
-three_digits n = decimal (n / 100) ++ two_digits (n % 100)
-
--- hours, minutes and seconds
-abbrev pub clock_text : ℕ → List ℕ
-clock_text seconds = decimal (seconds / 3600) ++ codes ":" ++ two_digits (seconds / 60 % 60)
-    ++ codes ":" ++ two_digits (seconds % 60)
 
 -- the whole seconds of this number of ticks, and the whole thousandths of the rest
 abbrev pub time_text : RunTime → List ℕ

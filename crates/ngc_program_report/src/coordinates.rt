@@ -1,13 +1,12 @@
 //! The motion that a report is about, in the program's coordinates.
-ghost use Rattle.std.specs.Prelude.{◌≡◌, OnOk, OnErr, slice_get};
-ghost use Rattle.std.specs.Io.KnownBytes.{Appends};
+ghost use Rattle.std.specs.Prelude.{◌≡◌, slice_get};
 ghost use Rattle.ngc_certificate_text.specs.Collects.{Collects};
 ghost use Rattle.ngc_collision.specs.Inside.{place_of};
 ghost use Rattle.ngc_commands.specs.Movement.{start_of};
 ghost use Rattle.ngc_text.specs.Failures.{CountsFailure};
-ghost use Rattle.ngc_text.specs.Written.{AppendsPrefix};
 ghost use Rattle.ngc_program_report.specs.Coordinates.{coordinates_text, motion_text, refused_path};
 ghost use Rattle.ngc_program_report.specs.Coordinates.{line_of, way_of};
+ghost use Rattle.ngc_program_report.specs.Writing.{Writes};
 
 use ngc_collision::Place;
 use ngc_commands::{Action, Command, Way};
@@ -113,13 +112,8 @@ pub(crate) fn write_coordinates<W: Sink>(
     way: &Option<Way>,
     output: &mut W,
 ) -> Result<(), WriteFault>
-    ensures ok { OnOk result
-        (Appends (W.written output.old) (W.written output.new)
-        (coordinates_text form origins.now frame.now way.now)) }
-    ensures fault { OnErr result
-        (AppendsPrefix (W.written output.old) (W.written output.new)
-        (coordinates_text form origins.now frame.now way.now)) }
-    ensures counts { CountsFailure (W.failures output.old) (W.failures output.new) result }
+    ensures { Writes (W.written output.old) (W.written output.new) (W.failures output.old)
+        (W.failures output.new) result (coordinates_text form origins.now frame.now way.now) }
 {
     let mut chunk = Chunk::new();
     match collect_coordinates(&mut chunk, form, origins, frame, way, output) {

@@ -1,22 +1,24 @@
 //! How all faults of a program are written.
-ghost use Rattle.std.specs.Prelude.{◌≡◌, ◌+◌, ◌≤◌, ◌++◌, [], length, OnOk, OnErr, true, false};
+ghost use Rattle.std.specs.Prelude.{◌≡◌, ◌++◌, [], OnOk, OnErr, true, false};
 ghost use Rattle.std.specs.List.{list_any};
 ghost use Rattle.std.specs.Io.KnownBytes.{Appends};
-ghost use Rattle.ngc_text.specs.Collected.{CHUNK_SIZE};
 ghost use Rattle.ngc_text.specs.Failures.{CountsFailure};
 ghost use Rattle.ngc_text.specs.Written.{AppendsPrefix};
-ghost use Rattle.ngc_report.specs.Forms.{opening};
+ghost use Rattle.ngc_sentences.specs.Parts.{part_text};
+ghost use Rattle.ngc_sentences.specs.Saying.{Says};
 ghost use Rattle.ngc_program_report.specs.FaultTexts.{earlier_words, delete_words, fault_words};
 ghost use Rattle.ngc_program_report.specs.FaultTexts.{line_value, truth, fault_fact, fault_line};
 ghost use Rattle.ngc_program_report.specs.FaultTexts.{fault_quote, same_line, is_same, fault_text};
 ghost use Rattle.ngc_program_report.specs.FaultTexts.{list_text, faulty_line, faults_text};
+ghost use Rattle.ngc_program_report.specs.Writing.{Writes};
 
 use crate::refusal_writer::refused_line;
 use crate::report_frame::{opening, write_ending};
 use ngc_all_faults::TextFault;
 use ngc_line_reader::ReadFault;
 use ngc_report::{Form, write_named_source, write_source_line};
-use ngc_text::{Chunk, Sink, WriteFault, write_all};
+use ngc_sentences::{Page, Part, say};
+use ngc_text::{Sink, WriteFault, write_all};
 
 // Writes the line of a fault, with a mark below its column or word.
 fn write_quote<W: Sink>(
@@ -25,13 +27,8 @@ fn write_quote<W: Sink>(
     fault: &TextFault,
     output: &mut W,
 ) -> Result<(), WriteFault>
-    ensures ok { OnOk result
-        (Appends (W.written output.old) (W.written output.new)
-        (fault_quote form text.now fault.now)) }
-    ensures fault { OnErr result
-        (AppendsPrefix (W.written output.old) (W.written output.new)
-        (fault_quote form text.now fault.now)) }
-    ensures counts { CountsFailure (W.failures output.old) (W.failures output.new) result }
+    ensures { Writes (W.written output.old) (W.written output.new) (W.failures output.old)
+        (W.failures output.new) result (fault_quote form text.now fault.now) }
 {
     match fault {
         TextFault::Unread(ReadFault::Line(line, fault)) => {
@@ -44,81 +41,87 @@ fn write_quote<W: Sink>(
     }
 }
 
-fn earlier_words(earlier: bool) -> &'static [u8]
-    ensures text { result.now ≡ earlier_words earlier }
-    ensures short { length result.now ≤ 40 }
+fn earlier_words(earlier: bool) -> Part<'static>
+    ensures { part_text result ≡ earlier_words earlier }
 {
     if earlier {
-        b", after earlier faults"
+        Part::Text(b", after earlier faults")
     } else {
-        b""
+        Part::Text(b"")
     }
 }
 
-fn delete_words(only_on: bool) -> &'static [u8]
-    ensures text { result.now ≡ delete_words only_on }
-    ensures short { length result.now ≤ 40 }
+fn delete_words(only_on: bool) -> Part<'static>
+    ensures { part_text result ≡ delete_words only_on }
 {
     if only_on {
-        b", with block delete on"
+        Part::Text(b", with block delete on")
     } else {
-        b""
+        Part::Text(b"")
     }
 }
 
-fn truth(holds: bool) -> &'static [u8]
-    ensures text { result.now ≡ truth holds }
-    ensures short { length result.now ≤ 40 }
+fn truth(holds: bool) -> Part<'static>
+    ensures { part_text result ≡ truth holds }
 {
-    if holds { b"true" } else { b"false" }
+    if holds {
+        Part::Text(b"true")
+    } else {
+        Part::Text(b"false")
+    }
 }
 
 #[tactic(auto, unfolding(crate::specs::FaultTexts::line_value))]
-fn add_line(chunk: &mut Chunk, line: Option<u32>)
-    requires { length chunk.old + 100 ≤ CHUNK_SIZE }
-    ensures text { chunk.new ≡ chunk.old ++ line_value line }
-    ensures short { length chunk.new ≤ length chunk.old + 40 }
+fn line_value(line: Option<u32>) -> Part<'static>
+    ensures { part_text result ≡ line_value line }
 {
     match line {
-        None => chunk.add_text(b"null"),
-        Some(line) => chunk.add_number(line),
+        None => Part::Text(b"null"),
+        Some(line) => Part::Number(u128::from(line)),
     }
 }
 
-fn words_of(number: u16, earlier: bool, only_on: bool) -> Chunk
-    ensures { result ≡ fault_words number earlier only_on }
+fn say_words<W: Sink>(number: u16, earlier: bool, only_on: bool, page: &mut Page, output: &mut W)
+    ensures { Says (W.written output.old) (W.written output.new)
+        (W.failures output.old) (W.failures output.new) page.old page.new
+        (fault_words number earlier only_on) }
 {
-    let mut chunk = Chunk::new();
-    chunk.add_text(b"Fault ");
-    chunk.add_number(number);
-    chunk.add_text(earlier_words(earlier));
-    chunk.add_text(delete_words(only_on));
-    chunk.add_text(b".\n");
-    chunk
+    say!(page, output; b"Fault ", Part::Number(u128::from(number)), earlier_words(earlier), delete_words(only_on), b".\n");
 }
 
-fn fact_of(line: Option<u32>, number: u16, earlier: bool, only_on: bool) -> Chunk
-    ensures { result ≡ fault_fact line number earlier only_on }
+fn say_fact<W: Sink>(
+    line: Option<u32>,
+    number: u16,
+    earlier: bool,
+    only_on: bool,
+    page: &mut Page,
+    output: &mut W,
+)
+    ensures { Says (W.written output.old) (W.written output.new)
+        (W.failures output.old) (W.failures output.new) page.old page.new
+        (fault_fact line number earlier only_on) }
 {
-    let mut chunk = Chunk::new();
-    chunk.add_text(b",\n{\"fact\":\"fault_in\",\"line\":");
-    add_line(&mut chunk, line);
-    chunk.add_text(b",\"number\":");
-    chunk.add_number(number);
-    chunk.add_text(b",\"after_earlier_faults\":");
-    chunk.add_text(truth(earlier));
-    chunk.add_text(b",\"only_with_block_delete\":");
-    chunk.add_text(truth(only_on));
-    chunk.add_text(b"}");
-    chunk
+    say!(page, output; b",\n{\"fact\":\"fault_in\",\"line\":", line_value(line), b",\"number\":", Part::Number(u128::from(number)), b",\"after_earlier_faults\":", truth(earlier), b",\"only_with_block_delete\":", truth(only_on), b"}");
 }
 
-fn fault_line(form: Form, fault: &TextFault, earlier: bool, only_on: bool) -> Chunk
-    ensures { result ≡ fault_line form fault.now earlier only_on }
+// Says the number of a fault. The flags are whether others come before it, and whether it occurs
+// only with block delete on.
+fn say_fault<W: Sink>(
+    form: Form,
+    fault: &TextFault,
+    earlier: bool,
+    only_on: bool,
+    page: &mut Page,
+    output: &mut W,
+)
+    ensures { Says (W.written output.old) (W.written output.new)
+        (W.failures output.old) (W.failures output.new) page.old page.new
+        (fault_line form fault.now earlier only_on) }
 {
+    let number = fault.number();
     match form {
-        Form::Words => words_of(fault.number(), earlier, only_on),
-        Form::Json => fact_of(fault.line(), fault.number(), earlier, only_on),
+        Form::Words => say_words(number, earlier, only_on, page, output),
+        Form::Json => say_fact(fault.line(), number, earlier, only_on, page, output),
     }
 }
 
@@ -130,16 +133,14 @@ fn write_fault<W: Sink>(
     earlier: bool,
     output: &mut W,
 ) -> Result<(), WriteFault>
-    ensures ok { OnOk result
-        (Appends (W.written output.old) (W.written output.new)
-        (fault_quote form text.now fault.now ++ fault_line form fault.now earlier only_on)) }
-    ensures fault { OnErr result
-        (AppendsPrefix (W.written output.old) (W.written output.new)
-        (fault_quote form text.now fault.now ++ fault_line form fault.now earlier only_on)) }
-    ensures counts { CountsFailure (W.failures output.old) (W.failures output.new) result }
+    ensures { Writes (W.written output.old) (W.written output.new) (W.failures output.old)
+        (W.failures output.new) result
+        (fault_quote form text.now fault.now ++ fault_line form fault.now earlier only_on) }
 {
     write_quote(form, text, fault, output)?;
-    fault_line(form, fault, earlier, only_on).write_out(output)
+    let mut page = Page::new();
+    say_fault(form, fault, earlier, only_on, &mut page, output);
+    page.finish(output)
 }
 
 fn same_line(one: Option<u32>, other: Option<u32>) -> bool
@@ -174,13 +175,9 @@ fn write_new<W: Sink>(
     earlier: bool,
     output: &mut W,
 ) -> Result<(), WriteFault>
-    ensures ok { OnOk result
-        (Appends (W.written output.old) (W.written output.new)
-        (fault_text form text.now only_on others.now fault.now earlier)) }
-    ensures fault { OnErr result
-        (AppendsPrefix (W.written output.old) (W.written output.new)
-        (fault_text form text.now only_on others.now fault.now earlier)) }
-    ensures counts { CountsFailure (W.failures output.old) (W.failures output.new) result }
+    ensures { Writes (W.written output.old) (W.written output.new) (W.failures output.old)
+        (W.failures output.new) result
+        (fault_text form text.now only_on others.now fault.now earlier) }
 {
     if is_among(fault, others) {
         write_all(output, b"")
@@ -198,13 +195,9 @@ fn write_list<W: Sink>(
     faults: &[TextFault],
     output: &mut W,
 ) -> Result<(), WriteFault>
-    ensures ok { OnOk result
-        (Appends (W.written output.old) (W.written output.new)
-        (list_text form text.now only_on others.now false faults.now)) }
-    ensures fault { OnErr result
-        (AppendsPrefix (W.written output.old) (W.written output.new)
-        (list_text form text.now only_on others.now false faults.now)) }
-    ensures counts { CountsFailure (W.failures output.old) (W.failures output.new) result }
+    ensures { Writes (W.written output.old) (W.written output.new) (W.failures output.old)
+        (W.failures output.new) result
+        (list_text form text.now only_on others.now false faults.now) }
 {
     let mut earlier = false;
     let mut left = faults;

@@ -1,10 +1,6 @@
 //! How the reports of programs that fit are written.
-ghost use Rattle.std.specs.Prelude.{◌≡◌, ◌++◌, OnOk, OnErr, true, false};
-ghost use Rattle.std.specs.Io.KnownBytes.{Appends};
+ghost use Rattle.std.specs.Prelude.{◌≡◌, ◌++◌, true, false};
 ghost use Rattle.ngc_canonical.specs.Interpreter.{setup_of};
-ghost use Rattle.ngc_text.specs.Failures.{CountsFailure};
-ghost use Rattle.ngc_text.specs.Written.{AppendsPrefix};
-ghost use Rattle.ngc_machine_files.specs.Machine.{file_of};
 ghost use Rattle.ngc_machine_files.specs.Tools.{tools_of};
 ghost use Rattle.ngc_report.specs.Forms.{closing};
 ghost use Rattle.ngc_line_reader.specs.ProgramView.{text_in};
@@ -13,41 +9,47 @@ ghost use Rattle.ngc_program_report.specs.Coordinates.{history_of};
 ghost use Rattle.ngc_program_report.specs.Texts.{accepted_text, duration_text, is_on, remarks};
 ghost use Rattle.ngc_program_report.specs.Texts.{setting_text, shop_text, takes_line, tool_figures};
 ghost use Rattle.ngc_program_report.specs.Texts.{warnings};
+ghost use Rattle.ngc_program_report.specs.Times.{uses_text};
+ghost use Rattle.ngc_program_report.specs.Writing.{Writes};
 
 use crate::program_time::ProgramTime;
 use crate::report_frame::{closing, write_heading};
-use crate::report_time::add_takes_line;
-use crate::run_time::RunTime;
-use crate::use_times::write_use_times;
+use crate::report_time::say_takes_line;
+use crate::subject::{Execution, Fit, Heading, Subject};
+use crate::use_times::say_use_times;
 use ngc_certificate::Setting;
 use ngc_certificate_text::MotionList;
 use ngc_checker::Accepted;
 use ngc_commands::Command;
-use ngc_frames::FrameHistory;
 use ngc_line_reader::Program;
 use ngc_lowest_tips::{LowestTip, write_lowest_tips};
-use ngc_machine_files::{Machine, Tools};
+use ngc_machine_files::Tools;
 use ngc_origin_warnings::write_origin_warnings;
 use ngc_origins::Origins;
 use ngc_report::{Form, write_fit, write_warnings};
+use ngc_sentences::Page;
 use ngc_setup_sheet::{write_warning_facts, write_warnings as write_shop_warnings};
-use ngc_text::{Chunk, Sink, WriteFault, write_all};
+use ngc_text::{Sink, WriteFault, write_all};
 use ngc_tool_figures::write_tool_figures;
 use ngc_tool_warnings::write_tool_warnings;
 use ngc_word_warnings::write_word_warnings;
 use std::alloc::Allocator;
 
-fn write_takes_line<W: Sink>(form: Form, time: &RunTime, output: &mut W) -> Result<(), WriteFault>
-    ensures ok { OnOk result
-        (Appends (W.written output.old) (W.written output.new) (takes_line form time.now)) }
-    ensures fault { OnErr result
-        (AppendsPrefix (W.written output.old) (W.written output.new)
-        (takes_line form time.now)) }
-    ensures counts { CountsFailure (W.failures output.old) (W.failures output.new) result }
+// Writes the time of a program, and the time with each tool.
+fn write_times<A: Allocator, W: Sink>(
+    form: Form,
+    commands: &[Command],
+    time: &ProgramTime<A>,
+    output: &mut W,
+) -> Result<(), WriteFault>
+    ensures { Writes (W.written output.old) (W.written output.new) (W.failures output.old)
+        (W.failures output.new) result
+        (takes_line form time.now.whole ++ uses_text form commands.now time.now) }
 {
-    let mut chunk = Chunk::new();
-    add_takes_line(&mut chunk, form, time);
-    chunk.write_out(output)
+    let mut page = Page::new();
+    say_takes_line(form, &time.whole, &mut page, output);
+    say_use_times(form, commands, time, &mut page, output);
+    page.finish(output)
 }
 
 // Writes the figures of each tool that feeds.
@@ -58,13 +60,9 @@ fn write_figures<A: Allocator, W: Sink>(
     time: &ProgramTime<A>,
     output: &mut W,
 ) -> Result<(), WriteFault>
-    ensures ok { OnOk result
-        (Appends (W.written output.old) (W.written output.new)
-        (tool_figures form (tools_of tools.now) commands.now time.now)) }
-    ensures fault { OnErr result
-        (AppendsPrefix (W.written output.old) (W.written output.new)
-        (tool_figures form (tools_of tools.now) commands.now time.now)) }
-    ensures counts { CountsFailure (W.failures output.old) (W.failures output.new) result }
+    ensures { Writes (W.written output.old) (W.written output.new) (W.failures output.old)
+        (W.failures output.new) result
+        (tool_figures form (tools_of tools.now) commands.now time.now) }
 {
     let per_second = time.whole.ticks_per_second;
     let parts = time.parts.as_slice();
@@ -79,16 +77,11 @@ fn write_duration<A: Allocator, W: Sink>(
     time: &ProgramTime<A>,
     output: &mut W,
 ) -> Result<(), WriteFault>
-    ensures ok { OnOk result
-        (Appends (W.written output.old) (W.written output.new)
-        (duration_text form (tools_of tools.now) commands.now time.now)) }
-    ensures fault { OnErr result
-        (AppendsPrefix (W.written output.old) (W.written output.new)
-        (duration_text form (tools_of tools.now) commands.now time.now)) }
-    ensures counts { CountsFailure (W.failures output.old) (W.failures output.new) result }
+    ensures { Writes (W.written output.old) (W.written output.new) (W.failures output.old)
+        (W.failures output.new) result
+        (duration_text form (tools_of tools.now) commands.now time.now) }
 {
-    write_takes_line(form, &time.whole, output)?;
-    write_use_times(form, commands, time, output)?;
+    write_times(form, commands, time, output)?;
     write_figures(form, tools, commands, time, output)
 }
 
@@ -104,148 +97,113 @@ pub(crate) fn is_on(setting: Setting) -> bool
 
 // Writes the warnings at a setting.
 pub(crate) fn write_setting_warnings<A: Allocator, W: Sink>(
-    form: Form,
-    program: &Program<A>,
+    subject: &Subject<A>,
     setting: Setting,
-    machine: &Machine<A>,
-    tools: &Tools<A>,
-    history: &FrameHistory<A>,
-    commands: &[Command],
+    execution: &Execution<A>,
     output: &mut W,
 ) -> Result<(), WriteFault>
-    ensures ok { OnOk result
-        (Appends (W.written output.old) (W.written output.new)
-        (warnings form setting (setup_of machine.now tools.now)
-        (history_of history.now.start history.now.changes.items) commands.now
-        (text_in program.now).lines)) }
-    ensures fault { OnErr result
-        (AppendsPrefix (W.written output.old) (W.written output.new)
-        (warnings form setting (setup_of machine.now tools.now)
-        (history_of history.now.start history.now.changes.items) commands.now
-        (text_in program.now).lines)) }
-    ensures counts { CountsFailure (W.failures output.old) (W.failures output.new) result }
+    ensures { Writes (W.written output.old) (W.written output.new) (W.failures output.old)
+        (W.failures output.new) result
+        (warnings subject.now.form setting
+        (setup_of subject.now.machine.now subject.now.tools.now)
+        (history_of execution.now.history.now.start execution.now.history.now.changes.items)
+        execution.now.commands.now (text_in subject.now.program.now).lines) }
 {
-    let deletes = is_on(setting);
-    let table = tools.tools();
+    let (form, machine, table) = (subject.form, subject.machine, subject.tools.tools());
+    let (commands, deletes) = (execution.commands, is_on(setting));
     write_warnings(form, machine, commands, output)?;
     write_tool_warnings(form, machine, commands, output)?;
-    write_word_warnings(form, deletes, program, machine, table, commands, output)?;
-    write_origin_warnings(form, machine, table, history, commands, output)
+    write_word_warnings(
+        form,
+        deletes,
+        subject.program,
+        machine,
+        table,
+        commands,
+        output,
+    )?;
+    write_origin_warnings(form, machine, table, execution.history, commands, output)
 }
 
 // Writes the lowest heights and the warnings at a setting.
 fn write_remarks<A: Allocator, W: Sink>(
-    form: Form,
-    program: &Program<A>,
+    subject: &Subject<A>,
     setting: Setting,
-    machine: &Machine<A>,
-    tools: &Tools<A>,
-    history: &FrameHistory<A>,
-    commands: &[Command],
+    execution: &Execution<A>,
     tips: &[LowestTip],
     output: &mut W,
 ) -> Result<(), WriteFault>
     requires tips { tips.now
-        ≡ lowest_tips (tools_of tools.now) history.now.start history.now.changes.items
-        commands.now }
-    ensures ok { OnOk result
-        (Appends (W.written output.old) (W.written output.new)
-        (remarks form setting (setup_of machine.now tools.now)
-        (history_of history.now.start history.now.changes.items) commands.now
-        (text_in program.now).lines)) }
-    ensures fault { OnErr result
-        (AppendsPrefix (W.written output.old) (W.written output.new)
-        (remarks form setting (setup_of machine.now tools.now)
-        (history_of history.now.start history.now.changes.items) commands.now
-        (text_in program.now).lines)) }
-    ensures counts { CountsFailure (W.failures output.old) (W.failures output.new) result }
+        ≡ lowest_tips (tools_of subject.now.tools.now) execution.now.history.now.start
+        execution.now.history.now.changes.items execution.now.commands.now }
+    ensures { Writes (W.written output.old) (W.written output.new) (W.failures output.old)
+        (W.failures output.new) result
+        (remarks subject.now.form setting
+        (setup_of subject.now.machine.now subject.now.tools.now)
+        (history_of execution.now.history.now.start execution.now.history.now.changes.items)
+        execution.now.commands.now (text_in subject.now.program.now).lines) }
 {
-    write_lowest_tips(form, tips, output)?;
-    write_setting_warnings(
-        form, program, setting, machine, tools, history, commands, output,
-    )
+    write_lowest_tips(subject.form, tips, output)?;
+    write_setting_warnings(subject, setting, execution, output)
 }
 
 // Writes what fits at a setting, the time and the figures of the tools there, the lowest heights,
 // and the warnings.
 fn write_setting<A: Allocator, M: MotionList, W: Sink>(
-    form: Form,
-    origins: &Origins,
-    program: &Program<A>,
-    first: bool,
-    machine: &Machine<A>,
-    tools: &Tools<A>,
-    named: bool,
-    setting: Setting,
+    subject: &Subject<A>,
+    heading: Heading,
     commands: &[Command],
-    motions: &M,
-    time: &ProgramTime<A>,
-    history: &FrameHistory<A>,
-    tips: &[LowestTip],
+    fit: &Fit<A, M>,
     output: &mut W,
 ) -> Result<(), WriteFault>
-    requires tips { tips.now
-        ≡ lowest_tips (tools_of tools.now) history.now.start history.now.changes.items
-        commands.now }
-    ensures ok { OnOk result
-        (Appends (W.written output.old) (W.written output.new)
-        (setting_text form origins.now first named setting (setup_of machine.now tools.now)
-        commands.now (M.entries motions.now) time.now
-        (history_of history.now.start history.now.changes.items) (text_in program.now).lines)) }
-    ensures fault { OnErr result
-        (AppendsPrefix (W.written output.old) (W.written output.new)
-        (setting_text form origins.now first named setting (setup_of machine.now tools.now)
-        commands.now (M.entries motions.now) time.now
-        (history_of history.now.start history.now.changes.items) (text_in program.now).lines)) }
-    ensures counts { CountsFailure (W.failures output.old) (W.failures output.new) result }
+    requires tips { fit.now.tips.now
+        ≡ lowest_tips (tools_of subject.now.tools.now) fit.now.history.now.start
+        fit.now.history.now.changes.items commands.now }
+    ensures { Writes (W.written output.old) (W.written output.new) (W.failures output.old)
+        (W.failures output.new) result
+        (setting_text subject.now.form subject.now.origins.now heading.first heading.named
+        heading.setting (setup_of subject.now.machine.now subject.now.tools.now) commands.now
+        (M.entries fit.now.motions.now) fit.now.time.now
+        (history_of fit.now.history.now.start fit.now.history.now.changes.items)
+        (text_in subject.now.program.now).lines) }
 {
-    write_heading(form, origins, first, named, setting, output)?;
-    write_fit(form, machine, commands, motions, output)?;
-    write_duration(form, tools, commands, time, output)?;
-    write_remarks(
-        form, program, setting, machine, tools, history, commands, tips, output,
-    )
+    let form = subject.form;
+    write_heading(form, subject.origins, heading, output)?;
+    write_fit(form, subject.machine, commands, fit.motions, output)?;
+    write_duration(form, subject.tools, commands, fit.time, output)?;
+    let history = fit.history;
+    let execution = Execution { commands, history };
+    write_remarks(subject, heading.setting, &execution, fit.tips, output)
 }
 
 // Writes the warnings about the machine and its tools.
 pub(crate) fn write_shop<A: Allocator, W: Sink>(
-    form: Form,
-    machine: &Machine<A>,
-    tools: &Tools<A>,
+    subject: &Subject<A>,
     output: &mut W,
 ) -> Result<(), WriteFault>
-    ensures ok { OnOk result
-        (Appends (W.written output.old) (W.written output.new)
-        (shop_text form (setup_of machine.now tools.now))) }
-    ensures fault { OnErr result
-        (AppendsPrefix (W.written output.old) (W.written output.new)
-        (shop_text form (setup_of machine.now tools.now))) }
-    ensures counts { CountsFailure (W.failures output.old) (W.failures output.new) result }
+    ensures { Writes (W.written output.old) (W.written output.new) (W.failures output.old)
+        (W.failures output.new) result
+        (shop_text subject.now.form (setup_of subject.now.machine.now subject.now.tools.now)) }
 {
-    match form {
-        Form::Words => write_shop_warnings(machine, tools.tools(), output),
-        Form::Json => write_warning_facts(machine, tools.tools(), output),
+    match subject.form {
+        Form::Words => write_shop_warnings(subject.machine, subject.tools.tools(), output),
+        Form::Json => write_warning_facts(subject.machine, subject.tools.tools(), output),
     }
 }
 
 // Writes the warnings about the machine and its tools, and the end of a report of a program that
 // fits.
 fn write_fit_end<A: Allocator, W: Sink>(
-    form: Form,
-    machine: &Machine<A>,
-    tools: &Tools<A>,
+    subject: &Subject<A>,
     output: &mut W,
 ) -> Result<(), WriteFault>
-    ensures ok { OnOk result
-        (Appends (W.written output.old) (W.written output.new)
-        (shop_text form (setup_of machine.now tools.now) ++ closing form)) }
-    ensures fault { OnErr result
-        (AppendsPrefix (W.written output.old) (W.written output.new)
-        (shop_text form (setup_of machine.now tools.now) ++ closing form)) }
-    ensures counts { CountsFailure (W.failures output.old) (W.failures output.new) result }
+    ensures { Writes (W.written output.old) (W.written output.new) (W.failures output.old)
+        (W.failures output.new) result
+        (shop_text subject.now.form (setup_of subject.now.machine.now subject.now.tools.now)
+        ++ closing subject.now.form) }
 {
-    write_shop(form, machine, tools, output)?;
-    write_all(output, closing(form))
+    write_shop(subject, output)?;
+    write_all(output, closing(subject.form))
 }
 
 // Writes what fits at both settings, which have the same commands.
@@ -254,50 +212,36 @@ pub(crate) fn write_once<A: Allocator, M: MotionList, W: Sink>(
     origins: &Origins,
     program: &Program<A>,
     accepted: &Accepted<A>,
-    motions: &M,
-    time: &ProgramTime<A>,
-    history: &FrameHistory<A>,
-    tips: &[LowestTip],
+    fit: &Fit<A, M>,
     output: &mut W,
 ) -> Result<(), WriteFault>
-    requires tips { tips.now
-        ≡ lowest_tips accepted.now.tools history.now.start history.now.changes.items
-        accepted.now.off }
-    ensures ok { OnOk result
-        (Appends (W.written output.old) (W.written output.new)
+    requires tips { fit.now.tips.now
+        ≡ lowest_tips accepted.now.tools fit.now.history.now.start
+        fit.now.history.now.changes.items accepted.now.off }
+    ensures { Writes (W.written output.old) (W.written output.new) (W.failures output.old)
+        (W.failures output.new) result
         (accepted_text form origins.now false accepted.now
-        (record { off = M.entries motions.now; on = M.entries motions.now }) time.now time.now
-        (history_of history.now.start history.now.changes.items)
-        (history_of history.now.start history.now.changes.items)
-        (text_in program.now).lines)) }
-    ensures fault { OnErr result
-        (AppendsPrefix (W.written output.old) (W.written output.new)
-        (accepted_text form origins.now false accepted.now
-        (record { off = M.entries motions.now; on = M.entries motions.now }) time.now time.now
-        (history_of history.now.start history.now.changes.items)
-        (history_of history.now.start history.now.changes.items)
-        (text_in program.now).lines)) }
-    ensures counts { CountsFailure (W.failures output.old) (W.failures output.new) result }
+        (record { off = M.entries fit.now.motions.now; on = M.entries fit.now.motions.now })
+        fit.now.time.now fit.now.time.now
+        (history_of fit.now.history.now.start fit.now.history.now.changes.items)
+        (history_of fit.now.history.now.start fit.now.history.now.changes.items)
+        (text_in program.now).lines) }
 {
     let (machine, tools) = (accepted.machine(), accepted.tools());
-    let off = accepted.commands(false);
-    write_setting(
+    let subject = Subject {
         form,
         origins,
         program,
-        true,
         machine,
         tools,
-        false,
-        Setting::Off,
-        off,
-        motions,
-        time,
-        history,
-        tips,
-        output,
-    )?;
-    write_fit_end(form, machine, tools, output)
+    };
+    let heading = Heading {
+        first: true,
+        named: false,
+        setting: Setting::Off,
+    };
+    write_setting(&subject, heading, accepted.commands(false), fit, output)?;
+    write_fit_end(&subject, output)
 }
 
 // Writes what fits at each setting.
@@ -306,72 +250,44 @@ pub(crate) fn write_both<A: Allocator, M: MotionList, W: Sink>(
     origins: &Origins,
     program: &Program<A>,
     accepted: &Accepted<A>,
-    off_motions: &M,
-    on_motions: &M,
-    off_time: &ProgramTime<A>,
-    on_time: &ProgramTime<A>,
-    off_history: &FrameHistory<A>,
-    on_history: &FrameHistory<A>,
-    off_tips: &[LowestTip],
-    on_tips: &[LowestTip],
+    off: &Fit<A, M>,
+    on: &Fit<A, M>,
     output: &mut W,
 ) -> Result<(), WriteFault>
-    requires off_tips { off_tips.now
-        ≡ lowest_tips accepted.now.tools off_history.now.start off_history.now.changes.items
-        accepted.now.off }
-    requires on_tips { on_tips.now
-        ≡ lowest_tips accepted.now.tools on_history.now.start on_history.now.changes.items
-        accepted.now.on }
-    ensures ok { OnOk result
-        (Appends (W.written output.old) (W.written output.new)
+    requires off_tips { off.now.tips.now
+        ≡ lowest_tips accepted.now.tools off.now.history.now.start
+        off.now.history.now.changes.items accepted.now.off }
+    requires on_tips { on.now.tips.now
+        ≡ lowest_tips accepted.now.tools on.now.history.now.start
+        on.now.history.now.changes.items accepted.now.on }
+    ensures { Writes (W.written output.old) (W.written output.new) (W.failures output.old)
+        (W.failures output.new) result
         (accepted_text form origins.now true accepted.now
-        (record { off = M.entries off_motions.now; on = M.entries on_motions.now }) off_time.now
-        on_time.now (history_of off_history.now.start off_history.now.changes.items)
-        (history_of on_history.now.start on_history.now.changes.items)
-        (text_in program.now).lines)) }
-    ensures fault { OnErr result
-        (AppendsPrefix (W.written output.old) (W.written output.new)
-        (accepted_text form origins.now true accepted.now
-        (record { off = M.entries off_motions.now; on = M.entries on_motions.now }) off_time.now
-        on_time.now (history_of off_history.now.start off_history.now.changes.items)
-        (history_of on_history.now.start on_history.now.changes.items)
-        (text_in program.now).lines)) }
-    ensures counts { CountsFailure (W.failures output.old) (W.failures output.new) result }
+        (record { off = M.entries off.now.motions.now; on = M.entries on.now.motions.now })
+        off.now.time.now on.now.time.now
+        (history_of off.now.history.now.start off.now.history.now.changes.items)
+        (history_of on.now.history.now.start on.now.history.now.changes.items)
+        (text_in program.now).lines) }
 {
     let (machine, tools) = (accepted.machine(), accepted.tools());
-    let off = accepted.commands(false);
-    write_setting(
+    let subject = Subject {
         form,
         origins,
         program,
-        true,
         machine,
         tools,
-        true,
-        Setting::Off,
-        off,
-        off_motions,
-        off_time,
-        off_history,
-        off_tips,
-        output,
-    )?;
-    let on = accepted.commands(true);
-    write_setting(
-        form,
-        origins,
-        program,
-        false,
-        machine,
-        tools,
-        true,
-        Setting::On,
-        on,
-        on_motions,
-        on_time,
-        on_history,
-        on_tips,
-        output,
-    )?;
-    write_fit_end(form, machine, tools, output)
+    };
+    let heading = Heading {
+        first: true,
+        named: true,
+        setting: Setting::Off,
+    };
+    write_setting(&subject, heading, accepted.commands(false), off, output)?;
+    let heading = Heading {
+        first: false,
+        named: true,
+        setting: Setting::On,
+    };
+    write_setting(&subject, heading, accepted.commands(true), on, output)?;
+    write_fit_end(&subject, output)
 }

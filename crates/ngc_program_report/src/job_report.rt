@@ -1,7 +1,5 @@
 //! The reports of jobs that fit, and of those that don't.
-ghost use Rattle.std.specs.Prelude.{◌≡◌, ◌≤◌, List, is_some, Err, IfErr, IfOk, OnErr, OnOk};
-ghost use Rattle.std.specs.Prelude.{true};
-ghost use Rattle.std.specs.Io.KnownBytes.{Appends};
+ghost use Rattle.std.specs.Prelude.{◌≡◌, ◌≤◌, List, is_some, Err, IfErr, IfOk, true};
 ghost use Rattle.ngc_certificate.specs.Made.{IsMade};
 ghost use Rattle.ngc_certificate.specs.Uncleared.{AreUncleared};
 ghost use Rattle.ngc_certificate.specs.Valid.{IsValid};
@@ -11,8 +9,6 @@ ghost use Rattle.ngc_certificate.specs.Plans.{both_planned, plan_at};
 ghost use Rattle.ngc_certificate_text.specs.Certificate.{AreEntries};
 ghost use Rattle.ngc_checker.specs.Accepted.{commands_at};
 ghost use Rattle.ngc_job.specs.Job.{commands_in};
-ghost use Rattle.ngc_text.specs.Failures.{CountsFailure};
-ghost use Rattle.ngc_text.specs.Written.{AppendsPrefix};
 ghost use Rattle.ngc_line_reader.specs.Program.{Line};
 ghost use Rattle.ngc_line_reader.specs.ProgramView.{text_in};
 ghost use Rattle.ngc_lowest_tips.specs.Tips.{lowest_tips};
@@ -23,11 +19,13 @@ ghost use Rattle.ngc_program_report.specs.JobReports.{IsRefusalText, IsRefusalsT
 ghost use Rattle.ngc_program_report.specs.JobReports.{IsStartClear, OffBegins, OnBegins, Prints};
 ghost use Rattle.ngc_program_report.specs.JobReports.{first_text};
 ghost use Rattle.ngc_program_report.specs.Texts.{is_on};
+ghost use Rattle.ngc_program_report.specs.Writing.{Writes};
 
 use crate::fit_writer::{is_on, write_both, write_once};
 use crate::framed::{FramedJob, frames_or};
 use crate::refusal_writer::{is_start_refused, write_all_both, write_all_once, write_refused};
 use crate::request::ReportRequest;
+use crate::subject::{Execution, Fit, Subject};
 use crate::timing::{accept, time_of};
 use ngc_certificate::{
     MakeFault, MemoryFault, PlannedMotions, Plans, Setting, uncleared, uncleared_from,
@@ -123,17 +121,13 @@ pub fn report_fit<A: Allocator + Copy, W: Sink>(
     if !apart {
         let tips = tips_at(alloc, &off, &accepted, false)?;
         let motions = motions_at(&accepted, plans, Setting::Off);
-        write_once(
-            form,
-            origins,
-            program,
-            &accepted,
-            &motions,
-            &off_time,
-            &off,
-            tips.as_slice(),
-            output,
-        )?;
+        let fit = Fit {
+            history: &off,
+            motions: &motions,
+            time: &off_time,
+            tips: tips.as_slice(),
+        };
+        write_once(form, origins, program, &accepted, &fit, output)?;
         return Ok(());
     }
     let (on_time, accepted) = time_of(alloc, accepted, true)?;
@@ -142,21 +136,19 @@ pub fn report_fit<A: Allocator + Copy, W: Sink>(
     let on_tips = tips_at(alloc, on_history, &accepted, true)?;
     let off_motions = motions_at(&accepted, plans, Setting::Off);
     let on_motions = motions_at(&accepted, plans, Setting::On);
-    write_both(
-        form,
-        origins,
-        program,
-        &accepted,
-        &off_motions,
-        &on_motions,
-        &off_time,
-        &on_time,
-        &off,
-        on_history,
-        off_tips.as_slice(),
-        on_tips.as_slice(),
-        output,
-    )?;
+    let off_fit = Fit {
+        history: &off,
+        motions: &off_motions,
+        time: &off_time,
+        tips: off_tips.as_slice(),
+    };
+    let on_fit = Fit {
+        history: on_history,
+        motions: &on_motions,
+        time: &on_time,
+        tips: on_tips.as_slice(),
+    };
+    write_both(form, origins, program, &accepted, &off_fit, &on_fit, output)?;
     Ok(())
 }
 
@@ -167,33 +159,25 @@ fn report_first<A: Allocator, W: Sink>(
     setting: Setting,
     command: u32,
     history: &FrameHistory<A>,
-    form: Form,
-    origins: &Origins,
+    request: &ReportRequest,
     output: &mut W,
 ) -> Result<(), WriteFault>
-    ensures ok { OnOk result
-        (Appends (W.written output.old) (W.written output.new)
-        (first_text job.now form origins.now setting command (text_in program.now).lines
-        (history_of history.now.start history.now.changes.items))) }
-    ensures fault { OnErr result
-        (AppendsPrefix (W.written output.old) (W.written output.new)
-        (first_text job.now form origins.now setting command (text_in program.now).lines
-        (history_of history.now.start history.now.changes.items))) }
-    ensures counts { CountsFailure (W.failures output.old) (W.failures output.new) result }
+    ensures { Writes (W.written output.old) (W.written output.new) (W.failures output.old)
+        (W.failures output.new) result
+        (first_text job.now request.now.form request.now.origins setting command
+        (text_in program.now).lines (history_of history.now.start history.now.changes.items)) }
 {
-    write_refused(
-        form,
-        origins,
+    let subject = Subject {
+        form: request.form,
+        origins: &request.origins,
         program,
-        job.machine(),
-        job.tools(),
-        job.has_deleted_lines(),
-        setting,
-        job.commands(is_on(setting)),
-        command,
-        history,
-        output,
-    )
+        machine: job.machine(),
+        tools: job.tools(),
+    };
+    let commands = job.commands(is_on(setting));
+    let named = job.has_deleted_lines();
+    let execution = Execution { commands, history };
+    write_refused(&subject, named, setting, &execution, command, output)
 }
 
 // Returns the commands that aren't cleared with block delete off, if no certificate is made because
@@ -269,48 +253,37 @@ fn report_all<A: Allocator + Copy, W: Sink>(
         (W.written output.old) (W.written output.new) result }
     ensures counts { FailsByWriting result (W.failures output.old) (W.failures output.new) }
 {
-    let (form, cuts, origins) = (request.form, request.cuts, &request.origins);
     let job = &framed.job;
-    let machine = job.machine();
-    let tools = job.tools();
-    let off = job.commands(false);
+    let subject = Subject {
+        form: request.form,
+        origins: &request.origins,
+        program,
+        machine: job.machine(),
+        tools: job.tools(),
+    };
+    let off = Execution {
+        commands: job.commands(false),
+        history: &framed.off,
+    };
+    let cuts = request.cuts;
     let off_indices = match off_uncleared(alloc, job, setting, command, cuts) {
         Ok(indices) => indices,
         Err(_) => return Err(ReportFault::Memory),
     };
     if !job.has_deleted_lines() {
-        let indices = off_indices.as_slice();
-        write_all_once(
-            form,
-            origins,
-            program,
-            machine,
-            tools,
-            off,
-            indices,
-            &framed.off,
-            output,
-        )?;
+        write_all_once(&subject, &off, off_indices.as_slice(), output)?;
         return Ok(());
     }
     let on_indices = match on_uncleared(alloc, job, setting, command, cuts) {
         Ok(indices) => indices,
         Err(_) => return Err(ReportFault::Memory),
     };
-    write_all_both(
-        form,
-        origins,
-        program,
-        machine,
-        tools,
-        off,
-        off_indices.as_slice(),
-        &framed.off,
-        job.commands(true),
-        on_indices.as_slice(),
-        framed.frames(Setting::On),
-        output,
-    )?;
+    let on = Execution {
+        commands: job.commands(true),
+        history: framed.frames(Setting::On),
+    };
+    let (off_indices, on_indices) = (off_indices.as_slice(), on_indices.as_slice());
+    write_all_both(&subject, &off, off_indices, &on, on_indices, output)?;
     Ok(())
 }
 
@@ -347,8 +320,7 @@ pub fn report_refusal<A: Allocator + Copy, W: Sink>(
         setting,
         command,
         framed.frames(setting),
-        request.form,
-        &request.origins,
+        &request,
         output,
     )?;
     Ok(())

@@ -15,6 +15,8 @@ mod report_frame;
 mod report_time;
 mod request;
 mod run_time;
+mod subject;
+mod time_line;
 mod timing;
 mod use_times;
 
@@ -24,6 +26,6 @@ pub use job_report::{report_fit, report_refusal};
 pub use met::met_at;
 pub use refusal_writer::write_rejection;
 pub use report_frame::{opening, write_ending};
-pub use report_time::add_time_line;
 pub use request::ReportRequest;
 pub use run_time::RunTime;
+pub use time_line::add_time_line;

@@ -17,20 +17,23 @@ ghost use Rattle.ngc_report.specs.Scenes.{StandsAfter};
 ghost use Rattle.ngc_program_report.specs.Coordinates.{coordinates_text, history_of};
 ghost use Rattle.ngc_program_report.specs.Texts.{all_refusals, cause_text, command_refusal};
 ghost use Rattle.ngc_program_report.specs.Texts.{command_refusals, ending, first_of, is_on};
-ghost use Rattle.ngc_program_report.specs.Texts.{missing_at, missing_if, quoted_if, refusal_end, refusal_text};
-ghost use Rattle.ngc_program_report.specs.Texts.{refusals_text, refused_line, rejection_text};
-ghost use Rattle.ngc_program_report.specs.Texts.{setting_refusals, refused_command, refused_number};
+ghost use Rattle.ngc_program_report.specs.Texts.{missing_at, missing_if, quoted_if, refusal_end};
+ghost use Rattle.ngc_program_report.specs.Texts.{refusal_text, refusals_text, refused_line};
+ghost use Rattle.ngc_program_report.specs.Texts.{rejection_text, refused_command, refused_number};
+ghost use Rattle.ngc_program_report.specs.Texts.{setting_refusals, shop_text};
+ghost use Rattle.ngc_program_report.specs.Writing.{Writes};
 
 use crate::coordinates::{collect_coordinates, line_of, refused_path, write_coordinates};
 use crate::fit_writer::{is_on, write_setting_warnings, write_shop};
 use crate::met::met_at;
 use crate::report_frame::{write_ending, write_heading};
+use crate::subject::{Execution, Heading, Subject};
 use ngc_canonical::Fault;
 use ngc_certificate::{Setting, place_fault};
 use ngc_commands::{Command, Way};
-use ngc_frames::{FrameHistory, FrameInForce, FrameWalk};
+use ngc_frames::{FrameInForce, FrameWalk};
 use ngc_line_reader::Program;
-use ngc_machine_files::{Machine, Tools};
+use ngc_machine_files::Machine;
 use ngc_origin_warnings::write_missing_origin;
 use ngc_origins::Origins;
 use ngc_refused_values::write_values;
@@ -72,13 +75,8 @@ fn write_refused_line<A: Allocator, W: Sink>(
     number: Option<u32>,
     output: &mut W,
 ) -> Result<(), WriteFault>
-    ensures ok { OnOk result
-        (Appends (W.written output.old) (W.written output.new)
-        (quoted_if form number (text_in program.now).lines)) }
-    ensures fault { OnErr result
-        (AppendsPrefix (W.written output.old) (W.written output.new)
-        (quoted_if form number (text_in program.now).lines)) }
-    ensures counts { CountsFailure (W.failures output.old) (W.failures output.new) result }
+    ensures { Writes (W.written output.old) (W.written output.new) (W.failures output.old)
+        (W.failures output.new) result (quoted_if form number (text_in program.now).lines) }
 {
     match number {
         None => write_all(output, b""),
@@ -88,77 +86,64 @@ fn write_refused_line<A: Allocator, W: Sink>(
 
 // Writes the program line of the reported command, and its program coordinates.
 fn write_cause_end<A: Allocator, W: Sink>(
-    form: Form,
-    origins: &Origins,
-    program: &Program<A>,
+    subject: &Subject<A>,
     number: Option<u32>,
     frame: &FrameInForce,
     way: &Option<Way>,
     output: &mut W,
 ) -> Result<(), WriteFault>
-    ensures ok { OnOk result
-        (Appends (W.written output.old) (W.written output.new)
-        (quoted_if form number (text_in program.now).lines
-        ++ coordinates_text form origins.now frame.now way.now)) }
-    ensures fault { OnErr result
-        (AppendsPrefix (W.written output.old) (W.written output.new)
-        (quoted_if form number (text_in program.now).lines
-        ++ coordinates_text form origins.now frame.now way.now)) }
-    ensures counts { CountsFailure (W.failures output.old) (W.failures output.new) result }
+    ensures { Writes (W.written output.old) (W.written output.new) (W.failures output.old)
+        (W.failures output.new) result
+        (quoted_if subject.now.form number (text_in subject.now.program.now).lines
+        ++ coordinates_text subject.now.form subject.now.origins.now frame.now way.now) }
 {
-    write_refused_line(form, program, number, output)?;
-    write_coordinates(form, origins, frame, way, output)
+    write_refused_line(subject.form, subject.program, number, output)?;
+    write_coordinates(subject.form, subject.origins, frame, way, output)
 }
 
 // Writes the obstacle of a command, and its program line.
 fn write_cause<A: Allocator, W: Sink>(
-    form: Form,
-    origins: &Origins,
-    program: &Program<A>,
-    machine: &Machine<A>,
+    subject: &Subject<A>,
     commands: &[Command],
     told: Option<usize>,
     fixture: Option<u32>,
     frame: &FrameInForce,
     output: &mut W,
 ) -> Result<(), WriteFault>
-    ensures ok { OnOk result
-        (Appends (W.written output.old) (W.written output.new)
-        (cause_text form origins.now (file_of machine.now) commands.now told fixture
-        (text_in program.now).lines frame.now)) }
-    ensures fault { OnErr result
-        (AppendsPrefix (W.written output.old) (W.written output.new)
-        (cause_text form origins.now (file_of machine.now) commands.now told fixture
-        (text_in program.now).lines frame.now)) }
-    ensures counts { CountsFailure (W.failures output.old) (W.failures output.new) result }
+    ensures { Writes (W.written output.old) (W.written output.new) (W.failures output.old)
+        (W.failures output.new) result
+        (cause_text subject.now.form subject.now.origins.now (file_of subject.now.machine.now)
+        commands.now told fixture (text_in subject.now.program.now).lines frame.now) }
 {
-    write_refusal(form, machine, commands, told, fixture, output)?;
+    write_refusal(
+        subject.form,
+        subject.machine,
+        commands,
+        told,
+        fixture,
+        output,
+    )?;
     let number = refused_number(commands, told);
     let way = refused_path(commands, told);
-    write_cause_end(form, origins, program, number, frame, &way, output)
+    write_cause_end(subject, number, frame, &way, output)
 }
 
 // Writes that a coordinate system has no origin, if a motion in it leaves the travel.
 fn write_missing_if<A: Allocator, W: Sink>(
-    form: Form,
-    origins: &Origins,
-    machine: &Machine<A>,
+    subject: &Subject<A>,
     fixture: Option<u32>,
     way: &Option<Way>,
     frame: &FrameInForce,
     output: &mut W,
 ) -> Result<(), WriteFault>
-    ensures ok { OnOk result
-        (Appends (W.written output.old) (W.written output.new)
-        (missing_if form origins.now (file_of machine.now) fixture way.now frame.now)) }
-    ensures fault { OnErr result
-        (AppendsPrefix (W.written output.old) (W.written output.new)
-        (missing_if form origins.now (file_of machine.now) fixture way.now frame.now)) }
-    ensures counts { CountsFailure (W.failures output.old) (W.failures output.new) result }
+    ensures { Writes (W.written output.old) (W.written output.new) (W.failures output.old)
+        (W.failures output.new) result
+        (missing_if subject.now.form subject.now.origins.now (file_of subject.now.machine.now)
+        fixture way.now frame.now) }
 {
     match (fixture, way) {
-        (None, Some(_)) if !origins.replaces(frame.frame.system()) => {
-            write_missing_origin(form, machine, frame, output)
+        (None, Some(_)) if !subject.origins.replaces(frame.frame.system()) => {
+            write_missing_origin(subject.form, subject.machine, frame, output)
         }
         _ => write_all(output, b""),
     }
@@ -166,102 +151,94 @@ fn write_missing_if<A: Allocator, W: Sink>(
 
 // Writes the same of the reported command.
 fn write_missing<A: Allocator, W: Sink>(
-    form: Form,
-    origins: &Origins,
-    machine: &Machine<A>,
-    commands: &[Command],
-    history: &FrameHistory<A>,
+    subject: &Subject<A>,
+    execution: &Execution<A>,
     told: Option<usize>,
     output: &mut W,
 ) -> Result<(), WriteFault>
-    ensures ok { OnOk result
-        (Appends (W.written output.old) (W.written output.new)
-        (missing_at form origins.now (file_of machine.now) commands.now
-        (history_of history.now.start history.now.changes.items) told)) }
-    ensures fault { OnErr result
-        (AppendsPrefix (W.written output.old) (W.written output.new)
-        (missing_at form origins.now (file_of machine.now) commands.now
-        (history_of history.now.start history.now.changes.items) told)) }
-    ensures counts { CountsFailure (W.failures output.old) (W.failures output.new) result }
+    ensures { Writes (W.written output.old) (W.written output.new) (W.failures output.old)
+        (W.failures output.new) result
+        (missing_at subject.now.form subject.now.origins.now (file_of subject.now.machine.now)
+        execution.now.commands.now
+        (history_of execution.now.history.now.start execution.now.history.now.changes.items)
+        told) }
 {
     match told {
         None => write_all(output, b""),
         Some(command) => {
-            let fixture = met_at(machine, commands, command);
+            let commands = execution.commands;
+            let fixture = met_at(subject.machine, commands, command);
             let path = refused_path(commands, Some(command));
-            let frame = history.in_force(line_of(commands, command));
-            write_missing_if(form, origins, machine, fixture, &path, &frame, output)
+            let frame = execution.history.in_force(line_of(commands, command));
+            write_missing_if(subject, fixture, &path, &frame, output)
         }
     }
 }
 
-// Writes the warnings at a setting, those about the machine and its tools, and the end.
-fn write_refusal_end<A: Allocator, W: Sink>(
-    form: Form,
-    program: &Program<A>,
-    setting: Setting,
-    machine: &Machine<A>,
-    tools: &Tools<A>,
-    history: &FrameHistory<A>,
-    commands: &[Command],
+// Writes the warnings about the machine and its tools, and the end of a report of a program that
+// doesn't fit.
+fn write_misfit_end<A: Allocator, W: Sink>(
+    subject: &Subject<A>,
     output: &mut W,
 ) -> Result<(), WriteFault>
-    ensures ok { OnOk result
-        (Appends (W.written output.old) (W.written output.new)
-        (refusal_end form setting (setup_of machine.now tools.now)
-        (history_of history.now.start history.now.changes.items) commands.now
-        (text_in program.now).lines)) }
-    ensures fault { OnErr result
-        (AppendsPrefix (W.written output.old) (W.written output.new)
-        (refusal_end form setting (setup_of machine.now tools.now)
-        (history_of history.now.start history.now.changes.items) commands.now
-        (text_in program.now).lines)) }
-    ensures counts { CountsFailure (W.failures output.old) (W.failures output.new) result }
+    ensures { Writes (W.written output.old) (W.written output.new) (W.failures output.old)
+        (W.failures output.new) result
+        (shop_text subject.now.form (setup_of subject.now.machine.now subject.now.tools.now)
+        ++ ending subject.now.form 304) }
 {
-    write_setting_warnings(
-        form, program, setting, machine, tools, history, commands, output,
-    )?;
-    write_shop(form, machine, tools, output)?;
-    write_ending(form, 304, output)
+    write_shop(subject, output)?;
+    write_ending(subject.form, 304, output)
+}
+
+// Writes the warnings at a setting, those about the machine and its tools, and the end.
+fn write_refusal_end<A: Allocator, W: Sink>(
+    subject: &Subject<A>,
+    setting: Setting,
+    execution: &Execution<A>,
+    output: &mut W,
+) -> Result<(), WriteFault>
+    ensures { Writes (W.written output.old) (W.written output.new) (W.failures output.old)
+        (W.failures output.new) result
+        (refusal_end subject.now.form setting
+        (setup_of subject.now.machine.now subject.now.tools.now)
+        (history_of execution.now.history.now.start execution.now.history.now.changes.items)
+        execution.now.commands.now (text_in subject.now.program.now).lines) }
+{
+    write_setting_warnings(subject, setting, execution, output)?;
+    write_misfit_end(subject, output)
 }
 
 // Writes the obstacle of a command at a setting, and the warnings there.
 pub(crate) fn write_refused<A: Allocator, W: Sink>(
-    form: Form,
-    origins: &Origins,
-    program: &Program<A>,
-    machine: &Machine<A>,
-    tools: &Tools<A>,
+    subject: &Subject<A>,
     named: bool,
     setting: Setting,
-    commands: &[Command],
+    execution: &Execution<A>,
     command: u32,
-    history: &FrameHistory<A>,
     output: &mut W,
 ) -> Result<(), WriteFault>
-    ensures ok { OnOk result
-        (Appends (W.written output.old) (W.written output.new)
-        (refusal_text form origins.now named setting (setup_of machine.now tools.now) commands.now
-        command (text_in program.now).lines
-        (history_of history.now.start history.now.changes.items))) }
-    ensures fault { OnErr result
-        (AppendsPrefix (W.written output.old) (W.written output.new)
-        (refusal_text form origins.now named setting (setup_of machine.now tools.now) commands.now
-        command (text_in program.now).lines
-        (history_of history.now.start history.now.changes.items))) }
-    ensures counts { CountsFailure (W.failures output.old) (W.failures output.new) result }
+    ensures { Writes (W.written output.old) (W.written output.new) (W.failures output.old)
+        (W.failures output.new) result
+        (refusal_text subject.now.form subject.now.origins.now named setting
+        (setup_of subject.now.machine.now subject.now.tools.now) execution.now.commands.now
+        command (text_in subject.now.program.now).lines
+        (history_of execution.now.history.now.start execution.now.history.now.changes.items)) }
 {
-    write_heading(form, origins, true, named, setting, output)?;
-    let told = refused_command(machine, command);
-    write_missing(form, origins, machine, commands, history, told, output)?;
-    let fixture = met_at(machine, commands, command as usize);
-    let frame = history.in_force(line_of(commands, command as usize));
-    write_cause(
-        form, origins, program, machine, commands, told, fixture, &frame, output,
-    )?;
-    write_refusal_end(
-        form, program, setting, machine, tools, history, commands, output,
-    )
+    let heading = Heading {
+        first: true,
+        named,
+        setting,
+    };
+    write_heading(subject.form, subject.origins, heading, output)?;
+    let told = refused_command(subject.machine, command);
+    write_missing(subject, execution, told, output)?;
+    let commands = execution.commands;
+    let fixture = met_at(subject.machine, commands, command as usize);
+    let frame = execution
+        .history
+        .in_force(line_of(commands, command as usize));
+    write_cause(subject, commands, told, fixture, &frame, output)?;
+    write_refusal_end(subject, setting, execution, output)
 }
 
 // Returns whether a fixture is met at the start.
@@ -276,62 +253,62 @@ pub(crate) fn is_start_refused<A: Allocator>(machine: &Machine<A>) -> bool
 // Adds a refused command: its obstacle, and its coordinates in the program.
 fn collect_refusal<A: Allocator, W: Sink>(
     chunk: &mut Chunk,
-    form: Form,
-    origins: &Origins,
-    machine: &Machine<A>,
-    commands: &[Command],
+    subject: &Subject<A>,
+    execution: &Execution<A>,
     command: usize,
     standing: &mut Standing,
-    history: &FrameHistory<A>,
     walk: &mut FrameWalk,
     output: &mut W,
 ) -> Result<(), WriteFault>
-    requires standing { StandsAfter (file_of machine.now) commands.now standing.old }
-    requires walk { WalksOver history.now.start history.now.changes.items walk.old }
+    requires standing { StandsAfter (file_of subject.now.machine.now) execution.now.commands.now
+        standing.old }
+    requires walk { WalksOver execution.now.history.now.start
+        execution.now.history.now.changes.items walk.old }
     ensures text { Collects (W.written output.old) (W.written output.new) chunk.old chunk.new result
-        (command_refusal form origins.now (file_of machine.now) commands.now
-        (history_of history.now.start history.now.changes.items) command) }
-    ensures standing { StandsAfter (file_of machine.now) commands.now standing.new }
-    ensures walk { WalksOver history.now.start history.now.changes.items walk.new }
+        (command_refusal subject.now.form subject.now.origins.now
+        (file_of subject.now.machine.now) execution.now.commands.now
+        (history_of execution.now.history.now.start execution.now.history.now.changes.items)
+        command) }
+    ensures standing { StandsAfter (file_of subject.now.machine.now) execution.now.commands.now
+        standing.new }
+    ensures walk { WalksOver execution.now.history.now.start
+        execution.now.history.now.changes.items walk.new }
     ensures counts { CountsFailure (W.failures output.old) (W.failures output.new) result }
 {
+    let (form, machine, commands) = (subject.form, subject.machine, execution.commands);
     match collect_refused_command(chunk, form, machine, commands, standing, command, output) {
         Ok(()) => {}
         Err(fault) => return Err(fault),
     }
-    let frame = walk.in_force(history, line_of(commands, command));
+    let frame = walk.in_force(execution.history, line_of(commands, command));
     let way = refused_path(commands, Some(command));
-    collect_coordinates(chunk, form, origins, &frame, &way, output)
+    collect_coordinates(chunk, form, subject.origins, &frame, &way, output)
 }
 
 // Adds the refused commands in order.
 fn collect_refusals<A: Allocator, W: Sink>(
     chunk: &mut Chunk,
-    form: Form,
-    origins: &Origins,
-    machine: &Machine<A>,
-    commands: &[Command],
+    subject: &Subject<A>,
+    execution: &Execution<A>,
     indices: &[u32],
-    history: &FrameHistory<A>,
     output: &mut W,
 ) -> Result<(), WriteFault>
     ensures text { Collects (W.written output.old) (W.written output.new) chunk.old chunk.new result
-        (command_refusals form origins.now (file_of machine.now) commands.now
-        (history_of history.now.start history.now.changes.items) indices.now) }
+        (command_refusals subject.now.form subject.now.origins.now
+        (file_of subject.now.machine.now) execution.now.commands.now
+        (history_of execution.now.history.now.start execution.now.history.now.changes.items)
+        indices.now) }
     ensures counts { CountsFailure (W.failures output.old) (W.failures output.new) result }
 {
-    let mut standing = Standing::first(machine, commands);
-    let mut walk = FrameWalk::start(history);
+    let mut standing = Standing::first(subject.machine, execution.commands);
+    let mut walk = FrameWalk::start(execution.history);
     for index in indices {
         match collect_refusal(
             chunk,
-            form,
-            origins,
-            machine,
-            commands,
+            subject,
+            execution,
             *index as usize,
             &mut standing,
-            history,
             &mut walk,
             output,
         ) {
@@ -345,52 +322,42 @@ fn collect_refusals<A: Allocator, W: Sink>(
 // Adds all obstacles of commands, and that of the start if it has one.
 fn collect_all<A: Allocator, W: Sink>(
     chunk: &mut Chunk,
-    form: Form,
-    origins: &Origins,
-    machine: &Machine<A>,
-    commands: &[Command],
+    subject: &Subject<A>,
+    execution: &Execution<A>,
     indices: &[u32],
-    history: &FrameHistory<A>,
     output: &mut W,
 ) -> Result<(), WriteFault>
     ensures text { Collects (W.written output.old) (W.written output.new) chunk.old chunk.new result
-        (all_refusals form origins.now (file_of machine.now) commands.now
-        (history_of history.now.start history.now.changes.items) indices.now) }
+        (all_refusals subject.now.form subject.now.origins.now (file_of subject.now.machine.now)
+        execution.now.commands.now
+        (history_of execution.now.history.now.start execution.now.history.now.changes.items)
+        indices.now) }
     ensures counts { CountsFailure (W.failures output.old) (W.failures output.new) result }
 {
+    let (form, machine, commands) = (subject.form, subject.machine, execution.commands);
     let start = is_start_refused(machine);
     match collect_refusals_head(chunk, form, machine, commands, start, indices, output) {
         Ok(()) => {}
         Err(fault) => return Err(fault),
     }
-    collect_refusals(
-        chunk, form, origins, machine, commands, indices, history, output,
-    )
+    collect_refusals(chunk, subject, execution, indices, output)
 }
 
 fn write_obstacles<A: Allocator, W: Sink>(
-    form: Form,
-    origins: &Origins,
-    machine: &Machine<A>,
-    commands: &[Command],
+    subject: &Subject<A>,
+    execution: &Execution<A>,
     indices: &[u32],
-    history: &FrameHistory<A>,
     output: &mut W,
 ) -> Result<(), WriteFault>
-    ensures ok { OnOk result
-        (Appends (W.written output.old) (W.written output.new)
-        (all_refusals form origins.now (file_of machine.now) commands.now
-        (history_of history.now.start history.now.changes.items) indices.now)) }
-    ensures fault { OnErr result
-        (AppendsPrefix (W.written output.old) (W.written output.new)
-        (all_refusals form origins.now (file_of machine.now) commands.now
-        (history_of history.now.start history.now.changes.items) indices.now)) }
-    ensures counts { CountsFailure (W.failures output.old) (W.failures output.new) result }
+    ensures { Writes (W.written output.old) (W.written output.new) (W.failures output.old)
+        (W.failures output.new) result
+        (all_refusals subject.now.form subject.now.origins.now (file_of subject.now.machine.now)
+        execution.now.commands.now
+        (history_of execution.now.history.now.start execution.now.history.now.changes.items)
+        indices.now) }
 {
     let mut chunk = Chunk::new();
-    match collect_all(
-        &mut chunk, form, origins, machine, commands, indices, history, output,
-    ) {
+    match collect_all(&mut chunk, subject, execution, indices, output) {
         Ok(()) => chunk.write_out(output),
         Err(fault) => Err(fault),
     }
@@ -408,150 +375,82 @@ fn first_of(indices: &[u32]) -> Option<usize>
 
 // Writes all obstacles at a setting, and the warnings there.
 fn write_setting_refusals<A: Allocator, W: Sink>(
-    form: Form,
-    origins: &Origins,
-    program: &Program<A>,
-    first: bool,
-    named: bool,
-    setting: Setting,
-    machine: &Machine<A>,
-    tools: &Tools<A>,
-    commands: &[Command],
+    subject: &Subject<A>,
+    heading: Heading,
+    execution: &Execution<A>,
     indices: &[u32],
-    history: &FrameHistory<A>,
     output: &mut W,
 ) -> Result<(), WriteFault>
-    ensures ok { OnOk result
-        (Appends (W.written output.old) (W.written output.new)
-        (setting_refusals form origins.now first named setting (setup_of machine.now tools.now)
-        commands.now (history_of history.now.start history.now.changes.items) indices.now
-        (text_in program.now).lines)) }
-    ensures fault { OnErr result
-        (AppendsPrefix (W.written output.old) (W.written output.new)
-        (setting_refusals form origins.now first named setting (setup_of machine.now tools.now)
-        commands.now (history_of history.now.start history.now.changes.items) indices.now
-        (text_in program.now).lines)) }
-    ensures counts { CountsFailure (W.failures output.old) (W.failures output.new) result }
+    ensures { Writes (W.written output.old) (W.written output.new) (W.failures output.old)
+        (W.failures output.new) result
+        (setting_refusals subject.now.form subject.now.origins.now heading.first heading.named
+        heading.setting (setup_of subject.now.machine.now subject.now.tools.now)
+        execution.now.commands.now
+        (history_of execution.now.history.now.start execution.now.history.now.changes.items)
+        indices.now (text_in subject.now.program.now).lines) }
 {
-    write_heading(form, origins, first, named, setting, output)?;
-    write_missing(
-        form,
-        origins,
-        machine,
-        commands,
-        history,
-        first_of(indices),
-        output,
-    )?;
-    write_obstacles(form, origins, machine, commands, indices, history, output)?;
-    write_setting_warnings(
-        form, program, setting, machine, tools, history, commands, output,
-    )
+    write_heading(subject.form, subject.origins, heading, output)?;
+    write_missing(subject, execution, first_of(indices), output)?;
+    write_obstacles(subject, execution, indices, output)?;
+    write_setting_warnings(subject, heading.setting, execution, output)
 }
 
 /// Writes all obstacles at both settings, which have the same commands.
 pub(crate) fn write_all_once<A: Allocator, W: Sink>(
-    form: Form,
-    origins: &Origins,
-    program: &Program<A>,
-    machine: &Machine<A>,
-    tools: &Tools<A>,
-    commands: &[Command],
+    subject: &Subject<A>,
+    execution: &Execution<A>,
     indices: &[u32],
-    history: &FrameHistory<A>,
     output: &mut W,
 ) -> Result<(), WriteFault>
-    ensures ok { OnOk result
-        (Appends (W.written output.old) (W.written output.new)
-        (refusals_text form origins.now false (setup_of machine.now tools.now) commands.now
-        commands.now (history_of history.now.start history.now.changes.items)
-        (history_of history.now.start history.now.changes.items) indices.now indices.now
-        (text_in program.now).lines)) }
-    ensures fault { OnErr result
-        (AppendsPrefix (W.written output.old) (W.written output.new)
-        (refusals_text form origins.now false (setup_of machine.now tools.now) commands.now
-        commands.now (history_of history.now.start history.now.changes.items)
-        (history_of history.now.start history.now.changes.items) indices.now indices.now
-        (text_in program.now).lines)) }
-    ensures counts { CountsFailure (W.failures output.old) (W.failures output.new) result }
+    ensures { Writes (W.written output.old) (W.written output.new) (W.failures output.old)
+        (W.failures output.new) result
+        (refusals_text subject.now.form subject.now.origins.now false
+        (setup_of subject.now.machine.now subject.now.tools.now) execution.now.commands.now
+        execution.now.commands.now
+        (history_of execution.now.history.now.start execution.now.history.now.changes.items)
+        (history_of execution.now.history.now.start execution.now.history.now.changes.items)
+        indices.now indices.now (text_in subject.now.program.now).lines) }
 {
-    write_setting_refusals(
-        form,
-        origins,
-        program,
-        true,
-        false,
-        Setting::Off,
-        machine,
-        tools,
-        commands,
-        indices,
-        history,
-        output,
-    )?;
-    write_shop(form, machine, tools, output)?;
-    write_ending(form, 304, output)
+    let heading = Heading {
+        first: true,
+        named: false,
+        setting: Setting::Off,
+    };
+    write_setting_refusals(subject, heading, execution, indices, output)?;
+    write_misfit_end(subject, output)
 }
 
 /// Writes all obstacles at each setting.
 pub(crate) fn write_all_both<A: Allocator, W: Sink>(
-    form: Form,
-    origins: &Origins,
-    program: &Program<A>,
-    machine: &Machine<A>,
-    tools: &Tools<A>,
-    off: &[Command],
+    subject: &Subject<A>,
+    off: &Execution<A>,
     off_indices: &[u32],
-    off_history: &FrameHistory<A>,
-    on: &[Command],
+    on: &Execution<A>,
     on_indices: &[u32],
-    on_history: &FrameHistory<A>,
     output: &mut W,
 ) -> Result<(), WriteFault>
-    ensures ok { OnOk result
-        (Appends (W.written output.old) (W.written output.new)
-        (refusals_text form origins.now true (setup_of machine.now tools.now) off.now on.now
-        (history_of off_history.now.start off_history.now.changes.items)
-        (history_of on_history.now.start on_history.now.changes.items) off_indices.now
-        on_indices.now (text_in program.now).lines)) }
-    ensures fault { OnErr result
-        (AppendsPrefix (W.written output.old) (W.written output.new)
-        (refusals_text form origins.now true (setup_of machine.now tools.now) off.now on.now
-        (history_of off_history.now.start off_history.now.changes.items)
-        (history_of on_history.now.start on_history.now.changes.items) off_indices.now
-        on_indices.now (text_in program.now).lines)) }
-    ensures counts { CountsFailure (W.failures output.old) (W.failures output.new) result }
+    ensures { Writes (W.written output.old) (W.written output.new) (W.failures output.old)
+        (W.failures output.new) result
+        (refusals_text subject.now.form subject.now.origins.now true
+        (setup_of subject.now.machine.now subject.now.tools.now) off.now.commands.now
+        on.now.commands.now
+        (history_of off.now.history.now.start off.now.history.now.changes.items)
+        (history_of on.now.history.now.start on.now.history.now.changes.items) off_indices.now
+        on_indices.now (text_in subject.now.program.now).lines) }
 {
-    write_setting_refusals(
-        form,
-        origins,
-        program,
-        true,
-        true,
-        Setting::Off,
-        machine,
-        tools,
-        off,
-        off_indices,
-        off_history,
-        output,
-    )?;
-    write_setting_refusals(
-        form,
-        origins,
-        program,
-        false,
-        true,
-        Setting::On,
-        machine,
-        tools,
-        on,
-        on_indices,
-        on_history,
-        output,
-    )?;
-    write_shop(form, machine, tools, output)?;
-    write_ending(form, 304, output)
+    let heading = Heading {
+        first: true,
+        named: true,
+        setting: Setting::Off,
+    };
+    write_setting_refusals(subject, heading, off, off_indices, output)?;
+    let heading = Heading {
+        first: false,
+        named: true,
+        setting: Setting::On,
+    };
+    write_setting_refusals(subject, heading, on, on_indices, output)?;
+    write_misfit_end(subject, output)
 }
 
 pub(crate) fn refused_line(form: Form) -> &'static [u8]
@@ -572,17 +471,11 @@ fn write_rejection_end<A: Allocator, W: Sink>(
     fault: &Fault,
     output: &mut W,
 ) -> Result<(), WriteFault>
-    ensures ok { OnOk result
-        (Appends (W.written output.old) (W.written output.new)
+    ensures { Writes (W.written output.old) (W.written output.new) (W.failures output.old)
+        (W.failures output.new) result
         (named_line form number fault.now (text_in program.now).lines
         ++ (value_line form (is_on setting) number fault.now (text_in program.now).lines
-        ++ ending form (fault_number fault.now)))) }
-    ensures fault { OnErr result
-        (AppendsPrefix (W.written output.old) (W.written output.new)
-        (named_line form number fault.now (text_in program.now).lines
-        ++ (value_line form (is_on setting) number fault.now (text_in program.now).lines
-        ++ ending form (fault_number fault.now)))) }
-    ensures counts { CountsFailure (W.failures output.old) (W.failures output.new) result }
+        ++ ending form (fault_number fault.now))) }
 {
     write_named(form, program, number, fault, output)?;
     write_values(form, is_on(setting), program, number, fault, output)?;
@@ -611,7 +504,12 @@ pub fn write_rejection<A: Allocator, W: Sink>(
         (text_in program.now).lines)) }
     ensures counts { CountsFailure (W.failures output.old) (W.failures output.new) result }
 {
-    write_heading(form, origins, true, named, setting, output)?;
+    let heading = Heading {
+        first: true,
+        named,
+        setting,
+    };
+    write_heading(form, origins, heading, output)?;
     write_all(output, refused_line(form))?;
     write_line(form, program, number, output)?;
     write_rejection_end(form, program, setting, number, fault, output)

@@ -1,16 +1,20 @@
 //! The text before and after the reports of programs.
 ghost use Rattle.std.specs.Prelude.{◌≡◌, ◌+◌, ◌≤◌, ◌++◌, length, OnOk, OnErr};
 ghost use Rattle.std.specs.Io.KnownBytes.{Appends};
-ghost use Rattle.ngc_text.specs.Collected.{CHUNK_SIZE, HasSpaceForLine};
+ghost use Rattle.ngc_text.specs.Collected.{CHUNK_SIZE};
 ghost use Rattle.ngc_text.specs.Failures.{CountsFailure};
 ghost use Rattle.ngc_text.specs.Written.{AppendsPrefix};
 ghost use Rattle.ngc_report.specs.Forms.{closing, opening};
-ghost use Rattle.ngc_program_report.specs.Texts.{ending, heading, hint, origins_text};
-ghost use Rattle.ngc_program_report.specs.Texts.{setting_line};
+ghost use Rattle.ngc_sentences.specs.Saying.{Says};
+ghost use Rattle.ngc_program_report.specs.Texts.{ending, heading as heading_text, hint};
+ghost use Rattle.ngc_program_report.specs.Texts.{origins_text, setting_line};
+ghost use Rattle.ngc_program_report.specs.Writing.{Writes};
 
+use crate::subject::Heading;
 use ngc_certificate::Setting;
 use ngc_origins::{Origins, add_origin_facts, add_origin_words};
 use ngc_report::Form;
+use ngc_sentences::{Page, Part, say};
 use ngc_text::{Chunk, Sink, WriteFault};
 
 // Returns the line that names a setting.
@@ -38,8 +42,7 @@ pub fn opening(form: Form) -> &'static [u8]
 
 /// Returns the text after a report.
 pub(crate) fn closing(form: Form) -> &'static [u8]
-    ensures text { result.now ≡ closing form }
-    ensures short { length result.now ≤ 3 }
+    ensures { result.now ≡ closing form }
 {
     match form {
         Form::Words => b"",
@@ -59,16 +62,17 @@ fn add_origins(chunk: &mut Chunk, form: Form, origins: &Origins)
 }
 
 // Returns the text before the first setting of a report, or before the other.
-fn heading_of(form: Form, origins: &Origins, first: bool, named: bool, setting: Setting) -> Chunk
-    ensures { result ≡ heading form origins.now first named setting }
+fn heading_of(form: Form, origins: &Origins, heading: Heading) -> Chunk
+    ensures { result
+        ≡ heading_text form origins.now heading.first heading.named heading.setting }
 {
     let mut chunk = Chunk::new();
-    if first {
+    if heading.first {
         chunk.add_text(opening(form));
         add_origins(&mut chunk, form, origins);
     }
-    if named {
-        chunk.add_text(setting_line(form, setting));
+    if heading.named {
+        chunk.add_text(setting_line(form, heading.setting));
     }
     chunk
 }
@@ -76,60 +80,26 @@ fn heading_of(form: Form, origins: &Origins, first: bool, named: bool, setting: 
 pub(crate) fn write_heading<W: Sink>(
     form: Form,
     origins: &Origins,
-    first: bool,
-    named: bool,
-    setting: Setting,
+    heading: Heading,
     output: &mut W,
 ) -> Result<(), WriteFault>
-    ensures ok { OnOk result
-        (Appends (W.written output.old) (W.written output.new) (heading form origins.now
-        first named setting)) }
-    ensures fault { OnErr result
-        (AppendsPrefix (W.written output.old) (W.written output.new)
-        (heading form origins.now first named setting)) }
-    ensures counts { CountsFailure (W.failures output.old) (W.failures output.new) result }
+    ensures { Writes (W.written output.old) (W.written output.new) (W.failures output.old)
+        (W.failures output.new) result
+        (heading_text form origins.now heading.first heading.named heading.setting) }
 {
-    heading_of(form, origins, first, named, setting).write_out(output)
+    heading_of(form, origins, heading).write_out(output)
 }
 
-fn add_hint_words(chunk: &mut Chunk, number: u16)
-    requires { HasSpaceForLine chunk.old }
-    ensures text { chunk.new ≡ chunk.old ++ hint Form.Words number }
-    ensures short { length chunk.new ≤ length chunk.old + 100 }
+// Says the number of the reported fault, in words with `ngc explain`.
+fn say_hint<W: Sink>(form: Form, number: u16, page: &mut Page, output: &mut W)
+    ensures { Says (W.written output.old) (W.written output.new)
+        (W.failures output.old) (W.failures output.new) page.old page.new (hint form number) }
 {
-    chunk.add_text(b"`ngc explain ");
-    chunk.add_number(number);
-    chunk.add_text(b"` tells more.\n");
-}
-
-fn add_fault_fact(chunk: &mut Chunk, number: u16)
-    requires { HasSpaceForLine chunk.old }
-    ensures text { chunk.new ≡ chunk.old ++ hint Form.Json number }
-    ensures short { length chunk.new ≤ length chunk.old + 100 }
-{
-    chunk.add_text(b",\n{\"fact\":\"fault\",\"number\":");
-    chunk.add_number(number);
-    chunk.add_text(b"}");
-}
-
-fn add_hint(chunk: &mut Chunk, form: Form, number: u16)
-    requires { HasSpaceForLine chunk.old }
-    ensures text { chunk.new ≡ chunk.old ++ hint form number }
-    ensures short { length chunk.new ≤ length chunk.old + 100 }
-{
+    let number = Part::Number(u128::from(number));
     match form {
-        Form::Words => add_hint_words(chunk, number),
-        Form::Json => add_fault_fact(chunk, number),
+        Form::Words => say!(page, output; b"`ngc explain ", number, b"` tells more.\n"),
+        Form::Json => say!(page, output; b",\n{\"fact\":\"fault\",\"number\":", number, b"}"),
     }
-}
-
-fn ending_of(form: Form, number: u16) -> Chunk
-    ensures { result ≡ ending form number }
-{
-    let mut chunk = Chunk::new();
-    add_hint(&mut chunk, form, number);
-    chunk.add_text(closing(form));
-    chunk
 }
 
 /// Writes the end of a report of a refused program: the number of its fault, with `ngc explain` in
@@ -141,5 +111,8 @@ pub fn write_ending<W: Sink>(form: Form, number: u16, output: &mut W) -> Result<
         (AppendsPrefix (W.written output.old) (W.written output.new) (ending form number)) }
     ensures counts { CountsFailure (W.failures output.old) (W.failures output.new) result }
 {
-    ending_of(form, number).write_out(output)
+    let mut page = Page::new();
+    say_hint(form, number, &mut page, output);
+    say!(page, output; Part::Text(closing(form)));
+    page.finish(output)
 }

@@ -1,112 +1,47 @@
-//! The output about the time of a run.
-ghost use Rattle.std.specs.Prelude.{◌≡◌, ◌+◌, ◌≤◌, ◌++◌, length};
-ghost use Rattle.ngc_text.specs.Collected.{CHUNK_SIZE};
-ghost use Rattle.ngc_program_report.specs.Texts.{takes_fact, takes_line, takes_words};
-ghost use Rattle.ngc_program_report.specs.Times.{clock_text, seconds_text, three_digits, time_line};
-ghost use Rattle.ngc_program_report.specs.Times.{time_text, two_digits};
+//! The time of a program, as a report states it.
+ghost use Rattle.std.specs.Prelude.{◌≡◌};
+ghost use Rattle.ngc_sentences.specs.Parts.{part_text};
+ghost use Rattle.ngc_sentences.specs.Saying.{Says};
+ghost use Rattle.ngc_program_report.specs.Texts.{takes_line};
+ghost use Rattle.ngc_program_report.specs.Times.{seconds_text, time_text};
 
 use crate::run_time::RunTime;
 use ngc_report::Form;
-use ngc_text::Chunk;
+use ngc_sentences::{Page, Part, say};
+use ngc_text::Sink;
 
-fn add_two_digits(chunk: &mut Chunk, number: u128)
-    requires { length chunk.old + 80 ≤ CHUNK_SIZE }
-    ensures text { chunk.new ≡ chunk.old ++ two_digits number }
-    ensures short { length chunk.new ≤ length chunk.old + 80 }
-{
-    chunk.add_number(number / 10);
-    chunk.add_number(number % 10);
-}
-
-fn add_three_digits(chunk: &mut Chunk, number: u128)
-    requires { length chunk.old + 120 ≤ CHUNK_SIZE }
-    ensures text { chunk.new ≡ chunk.old ++ three_digits number }
-    ensures short { length chunk.new ≤ length chunk.old + 120 }
-{
-    chunk.add_number(number / 100);
-    add_two_digits(chunk, number % 100);
-}
-
-fn add_clock(chunk: &mut Chunk, seconds: u128)
-    requires { length chunk.old + 210 ≤ CHUNK_SIZE }
-    ensures text { chunk.new ≡ chunk.old ++ clock_text seconds }
-    ensures short { length chunk.new ≤ length chunk.old + 202 }
-{
-    chunk.add_number(seconds / 3600);
-    chunk.add_text(b":");
-    add_two_digits(chunk, seconds / 60 % 60);
-    chunk.add_text(b":");
-    add_two_digits(chunk, seconds % 60);
-}
-
-pub(crate) fn add_time(chunk: &mut Chunk, time: &RunTime)
-    requires { length chunk.old + 330 ≤ CHUNK_SIZE }
-    ensures text { chunk.new ≡ chunk.old ++ time_text time.now }
-    ensures short { length chunk.new ≤ length chunk.old + 323 }
+// Returns a time as hours, minutes and seconds.
+pub(crate) fn clock_of(time: &RunTime) -> Part<'static>
+    ensures { part_text result ≡ time_text time.now }
 {
     let per_second = u128::from(time.ticks_per_second);
-    add_clock(chunk, time.ticks / per_second);
-    chunk.add_text(b".");
-    add_three_digits(chunk, time.ticks % per_second * 1000 / per_second);
+    Part::Clock(
+        time.ticks / per_second,
+        time.ticks % per_second * 1000 / per_second,
+    )
 }
 
-/// Adds the line for a run's time on standard error: hours, minutes, seconds and thousandths of a
-/// second, rounded down.
-pub fn add_time_line(chunk: &mut Chunk, time: &RunTime)
-    requires { length chunk.old + 500 ≤ CHUNK_SIZE }
-    ensures { chunk.new ≡ chunk.old ++ time_line time.now }
-{
-    chunk.add_text(b"ngc: ticks ");
-    chunk.add_number(time.ticks);
-    chunk.add_text(b" time ");
-    add_time(chunk, time);
-    chunk.add_text(b"\n");
-}
-
-pub(crate) fn add_seconds(chunk: &mut Chunk, time: &RunTime)
-    requires { length chunk.old + 170 ≤ CHUNK_SIZE }
-    ensures text { chunk.new ≡ chunk.old ++ seconds_text time.now }
-    ensures short { length chunk.new ≤ length chunk.old + 161 }
+// Returns a time as a number of seconds.
+pub(crate) fn seconds_of(time: &RunTime) -> Part<'static>
+    ensures { part_text result ≡ seconds_text time.now }
 {
     let per_second = u128::from(time.ticks_per_second);
-    chunk.add_number(time.ticks / per_second);
-    chunk.add_text(b".");
-    add_three_digits(chunk, time.ticks % per_second * 1000 / per_second);
+    Part::Seconds(
+        time.ticks / per_second,
+        time.ticks % per_second * 1000 / per_second,
+    )
 }
 
-fn add_takes_words(chunk: &mut Chunk, time: &RunTime)
-    requires { length chunk.old + 600 ≤ CHUNK_SIZE }
-    ensures { chunk.new ≡ chunk.old ++ takes_words time.now }
-{
-    chunk.add_text(b"It takes ");
-    chunk.add_number(time.ticks);
-    chunk.add_text(b" ticks, ");
-    add_time(chunk, time);
-    chunk.add_text(b" at ");
-    chunk.add_number(time.ticks_per_second);
-    chunk.add_text(b" ticks a second.\n");
-}
-
-fn add_takes_fact(chunk: &mut Chunk, time: &RunTime)
-    requires { length chunk.old + 600 ≤ CHUNK_SIZE }
-    ensures { chunk.new ≡ chunk.old ++ takes_fact time.now }
-{
-    chunk.add_text(b",\n{\"fact\":\"time\",\"ticks\":");
-    chunk.add_number(time.ticks);
-    chunk.add_text(b",\"ticks_per_second\":");
-    chunk.add_number(time.ticks_per_second);
-    chunk.add_text(b",\"seconds\":");
-    add_seconds(chunk, time);
-    chunk.add_text(b"}");
-}
-
-/// Adds the line of a report with the time of a program.
-pub(crate) fn add_takes_line(chunk: &mut Chunk, form: Form, time: &RunTime)
-    requires { length chunk.old + 600 ≤ CHUNK_SIZE }
-    ensures { chunk.new ≡ chunk.old ++ takes_line form time.now }
+// Says the time of a program.
+pub(crate) fn say_takes_line<W: Sink>(form: Form, time: &RunTime, page: &mut Page, output: &mut W)
+    ensures { Says (W.written output.old) (W.written output.new)
+        (W.failures output.old) (W.failures output.new) page.old page.new
+        (takes_line form time.now) }
 {
     match form {
-        Form::Words => add_takes_words(chunk, time),
-        Form::Json => add_takes_fact(chunk, time),
+        Form::Words =>
+            say!(page, output; b"It takes ", Part::Number(time.ticks), b" ticks, ", clock_of(time), b" at ", Part::Number(u128::from(time.ticks_per_second)), b" ticks a second.\n"),
+        Form::Json =>
+            say!(page, output; b",\n{\"fact\":\"time\",\"ticks\":", Part::Number(time.ticks), b",\"ticks_per_second\":", Part::Number(u128::from(time.ticks_per_second)), b",\"seconds\":", seconds_of(time), b"}"),
     }
 }

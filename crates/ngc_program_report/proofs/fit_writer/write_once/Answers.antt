@@ -1,7 +1,6 @@
-use Rattle.std.proofs.Common.{◌∙◌, List, true, false, ap, ap₂, sym}
+use Rattle.std.proofs.Common.{◌∙◌, List, true, false, ap₂, sym}
 use Rattle.ngc_certificate_text.specs.declared.piece.Setting.TheVariants.{Off}
 use Rattle.ngc_commands.specs.declared.command.Command.{Command}
-use Rattle.ngc_text.proofs.AppendedTexts.{appends_both}
 use Rattle.ngc_line_reader.specs.ProgramView.{text_in}
 use Rattle.ngc_lowest_tips.specs.Tips.{lowest_tips}
 use Rattle.ngc_machine_files.specs.Machine.{file_of}
@@ -9,42 +8,32 @@ use Rattle.ngc_machine_files.specs.declared.tools.Tool.{Tool}
 use Rattle.ngc_machine_files.specs.Tools.{tools_of}
 use Rattle.ngc_program_report.specs.Coordinates.{history_of}
 use Rattle.ngc_program_report.proofs.FitLaws.{setting_as, shop_as}
-use Rattle.ngc_program_report.proofs.WrittenLaws.{appends_as, begins_as, begins_first, begins_last, err_weaker, ok_weaker, on_err}
+use Rattle.ngc_program_report.proofs.WritingLaws.{stops, then, writes_as}
+use Rattle.ngc_program_report.proofs.WrittenLaws.{appends_as, begins_as}
 use Rattle.ngc_program_report.proofs.fit_writer.write_once.Goals as goal
 
 pub write_setting-requires : goal.write_setting-requires
 write_setting-requires g c =
-    let h = c.args.history.now in
-    record { tips = c.requires.tips ∙ ap₂ (λ (ts : List Tool) (cs : List Command). lowest_tips ts h.start h.changes.items cs) (sym c.tools-tools.ensures) (sym c.commands-off.ensures) }
+    let h = c.args.fit.now.history.now in
+    record {
+      tips = c.requires.tips ∙ ap₂ (λ (ts : List Tool) (cs : List Command). lowest_tips ts h.start h.changes.items cs) (sym c.tools-tools.ensures)
+          (sym c.commands.ensures);
+    }
 
-pub returns-in_err-write_setting-clause-fault : goal.returns-in_err-write_setting-clause-fault
-returns-in_err-write_setting-clause-fault g c =
-    let off = setting_as c.args.form c.args.origins.now true false Off (g.M.MotionList.entries c.args.motions.now) c.args.time.now
-    (history_of c.args.history.now.start c.args.history.now.changes.items)
-    (text_in c.args.program.now).lines (file_of c.machine-machine.result.now) c.args.accepted.now.machine
-    (tools_of c.tools-tools.result.now) c.args.accepted.now.tools c.commands-off.result.now c.args.accepted.now.off c.machine-machine.ensures.value c.tools-tools.ensures c.commands-off.ensures in
-    on_err _ _ (begins_first _ _ _ _ (begins_as _ _ _ _ off c.in_err-write_setting.ensures.fault))
+pub returns-in_err-write_setting : goal.returns-in_err-write_setting
+returns-in_err-write_setting g c =
+    let off = setting_as c.args.form c.args.origins.now true false Off (g.M.MotionList.entries c.args.fit.now.motions.now) c.args.fit.now.time.now
+    (history_of c.args.fit.now.history.now.start c.args.fit.now.history.now.changes.items) (text_in c.args.program.now).lines
+    (file_of c.machine-machine.result.now) c.args.accepted.now.machine (tools_of c.tools-tools.result.now) c.args.accepted.now.tools
+    c.commands.result.now c.args.accepted.now.off c.machine-machine.ensures.value c.tools-tools.ensures c.commands.ensures in
+    stops _ _ c.from_residual.ensures.0 (begins_as _ _ _ _ off c.in_err-write_setting.ensures.fault) c.in_err-write_setting.ensures.counts
 
-pub returns-clause-ok : goal.returns-clause-ok
-returns-clause-ok g c =
-    let off = setting_as c.args.form c.args.origins.now true false Off (g.M.MotionList.entries c.args.motions.now) c.args.time.now
-    (history_of c.args.history.now.start c.args.history.now.changes.items)
-    (text_in c.args.program.now).lines (file_of c.machine-machine.result.now) c.args.accepted.now.machine
-    (tools_of c.tools-tools.result.now) c.args.accepted.now.tools c.commands-off.result.now c.args.accepted.now.off c.machine-machine.ensures.value c.tools-tools.ensures c.commands-off.ensures in
+pub returns : goal.returns
+returns g c =
+    let off = setting_as c.args.form c.args.origins.now true false Off (g.M.MotionList.entries c.args.fit.now.motions.now) c.args.fit.now.time.now
+    (history_of c.args.fit.now.history.now.start c.args.fit.now.history.now.changes.items) (text_in c.args.program.now).lines
+    (file_of c.machine-machine.result.now) c.args.accepted.now.machine (tools_of c.tools-tools.result.now) c.args.accepted.now.tools
+    c.commands.result.now c.args.accepted.now.off c.machine-machine.ensures.value c.tools-tools.ensures c.commands.ensures in
     let shop = shop_as c.args.form (file_of c.machine-machine.result.now) c.args.accepted.now.machine
     (tools_of c.tools-tools.result.now) c.args.accepted.now.tools c.machine-machine.ensures.value c.tools-tools.ensures in
-    ok_weaker c.write_fit_end.result _ _
-    (λ wrote. appends_both _ _ _ _ _ (appends_as _ _ _ _ off c.in_ok-write_setting.ensures.ok) (appends_as _ _ _ _ shop wrote))
-    c.write_fit_end.ensures.ok
-
-pub returns-clause-fault : goal.returns-clause-fault
-returns-clause-fault g c =
-    let off = setting_as c.args.form c.args.origins.now true false Off (g.M.MotionList.entries c.args.motions.now) c.args.time.now
-    (history_of c.args.history.now.start c.args.history.now.changes.items)
-    (text_in c.args.program.now).lines (file_of c.machine-machine.result.now) c.args.accepted.now.machine
-    (tools_of c.tools-tools.result.now) c.args.accepted.now.tools c.commands-off.result.now c.args.accepted.now.off c.machine-machine.ensures.value c.tools-tools.ensures c.commands-off.ensures in
-    let shop = shop_as c.args.form (file_of c.machine-machine.result.now) c.args.accepted.now.machine
-    (tools_of c.tools-tools.result.now) c.args.accepted.now.tools c.machine-machine.ensures.value c.tools-tools.ensures in
-    err_weaker c.write_fit_end.result _ _
-    (λ wrote. begins_last _ _ _ _ _ (appends_as _ _ _ _ off c.in_ok-write_setting.ensures.ok) (begins_as _ _ _ _ shop wrote))
-    c.write_fit_end.ensures.fault
+    then _ _ (appends_as _ _ _ _ off c.in_ok-write_setting.ensures.ok) c.in_ok-write_setting.ensures.counts (writes_as c.write_fit_end.ensures shop)

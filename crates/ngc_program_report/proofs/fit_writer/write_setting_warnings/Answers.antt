@@ -1,63 +1,42 @@
 use Rattle.std.proofs.Common.{List, Bool, ap, ap₂}
-use Rattle.ngc_text.proofs.AppendedTexts.{appends_both}
 use Rattle.ngc_machine_files.specs.Machine.{file_of}
 use Rattle.ngc_machine_files.specs.declared.tools.Tool.{Tool}
 use Rattle.ngc_line_reader.specs.ProgramView.{text_in}
 use Rattle.ngc_origin_warnings.specs.Warnings.{origin_warnings}
 use Rattle.ngc_word_warnings.specs.Spelling.{word_warnings}
-use Rattle.ngc_program_report.proofs.WrittenLaws.{appends_as, begins_as, begins_first, begins_last, err_weaker, ok_weaker, on_err}
+use Rattle.ngc_program_report.proofs.WritingLaws.{stops, then, writes_text}
+use Rattle.ngc_program_report.proofs.WrittenLaws.{appends_as, begins_as}
 use Rattle.ngc_program_report.proofs.fit_writer.write_setting_warnings.Goals as goal
 
-pub returns-in_err-write_warnings-clause-fault : goal.returns-in_err-write_warnings-clause-fault
-returns-in_err-write_warnings-clause-fault g c =
-    let m = file_of c.args.machine.now in
-    let cs = c.args.commands.now in
-    let h = c.args.history.now in
-    let words = ap₂ (λ (deletes : Bool) (ts : List Tool). word_warnings c.args.form deletes m ts cs (text_in c.args.program.now).lines)
-    c.is_on-deletes.ensures c.tools-table.ensures.tools in
-    let origins = ap (λ (ts : List Tool). origin_warnings c.args.form m ts h.start h.changes.items cs) c.tools-table.ensures.tools in
-    on_err _ _ (begins_first _ _ _ _ c.in_err-write_warnings.ensures.fault)
+pub returns-in_err-write_warnings : goal.returns-in_err-write_warnings
+returns-in_err-write_warnings g c = stops _ _ c.from_residual.ensures.0 c.in_err-write_warnings.ensures.fault c.in_err-write_warnings.ensures.counts
 
-pub returns-in_err-write_tool_warnings-clause-fault : goal.returns-in_err-write_tool_warnings-clause-fault
-returns-in_err-write_tool_warnings-clause-fault g c =
-    let m = file_of c.args.machine.now in
-    let cs = c.args.commands.now in
-    let h = c.args.history.now in
-    let words = ap₂ (λ (deletes : Bool) (ts : List Tool). word_warnings c.args.form deletes m ts cs (text_in c.args.program.now).lines)
-    c.is_on-deletes.ensures c.tools-table.ensures.tools in
-    let origins = ap (λ (ts : List Tool). origin_warnings c.args.form m ts h.start h.changes.items cs) c.tools-table.ensures.tools in
-    on_err _ _ (begins_last _ _ _ _ _ c.in_ok-write_warnings.ensures.ok (begins_first _ _ _ _ c.in_err-write_tool_warnings.ensures.fault))
+pub returns-in_err-write_tool_warnings : goal.returns-in_err-write_tool_warnings
+returns-in_err-write_tool_warnings g c =
+    then _ _ c.in_ok-write_warnings.ensures.ok c.in_ok-write_warnings.ensures.counts
+    (stops _ _ c.from_residual-in_err-write_tool_warnings.ensures.0 c.in_err-write_tool_warnings.ensures.fault c.in_err-write_tool_warnings.ensures.counts)
 
-pub returns-in_err-write_word_warnings-clause-fault : goal.returns-in_err-write_word_warnings-clause-fault
-returns-in_err-write_word_warnings-clause-fault g c =
-    let m = file_of c.args.machine.now in
-    let cs = c.args.commands.now in
-    let h = c.args.history.now in
-    let words = ap₂ (λ (deletes : Bool) (ts : List Tool). word_warnings c.args.form deletes m ts cs (text_in c.args.program.now).lines)
-    c.is_on-deletes.ensures c.tools-table.ensures.tools in
-    let origins = ap (λ (ts : List Tool). origin_warnings c.args.form m ts h.start h.changes.items cs) c.tools-table.ensures.tools in
-    on_err _ _ (begins_last _ _ _ _ _ c.in_ok-write_warnings.ensures.ok (begins_last _ _ _ _ _ c.in_ok-write_tool_warnings.ensures.ok (begins_first _ _ _ _ (begins_as _ _ _ _ words c.in_err-write_word_warnings.ensures.fault))))
+pub returns-in_err-write_word_warnings : goal.returns-in_err-write_word_warnings
+returns-in_err-write_word_warnings g c =
+    let m = file_of c.args.subject.now.machine.now in
+    let cs = c.args.execution.now.commands.now in
+    let lines = (text_in c.args.subject.now.program.now).lines in
+    let words = ap₂ (λ (deletes : Bool) (ts : List Tool). word_warnings c.args.subject.now.form deletes m ts cs lines) c.is_on-deletes.ensures
+    c.tools-table.ensures.tools in
+    then _ _ c.in_ok-write_warnings.ensures.ok c.in_ok-write_warnings.ensures.counts
+    (then _ _ c.in_ok-write_tool_warnings.ensures.ok c.in_ok-write_tool_warnings.ensures.counts
+    (stops _ _ c.from_residual-in_err-write_word_warnings.ensures.0 (begins_as _ _ _ _ words c.in_err-write_word_warnings.ensures.fault) c.in_err-write_word_warnings.ensures.counts))
 
-pub returns-clause-ok : goal.returns-clause-ok
-returns-clause-ok g c =
-    let m = file_of c.args.machine.now in
-    let cs = c.args.commands.now in
-    let h = c.args.history.now in
-    let words = ap₂ (λ (deletes : Bool) (ts : List Tool). word_warnings c.args.form deletes m ts cs (text_in c.args.program.now).lines)
-    c.is_on-deletes.ensures c.tools-table.ensures.tools in
-    let origins = ap (λ (ts : List Tool). origin_warnings c.args.form m ts h.start h.changes.items cs) c.tools-table.ensures.tools in
-    ok_weaker c.write_origin_warnings.result _ _
-    (λ wrote. appends_both _ _ _ _ _ c.in_ok-write_warnings.ensures.ok (appends_both _ _ _ _ _ c.in_ok-write_tool_warnings.ensures.ok (appends_both _ _ _ _ _ (appends_as _ _ _ _ words c.in_ok-write_word_warnings.ensures.ok) ((appends_as _ _ _ _ origins wrote)))))
-    c.write_origin_warnings.ensures.ok
-
-pub returns-clause-fault : goal.returns-clause-fault
-returns-clause-fault g c =
-    let m = file_of c.args.machine.now in
-    let cs = c.args.commands.now in
-    let h = c.args.history.now in
-    let words = ap₂ (λ (deletes : Bool) (ts : List Tool). word_warnings c.args.form deletes m ts cs (text_in c.args.program.now).lines)
-    c.is_on-deletes.ensures c.tools-table.ensures.tools in
-    let origins = ap (λ (ts : List Tool). origin_warnings c.args.form m ts h.start h.changes.items cs) c.tools-table.ensures.tools in
-    err_weaker c.write_origin_warnings.result _ _
-    (λ wrote. begins_last _ _ _ _ _ c.in_ok-write_warnings.ensures.ok (begins_last _ _ _ _ _ c.in_ok-write_tool_warnings.ensures.ok (begins_last _ _ _ _ _ (appends_as _ _ _ _ words c.in_ok-write_word_warnings.ensures.ok) (begins_as _ _ _ _ origins wrote))))
-    c.write_origin_warnings.ensures.fault
+pub returns : goal.returns
+returns g c =
+    let m = file_of c.args.subject.now.machine.now in
+    let cs = c.args.execution.now.commands.now in
+    let lines = (text_in c.args.subject.now.program.now).lines in
+    let words = ap₂ (λ (deletes : Bool) (ts : List Tool). word_warnings c.args.subject.now.form deletes m ts cs lines) c.is_on-deletes.ensures
+    c.tools-table.ensures.tools in
+    let h = c.args.execution.now.history.now in
+    let origins = ap (λ (ts : List Tool). origin_warnings c.args.subject.now.form m ts h.start h.changes.items cs) c.tools-table.ensures.tools in
+    then _ _ c.in_ok-write_warnings.ensures.ok c.in_ok-write_warnings.ensures.counts
+    (then _ _ c.in_ok-write_tool_warnings.ensures.ok c.in_ok-write_tool_warnings.ensures.counts
+    (then _ _ (appends_as _ _ _ _ words c.in_ok-write_word_warnings.ensures.ok) c.in_ok-write_word_warnings.ensures.counts
+    (writes_text _ _ origins c.write_origin_warnings.ensures.ok c.write_origin_warnings.ensures.fault c.write_origin_warnings.ensures.counts)))

@@ -13,26 +13,26 @@ use Rattle.ngc_program_report.proofs.refusal_writer.collect_refusal.Goals as goa
 
 pub returns-in-Err-clause-text : goal.returns-in-Err-clause-text
 returns-in-Err-clause-text g c =
-    let m = file_of c.args.machine.now in
-    let cs = c.args.commands.now in
+    let m = file_of c.args.subject.now.machine.now in
+    let cs = c.args.execution.now.commands.now in
     let k = c.args.command in
-    let h = c.args.history.now in
+    let h = c.args.execution.now.history.now in
     first_stopped (g.W.Sink.written c.args.output.now) (g.W.Sink.written c.collect_refused_command.new.sink) c.args.chunk.now
-    (report_text c.args.form (scene_lines m k None (scene_at m cs k)))
-    (coordinates_text c.args.form c.args.origins.now (frame_in_force h.start h.changes.items (line_of (slice_get cs k))) (refused_path cs (Some k)))
+    (report_text c.args.subject.now.form (scene_lines m k None (scene_at m cs k)))
+    (coordinates_text c.args.subject.now.form c.args.subject.now.origins.now (frame_in_force h.start h.changes.items (line_of (slice_get cs k))) (refused_path cs (Some k)))
     c.in-Err.ensures.told
 
 pub returns-clause-text : goal.returns-clause-text
 returns-clause-text g c =
-    let m = file_of c.args.machine.now in
-    let cs = c.args.commands.now in
+    let m = file_of c.args.subject.now.machine.now in
+    let cs = c.args.execution.now.commands.now in
     let k = c.args.command in
-    let h = c.args.history.now in
-    let is = ap₂ (λ (f : FrameInForce) (w : Option Way). coordinates_text c.args.form c.args.origins.now f w)
+    let h = c.args.execution.now.history.now in
+    let is = ap₂ (λ (f : FrameInForce) (w : Option Way). coordinates_text c.args.subject.now.form c.args.subject.now.origins.now f w)
     (c.in_force-frame.ensures.frame ∙ ap (λ (n : ℕ). frame_in_force h.start h.changes.items n) c.line_of.ensures) c.refused_path-way.ensures in
     both c.collect_coordinates.result (g.W.Sink.written c.args.output.now) (g.W.Sink.written c.collect_refused_command.new.sink)
     (g.W.Sink.written c.collect_coordinates.new.output) c.args.chunk.now c.collect_refused_command.new.chunk c.collect_coordinates.new.chunk
-    (report_text c.args.form (scene_lines m k None (scene_at m cs k)))
-    (coordinates_text c.args.form c.args.origins.now (frame_in_force h.start h.changes.items (line_of (slice_get cs k))) (refused_path cs (Some k)))
+    (report_text c.args.subject.now.form (scene_lines m k None (scene_at m cs k)))
+    (coordinates_text c.args.subject.now.form c.args.subject.now.origins.now (frame_in_force h.start h.changes.items (line_of (slice_get cs k))) (refused_path cs (Some k)))
     c.in-Ok.ensures.told
     (collects_as _ _ _ _ _ _ _ is c.collect_coordinates.ensures.text)

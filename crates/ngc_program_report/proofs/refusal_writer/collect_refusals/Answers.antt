@@ -18,16 +18,16 @@ loop-index-init g c = record {
 
 pub returns-in-Err-clause-text : goal.returns-in-Err-clause-text
 returns-in-Err-clause-text g c =
-    let told = command_refusal c.args.form c.args.origins.now (file_of c.args.machine.now) c.args.commands.now
-    (history_of c.args.history.now.start c.args.history.now.changes.items) in
+    let told = command_refusal c.args.subject.now.form c.args.subject.now.origins.now (file_of c.args.subject.now.machine.now) c.args.execution.now.commands.now
+    (history_of c.args.execution.now.history.now.start c.args.execution.now.history.now.changes.items) in
     stopped_at told c.args.indices.now c.loop-index.index-index (get_or c.args.indices.now c.loop-index.index-index 0) _ _ _ _ _ c.loop-index-test.true
     (sym (get_or_default_zero c.args.indices.now c.loop-index.index-index _ c.loop-index-test.true)) c.loop-index.invariant.front
     c.in-Err.ensures.text
 
 pub loop-index-preserved : goal.loop-index-preserved
 loop-index-preserved g c =
-    let told = command_refusal c.args.form c.args.origins.now (file_of c.args.machine.now) c.args.commands.now
-    (history_of c.args.history.now.start c.args.history.now.changes.items) in
+    let told = command_refusal c.args.subject.now.form c.args.subject.now.origins.now (file_of c.args.subject.now.machine.now) c.args.execution.now.commands.now
+    (history_of c.args.execution.now.history.now.start c.args.execution.now.history.now.changes.items) in
     record {
       front = one_more told c.args.indices.now c.loop-index.index-index (get_or c.args.indices.now c.loop-index.index-index 0) _ _ _ _ _ _
           c.loop-index-test.true (sym (get_or_default_zero c.args.indices.now c.loop-index.index-index _ c.loop-index-test.true)) c.loop-index.invariant.front

@@ -11,9 +11,9 @@ use Rattle.ngc_program_report.proofs.refusal_writer.collect_refusals.Given as go
 abbrev pub invariant-loop-index : goal.invariant-loop-index
 invariant-loop-index g l = record {
   front : WritesPrefix (g.W.Sink.written l.initial.output) (g.W.Sink.written l.output)
-      (l.initial.chunk ++ flat_map (command_refusal l.form l.origins (file_of l.machine) l.commands (history_of l.history.start l.history.changes.items))
+      (l.initial.chunk ++ flat_map (command_refusal l.subject.form l.subject.origins.now (file_of l.subject.machine.now) l.execution.commands.now (history_of l.execution.history.now.start l.execution.history.now.changes.items))
       (take l.index-index l.indices)) l.chunk;
-  standing : StandsAfter (file_of l.machine) l.commands l.standing;
-  walk : WalksOver l.history.start l.history.changes.items l.walk;
+  standing : StandsAfter (file_of l.subject.machine.now) l.execution.commands.now l.standing;
+  walk : WalksOver l.execution.history.now.start l.execution.history.now.changes.items l.walk;
   failures : g.W.Sink.failures l.output ≡ g.W.Sink.failures l.initial.output;
 }

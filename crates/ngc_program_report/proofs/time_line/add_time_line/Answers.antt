@@ -2,7 +2,7 @@ use Rattle.std.proofs.Common.{codes}
 use Rattle.std.specs.Prelude.{decimal}
 use Rattle.ngc_program_report.specs.Times.{time_text}
 use Rattle.ngc_program_report.proofs.JoinedTexts.{five_added}
-use Rattle.ngc_program_report.proofs.report_time.add_time_line.Goals as goal
+use Rattle.ngc_program_report.proofs.time_line.add_time_line.Goals as goal
 
 pub returns : goal.returns
 returns c =
