@@ -153,7 +153,8 @@ fn write_setting<A: Allocator, M: MotionList, W: Sink>(
     subject: &Subject<A>,
     heading: Heading,
     commands: &[Command],
-    fit: &Fit<A, M>,
+    motions: &M,
+    fit: &Fit<A>,
     output: &mut W,
 ) -> Result<(), WriteFault>
     requires tips { fit.now.tips.now
@@ -163,13 +164,13 @@ fn write_setting<A: Allocator, M: MotionList, W: Sink>(
         (W.failures output.new) result
         (setting_text subject.now.form subject.now.origins.now heading.first heading.named
         heading.setting (setup_of subject.now.machine.now subject.now.tools.now) commands.now
-        (M.entries fit.now.motions.now) fit.now.time.now
+        (M.entries motions.now) fit.now.time.now
         (history_of fit.now.history.now.start fit.now.history.now.changes.items)
         (text_in subject.now.program.now).lines) }
 {
     let form = subject.form;
     write_heading(form, subject.origins, heading, output)?;
-    write_fit(form, subject.machine, commands, fit.motions, output)?;
+    write_fit(form, subject.machine, commands, motions, output)?;
     write_duration(form, subject.tools, commands, fit.time, output)?;
     let history = fit.history;
     let execution = Execution { commands, history };
@@ -212,7 +213,8 @@ pub(crate) fn write_once<A: Allocator, M: MotionList, W: Sink>(
     origins: &Origins,
     program: &Program<A>,
     accepted: &Accepted<A>,
-    fit: &Fit<A, M>,
+    motions: &M,
+    fit: &Fit<A>,
     output: &mut W,
 ) -> Result<(), WriteFault>
     requires tips { fit.now.tips.now
@@ -221,7 +223,7 @@ pub(crate) fn write_once<A: Allocator, M: MotionList, W: Sink>(
     ensures { Writes (W.written output.old) (W.written output.new) (W.failures output.old)
         (W.failures output.new) result
         (accepted_text form origins.now false accepted.now
-        (record { off = M.entries fit.now.motions.now; on = M.entries fit.now.motions.now })
+        (record { off = M.entries motions.now; on = M.entries motions.now })
         fit.now.time.now fit.now.time.now
         (history_of fit.now.history.now.start fit.now.history.now.changes.items)
         (history_of fit.now.history.now.start fit.now.history.now.changes.items)
@@ -240,7 +242,14 @@ pub(crate) fn write_once<A: Allocator, M: MotionList, W: Sink>(
         named: false,
         setting: Setting::Off,
     };
-    write_setting(&subject, heading, accepted.commands(false), fit, output)?;
+    write_setting(
+        &subject,
+        heading,
+        accepted.commands(false),
+        motions,
+        fit,
+        output,
+    )?;
     write_fit_end(&subject, output)
 }
 
@@ -250,8 +259,10 @@ pub(crate) fn write_both<A: Allocator, M: MotionList, W: Sink>(
     origins: &Origins,
     program: &Program<A>,
     accepted: &Accepted<A>,
-    off: &Fit<A, M>,
-    on: &Fit<A, M>,
+    off_motions: &M,
+    off: &Fit<A>,
+    on_motions: &M,
+    on: &Fit<A>,
     output: &mut W,
 ) -> Result<(), WriteFault>
     requires off_tips { off.now.tips.now
@@ -263,7 +274,7 @@ pub(crate) fn write_both<A: Allocator, M: MotionList, W: Sink>(
     ensures { Writes (W.written output.old) (W.written output.new) (W.failures output.old)
         (W.failures output.new) result
         (accepted_text form origins.now true accepted.now
-        (record { off = M.entries off.now.motions.now; on = M.entries on.now.motions.now })
+        (record { off = M.entries off_motions.now; on = M.entries on_motions.now })
         off.now.time.now on.now.time.now
         (history_of off.now.history.now.start off.now.history.now.changes.items)
         (history_of on.now.history.now.start on.now.history.now.changes.items)
@@ -282,12 +293,26 @@ pub(crate) fn write_both<A: Allocator, M: MotionList, W: Sink>(
         named: true,
         setting: Setting::Off,
     };
-    write_setting(&subject, heading, accepted.commands(false), off, output)?;
+    write_setting(
+        &subject,
+        heading,
+        accepted.commands(false),
+        off_motions,
+        off,
+        output,
+    )?;
     let heading = Heading {
         first: false,
         named: true,
         setting: Setting::On,
     };
-    write_setting(&subject, heading, accepted.commands(true), on, output)?;
+    write_setting(
+        &subject,
+        heading,
+        accepted.commands(true),
+        on_motions,
+        on,
+        output,
+    )?;
     write_fit_end(&subject, output)
 }

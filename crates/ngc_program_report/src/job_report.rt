@@ -123,11 +123,10 @@ pub fn report_fit<A: Allocator + Copy, W: Sink>(
         let motions = motions_at(&accepted, plans, Setting::Off);
         let fit = Fit {
             history: &off,
-            motions: &motions,
             time: &off_time,
             tips: tips.as_slice(),
         };
-        write_once(form, origins, program, &accepted, &fit, output)?;
+        write_once(form, origins, program, &accepted, &motions, &fit, output)?;
         return Ok(());
     }
     let (on_time, accepted) = time_of(alloc, accepted, true)?;
@@ -138,13 +137,11 @@ pub fn report_fit<A: Allocator + Copy, W: Sink>(
     let on_motions = motions_at(&accepted, plans, Setting::On);
     let off_fit = Fit {
         history: &off,
-        motions: &off_motions,
         time: &off_time,
         tips: off_tips.as_slice(),
     };
     let on_fit = Fit {
         history: on_history,
-        motions: &on_motions,
         time: &on_time,
         tips: on_tips.as_slice(),
     };

@@ -41,9 +41,8 @@ pub(crate) struct Execution<'a, A: Allocator> {
 
 /// What is found of the commands of a setting if they fit.
 #[derive(Drop)]
-pub(crate) struct Fit<'a, A: Allocator, M> {
+pub(crate) struct Fit<'a, A: Allocator> {
     pub(crate) history: &'a FrameHistory<A>,
-    pub(crate) motions: &'a M,
     pub(crate) time: &'a ProgramTime<A>,
     pub(crate) tips: &'a [LowestTip],
 }
