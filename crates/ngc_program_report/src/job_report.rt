@@ -145,7 +145,17 @@ pub fn report_fit<A: Allocator + Copy, W: Sink>(
         time: &on_time,
         tips: on_tips.as_slice(),
     };
-    write_both(form, origins, program, &accepted, &off_fit, &on_fit, output)?;
+    write_both(
+        form,
+        origins,
+        program,
+        &accepted,
+        &off_motions,
+        &off_fit,
+        &on_motions,
+        &on_fit,
+        output,
+    )?;
     Ok(())
 }
 
