@@ -157,24 +157,30 @@ fn write_setting<A: Allocator, M: MotionList, W: Sink>(
     fit: &Fit<A>,
     output: &mut W,
 ) -> Result<(), WriteFault>
-    requires tips { fit.now.tips.now
+    requires tips { fit.now.tips.items
         ≡ lowest_tips (tools_of subject.now.tools.now) fit.now.history.now.start
         fit.now.history.now.changes.items commands.now }
     ensures { Writes (W.written output.old) (W.written output.new) (W.failures output.old)
         (W.failures output.new) result
         (setting_text subject.now.form subject.now.origins.now heading.first heading.named
         heading.setting (setup_of subject.now.machine.now subject.now.tools.now) commands.now
-        (M.entries motions.now) fit.now.time.now
+        (M.entries motions.now) fit.now.time
         (history_of fit.now.history.now.start fit.now.history.now.changes.items)
         (text_in subject.now.program.now).lines) }
 {
     let form = subject.form;
     write_heading(form, subject.origins, heading, output)?;
     write_fit(form, subject.machine, commands, motions, output)?;
-    write_duration(form, subject.tools, commands, fit.time, output)?;
+    write_duration(form, subject.tools, commands, &fit.time, output)?;
     let history = fit.history;
     let execution = Execution { commands, history };
-    write_remarks(subject, heading.setting, &execution, fit.tips, output)
+    write_remarks(
+        subject,
+        heading.setting,
+        &execution,
+        fit.tips.as_slice(),
+        output,
+    )
 }
 
 // Writes the warnings about the machine and its tools.
@@ -217,14 +223,14 @@ pub(crate) fn write_once<A: Allocator, M: MotionList, W: Sink>(
     fit: &Fit<A>,
     output: &mut W,
 ) -> Result<(), WriteFault>
-    requires tips { fit.now.tips.now
+    requires tips { fit.now.tips.items
         ≡ lowest_tips accepted.now.tools fit.now.history.now.start
         fit.now.history.now.changes.items accepted.now.off }
     ensures { Writes (W.written output.old) (W.written output.new) (W.failures output.old)
         (W.failures output.new) result
         (accepted_text form origins.now false accepted.now
         (record { off = M.entries motions.now; on = M.entries motions.now })
-        fit.now.time.now fit.now.time.now
+        fit.now.time fit.now.time
         (history_of fit.now.history.now.start fit.now.history.now.changes.items)
         (history_of fit.now.history.now.start fit.now.history.now.changes.items)
         (text_in program.now).lines) }
@@ -265,17 +271,17 @@ pub(crate) fn write_both<A: Allocator, M: MotionList, W: Sink>(
     on: &Fit<A>,
     output: &mut W,
 ) -> Result<(), WriteFault>
-    requires off_tips { off.now.tips.now
+    requires off_tips { off.now.tips.items
         ≡ lowest_tips accepted.now.tools off.now.history.now.start
         off.now.history.now.changes.items accepted.now.off }
-    requires on_tips { on.now.tips.now
+    requires on_tips { on.now.tips.items
         ≡ lowest_tips accepted.now.tools on.now.history.now.start
         on.now.history.now.changes.items accepted.now.on }
     ensures { Writes (W.written output.old) (W.written output.new) (W.failures output.old)
         (W.failures output.new) result
         (accepted_text form origins.now true accepted.now
         (record { off = M.entries off_motions.now; on = M.entries on_motions.now })
-        off.now.time.now on.now.time.now
+        off.now.time on.now.time
         (history_of off.now.history.now.start off.now.history.now.changes.items)
         (history_of on.now.history.now.start on.now.history.now.changes.items)
         (text_in program.now).lines) }

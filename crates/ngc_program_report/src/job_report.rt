@@ -123,8 +123,8 @@ pub fn report_fit<A: Allocator + Copy, W: Sink>(
         let motions = motions_at(&accepted, plans, Setting::Off);
         let fit = Fit {
             history: &off,
-            time: &off_time,
-            tips: tips.as_slice(),
+            time: off_time,
+            tips,
         };
         write_once(form, origins, program, &accepted, &motions, &fit, output)?;
         return Ok(());
@@ -137,13 +137,13 @@ pub fn report_fit<A: Allocator + Copy, W: Sink>(
     let on_motions = motions_at(&accepted, plans, Setting::On);
     let off_fit = Fit {
         history: &off,
-        time: &off_time,
-        tips: off_tips.as_slice(),
+        time: off_time,
+        tips: off_tips,
     };
     let on_fit = Fit {
         history: on_history,
-        time: &on_time,
-        tips: on_tips.as_slice(),
+        time: on_time,
+        tips: on_tips,
     };
     write_both(
         form,

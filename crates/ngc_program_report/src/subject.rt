@@ -43,6 +43,6 @@ pub(crate) struct Execution<'a, A: Allocator> {
 #[derive(Drop)]
 pub(crate) struct Fit<'a, A: Allocator> {
     pub(crate) history: &'a FrameHistory<A>,
-    pub(crate) time: &'a ProgramTime<A>,
-    pub(crate) tips: &'a [LowestTip],
+    pub(crate) time: ProgramTime<A>,
+    pub(crate) tips: Vec<LowestTip, A>,
 }

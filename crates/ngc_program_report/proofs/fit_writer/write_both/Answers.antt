@@ -30,7 +30,7 @@ write_setting-requires-2 g c =
 
 pub returns-in_err-write_setting : goal.returns-in_err-write_setting
 returns-in_err-write_setting g c =
-    let off = setting_as c.args.form c.args.origins.now true true Off (g.M.MotionList.entries c.args.off_motions.now) c.args.off.now.time.now
+    let off = setting_as c.args.form c.args.origins.now true true Off (g.M.MotionList.entries c.args.off_motions.now) c.args.off.now.time
     (history_of c.args.off.now.history.now.start c.args.off.now.history.now.changes.items) (text_in c.args.program.now).lines
     (file_of c.machine-machine.result.now) c.args.accepted.now.machine (tools_of c.tools-tools.result.now) c.args.accepted.now.tools
     c.commands.result.now c.args.accepted.now.off c.machine-machine.ensures.value c.tools-tools.ensures c.commands.ensures in
@@ -38,11 +38,11 @@ returns-in_err-write_setting g c =
 
 pub returns-in_err-write_setting-2 : goal.returns-in_err-write_setting-2
 returns-in_err-write_setting-2 g c =
-    let off = setting_as c.args.form c.args.origins.now true true Off (g.M.MotionList.entries c.args.off_motions.now) c.args.off.now.time.now
+    let off = setting_as c.args.form c.args.origins.now true true Off (g.M.MotionList.entries c.args.off_motions.now) c.args.off.now.time
     (history_of c.args.off.now.history.now.start c.args.off.now.history.now.changes.items) (text_in c.args.program.now).lines
     (file_of c.machine-machine.result.now) c.args.accepted.now.machine (tools_of c.tools-tools.result.now) c.args.accepted.now.tools
     c.commands.result.now c.args.accepted.now.off c.machine-machine.ensures.value c.tools-tools.ensures c.commands.ensures in
-    let on = setting_as c.args.form c.args.origins.now false true On (g.M.MotionList.entries c.args.on_motions.now) c.args.on.now.time.now
+    let on = setting_as c.args.form c.args.origins.now false true On (g.M.MotionList.entries c.args.on_motions.now) c.args.on.now.time
     (history_of c.args.on.now.history.now.start c.args.on.now.history.now.changes.items) (text_in c.args.program.now).lines
     (file_of c.machine-machine.result.now) c.args.accepted.now.machine (tools_of c.tools-tools.result.now) c.args.accepted.now.tools
     c.commands-2.result.now c.args.accepted.now.on c.machine-machine.ensures.value c.tools-tools.ensures c.commands-2.ensures in
@@ -51,11 +51,11 @@ returns-in_err-write_setting-2 g c =
 
 pub returns : goal.returns
 returns g c =
-    let off = setting_as c.args.form c.args.origins.now true true Off (g.M.MotionList.entries c.args.off_motions.now) c.args.off.now.time.now
+    let off = setting_as c.args.form c.args.origins.now true true Off (g.M.MotionList.entries c.args.off_motions.now) c.args.off.now.time
     (history_of c.args.off.now.history.now.start c.args.off.now.history.now.changes.items) (text_in c.args.program.now).lines
     (file_of c.machine-machine.result.now) c.args.accepted.now.machine (tools_of c.tools-tools.result.now) c.args.accepted.now.tools
     c.commands.result.now c.args.accepted.now.off c.machine-machine.ensures.value c.tools-tools.ensures c.commands.ensures in
-    let on = setting_as c.args.form c.args.origins.now false true On (g.M.MotionList.entries c.args.on_motions.now) c.args.on.now.time.now
+    let on = setting_as c.args.form c.args.origins.now false true On (g.M.MotionList.entries c.args.on_motions.now) c.args.on.now.time
     (history_of c.args.on.now.history.now.start c.args.on.now.history.now.changes.items) (text_in c.args.program.now).lines
     (file_of c.machine-machine.result.now) c.args.accepted.now.machine (tools_of c.tools-tools.result.now) c.args.accepted.now.tools
     c.commands-2.result.now c.args.accepted.now.on c.machine-machine.ensures.value c.tools-tools.ensures c.commands-2.ensures in

@@ -22,7 +22,7 @@ write_setting-requires g c =
 
 pub returns-in_err-write_setting : goal.returns-in_err-write_setting
 returns-in_err-write_setting g c =
-    let off = setting_as c.args.form c.args.origins.now true false Off (g.M.MotionList.entries c.args.motions.now) c.args.fit.now.time.now
+    let off = setting_as c.args.form c.args.origins.now true false Off (g.M.MotionList.entries c.args.motions.now) c.args.fit.now.time
     (history_of c.args.fit.now.history.now.start c.args.fit.now.history.now.changes.items) (text_in c.args.program.now).lines
     (file_of c.machine-machine.result.now) c.args.accepted.now.machine (tools_of c.tools-tools.result.now) c.args.accepted.now.tools
     c.commands.result.now c.args.accepted.now.off c.machine-machine.ensures.value c.tools-tools.ensures c.commands.ensures in
@@ -30,7 +30,7 @@ returns-in_err-write_setting g c =
 
 pub returns : goal.returns
 returns g c =
-    let off = setting_as c.args.form c.args.origins.now true false Off (g.M.MotionList.entries c.args.motions.now) c.args.fit.now.time.now
+    let off = setting_as c.args.form c.args.origins.now true false Off (g.M.MotionList.entries c.args.motions.now) c.args.fit.now.time
     (history_of c.args.fit.now.history.now.start c.args.fit.now.history.now.changes.items) (text_in c.args.program.now).lines
     (file_of c.machine-machine.result.now) c.args.accepted.now.machine (tools_of c.tools-tools.result.now) c.args.accepted.now.tools
     c.commands.result.now c.args.accepted.now.off c.machine-machine.ensures.value c.tools-tools.ensures c.commands.ensures in
