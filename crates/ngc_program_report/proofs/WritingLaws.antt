@@ -43,6 +43,15 @@ pub stops : {r : Result (Unit {0}) WriteFault} {old new : Option (List ℕ)} {n 
     → Writes old new n m r (a ++ b)
 stops {r} {old} {new} {n} {m} a b is wrote counted = stops_by r old new n m a b is wrote counted
 
+breaks_by : (r : Result (Unit {0}) WriteFault) (old new : Option (List ℕ)) (n m : ℕ) (a : List ℕ) → IsErr r → AppendsPrefix old new a → Rises n m
+    → Writes old new n m r a
+breaks_by (Ok u) old new n m a is wrote counted = absurd (cc is)
+breaks_by (Err e) old new n m a is wrote counted = record { ok = tt; fault = wrote; counts = counted }
+
+-- a write fails within a text
+pub breaks : {r : Result (Unit {0}) WriteFault} {old new : Option (List ℕ)} {n m : ℕ} {a : List ℕ} → IsErr r → AppendsPrefix old new a → Rises n m → Writes old new n m r a
+breaks {r} {old} {new} {n} {m} {a} is wrote counted = breaks_by r old new n m a is wrote counted
+
 -- a text that is written, from the three clauses
 pub written : {r : Result (Unit {0}) WriteFault} {old new : Option (List ℕ)} {n m : ℕ} {a : List ℕ} → OnOk r (Appends old new a)
     → OnErr r (AppendsPrefix old new a) → CountsFailure n m r → Writes old new n m r a
