@@ -24,6 +24,23 @@ def command_of(names, browser):
     return command
 
 
+# A picture in three dimensions without a graphics card.
+SOFTWARE_GL = ("--use-angle=swiftshader", "--enable-unsafe-swiftshader", "--ignore-gpu-blocklist")
+
+
+def display():
+    """Starts a virtual display and returns its name, or None where Xvfb isn't installed."""
+    server = shutil.which("Xvfb")
+    if not server:
+        return None
+    read, write = os.pipe()
+    process = subprocess.Popen([server, "-displayfd", str(write), "-screen", "0", "1600x1400x24", "-nolisten", "tcp"], pass_fds=(write,), stdout=subprocess.DEVNULL, stderr=subprocess.DEVNULL)
+    atexit.register(process.kill)
+    os.close(write)
+    with os.fdopen(read) as told:
+        return f":{told.readline().strip()}"
+
+
 class Fault(RuntimeError):
     """What an expression threw, or what the browser doesn't do."""
 
@@ -65,7 +82,7 @@ class Chromium(Browser):
         for it in (read, self.write, self.read, write):
             os.close(it)
         read, self.write, self.read, write = high
-        flags = ["--headless", "--no-sandbox", "--disable-gpu", "--remote-debugging-pipe", f"--user-data-dir={folder}", "--window-size=1200,1500"]
+        flags = ["--headless", "--no-sandbox", *SOFTWARE_GL, "--remote-debugging-pipe", f"--user-data-dir={folder}", "--window-size=1200,1500"]
         place = lambda: (os.dup2(read, 3), os.dup2(write, 4))
         quiet = {"stdout": subprocess.DEVNULL, "stderr": subprocess.DEVNULL}
         command = command_of(self.NAMES, "Chromium")
@@ -106,7 +123,7 @@ class Chromium(Browser):
         self.wait(READY)
 
     def choose(self, selector, file):
-        self.value(f"document.querySelector({json.dumps(selector)}).onclick?.(); 0")
+        self.value(f"document.querySelector({json.dumps(selector)}).value = ''; 0")
         root = self.call("DOM.getDocument")["root"]["nodeId"]
         node = self.call("DOM.querySelector", nodeId=root, selector=selector)["nodeId"]
         self.call("DOM.setFileInputFiles", nodeId=node, files=[str(file)])
@@ -185,18 +202,25 @@ class Socket:
 
 
 class Firefox(Browser):
-    """A headless Firefox, which is driven over a web socket by WebDriver BiDi."""
+    """A Firefox, which is driven over a web socket by WebDriver BiDi. It runs on a virtual display, since a headless one has no WebGL; where
+    Xvfb isn't installed it is headless, and the page shows its plain drawing."""
 
     NAMES = ("firefox-esr", "firefox")
 
     def __init__(self, folder, downloads, has_storage=True):
         """Starts it with a new profile in a folder, and a folder for what is saved."""
         folder.mkdir()
-        settings = {"browser.download.folderList": 2, "browser.download.dir": str(downloads), "dom.storage.enabled": has_storage}
+        settings = {
+            "browser.download.folderList": 2, "browser.download.dir": str(downloads), "browser.download.alwaysOpenPanel": False,
+            "dom.storage.enabled": has_storage, "webgl.force-enabled": True, "gfx.webrender.software": True, "widget.dmabuf.force-enabled": False,
+            "dom.disable_beforeunload": True, "dom.w3c_touch_events.enabled": 1,
+        }
         (folder / "user.js").write_text("".join(f"user_pref({json.dumps(it)}, {json.dumps(value)});\n" for it, value in settings.items()))
-        command = [command_of(self.NAMES, "Firefox"), "--headless", "--no-remote", "--profile", folder, "--remote-debugging-port", "0", "about:blank"]
+        place = display()
+        shown = {"DISPLAY": place} if place else {"MOZ_HEADLESS": "1"}
+        command = [command_of(self.NAMES, "Firefox"), "--no-remote", "--profile", folder, "--remote-debugging-port", "0", "about:blank"]
         quiet = {"stdout": subprocess.DEVNULL, "stderr": subprocess.DEVNULL}
-        self.process = subprocess.Popen(command, env={**os.environ, "HOME": str(folder)}, **quiet)
+        self.process = subprocess.Popen(command, env={**os.environ, **shown, "HOME": str(folder)}, **quiet)
         atexit.register(self.process.kill)
         told, until = folder / "WebDriverBiDiServer.json", time.time() + 60
         while not (told.exists() and told.read_text().strip().endswith("}")):
@@ -231,7 +255,7 @@ class Firefox(Browser):
         self.wait(READY)
 
     def choose(self, selector, file):
-        self.value(f"document.querySelector({json.dumps(selector)}).onclick?.(); 0")
+        self.value(f"document.querySelector({json.dumps(selector)}).value = ''; 0")
         node = self.evaluate(f"document.querySelector({json.dumps(selector)})")["sharedId"]
         self.call("input.setFiles", context=self.context, element={"sharedId": node}, files=[str(file)])
 
