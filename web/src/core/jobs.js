@@ -72,6 +72,7 @@ export function makeJobs(source, firstModule, filesNow) {
       for (const name of lanes.keys()) this.stop(name);
     },
     isBusy: laneName => Boolean(laneOf(laneName).running),
+    get isIdle() { return [...lanes.values()].every(lane => !lane.running && !lane.waiting.length); },
   };
 }
 

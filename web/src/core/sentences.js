@@ -65,6 +65,8 @@ function refusedFileSentence(report) {
 function refusedSentence(report, group) {
   const { cause, remedy } = causeAndRemedy(meaningOf(report.explanation)), reason = group.reason?.text;
   const what = group.isUnreadable ? "can't be read" : 'is refused';
+  // A cause that is about the whole program is a sentence already.
+  if (/^The program /.test(cause) && !reason) return { kind: 'bad', line: group.line?.number, note: `${cause}.`, title: `${cause}.`, detail: remedy };
   if (!group.line) return { kind: 'bad', title: `The program ${what}: ${small(reason ?? `${cause}.`)}`, detail: remedy };
   // A reason says which word is wrong; then the meaning of the fault is the detail.
   return { kind: 'bad', line: group.line.number, column: group.mark?.column, title: `Line ${group.line.number} ${what}: ${small(reason ?? `${cause}.`)}`,

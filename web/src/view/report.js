@@ -23,7 +23,7 @@ export const toolRows = (group, scene, unit) => group.uses.map((use, at) => {
 // The figures of each tool that feeds: what a machinist compares with the tool's data.
 export const figureRows = (group, unit) => group.figures.map(it => {
   const range = (pair, show) => (pair === null ? null : pair[0] === pair[1] ? show(pair[0]) : `${show(pair[0])} to ${show(pair[1])}`);
-  const turns = it2 => count(Math.round(it2 / 1e6)), feeds = range(it.feeds, nm => rate(nm / 1e6, unit));
+  const turns = value => count(Math.round(value / 1e6)), feeds = range(it.feeds, nm => rate(nm / 1e6, unit))?.replace(/ (mm|in)\/min to/, ' to');
   const inverse = range(it.inverse_feeds, value => count(value / 1e6)), clockwise = range(it.clockwise, turns), counter = range(it.counterclockwise, turns);
   return [it.tool === null ? 'no tool' : `T${it.tool}`, [feeds, inverse && `${inverse} motions/min`].filter(Boolean).join('; ') || 'none',
     [clockwise && `${clockwise}/min`, counter && `${counter}/min counterclockwise`].filter(Boolean).join('; ') || 'off', it.plunge ? length(it.plunge, unit) : 'none', count(it.holes), duration(it.seconds)];
