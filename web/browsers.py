@@ -26,7 +26,7 @@ def command_of(names, browser):
 
 
 # A picture in three dimensions without a graphics card.
-SOFTWARE_GL = ("--use-angle=swiftshader", "--enable-unsafe-swiftshader", "--ignore-gpu-blocklist")
+SOFTWARE_GL = ("--use-angle=swiftshader", "--enable-unsafe-swiftshader", "--ignore-gpu-blocklist", "--disable-gpu-compositing", "--force-prefers-reduced-motion")
 
 
 def display():
@@ -254,7 +254,7 @@ class Firefox(Browser):
         settings = {
             "browser.download.folderList": 2, "browser.download.dir": str(downloads), "browser.download.alwaysOpenPanel": False,
             "dom.storage.enabled": has_storage, "webgl.force-enabled": True, "gfx.webrender.software": True, "widget.dmabuf.force-enabled": False,
-            "dom.disable_beforeunload": True, "dom.w3c_touch_events.enabled": 1,
+            "dom.disable_beforeunload": True, "ui.prefersReducedMotion": 1, "dom.w3c_touch_events.enabled": 1,
         }
         (folder / "user.js").write_text("".join(f"user_pref({json.dumps(it)}, {json.dumps(value)});\n" for it, value in settings.items()))
         place = display()

@@ -114,7 +114,9 @@ export function makeFiles(store, getJobs, notice) {
 
   // ---- examples, and what is kept for the next visit
 
+  // An example is as its file says: without the zeros that were tried before.
   function useExampleMachine() {
+    store.dispatch({ type: 'set', values: { origins: {} } });
     for (const [kind, name] of Object.entries(EXAMPLE_MACHINE)) {
       const file = store.state.files[kind];
       if (file?.source !== 'example') use(kind, name, exampleBytes(name), 'example');

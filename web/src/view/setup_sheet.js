@@ -8,7 +8,7 @@ import { fill, h, id, table } from './dom.js';
 import { FIGURE_HEADS, TOOL_HEADS, figureRows, toolRows } from './report.js';
 
 // What fits on one page.
-const MOST = { fixtures: 10, tools: 12, uses: 10, figures: 10, lowest: 8, warnings: 6 };
+const MOST = { fixtures: 8, tools: 7, uses: 7, figures: 7, lowest: 4, warnings: 4 };
 
 // The first rows of a table, and how many there are more.
 function firstRows(caption, heads, rows, most) {
