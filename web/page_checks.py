@@ -100,8 +100,12 @@ class Page:
         return subprocess.run([self.program, words[0], *given, *words[1:]], cwd=self.folder, stdin=subprocess.DEVNULL, capture_output=True)
 
     def use_module(self, module):
-        data = base64.b64encode(module).decode()
-        self.value(f"WebAssembly.compile(Uint8Array.from(atob('{data}'), it => it.charCodeAt(0))).then(it => ngc.jobs.useModule(it)).then(() => 0)")
+        """Lets the page's workers use another module, which is compiled once."""
+        name = zlib.crc32(module)
+        if not self.value(f"!!(window.modules ??= {{}})[{name}]"):
+            data = base64.b64encode(module).decode()
+            self.value(f"WebAssembly.compile(Uint8Array.from(atob('{data}'), it => it.charCodeAt(0))).then(it => {{ modules[{name}] = it; }}).then(() => 0)")
+        self.value(f"ngc.jobs.useModule(modules[{name}]); 0")
 
 
 # ---- verdicts
@@ -584,7 +588,11 @@ def save(checks, page):
         page.example(name)
         save_each(checks, page, name)
     page.example("slot.ngc")
-    page.do("ngc.actions.setBlockDelete(true)")
+    page.give({"another.cert": "ngc-certificate 1\n"})
+    made = page.native("certify", "--format", "2", files=("slot.ngc", "named_mill.toml", "tools.toml"))
+    page.value("ngc.actions.save('certificate'); 0")
+    checks.equal("beside a certificate that was dropped, the one of `ngc certify` is saved", wait_for(page.downloads / "slot.cert", len(made.stdout)), made.stdout)
+    page.do("ngc.actions.forgetCertificate(); ngc.actions.setBlockDelete(true)")
     save_each(checks, page, "slot.ngc", ["--delete"])
     (page.folder / "slot.cert").write_bytes(page.native("certify", "--format", "2", files=("slot.ngc", "named_mill.toml", "tools.toml")).stdout)
     made = page.native("pulses", "--certificate", "slot.cert", "--delete", files=("slot.ngc", "named_mill.toml", "tools.toml"))
@@ -755,6 +763,7 @@ def hostile(checks, page):
         page.wait("violated.length > 0", 10)
         checks.equal(f"the policy blocks {what}", page.value("harmed"), False)
     page.browser.events.clear()
+    page.value("ngc.actions.forgetCertificate(); 0")
     page.example("slot.ngc")
 
 
@@ -768,10 +777,10 @@ JOBS = {
     "every": ("ngc.actions.check()", "side", "document.getElementById('report').textContent", "document.querySelectorAll('#report .places li').length === 2"),
     "save": ("ngc.actions.save('report')", "save", "document.getElementById('notices').textContent", "document.getElementById('notices').textContent.startsWith('Saved as')"),
     "pulses": ("ngc.actions.save('pulses')", "save", "document.getElementById('notices').textContent", "document.getElementById('notices').textContent.startsWith('Saved as')"),
-    "adapt": ("ngc.actions.rewrite()", "side", "document.getElementById('adapt-notes').textContent", "document.getElementById('adapt-notes').textContent === 'Nothing had to be changed.'"),
+    "adapt": ("ngc.actions.rewrite()", "side", "document.getElementById('adapt-notes').textContent", "document.querySelector('#adapt-notes pre') !== null"),
     "machine": (f"ngc.files.makeMachine([new TextEncoder().encode({json.dumps(SETTINGS)})], 'dump.txt')", "side", "document.getElementById('notices').textContent", "document.getElementById('notices').textContent.startsWith('dump.toml is in use')"),
     "explain": ("ngc.actions.explain(304)", "side", "document.getElementById('notices').textContent + '|' + document.getElementById('explained').textContent", "document.getElementById('explained').textContent.startsWith('Fault 304')"),
-    "search": ("document.getElementById('query').value = 'g1'; document.getElementById('query').oninput()", "side", "document.getElementById('hits').textContent", "document.getElementById('hits').textContent.endsWith('found')"),
+    "search": ("document.getElementById('query').value = document.getElementById('query').value === 'g1' ? 'g0' : 'g1'; document.getElementById('query').oninput()", "side", "document.getElementById('hits').textContent", "document.getElementById('hits').textContent.endsWith('found')"),
     "index": ("ngc.files.use('program', 'long.ngc', new TextEncoder().encode('(x)\\n'.repeat(60000) + 'M2\\n'), 'user')", "index", "document.getElementById('line-count').textContent", "document.getElementById('line-count').textContent.endsWith('lines') || document.getElementById('line-count').textContent.endsWith('line')"),
     "batch": ("ngc.files.take({ files: ['a.ngc', 'b.ngc'].map(it => new File(['G21\\nM2\\n'], it)), folders: 0, unread: [], isCut: false })", "batch", "[...document.querySelectorAll('.chip-program select option')].map(it => it.textContent).join()", "ngc.store.state.programs.every(it => it.verdict === 'fits')"),
 }
@@ -780,10 +789,8 @@ NO_MEMORY = "There is not enough memory"
 
 
 def prepare(page, job):
-    page.use_module(page.module)
-    page.do("ngc.actions.forgetCertificate()")
-    page.example(STOPPED.get(job, "slot.ngc"))
-    page.do("document.getElementById('query').value = ''; document.getElementById('query').oninput(); document.getElementById('adapt-notes').textContent = ''; document.getElementById('explained').textContent = ''")
+    example = STOPPED.get(job, "slot.ngc")
+    page.do(f"ngc.actions.forgetCertificate(); ngc.files.useExampleMachine(); ngc.actions.example('{example}'); document.getElementById('query').value = ''; document.getElementById('query').oninput(); document.getElementById('adapt-notes').textContent = ''; document.getElementById('explained').textContent = ''")
     if job == "certificate":
         page.give({"slot.cert": page.native("certify", "--format", "2", files=("slot.ngc", "named_mill.toml", "tools.toml")).stdout.decode()})
     page.forget_notices()
@@ -805,7 +812,7 @@ def stopped_workers(checks, page):
         page.wait("ngc.jobs.isIdle", 60)
         page.value(DRAWN)
         checks.has(f"a stopped {job} says so", page.value(said), wanted[job])
-        prepare(page, job)
+        page.forget_notices()
         page.value(f"{begin}; 0")
         page.wait(works, 60)
         checks.expect(f"  and the next {job} works", True)
@@ -833,6 +840,7 @@ def ended_memory(checks, page):
             checks.equal("without memory the programs of a drop have no verdict", page.value(said), "2,? a.ngc,? b.ngc")
         else:
             checks.has(f"without memory the {job} says so", page.value(said), "memory")
+        page.use_module(page.module)
         prepare(page, job)
         page.value(f"{begin}; 0")
         page.wait(works, 60)
@@ -857,20 +865,21 @@ def each_size(checks, page):
         "ngc_check": (["check", "--certificate", "some.cert"], [], "cert"), "ngc_pulses": (["pulses", "--certificate", "some.cert"], [0], "cert"),
     }
     least, places = memory_of(page.module), (1 << 20) // 65536
-    for export, (words, options, more) in calls.items():
-        made = page.native(*words, files=files)
-        seen, wrong = {}, []
-        for pages in (least, least + places // 2, *(least + places + it for it in (1, 4, 7, 12, 16, 24, 32, 64, 128, 4096))):
-            page.use_module(with_most_memory(page.module, pages))
-            given = f"['program', 'machine', 'tools'{', cert' if more else ''}]"
+    wanted = {export: page.native(*words, files=files) for export, (words, _, _) in calls.items()}
+    seen, wrong = {export: {} for export in calls}, {export: [] for export in calls}
+    for pages in (least, least + places // 2, *(least + places + it for it in (1, 4, 7, 12, 16, 24, 32, 64, 128, 4096))):
+        page.use_module(with_most_memory(page.module, pages))
+        for export, (_, options, more) in calls.items():
+            made, given = wanted[export], f"['program', 'machine', 'tools'{', cert' if more else ''}]"
             got = page.value(f"ngc.jobs.run('test', 'test', 'output', {{ name: '{export}', given: {given}, options: {options} }}).then(it => [it.status, new TextDecoder().decode(it.output), it.text], it => [it.kind, it.text, ''])")
             same = got == [made.returncode, made.stdout.decode(), made.stderr.decode()]
             kind = "no space" if got[0] == "memory" else "the bytes of the program" if same else got[2].strip() if got[0] == 1 and got[2] in ("ngc: fault 900\n", "ngc: fault 902\n") else None
             if not kind:
-                wrong.append((pages, got[0], got[1][:100], got[2][:100]))
-            seen[kind] = seen.get(kind, 0) + 1
-        met = ", ".join(f"{it} {times} times" for it, times in seen.items())
-        checks.expect(f"{export} with {sum(seen.values())} sizes of memory never traps: {met}", not wrong, wrong)
+                wrong[export].append((pages, got[0], got[1][:100], got[2][:100]))
+            seen[export][kind] = seen[export].get(kind, 0) + 1
+    for export in calls:
+        met = ", ".join(f"{it} {times} times" for it, times in seen[export].items())
+        checks.expect(f"{export} with {sum(seen[export].values())} sizes of memory never traps: {met}", not wrong[export], wrong[export])
 
 
 def traps(checks, page):

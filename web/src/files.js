@@ -1,6 +1,7 @@
 // The files in use: from drops, choices, examples and edits.
 
 import { ProgramText, startsOf } from './core/program_text.js';
+import { sentenceOfFailure } from './core/jobs.js';
 import { kindOf } from './core/sort_files.js';
 import { keepFile, keptFile } from './core/storage.js';
 import { current } from './core/store.js';
@@ -102,7 +103,7 @@ export function makeFiles(store, getJobs, notice) {
       const file = use('machine', name, made.output, 'made');
       notice(`${name} is in use. ${notes}`, '', { label: 'Save it', act: () => download(file.name, file.blob()) });
       store.dispatch({ type: 'set', values: { tab: 'shop' } });
-    } catch (failure) { notice(`No machine file was made of ${from}. ${failure.text}`, 'bad'); }
+    } catch (failure) { notice(`No machine file was made of ${from}. ${sentenceOfFailure(failure)}`, 'bad'); }
   }
   // Changes the text of the machine file in use, and keeps the zeros of this check.
   function changeMachine(change, sentence) {

@@ -7,6 +7,7 @@ import { size } from './core/units.js';
 import { download } from './files.js';
 
 const bytesOfUrl = url => Uint8Array.from(atob(url.split(',')[1]), it => it.charCodeAt(0));
+const IN_USE = ['program', 'machine', 'tools'];
 const DRAWINGS = ['top', 'front', 'side', 'iso'];
 
 // The end of the file's name, the job, and its options, for each button.
@@ -50,7 +51,7 @@ export function makeSaving(store, getJobs, parts, notice) {
       const { files } = store.state;
       if (what === 'print') return parts.setupSheet.print();
       if (what === 'picture') return saveImage();
-      if (!files[what]) return saveOutput(what);
+      if (!IN_USE.includes(what)) return saveOutput(what);
       if (what === 'program') savedVersion = files.program.version;
       download(files[what].name, files[what].blob());
     },

@@ -55,7 +55,10 @@ const JOBS = {
     const got = call(module, 'ngc_report', inUse(origins), [all ? 1 : 0, 1]), errors = textOf(got.notes), fault = faultNumber(errors);
     const refusedFile = /fault \d+ (machine|tools)/.exec(errors)?.[1] ?? null;
     const sentence = refusedFile ? textOf(call(module, 'ngc_report', inUse(origins), [0, 0]).output) : '';
-    return [{ status: got.status, ...factsOf(got.output), errors, fault, explanation: explanationOf(fault), refusedFile, sentence }];
+    const { facts, isCut } = factsOf(got.output);
+    // A zero that was tried is an origin, though the stand-in's text of the file may have zeros there.
+    const known = facts.filter(it => it.fact !== 'no_origin' || !origins[it.system]);
+    return [{ status: got.status, facts: known, isCut, errors, fault, explanation: explanationOf(fault), refusedFile, sentence }];
   },
   scene({ origins }) { return [sceneOf(origins)]; },
   path({ origins, blockDelete }) {
