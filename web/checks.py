@@ -3,13 +3,17 @@ from browsers import Fault
 
 
 class Checks:
-    def __init__(self):
+    def __init__(self, stops=False):
+        """`stops`: whether the first check that fails ends the test."""
         self.passed = self.failed = 0
+        self.stops = stops
 
     def expect(self, what, holds, found=""):
         self.passed += bool(holds)
         self.failed += not holds
         print(f"passed: {what}" if holds else f"FAILED: {what}{f': {found!r}' if found != '' else ''}", flush=True)
+        if self.stops and not holds:
+            raise SystemExit(1)
 
     def equal(self, what, found, wanted):
         self.expect(what, found == wanted, found)

@@ -43,17 +43,17 @@ class Tasks:
 
     def begin(self):
         self.browser.events.clear()
-        self.browser.call("Tracing.start", transferMode="ReportEvents", traceConfig={"includedCategories": ["toplevel", "disabled-by-default-devtools.timeline", "devtools.timeline", "__metadata"], "recordMode": "recordAsMuchAsPossible"})
+        self.browser.call("Tracing.start", transferMode="ReportEvents", traceConfig={"includedCategories": ["toplevel", "__metadata"], "excludedCategories": ["*"], "recordMode": "recordAsMuchAsPossible"})
 
     def end(self):
-        """The longest task in ms, its processor time, and what drawing took of the longest: (wall, processor)."""
+        """The longest task in ms, and the most processor time that a task took."""
         self.browser.call("Tracing.end")
         while not any(it.get("method") == "Tracing.tracingComplete" for it in self.browser.events):
             self.browser.events.append(self.browser.message())
         events = [it for batch in self.browser.events if batch.get("method") == "Tracing.dataCollected" for it in batch["params"]["value"]]
         self.browser.events.clear()
         mains = {(it["pid"], it["tid"]) for it in events if it.get("name") == "thread_name" and it["args"].get("name") == "CrRendererMain"}
-        tasks = [it for it in events if it.get("ph") == "X" and it.get("name") in ("RunTask", "ThreadControllerImpl::RunTask") and (it["pid"], it["tid"]) in mains]
+        tasks = [it for it in events if it.get("ph") == "X" and (it["pid"], it["tid"]) in mains]
         wall, processor = (max((it.get(part, 0) / 1000 for it in tasks), default=0) for part in ("dur", "tdur"))
         return wall, processor
 

@@ -22,17 +22,23 @@ const SLOW = 70;                // ms for a frame, from which on a renderer is s
 const AXIS_COLOURS = [[1, 0.24, 0.24], [0.16, 0.67, 0.27], [0.2, 0.43, 0.94]], AXIS_LENGTH = 18;
 const isDark = () => document.documentElement.dataset.shade === 'dark';
 
-// A renderer with hardware, or without; null if there is no WebGL.
+// Whether WebGL runs without a graphics card. Then lines are drawn without antialiasing, and long paths one point wide.
+function hasSoftwareOnly() {
+  const context = document.createElement('canvas').getContext('webgl', { failIfMajorPerformanceCaveat: true });
+  if (!context) return true;
+  const names = context.getExtension('WEBGL_debug_renderer_info'), name = String(context.getParameter(names ? names.UNMASKED_RENDERER_WEBGL : context.RENDERER));
+  context.getExtension('WEBGL_lose_context')?.loseContext();
+  return /swiftshader|llvmpipe|softpipe|software|basic render/i.test(name);
+}
+// The renderer, or null if there is no WebGL.
 function startRenderer(canvas) {
-  const attributes = { alpha: true, antialias: true, failIfMajorPerformanceCaveat: true };
-  let context = canvas.getContext('webgl', attributes);
-  const isSoftware = !context;
-  context ??= canvas.getContext('webgl', { ...attributes, antialias: false, failIfMajorPerformanceCaveat: false });
-  if (!context) return null;
+  const isSoftware = hasSoftwareOnly();
   try {
-    const renderer = new WebGLRenderer({ canvas, context });
+    const renderer = new WebGLRenderer({ canvas, antialias: !isSoftware, alpha: true });
     renderer.setPixelRatio(isSoftware ? 1 : Math.min(window.devicePixelRatio || 1, 2));
     renderer.setClearColor(0, 0);
+    // Asking for errors after each program waits for the graphics card.
+    renderer.debug.checkShaderErrors = false;
     return { renderer, isSoftware };
   } catch { return null; }
 }
