@@ -903,6 +903,19 @@ def traps(checks, page):
     page.example("slot.ngc")
 
 
+def unable(checks, page):
+    """A browser that can't compile the module, as one without 64-bit memory."""
+    broken = base64.b64encode(gzip.compress(b"\0asm\1\0\0\0\x7f")).decode()
+    file = page.folder / "unable.html"
+    file.write_text(re.sub(r'(id="module">).*?(</script>)', lambda it: it[1] + broken + it[2], page.file.read_text(), flags=re.S))
+    page.browser.open(file)
+    checks.begins("where the browser can't compile the module, the page says so", page.title, "This browser can't run the page: it has no 64-bit WebAssembly memory.")
+    checks.has("and which browsers can", page.text("verdict-detail"), "Chromium 133 or later and Firefox 134 or later")
+    page.browser.open(page.file)
+    page.settle()
+    page.show_picture(page.shows_picture)
+
+
 # ---- paper
 
 
@@ -960,15 +973,18 @@ def quiet(checks, page):
 
 
 PICTURED = ("picture_and_player", "paper", "access", "keyboard", "phone", "quiet")
-GROUPS = {it.__name__: it for it in (verdicts, block_delete, editing, races, file_kinds, machine_and_zero, save, picture_and_player, search, paper, keeping, hostile, stopped_workers, ended_memory, traps, access, keyboard, contrast, phone, quiet)}
+GROUPS = {it.__name__: it for it in (verdicts, block_delete, editing, races, file_kinds, machine_and_zero, save, picture_and_player, search, paper, keeping, hostile, stopped_workers, ended_memory, traps, unable, access, keyboard, contrast, phone, quiet)}
 
 
 def take_pictures(page, folder):
     """Pictures for the documents and for whoever looks at the page."""
     folder.mkdir(parents=True, exist_ok=True)
-    shots = {"refused": ("low_slot.ngc", "light", 1280, 800, ""), "playing": ("slot.ngc", "light", 1280, 800, "ngc.actions.seek(14)"), "dark": ("holes.ngc", "dark", 1280, 800, "ngc.actions.tab('report')"), "phone": ("low_slot.ngc", "light", 390, 844, "")}
-    for name, (example, theme, width, height, script) in shots.items():
-        page.browser.shape(width, height)
+    shots = {
+        "refused": ("low_slot.ngc", "light", 1280, 800, 0.75, ""), "playing": ("slot.ngc", "light", 1280, 800, 0.75, "ngc.actions.seek(14)"),
+        "dark": ("holes.ngc", "dark", 1280, 800, 0.75, "ngc.actions.seek(60); ngc.actions.tab('report')"), "phone": ("low_slot.ngc", "light", 390, 844, 1, ""),
+    }
+    for name, (example, theme, width, height, scale, script) in shots.items():
+        page.browser.shape(width, height, scale)
         page.example(example)
         page.forget_notices()
         page.do(f"ngc.actions.tab('program'); ngc.store.dispatch({{ type: 'set', values: {{ theme: '{theme}' }} }}); scrollTo(0, 0); {script}")
