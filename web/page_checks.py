@@ -988,7 +988,7 @@ def take_pictures(page, folder):
         page.example(example)
         page.forget_notices()
         page.do(f"ngc.actions.tab('program'); ngc.store.dispatch({{ type: 'set', values: {{ theme: '{theme}' }} }}); scrollTo(0, 0); {script}")
-        page.value("ngc.parts.picture?.fit(); document.activeElement.blur(); 0")
+        page.value("document.querySelector('[data-view=iso]').click(); ngc.parts.picture?.fit(); document.activeElement.blur(); 0")
         page.value(DRAWN)
         page.value(DRAWN)
         (folder / f"{name}.png").write_bytes(page.browser.picture())
