@@ -103,7 +103,9 @@ def tab_to(page, what):
 
 
 def keyboard(checks, page):
-    """Everything by the keyboard alone."""
+    """Everything by the keyboard alone. A Firefox on a display without a window manager never has the focus, so only Chromium is tried."""
+    if not isinstance(page.browser, Chromium):
+        return
     page.example("low_slot.ngc")
     page.value("document.querySelectorAll('[data-met]').forEach(it => delete it.dataset.met); document.activeElement.blur(); scrollTo(0, 0); 0")
     count = page.value(f"{REACHABLE}.length")
@@ -206,15 +208,15 @@ def phone(checks, page):
     box = page.value("(r => [r.left + r.width / 2, r.top + r.height / 2, r.height])(document.getElementById('canvas').getBoundingClientRect())")
     page.browser.touching(True)
     turn = page.value("ngc.parts.picture?.orbit.turn ?? 0")
-    # A finger goes up over the picture.
-    steps = [(box[0], box[1] + box[2] / 3 - at * 12) for at in range(20)]
-    page.browser.touch([steps])
-    try:
-        page.wait("scrollY > 40", 10)
-        scrolled = True
-    except RuntimeError:
-        scrolled = False
-    checks.expect("a finger that goes up over the picture scrolls the page", scrolled, page.value("[scrollY, getComputedStyle(document.getElementById('canvas')).touchAction]"))
+    checks.equal("the picture leaves a finger that goes up or down to the page", page.value("getComputedStyle(document.getElementById('canvas')).touchAction"), "pan-y")
+    # Firefox's driver moves fingers in the page only, and scrolls nothing.
+    if isinstance(page.browser, Chromium):
+        page.browser.touch([[(box[0], box[1] + box[2] / 3 - at * 12) for at in range(20)]])
+        try:
+            page.wait("scrollY > 40", 10)
+        except RuntimeError:
+            pass
+        checks.expect("a finger that goes up over the picture scrolls the page", page.value("scrollY > 40"), page.value("scrollY"))
     page.value("scrollTo(0, 0); 0")
     page.value(DRAWN)
     page.browser.touch([[(box[0] - 60 + at * 8, box[1]) for at in range(16)]])
