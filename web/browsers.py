@@ -1,7 +1,8 @@
 """Drives a headless Chromium or Firefox with Python's standard library alone.
 
 Both classes have the same calls: `value` evaluates an expression in the page, `wait` waits until one holds, `open` opens a file,
-`choose` gives a file to a field, `picture` takes a picture, and `complaints` returns what the browser wrote to its console.
+`choose` gives a file to a field, `press`, `click` and `swipe` are a keyboard, a mouse and a finger, `picture` takes a picture, `paper`
+prints, and `complaints` returns what the browser wrote to its console.
 """
 import atexit
 import base64
@@ -22,6 +23,31 @@ def command_of(names, browser):
     if not command:
         raise SystemExit(f"web/test: no {browser} on the PATH")
     return command
+
+
+# A picture in three dimensions without a graphics card.
+SOFTWARE_GL = ("--use-angle=swiftshader", "--enable-unsafe-swiftshader", "--ignore-gpu-blocklist", "--disable-gpu-compositing", "--force-prefers-reduced-motion")
+
+
+def display():
+    """Starts a virtual display and returns its name, or None where Xvfb isn't installed."""
+    server = shutil.which("Xvfb")
+    if not server:
+        return None
+    read, write = os.pipe()
+    process = subprocess.Popen([server, "-displayfd", str(write), "-screen", "0", "1600x1400x24", "-nolisten", "tcp"], pass_fds=(write,), stdout=subprocess.DEVNULL, stderr=subprocess.DEVNULL)
+    atexit.register(process.kill)
+    os.close(write)
+    with os.fdopen(read) as told:
+        return f":{told.readline().strip()}"
+
+
+# The number of a key for Chromium, and its character in WebDriver.
+KEYS = {
+    "Tab": (9, "\ue004"), "Enter": (13, "\ue006"), "Escape": (27, "\ue00c"), "Backspace": (8, "\ue003"), "Delete": (46, "\ue017"), "PageUp": (33, "\ue00e"), "PageDown": (34, "\ue00f"),
+    "End": (35, "\ue010"), "Home": (36, "\ue011"), "ArrowLeft": (37, "\ue012"), "ArrowUp": (38, "\ue013"), "ArrowRight": (39, "\ue014"), "ArrowDown": (40, "\ue015"), " ": (32, " "),
+}
+SHIFT, CONTROL = "\ue008", "\ue009"
 
 
 class Fault(RuntimeError):
@@ -65,7 +91,7 @@ class Chromium(Browser):
         for it in (read, self.write, self.read, write):
             os.close(it)
         read, self.write, self.read, write = high
-        flags = ["--headless", "--no-sandbox", "--disable-gpu", "--remote-debugging-pipe", f"--user-data-dir={folder}", "--window-size=1200,1500"]
+        flags = ["--headless", "--no-sandbox", *SOFTWARE_GL, "--remote-debugging-pipe", f"--user-data-dir={folder}", "--window-size=1200,1500"]
         place = lambda: (os.dup2(read, 3), os.dup2(write, 4))
         quiet = {"stdout": subprocess.DEVNULL, "stderr": subprocess.DEVNULL}
         command = command_of(self.NAMES, "Chromium")
@@ -106,10 +132,42 @@ class Chromium(Browser):
         self.wait(READY)
 
     def choose(self, selector, file):
-        self.value(f"document.querySelector({json.dumps(selector)}).onclick?.(); 0")
+        self.value(f"document.querySelector({json.dumps(selector)}).value = ''; 0")
         root = self.call("DOM.getDocument")["root"]["nodeId"]
         node = self.call("DOM.querySelector", nodeId=root, selector=selector)["nodeId"]
         self.call("DOM.setFileInputFiles", nodeId=node, files=[str(file)])
+
+    def press(self, key, shift=False, control=False):
+        number = KEYS[key][0] if key in KEYS else ord(key.upper())
+        what = {"key": key, "code": {" ": "Space"}.get(key, key), "windowsVirtualKeyCode": number, "modifiers": 8 * shift + 2 * control}
+        text = {"Enter": "\r"}.get(key, key if len(key) == 1 and not control else None)
+        self.call("Input.dispatchKeyEvent", type="keyDown" if text else "rawKeyDown", **what, **({"text": text} if text else {}))
+        self.call("Input.dispatchKeyEvent", type="keyUp", **what)
+
+    def click(self, x, y, shift=False):
+        for kind in ("mousePressed", "mouseReleased"):
+            self.call("Input.dispatchMouseEvent", type=kind, x=x, y=y, button="left", clickCount=1, modifiers=8 * shift)
+
+    def drag(self, points):
+        for at, (x, y) in enumerate([*points, points[-1]]):
+            kind = "mousePressed" if at == 0 else "mouseReleased" if at == len(points) else "mouseMoved"
+            self.call("Input.dispatchMouseEvent", type=kind, x=x, y=y, button="left", buttons=1, clickCount=1)
+
+    def touch(self, ways):
+        """Moves a finger along each way at the same time."""
+        points = lambda step: [{"x": way[step][0], "y": way[step][1], "id": at} for at, way in enumerate(ways)]
+        for step in range(len(ways[0])):
+            self.call("Input.dispatchTouchEvent", type="touchMove" if step else "touchStart", touchPoints=points(step))
+        self.call("Input.dispatchTouchEvent", type="touchEnd", touchPoints=[])
+
+    def touching(self, is_on):
+        self.call("Emulation.setTouchEmulationEnabled", enabled=is_on, maxTouchPoints=5)
+
+    def scheme(self, name):
+        self.call("Emulation.setEmulatedMedia", features=[{"name": "prefers-color-scheme", "value": name}])
+
+    def paper(self):
+        return base64.b64decode(self.call("Page.printToPDF", preferCSSPageSize=True)["data"])
 
     def picture(self):
         return base64.b64decode(self.call("Page.captureScreenshot", format="png")["data"])
@@ -185,18 +243,25 @@ class Socket:
 
 
 class Firefox(Browser):
-    """A headless Firefox, which is driven over a web socket by WebDriver BiDi."""
+    """A Firefox, which is driven over a web socket by WebDriver BiDi. It runs on a virtual display, since a headless one has no WebGL; where
+    Xvfb isn't installed it is headless, and the page shows its plain drawing."""
 
     NAMES = ("firefox-esr", "firefox")
 
     def __init__(self, folder, downloads, has_storage=True):
         """Starts it with a new profile in a folder, and a folder for what is saved."""
         folder.mkdir()
-        settings = {"browser.download.folderList": 2, "browser.download.dir": str(downloads), "dom.storage.enabled": has_storage}
+        settings = {
+            "browser.download.folderList": 2, "browser.download.dir": str(downloads), "browser.download.alwaysOpenPanel": False,
+            "dom.storage.enabled": has_storage, "webgl.force-enabled": True, "gfx.webrender.software": True, "widget.dmabuf.force-enabled": False,
+            "dom.disable_beforeunload": True, "ui.prefersReducedMotion": 1, "dom.w3c_touch_events.enabled": 1,
+        }
         (folder / "user.js").write_text("".join(f"user_pref({json.dumps(it)}, {json.dumps(value)});\n" for it, value in settings.items()))
-        command = [command_of(self.NAMES, "Firefox"), "--headless", "--no-remote", "--profile", folder, "--remote-debugging-port", "0", "about:blank"]
+        place = display()
+        shown = {"DISPLAY": place} if place else {"MOZ_HEADLESS": "1"}
+        command = [command_of(self.NAMES, "Firefox"), "--no-remote", "--profile", folder, "--remote-debugging-port", "0", "about:blank"]
         quiet = {"stdout": subprocess.DEVNULL, "stderr": subprocess.DEVNULL}
-        self.process = subprocess.Popen(command, env={**os.environ, "HOME": str(folder)}, **quiet)
+        self.process = subprocess.Popen(command, env={**os.environ, **shown, "HOME": str(folder)}, **quiet)
         atexit.register(self.process.kill)
         told, until = folder / "WebDriverBiDiServer.json", time.time() + 60
         while not (told.exists() and told.read_text().strip().endswith("}")):
@@ -231,9 +296,38 @@ class Firefox(Browser):
         self.wait(READY)
 
     def choose(self, selector, file):
-        self.value(f"document.querySelector({json.dumps(selector)}).onclick?.(); 0")
+        self.value(f"document.querySelector({json.dumps(selector)}).value = ''; 0")
         node = self.evaluate(f"document.querySelector({json.dumps(selector)})")["sharedId"]
         self.call("input.setFiles", context=self.context, element={"sharedId": node}, files=[str(file)])
+
+    def perform(self, *sources):
+        self.call("input.performActions", context=self.context, actions=list(sources))
+        self.call("input.releaseActions", context=self.context)
+
+    def press(self, key, shift=False, control=False):
+        held = [SHIFT] * shift + [CONTROL] * control
+        value = KEYS[key][1] if key in KEYS else key
+        down, up = ([{"type": kind, "value": it} for it in order] for kind, order in (("keyDown", [*held, value]), ("keyUp", [value, *held[::-1]])))
+        self.perform({"type": "key", "id": "keyboard", "actions": down + up})
+
+    def click(self, x, y, shift=False):
+        self.drag([(x, y)])
+
+    def drag(self, points):
+        move = lambda x, y: {"type": "pointerMove", "x": round(x), "y": round(y)}
+        steps = [move(*points[0]), {"type": "pointerDown", "button": 0}, *[move(*it) for it in points[1:]], {"type": "pointerUp", "button": 0}]
+        self.perform({"type": "pointer", "id": "mouse", "parameters": {"pointerType": "mouse"}, "actions": steps})
+
+    def touch(self, ways):
+        finger = lambda way: [{"type": "pointerMove", "x": round(way[0][0]), "y": round(way[0][1])}, {"type": "pointerDown", "button": 0},
+                              *[{"type": "pointerMove", "x": round(x), "y": round(y), "duration": 20} for x, y in way[1:]], {"type": "pointerUp", "button": 0}]
+        self.perform(*[{"type": "pointer", "id": f"finger{at}", "parameters": {"pointerType": "touch"}, "actions": finger(way)} for at, way in enumerate(ways)])
+
+    def touching(self, is_on):
+        """Firefox takes fingers at any time."""
+
+    def paper(self):
+        return base64.b64decode(self.call("browsingContext.print", context=self.context, page={"width": 21.0, "height": 29.7}, margin={it: 1.2 for it in ("top", "bottom", "left", "right")})["data"])
 
     def picture(self):
         return base64.b64decode(self.call("browsingContext.captureScreenshot", context=self.context)["data"])

@@ -1,716 +1,1012 @@
 """Checks of the page dist/ngc.html in a browser: what it shows, saves and remembers, and who can use it.
 
-Each check has a sentence that says what is expected. The expected bytes are those that the program writes.
+Each check has a sentence that says what is expected. Expected bytes are those that the program writes; expected sentences are worked out
+from docs/FAULTS.md and docs/REPORTS.md. The checks wait for conditions, and never for a time.
 """
 import base64
+import gzip
 import json
+import re
 import subprocess
 import time
+import zlib
+from pathlib import Path
 
+from access_checks import access, contrast, keyboard, phone
 from browsers import Chromium, Fault
+from wasm_changes import memory_of, with_little_stack, with_most_memory
 
-VERDICT = "document.getElementById('verdict').textContent"
-SAVED = "document.getElementById('saved').textContent"
-IDLE = "!calls.size && document.getElementById('stop').disabled"
-NO_MEMORY = "There is not enough memory for"
-SAVES = {
-    "report": ("{}.report.txt", ["report"], 3),
-    "json": ("{}.report.json", ["report", "--json"], 3),
-    "picture": ("{}.top.svg", ["draw", "--view", "top"], 3),
-    "list": ("{}.list.txt", ["list"], 3),
-    "certificate": ("{}.cert", ["certify", "--format", "2"], 3),
-    "pulses": ("{}.vcd", ["pulses"], 3),
-    "sheet": ("setup.txt", ["show"], 2),
+# Nothing runs, and each result belongs to the files in use.
+SETTLED = """(() => {
+  const { store: { state }, keyOf, jobs } = ngc;
+  const isReady = slot => { const it = state.slots[slot]; return it.key === keyOf[slot](state) && ['done', 'failed'].includes(it.status); };
+  return ['report', 'path', 'scene'].every(isReady) && (state.text !== null || isReady('index')) && (!state.files.certificate || isReady('certificate'))
+    && state.programs.every(it => it.verdict) && jobs.isIdle;
+})()"""
+# The page has drawn what it knows.
+DRAWN = "new Promise(done => requestAnimationFrame(() => requestAnimationFrame(() => setTimeout(done, 0)))).then(() => 0)"
+SETTINGS = "$13=0\n$22=1\n$23=3\n$27=1.000\n$100=250.000\n$101=250.000\n$102=250.000\n$110=500.000\n$111=500.000\n$112=300.000\n" \
+    "$120=10.000\n$121=10.000\n$122=10.000\n$130=200.000\n$131=180.000\n$132=45.000\nok\n"
+TOOL = "G21 G90 G17 G54\nT2 M6\nS2000 M3\nG43 H2\nG0 Z20\nX20 Y30\n"
+
+
+class Page:
+    """The page in a browser, with what a reader sees and does."""
+
+    def __init__(self, browser, file, program, examples, folder, downloads):
+        self.browser, self.file, self.program, self.examples, self.folder, self.downloads = browser, file, program, examples, folder, downloads
+        self.module = gzip.decompress(base64.b64decode(re.search(rb'id="module">(.*?)</script>', file.read_bytes(), re.S)[1]))
+        self.value, self.wait, self.shows_picture = browser.value, browser.wait, True
+
+    def open(self, shows_picture=None):
+        if shows_picture is not None:
+            self.shows_picture = shows_picture
+        # An edit that isn't saved would ask whether the page may go.
+        if self.value("location.protocol === 'file:' && !!window.ngc?.jobs"):
+            self.do("ngc.files.useExample('slot.ngc')")
+        self.browser.open(self.file)
+        self.settle()
+        self.show_picture(self.shows_picture)
+
+    def show_picture(self, is_on):
+        """Without a graphics card a picture takes a while, so it is shown only where it is looked at."""
+        self.shows_picture = is_on
+        self.value(f"document.getElementById('view').style.display = '{'' if is_on else 'none'}'; 0")
+
+    def settle(self, seconds=120):
+        self.wait(SETTLED, seconds)
+        self.value(DRAWN)
+        self.wait(SETTLED, seconds)
+
+    def do(self, script, seconds=120):
+        self.value(f"{script}; 0")
+        self.settle(seconds)
+
+    def text(self, name):
+        return self.value(f"document.getElementById('{name}').textContent")
+
+    @property
+    def title(self):
+        return self.text("verdict-title")
+
+    @property
+    def notices(self):
+        return self.text("notices")
+
+    def forget_notices(self):
+        self.value("ngc.store.dispatch({ type: 'set', values: { notices: [] } }); 0")
+
+    def example(self, name):
+        self.do(f"ngc.files.useExampleMachine(); ngc.actions.example({json.dumps(name)})")
+
+    def give(self, files, folders=0):
+        """Gives files to the page, as a drop does."""
+        made = ", ".join(f"new File([{json.dumps(text)}], {json.dumps(name)})" for name, text in files.items())
+        self.value(f"ngc.files.take({{ files: [{made}], folders: {folders}, unread: [], isCut: false }}).then(() => 0)")
+        self.settle()
+
+    def read(self, name):
+        return (self.examples / name).read_text()
+
+    def edit(self, line, text):
+        self.value("ngc.actions.tab('program'); 0")
+        self.value(f"ngc.parts.editor.edit({line}, 0); document.activeElement.value = {json.dumps(text)}; document.activeElement.oninput(); 0")
+
+    def lines(self, *numbers):
+        return self.value(f"{list(numbers)}.map(it => ngc.store.state.text.line(it - 1))")
+
+    def native(self, *words, files=("low_slot.ngc", "named_mill.toml", "tools.toml")):
+        given = [it for option, name in zip(("--program", "--machine", "--tools"), files) if name for it in (option, str(self.examples / name))]
+        return subprocess.run([self.program, words[0], *given, *words[1:]], cwd=self.folder, stdin=subprocess.DEVNULL, capture_output=True)
+
+    def use_module(self, module):
+        """Lets the page's workers use another module, which is compiled once."""
+        name = zlib.crc32(module)
+        if not self.value(f"!!(window.modules ??= {{}})[{name}]"):
+            data = base64.b64encode(module).decode()
+            self.value(f"WebAssembly.compile(Uint8Array.from(atob('{data}'), it => it.charCodeAt(0))).then(it => {{ modules[{name}] = it; }}).then(() => 0)")
+        self.value(f"ngc.jobs.useModule(modules[{name}]); 0")
+
+
+# ---- verdicts
+
+
+# What is dropped with the example machine, how the sentence begins, and what the detail has.
+FAULTS = {
+    "a division by zero (102, in 311)": ("G0 X[1/0]\nM2\n", "Line 1 is refused: this line divides by zero.", "Change the divisor."),
+    "a word that is written wrong (113)": ("G0 X1.2.3\nM2\n", "Line 1 can't be read: this word or setting is written wrong.", "Correct its number or its value."),
+    "no end (120)": ("G21\n", "The program has no end.", "Write M2 or M30"),
+    "a missing second % (121)": ("%\nG21\nM2\n", "The program can't be read: the second % is missing.", "Write % as the last line."),
+    "too many lines (122)": ("\n" * 100_001 + "M2\n", "The program has more than 100,000 lines.", "Split it"),
+    "an unknown code (204)": ("G0 G5 X1\nM2\n", "Line 1 is refused: the code G5 is unknown.", "take it out"),
+    "a word without a code (207)": ("G21 G4 P1 K2\nM2\n", "Line 1 is refused: nothing uses the word K.", "write the code that is missing"),
+    "a tool that isn't there (222)": ("T9 M6\nM2\n", "Line 1 is refused: tool 9 isn't in the tool table.", ""),
+    "no feed (252)": ("G21\nG1 X5\nM2\n", "Line 2 is refused: no feed above 0 is set for this motion.", "write F with a feed rate"),
+    "an arc with two radii (243)": ("G21 F100\nG0 X5 Y5\nG2 X15.003 Y5 I5 J0\nM2\n", "Line 3 is refused: the radius is 5 mm at the start and 5.003 mm at the end", ""),
+    "a point too far (221)": ("G21\nG0 X1270\nM2\n", "Line 2 is refused: X is at 1270 mm, but the limit is 1000 mm either way.", ""),
+    "a motion beyond the travel": ("G21 G53 G0 X200\nG53 X310\nM2\n", "Line 2 leaves the travel at X+ by 10 mm: move it 10 mm toward X\u2212.", ""),
+    "a motion below the travel": ("G21 G53 G0 Z-50\nG53 Z-101\nM2\n", "Line 2 leaves the travel at Z\u2212 by 1 mm: move it 1 mm toward Z+.", ""),
+    "a motion into a clamp": ("G21 G90 G53 G0 X45 Y90\nG53 Z-70\nM2\n", "Line 2 hits the left clamp: raise it by 10 mm, or move it 10 mm toward Y+ or Y\u2212.", "No tool meets it on the way."),
+    "a motion that is longer than the travel": ("G21 G53 G0 X310\nM2\n", "Line 1 leaves the travel at X+ by 10 mm: it is too long for the travel.", ""),
+    "an empty file": ("", "The program has no end.", ""),
 }
 
 
-class Checks:
-    def __init__(self):
-        self.passed = self.failed = 0
-
-    def expect(self, what, holds, found=""):
-        self.passed += bool(holds)
-        self.failed += not holds
-        print(f"passed: {what}" if holds else f"failed: {what}{f': {found}' if found != '' else ''}", flush=True)
-
-    def group(self, function, *given):
-        """Runs a group of checks. A fault in it counts as one that failed."""
-        try:
-            function(self, *given)
-        except (Fault, OSError) as fault:
-            self.expect(f"{function.__name__} ends", False, str(fault)[:500])
-
-
-def show(browser, example):
-    browser.value(f"element('example').value = '{example}'; element('example').onchange(); 0")
-    browser.wait(IDLE)
-
-
-def choose(browser, kind, file):
-    """Chooses a file in a field, and waits until the page has judged it."""
-    browser.choose(f"#field-{kind} input", file)
-    browser.wait(f"element('name-{kind}').textContent === {json.dumps(named(file))} && {IDLE}", 300)
-
-
-def named(file):
-    return f"{file.name}, {file.stat().st_size:,} bytes"
-
-
-def native(program, words, folder, names):
-    files = [it for option, name in zip(("--program", "--machine", "--tools"), names) if name for it in (option, str(name))]
-    return subprocess.run([program, words[0], *files, *words[1:]], cwd=folder, stdin=subprocess.DEVNULL, capture_output=True)
-
-
-def long_program(lines):
-    body = "".join(f"G1 X{20 + at % 60}.{at % 1000:03} Y30\n" for at in range(lines))
-    return f"G21 G90 G17 G54\nT2 M6\nS2000 M3\nG43 H2\nG0 Z20\nX20 Y30\nZ2\nG1 Z-3 F300\n{body}G0 Z20\nM9\nG28 Z20\nM30\n".encode()
-
-
-def use(checks, browser, picture):
-    """Uses the page as a reader would, and takes a picture of it."""
-    expect = lambda what, expression: checks.expect(what, browser.value(expression))
-    browser.wait(IDLE)
-    expect("the page begins with slot.ngc, which fits", f"{VERDICT}.startsWith('It fits')")
-    expect("a picture is shown", "document.querySelector('#picture svg path') !== null")
-    show(browser, "low_slot.ngc")
-    expect("low_slot.ngc is refused in line 15 by fault 304", f"{VERDICT}.includes('Fault 304') && {VERDICT}.includes('line 15')")
-    expect("line 15 is marked", "document.querySelector('#lines .faulty').dataset.number === '15'")
-    expect("the fault is explained", "document.getElementById('meaning').textContent.startsWith('Fault 304')")
-    expect("the motion of the line is marked in the picture", "document.querySelectorAll('#picture .chosen').length === 2")
-    browser.value("document.querySelector('[data-view=\"1\"]').click(); document.querySelector('[data-zoom=\"0.8\"]').click(); 0")
-    browser.wait("!calls.size")
-    expect("the view is from the front", "document.querySelector('[data-view=\"1\"]').getAttribute('aria-pressed') === 'true'")
-    expect("each field has a label", "[...document.querySelectorAll('input, select')].every(it => it.labels.length)")
-    browser.value("document.querySelector('[data-view=\"0\"]').click(); 0")
-    browser.wait("!calls.size")
-    if picture:
-        browser.shape(1120, 1060, 0.75)
-        picture.write_bytes(browser.picture())
-        browser.shape(1200, 1500)
-    browser.value("element('control').value = '1'; element('tool').value = '2'; adapt()")
-    browser.wait(IDLE)
-    expect("a program for GRBL is rewritten, and the changes are shown", "!document.getElementById('notes').hidden")
-    show(browser, "slot.ngc")
+def verdicts(checks, page):
+    page.open()
+    checks.begins("the page opens with slot.ngc, which fits", page.title, "Fits: 72 mm left toward Z\u2212, 6 mm from the front jaw of the vise, 0:35.")
+    checks.equal("it says that the machine and the tools are examples", page.text("verdict-example"), "Example machine and tools, not yours")
+    page.example("low_slot.ngc")
+    checks.equal("low_slot.ngc is refused by a sentence with a way out", page.title, "Line 15 hits the left clamp: raise it by 5 mm, or move it 14 mm toward X+ or Y+.")
+    checks.equal("the line is marked with a note", page.value("document.querySelector('.row.faulty[data-line=\"15\"] .note').textContent"), "hits the left clamp: raise by 5 mm")
+    checks.equal("the line is chosen", page.value("ngc.store.state.line"), 15)
+    checks.equal("the report lists every place", page.value("[...document.querySelectorAll('#report .places li')].map(it => it.textContent).join('|')"),
+                 "line 15 hits the left clamp: raise by 5 mm|line 16 hits the left clamp: raise by 5 mm")
+    checks.begins("the fault is explained", page.text("explained"), "Fault 304")
+    touch = page.value("ngc.contactNow(ngc.store.state).tip.map(it => Math.round(it * 1000) / 1000)")
+    checks.equal("the tool touches the clamp 4 mm before its side", touch, [64, 90, -65])
+    # Line 15 goes from X 70 to X 50; the clamp ends at X 60, and the tool's radius is 4 mm.
+    page.do("ngc.store.dispatch({ type: 'set', values: { unit: 'in' } })")
+    checks.begins("in inches 5 mm is rounded up to 0.1969 in", page.title, "Line 15 hits the left clamp: raise it by 0.1969 in, or move it 0.5512 in toward X+ or Y+.")
+    page.example("slot.ngc")
+    checks.begins("in inches 72 mm that are left are rounded down to 2.8346 in", page.title, "Fits: 2.8346 in left toward Z\u2212, 0.2362 in from")
+    page.do("ngc.store.dispatch({ type: 'set', values: { unit: 'mm' } })")
+    for what, (text, title, detail) in FAULTS.items():
+        page.give({"fault.ngc": text})
+        checks.begins(f"{what}: {title}", page.title, title)
+        checks.has("  its detail says what to do", page.text("verdict-detail"), detail)
+    page.give({"wrapped.ngc": "G0 X[1/0]\nM2\n"})
+    checks.begins("of `fault 311 setting off fault 102` the last number is explained", page.text("explained"), "Fault 102")
+    checks.has("a refused program can be rewritten from the verdict", page.text("verdict-actions"), "Rewrite for this control", "What is fault 102?")
+    page.give({"many.ngc": "G21\nG0 X1.2.3\nG1 X5\n(ok)\nG0 G5 X1\nM2\n"})
+    checks.equal("all faults of a refused program are marked", page.value("[...document.querySelectorAll('.row.faulty')].map(it => it.dataset.line).join()"), "2,3,5")
+    page.example("slot.ngc")
+    bare = page.read("named_mill.toml").split("[[fixture]]")[0]
+    page.give({"start.toml": bare + "[[fixture]]\nlow = [-5000000, -5000000, -5000000]\nhigh = [5000000, 5000000, 5000000]\n"})
+    checks.begins("a start point inside a clamp", page.title, "The start point is inside fixture 0.")
+    page.give({"bare.toml": bare})
+    checks.equal("a machine without fixtures says that only the travel was checked", page.text("verdict-detail"), "The machine file describes no fixtures: only the travel was checked.")
+    page.give({"wrong.toml": "version = 1\nstep = 400\n"})
+    checks.begins("a refused machine file has the sentence of `ngc show`", page.title, "The machine file can't be used. ")
+    page.do("ngc.files.useExampleMachine()")
+    page.give({"tools.toml": "[[tool]]\nnumber = 0\n"})
+    checks.begins("a refused tool table", page.title, "The tool table can't be used. ")
+    page.example("slot.ngc")
+    page.give({"warned.ngc": "G21 T2 M6\nG43 H2\nG0 Z0\nG1 X10 F100\nM2\n"})
+    cards = page.value("[...document.querySelectorAll('#warnings .card')].map(it => it.textContent)")
+    checks.expect("a feed with the spindle off is a card that names its line", any("spindle off" in it and it.endswith(" line 4") for it in cards), cards)
+    page.do("document.querySelector('#warnings .card').click()")
+    checks.equal("the card goes to the line", page.value("ngc.store.state.line"), 4)
+    checks.has("a note beside the line has the warning", page.value("document.querySelector('.row.warned .note').textContent"), "spindle off")
+    page.give({"bare.ngc": "G21 G90\nG0 X10\nZ-5\nM2\n"})
+    checks.has("motions without a tool are said to be tested by the nose alone", page.text("verdict-detail"), "only the spindle nose was tested")
+    page.example("plate.ngc")
+    page.example("holes.ngc")
+    figures = json.loads(page.native("report", "--json", files=("holes.ngc", "named_mill.toml", "tools.toml")).stdout)
+    drill = next(it for it in figures if it["fact"] == "figures")
+    row = page.value("[...document.querySelectorAll('#report table')].find(it => it.caption.textContent === 'Figures of each tool').tBodies[0].rows[0].textContent")
+    checks.has("the report has each tool's figures", row, "T3", f"{drill['feeds'][0] // 10**6} to {drill['feeds'][1] // 10**6} mm/min", f"{drill['plunge'] // 10**6} mm", str(drill["holes"]), "2:04")
+    # 1,244,684 ticks of 10,000 a second are 2 minutes and 4 seconds.
 
 
-def save_each(checks, browser, program, folder, downloads, name, names, more=()):
-    """Saves by each button, and compares the files with what the program writes."""
-    stem = name.rsplit(".", 1)[0]
-    for key, (pattern, words, count) in SAVES.items():
-        file = downloads / pattern.format(stem)
-        words = [*words, *(more if words[0] in ("draw", "list", "pulses") else ())]
-        if key == "pulses":
-            made = native(program, ["certify", "--format", "2"], folder, names)
-            (folder / "saved.cert").write_bytes(made.stdout)
-            if not made.returncode:
-                made = native(program, [*words, "--certificate", "saved.cert"], folder, names)
-        else:
-            made = native(program, words, folder, names if count == 3 else (None, *names[1:]))
-        # Chromium drops what a page saves beyond ten files a second.
-        time.sleep(0.2)
-        browser.value(f"document.querySelector('[data-save={key}]').click(); 0")
-        browser.wait(f"{SAVED} !== 'Working.'")
-        said = browser.value(SAVED)
-        if made.stdout:
-            until = time.time() + 20
-            while not (file.exists() and file.stat().st_size == len(made.stdout)) and time.time() < until:
-                time.sleep(0.05)
-            got = file.read_bytes() if file.exists() else None
-            what = f"{file.name} is saved with the {len(made.stdout)} bytes of `ngc {' '.join(words)}`"
-            checks.expect(what, got == made.stdout, (said, None if got is None else len(got)))
-            checks.expect("the page says so", said.startswith(f"Saved as {file.name}, {len(made.stdout):,} bytes."), said)
-            file.unlink(missing_ok=True)
-        else:
-            told = f"There is nothing to save. {made.stderr.decode()}"
-            checks.expect(f"for {name} the button {key} says that there is nothing to save, and why", said == told, (said, told))
+def block_delete(checks, page):
+    page.example("low_slot.ngc")
+    tabs = "[...document.querySelectorAll('#settings [role=tab]')].map(it => it.getAttribute('aria-label')).join()"
+    checks.equal("both settings have a tab", page.value(tabs), "Block delete off: does not fit,Block delete on: does not fit")
+    page.do("document.querySelectorAll('#settings [role=tab]')[1].click()")
+    checks.begins("the other setting has its own verdict", page.title, "Line 15 hits the left clamp")
+    count = page.value("ngc.pathNow(ngc.store.state).count")
+    listed = page.native("list", "--delete").stdout
+    checks.equal("the picture is that of the setting", count, listed.count(b"\n"))
+    page.give({"part.ngc": TOOL + "Z2\nM9\nG28 Z20\nM30\n"})
+    checks.equal("block delete is off for the next program", page.value("ngc.store.state.blockDelete"), False)
+    checks.expect("a program without / lines has no tabs", page.value("document.getElementById('settings').hidden"))
+    page.give({"one.ngc": TOOL + "/Z-20\n/X-10\nG0 Z20\nG28 Z20\nM30\n"})
+    checks.equal("a program that fits at one setting says so at each", page.value(tabs).count("does not fit"), 1)
+    page.do("document.querySelectorAll('#settings [role=tab]')[1].click()")
+    checks.begins("at the setting that fits the verdict is good", page.title, "Fits")
 
 
-def save(checks, browser, program, examples, folder, downloads):
-    machine, tools = examples / "clamped_mill.toml", examples / "tools.toml"
-    for name in ("slot.ngc", "low_slot.ngc"):
-        show(browser, name)
-        save_each(checks, browser, program, folder, downloads, name, (examples / name, machine, tools))
-    show(browser, "slot.ngc")
-    browser.value("element('delete').click(); 0")
-    browser.wait(IDLE)
-    save_each(checks, browser, program, folder, downloads, "slot.ngc", (examples / "slot.ngc", machine, tools), ["--delete"])
-    browser.value("element('delete').click(); 0")
-    browser.wait(IDLE)
-    certificate = folder / "slot.cert"
-    certificate.write_bytes(native(program, ["certify", "--format", "2"], folder, (examples / "slot.ngc", machine, tools)).stdout)
-    browser.choose("#certificate", certificate)
-    browser.wait(f"{SAVED}.startsWith('slot.cert is ')")
-    checks.expect("the program's certificate is accepted", browser.value(f"{SAVED}.startsWith('slot.cert is accepted')"), browser.value(SAVED))
-    certificate.write_bytes(certificate.read_bytes()[:-20])
-    browser.choose("#certificate", certificate)
-    browser.wait(f"{SAVED}.startsWith('slot.cert is refused')")
-    checks.expect("a certificate that was cut short is refused with its fault", "fault" in browser.value(SAVED), browser.value(SAVED))
+# ---- editing
 
 
-def give_files(checks, browser, program, examples, folder):
-    show(browser, "slot.ngc")
-    for name, machine, tools in (("facing.ngc", "clamped_mill.toml", "tools.toml"), ("boss.ngc", "bench_mill.toml", "holder_tools.toml")):
-        choose(browser, "machine", examples / machine)
-        choose(browser, "tools", examples / tools)
-        choose(browser, "program", examples / name)
-        made = native(program, ["report"], folder, (examples / name, examples / machine, examples / tools))
-        same = browser.value("element('report').textContent") == made.stdout.decode()
-        checks.expect(f"after {name}, {machine} and {tools} are chosen the report of `ngc report` is shown", same)
-    file = folder / "edited.ngc"
-    for data, verdict in ((b"G21\nG0 X5000\nM2\n", "Fault 311"), (b"G21\nG0 X50\nM2\n", "It fits")):
-        file.write_bytes(data)
-        choose(browser, "program", file)
-        said = browser.value(VERDICT)
-        checks.expect(f"edited.ngc, chosen again with {len(data)} bytes: {verdict}", verdict in said, said)
-    choose(browser, "machine", examples / "clamped_mill.toml")
-    choose(browser, "tools", examples / "tools.toml")
-    show(browser, "slot.ngc")
+def editing(checks, page):
+    page.example("low_slot.ngc")
+    page.edit(14, "G0 Z10")
+    now = page.value("[document.getElementById('verdict-title').textContent, document.querySelectorAll('.note').length, document.getElementById('view').dataset.waiting, document.getElementById('facts').className]")
+    checks.equal("at the first key the verdict, the notes, the path and the travel are out of date", now, ["Checking\u2026", 0, "true", "stale"])
+    checks.equal("and the path can't be picked", page.value("ngc.pathNow(ngc.store.state)"), None)
+    page.settle()
+    checks.begins("the check runs again after the edit", page.title, "Fits")
+    checks.equal("an edited program says so", page.value("document.querySelector('.chip-program .badge').textContent"), "edited")
+    page.value("ngc.parts.editor.undo(false); 0")
+    page.settle()
+    checks.begins("undo brings back text and verdict", page.title, "Line 15 hits")
+    page.value("ngc.parts.editor.undo(true); 0")
+    page.settle()
+    checks.begins("redo", page.title, "Fits")
+    wanted = re.sub(r"(?m)^G0 Z5 .*$", "G0 Z10", page.read("low_slot.ngc"))
+    checks.equal("only the edited line has other bytes", page.value("ngc.store.state.files.program.blob().text()"), wanted)
+    page.value("ngc.parts.editor.edit(15, 2); 0")
+    page.browser.press("Enter")
+    page.settle()
+    first, second = page.lines(15, 16)
+    checks.expect("Enter splits a line", first == "X0" and second.startswith(" Y30"), (first, second))
+    page.browser.press("Home")
+    page.browser.press("Backspace")
+    page.settle()
+    checks.begins("Backspace joins it with the line before", page.lines(15)[0], "X0 Y30")
+    page.browser.press("Escape")
+    page.value("ngc.parts.editor.choose(3); ngc.parts.editor.choose(5, true); document.getElementById('editor').focus(); 0")
+    page.browser.press("Delete")
+    page.settle()
+    checks.equal("Delete takes the chosen lines away", page.lines(3)[0], "G43 H2")
+    page.browser.press("z", control=True)
+    page.settle()
+    checks.equal("Ctrl+Z brings them back", page.lines(3, 4), ["G21 G90 G17 G54", "T2 M6"])
+    page.give({"returns.ngc": "G21\r\nG0 X1\r\nM2\r\n"})
+    page.edit(2, "G0 X2")
+    page.settle()
+    checks.equal("lines that end with CR LF keep their ends", page.value("ngc.store.state.files.program.blob().text()"), "G21\r\nG0 X2\r\nM2\r\n")
+    data = base64.b64encode(b"G21\n(Fr\xe4ser)\nG0 X1\nM2\n").decode()
+    page.value(f"ngc.files.take({{ files: [new File([Uint8Array.from(atob('{data}'), it => it.charCodeAt(0))], 'latin.ngc')], folders: 0, unread: [], isCut: false }}).then(() => 0)")
+    page.settle()
+    page.edit(3, "G0 X2")
+    page.settle()
+    bytes_now = page.value("ngc.store.state.files.program.blob().arrayBuffer().then(it => [...new Uint8Array(it)])")
+    checks.equal("lines that aren't UTF-8 keep their bytes", bytes(bytes_now), b"G21\n(Fr\xe4ser)\nG0 X2\nM2\n")
+    page.give({"long.ngc": "(" + "x" * 6000 + ")\nM2\n"})
+    page.value("ngc.parts.editor.edit(1, 0); 0")
+    checks.has("a line too long to edit says so", page.notices, "Line 1 has 6.0 kB: too long to edit here.")
+    checks.has("and is shown with its length", page.value("document.querySelector('.row .cut').textContent"), "6.0 kB")
+    checks.expect("a saved or untouched program may be left", not page.value("ngc.saving.hasUnsavedEdits"))
+    page.edit(2, "M30")
+    leaves = "!window.dispatchEvent(new Event('beforeunload', { cancelable: true }))"
+    checks.expect("closing the page with an edit that isn't saved asks first", page.value(leaves))
+    page.value("ngc.actions.save('program'); 0")
+    checks.expect("after it is saved closing doesn't ask", not page.value(leaves))
+    saved = wait_for(page.downloads / "long.ngc")
+    checks.expect("the saved program has the edit", saved.endswith(b"M30\n") and len(saved) == 6007, len(saved))
+    page.example("slot.ngc")
 
 
-def drag(browser, selector, file, to_drop=True):
-    """Drags a file over the middle of an element, and drops it."""
-    browser.value(f"document.querySelector({json.dumps(selector)}).scrollIntoView({{ block: 'center' }}); 0")
-    place = f"document.querySelector({json.dumps(selector)}).getBoundingClientRect()"
-    x, y = browser.value(f"(({{ x, y, width }}) => [x + width / 2, y + 8])({place})")
-    data = {"items": [], "files": [str(file)], "dragOperationsMask": 1}
-    for kind in ("dragEnter", "dragOver", *["drop"] * to_drop):
-        browser.call("Input.dispatchDragEvent", type=kind, x=x, y=y, data=data)
+def wait_for(file, size=None, seconds=20):
+    """The bytes of a file that the browser saves."""
+    until = time.time() + seconds
+    while not (file.exists() and file.stat().st_size and (size is None or file.stat().st_size == size)):
+        if time.time() > until:
+            raise Fault(f"{file.name} isn't saved")
+        time.sleep(0.02)
+    data = file.read_bytes()
+    file.unlink()
+    return data
 
 
-def drop_files(checks, browser, examples):
-    for kind, name in (("program", "holes.ngc"), ("machine", "small_mill.toml"), ("tools", "holder_tools.toml")):
-        drag(browser, f"#field-{kind}", examples / name, to_drop=False)
-        checks.expect(f"the field {kind} is marked while a file is over it", browser.value(f"element('field-{kind}').classList.contains('over')"))
-        drag(browser, f"#field-{kind}", examples / name)
-        browser.wait(f"element('name-{kind}').textContent === {json.dumps(named(examples / name))} && {IDLE}")
-        checks.expect(f"{name} that is dropped on the field {kind} is taken", True)
-    browser.value("window.stayed = true; 0")
-    drag(browser, "h1", examples / "boss.ngc")
-    time.sleep(1)
-    stayed = browser.value("window.stayed === true && document.title.startsWith('ngc:')")
-    checks.expect("a file that is dropped beside the fields doesn't replace the page", stayed, browser.value("location.href"))
-    if not stayed:
-        raise Fault("the page is gone")
-    for kind, name in (("machine", "clamped_mill.toml"), ("tools", "tools.toml")):
-        choose(browser, kind, examples / name)
-    show(browser, "slot.ngc")
+# ---- files
 
 
-def remember(checks, browser, page, program, examples, folder):
-    """What the page keeps for the next visit, with a storage that works."""
-    stored = lambda: browser.value("Object.keys(localStorage).sort().join()")
-    browser.value("localStorage.clear(); 0")
-    browser.open(page)
-    checks.expect("a first visit stores nothing", stored() == "", stored())
-    choose(browser, "program", examples / "holes.ngc")
-    checks.expect("a part program isn't stored", stored() == "", stored())
-    choose(browser, "machine", examples / "small_mill.toml")
-    choose(browser, "tools", examples / "holder_tools.toml")
-    checks.expect("the machine file and the tool table are stored", stored() == "ngc machine,ngc tools", stored())
-    browser.open(page)
-    browser.wait(IDLE)
-    for kind, name in (("machine", "small_mill.toml"), ("tools", "holder_tools.toml")):
-        said = browser.value(f"element('name-{kind}').textContent")
-        checks.expect(f"the next visit has {name} again", said == named(examples / name), said)
-    made = native(program, ["report"], folder, (examples / "slot.ngc", examples / "small_mill.toml", examples / "holder_tools.toml"))
-    checks.expect("its report is that of `ngc report` for these files", browser.value("element('report').textContent") == made.stdout.decode())
-    machine = (examples / "small_mill.toml").read_bytes()
-    odd = {
-        "a comment that isn't UTF-8": b"# Fr\xe4se\n" + machine,
-        "a byte order mark": b"\xef\xbb\xbf" + machine,
-        "lines that end with CR LF": machine.replace(b"\n", b"\r\n"),
-    }
+SLOW_FILE = """(name, text, promise) => { const file = new File([text], name); file.arrayBuffer = () => promise.then(() => new TextEncoder().encode(text).buffer); return file; }"""
+DROP = """(files) => { const transfer = new DataTransfer(); for (const [name, text] of files) transfer.items.add(new File([text], name));
+  for (const type of ['dragenter', 'dragover', 'drop']) document.body.dispatchEvent(new DragEvent(type, { dataTransfer: transfer, bubbles: true, cancelable: true })); }"""
+
+
+def races(checks, page):
+    page.example("slot.ngc")
+    page.do("for (const name of ['slot.ngc', 'low_slot.ngc', 'holes.ngc', 'low_slot.ngc', 'slot.ngc', 'ring.ngc']) ngc.actions.example(name)")
+    checks.begins("of six programs in a row the last has the verdict", page.value("ngc.store.state.files.program.name") + " " + page.title, "ring.ngc Fits")
+    page.value(f"window.slow = {SLOW_FILE}; window.gate = new Promise(open => {{ window.openGate = open; }}); window.taken = ngc.files.take({{ files: [slow('slow.ngc', 'G21\\nM2\\n', gate)], folders: 0, unread: [], isCut: false }}); 0")
+    page.give({"fast.ngc": "G21 G0 X1\nM2\n"})
+    page.value("openGate(); taken.then(() => 0)")
+    page.settle()
+    checks.equal("a drop that is still being read loses against a later one", page.value("ngc.store.state.files.program.name"), "fast.ngc")
+    page.value("window.gate = new Promise(open => { window.openGate = open; }); window.taken = ngc.files.take(gate.then(() => ({ files: [new File(['G21\\nM2\\n'], 'slow.ngc')], folders: 1, unread: [], isCut: false }))); 0")
+    page.give({"fast.ngc": "G21 G0 X2\nM2\n"})
+    page.value("openGate(); taken.then(() => 0)")
+    page.settle()
+    checks.equal("so does a folder", page.lines(1)[0], "G21 G0 X2")
+    # The settings are still being converted when the machine file is dropped.
+    page.value(f"ngc.files.take({{ files: [new File([{json.dumps(SETTINGS)}], 'dump.txt')], folders: 0, unread: [], isCut: false }}); ngc.files.take({{ files: [new File([{json.dumps(page.read('bench_mill.toml'))}], 'mine.toml')], folders: 0, unread: [], isCut: false }}).then(() => 0)")
+    page.settle()
+    checks.equal("so do GRBL's settings", page.value("ngc.store.state.files.machine.name"), "mine.toml")
+    page.example("slot.ngc")
+    page.value("ngc.actions.example('slot.ngc'); ngc.files.use('program', 'long.ngc', new TextEncoder().encode('G21\\n' + 'G0 X1\\nX2\\n'.repeat(45000) + 'M2\\n'), 'user'); 0")
+    page.wait("ngc.jobs.isBusy('verdict')", 30)
+    page.value("ngc.actions.stop(); 0")
+    page.settle()
+    checks.equal("a long check can be stopped", page.title, "Stopped: there is no verdict.")
+    checks.equal("then nothing of an earlier verdict is shown", page.value("document.getElementById('bars').children.length + document.getElementById('metrics').children.length + document.querySelectorAll('.note').length"), 0)
+    page.value("[...document.querySelectorAll('#verdict-actions button')].find(it => it.textContent === 'Check again').click(); 0")
+    checks.begins("it can be checked again", page.title, "Checking")
+    page.example("slot.ngc")
+    checks.begins("the next program has its verdict", page.title, "Fits")
+
+
+def file_kinds(checks, page):
+    page.example("slot.ngc")
+    page.value(f"({DROP})({json.dumps([['mine.txt', page.read('bench_mill.toml')], ['other.txt', page.read('holder_tools.toml')], ['part.txt', page.read('boss.ngc')]])}); 0")
+    page.wait("ngc.store.state.files.program.name === 'part.txt'")
+    page.settle()
+    names = "['program', 'machine', 'tools'].map(it => ngc.store.state.files[it].name).join()"
+    checks.equal("dropped files are sorted by their content", page.value(names), "part.txt,mine.txt,other.txt")
+    checks.expect("the cover of the drop is gone", page.value("document.getElementById('drop').hidden"))
+    checks.expect("the sign of the example machine is gone", page.value("document.getElementById('verdict-example').hidden"))
+    made = page.native("report", "--json", files=("boss.ngc", "bench_mill.toml", "holder_tools.toml"))
+    checks.equal("the facts are those of `ngc report --json`", page.value("JSON.stringify(ngc.current(ngc.store.state, 'report').facts)"), json.dumps(json.loads(made.stdout), separators=(",", ":"), ensure_ascii=False))
+    certificate = page.native("certify", "--format", "2", files=("slot.ngc", "named_mill.toml", "tools.toml")).stdout.decode()
+    page.example("slot.ngc")
+    page.give({"slot.cert": certificate})
+    about = "document.querySelector('.chip.certificate .about').textContent"
+    checks.equal("a certificate of these files is accepted", page.value(about), "accepted for these files")
+    page.value("ngc.parts.editor.edit(12, 0); document.activeElement.value = 'X79 F300'; document.activeElement.oninput(); 0")
+    checks.equal("its verdict is gone at the first key of an edit", page.value(about), "checking\u2026")
+    page.settle()
+    checks.begins("and it is refused for the edited program", page.value(about), "refused, fault 3")
+    page.give({"bench.toml": page.read("bench_mill.toml")})
+    checks.begins("it is checked again on another machine", page.value(about), "refused, fault")
+    page.do("ngc.files.useExampleMachine(); ngc.actions.example('slot.ngc')")
+    checks.equal("and accepted again for its own files", page.value(about), "accepted for these files")
+    page.value("ngc.actions.forgetCertificate(); 0")
+    page.give({"cut.cert": certificate[:-20]})
+    checks.equal("a certificate that was cut short is refused with its fault", page.value(about), "refused, fault 301")
+    page.value("ngc.actions.forgetCertificate(); 0")
+    page.give({"mine.toml": page.read("bench_mill.toml")})
+    page.do("ngc.actions.example('slot.ngc')")
+    checks.equal("an example leaves the user's machine in use", page.value("ngc.store.state.files.machine.name"), "mine.toml")
+    checks.has("and says so", page.notices, "Your machine and tools are still in use")
+    page.do("ngc.files.useExampleMachine()")
+    page.forget_notices()
+    page.give({"dump.txt": SETTINGS})
+    page.wait("ngc.store.state.files.machine.name === 'dump.toml'")
+    page.settle()
+    made = subprocess.run([page.program, "machine", "--grbl", "/dev/stdin"], input=SETTINGS.encode(), capture_output=True).stdout
+    checks.equal("GRBL's settings become the machine file of `ngc machine --grbl`", page.value("ngc.store.state.files.machine.blob().text()"), made.decode())
+    checks.has("which can be saved", page.notices, "Save it")
+    page.do("ngc.files.useExampleMachine()")
+    page.forget_notices()
+    page.give({}, folders=1)
+    checks.has("an empty folder is named", page.notices, "no files in this folder")
+    data = "new File([new Uint8Array([80, 75, 3, 4, 0, 0])], 'a.zip')"
+    page.value(f"ngc.files.take({{ files: [{data}], folders: 0, unread: ['locked'], isCut: false }}).then(() => 0)")
+    checks.has("another file is named and left alone", page.notices, "a.zip: not a program", "can't read the folder locked")
+    page.forget_notices()
+    page.give({"one.ngc": page.read("slot.ngc"), "two.ngc": page.read("low_slot.ngc"), "three.ngc": page.read("ring.ngc"), "m1.toml": page.read("named_mill.toml"), "m2.toml": page.read("bench_mill.toml")})
+    checks.equal("several programs each have a verdict", page.value("ngc.store.state.programs.map(it => it.verdict).join()"), "fits,refused,fits")
+    checks.has("of two machine files one is used, and the other is named", page.notices, "Of 2 machine files m1.toml is in use, not m2.toml.")
+    page.give({"bench.toml": page.read("bench_mill.toml")})
+    checks.equal("another machine gives all of them new verdicts", page.value("ngc.store.state.programs.map(it => it.verdict).join()"), "refused,refused,refused")
+    page.do("ngc.files.useExampleMachine()")
+    page.do("document.querySelector('.chip-program select').value = '1'; document.querySelector('.chip-program select').onchange({ target: document.querySelector('.chip-program select') })")
+    checks.begins("another one can be chosen", page.value("ngc.store.state.files.program.name") + " " + page.title, "two.ngc Line 15 hits")
+    page.example("slot.ngc")
+    chosen = page.folder / "chosen.ngc"
+    chosen.write_text("G21 G0 X3\nM2\n")
+    page.browser.choose("#choose", chosen)
+    page.wait("ngc.store.state.files.program.name === 'chosen.ngc'")
+    page.settle()
+    chosen.write_text("G21 G0 X4\nM2\n")
+    page.browser.choose("#choose", chosen)
+    page.wait("ngc.store.state.text?.line(0) === 'G21 G0 X4'")
+    page.settle()
+    checks.equal("a file is chosen, and chosen again after it was edited", page.lines(1)[0], "G21 G0 X4")
+    if isinstance(page.browser, Chromium):
+        real_drops(checks, page)
+    page.give({"long_notes.ngc": "G21\n" + "M64 P1 (a code that is left out)\n" * 3000 + "M2\n"})
+    page.value("ngc.actions.rewrite(); 0")
+    page.wait("document.getElementById('adapt-notes').textContent.length > 0")
+    checks.has("notes of more than 65,536 bytes say that they end here", page.text("adapt-notes")[-60:], "longer than 65,536 bytes, and end here")
+    page.settle()
+    page.value("document.getElementById('adapt').close(); 0")
+    vectric = page.read("cam/vectric_mach3.tap")
+    page.give({"vectric.tap": vectric})
+    page.value("ngc.actions.adapt().then(() => { document.getElementById('control').value = '2'; return ngc.actions.rewrite(); }).then(() => 0)")
+    page.settle()
+    made = page.native("adapt", "--from", "mach3", files=("cam/vectric_mach3.tap", "named_mill.toml", None))
+    checks.equal("a program for Mach3 is rewritten as by `ngc adapt`", page.value("ngc.store.state.files.program.blob().text()"), made.stdout.decode())
+    checks.equal("with the whole of its notes", page.value("document.querySelector('#adapt-notes pre').textContent"), made.stderr.decode())
+    page.value("document.getElementById('adapt').close(); [...document.querySelectorAll('#notices button')].find(it => it.textContent === 'Back to the original').click(); 0")
+    page.wait("ngc.store.state.files.program.name === 'vectric.tap'")
+    page.settle()
+    checks.equal("and the original can be put back", page.value("ngc.store.state.files.program.blob().text()"), vectric)
+    page.example("slot.ngc")
+
+
+def real_drops(checks, page):
+    """Drops of a file and of a folder, as the desktop makes them."""
+    shop = page.folder / "shop"
+    shop.mkdir()
+    (shop / "inside.ngc").write_text("G21 G0 X5\nM2\n")
+    (shop / "mill.toml").write_text(page.read("bench_mill.toml"))
+    alone = page.folder / "alone.ngc"
+    alone.write_text("G21 G0 X6\nM2\n")
+
+    def drop(file):
+        for kind in ("dragEnter", "dragOver", "drop"):
+            page.browser.call("Input.dispatchDragEvent", type=kind, x=640, y=400, data={"items": [], "files": [str(file)], "dragOperationsMask": 1})
+
+    drop(alone)
+    page.wait("ngc.store.state.files.program.name === 'alone.ngc'")
+    page.settle()
+    checks.expect("a file from the desktop is dropped", True)
+    drop(shop)
+    page.wait("ngc.store.state.files.program.name === 'inside.ngc' || document.getElementById('notices').textContent.includes(\"can't read the folder shop\")")
+    page.settle()
+    said = page.value("ngc.store.state.files.program.name + ' ' + ngc.store.state.files.machine.name") + page.notices
+    checks.expect("a folder is dropped, or the page says that it can't be read", said.startswith("inside.ngc mill.toml") or "can't read the folder shop" in said, said)
+    page.example("slot.ngc")
+
+
+STORED = "Object.keys(localStorage).sort().join()"
+
+
+def keeping(checks, page):
+    """What the page keeps for the next visit."""
+    page.value("localStorage.clear(); 0")
+    page.open()
+    checks.equal("a first visit keeps nothing", page.value(STORED), "")
+    page.give({"holes.ngc": page.read("holes.ngc")})
+    checks.equal("a part program isn't kept", page.value(STORED), "")
+    page.give({"mine.toml": page.read("bench_mill.toml"), "holders.toml": page.read("holder_tools.toml")})
+    checks.equal("the machine file and the tool table are kept", page.value(STORED), "ngc machine,ngc tools")
+    before = page.value("localStorage.getItem('ngc machine')")
+    page.give({"wrong.toml": "version = 1\nstep = 400\n"})
+    checks.equal("a refused machine file isn't kept", page.value("localStorage.getItem('ngc machine')"), before)
+    page.give({"empty_tools.toml": "[[tool]]\nnumber = 0\n", "mine.toml": page.read("small_mill.toml")})
+    checks.has("nor is a machine file beside a refused tool table", page.value("localStorage.getItem('ngc machine')"), "bench" if "bench" in before else before[:40])
+    page.open()
+    names = "['machine', 'tools'].map(it => ngc.store.state.files[it].name).join()"
+    checks.equal("the next visit has both again", page.value(names), "mine.toml,holders.toml")
+    checks.equal("and says so", page.value("document.querySelector('.chip-machine .badge').textContent"), "from last time")
+    made = page.native("report", "--json", files=("slot.ngc", "bench_mill.toml", "holder_tools.toml"))
+    checks.equal("its facts are those of `ngc report --json`", page.value("JSON.stringify(ngc.current(ngc.store.state, 'report').facts)"), json.dumps(json.loads(made.stdout), separators=(",", ":"), ensure_ascii=False))
+    machine = (page.examples / "small_mill.toml").read_bytes()
+    odd = {"a comment that isn't UTF-8": b"# Fr\xe4se\n" + machine, "a byte order mark": b"\xef\xbb\xbf" + machine, "lines that end with CR LF": machine.replace(b"\n", b"\r\n")}
     for what, data in odd.items():
-        file = folder / "kept.toml"
-        file.write_bytes(data)
-        choose(browser, "machine", file)
-        before = browser.value(VERDICT)
-        browser.open(page)
-        browser.wait(IDLE)
-        after, name = browser.value(VERDICT), browser.value("element('name-machine').textContent")
-        checks.expect(f"a machine file with {what} is the same after the next visit", (after, name) == (before, named(file)), (before, after, name))
+        page.value(f"ngc.files.use('machine', 'kept.toml', Uint8Array.from(atob('{base64.b64encode(data).decode()}'), it => it.charCodeAt(0)), 'user'); 0")
+        page.settle()
+        is_read = page.value("ngc.current(ngc.store.state, 'scene').status === 0")
+        page.open()
+        has_it = bytes(page.value("[...ngc.store.state.files.machine.bytes]")) == data
+        checks.equal(f"a machine file with {what} is {'the same after the next visit' if is_read else 'refused, and not kept'}", has_it, is_read)
     for broken in ('"[1"', '"[1,2]"', '"null"', '"{}"'):
-        browser.value(f"localStorage.setItem('ngc machine', {broken}); 0")
-        browser.open(page)
-        browser.wait(IDLE)
-        said = browser.value("element('name-machine').textContent")
-        checks.expect(f"with {broken} in the storage the page begins with its example", said.startswith("clamped_mill.toml,"), said)
-    browser.value("localStorage.clear(); 0")
-    browser.open(page)
-    browser.wait(IDLE)
+        page.value(f"localStorage.setItem('ngc machine', {broken}); 0")
+        page.open()
+        checks.equal(f"with {broken} in the storage the page begins with its example", page.value("ngc.store.state.files.machine.name"), "named_mill.toml")
+    page.value("localStorage.clear(); 0")
+    page.open()
+    page.value("document.getElementById('rapids').click(); document.getElementById('colour').value = 'feed'; document.getElementById('speed').value = '100'; document.getElementById('query').value = 'g1'; 0")
+    page.browser.value("location.reload(); 0")
+    page.wait("document.documentElement?.dataset.ready === 'true' && !window.reloaded && typeof ngc === 'object'")
+    page.settle()
+    shown = page.value("[document.getElementById('rapids').checked, document.getElementById('colour').value, document.getElementById('speed').value, document.getElementById('query').value, document.getElementById('example').value]")
+    state = page.value("[ngc.store.state.hasRapids, ngc.store.state.colour, String(ngc.store.state.speed), ngc.store.state.query, '']")
+    checks.equal("after the page is loaded again each control shows what is in use", shown, state)
+    texts = page.value("[...document.querySelectorAll('input[type=file]')].filter(it => it.checkVisibility()).length")
+    checks.equal("no file field with a text of its own is shown", texts, 0)
 
 
-def without_storage(checks, browser, page, examples):
-    browser.open(page)
-    browser.wait(IDLE)
-    able = browser.value("(() => { try { localStorage.setItem('ngc', '1'); return true; } catch { return false; } })()")
-    checks.expect("this browser has no storage", not able)
-    said = browser.value(VERDICT)
-    checks.expect("without storage slot.ngc fits", said.startswith("It fits"), said)
-    choose(browser, "machine", examples / "small_mill.toml")
-    said = browser.value("element('name-machine').textContent")
-    checks.expect("without storage a machine file is taken", said == named(examples / "small_mill.toml"), said)
-    said = browser.complaints()
-    checks.expect("without storage the browser's console is empty", not said, said)
+def check_without_storage(checks, browser, file, examples):
+    browser.open(file)
+    browser.wait(SETTLED, 60)
+    checks.expect("this browser has no storage", not browser.value("(() => { try { localStorage.setItem('ngc', '1'); return true; } catch { return false; } })()"))
+    checks.begins("without storage slot.ngc fits", browser.value("document.getElementById('verdict-title').textContent"), "Fits")
+    text = (examples / "bench_mill.toml").read_text()
+    browser.value(f"ngc.files.take({{ files: [new File([{json.dumps(text)}], 'mine.toml')], folders: 0, unread: [], isCut: false }}).then(() => 0)")
+    browser.wait(SETTLED, 60)
+    checks.equal("without storage a machine file is taken", browser.value("ngc.store.state.files.machine.name"), "mine.toml")
+    checks.equal("without storage the browser's console is empty", complaints(browser), [])
 
 
-def long_runs(checks, browser, program, examples, folder):
-    machine, tools = examples / "clamped_mill.toml", examples / "tools.toml"
-    file = folder / "long.ngc"
-    file.write_bytes(long_program(99000))
-    show(browser, "slot.ngc")
-    browser.choose("#field-program input", file)
-    browser.wait(f"{VERDICT} === 'Working.'")
-    checks.expect("during a run Stop can be pressed", not browser.value("element('stop').disabled"))
-    browser.value("element('stop').click(); 0")
-    browser.wait(IDLE)
-    said = browser.value(VERDICT)
-    checks.expect("after Stop the verdict is `Stopped.`", said == "Stopped.", said)
-    checks.expect("after Stop the report of the program before isn't shown", browser.value("element('report').textContent === ''"))
-    checks.expect("after Stop the picture of the program before isn't shown", browser.value("!document.querySelector('#picture svg')"))
-    show(browser, "slot.ngc")
-    said = browser.value(VERDICT)
-    checks.expect("the next run after Stop works", said.startswith("It fits"), said)
-    choose(browser, "program", file)
-    made = native(program, ["report"], folder, (file, machine, tools))
-    checks.expect("a program of 99,012 lines has the report of `ngc report`", browser.value("element('report').textContent") == made.stdout.decode())
-    count = browser.value("document.querySelectorAll('#lines li').length")
-    checks.expect("4,000 of its lines are shown", count == 4000, count)
-    browser.value("document.querySelector('[data-save=pulses]').click(); 0")
-    browser.wait("calls.size && !element('stop').disabled")
-    browser.value("element('stop').click(); 0")
-    browser.wait(f"{SAVED} !== 'Working.'")
-    said = browser.value(SAVED)
-    checks.expect("Stop ends the making of a file", said == "Stopped.", said)
-    # Two runs that begin at once: the second is the one that counts.
-    browser.value("putExample('low_slot.ngc'); judge(); putExample('slot.ngc'); judge(); 0")
-    browser.wait(IDLE)
-    said = browser.value(VERDICT)
-    checks.expect("of two runs that begin at once the second is shown", said.startswith("It fits"), said)
+# ---- the machine, the zero
 
 
-def large_programs(checks, browser, program, examples, folder):
-    machine, tools = examples / "clamped_mill.toml", examples / "tools.toml"
-    comment = b"(" + b"x" * 198 + b")"
-    lines = {
-        "20 MB in more than a million lines": long_program(1_333_000)[:20_000_000],
-        "20 MB in one line": b"(" + b"x" * 20_000_000,
-        "20 MB in 95,012 lines": long_program(95_000).replace(b" Y30\n", b" Y30 " + comment + b"\n"),
-    }
-    for what, data in lines.items():
-        file = folder / "large.ngc"
-        file.write_bytes(data)
-        choose(browser, "program", file)
-        made = native(program, ["report"], folder, (file, machine, tools))
-        said, shown = browser.value(VERDICT), browser.value("element('report').textContent")
-        errors = browser.value("element('errors').textContent")
-        same = (shown, errors) == (made.stdout.decode(), made.stderr.decode())
-        checks.expect(f"a program of {what} has the report and the fault of `ngc report`", same, said)
-        fault = made.stderr.decode().split()[2:3]
-        is_refused = said.startswith(("The program is refused.", "It does not fit."))
-        is_right = is_refused and said.endswith(f"Fault {fault[0]}.") if fault else said.startswith("It fits")
-        checks.expect(f"its sentence is `{said}`", is_right)
-        show(browser, "slot.ngc")
-        said = browser.value(VERDICT)
-        checks.expect("the next run works", said.startswith("It fits"), said)
+def machine_and_zero(checks, page):
+    page.example("slot.ngc")
+    names = "ngc.sceneNow(ngc.store.state).fixtures.map(it => it.name).join()"
+    page.do("ngc.actions.tab('shop'); [...document.querySelectorAll('#shop .link')][1].click()")
+    checks.equal("a fixture can be removed", page.value(names), "front jaw of the vise,right clamp")
+    page.do("[...document.querySelectorAll('#notices button')].filter(it => it.textContent === 'Undo').pop().click()")
+    checks.equal("and comes back", page.value(names), "front jaw of the vise,left clamp,right clamp")
+    form = "document.getElementById('clamp').elements"
+    page.do(f"{form}.name.value = 'block'; {form}.low.value = '100, 85, -100'; {form}.high.value = '110 95 -68'; document.querySelector('#clamp button').click()")
+    checks.has("a clamp that is added counts", page.title, "hits the block")
+    page.do("ngc.files.useExampleMachine()")
+    page.forget_notices()
+    page.value(f"{form}.low.value = '1, 2'; {form}.high.value = '3, 4, 5'; document.querySelector('#clamp button').click(); 0")
+    checks.has("a clamp without three numbers is refused with a reason", page.notices, "two corners of three numbers")
+    figures = "document.getElementById('figures').elements"
+    page.value(f"{figures}.steps.value = '100'; {figures}.travel.value = '300, 180, 45'; {figures}.feed.value = '1000 1000 600'; {figures}.acceleration.value = '30'; document.querySelector('#figures button').click(); 0")
+    page.wait("ngc.store.state.files.machine.source === 'made'")
+    page.settle()
+    checks.equal("figures make a machine file", page.value("ngc.store.state.files.machine.name"), "300x180x45.toml")
+    scene = page.value("(it => [it.high[0] - it.low[0], it.high[1] - it.low[1], it.high[2] - it.low[2], it.step, it.rates.speeds.map(at => Math.round(at * 60))])(ngc.sceneNow(ngc.store.state))")
+    checks.equal("with their travel, step and speeds", scene, [300, 180, 45, 0.01, [1000, 1000, 600]])
+    page.example("low_slot.ngc")
+    page.do("ngc.actions.tab('place'); document.getElementById('origin-Z').value = '-65'; document.querySelector('#origin-form button').click()")
+    checks.begins("the program fits at a zero that is 5 mm higher", page.title, "Fits")
+    checks.equal("the picture has it too", page.value("ngc.sceneNow(ngc.store.state).origins.G54"), [50, 60, -65])
+    checks.has("the strip says that the zero was moved", page.value("document.querySelector('.chip-machine .about').textContent"), "G54 moved")
+    page.do("ngc.files.use('machine', 'again.toml', new TextEncoder().encode(document.getElementById('examples').textContent && JSON.parse(document.getElementById('examples').textContent)['named_mill.toml']), 'user')")
+    checks.equal("a new machine resets the zeros of this check", page.value("Object.keys(ngc.store.state.origins).length"), 0)
+    page.example("slot.ngc")
+    page.value("ngc.actions.place(); 0")
+    page.wait("ngc.store.state.slots.place.status === 'done'", 120)
+    found = page.value("ngc.current(ngc.store.state, 'place').along.map(it => [it.from, it.to])")
+    placed = json.loads(page.native("place", "--json", files=("slot.ngc", "named_mill.toml", "tools.toml")).stdout)
+    shifts = intervals_of(placed)
+    checks.equal("the shifts are those of `ngc place`", found, shifts)
+    page.edit(8, "X21 Y30")
+    checks.equal("and are gone at the next edit", page.value("[ngc.current(ngc.store.state, 'place'), document.getElementById('place').textContent]"), [None, ""])
+    page.settle()
+    page.value("ngc.actions.place(); 0")
+    page.wait("!document.getElementById('stop-place').hidden && ngc.jobs.isBusy('place')")
+    page.value("document.getElementById('stop-place').click(); 0")
+    page.settle()
+    checks.equal("trying shifts can be stopped", page.text("place"), "Stopped: the shifts are not known.")
+    page.example("slot.ngc")
 
 
-# ---- modules that are changed, so that memory ends or a call traps
-
-
-def number_at(data, at):
-    """An unsigned LEB128 number and the place after it."""
-    value = shift = 0
-    while True:
-        byte = data[at]
-        value, shift, at = value | (byte & 127) << shift, shift + 7, at + 1
-        if byte < 128:
-            return value, at
-
-
-def leb(value):
-    """A number that isn't negative in LEB128, with a byte to spare, so that it is the same signed and unsigned."""
-    data = bytearray()
-    while value:
-        data.append(value & 127 | 128)
-        value >>= 7
-    return bytes(data) + b"\0"
-
-
-def with_section(module, kind, change):
-    """A WebAssembly module with the content of one section changed."""
-    made, at = module[:8], 8
-    while at < len(module):
-        size, begin = number_at(module, at + 1)
-        body = module[begin:begin + size]
-        if module[at] == kind:
-            body = change(body)
-        made, at = made + module[at:at + 1] + leb(len(body)) + body, begin + size
-    return made
-
-
-def memory_of(module):
-    """The pages that a module's memory begins with."""
+def intervals_of(facts):
+    """The interval around 0 of each axis in the facts of `ngc place --json`."""
     found = []
-    with_section(module, 5, lambda body: found.append(number_at(body, 2)[0]) or body)
-    return found[0]
+    for axis in "XYZ":
+        along = [it for it in facts if it.get("axis") == axis and "from" in it and "to" in it]
+        around = next((it for it in along if it["from"] <= 0 <= it["to"]), along[0] if along else None)
+        found.append([around["from"], around["to"]] if around else None)
+    return found
 
 
-def with_most_memory(module, pages):
-    """The module, whose one memory can grow to at most a number of pages."""
-    return with_section(module, 5, lambda body: b"\x01" + bytes([body[1] | 1]) + leb(memory_of(module)) + leb(pages))
+# ---- saving
 
 
-def with_little_stack(module, size):
-    """The module, whose stack begins at an address near its end, which is 0."""
-
-    def change(body):
-        # The first global is a mutable i64, the stack pointer.
-        count, at = number_at(body, 0)
-        assert body[at:at + 3] == b"\x7e\x01\x42"
-        _, end = number_at(body, at + 3)
-        return body[:at + 3] + leb(size) + body[end:]
-
-    return with_section(module, 6, change)
+SAVES = {
+    "report": (".report.txt", ["report"], False), "every": (".report.all.txt", ["report", "--all"], False), "json": (".report.json", ["report", "--json"], False),
+    "every_json": (".report.all.json", ["report", "--all", "--json"], False), "drawing": (".iso.svg", ["draw", "--view", "iso"], True), "list": (".list.txt", ["list"], True),
+    "certificate": (".cert", ["certify", "--format", "2"], False), "certificate_1": (".1.cert", ["certify", "--format", "1"], False), "sheet": (".setup.txt", ["show"], False),
+}
 
 
-def take_module(browser, module):
-    browser.value(f"stopWorker(); module = Uint8Array.from(atob('{base64.b64encode(module).decode()}'), it => it.charCodeAt(0)); 0")
+def save_each(checks, page, name, more=()):
+    stem = name.rsplit(".", 1)[0]
+    files = (name, "named_mill.toml", "tools.toml")
+    for key, (end, words, has_delete) in SAVES.items():
+        page.forget_notices()
+        made = page.native(*words, *(more if has_delete else ()), files=(None, *files[1:]) if key == "sheet" else files)
+        page.value(f"document.querySelector('[data-save={key}]').click(); 0")
+        page.wait("document.getElementById('notices').textContent !== ''")
+        said, what = page.notices, f"`{' '.join(['ngc', *words, *(more if has_delete else ())])}` of {name}"
+        if made.stdout:
+            checks.equal(f"{stem}{end} is saved with the {len(made.stdout)} bytes of {what}", wait_for(page.downloads / f"{stem}{end}", len(made.stdout)), made.stdout)
+            checks.begins("  and the page says so", said, f"Saved as {stem}{end}, ")
+        else:
+            checks.begins(f"there is nothing to save of {what}, and why", said, f"There is nothing to save. {made.stderr.decode().strip()}")
 
 
-def ended_memory(checks, browser, program, module, examples, folder):
-    """Gives the module less and less memory. A call then returns what the program writes, or 900, or 902, or the page has no space."""
-    file = folder / "some.ngc"
-    file.write_bytes(long_program(2000))
-    names = (file, examples / "clamped_mill.toml", examples / "tools.toml")
-    certificate = native(program, ["certify", "--format", "2"], folder, names).stdout
-    kept = {"program": file.read_bytes(), "machine": names[1].read_bytes(), "tools": names[2].read_bytes(), "certificate": certificate}
-    for name, data in kept.items():
-        browser.value(f"window.given_{name} = Uint8Array.from(atob('{base64.b64encode(data).decode()}'), it => it.charCodeAt(0)); 0")
-    calls = {
-        "ngc_report": (["report"], "[0, 0]", 3), "ngc_draw": (["draw", "--view", "top"], "[0, 0]", 3), "ngc_list": (["list"], "[0]", 3),
-        "ngc_certify": (["certify", "--format", "2"], "[1]", 3), "ngc_check": (["check", "--certificate", "some.cert"], "[]", 4),
-        "ngc_pulses": (["pulses", "--certificate", "some.cert"], "[0]", 4),
+def save(checks, page):
+    page.example("slot.ngc")
+    page.do("document.querySelector('[data-view=iso]').click()")
+    for name in ("slot.ngc", "low_slot.ngc"):
+        page.example(name)
+        save_each(checks, page, name)
+    page.example("slot.ngc")
+    page.give({"another.cert": "ngc-certificate 1\n"})
+    made = page.native("certify", "--format", "2", files=("slot.ngc", "named_mill.toml", "tools.toml"))
+    page.value("ngc.actions.save('certificate'); 0")
+    checks.equal("beside a certificate that was dropped, the one of `ngc certify` is saved", wait_for(page.downloads / "slot.cert", len(made.stdout)), made.stdout)
+    page.do("ngc.actions.forgetCertificate(); ngc.actions.setBlockDelete(true)")
+    save_each(checks, page, "slot.ngc", ["--delete"])
+    (page.folder / "slot.cert").write_bytes(page.native("certify", "--format", "2", files=("slot.ngc", "named_mill.toml", "tools.toml")).stdout)
+    made = page.native("pulses", "--certificate", "slot.cert", "--delete", files=("slot.ngc", "named_mill.toml", "tools.toml"))
+    page.value("document.querySelector('[data-save=pulses]').click(); 0")
+    checks.equal(f"slot.vcd is saved with the {len(made.stdout)} bytes of `ngc pulses --delete`", wait_for(page.downloads / "slot.vcd", len(made.stdout)), made.stdout)
+    page.example("low_slot.ngc")
+    page.forget_notices()
+    page.value("ngc.actions.save('pulses'); 0")
+    page.wait("document.getElementById('notices').textContent !== ''")
+    checks.begins("a program that is refused has no pulses", page.notices, "There is nothing to save.")
+    for kind, name in (("program", "low_slot.ngc"), ("machine", "named_mill.toml"), ("tools", "tools.toml")):
+        page.value(f"ngc.actions.save('{kind}'); 0")
+        checks.equal(f"the {kind} is saved as it is in use", wait_for(page.downloads / name), (page.examples / name).read_bytes())
+    if page.value("ngc.parts.picture !== null"):
+        page.show_picture(True)
+        page.value("ngc.actions.save('picture'); 0")
+        image = wait_for(page.downloads / "low_slot.png")
+        checks.expect("the picture is saved as PNG", image.startswith(b"\x89PNG") and len(image) > 5000, len(image))
+        page.show_picture(False)
+    for what, change in (("another program", "ngc.actions.example('slot.ngc')"), ("the other setting of block delete", "ngc.actions.setBlockDelete(true)"), ("another zero", "ngc.actions.setOrigins({ G54: [50e6, 46e6, -70e6] })")):
+        page.example("low_slot.ngc")
+        page.forget_notices()
+        page.value(f"ngc.actions.save('list'); {change}; 0")
+        page.wait("document.getElementById('notices').textContent !== ''")
+        checks.begins(f"if {what} comes meanwhile nothing is saved", page.notices, "What is shown changed in the meantime: nothing was saved.")
+        page.settle()
+    checks.equal("nothing else was saved", [it.name for it in page.downloads.iterdir()], [])
+    page.example("slot.ngc")
+
+
+# ---- picture, player, search
+
+
+def picture_and_player(checks, page):
+    page.example("low_slot.ngc")
+    value = page.value
+    if value("ngc.parts.picture === null"):
+        checks.expect("without WebGL the drawing of `ngc draw` is shown", value("document.querySelector('#labels img.drawing') !== null"))
+        return
+    middle = "((path, picture, at) => { picture.draw(); const s = path.owner.findIndex(it => path.lines[it] === at), r = document.getElementById('canvas').getBoundingClientRect(); const q = picture.screenOf([0, 1, 2].map(axis => (path.a[s * 3 + axis] + path.b[s * 3 + axis]) / 2)); return [q[0] + r.left, q[1] + r.top]; })(ngc.pathNow(ngc.store.state), ngc.parts.picture, 21)"
+    page.browser.click(*value(middle))
+    page.wait("ngc.store.state.line !== 15")
+    checks.equal("a click on a motion chooses its line", value("ngc.store.state.line"), 21)
+    box = value("(r => [r.left, r.top, r.width, r.height])(document.getElementById('canvas').getBoundingClientRect())")
+    center = (box[0] + box[2] / 2, box[1] + box[3] / 2)
+    turn = value("ngc.parts.picture.orbit.turn")
+    page.browser.drag([center, (center[0] + 40, center[1]), (center[0] + 80, center[1])])
+    page.wait(f"ngc.parts.picture.orbit.turn !== {turn}")
+    checks.expect("dragging turns the picture", True)
+    before = value("ngc.parts.picture.orbit.scale")
+    value("ngc.parts.picture.orbit.zoomAt(0.5, 100, 100); document.querySelector('[data-view=top]').click(); 0")
+    checks.expect("another view keeps the zoom", abs(value("ngc.parts.picture.orbit.scale") - before / 2) < 1e-6)
+    at = "ngc.parts.picture.orbit"
+    value("ngc.parts.picture.fit(); 0")
+    scale = value(f"{at}.scale")
+    page.browser.touching(True)
+    page.browser.touch([[(center[0] - it, center[1]) for it in (40, 50, 60, 70, 80)], [(center[0] + it, center[1]) for it in (40, 50, 60, 70, 80)]])
+    page.wait(f"Math.abs({at}.scale / {scale} - 0.5) < 0.15", 10)
+    checks.expect("two fingers zoom", True)
+    page.browser.touching(False)
+    value("ngc.parts.picture.fit(); document.querySelector('[data-view=iso]').click(); document.getElementById('canvas').focus(); 0")
+    for key, part in (("ArrowLeft", "turn"), ("ArrowUp", "tilt"), ("+", "scale")):
+        before = value(f"{at}.{part}")
+        page.browser.press(key)
+        checks.expect(f"{key} changes the {part} of the picture", value(f"{at}.{part}") != before)
+    before = value(f"{at}.target.x + {at}.target.y")
+    page.browser.press("ArrowRight", shift=True)
+    checks.expect("Shift and an arrow move it", value(f"{at}.target.x + {at}.target.y") != before)
+    page.browser.press("0")
+    checks.expect("0 fits it", value(f"{at}.isTouched") is False)
+    times = "ngc.timesNow(ngc.store.state)"
+    page.example("slot.ngc")
+    # The two settings take as long; the report of `ngc report` says 35.197 s with block delete off.
+    report = json.loads(page.native("report", "--json", files=("slot.ngc", "named_mill.toml", "tools.toml")).stdout)
+    seconds = next(it["seconds"] for it in report if it["fact"] == "time")
+    checks.expect(f"the player ends at the report's {seconds} s", abs(value(f"{times}.at(-1)") - seconds) < 0.01, value(f"{times}.at(-1)"))
+    for name in ("holes.ngc", "ring.ngc", "plate.ngc", "facing.ngc"):
+        page.give({name: page.read(name)})
+        report = json.loads(page.native("report", "--json", files=(name, "named_mill.toml", "tools.toml")).stdout)
+        known = [it["seconds"] for it in report if it["fact"] == "time"]
+        if known:
+            checks.expect(f"so it does for {name}: {known[0]} s", abs(value(f"{times}.at(-1)") - known[0]) < 0.01, value(f"{times}.at(-1)"))
+    page.example("low_slot.ngc")
+    refused = value("((times, contact) => times[contact.command - 1] + (times[contact.command] - times[contact.command - 1]) * contact.share)(ngc.timesNow(ngc.store.state), ngc.contactNow(ngc.store.state))")
+    value(f"ngc.actions.seek({refused} - 0.4); ngc.store.dispatch({{ type: 'set', values: {{ speed: 1 }} }}); document.getElementById('play').click(); 0")
+    page.wait("!ngc.store.state.isPlaying", 20)
+    checks.expect("the player stops where the program is refused", abs(value("ngc.store.state.time") - refused) < 1e-6, (value("ngc.store.state.time"), refused))
+    checks.equal("at the line that is refused", value("ngc.store.state.line"), 15)
+    value("ngc.actions.seek(10); 0")
+    checks.begins("the scrubber says the time and the line", value("document.getElementById('time').getAttribute('aria-valuetext')"), "0:10, line ")
+    checks.expect("the readout has the position", "line" in page.text("readout"), page.text("readout"))
+    checks.equal("a red mark is where it is refused", value("document.querySelectorAll('#time-track .hit').length"), 1)
+    value("document.getElementById('colour').value = 'feed'; document.getElementById('colour').onchange(); 0")
+    page.value(DRAWN)
+    checks.has("by feed the legend has the fastest feed", page.text("legend"), "feed 0 to 600 mm/min")
+    value("document.getElementById('colour').value = 'tool'; document.getElementById('colour').onchange(); 0")
+    page.example("slot.ngc")
+
+
+def search(checks, page):
+    page.example("holes.ngc")
+    page.value("document.getElementById('query').value = 'g8'; document.getElementById('query').oninput(); 0")
+    page.wait("ngc.current(ngc.store.state, 'search') !== null && ngc.jobs.isIdle")
+    text = page.read("holes.ngc").lower()
+    checks.equal("search counts without regard to case", page.text("hits"), f"{text.count('g8')} found")
+    lines = [at for at, line in enumerate(text.split("\n"), 1) if "g8" in line]
+    for wanted in (*lines, lines[0]):
+        page.value("document.getElementById('next').click(); 0")
+        checks.equal(f"the next one is in line {wanted}", page.value("ngc.store.state.line"), wanted)
+    page.value("document.getElementById('query').value = 'line 7'; document.getElementById('query').oninput(); document.getElementById('next').click(); 0")
+    checks.equal("`line 7` goes to the line", page.value("ngc.store.state.line"), 7)
+    page.value("document.getElementById('query').value = 'no such text'; document.getElementById('query').oninput(); 0")
+    page.wait("ngc.current(ngc.store.state, 'search') !== null")
+    checks.equal("what isn't there isn't found", page.text("hits"), "none")
+    page.example("slot.ngc")
+    checks.equal("a new program begins without the search of the old one", page.value("document.getElementById('query').value"), "")
+
+
+# ---- files that want to do harm, memory that ends, traps, stopped workers
+
+
+MARKUP = "<img src=x onerror=\"window.harmed=true\"><script>window.harmed=true</script><svg onload=\"window.harmed=true\">&lt;b&gt;</script></style><!--"
+
+
+def hostile(checks, page):
+    page.example("slot.ngc")
+    page.value("window.harmed = false; window.violated = []; document.addEventListener('securitypolicyviolation', it => violated.push(it.violatedDirective + ' ' + it.blockedURI)); 0")
+    count = "document.querySelectorAll('img:not(.drawing), #rows script, #report script, iframe, svg').length"
+    before = page.value(count)
+    quoted = json.dumps(MARKUP)
+    machine = f"version = 2\n{page.read('named_mill.toml').split(chr(10), 1)[1]}" if "version = 2" not in page.read("named_mill.toml") else page.read("named_mill.toml")
+    machine = re.sub(r'(?m)^name = "left clamp"$', f"name = {quoted}", machine)
+    files = {
+        "a comment": {f"{MARKUP}.ngc".replace("/", "_"): f"({MARKUP.replace('(', '').replace(')', '')})\n{MARKUP}\nG21 {MARKUP}\nM2\n"},
+        "a program that hits a fixture with such a name": {"part.ngc": page.read("low_slot.ngc"), "mill.toml": machine},
+        "a machine file": {"mill.toml": f"version = 2\nstep = {MARKUP}\n"},
+        "a tool table": {"tools.toml": f"version = 2\n[[tool]]\nnumber = 1\nname = {quoted}\n"},
+        "a certificate": {"x.cert": f"ngc-certificate 1\n{MARKUP}\n"},
+        "GRBL's settings": {"dump.txt": f"$100={MARKUP}\n$110=1\n"},
+        "a file of another kind": {f"{MARKUP}.svg".replace("/", "_"): f"<svg>{MARKUP}</svg>"},
     }
-    (folder / "some.cert").write_bytes(certificate)
-    least, places = memory_of(module), (1 << 25) // 65536
-    for export, (words, choices, count) in calls.items():
-        made = native(program, words, folder, names)
-        wanted = (made.returncode, made.stdout, made.stderr)
-        given = ", ".join(f"given_{it}" for it in list(kept)[:count])
-        seen, wrong = {}, []
-        for pages in (least, least + places // 2, *(least + places + it for it in (1, 4, 7, 12, 16, 24, 32, 64, 128, 4096))):
-            take_module(browser, with_most_memory(module, pages))
-            asked = f"ask('{export}', [{given}], {choices})"
-            got = browser.value(f"{asked}.then(it => [it.status, text(it.output), text(it.errors)], it => [it.kind, it.message, ''])")
-            got = (got[0], got[1].encode(), got[2].encode())
-            kind = "no space" if got[0] == "other" and NO_MEMORY in got[1].decode() else "the bytes of the program" if got == wanted else \
-                f"fault {got[2].split()[2].decode()}" if got[0] == 1 and got[2] in (b"ngc: fault 900\n", b"ngc: fault 902\n") else None
-            if not kind:
-                wrong.append((pages, got[0], got[1][:100], got[2][:100]))
-            seen[kind] = seen.get(kind, 0) + 1
-        met = ", ".join(f"{it} {times} times" for it, times in seen.items())
-        checks.expect(f"{export} with {sum(seen.values())} sizes of memory never traps: {met}", not wrong, wrong)
-        checks.expect(f"{export} has met an end of memory", any(it and it.startswith("fault") for it in seen))
-    browser.value(f"files.program.bytes = given_program; 0")
-    for pages in (least, least + places + 9):
-        take_module(browser, with_most_memory(module, pages))
-        browser.value("judge(); 0")
-        browser.wait(IDLE)
-        said = browser.value(VERDICT)
-        checks.expect(f"with {pages} pages of memory the verdict is `{said}`", said.startswith(NO_MEMORY))
-    take_module(browser, module)
-    show(browser, "slot.ngc")
-    said = browser.value(VERDICT)
-    checks.expect("with the module as it was the next run works", said.startswith("It fits"), said)
+    for what, given in files.items():
+        page.give(given)
+        for tab in ("report", "place", "shop", "program"):
+            page.value(f"ngc.actions.tab('{tab}'); 0")
+            page.value(DRAWN)
+        page.value("ngc.parts.setupSheet.build(); document.getElementById('sheet').querySelectorAll('img').forEach(it => it.remove()); 0")
+        checks.equal(f"markup in {what} stays text", page.value(f"[harmed, {count}]"), [False, before])
+        page.example("slot.ngc")
+    page.value(f"document.getElementById('query').value = {quoted}; document.getElementById('query').oninput(); 0")
+    page.value(DRAWN)
+    checks.equal("so does markup in a search", page.value(f"[harmed, {count}]"), [False, before])
+    page.value(f"ngc.parts.editor.edit(2, 0); document.activeElement.value = {json.dumps('(' + MARKUP + ')')}; document.activeElement.oninput(); 0")
+    page.settle()
+    page.browser.press("Escape")
+    page.value(DRAWN)
+    checks.equal("and in an edited line", page.value(f"[harmed, {count}]"), [False, before])
+    checks.equal("nothing violated the policy until here", page.value("violated"), [])
+    blocked = {
+        "a script": "(() => { const it = document.createElement('script'); it.textContent = 'window.harmed = true'; document.body.append(it); it.remove(); })()",
+        "an evaluated text": "(() => { try { (0, eval)('window.harmed = true'); } catch { /* It is blocked. */ } })()",
+        "a request": "fetch('https://example.com/').catch(() => 0)",
+        "a picture from a network": "(() => { const it = new Image(); it.src = 'https://example.com/x.png'; })()",
+    }
+    # An inspector's evaluation may allow eval, so that one is called from a timer of the page.
+    for what, script in blocked.items():
+        page.value(f"violated.length = 0; setTimeout(() => {{ {script}; }}, 0); 0")
+        page.wait("violated.length > 0", 10)
+        checks.equal(f"the policy blocks {what}", page.value("harmed"), False)
+    page.browser.events.clear()
+    page.value("ngc.actions.forgetCertificate(); 0")
+    page.example("slot.ngc")
 
 
-def traps(checks, browser, module):
-    trap = browser.value("ask('ngc_check', given(), [1n << 50n, 10n]).then(() => 'none', it => it.kind + ': ' + it.message)")
-    checks.expect("a call with an address outside of the memory traps, and the page sees a trap", trap.startswith("trap: RuntimeError"), trap)
-    browser.value("window.before = worker; 0")
-    same = browser.value("ask('ngc_report', given(), [0, 0]).then(it => it.status === 0 && worker === before)")
-    checks.expect("the next call of the same worker works", same)
-    take_module(browser, with_little_stack(module, 64))
-    show(browser, "slot.ngc")
-    said = browser.value(VERDICT)
-    checks.expect(f"with a stack of 64 bytes the verdict is `{said}`", "ended this call" in said and "RuntimeError" in said, said)
-    checks.expect("no report is shown beside it", browser.value("element('report').textContent === ''"))
-    browser.value("document.querySelector('[data-save=certificate]').click(); 0")
-    browser.wait(f"{SAVED} !== 'Working.'")
-    said = browser.value(SAVED)
-    checks.expect("a button below says the same", "ended this call" in said, said)
-    take_module(browser, module)
-    show(browser, "slot.ngc")
-    said = browser.value(VERDICT)
-    checks.expect("with the module as it was the next run works", said.startswith("It fits"), said)
-    take_module(browser, b"\0asm\1\0\0\0\x7f")
-    show(browser, "slot.ngc")
-    said = browser.value(VERDICT)
-    checks.expect("where the browser can't compile the module the page says which browsers can", said.startswith("This browser can't run the page"), said)
-    take_module(browser, module)
-    show(browser, "slot.ngc")
+# Of each job: how it begins, its lane, and what the page says when it was stopped or has no memory.
+JOBS = {
+    "report": ("ngc.actions.check()", "verdict", "document.getElementById('verdict-title').textContent", "document.getElementById('verdict-title').textContent.startsWith('Fits')"),
+    "path": ("ngc.actions.check()", "path", "document.getElementById('legend').textContent", "ngc.pathNow(ngc.store.state) !== null"),
+    "scene": ("ngc.files.putBack('tools', ngc.store.state.files.tools)", "side", "document.getElementById('shop').textContent", "ngc.sceneNow(ngc.store.state) !== null"),
+    "place": ("ngc.actions.place()", "place", "document.getElementById('place').textContent", "document.getElementById('place').textContent.startsWith('It fits')"),
+    "certificate": ("ngc.files.putBack('certificate', ngc.store.state.files.certificate)", "side", "document.querySelector('.chip.certificate .about').textContent", "document.querySelector('.chip.certificate .about').textContent === 'accepted for these files'"),
+    "every": ("ngc.actions.check()", "side", "document.getElementById('report').textContent", "document.querySelectorAll('#report .places li').length === 2"),
+    "save": ("ngc.actions.save('report')", "save", "document.getElementById('notices').textContent", "document.getElementById('notices').textContent.startsWith('Saved as')"),
+    "pulses": ("ngc.actions.save('pulses')", "save", "document.getElementById('notices').textContent", "document.getElementById('notices').textContent.startsWith('Saved as')"),
+    "adapt": ("ngc.actions.rewrite()", "side", "document.getElementById('adapt-notes').textContent", "document.querySelector('#adapt-notes pre') !== null"),
+    "machine": (f"ngc.files.makeMachine([new TextEncoder().encode({json.dumps(SETTINGS)})], 'dump.txt')", "side", "document.getElementById('notices').textContent", "document.getElementById('notices').textContent.startsWith('dump.toml is in use')"),
+    "explain": ("ngc.actions.explain(304)", "side", "document.getElementById('notices').textContent + '|' + document.getElementById('explained').textContent", "document.getElementById('explained').textContent.startsWith('Fault 304')"),
+    "search": ("document.getElementById('query').value = document.getElementById('query').value === 'g1' ? 'g0' : 'g1'; document.getElementById('query').oninput()", "side", "document.getElementById('hits').textContent", "document.getElementById('hits').textContent.endsWith('found')"),
+    "index": ("ngc.files.use('program', 'long.ngc', new TextEncoder().encode('(x)\\n'.repeat(60000) + 'M2\\n'), 'user')", "index", "document.getElementById('line-count').textContent", "document.getElementById('line-count').textContent.endsWith('lines') || document.getElementById('line-count').textContent.endsWith('line')"),
+    "batch": ("ngc.files.take({ files: ['a.ngc', 'b.ngc'].map(it => new File(['G21\\nM2\\n'], it)), folders: 0, unread: [], isCut: false })", "batch", "[...document.querySelectorAll('.chip-program select option')].map(it => it.textContent).join()", "ngc.store.state.programs.every(it => it.verdict === 'fits')"),
+}
+STOPPED = {"every": "low_slot.ngc"}
+NO_MEMORY = "There is not enough memory"
 
 
-# ---- who can use the page
-
-CONTROL_ROLES = ("button", "checkbox", "combobox", "DisclosureTriangle", "Details", "listbox", "menuitem", "option", "slider", "spinbutton", "tab", "textbox")
-SHOWN = "it.checkVisibility() && it.getClientRects().length"
-# The least contrast of each text that is shown, as [contrast, text, colours]. Disabled controls may be weaker.
-CONTRAST = """(() => {
-  const canvas = document.createElement('canvas').getContext('2d', { willReadFrequently: true });
-  // Red, green, blue and opacity of a colour, from 0 to 255.
-  const colour = name => {
-    canvas.clearRect(0, 0, 1, 1);
-    canvas.fillStyle = name;
-    canvas.fillRect(0, 0, 1, 1);
-    return [...canvas.getImageData(0, 0, 1, 1).data];
-  };
-  // The relative luminance of WCAG 2, and the ratio of two.
-  const linear = c => c <= .04045 ? c / 12.92 : ((c + .055) / 1.055) ** 2.4;
-  const light = parts => [.2126, .7152, .0722].reduce((sum, share, at) => sum + share * linear(parts[at] / 255), 0);
-  const ratio = (a, b) => (Math.max(a, b) + .05) / (Math.min(a, b) + .05);
-  const ground = it => {
-    const found = it ? colour(getComputedStyle(it).backgroundColor) : colour('Canvas');
-    return !it || found[3] === 255 ? found : ground(it.parentElement);
-  };
-  const found = [];
-  const add = (ink, under, text) => found.push([ratio(light(colour(ink)), light(under)), text.trim().slice(0, 40), ink, under.join()]);
-  const shown = selector => [...document.querySelectorAll(selector)].filter(it => it.checkVisibility());
-  const walk = document.createTreeWalker(document.body, NodeFilter.SHOW_TEXT);
-  while (walk.nextNode()) {
-    const it = walk.currentNode.parentElement;
-    if (!walk.currentNode.data.trim() || !it.checkVisibility() || it.closest('script, style, option, :disabled')) continue;
-    if (!it.closest('svg')) add(getComputedStyle(it).color, ground(it), walk.currentNode.data);
-    // The picture's marks may lie on a fixture, which is gray of a share of 0.3 on white. Its legend is on white.
-    else add(getComputedStyle(it).fill, it.closest('tspan') ? [255, 255, 255, 255] : [217, 217, 217, 255], walk.currentNode.data);
-  }
-  for (const it of shown('#lines li')) add(getComputedStyle(it, '::before').color, ground(it), `number ${it.dataset.number}`);
-  for (const it of shown('input, select')) add(getComputedStyle(it).color, ground(it), it.id || it.type);
-  for (const it of shown('input[placeholder]')) add(getComputedStyle(it, '::placeholder').color, ground(it), it.placeholder);
-  for (const it of shown('input[type=file]')) {
-    const { color, backgroundColor } = getComputedStyle(it, '::file-selector-button'), own = colour(backgroundColor);
-    add(color, own[3] === 255 ? own : ground(it), 'the button of a file field');
-  }
-  return found;
-})()"""
-WIDER = """[...document.body.querySelectorAll('*')]
-  .filter(it => it.checkVisibility() && !it.closest('svg') && it.getBoundingClientRect().right > innerWidth + .5)
-  .map(it => `${it.tagName} ${it.id} ${it.textContent.trim().slice(0, 30)} ${it.getBoundingClientRect().right}`)"""
-# The controls that are less than 24 points wide or high, with their labels.
-SMALL = """[...document.querySelectorAll('button, select, input, summary')].filter(it => it.checkVisibility())
-  .filter(it => [it, ...(it.labels ?? [])].map(it => it.getBoundingClientRect()).every(({ width, height }) => width < 24 || height < 24))
-  .map(it => it.id || it.textContent)"""
-LONG_NAME = """put('program', 'a_name_' + 'that_is_long_'.repeat(12) + '.ngc', files.program.bytes);
-  element('saved').textContent = `Saved as ${files.program.name}`; 0"""
-REACHABLE = """[...document.querySelectorAll('button:enabled, input:enabled, select:enabled, summary, [tabindex="0"]')]
-  .filter(it => it.checkVisibility() && it.getClientRects().length)"""
-MARK_FOCUSED = "document.activeElement.dataset.met = 'yes'; 0"
-MISSED = f"{REACHABLE}.filter(it => !it.dataset.met).map(it => it.id || it.outerHTML.slice(0, 60))"
-RINGLESS = f"{REACHABLE}.filter(it => {{ it.focus({{ focusVisible: true }}); return getComputedStyle(it).outlineStyle === 'none'; }}).length"
-IN_SIGHT = """(() => {
-  const line = document.querySelector('#lines [aria-selected=true]').getBoundingClientRect(), list = element('lines').getBoundingClientRect();
-  return line.bottom <= list.bottom + 1 && line.top >= list.top - 1;
-})()"""
-DUPLICATES = "[...document.querySelectorAll('[id]')].map(it => it.id).filter((it, at, all) => all.indexOf(it) !== at)"
+def prepare(page, job):
+    example = STOPPED.get(job, "slot.ngc")
+    page.do(f"ngc.actions.forgetCertificate(); ngc.files.useExampleMachine(); ngc.actions.example('{example}'); document.getElementById('query').value = ''; document.getElementById('query').oninput(); document.getElementById('adapt-notes').textContent = ''; document.getElementById('explained').textContent = ''")
+    if job == "certificate":
+        page.give({"slot.cert": page.native("certify", "--format", "2", files=("slot.ngc", "named_mill.toml", "tools.toml")).stdout.decode()})
+    page.forget_notices()
 
 
-def media(browser, scheme):
-    browser.call("Emulation.setEmulatedMedia", features=[{"name": "prefers-color-scheme", "value": scheme}])
+def stopped_workers(checks, page):
+    """Each job says that it was stopped, and the next one works."""
+    wanted = {"report": "Stopped: there is no verdict.", "path": "There is no path. Stopped.", "scene": "The machine file can't be shown. Stopped.", "place": "Stopped: the shifts are not known.", "certificate": "not checked: Stopped.",
+              "every": "The other places weren't found. Stopped.", "save": "Nothing was saved. Stopped.", "pulses": "Nothing was saved. Stopped.", "adapt": "Stopped.", "machine": "No machine file was made of dump.txt. Stopped.", "explain": "Stopped.", "search": "Stopped.",
+              "index": "The lines can't be shown. Stopped.", "batch": "2,? a.ngc,? b.ngc"}
+    for job, (begin, lane, said, works) in JOBS.items():
+        prepare(page, job)
+        # The job is stopped as soon as its lane is busy with it.
+        slot = job if job in ("report", "path", "scene", "place", "certificate", "every", "search", "index") else None
+        begun = f"ngc.store.state.slots.{slot}.status === 'running' && ngc.jobs.isBusy('{lane}')" if slot else f"ngc.jobs.isBusy('{lane}')"
+        page.value(f"new Promise(done => {{ {begin}; const look = () => {{ if ({begun}) {{ ngc.jobs.stop('{lane}'); {'ngc.jobs.stop(' + json.dumps(lane) + ');' if job == 'batch' else ''} done(0); }} else queueMicrotask(() => setTimeout(look, 0)); }}; look(); }})")
+        if job == "batch":
+            page.wait("(ngc.jobs.stop('batch'), ngc.store.state.programs.every(it => it.verdict))")
+        page.wait("ngc.jobs.isIdle", 60)
+        page.value(DRAWN)
+        checks.has(f"a stopped {job} says so", page.value(said), wanted[job])
+        page.forget_notices()
+        page.value(f"{begin}; 0")
+        page.wait(works, 60)
+        checks.expect(f"  and the next {job} works", True)
+    page.example("slot.ngc")
 
 
-def open_details(browser):
-    browser.value("document.querySelector('details').open = true; element('notes').hidden = false; element('notes').textContent = 'line 1: taken'; 0")
-
-
-def names_and_roles(checks, browser):
-    show(browser, "low_slot.ngc")
-    open_details(browser)
-    nodes = browser.call("Accessibility.getFullAXTree")["nodes"]
-    named, nameless, odd = {}, [], []
-    focusable = "button, input, select, summary, [tabindex]"
-    wanted = browser.value(f"[...document.querySelectorAll({json.dumps(focusable)})].filter(it => {SHOWN}).length")
-    met = 0
-    for node in nodes:
-        role, name = node.get("role", {}).get("value"), node.get("name", {}).get("value", "").strip()
-        flags = {it["name"]: it["value"].get("value") for it in node.get("properties", [])}
-        if node.get("ignored") or role in ("RootWebArea", "option", "MenuListPopup", "InlineTextBox"):
+def ended_memory(checks, page):
+    """With no memory to grow, each job that calls the module says so, and works again with it."""
+    little = with_most_memory(page.module, memory_of(page.module))
+    for job, (begin, lane, said, works) in JOBS.items():
+        if job in ("search", "index"):
             continue
-        if flags.get("focusable") or flags.get("disabled") or role in CONTROL_ROLES:
-            met += 1
-            named[role] = named.get(role, 0) + 1
-            if not name:
-                nameless.append((role, node.get("backendDOMNodeId")))
-            if role in ("generic", "none", "GenericContainer", "StaticText", "Pre", "pre", None):
-                odd.append((role, name[:40]))
-    met_roles = ", ".join(f"{role} {times}" for role, times in sorted(named.items()))
-    checks.expect(f"the tree of what a screen reader gets has the page's {wanted} controls ({met_roles})", met >= wanted, met)
-    checks.expect("each has a name", not nameless, nameless)
-    checks.expect("each has a role that says what it is", not odd, odd)
-    roles = {it.get("role", {}).get("value") for it in nodes if not it.get("ignored")}
-    checks.expect("the tree has a heading, a main part and a status", {"heading", "main", "status"} <= roles, sorted(map(str, roles)))
-    options = [it for it in nodes if it.get("role", {}).get("value") == "option" and not it.get("ignored")]
-    checks.expect("each option has a name", all(it.get("name", {}).get("value") for it in options), len(options))
-    duplicates = browser.value(DUPLICATES)
-    checks.expect("no two elements have the same id", not duplicates, duplicates)
+        prepare(page, job)
+        page.use_module(little)
+        page.forget_notices()
+        page.value(f"{begin}; 0")
+        if job == "batch":
+            page.wait("ngc.store.state.programs.length === 2 && ngc.store.state.programs.every(it => it.verdict)", 60)
+        page.wait("ngc.jobs.isIdle", 60)
+        page.value(DRAWN)
+        if job == "every":
+            # Without memory there is no first report either.
+            checks.has("without memory there is no report at all", page.title, NO_MEMORY)
+        elif job == "batch":
+            checks.equal("without memory the programs of a drop have no verdict", page.value(said), "2,? a.ngc,? b.ngc")
+        else:
+            checks.has(f"without memory the {job} says so", page.value(said), "memory")
+        page.use_module(page.module)
+        prepare(page, job)
+        page.value(f"{begin}; 0")
+        page.wait(works, 60)
+        checks.expect(f"  and the next {job} works", True)
+    each_size(checks, page)
+    page.use_module(page.module)
+    page.example("slot.ngc")
 
 
-def contrasts(checks, browser):
-    for scheme in ("light", "dark"):
-        media(browser, scheme)
-        for example in ("low_slot.ngc", "slot.ngc"):
-            show(browser, example)
-            open_details(browser)
-            browser.value("element('saved').textContent = 'Saved.'; 0")
-            found = browser.value(CONTRAST)
-            least = min(found)
-            weak = sorted({tuple(it) for it in found if it[0] < 4.5})
-            what = f"in {scheme} mode each of {len(found)} texts of {example} has a contrast of at least 4.5"
-            checks.expect(f"{what} (the least is {least[0]:.2f}, `{least[1]}`)", not weak, weak[:5])
-    media(browser, "light")
+def each_size(checks, page):
+    """Gives the module less and less memory. A call then returns what the program writes, or 900, or 902, or the page has no space."""
+    body = "".join(f"G1 X{20 + at % 60}.{at % 1000:03} Y30\n" for at in range(2000))
+    (page.folder / "some.ngc").write_text(TOOL + "Z2\nG1 Z-3 F300\n" + body + "G0 Z20\nM9\nG28 Z20\nM30\n")
+    files = (page.folder / "some.ngc", "named_mill.toml", "tools.toml")
+    certificate = page.native("certify", "--format", "2", files=files).stdout
+    (page.folder / "some.cert").write_bytes(certificate)
+    page.use_module(page.module)
+    page.give({"some.ngc": (page.folder / "some.ngc").read_text()})
+    page.value(f"window.cert = new TextEncoder().encode({json.dumps(certificate.decode())}); 0")
+    calls = {
+        "ngc_report": (["report"], [0, 0], ""), "ngc_draw": (["draw", "--view", "top"], [0, 0], ""), "ngc_list": (["list"], [0], ""), "ngc_certify": (["certify", "--format", "2"], [1], ""),
+        "ngc_check": (["check", "--certificate", "some.cert"], [], "cert"), "ngc_pulses": (["pulses", "--certificate", "some.cert"], [0], "cert"),
+    }
+    least, places = memory_of(page.module), (1 << 20) // 65536
+    wanted = {export: page.native(*words, files=files) for export, (words, _, _) in calls.items()}
+    seen, wrong = {export: {} for export in calls}, {export: [] for export in calls}
+    for pages in (least, least + places // 2, *(least + places + it for it in (1, 4, 7, 12, 16, 24, 32, 64, 128, 4096))):
+        page.use_module(with_most_memory(page.module, pages))
+        for export, (_, options, more) in calls.items():
+            made, given = wanted[export], f"['program', 'machine', 'tools'{', cert' if more else ''}]"
+            got = page.value(f"ngc.jobs.run('test', 'test', 'output', {{ name: '{export}', given: {given}, options: {options} }}).then(it => [it.status, new TextDecoder().decode(it.output), it.text], it => [it.kind, it.text, ''])")
+            same = got == [made.returncode, made.stdout.decode(), made.stderr.decode()]
+            kind = "no space" if got[0] == "memory" else "the bytes of the program" if same else got[2].strip() if got[0] == 1 and got[2] in ("ngc: fault 900\n", "ngc: fault 902\n") else None
+            if not kind:
+                wrong[export].append((pages, got[0], got[1][:100], got[2][:100]))
+            seen[export][kind] = seen[export].get(kind, 0) + 1
+    for export in calls:
+        met = ", ".join(f"{it} {times} times" for it, times in seen[export].items())
+        checks.expect(f"{export} with {sum(seen[export].values())} sizes of memory never traps: {met}", not wrong[export], wrong[export])
 
 
-def press(browser, key, code=None, number=0, text=None):
-    keys = {"key": key, "code": code or key, "windowsVirtualKeyCode": number}
-    browser.call("Input.dispatchKeyEvent", type="keyDown", **keys, **({"text": text} if text else {}))
-    browser.call("Input.dispatchKeyEvent", type="keyUp", **keys)
+def traps(checks, page):
+    page.example("slot.ngc")
+    trap = page.value("ngc.jobs.run('test', 'test', 'output', { name: 'ngc_explain', given: [], options: [1n << 50n, 10n] }).then(() => 'none', it => it.kind)")
+    checks.expect("a call with options of another type fails, and not silently", trap in ("trap", "other"), trap)
+    checks.begins("the next call of the same worker works", page.value("ngc.jobs.run('test', 'test', 'explain', { number: 304 }).then(it => it.text)"), "Fault 304")
+    missing = page.value("ngc.jobs.run('test', 'test', 'output', { name: 'ngc_nothing' }).then(() => 'none', it => it.kind)")
+    checks.equal("a call that the module lacks is named as one", missing, "missing")
+    page.use_module(with_little_stack(page.module, 64))
+    page.do("ngc.actions.example('low_slot.ngc')")
+    checks.begins("with a stack of 64 bytes the verdict is one of its own", page.title, "The checker ended unexpectedly")
+    checks.equal("no figures of an earlier one are beside it", page.value("document.getElementById('bars').children.length + document.querySelectorAll('#warnings .card').length"), 0)
+    page.forget_notices()
+    page.value("ngc.actions.save('certificate'); 0")
+    page.wait("document.getElementById('notices').textContent !== ''")
+    checks.begins("a save says the same", page.notices, "Nothing was saved. The checker ended unexpectedly")
+    page.use_module(page.module)
+    page.do("ngc.actions.check()")
+    checks.begins("with the module as it was the next run works", page.title, "Line 15 hits")
+    page.example("slot.ngc")
 
 
-def tab(browser):
-    press(browser, "Tab", number=9)
+def unable(checks, page):
+    """A browser that can't compile the module, as one without 64-bit memory."""
+    broken = base64.b64encode(gzip.compress(b"\0asm\1\0\0\0\x7f")).decode()
+    file = page.folder / "unable.html"
+    file.write_text(re.sub(r'(id="module">).*?(</script>)', lambda it: it[1] + broken + it[2], page.file.read_text(), flags=re.S))
+    page.browser.open(file)
+    checks.begins("where the browser can't compile the module, the page says so", page.title, "This browser can't run the page: it has no 64-bit WebAssembly memory.")
+    checks.has("and which browsers can", page.text("verdict-detail"), "Chromium 133 or later and Firefox 134 or later")
+    page.browser.open(page.file)
+    page.settle()
+    page.show_picture(page.shows_picture)
 
 
-def tab_to(browser, what):
-    for _ in range(80):
-        if browser.value(f"document.activeElement === ({what})"):
-            return
-        tab(browser)
-    raise Fault(f"the Tab key doesn't reach {what}")
+# ---- paper
 
 
-def enter(browser):
-    press(browser, "Enter", number=13, text="\r")
+def paper(checks, page):
+    for name in ("slot.ngc", "low_slot.ngc", "holes.ngc"):
+        page.example(name)
+        page.value("ngc.parts.setupSheet.build(); 0")
+        pages = pages_of(page.browser.paper())
+        checks.equal(f"the setup sheet of {name} is one page", pages, 1)
+    words = page.text("sheet")
+    checks.has("it has the verdict, the zero, the tools, their figures and the fixtures", words, page.title, "Zero, mm", "Tools to set up", "Figures of each tool", "Fixtures, mm", "left clamp", "EXAMPLE MACHINE")
+    tools = "".join(f"\n[[tool]]\nnumber = {at}\nname = \"cutter {at}\"\nlength = 45000000\ndiameter = 8000000\noffset = 45000000\n" for at in range(1, 31))
+    many = "".join(f"T{at} M6\nS2000 M3\nG43 H{at}\nG0 Z20\nX20 Y30\nG1 Z2 F{100 + at}\nG0 Z20\n" for at in range(1, 31))
+    machine = page.read("named_mill.toml") + "".join(f"\n[[fixture]]\nname = \"stop {at}\"\nlow = [{280 + at}000000, 280000000, -100000000]\nhigh = [{281 + at}000000, 299000000, -90000000]\n" for at in range(15))
+    page.give({"many.ngc": f"G21 G90 G17 G54\n{many}M9\nG28 Z20\nM30\n", "m.toml": machine, "many_tools.toml": tool_table(page, tools)})
+    page.value("ngc.parts.setupSheet.build(); 0")
+    checks.expect("a program with 30 tools and a machine with 18 fixtures is checked", "can't be used" not in page.title and "refused" not in page.title, page.title)
+    checks.equal("their setup sheet is one page", pages_of(page.browser.paper()), 1)
+    checks.has("and says how many rows there are more", page.text("sheet"), "the first 8 of 18")
+    page.example("slot.ngc")
 
 
-def keyboard(checks, browser, examples):
-    show(browser, "low_slot.ngc")
-    browser.value("document.querySelector('details').open = false; element('notes').hidden = true; document.activeElement.blur(); scrollTo(0, 0); 0")
-    browser.value("document.querySelectorAll('[data-met]').forEach(it => delete it.dataset.met); 0")
-    tab_to(browser, "document.querySelector('summary')")
-    enter(browser)
-    checks.expect("Enter on the summary opens the part for other controls", browser.value("document.querySelector('details').open"))
-    browser.value("document.activeElement.blur(); 0")
-    for _ in range(90):
-        tab(browser)
-        browser.value(MARK_FOCUSED)
-    missed, count = browser.value(MISSED), browser.value(f"{REACHABLE}.length")
-    checks.expect(f"the Tab key reaches each of the {count} controls that aren't disabled, and leaves each", not missed, missed)
-    ringed = browser.value(RINGLESS)
-    checks.expect("each shows that it has the focus", ringed == 0, ringed)
-    browser.value("document.activeElement.blur(); 0")
-    tab_to(browser, "document.querySelector('[data-view=\"2\"]')")
-    enter(browser)
-    browser.wait(f"document.querySelector('[data-view=\"2\"]').getAttribute('aria-pressed') === 'true' && {IDLE}")
-    checks.expect("Enter on Side shows the program from the side", True)
-    tab_to(browser, "element('picture')")
-    before = browser.value("frame.join()")
-    press(browser, "+", number=187, text="+")
-    zoomed = browser.value("frame.join()")
-    press(browser, "ArrowLeft", number=37)
-    moved = browser.value("frame.join()")
-    press(browser, "0", number=48, text="0")
-    after = browser.value("frame.join()")
-    is_right = before != zoomed != moved and after == before
-    checks.expect("in the picture + zooms, an arrow moves, and 0 shows the whole", is_right, (before, zoomed, moved, after))
-    tab_to(browser, "element('lines')")
-    chosen = "document.querySelector('#lines [aria-selected=true]').dataset.number"
-    press(browser, "Home", number=36)
-    first = browser.value(chosen)
-    press(browser, "ArrowDown", number=40)
-    second = browser.value(chosen)
-    press(browser, "End", number=35)
-    last = browser.value(chosen)
-    checks.expect("in the list Home, an arrow and End choose lines", (first, second) == ("1", "2") and int(last) > 10, (first, second, last))
-    active = browser.value("document.getElementById(element('lines').getAttribute('aria-activedescendant')).dataset.number")
-    checks.expect("the list names the chosen line as its active one", active == last, active)
-    checks.expect("the chosen line is in sight", browser.value(IN_SIGHT))
-    browser.value("document.querySelector('details').open = false; document.activeElement.blur(); 0")
-    tab_to(browser, "element('all')")
-    press(browser, " ", code="Space", number=32, text=" ")
-    browser.wait(IDLE)
-    checks.expect("Space sets `Report every command`", browser.value("element('all').checked"))
-    press(browser, " ", code="Space", number=32, text=" ")
-    browser.wait(IDLE)
-    tab_to(browser, "document.querySelector('[data-save=sheet]')")
-    enter(browser)
-    browser.wait(f"{SAVED}.startsWith('Saved as setup.txt')")
-    checks.expect("Enter on `Setup sheet` saves it", True)
-    browser.value("document.activeElement.blur(); scrollTo(0, 0); 0")
-    browser.call("Page.setInterceptFileChooserDialog", enabled=True)
-    for kind, name in (("program", "holes.ngc"), ("machine", "clamped_mill.toml"), ("tools", "tools.toml")):
-        tab_to(browser, f"document.querySelector('#field-{kind} input')")
-        browser.events.clear()
-        enter(browser)
-        until = time.time() + 10
-        asked = []
-        while not asked and time.time() < until:
-            browser.value("0")
-            asked = [it["params"] for it in browser.events if it.get("method") == "Page.fileChooserOpened"]
-        if asked:
-            browser.call("DOM.setFileInputFiles", backendNodeId=asked[0]["backendNodeId"], files=[str(examples / name)])
-            browser.wait(f"element('name-{kind}').textContent === {json.dumps(named(examples / name))} && {IDLE}")
-        checks.expect(f"Enter on the field {kind} asks for a file, and takes it", asked)
-    browser.call("Page.setInterceptFileChooserDialog", enabled=False)
-    show(browser, "slot.ngc")
+def tool_table(page, tools):
+    """A table with the head of the examples'."""
+    head = page.read("tools.toml").split("[[tool]]")[0]
+    body = page.read("tools.toml").split("[[tool]]")[1]
+    keys = dict(re.findall(r"(?m)^(\w+) = (.*?)(?:\s*#.*)?$", body))
+    made = []
+    for at in range(1, 31):
+        made.append("[[tool]]\n" + "".join(f"{key} = {at if key == 'number' else value}\n" for key, value in keys.items()))
+    return head + "\n".join(made)
 
 
-def narrow(checks, browser, pictures):
-    """In a window of 360 points nothing is wider than it."""
-    browser.shape(360, 780)
-    for example in ("low_slot.ngc", "slot.ngc"):
-        show(browser, example)
-        open_details(browser)
-        width = browser.value("document.documentElement.scrollWidth")
-        wider = browser.value(WIDER)
-        checks.expect(f"in a window of 360 points the page with {example} is 360 points wide", width <= 360 and not wider, (width, wider[:5]))
-    browser.value(LONG_NAME)
-    width, wider = browser.value("document.documentElement.scrollWidth"), browser.value(WIDER)
-    checks.expect("with a long file name too", width <= 360 and not wider, (width, wider[:5]))
-    show(browser, "low_slot.ngc")
-    small = browser.value(SMALL)
-    checks.expect("each control is at least 24 points wide and high", not small, small)
+def pages_of(pdf):
+    """The number of pages of a PDF, whose page tree may be in a compressed stream."""
+    parts = [pdf]
+    for found in re.finditer(rb"stream\r?\n(.*?)\r?\nendstream", pdf, re.S):
+        try:
+            parts.append(zlib.decompress(found[1]))
+        except zlib.error:
+            pass
+    return sum(len(re.findall(rb"/Type\s*/Page\b(?!s)", it)) for it in parts)
+
+
+def complaints(browser):
+    """What the browser wrote to its console, without what it says of a graphics card that isn't there."""
+    return [it for it in browser.complaints() if not re.search(r"WebGL|GPU stall|GL Driver|WEBGL_debug_renderer_info", it)]
+
+
+def quiet(checks, page):
+    """At the end: no request and no complaint."""
+    requests = page.value("performance.getEntriesByType('resource').map(it => it.name).filter(it => !/^(blob|data):/.test(it))")
+    checks.equal("no request left the page", requests, [])
+    checks.equal("the browser's console is empty", complaints(page.browser), [])
+
+
+PICTURED = ("picture_and_player", "paper", "access", "keyboard", "phone", "quiet")
+GROUPS = {it.__name__: it for it in (verdicts, block_delete, editing, races, file_kinds, machine_and_zero, save, picture_and_player, search, paper, keeping, hostile, stopped_workers, ended_memory, traps, unable, access, keyboard, contrast, phone, quiet)}
+
+
+def take_pictures(page, folder):
+    """Pictures for the documents and for whoever looks at the page."""
+    folder.mkdir(parents=True, exist_ok=True)
+    shots = {
+        "refused": ("low_slot.ngc", "light", 1280, 800, 0.75, ""), "playing": ("slot.ngc", "light", 1280, 800, 0.75, "ngc.actions.seek(14)"),
+        "dark": ("holes.ngc", "dark", 1280, 800, 0.75, "ngc.actions.seek(60); ngc.actions.tab('report')"), "phone": ("low_slot.ngc", "light", 390, 844, 1, ""),
+    }
+    for name, (example, theme, width, height, scale, script) in shots.items():
+        page.browser.shape(width, height, scale)
+        page.example(example)
+        page.forget_notices()
+        page.do(f"ngc.actions.tab('program'); ngc.store.dispatch({{ type: 'set', values: {{ theme: '{theme}' }} }}); scrollTo(0, 0); {script}")
+        page.value("document.querySelector('[data-view=iso]').click(); ngc.parts.picture?.fit(); document.activeElement.blur(); 0")
+        page.value(DRAWN)
+        page.value(DRAWN)
+        (folder / f"{name}.png").write_bytes(page.browser.picture())
+    page.browser.shape(1280, 800)
+
+
+def check_page(checks, browser, file, program, examples, folder, downloads, groups, pictures):
+    page = Page(browser, file, program, examples, folder, downloads)
+    browser.shape(1280, 800)
+    page.open()
+    for name, check in GROUPS.items():
+        if not groups or name in groups:
+            begun = time.time()
+            print(f"-- {name}", flush=True)
+            page.show_picture(name in PICTURED)
+            checks.group(check, page)
+            browser.shape(1280, 800)
+            print(f"-- {name}: {time.time() - begun:.0f} s", flush=True)
     if pictures:
-        for scheme in ("light", "dark"):
-            media(browser, scheme)
-            browser.shape(360, 2600)
-            (pictures / f"narrow_{scheme}.png").write_bytes(browser.picture())
-            browser.shape(1120, 1400)
-            (pictures / f"wide_{scheme}.png").write_bytes(browser.picture())
-        media(browser, "light")
-    browser.shape(1200, 1500)
-
-
-def check_page(checks, browser, page, module, program, examples, folder, downloads, picture, pictures):
-    """Runs all checks of the page."""
-    browser.open(page)
-    checks.group(use, browser, picture)
-    checks.group(save, browser, program, examples, folder, downloads)
-    checks.group(give_files, browser, program, examples, folder)
-    checks.group(remember, browser, page, program, examples, folder)
-    checks.group(long_runs, browser, program, examples, folder)
-    checks.group(large_programs, browser, program, examples, folder)
-    checks.group(ended_memory, browser, program, module, examples, folder)
-    checks.group(traps, browser, module)
-    said = browser.complaints()
-    checks.expect("the browser's console is empty", not said, said[:5])
-    if isinstance(browser, Chromium):
-        browser.open(page)
-        checks.group(drop_files, browser, examples)
-        browser.open(page)
-        checks.group(names_and_roles, browser)
-        checks.group(contrasts, browser)
-        checks.group(keyboard, browser, examples)
-        checks.group(narrow, browser, pictures)
-    browser.value("localStorage.clear(); 0")
-    browser.open(page)
-    browser.wait(IDLE)
+        page.show_picture(True)
+        take_pictures(page, pictures)

@@ -1,0 +1,166 @@
+"""Compares each call of the page's module with the same command of the program: status, output and errors, byte for byte.
+
+The calls go through the page's own worker, with every option that the page has.
+"""
+import base64
+import json
+import random
+import subprocess
+
+from browsers import Fault
+
+SETUPS = [("clamped_mill.toml", "tools.toml"), ("named_mill.toml", "tools.toml"), ("small_mill.toml", "tools.toml"), ("bench_mill.toml", "holder_tools.toml")]
+VIEWS = ("top", "front", "side", "iso")
+CONTROLS = ("linuxcnc", "grbl", "mach3", "fanuc")
+# Origins that the page's check at another zero and `--origin` are given.
+ORIGINS = ({"G54": (50, 46, -70)}, {"G54": (0, 0, 0)}, {"G54": (61.25, 60, -50), "G55": (10, 20, -30)})
+# What GRBL prints for $$, of a small router.
+SETTINGS = b"$13=0\n$22=1\n$23=3\n$27=1.000\n$100=250.000\n$101=250.000\n$102=250.000\n$110=500.000\n$111=500.000\n$112=300.000\n" \
+    b"$120=10.000\n$121=10.000\n$122=10.000\n$130=200.000\n$131=180.000\n$132=45.000\nok\n"
+HELPERS = """
+window.unpack = text => Uint8Array.from(atob(text), character => character.charCodeAt(0));
+window.pack = bytes => { let text = ''; for (let at = 0; at < bytes.length; at += 30000) text += String.fromCharCode(...bytes.subarray(at, at + 30000)); return btoa(text); };
+window.kept = {};
+window.outputOf = async (name, names, options) => {
+  const { status, output, notes } = await ngc.jobs.run('test', 'test', 'output', { name, given: names.map(it => kept[it]), options });
+  return [status, pack(output), pack(notes)];
+};
+0"""
+
+
+class Comparison:
+    def __init__(self, browser, program, folder):
+        self.browser, self.program, self.folder = browser, program, folder
+        self.same = self.different = 0
+        self.seen = {}
+        browser.value(HELPERS)
+
+    def give(self, name, data):
+        """Makes a file known to both by its name."""
+        (self.folder / name).write_bytes(data)
+        self.browser.value(f"kept[{json.dumps(name)}] = unpack('{base64.b64encode(data).decode()}'); 0")
+
+    def compare(self, export, names, options, words):
+        """Compares a call with a command, and returns the command's output."""
+        try:
+            status, output, errors = self.browser.value(f"outputOf({json.dumps(export)}, {json.dumps(names)}, {json.dumps(options)})")
+            ours = (status, base64.b64decode(output), base64.b64decode(errors))
+        except Fault as fault:
+            ours = (None, b"", str(fault).encode())
+        made = subprocess.run([self.program, *words], cwd=self.folder, stdin=subprocess.DEVNULL, capture_output=True)
+        # The page keeps 65,536 bytes of the errors.
+        theirs = (made.returncode, made.stdout, made.stderr[:1 << 16])
+        kind = (words[0], made.returncode)
+        self.seen[kind] = self.seen.get(kind, 0) + 1
+        self.count(ours == theirs, f"{' '.join(words)}\n  page {ours[0], ours[1][:100], ours[2][:200]}\n  program {theirs[0], theirs[1][:100], theirs[2][:200]}")
+        return made.stdout
+
+    def summary(self):
+        return ", ".join(f"{command} {status}: {times}" for (command, status), times in sorted(self.seen.items()))
+
+    def count(self, is_same, what):
+        self.same += is_same
+        self.different += not is_same
+        if not is_same:
+            print(f"differs: {what}", flush=True)
+
+    def adapt(self, program, control, tool, drop):
+        self.give("drop", drop.encode())
+        words = ["adapt", "--from", CONTROLS[control], "--machine", "clamped_mill.toml", "--program", program]
+        words += [*["--tool", str(tool)] * bool(tool), *["--drop", drop] * bool(drop)]
+        self.compare("ngc_adapt", [program, "clamped_mill.toml", "drop"], [control, tool], words)
+
+    def run_job(self, program, machine, tools, has_pulses=False):
+        names = [program, machine, tools]
+        files = ["--program", program, "--machine", machine, "--tools", tools]
+        for every in (0, 1):
+            for json_form in (0, 1):
+                self.compare("ngc_report", names, [every, json_form], ["report", *files, *["--all"] * every, *["--json"] * json_form])
+        for delete in (0, 1):
+            off = ["--delete"] * delete
+            for view, name in enumerate(VIEWS):
+                self.compare("ngc_draw", names, [view, delete], ["draw", *files, "--view", name, *off])
+            self.compare("ngc_list", names, [delete], ["list", *files, *off])
+        for second in (0, 1):
+            certificate = self.compare("ngc_certify", names, [second], ["certify", *files, "--format", str(second + 1)])
+        self.give("made.cert", certificate)
+        self.compare("ngc_check", [*names, "made.cert"], [], ["check", *files, "--certificate", "made.cert"])
+        for delete in (0, 1) if has_pulses else ():
+            self.compare("ngc_pulses", [*names, "made.cert"], [delete], ["pulses", *files, "--certificate", "made.cert", *["--delete"] * delete])
+
+    def origins(self, program, machine, tools):
+        """The page's verdict at other zeros is that of `--origin`. The page writes them into the machine file's text, so its report lacks
+        the facts `origin`, and its warnings are those of the machine file."""
+        files = {"program": program, "machine": machine, "tools": tools}
+        for kind, name in files.items():
+            self.browser.value(f"ngc.files.use('{kind}', {json.dumps(name)}, kept[{json.dumps(name)}], 'user'); 0")
+        left_out = ("origin", "warning")
+        for origins in ORIGINS:
+            nanometres = {system: [round(it * 1e6) for it in at] for system, at in origins.items()}
+            self.browser.value(f"ngc.actions.setOrigins({json.dumps(nanometres)}); 0")
+            self.browser.wait("ngc.current(ngc.store.state, 'report') !== null")
+            status, facts = self.browser.value("(it => [it.status, JSON.stringify(it.facts)])(ngc.current(ngc.store.state, 'report'))")
+            words = [word for system, at in origins.items() for word in ("--origin", f"{system[1:]}={','.join(map(str, at))}")]
+            command = ["report", "--json", *[word for kind, name in files.items() for word in (f"--{kind}", name)], *words]
+            made = subprocess.run([self.program, *command], cwd=self.folder, capture_output=True)
+            kind = ("report --origin", made.returncode)
+            self.seen[kind] = self.seen.get(kind, 0) + 1
+            ours, theirs = ([it for it in json.loads(text) if it["fact"] not in left_out] for text in (facts, made.stdout))
+            self.count((status, ours) == (made.returncode, theirs), f"{' '.join(command)}\n  page {status} {str(ours)[:300]}\n  program {made.returncode} {str(theirs)[:300]}")
+
+
+def mutants(files, count):
+    """Files with some bytes changed, by a seed, so that each run has the same."""
+    chance = random.Random(5)
+    for number in range(count):
+        name = chance.choice(["slot.ngc", "low_slot.ngc", "facing.ngc", "holes.ngc", "clamped_mill.toml", "tools.toml"])
+        data = bytearray(files[name])
+        for _ in range(chance.randrange(1, 6)):
+            data[chance.randrange(len(data))] = chance.randrange(256) if chance.random() < 0.3 else chance.choice(b"0123456789XYZGFIJ[]#.-/\n")
+        yield f"mutant{number}_{name}", bytes(data)
+
+
+def odd_files():
+    yield "empty.ngc", b""
+    yield "zero.ngc", bytes(100)
+    yield "deep.ngc", b"#1=" + b"[" * 120 + b"1" + b"]" * 120 + b"\nM2\n"
+    yield "no_feed.ngc", b"G1 X1"
+    yield "bad.toml", b"version = "
+    yield "deep.toml", b"version = 1\nx = " + b"[" * 5000 + b"]" * 5000 + b"\n"
+    yield "long.toml", b"# " + b"x" * 300000 + b"\n"
+    # Notes of more than 65,536 bytes.
+    yield "notes.ngc", b"G21\n" + b"M64 P1 (a code that is left out)\n" * 3000 + b"M2\n"
+
+
+def compare_all(comparison, examples, count):
+    files = {it.name: it.read_bytes() for it in sorted(examples.iterdir()) if it.suffix in (".ngc", ".toml")}
+    more = dict([*odd_files(), *mutants(files, count)])
+    for name, data in [*files.items(), *more.items()]:
+        comparison.give(name, data)
+    for name in files:
+        if name.endswith(".ngc"):
+            for machine, tools in SETUPS:
+                comparison.run_job(name, machine, tools, has_pulses=name in ("slot.ngc", "ring.ngc"))
+    for name in more:
+        program = name if name.endswith(".ngc") else "slot.ngc"
+        tools = name if name.endswith("tools.toml") else "tools.toml"
+        machine = name if name.endswith(".toml") and tools != name else "clamped_mill.toml"
+        comparison.run_job(program, machine, tools)
+    for name in ("slot.ngc", "low_slot.ngc", "holes.ngc", "facing.ngc", "block_delete.ngc"):
+        for machine, tools in SETUPS:
+            comparison.origins(name, machine, tools)
+    for file in sorted((examples / "cam").iterdir()):
+        comparison.give(file.name, file.read_bytes())
+        for control in range(4):
+            comparison.adapt(file.name, control, 0, "")
+            comparison.adapt(file.name, control, 7, "M64,M65")
+    for control in range(4):
+        comparison.adapt("notes.ngc", control, 0, "")
+        comparison.adapt("notes.ngc", control, 0, "M64")
+    for name, data in (("settings", SETTINGS), ("no_settings", b"$100=\n"), ("short", SETTINGS[:60])):
+        comparison.give(name, data)
+        comparison.compare("ngc_machine", [name], [], ["machine", "--grbl", name])
+    for machine, tools in SETUPS:
+        comparison.compare("ngc_show", [machine, tools], [], ["show", "--machine", machine, "--tools", tools])
+    for number in range(1, 1000):
+        comparison.compare("ngc_explain", [], [number], ["explain", str(number)])

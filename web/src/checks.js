@@ -1,0 +1,59 @@
+// The jobs that follow from the files in use. What a job returns is dropped if the files in use are others by then.
+
+import { ProgramText } from './core/program_text.js';
+import { current, inputsKey, keyOf } from './core/store.js';
+import { groupsNow } from './core/shown.js';
+
+const PAUSE = 180;   // ms without typing before a check
+const LINE_QUERY = /^\s*(?:line|l|:)\s*\d/i;
+
+export function makeChecks(store, jobs) {
+  let typing = null;
+
+  async function begin(slot, lane, name, options) {
+    const key = keyOf[slot](store.state);
+    store.dispatch({ type: 'begun', slot, key });
+    try { store.dispatch({ type: 'result', slot, key, value: await jobs.run(lane, slot, name, options) }); } catch (failure) { store.dispatch({ type: 'result', slot, key, failure }); }
+  }
+  const inputs = () => ({ origins: store.state.origins });
+  const beginPath = () => begin('path', 'path', 'path', { ...inputs(), blockDelete: store.state.blockDelete });
+  function check() {
+    begin('report', 'verdict', 'report', { ...inputs(), all: false });
+    beginPath();
+  }
+  function drawPlain() {
+    const { drawing, blockDelete } = store.state;
+    begin('drawing', 'path', 'output', { ...inputs(), name: 'ngc_draw', options: [drawing, blockDelete ? 1 : 0], factor: 2 });
+  }
+
+  function follow() {
+    store.watch(state => [keyOf.scene(state)], () => begin('scene', 'side', 'scene', inputs()));
+    store.watch(state => [inputsKey(state)], key => {
+      // What is on the screen is out of date from the first key stroke on; the check itself waits for a pause.
+      for (const slot of ['report', 'path']) store.dispatch({ type: 'begun', slot, key: keyOf[slot](store.state) });
+      clearTimeout(typing);
+      typing = setTimeout(() => { if (inputsKey(store.state) === key) check(); }, store.state.files.program.source === 'edited' ? PAUSE : 0);
+    });
+    let shown = store.state.blockDelete;
+    store.watch(state => [state.blockDelete], blockDelete => {
+      if (blockDelete !== shown && store.state.slots.path.key.startsWith(inputsKey(store.state))) beginPath();
+      shown = blockDelete;
+    });
+    store.watch(state => [keyOf.search(state)], () => { const { query } = store.state; if (query && !LINE_QUERY.test(query)) begin('search', 'side', 'search', { query }); });
+    store.watch(state => [state.files.certificate, inputsKey(state)], certificate => { if (certificate) begin('certificate', 'side', 'certificate', { ...inputs(), bytes: certificate.bytes }); });
+    store.watch(state => [keyOf.index(state), state.text === null], (_, isMissing) => { if (isMissing) begin('index', 'index', 'index', {}); });
+    store.watch(state => [current(state, 'index')], found => {
+      const { program } = store.state.files;
+      if (found && !store.state.text) store.dispatch({ type: 'set', values: { text: ProgramText.of(program.bytes, program.blob(), found.starts) } });
+    });
+    // Every place in the way, and the other setting of block delete, once the first verdict is there.
+    store.watch(state => [current(state, 'report')], report => {
+      if (report && !report.refusedFile && groupsNow(store.state).some(it => !it.fits)) begin('every', 'side', 'report', { ...inputs(), all: true });
+    });
+  }
+  return {
+    begin, check, follow,
+    followDrawing() { store.watch(state => [keyOf.drawing(state)], drawPlain); },
+    place(system) { begin('place', 'place', 'place', { ...inputs(), system }); },
+  };
+}

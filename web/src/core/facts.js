@@ -1,0 +1,35 @@
+// Groups the objects of a JSON report by the setting of block delete that they belong to.
+
+const LISTS = { extent: 'extents', use: 'uses', use_time: 'useTimes', figures: 'figures', lowest: 'lowest', warning: 'warnings' };
+
+const newGroup = blockDelete => ({ blockDelete, fits: null, verdict: null, commands: [], faults: [], extents: [], uses: [], useTimes: [],
+  figures: [], lowest: [], warnings: [], time: null, line: null, mark: null, reason: null, noOrigin: null, isUnreadable: false, hasNoFixtures: false });
+
+// What a fact says about the last command that is in the way.
+const ABOUT_COMMAND = ['obstacle', 'clear', 'coordinates'];
+
+export function groupsOf(facts) {
+  const groups = [];
+  let group = null;
+  for (const fact of facts) {
+    const { fact: kind } = fact;
+    if (kind === 'report' || kind === 'origin' || kind === 'fault') continue;
+    if (kind === 'setting') { groups.push(group = newGroup(fact.block_delete)); continue; }
+    if (!group) groups.push(group = newGroup(null));
+    if (LISTS[kind]) group[LISTS[kind]].push(fact);
+    else if (kind === 'start' || kind === 'command') group.commands.push({ command: fact });
+    else if (ABOUT_COMMAND.includes(kind)) Object.assign(group.commands[group.commands.length - 1] ?? {}, { [kind]: fact });
+    else if (kind === 'verdict') { group.fits = fact.fits; group.verdict = fact; }
+    else if (kind === 'no_origin') group.noOrigin = fact.system;
+    else if (kind === 'fixtures') group.hasNoFixtures = true;
+    else if (kind === 'unreadable') group.isUnreadable = true;
+    else if (kind === 'fault_in') {
+      group.faults.push({ line: fact.line, number: fact.number, reason: group.reason?.text ?? '', isLater: fact.after_earlier_faults });
+      group.reason = null;
+    } else if (['time', 'line', 'mark', 'reason'].includes(kind)) group[kind] = fact;
+  }
+  return groups;
+}
+
+// The group that is shown at a setting of block delete, or null if the report stopped before it.
+export const groupAt = (groups, blockDelete) => groups.find(it => it.blockDelete === null || it.blockDelete === blockDelete) ?? null;

@@ -1,0 +1,60 @@
+// What the page saves: files in use, and what the exports write for them. What is saved belongs to what is shown; if that changes
+// meanwhile, nothing is saved.
+
+import { shownKey } from './core/store.js';
+import { sentenceOfFailure } from './core/jobs.js';
+import { size } from './core/units.js';
+import { download } from './files.js';
+
+const bytesOfUrl = url => Uint8Array.from(atob(url.split(',')[1]), it => it.charCodeAt(0));
+const IN_USE = ['program', 'machine', 'tools'];
+const DRAWINGS = ['top', 'front', 'side', 'iso'];
+
+// The end of the file's name, the job, and its options, for each button.
+const outputs = ({ blockDelete, drawing }) => {
+  const off = blockDelete ? 1 : 0;
+  return {
+    report: ['.report.txt', 'output', { name: 'ngc_report', options: [0, 0] }],
+    every: ['.report.all.txt', 'output', { name: 'ngc_report', options: [1, 0] }],
+    json: ['.report.json', 'output', { name: 'ngc_report', options: [0, 1] }],
+    every_json: ['.report.all.json', 'output', { name: 'ngc_report', options: [1, 1] }],
+    drawing: [`.${DRAWINGS[drawing]}.svg`, 'output', { name: 'ngc_draw', options: [drawing, off], factor: 2 }],
+    list: ['.list.txt', 'output', { name: 'ngc_list', options: [off], factor: 5 }],
+    certificate: ['.cert', 'output', { name: 'ngc_certify', options: [1], factor: 4 }],
+    certificate_1: ['.1.cert', 'output', { name: 'ngc_certify', options: [0], factor: 8 }],
+    pulses: ['.vcd', 'pulses', { options: [off] }],
+    sheet: ['.setup.txt', 'output', { name: 'ngc_show', given: ['machine', 'tools'] }],
+  };
+};
+
+export function makeSaving(store, getJobs, parts, notice) {
+  let savedVersion = 0;
+  const stem = () => store.state.files.program.name.replace(/\.[^.]*$/, '');
+
+  async function saveOutput(what) {
+    const { state } = store, key = shownKey(state), [end, job, options] = outputs(state)[what], name = `${stem()}${end}`;
+    try {
+      const got = await getJobs().run('save', 'save', job, { ...options, origins: state.origins });
+      const notes = `${got.text.trim()}${got.isCut ? ' .. (the notes are longer, and end here)' : ''}`;
+      if (key !== shownKey(store.state)) return notice('What is shown changed in the meantime: nothing was saved. Save again.', 'bad');
+      if (!got.output.length) return notice(`There is nothing to save. ${notes}`, 'bad');
+      download(name, new Blob([got.output]));
+      notice(`Saved as ${name}, ${size(got.output.length)}. ${notes}`.trim());
+    } catch (failure) { notice(`Nothing was saved. ${sentenceOfFailure(failure)}`, 'bad'); }
+  }
+  function saveImage() {
+    if (!parts.picture) return notice('There is no picture: this browser has no WebGL. Save the drawing.', 'bad');
+    download(`${stem()}.png`, new Blob([bytesOfUrl(parts.picture.image())]));
+  }
+  return {
+    save(what) {
+      const { files } = store.state;
+      if (what === 'print') return parts.setupSheet.print();
+      if (what === 'picture') return saveImage();
+      if (!IN_USE.includes(what)) return saveOutput(what);
+      if (what === 'program') savedVersion = files.program.version;
+      download(files[what].name, files[what].blob());
+    },
+    get hasUnsavedEdits() { const { program } = store.state.files; return program?.source === 'edited' && program.version !== savedVersion; },
+  };
+}

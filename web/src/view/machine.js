@@ -1,0 +1,42 @@
+// The machine and the tools as the checker read them, clamps that are added to them, and a machine file from figures.
+
+import { current, failureOf } from '../core/store.js';
+import { sentenceOfFailure } from '../core/jobs.js';
+import { AXES } from '../core/systems.js';
+import { inUnit, typedLength } from '../core/units.js';
+import { fill, h, id, table } from './dom.js';
+
+const listOf = text => text.trim().split(/[\s,;x\u00d7]+/).filter(Boolean);
+
+export function makeMachine(store, actions) {
+  const out = id('shop');
+  store.watch(state => [current(state, 'scene'), failureOf(state, 'scene'), state.unit], (value, failure, unit) => {
+    const scene = value?.scene, at = mm => inUnit(mm, unit);
+    if (failure) return fill(out, h('p', { class: 'bad' }, `The machine file can't be shown. ${sentenceOfFailure(failure)}`));
+    if (!scene) return fill(out, h('p', { class: 'quiet' }, value ? value.sheet : 'Reading\u2026'));
+    const remove = it => h('button', { class: 'link', type: 'button', 'aria-label': `Remove ${it.name || `fixture ${it.number}`}`, onclick: () => actions.removeFixture(it.number) }, 'remove');
+    fill(out,
+      table(`Travel and speed, ${unit}`, ['Axis', 'From', 'To', `Speed, ${unit}/min`], AXES.map((axis, it) => [axis, at(scene.low[it]), at(scene.high[it]), at(Math.round(scene.rates.speeds[it] * 60 * 1000) / 1000)])),
+      scene.fixtures.length ? table(`Fixtures, ${unit}`, ['Fixture', ...AXES, ''], scene.fixtures.map(it => [it.name || `fixture ${it.number}`, ...AXES.map((_, axis) => `${at(it.low[axis])} to ${at(it.high[axis])}`), remove(it)])) : h('p', {}, 'The machine file describes no fixtures.'),
+      h('div', { class: 'wide' }, table(`Tools, ${unit}`, ['Tool', 'Reach', 'Offset', 'Parts from the tip up'], scene.tools.map(it => [`T${it.number}${it.name ? ` ${it.name}` : ''}`, at(-it.bottom), at(it.offset), it.parts.map(part => `\u00d8 ${at(part.radius * 2)} \u00d7 ${at(part.high - part.low)}`).join(', ')]))),
+      scene.warnings.length ? h('ul', { class: 'warned' }, scene.warnings.map(it => h('li', {}, it))) : null);
+  });
+
+  id('clamp').onsubmit = event => {
+    event.preventDefault();
+    const form = event.target, corner = name => listOf(form.elements[name].value).map(it => typedLength(it, store.state.unit)), low = corner('low'), high = corner('high');
+    const isBox = low.length === 3 && high.length === 3 && [...low, ...high].every(Number.isFinite) && low.every((it, axis) => it < high[axis]);
+    if (!isBox) return actions.notice('A fixture has two corners of three numbers each: the lowest X, Y, Z and the highest.', 'bad');
+    actions.addFixture({ name: form.elements.name.value.trim(), low, high });
+    form.reset();
+  };
+  id('figures').onsubmit = event => {
+    event.preventDefault();
+    const { elements } = event.target, factor = store.state.unit === 'in' ? 25.4 : 1;
+    const three = name => { const it = listOf(elements[name].value).map(word => Number(word.replace(',', '.')) * factor); return it.length === 1 ? [it[0], it[0], it[0]] : it; };
+    const steps = Number(elements.steps.value), [travel, feed, acceleration] = ['travel', 'feed', 'acceleration'].map(three);
+    const isGood = steps > 0 && [travel, feed, acceleration].every(it => it.length === 3 && it.every(value => value > 0));
+    if (!isGood) return actions.notice('Steps per mm is one number; travel, speed and acceleration are one number or three, for X, Y and Z.', 'bad');
+    actions.makeMachineOfFigures({ steps, travel, feed, acceleration, isHigh: elements.frame.value === 'high' });
+  };
+}

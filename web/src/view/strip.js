@@ -1,0 +1,37 @@
+// What is in use: the program, the machine, the tools, and a certificate if there is one. And the notices.
+
+import { current, failureOf } from '../core/store.js';
+import { sceneNow } from '../core/shown.js';
+import { sentenceOfFailure } from '../core/jobs.js';
+import { inUnit, plural, size } from '../core/units.js';
+import { fill, h, id } from './dom.js';
+
+const BADGES = { example: ['badge', 'example'], edited: ['badge quiet', 'edited'], made: ['badge quiet', 'made here'], kept: ['badge quiet', 'from last time'] };
+const SIGNS = { fits: '\u2713 ', refused: '\u2717 ', failed: '? ' };
+
+const chip = (kind, label, file, about, more = null) => h('div', { class: `chip chip-${kind}${file?.source === 'example' ? ' example' : ''}` },
+  h('span', { class: 'label' }, label), h('span', { class: 'name', title: file?.name }, file ? file.name : 'none'), h('span', { class: 'about' }, about),
+  BADGES[file?.source] ? h('span', { class: BADGES[file.source][0] }, BADGES[file.source][1]) : null, more);
+
+function certificateChip(certificate, verdict, failure, actions) {
+  const about = failure ? `not checked: ${sentenceOfFailure(failure)}` : !verdict ? 'checking\u2026' : verdict.isAccepted ? 'accepted for these files' : `refused, fault ${verdict.fault}`;
+  return h('div', { class: `chip certificate ${verdict?.isAccepted ? 'good' : verdict || failure ? 'bad' : ''}` }, h('span', { class: 'label' }, 'Certificate'), h('span', { class: 'name' }, certificate.name),
+    h('span', { class: 'about', title: verdict?.explanation ?? '' }, about), h('button', { class: 'close', type: 'button', 'aria-label': 'Forget the certificate', onclick: actions.forgetCertificate }, '\u00d7'));
+}
+
+export function makeStrip(store, actions) {
+  store.watch(state => [state.files.program, state.files.machine, state.files.tools, state.files.certificate, state.text?.count, sceneNow(state), current(state, 'certificate'), failureOf(state, 'certificate'), state.unit, state.programs, state.origins],
+    (program, machine, tools, certificate, lines, scene, verdict, failure, unit, programs, origins) => {
+      const others = programs.length < 2 ? null : h('select', { 'aria-label': `The ${programs.length} programs that were dropped`, onchange: event => actions.useProgram(programs[Number(event.target.value)]) },
+        h('option', { value: '', selected: true }, `${programs.length}`), programs.map((it, at) => h('option', { value: String(at) }, `${SIGNS[it.verdict] ?? ''}${it.name}`)));
+      const span = scene ? [0, 1, 2].map(axis => inUnit(Math.round((scene.high[axis] - scene.low[axis]) * 1000) / 1000, unit)).join('\u2009\u00d7\u2009') : '';
+      const travel = scene ? `${span} ${unit}, ${plural(scene.fixtures.length, 'fixture')}` : '', moved = Object.keys(origins);
+      fill(id('strip'), chip('program', 'Program', program, !program ? '' : lines ? plural(lines, 'line') : size(program.size), others),
+        chip('machine', 'Machine', machine, moved.length ? `${travel}; ${moved.join(', ')} moved` : travel), chip('tools', 'Tools', tools, scene ? plural(scene.tools.length, 'tool') : ''),
+        certificate ? certificateChip(certificate, verdict, failure, actions) : null);
+    });
+  const dismiss = it => store.dispatch({ type: 'dismiss', id: it.id });
+  store.watch(state => [state.notices], notices => fill(id('notices'), notices.map(it => h('div', { class: `notice ${it.kind}` }, h('span', {}, it.text),
+    it.action ? h('button', { class: 'small', type: 'button', onclick: () => { dismiss(it); it.action.act(); } }, it.action.label) : null,
+    h('button', { class: 'close', type: 'button', 'aria-label': 'Dismiss', onclick: () => dismiss(it) }, '\u00d7')))));
+}

@@ -1,0 +1,50 @@
+// Calls the exports of the proved module. Each call has an instance of its own, so calls share no state.
+
+const NOTES = 1 << 16;   // bytes of notes that a call keeps at most
+
+export class Missing extends Error {}
+
+// Calls an export with files and options. Returns its status, its output, its notes (what the command writes on standard error), and
+// whether the notes were cut. The bytes are a part of the instance's memory, which nothing else uses. If the output is longer than its
+// space, the call is made again with enough.
+export function call(module, name, files, options = [], space = 1 << 20) {
+  const { exports } = new WebAssembly.Instance(module), { memory } = exports;
+  if (!exports[name]) throw new Missing(`The module has no export ${name}.`);
+  const reserve = length => {
+    const at = exports.ngc_space(BigInt(length));
+    if (!at) throw new RangeError('there is no space for the files');
+    return at;
+  };
+  const slices = files.flatMap(file => {
+    const at = reserve(file.length);
+    new Uint8Array(memory.buffer, Number(at), file.length).set(file);
+    return [at, BigInt(file.length)];
+  });
+  const output = reserve(space), notes = reserve(NOTES), lengths = reserve(16);
+  const status = exports[name](...slices, ...options, output, BigInt(space), notes, BigInt(NOTES), lengths);
+  const [written, told] = new BigUint64Array(memory.buffer, Number(lengths), 2).map(BigInt);
+  if (written > space) return call(module, name, files, options, Number(written));
+  return {
+    status,
+    output: new Uint8Array(memory.buffer, Number(output), Number(written)),
+    notes: new Uint8Array(memory.buffer, Number(notes), Math.min(Number(told), NOTES)),
+    isCut: told >= NOTES,
+  };
+}
+
+const decoder = new TextDecoder();
+export const textOf = bytes => decoder.decode(bytes);
+
+// The fault that a reader should look up is the last number of a message: `fault 311 setting off fault 102 line 1` wraps the program's own.
+export function faultNumber(notes) {
+  const numbers = [...notes.matchAll(/fault (\d+)/g)];
+  return numbers.length ? Number(numbers[numbers.length - 1][1]) : null;
+}
+
+// What a failed job is: its kind and the browser's words.
+export function failureOf(fault) {
+  const kind = fault instanceof Missing ? 'missing' : fault instanceof WebAssembly.RuntimeError ? 'trap'
+    // Firefox throws an InternalError where its own stack ends.
+    : fault instanceof RangeError || fault.name === 'InternalError' ? 'memory' : 'other';
+  return { kind, text: String(fault.message ?? fault) };
+}
