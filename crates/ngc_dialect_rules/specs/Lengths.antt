@@ -4,7 +4,7 @@ use Rattle.std.specs.Prelude.{ℕ, ℤ, pos, ◌+ℤ◌, ◌-ℤ◌, ◌*ℤ◌,
 use Rattle.std.specs.Prelude.{Option, Some, None, Result, Ok, Err, List}
 use Rattle.std.specs.Prelude.{is_some, option_map, if◌then◌else◌}
 use Rattle.ngc_fixed_length.specs.Length.{nanometres_in}
-use Rattle.ngc_fixed_length.specs.Limits.{LENGTH_LIMIT}
+use Rattle.ngc_fixed_length.specs.Limits.{LENGTH_LIMIT, nanometres_of}
 use Rattle.ngc_fixed_length.specs.NumberFault.{within}
 use Rattle.ngc_fixed_length.specs.Rounding.{nearest}
 use Rattle.ngc_fixed_length.specs.Signed.{same}
@@ -63,7 +63,7 @@ abbrev pub in_inches : ℤ → ℤ
 in_inches l = nearest (l *ℤ pos 10) (pos 254)
 
 abbrev pub are_inches : ℤ → ℤ → Bool
-are_inches m l = same (nearest (m *ℤ pos 254) (pos 10)) l
+are_inches m l = same (nanometres_of Inches m) l
 
 unfoldable pub written_in : Units → ℤ → Option ℤ
 written_in Millimetres l = Some l

@@ -76,11 +76,15 @@ system_named k line (Some p) =
 
 -- ---- lengths from the current place
 
--- how far an axis is from a base and a tool length, less a length
+-- how far an axis is from a base and a tool length
+unfoldable pub far_from : ℤ → ℤ → ℤ → ℤ
+far_from place base tool = (place -ℤ base) -ℤ tool
+
+-- the same less a length
 abbrev pub left_on : ℕ → ℤ → ℤ → ℤ → Option ℤ → Result (Option ℤ) Fault
 left_on letter place base tool None = Ok None
 left_on letter place base tool (Some l) = do
-  left ← limited letter ((place -ℤ base) -ℤ (tool +ℤ l))
+  left ← limited letter (far_from place base tool -ℤ l)
   Ok (Some left)
 
 unfoldable pub left_from : Point3 → Point3 → ℤ → AxisLengths → Result AxisLengths Fault
@@ -203,18 +207,21 @@ go_home k words code =
     (is_named k.dialect bytes.Y bytes.V words) (is_named k.dialect bytes.Z bytes.W words)
     (home_of k.front code)) None
 
--- whether a length leads away from a machine coordinate, by the machine coordinate of the
--- program's zero
-abbrev pub is_away : Distance → ℤ → ℤ → Option ℤ → Bool
-is_away distance place zero None = false
-is_away Incremental place zero (Some l) = not (is_zero l)
-is_away Absolute place zero (Some l) = not (same place (zero +ℤ l))
+-- the machine coordinate of the program's zero on an axis
+unfoldable pub frame_on : ℤ → ℤ → ℤ → ℤ
+frame_on origin offset tool = (origin +ℤ offset) +ℤ tool
 
-unfoldable pub leads_away : Known → InForce → Point3 → ℤ → AxisLengths → Bool
+-- whether a length leads away from a machine coordinate, by that of the program's zero
+unfoldable pub is_away : Distance → ℤ → ℤ → Option ℤ → Bool
+is_away distance place frame None = false
+is_away Incremental place frame (Some l) = not (is_zero l)
+is_away Absolute place frame (Some l) = not (same place (frame +ℤ l))
+
+abbrev pub leads_away : Known → InForce → Point3 → ℤ → AxisLengths → Bool
 leads_away k force origin tool axes =
-    is_away force.distance k.place.x (origin.x +ℤ k.frames.axis_offset.x) axes.x
-    || is_away force.distance k.place.y (origin.y +ℤ k.frames.axis_offset.y) axes.y
-    || is_away force.distance k.place.z ((origin.z +ℤ k.frames.axis_offset.z) +ℤ tool) axes.z
+    is_away force.distance k.place.x (frame_on origin.x k.frames.axis_offset.x (pos 0)) axes.x
+    || is_away force.distance k.place.y (frame_on origin.y k.frames.axis_offset.y (pos 0)) axes.y
+    || is_away force.distance k.place.z (frame_on origin.z k.frames.axis_offset.z tool) axes.z
 
 abbrev pub traverse_by : Known → AxisLengths → Action
 traverse_by k axes = motion false (written_code k false None (G 0)) axes None

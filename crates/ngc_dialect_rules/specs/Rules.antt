@@ -208,10 +208,15 @@ abbrev pub letter_fault : Option ℕ → Option Fault
 letter_fault None = None
 letter_fault (Some letter) = Some (about_letter causes.LetterTwice letter)
 
-unfoldable pub plain_lines : Known → List Word → Result (Front × List Plain) Fault
-plain_lines k words = do
-  line ← codes_of k.dialect words []
+-- of a line by its codes and words
+unfoldable pub lines_of : Known → List Code → List Word → Result (Front × List Plain) Fault
+lines_of k line words = do
   once ← refuse_of (letter_fault (repeated words))
   taken ← refuse_of (refused_word k.dialect line words)
   plan ← plan_of k line words
   Ok (front_after k line plan, written k line words plan)
+
+unfoldable pub plain_lines : Known → List Word → Result (Front × List Plain) Fault
+plain_lines k words = do
+  line ← codes_of k.dialect words []
+  lines_of k line words

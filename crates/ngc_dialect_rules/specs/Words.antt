@@ -77,12 +77,14 @@ value_of letter words = option_map (λ (w : Word). w.value) (word_of letter word
 abbrev pub has_letter : ℕ → List Word → Bool
 has_letter letter words = is_some (value_of letter words)
 
--- a letter that is on the line twice; G and M may be
+-- whether a word's letter is on the line again; G and M may be
+abbrev pub repeats : Word → List Word → Bool
+repeats w after = not (is_code_letter w.letter) && list_any (λ v. is_letter w.letter v) after
+
+-- a letter that is on the line twice
 abbrev pub repeated : List Word → Option ℕ
 repeated [] = None
-repeated (w ∷ ws) =
-    if not (is_code_letter w.letter) && list_any (λ v. is_letter w.letter v) ws then Some w.letter
-    else repeated ws
+repeated (w ∷ after) = if repeats w after then Some w.letter else repeated after
 
 -- A, B, C, U, V, W
 abbrev pub is_other_axis : ℕ → Bool

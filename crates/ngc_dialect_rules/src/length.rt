@@ -93,11 +93,11 @@ fn in_inches(length: Nm) -> Value
     }
 }
 
+// Returns whether a value in inches is read as a length.
 fn are_inches(value: Value, length: Nm) -> bool
     ensures { result ≡ spec.are_inches value length }
 {
-    let nanometres = rounded_quotient(i128::from(value.millionths()) * 254, 10);
-    nanometres == i128::from(length.nanometres())
+    value.nanometres(Units::Inches) == length.nanometres()
 }
 
 /// Returns a length as a program has it, in millionths of the unit. Returns `None` if no such value

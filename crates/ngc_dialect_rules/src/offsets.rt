@@ -124,6 +124,30 @@ fn sum_of(a: Nm, b: Nm) -> i64
     a.nanometres() + b.nanometres()
 }
 
+fn difference_of(a: Nm, b: Nm) -> i64
+    ensures value { result ≡ a -ℤ b }
+    ensures bound { unsigned_abs result ≤ 200000000000 }
+{
+    a.nanometres() - b.nanometres()
+}
+
+// Returns how far an axis is from a base and a tool length.
+#[tactic(auto, unfolding(crate::specs::Offsets::far_from))]
+fn far_from(place: Nm, base: Nm, tool: i64) -> i64
+    requires { unsigned_abs tool ≤ 200000000000 }
+    ensures value { result ≡ spec.far_from place base tool }
+    ensures bound { unsigned_abs result ≤ 400000000000 }
+{
+    difference_of(place, base) - tool
+}
+
+fn less(far: i64, length: Nm) -> i64
+    requires { unsigned_abs far ≤ 400000000000 }
+    ensures { result ≡ far -ℤ length }
+{
+    far - length.nanometres()
+}
+
 // Returns how far an axis is from a base and a tool length, less a length.
 fn left_on(
     letter: u8,
@@ -138,8 +162,7 @@ fn left_on(
     match length {
         None => Ok(None),
         Some(length) => {
-            let far = place.nanometres() - base.nanometres();
-            let left = far - (tool + length.nanometres());
+            let left = less(far_from(place, base, tool), length);
             match limited(letter, i128::from(left)) {
                 Ok(left) => Ok(Some(left)),
                 Err(fault) => Err(fault),
@@ -388,22 +411,32 @@ pub(crate) fn go_home(known: &Known, words: &[Word], code: Code) -> Action
     motion(true, Some(Code::G(0)), axes, None)
 }
 
+// Returns the machine coordinate of the program's zero on an axis.
+#[tactic(auto, unfolding(crate::specs::Offsets::frame_on))]
+fn frame_on(origin: Nm, offset: Nm, tool: i64) -> i64
+    requires { unsigned_abs tool ≤ 200000000000 }
+    ensures value { result ≡ spec.frame_on origin offset tool }
+    ensures bound { unsigned_abs result ≤ 400000000000 }
+{
+    sum_of(origin, offset) + tool
+}
+
 // Returns whether a length leads away from a place, by the machine coordinate of the program's
 // zero.
-fn is_away(distance: Distance, place: Nm, zero: i64, length: Option<Nm>) -> bool
-    requires { unsigned_abs zero ≤ 400000000000 }
-    ensures { result ≡ spec.is_away distance place zero length }
+#[tactic(auto, unfolding(crate::specs::Offsets::is_away))]
+fn is_away(distance: Distance, place: Nm, frame: i64, length: Option<Nm>) -> bool
+    requires { unsigned_abs frame ≤ 400000000000 }
+    ensures { result ≡ spec.is_away distance place frame length }
 {
     match length {
         None => false,
         Some(length) => match distance {
             Distance::Incremental => length.nanometres() != 0,
-            Distance::Absolute => place.nanometres() != zero + length.nanometres(),
+            Distance::Absolute => place.nanometres() != frame + length.nanometres(),
         },
     }
 }
 
-#[tactic(auto, unfolding(crate::specs::Offsets::leads_away))]
 fn leads_away(
     known: &Known,
     force: &InForce,
@@ -415,15 +448,16 @@ fn leads_away(
     ensures { result ≡ spec.leads_away known.now force.now origin.now tool axes.now }
 {
     let offset = known.frames.axis_offset;
-    let distance = force.distance;
-    is_away(distance, known.place.x, sum_of(origin.x, offset.x), axes.x)
-        || is_away(distance, known.place.y, sum_of(origin.y, offset.y), axes.y)
-        || is_away(
-            distance,
-            known.place.z,
-            sum_of(origin.z, offset.z) + tool,
-            axes.z,
-        )
+    let x_frame = frame_on(origin.x, offset.x, 0);
+    let y_frame = frame_on(origin.y, offset.y, 0);
+    let z_frame = frame_on(origin.z, offset.z, tool);
+    if is_away(force.distance, known.place.x, x_frame, axes.x) {
+        return true;
+    }
+    if is_away(force.distance, known.place.y, y_frame, axes.y) {
+        return true;
+    }
+    is_away(force.distance, known.place.z, z_frame, axes.z)
 }
 
 fn traverse_by(known: &Known, axes: AxisLengths) -> Action

@@ -411,6 +411,43 @@ fn front_after(known: &Known, line: &[Code], plan: &Plan) -> Front
     }
 }
 
+// Writes the plain lines, and returns what the dialect knows after the line.
+fn carry_out(
+    lines: &mut PlainLines,
+    known: &Known,
+    line: &[Code],
+    words: &[Word],
+    plan: &Plan,
+) -> Front
+    ensures front { result ≡ spec.front_after known.now line.now plan.now }
+    ensures lines { lines.new.items ≡ spec.written known.now line.now words.now plan.now }
+{
+    write(lines, known, line, words, plan);
+    front_after(known, line, plan)
+}
+
+#[tactic(auto, unfolding(crate::specs::Rules::lines_of))]
+fn lines_of(
+    known: &Known,
+    line: &[Code],
+    words: &[Word],
+    lines: &mut PlainLines,
+) -> Result<Front, Fault>
+    ensures { Gives (λ front. (front, lines.new.items)) result
+        (spec.lines_of known.now line.now words.now) }
+{
+    if let Some(letter) = repeated(words) {
+        return Err(about_letter(Cause::LetterTwice, letter));
+    }
+    if let Some(fault) = refused_word(known.dialect, line, words) {
+        return Err(fault);
+    }
+    match plan_of(known, line, words) {
+        Ok(plan) => Ok(carry_out(lines, known, line, words, &plan)),
+        Err(fault) => Err(fault),
+    }
+}
+
 /// Puts the plain lines of a line of words into `lines`, and returns what the dialect knows after
 /// the line. Returns the first refusal; the contents of `lines` are then unspecified.
 #[tactic(auto, unfolding(crate::specs::Rules::plain_lines))]
@@ -420,14 +457,5 @@ pub fn plain_lines(known: &Known, words: &[Word], lines: &mut PlainLines) -> Res
 {
     let mut codes: ArrayVec<Code, 24> = ArrayVec::new();
     add_codes(known.dialect, words, &mut codes)?;
-    let line = codes.as_slice();
-    if let Some(letter) = repeated(words) {
-        return Err(about_letter(Cause::LetterTwice, letter));
-    }
-    if let Some(fault) = refused_word(known.dialect, line, words) {
-        return Err(fault);
-    }
-    let plan = plan_of(known, line, words)?;
-    write(lines, known, line, words, &plan);
-    Ok(front_after(known, line, &plan))
+    lines_of(known, codes.as_slice(), words, lines)
 }

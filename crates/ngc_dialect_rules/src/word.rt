@@ -130,13 +130,20 @@ fn is_again(letter: u8, words: &[Word]) -> bool
     words.iter().any(|word| is_letter(letter, word))
 }
 
-/// Returns a letter that is on the line twice. G and M may be.
+// Returns whether a word's letter is on the line again. G and M may be.
+fn repeats(word: &Word, after: &[Word]) -> bool
+    ensures { result ≡ spec.repeats word.now after.now }
+{
+    !is_code_letter(word.letter) && is_again(word.letter, after)
+}
+
+/// Returns a letter that is on the line twice.
 pub(crate) fn repeated(words: &[Word]) -> Option<u8>
     ensures { result ≡ spec.repeated words.now }
 {
     let mut rest = words;
     while let [word, after @ ..] = rest {
-        if !is_code_letter(word.letter) && is_again(word.letter, after) {
+        if repeats(word, after) {
             return Some(word.letter);
         }
         rest = after;
