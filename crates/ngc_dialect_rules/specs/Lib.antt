@@ -1,0 +1,14 @@
+pub mod Bytes
+pub mod Codes
+pub mod Faults
+pub mod Tables
+pub mod Words
+pub mod Front
+pub mod Lengths
+pub mod Amounts
+pub mod Force
+pub mod Moves
+pub mod Plain
+pub mod Actions
+pub mod Offsets
+pub mod Rules
