@@ -33,9 +33,11 @@ fn letter_text(letter: Letter) -> &'static str {
 fn decimals_of(millionths: u64) -> (usize, u64) {
     let mut count: usize = 6;
     let mut left = millionths;
-    while count > 1 && left % 10 == 0 {
-        left /= 10;
-        count -= 1;
+    for _ in 0..5 {
+        if left % 10 == 0 {
+            left /= 10;
+            count = count.saturating_sub(1);
+        }
     }
     (count, left)
 }
