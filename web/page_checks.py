@@ -565,17 +565,29 @@ SAVES = {
 }
 
 
+def saved_file(page, again, name, size=None):
+    """The bytes of a file that was saved. Chromium drops what is saved after ten other files within some seconds: then it is saved
+    again, by this expression."""
+    for _ in range(3):
+        try:
+            return wait_for(page.downloads / name, size, 5)
+        except Fault:
+            page.value(f"{again}; 0")
+    return wait_for(page.downloads / name, size)
+
+
 def save_each(checks, page, name, more=()):
     stem = name.rsplit(".", 1)[0]
     files = (name, "named_mill.toml", "tools.toml")
     for key, (end, words, has_delete) in SAVES.items():
         page.forget_notices()
         made = page.native(*words, *(more if has_delete else ()), files=(None, *files[1:]) if key == "sheet" else files)
-        page.value(f"document.querySelector('[data-save={key}]').click(); 0")
+        click = f"document.querySelector('[data-save={key}]').click()"
+        page.value(f"{click}; 0")
         page.wait("document.getElementById('notices').textContent !== ''")
         said, what = page.notices, f"`{' '.join(['ngc', *words, *(more if has_delete else ())])}` of {name}"
         if made.stdout:
-            checks.equal(f"{stem}{end} is saved with the {len(made.stdout)} bytes of {what}", wait_for(page.downloads / f"{stem}{end}", len(made.stdout)), made.stdout)
+            checks.equal(f"{stem}{end} is saved with the {len(made.stdout)} bytes of {what}", saved_file(page, click, f"{stem}{end}", len(made.stdout)), made.stdout)
             checks.begins("  and the page says so", said, f"Saved as {stem}{end}, ")
         else:
             checks.begins(f"there is nothing to save of {what}, and why", said, f"There is nothing to save. {made.stderr.decode().strip()}")
@@ -591,13 +603,13 @@ def save(checks, page):
     page.give({"another.cert": "ngc-certificate 1\n"})
     made = page.native("certify", "--format", "2", files=("slot.ngc", "named_mill.toml", "tools.toml"))
     page.value("ngc.actions.save('certificate'); 0")
-    checks.equal("beside a certificate that was dropped, the one of `ngc certify` is saved", wait_for(page.downloads / "slot.cert", len(made.stdout)), made.stdout)
+    checks.equal("beside a certificate that was dropped, the one of `ngc certify` is saved", saved_file(page, "ngc.actions.save('certificate')", "slot.cert", len(made.stdout)), made.stdout)
     page.do("ngc.actions.forgetCertificate(); ngc.actions.setBlockDelete(true)")
     save_each(checks, page, "slot.ngc", ["--delete"])
     (page.folder / "slot.cert").write_bytes(page.native("certify", "--format", "2", files=("slot.ngc", "named_mill.toml", "tools.toml")).stdout)
     made = page.native("pulses", "--certificate", "slot.cert", "--delete", files=("slot.ngc", "named_mill.toml", "tools.toml"))
     page.value("document.querySelector('[data-save=pulses]').click(); 0")
-    checks.equal(f"slot.vcd is saved with the {len(made.stdout)} bytes of `ngc pulses --delete`", wait_for(page.downloads / "slot.vcd", len(made.stdout)), made.stdout)
+    checks.equal(f"slot.vcd is saved with the {len(made.stdout)} bytes of `ngc pulses --delete`", saved_file(page, "document.querySelector('[data-save=pulses]').click()", "slot.vcd", len(made.stdout)), made.stdout)
     page.example("low_slot.ngc")
     page.forget_notices()
     page.value("ngc.actions.save('pulses'); 0")
@@ -605,11 +617,11 @@ def save(checks, page):
     checks.begins("a program that is refused has no pulses", page.notices, "There is nothing to save.")
     for kind, name in (("program", "low_slot.ngc"), ("machine", "named_mill.toml"), ("tools", "tools.toml")):
         page.value(f"ngc.actions.save('{kind}'); 0")
-        checks.equal(f"the {kind} is saved as it is in use", wait_for(page.downloads / name), (page.examples / name).read_bytes())
+        checks.equal(f"the {kind} is saved as it is in use", saved_file(page, f"ngc.actions.save('{kind}')", name), (page.examples / name).read_bytes())
     if page.value("ngc.parts.picture !== null"):
         page.show_picture(True)
         page.value("ngc.actions.save('picture'); 0")
-        image = wait_for(page.downloads / "low_slot.png")
+        image = saved_file(page, "ngc.actions.save('picture')", "low_slot.png")
         checks.expect("the picture is saved as PNG", image.startswith(b"\x89PNG") and len(image) > 5000, len(image))
         page.show_picture(False)
     for what, change in (("another program", "ngc.actions.example('slot.ngc')"), ("the other setting of block delete", "ngc.actions.setBlockDelete(true)"), ("another zero", "ngc.actions.setOrigins({ G54: [50e6, 46e6, -70e6] })")):
