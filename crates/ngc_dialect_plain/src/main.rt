@@ -1,6 +1,7 @@
 //! Prints the plain lines of programs. Each line of standard input is a dialect, a colon and a
-//! program whose lines are separated by ` | `. The word `mill` behind the dialect's name takes a
-//! machine with an origin and a home; without it both are 0. What is printed is the plain lines, or the first fault.
+//! program whose lines are separated by ` | `. The word `mill` after the dialect's name selects a
+//! machine with an origin and a home; without it both are 0. It prints the plain lines, or the first
+//! fault.
 #![tactic(auto)]
 
 mod execution;
