@@ -10,11 +10,11 @@ ghost use Rattle.ngc_line_reader.specs.ProgramView.{text_in};
 ghost use Rattle.ngc_machine_files.specs.Machine.{file_of};
 ghost use Rattle.ngc_parameters.specs.Stored.{changes_of};
 ghost use Rattle.ngc_canonical.specs.Meaning.{effects_of as effects_in, execute as executed};
-ghost use Rattle.ngc_canonical.specs.Meaning.{execute_words as words_executed};
+ghost use Rattle.ngc_canonical.specs.Meaning.{at_line, execute_words as words_executed};
 ghost use Rattle.ngc_canonical.specs.Meaning.{with_settings, past_last, past_text, commands_of};
 ghost use Rattle.ngc_canonical.specs.Meaning.{MeaningIs, EffectsAre, meaning, parsed_program};
 ghost use Rattle.ngc_canonical.specs.Meaning.{mark_of as marked_at};
-ghost use Rattle.ngc_canonical.specs.Interpreter.{setup_of, state_of, Becomes};
+ghost use Rattle.ngc_canonical.specs.Interpreter.{setup_of, state_of, Becomes, BecomesAt};
 ghost use Rattle.ngc_canonical.specs.Taken.{IsExecuted, IsTaken};
 ghost use Rattle.ngc_commands.specs.Movement.{actions_of, ways_of, AreJoined};
 ghost use Rattle.ngc_commands.specs.Sequence.{HaveEvenRadii, EndIsLast, HasEnd};
@@ -175,6 +175,28 @@ impl<A: Allocator + Copy> Interpreter<A> {
         let line = program.number(index);
         self.at(line);
         match self.execute_line(machine, tools, program, index, work) {
+            Ok(()) => Ok(()),
+            Err(LineRefusal::Breaks(fault)) => Err(ProgramFault::At { line, fault }),
+            Err(LineRefusal::Memory) => Err(ProgramFault::Memory),
+        }
+    }
+
+    /// Executes words with these values as a line of the program with this number. A fault is that
+    /// of the words, with this line, or 900. `work` holds the effects of the words.
+    pub fn take_words(
+        &mut self,
+        machine: &Machine<A>,
+        tools: &Tools<A>,
+        line: u32,
+        words: &[Word],
+        work: &mut Work,
+    ) -> Result<(), ProgramFault>
+        ensures { BecomesAt result (state_of self.new) (at_line line
+            (words_executed (setup_of machine.now tools.now) (pairs_of words.now)
+            (record (state_of self.old) { line = line }))) }
+    {
+        self.at(line);
+        match self.execute_words(machine, tools, words, &mut work.effects) {
             Ok(()) => Ok(()),
             Err(LineRefusal::Breaks(fault)) => Err(ProgramFault::At { line, fault }),
             Err(LineRefusal::Memory) => Err(ProgramFault::Memory),
