@@ -25,10 +25,10 @@ use Rattle.ngc_canonical.proofs.JoinedMotions.{onward, after, emitted}
 abbrev pub Ends : State → Type 0
 Ends s = IsEndOnly s.commands
 
-start_open : (machine : MachineFile) → Open (start_state machine)
+pub start_open : (machine : MachineFile) → Open (start_state machine)
 start_open machine = record { running = refl; no_end = tt }
 
-words_left : (setup : Setup) (words : List (Letter × ℤ)) (s : State) → Open s → IfOk (execute_words setup words s) Left
+pub words_left : (setup : Setup) (words : List (Letter × ℤ)) (s : State) → Open s → IfOk (execute_words setup words s) Left
 words_left setup words s h = onward StopIsLast Left (effects_of s.modes words) _ (stops_last s.modes words) (λ what last. run_left setup what s last h)
 
 execute_left : (setup : Setup) (items : List Item) (s : State) → Open s → IfOk (execute setup items s) Left

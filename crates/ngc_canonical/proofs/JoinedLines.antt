@@ -24,10 +24,10 @@ use Rattle.ngc_canonical.specs.Steps.{faulted}
 use Rattle.ngc_canonical.proofs.JoinedMotions.{IsTrail, Holds, onward, after, stays}
 use Rattle.ngc_canonical.proofs.JoinedSteps.{run_holds}
 
-start_holds : (machine : MachineFile) → Holds machine.start (start_state machine)
+pub start_holds : (machine : MachineFile) → Holds machine.start (start_state machine)
 start_holds machine = record { leads = record { joined = tt; ends = refl; radii = tt }; few = lit≤ tt }
 
-words_hold : (p : Point3) (setup : Setup) (words : List (Letter × ℤ)) (s : State) → Holds p s → IfOk (execute_words setup words s) (Holds p)
+pub words_hold : (p : Point3) (setup : Setup) (words : List (Letter × ℤ)) (s : State) → Holds p s → IfOk (execute_words setup words s) (Holds p)
 words_hold p setup words s h = after (Holds p) (effects_of s.modes words) _ (λ what. run_holds p setup what s h)
 
 execute_holds : (p : Point3) (setup : Setup) (items : List Item) (s : State) → Holds p s → IfOk (execute setup items s) (Holds p)

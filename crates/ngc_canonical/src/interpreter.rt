@@ -61,6 +61,13 @@ impl<A: Allocator> Interpreter<A> {
         &self.frames
     }
 
+    /// Returns the modes in force.
+    pub fn modes(&self) -> Modes
+        ensures { result ≡ (state_of self.now).modes }
+    {
+        self.modes
+    }
+
     /// Returns the unit of the program's lengths: inches after G20, millimetres after G21.
     pub fn length_unit(&self) -> Units
         ensures { result ≡ (state_of self.now).modes.units }
