@@ -11,7 +11,7 @@ ghost use Rattle.ngc_checker.specs.Following.{IsFollowing};
 use crate::command_walk::CommandWalk;
 use crate::fault::CheckFault;
 use crate::setting::start_fault;
-use ngc_certificate::{Piece, PieceJudge, Setting};
+use ngc_certificate::{Piece, PieceJudge, Setting, takes_any_way};
 use ngc_certificate_text::MotionList;
 use ngc_commands::Command;
 use ngc_machine_files::Machine;
@@ -73,15 +73,20 @@ impl SettingJudge {
     {
         let ahead = &commands[self.walk.index as usize..];
         match self.walk.next_motion(machine, setting, ahead) {
-            Some(motion) if motion.index == index => {
+            Some(next) if next.index == index => {
+                if takes_any_way(machine, &next.motion.pace) && pieces > 1 {
+                    let command = next.index;
+                    self.walk.refuse(CheckFault::Divided { setting, command });
+                    return;
+                }
                 self.following = Some(PieceJudge::new(
                     machine,
                     self.walk.tool,
-                    &motion.way,
+                    &next.motion.way,
                     pieces > 1,
                 ));
             }
-            Some(motion) => self.differs = Some(motion.index.min(index)),
+            Some(next) => self.differs = Some(next.index.min(index)),
             None => self.differs = Some(index),
         }
     }
