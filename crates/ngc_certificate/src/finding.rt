@@ -11,10 +11,10 @@ ghost use Rattle.ngc_certificate.specs.Traverses.{most_pieces};
 use crate::cutting::{Stops, cut_arc};
 use crate::divide::divide;
 use crate::pieces::pieces_fault;
-use crate::traverses::takes_any_way;
+use crate::traverses::most_pieces;
 use ngc_arc_geometry::Arc;
 use ngc_certificate_text::Piece;
-use ngc_commands::{Motion, Pace, Way};
+use ngc_commands::{Motion, Way};
 use ngc_machine_files::{Machine, Tool};
 use std::alloc::{AllocError, Allocator};
 
@@ -131,19 +131,6 @@ fn find_way<A: Allocator>(
     match way {
         Way::Line { .. } => find_count(machine, tool, way, most, pieces),
         Way::Arc(arc) => find_arc(machine, tool, arc, most, pieces),
-    }
-}
-
-// Returns the most pieces of a motion with this pace.
-fn most_pieces<A: Allocator>(machine: &Machine<A>, most: u16, pace: &Pace) -> u16
-    requires { 1 ≤ most }
-    ensures value { result ≡ most_pieces (file_of machine.now) most pace.now }
-    ensures some { 1 ≤ result }
-{
-    if takes_any_way(machine, pace) {
-        1
-    } else {
-        most
     }
 }
 

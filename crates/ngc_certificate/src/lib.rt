@@ -37,4 +37,4 @@ pub use plan::Plan;
 pub use planned_motions::PlannedMotions;
 pub use plans::{Plans, make_plans, make_plans_alike};
 pub use stretch::Stretch;
-pub use traverses::takes_any_way;
+pub use traverses::{most_pieces, takes_any_way};
