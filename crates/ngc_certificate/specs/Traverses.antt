@@ -1,9 +1,8 @@
 -- Traverses on a machine whose control may take any way within the box of their ends. Our own.
 use Rattle.std.specs.Prelude.{◌≡◌, ℕ, ◌≤◌, List, [], ◌∷◌, length, Bool, true, false}
-use Rattle.std.specs.Prelude.{Option, None, if◌then◌else◌}
+use Rattle.std.specs.Prelude.{Option, if◌then◌else◌}
 use Rattle.ngc_fixed_length.specs.Boxes.{IsIn, box_of}
 use Rattle.ngc_fixed_length.specs.Grid.{grid}
-use Rattle.ngc_fixed_length.specs.Length.{IsStep}
 use Rattle.ngc_fixed_length.specs.declared.points.StepPos.{StepPos}
 use Rattle.ngc_machine_files.specs.Machine.{MachineFile}
 use Rattle.ngc_machine_files.specs.declared.machine.Rapids.{Rapids}
