@@ -32,5 +32,9 @@ pub fn most_pieces<A: Allocator>(machine: &Machine<A>, most: u16, pace: &Pace) -
     ensures value { result ≡ most_of (file_of machine.now) most pace.now }
     ensures some { 1 ≤ result }
 {
-    if takes_any_way(machine, pace) { 1 } else { most }
+    if takes_any_way(machine, pace) {
+        1
+    } else {
+        most
+    }
 }
