@@ -1,18 +1,16 @@
-use Rattle.std.proofs.Common.{◌≡◌, ◌∙◌, ◌&&◌, ap, sym, arith, Bool, List, false, true}
-use Rattle.std.specs.Prelude.{nat_lt}
+use Rattle.std.proofs.Common.{◌≡◌, ◌∙◌, ◌&&◌, ap, sym, arith, Bool, None, false, true}
+use Rattle.std.specs.Prelude.{Option}
 use Rattle.ngc_machine_files.specs.Machine.{file_of}
 use Rattle.ngc_certificate.specs.Traverses.{takes_any_way}
-use Rattle.ngc_certificate_text.specs.declared.piece.Piece.{Piece}
-use Rattle.ngc_checker.specs.declared.fault.CheckFault.TheVariants as faults
+use Rattle.ngc_certificate.specs.declared.pieces.PieceJudge.{PieceJudge}
 use Rattle.ngc_checker.specs.declared.command_walk.CommandWalk.{CommandWalk}
-use Rattle.ngc_checker.specs.declared.setting_judge.SettingJudge.{SettingJudge}
 use Rattle.ngc_checker.specs.FirstRefusal.{is_divided}
 use Rattle.ngc_checker.specs.Walking.{fault_left}
 use Rattle.ngc_checker.proofs.WalkLaws.{compared, not_followed, judged_all, several_are, rest_of}
 use Rattle.ngc_checker.proofs.setting_judge.SettingJudge.compare.Goals as goal
 
-pub returns-in-Some-clause-left : goal.returns-in-Some-clause-left
-returns-in-Some-clause-left g c pieces entries count =
+pub returns-else-is_divided-clause-left : goal.returns-else-is_divided-clause-left
+returns-else-is_divided-clause-left g c pieces entries count =
     let old = c.args.self.now in
     let file = file_of c.args.machine.now in
     let e = rw c.in-Some.is at c.next_motion.ensures in
@@ -24,3 +22,21 @@ returns-in-Some-clause-left g c pieces entries count =
     (rest_of old.walk.index c.args.commands.now) (omega (arith, e.on)) e.afterwards c.requires.none e.indices e.walk c.if-next-index.true whole
     (judged_all file c.next_motion.new.self.tool c.in-Some.next.motion.way c.args.pieces c.new.result pieces c.requires.some count
     c.new.ensures.begins)
+
+pub returns-then-is_divided-clause-left : goal.returns-then-is_divided-clause-left
+returns-then-is_divided-clause-left g c pieces entries count =
+    let old = c.args.self.now in
+    let file = file_of c.args.machine.now in
+    let s = c.args.setting in
+    let w = c.next_motion.new.self in
+    let e = rw c.in-Some.is at c.next_motion.ensures in
+    let several : is_divided file c.in-Some.next.motion pieces ≡ true =
+    ap (λ (more : Bool). takes_any_way file c.in-Some.next.motion.pace && more) (several_are c.args.pieces pieces count)
+    ∙ sym c.is_divided.ensures ∙ c.if-is_divided.true in
+    not_followed file s c.args.commands.now _ old w c.in-Some.next c.args.index
+    pieces entries
+    (rest_of old.walk.index c.args.commands.now) (omega (arith, e.on)) c.requires.none e.indices e.walk c.if-next-index.true several
+    ∙ ap (λ (x : CommandWalk). fault_left file s c.args.commands.now (record { walk = x; differs = old.differs; following = None }) pieces entries)
+    (sym c.refuse.ensures)
+    ∙ ap (λ (f : Option PieceJudge).
+    fault_left file s c.args.commands.now (record { walk = c.refuse.new.self; differs = old.differs; following = f }) pieces entries) (sym c.requires.none)
