@@ -15,11 +15,11 @@ use Rattle.ngc_drawing.specs.declared.label.Placed.{Placed}
 use Rattle.ngc_drawing.specs.declared.pen.Pen.{Pen}
 use Rattle.ngc_drawing.specs.declared.view.View.{View}
 
-pub next_fixture : (view : View) (ls : List Placed) (fs : List Fixture) (i : ℕ) (f : Fixture) → i < length fs → f ≡ get_or fs i f
-    → fixtures_from view ls i (drop i fs) ≡ fixture view (lines_at ls i) i f ++ fixtures_from view ls (i + 1) (drop (i + 1) fs)
-next_fixture view ls fs i f inside found =
-    ap (fixtures_from view ls i) (drop_more fs i f inside)
-    ∙ ap (λ (x : Fixture). fixture view (lines_at ls i) i x ++ fixtures_from view ls (i + 1) (drop (i + 1) fs)) (sym found)
+pub next_fixture : (view : View) (m : ℤ) (ls : List Placed) (fs : List Fixture) (i : ℕ) (f : Fixture) → i < length fs → f ≡ get_or fs i f
+    → fixtures_from view m ls i (drop i fs) ≡ fixture view m (lines_at ls i) i f ++ fixtures_from view m ls (i + 1) (drop (i + 1) fs)
+next_fixture view m ls fs i f inside found =
+    ap (fixtures_from view m ls i) (drop_more fs i f inside)
+    ∙ ap (λ (x : Fixture). fixture view m (lines_at ls i) i x ++ fixtures_from view m ls (i + 1) (drop (i + 1) fs)) (sym found)
 
 pub next_settled : (unit : ℤ) (view : View) (placed : List Placed) (fs : List Fixture) (i : ℕ) (f : Fixture) → i < length fs → f ≡ get_or fs i f
     → with_fixtures unit view i placed (drop i fs)

@@ -1,8 +1,10 @@
 -- The picture of a program on its machine. Our own.
-use Rattle.std.specs.Prelude.{ℕ, ◌+◌, ◌*◌, ℤ, min, nat_le, pos, ◌*ℤ◌, unsigned_abs, List, [], ◌∷◌}
+use Rattle.std.specs.Prelude.{ℕ, ◌+◌, ◌*◌, ℤ, min, nat_le, pos, ◌+ℤ◌, ◌-ℤ◌, ◌*ℤ◌, unsigned_abs}
+use Rattle.std.specs.Prelude.{List, [], ◌∷◌}
 use Rattle.std.specs.Prelude.{◌++◌, length, map, drop, take, Option, Some, None, if◌then◌else◌}
 use Rattle.ngc_fixed_length.specs.Boxes.{only}
 use Rattle.ngc_fixed_length.specs.Grid.{grid}
+use Rattle.ngc_fixed_length.specs.Signed.{is_zero as is_none}
 use Rattle.ngc_fixed_length.specs.declared.points.Point3.{Point3}
 use Rattle.ngc_machine_files.specs.Machine.{MachineFile}
 use Rattle.ngc_machine_files.specs.declared.machine.Fixture.{Fixture}
@@ -49,16 +51,28 @@ boxed Iso kind low high =
     ∷ shapes.PathEnd ∷ []
 boxed view kind low high = shapes.Outline kind (rectangle view low high) ∷ []
 
--- a fixture, and its label, moved down by this number of lines: its number and its name
-abbrev pub fixture : View → ℕ → ℕ → Fixture → List Shape
-fixture view lines i f =
-    boxed view kinds.Fixture f.low f.high
-    ++ (shapes.FixtureNumber (spot view f.low) i lines ∷ shapes.Name f.name ∷ shapes.LabelEnd ∷ [])
+-- the outline of a fixture that is grown by a margin above 0
+abbrev pub margin_shapes : View → ℤ → Fixture → List Shape
+margin_shapes view m f = if is_none m then [] else boxed view kinds.Margin f.low f.high
 
-abbrev pub fixtures_from : View → List Placed → ℕ → List Fixture → List Shape
-fixtures_from view labels i [] = []
-fixtures_from view labels i (f ∷ fs) =
-    fixture view (lines_at labels i) i f ++ fixtures_from view labels (i + 1) fs
+-- the corners of the fixture within its margin
+abbrev pub raised : ℤ → Point3 → Point3
+raised m p = record { x = p.x +ℤ m; y = p.y +ℤ m; z = p.z +ℤ m }
+
+abbrev pub lowered : ℤ → Point3 → Point3
+lowered m p = record { x = p.x -ℤ m; y = p.y -ℤ m; z = p.z -ℤ m }
+
+-- A fixture that is grown by a margin, the fixture within, and its label, moved down by this number
+-- of lines: its number and its name.
+abbrev pub fixture : View → ℤ → ℕ → ℕ → Fixture → List Shape
+fixture view m lines i f =
+    margin_shapes view m f ++ (boxed view kinds.Fixture (raised m f.low) (lowered m f.high)
+    ++ (shapes.FixtureNumber (spot view f.low) i lines ∷ shapes.Name f.name ∷ shapes.LabelEnd ∷ []))
+
+abbrev pub fixtures_from : View → ℤ → List Placed → ℕ → List Fixture → List Shape
+fixtures_from view m labels i [] = []
+fixtures_from view m labels i (f ∷ fs) =
+    fixture view m (lines_at labels i) i f ++ fixtures_from view m labels (i + 1) fs
 
 -- a mark at a spot that the picture shows
 abbrev pub marked_in : Rectangle → Mark → Spot → List Shape
@@ -205,7 +219,7 @@ abbrev pub ground : View → MachineFile → Rectangle → List (Option Tool) �
     List Placed → List Shape
 ground view machine area tools swept labels =
     opening view machine area tools
-    ++ (fixtures_from view (drop 4 labels) 0 machine.fixtures
+    ++ (fixtures_from view machine.margins.fixtures (drop 4 labels) 0 machine.fixtures
     ++ swept_from view machine.step tools None swept)
 
 -- the path and the holes that are drilled

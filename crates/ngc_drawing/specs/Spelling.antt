@@ -50,6 +50,7 @@ unfoldable pub kind_text : BoxKind → List ℕ
 kind_text kinds.Travel = codes "<path d=\""
 kind_text kinds.ThinTravel = codes "<path stroke-width=\".1%\" d=\""
 kind_text kinds.Fixture = codes "<path fill=\"#808080\" fill-opacity=\".3\" d=\""
+kind_text kinds.Margin = codes "<path stroke-width=\".1%\" stroke-dasharray=\".4%\" d=\""
 kind_text kinds.FaultFixture =
     codes "<path stroke=\"#E60000\" fill=\"#E60000\" fill-opacity=\".3\" d=\""
 kind_text kinds.FaultTool = codes "<path stroke=\"#E60000\" d=\""

@@ -28,7 +28,7 @@ fn tool_at(tools: &[Option<Tool>], rank: usize) -> Option<Tool>
     }
 }
 
-fn bodies_lead(run: &Option<usize>, rank: usize) -> ArrayVec<Shape, 8>
+fn bodies_lead(run: &Option<usize>, rank: usize) -> ArrayVec<Shape, 12>
     ensures value { result.items ≡ bodies_lead run.now rank }
     ensures few { length result.items ≤ 2 }
 {
@@ -52,7 +52,7 @@ fn body(view: View, low: &Place, high: &Place) -> Shape
 }
 
 fn add_filled<A: Allocator>(
-    shapes: &mut ArrayVec<Shape, 8>,
+    shapes: &mut ArrayVec<Shape, 12>,
     view: View,
     machine: &Machine<A>,
     tools: &[Option<Tool>],
@@ -74,7 +74,7 @@ fn swept<A: Allocator>(
     tools: &[Option<Tool>],
     run: &Option<usize>,
     sweep: &Sweep,
-) -> ArrayVec<Shape, 8>
+) -> ArrayVec<Shape, 12>
     ensures { result.items ≡ swept view (file_of machine.now).step tools.now run.now sweep.now }
 {
     let mut shapes = bodies_lead(run, sweep.rank);
@@ -82,7 +82,7 @@ fn swept<A: Allocator>(
     shapes
 }
 
-fn bodies_end(run: &Option<usize>) -> ArrayVec<Shape, 8>
+fn bodies_end(run: &Option<usize>) -> ArrayVec<Shape, 12>
     ensures { result.items ≡ bodies_end run.now }
 {
     let mut shapes = ArrayVec::new();

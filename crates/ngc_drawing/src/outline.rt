@@ -37,7 +37,7 @@ fn tool_box(view: View, low: &Place, high: &Place) -> Shape
 
 // Adds the boxes that a tool fills at a place.
 fn add_tool_outline<A: Allocator>(
-    shapes: &mut ArrayVec<Shape, 8>,
+    shapes: &mut ArrayVec<Shape, 12>,
     view: View,
     machine: &Machine<A>,
     tool: &Option<Tool>,
@@ -55,7 +55,7 @@ fn add_tool_outline<A: Allocator>(
 }
 
 fn add_outline<A: Allocator>(
-    shapes: &mut ArrayVec<Shape, 8>,
+    shapes: &mut ArrayVec<Shape, 12>,
     view: View,
     machine: &Machine<A>,
     tool: &Option<Tool>,
@@ -71,7 +71,7 @@ fn add_outline<A: Allocator>(
 }
 
 fn add_first<A: Allocator>(
-    shapes: &mut ArrayVec<Shape, 8>,
+    shapes: &mut ArrayVec<Shape, 12>,
     view: View,
     machine: &Machine<A>,
     tool: &Option<Tool>,
@@ -88,7 +88,7 @@ fn add_first<A: Allocator>(
 
 /// Adds the boxes that a tool fills at the end of a command, counted from 0, if it is a motion.
 pub(crate) fn add_outline_at<A: Allocator>(
-    shapes: &mut ArrayVec<Shape, 8>,
+    shapes: &mut ArrayVec<Shape, 12>,
     view: View,
     machine: &Machine<A>,
     tool: &Option<Tool>,

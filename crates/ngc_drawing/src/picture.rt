@@ -1,7 +1,8 @@
 //! The whole picture.
 ghost use Rattle.std.specs.Prelude.{◌≡◌, ◌<◌, ◌≤◌, ◌*◌, unsigned_abs, ◌++◌, ◌∷◌, [], length, drop};
-ghost use Rattle.std.specs.Prelude.{map, OnOk, OnErr, Err, IfOk, ◌+◌};
+ghost use Rattle.std.specs.Prelude.{map, OnOk, OnErr, Err, IfOk, ◌+◌, pos};
 ghost use Rattle.std.specs.Io.KnownBytes.{Appends, Keeps};
+ghost use Rattle.std.specs.List.{All};
 ghost use Rattle.ngc_text.specs.Failures.{CountsFailure};
 ghost use Rattle.ngc_text.specs.Written.{AppendsPrefix};
 ghost use Rattle.ngc_machine_files.specs.Machine.{file_of};
@@ -12,6 +13,9 @@ ghost use Rattle.ngc_drawing.specs.Sheets.{unit_of};
 ghost use Rattle.ngc_drawing.specs.Holes.{holes};
 ghost use Rattle.ngc_drawing.specs.Tools.{used, eye_of};
 ghost use Rattle.ngc_drawing.specs.Pictures.{fixture, fixtures_from, marked_in, marked, SCALES};
+ghost use Rattle.ngc_drawing.specs.Pictures.{margin_shapes, raised, lowered};
+ghost use Rattle.ngc_machine_files.specs.Ranges.{CORNER_LIMIT, MARGIN_LIMIT, IsFrom, IsSized};
+ghost use Rattle.ngc_machine_files.specs.Ranges.{IsFixture};
 ghost use Rattle.ngc_drawing.specs.Pictures.{scale_in, boxed, travel_in, shown_sweeps, places};
 ghost use Rattle.ngc_drawing.specs.Pictures.{origin, picture_text};
 ghost use Rattle.ngc_drawing.specs.Spelling.{shapes_text};
@@ -43,7 +47,7 @@ use arrayvec::ArrayVec;
 use ngc_certificate_text::Motions;
 use ngc_collision::Place;
 use ngc_commands::{Action, Command, Way};
-use ngc_fixed_length::Point3;
+use ngc_fixed_length::{Nm, Point3};
 use ngc_machine_files::{Fixture, Machine, Part, Tool};
 use ngc_text::{Chunk, Sink, WriteFault};
 use std::alloc::{AllocError, Allocator};
@@ -73,7 +77,7 @@ fn scale_of(unit: &Unit) -> u64
 }
 
 /// Adds the shapes of a box.
-fn add_box(shapes: &mut ArrayVec<Shape, 8>, view: View, kind: BoxKind, low: &Point3, high: &Point3)
+fn add_box(shapes: &mut ArrayVec<Shape, 12>, view: View, kind: BoxKind, low: &Point3, high: &Point3)
     requires { length shapes.old.items ≤ 4 }
     ensures value { shapes.new.items ≡ shapes.old.items ++ boxed view kind low.now high.now }
     ensures few { length shapes.new.items ≤ length shapes.old.items + 4 }
@@ -90,33 +94,86 @@ fn add_box(shapes: &mut ArrayVec<Shape, 8>, view: View, kind: BoxKind, low: &Poi
     }
 }
 
-/// Returns the shapes of a fixture and its label, which is moved down by `lines` lines.
-fn fixture(view: View, lines: usize, number: usize, one: &Fixture) -> ArrayVec<Shape, 8>
-    ensures { result.items ≡ fixture view lines number one.now }
+// Adds the outline of a fixture that is grown by a margin.
+fn add_margin(shapes: &mut ArrayVec<Shape, 12>, view: View, margin: Nm, one: &Fixture)
+    requires { length shapes.old.items ≤ 4 }
+    ensures value { shapes.new.items ≡ shapes.old.items ++ margin_shapes view margin one.now }
+    ensures few { length shapes.new.items ≤ length shapes.old.items + 4 }
+{
+    if margin.nanometres() != 0 {
+        add_box(shapes, view, BoxKind::Margin, &one.low, &one.high);
+    }
+}
+
+// Returns the low corner of a fixture within its margin.
+fn raised(margin: Nm, corner: &Point3) -> Point3
+    requires corner { IsSized CORNER_LIMIT corner.now }
+    requires margin { IsFrom (pos 0) MARGIN_LIMIT margin }
+    ensures { result ≡ raised margin corner.now }
+{
+    Point3 {
+        x: corner.x.plus(margin),
+        y: corner.y.plus(margin),
+        z: corner.z.plus(margin),
+    }
+}
+
+// Returns the high corner of a fixture within its margin.
+fn lowered(margin: Nm, corner: &Point3) -> Point3
+    requires corner { IsSized CORNER_LIMIT corner.now }
+    requires margin { IsFrom (pos 0) MARGIN_LIMIT margin }
+    ensures { result ≡ lowered margin corner.now }
+{
+    Point3 {
+        x: corner.x.minus(margin),
+        y: corner.y.minus(margin),
+        z: corner.z.minus(margin),
+    }
+}
+
+/// Returns the shapes of a fixture that is grown by a margin, of the fixture within, and of its
+/// label, which is moved down by `lines` lines.
+fn fixture(
+    view: View,
+    margin: Nm,
+    lines: usize,
+    number: usize,
+    one: &Fixture,
+) -> ArrayVec<Shape, 12>
+    requires fixture { IsFixture one.now }
+    requires margin { IsFrom (pos 0) MARGIN_LIMIT margin }
+    ensures { result.items ≡ fixture view margin lines number one.now }
 {
     let mut shapes = ArrayVec::new();
-    add_box(&mut shapes, view, BoxKind::Fixture, &one.low, &one.high);
+    add_margin(&mut shapes, view, margin, one);
+    let low = raised(margin, &one.low);
+    let high = lowered(margin, &one.high);
+    add_box(&mut shapes, view, BoxKind::Fixture, &low, &high);
     shapes.push(Shape::FixtureNumber(view.spot(&one.low), number, lines));
     shapes.push(Shape::Name(one.name));
     shapes.push(Shape::LabelEnd);
     shapes
 }
 
+// Draws fixtures that are grown by a margin.
 fn draw_fixtures<W: Sink>(
     chunk: &mut Chunk,
     unit: &Unit,
     view: View,
+    margin: Nm,
     labels: &[Placed],
     fixtures: &[Fixture],
     sink: &mut W,
 ) -> Result<(), WriteFault>
+    requires fixtures { All IsFixture fixtures.now }
+    requires margin { IsFrom (pos 0) MARGIN_LIMIT margin }
     ensures drawn { Draws unit.now.micrometres (W.written sink.old)
         (W.written sink.new) chunk.old chunk.new result
-        (fixtures_from view labels.now 0 fixtures.now) }
+        (fixtures_from view margin labels.now 0 fixtures.now) }
     ensures counts { CountsFailure (W.failures sink.old) (W.failures sink.new) result }
 {
     for (i, one) in fixtures.iter().enumerate() {
-        let shapes = fixture(view, lines_at(labels, i), i, one);
+        let shapes = fixture(view, margin, lines_at(labels, i), i, one);
         match draw_all(chunk, unit, shapes.as_slice(), sink) {
             Ok(()) => {}
             Err(fault) => return Err(fault),
@@ -196,7 +253,7 @@ fn part(measures: &Part) -> Shape
     )
 }
 
-fn parts(tool: &Option<Tool>) -> ArrayVec<Shape, 8>
+fn parts(tool: &Option<Tool>) -> ArrayVec<Shape, 12>
     ensures value { result.items ≡ parts tool.now }
     ensures few { length result.items ≤ 4 }
 {
@@ -331,7 +388,7 @@ fn draw_refused_motion<W: Sink>(
     draw_first_refused(chunk, unit, &eye, refusal.fault, rest, sink)
 }
 
-fn first_red(view: View, fixtures: &[Fixture]) -> ArrayVec<Shape, 8>
+fn first_red(view: View, fixtures: &[Fixture]) -> ArrayVec<Shape, 12>
     ensures value { result.items ≡ first_red view fixtures.now }
     ensures few { length result.items ≤ 4 }
 {
@@ -348,7 +405,7 @@ fn first_red(view: View, fixtures: &[Fixture]) -> ArrayVec<Shape, 8>
     shapes
 }
 
-fn refused_fixture(view: View, fixtures: &[Fixture], fixture: Option<usize>) -> ArrayVec<Shape, 8>
+fn refused_fixture(view: View, fixtures: &[Fixture], fixture: Option<usize>) -> ArrayVec<Shape, 12>
     ensures value { result.items ≡ refused_fixture view fixtures.now fixture }
     ensures few { length result.items ≤ 4 }
 {
@@ -405,7 +462,7 @@ fn draw_refused<A: Allocator, W: Sink>(
     }
 }
 
-fn refusal_row(refusal: &Option<RefusedMotion>) -> ArrayVec<Shape, 8>
+fn refusal_row(refusal: &Option<RefusedMotion>) -> ArrayVec<Shape, 12>
     ensures value { result.items ≡ refusal_row refusal.now }
     ensures few { length result.items ≤ 1 }
 {
@@ -427,7 +484,7 @@ fn rows(tools: &[Option<Tool>]) -> u32
 
 // Adds the travel limits, or the part of them that the picture shows.
 fn add_travel(
-    shapes: &mut ArrayVec<Shape, 8>,
+    shapes: &mut ArrayVec<Shape, 12>,
     view: View,
     area: &Rectangle,
     low: &Point3,
@@ -450,7 +507,7 @@ fn opening<A: Allocator>(
     machine: &Machine<A>,
     area: &Rectangle,
     tools: &[Option<Tool>],
-) -> ArrayVec<Shape, 8>
+) -> ArrayVec<Shape, 12>
     ensures { result.items ≡ opening view (file_of machine.now) area.now tools.now }
 {
     let mut shapes = ArrayVec::new();
@@ -479,7 +536,7 @@ fn draw_opening<A: Allocator, W: Sink>(
 }
 
 // Adds a mark at a spot, if the picture shows the spot.
-fn mark_in(shapes: &mut ArrayVec<Shape, 8>, area: &Rectangle, mark: Mark, spot: &Spot)
+fn mark_in(shapes: &mut ArrayVec<Shape, 12>, area: &Rectangle, mark: Mark, spot: &Spot)
     requires { length shapes.old.items ≤ 7 }
     ensures marked { shapes.new.items ≡ shapes.old.items ++ marked_in area.now mark spot.now }
     ensures few { length shapes.new.items ≤ length shapes.old.items + 1 }
@@ -494,7 +551,7 @@ fn places<A: Allocator>(
     machine: &Machine<A>,
     area: &Rectangle,
     labels: &[Placed],
-) -> ArrayVec<Shape, 8>
+) -> ArrayVec<Shape, 12>
     ensures { result.items ≡ places view (file_of machine.now) area.now labels.now }
 {
     let mut shapes = ArrayVec::new();
@@ -508,7 +565,7 @@ fn places<A: Allocator>(
     shapes
 }
 
-fn origin(view: View, area: &Rectangle, labels: &[Placed], work: &WorkOrigin) -> ArrayVec<Shape, 8>
+fn origin(view: View, area: &Rectangle, labels: &[Placed], work: &WorkOrigin) -> ArrayVec<Shape, 12>
     ensures { result.items ≡ origin view area.now labels.now work.now }
 {
     let mut shapes = ArrayVec::new();
@@ -620,8 +677,10 @@ fn draw_ground<A: Allocator, W: Sink>(
         Err(fault) => return Err(fault),
     }
     let unit = unit_of(area);
+    let labelled = after_marks(labels);
     let fixtures = machine.fixtures.as_slice();
-    match draw_fixtures(chunk, &unit, view, after_marks(labels), fixtures, sink) {
+    let margin = machine.margins.fixtures;
+    match draw_fixtures(chunk, &unit, view, margin, labelled, fixtures, sink) {
         Ok(()) => {}
         Err(fault) => return Err(fault),
     }

@@ -58,6 +58,8 @@ pub enum BoxKind {
     ThinTravel,
     /// A fixture.
     Fixture,
+    /// A fixture with its margin.
+    Margin,
     /// A fixture that a fault names.
     FaultFixture,
     /// A box that the tool fills at the end of a refused motion.

@@ -119,6 +119,7 @@ fn beginning(kind: BoxKind) -> &'static [u8]
         BoxKind::Travel => b"<path d=\"",
         BoxKind::ThinTravel => b"<path stroke-width=\".1%\" d=\"",
         BoxKind::Fixture => b"<path fill=\"#808080\" fill-opacity=\".3\" d=\"",
+        BoxKind::Margin => b"<path stroke-width=\".1%\" stroke-dasharray=\".4%\" d=\"",
         BoxKind::FaultFixture => {
             b"<path stroke=\"#E60000\" fill=\"#E60000\" fill-opacity=\".3\" d=\""
         }

@@ -1,4 +1,4 @@
-use Rattle.std.proofs.Common.{arith, pos, ◌≤◌, ◌*◌, ◌^◌, ◌*ℤ◌, ◌≡◌, unsigned_abs, to_z, of_z, lit<}
+use Rattle.std.proofs.Common.{arith, ◌≤◌, ◌*◌, ◌^◌, ◌*ℤ◌, ◌≡◌, unsigned_abs, to_z, of_z, lit<}
 use Rattle.std.specs.Int.{w128}
 use Rattle.std.proofs.lemmas.Int.{ints, to_z-of_z, fits_signed_mul, unsigned_abs-mul}
 use Rattle.std.proofs.lemmas.Nat.{mul-le}
