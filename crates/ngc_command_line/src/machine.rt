@@ -125,7 +125,7 @@ const ARC_FEED: Argument<'static> = Argument {
     is_named: true,
     is_required: false,
     takes: Takes::Nothing,
-    help: "Run arcs at their feed at every place: the default\n(`arc_feed = 0` in the file switches it off)",
+    help: "Run arcs at their feed and `turn` at every place:\nthe default (`arc_feed` in the file switches it off)",
 };
 
 pub(crate) static MACHINE: SubcommandRow<'static> = SubcommandRow {

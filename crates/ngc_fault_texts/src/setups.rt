@@ -51,7 +51,7 @@ pub(crate) fn setup() -> &'static [Row]
             answer: "`ngc: fault 264 machine`",
             place: None,
             mend: "`max_rate`, `axis_rate`, `change`, `corner`: 1 to 1,000,000. `jump`: 0 to 1,000,000. `turn`: 1\n\
-             to 1,000,000,000,000. `ring`: 16 to 1,024. `arc_feed`, `changer`: 0 or 1.",
+             to 1,000,000,000,000. `ring`: 16 to 1,024. `arc_feed`: 0 to 2. `changer`: 0 or 1.",
         },
         Row {
             number: 265,

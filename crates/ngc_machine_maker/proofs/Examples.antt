@@ -81,7 +81,7 @@ numbers_of_a_small_router : numbers_of small_router ≡ Ok (record {
   max_rate = 493827;
   change = 21;
   corner = 59259;
-  turn = 10973936;
+  turn = 21947873;
   axis_rate = three 493827 493827 296296;
   jump = 59259;
   ring = 256;
@@ -160,7 +160,7 @@ numbers_of_a_large_router : numbers_of large_router ≡ Ok (record {
   max_rate = 787351;
   change = 17;
   corner = 47241;
-  turn = 17715419;
+  turn = 35430839;
   axis_rate = three 787351 787351 393675;
   jump = 94482;
   ring = 64;

@@ -31,7 +31,7 @@ small_numbers = record {
   max_rate = 493827;
   change = 21;
   corner = 59259;
-  turn = 10973936;
+  turn = 21947873;
   axis_rate = three 493827 493827 296296;
   jump = 59259;
   ring = 256;
@@ -45,7 +45,7 @@ small_numbers = record {
 
 -- 21 millionths per tick at 27,000 ticks per second are 15,309 steps per second squared: 19.136
 -- mm/s^2. 59,259 millionths of a step of 1,250 nm per tick are 119.999475 mm/min
-file_of_a_small_router : file_text small_numbers small_router ≡ codes "# Made by `ngc machine`. Lengths are nanometres, rates are millionths of a step in a\n# tick, three numbers are X, Y, Z, and remarks are in the units of a shop.\n\nversion = 2\nstep = 1250 # 0.00125 mm\nticks_per_second = 27000 # how often the controller may make steps\nmax_rate = 493827 # 1000 mm/min\naxis_rate = [493827, 493827, 296296] # X 1000, Y 1000, Z 599.999 mm/min\n# `corner`: motions may meet at this speed at any angle. By default it is what the axis\n# with the least acceleration reaches in 5 ms, and at least 2 mm/s.\ncorner = 59259 # 119.999 mm/min\n# `jump`: an axis may gain or lose this speed at once where motions meet. At the machine\n# start with half of it, raise it until you hear lost steps, and keep two thirds.\njump = 59259 # 119.999 mm/min\nchange = 21 # 19.136 mm/s^2\nturn = 10973936 # 20 mm/s^2 on arcs at most\n# `ring`: the controller looks ahead over this many. If short lines are slow, try 1024.\nring = 256 # how many commands are loaded and not done at most\n# `arc_feed`: if arcs run roughly at the machine, try 0. Then they are slower.\narc_feed = 1 # arcs run at their feed at every place\nlow = [0, 0, -45000000] # X 0, Y 0, Z -45 mm\nhigh = [300000000, 180000000, 0] # X 300, Y 180, Z 0 mm\nstart = [0, 0, 0] # X 0, Y 0, Z 0 mm\nhome28 = [0, 0, 0] # X 0, Y 0, Z 0 mm\nhome30 = [0, 0, 0] # X 0, Y 0, Z 0 mm\n"
+file_of_a_small_router : file_text small_numbers small_router ≡ codes "# Made by `ngc machine`. Lengths are nanometres, rates are millionths of a step in a\n# tick, three numbers are X, Y, Z, and remarks are in the units of a shop.\n\nversion = 2\nstep = 1250 # 0.00125 mm\nticks_per_second = 27000 # how often the controller may make steps\nmax_rate = 493827 # 1000 mm/min\naxis_rate = [493827, 493827, 296296] # X 1000, Y 1000, Z 599.999 mm/min\n# `corner`: motions may meet at this speed at any angle. By default it is what the axis\n# with the least acceleration reaches in 5 ms, and at least 2 mm/s.\ncorner = 59259 # 119.999 mm/min\n# `jump`: an axis may gain or lose this speed at once where motions meet. At the machine\n# start with half of it, raise it until you hear lost steps, and keep two thirds.\njump = 59259 # 119.999 mm/min\nchange = 21 # 19.136 mm/s^2\nturn = 21947873 # 20 mm/s^2 on arcs, up to twice that while slowing down\n# `ring`: the controller looks ahead over this many. If short lines are slow, try 1024.\nring = 256 # how many commands are loaded and not done at most\n# `arc_feed`: if arcs run roughly, try 0 here and half of `turn`. Then they are slower.\narc_feed = 2 # arcs run at their feed and their turn at every place\nlow = [0, 0, -45000000] # X 0, Y 0, Z -45 mm\nhigh = [300000000, 180000000, 0] # X 300, Y 180, Z 0 mm\nstart = [0, 0, 0] # X 0, Y 0, Z 0 mm\nhome28 = [0, 0, 0] # X 0, Y 0, Z 0 mm\nhome30 = [0, 0, 0] # X 0, Y 0, Z 0 mm\n"
 unfolding digits number_text length_text heading scale_after step_lines speed_lines joint_lines corner_comment jump_comment acceleration_lines ring_lines arc_feed_comment place_lines line_text value_text remark_text
 file_of_a_small_router = refl
 

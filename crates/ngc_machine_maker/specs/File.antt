@@ -3,6 +3,7 @@ use Rattle.std.specs.Prelude.{ℕ, ℤ, List, [], ◌++◌, codes, decimal, Bool
 use Rattle.ngc_text.specs.Millimetres.{size_text}
 use Rattle.ngc_machine_maker.specs.declared.figures.Figures.{Figures}
 use Rattle.ngc_machine_maker.specs.declared.figures.PerAxis.{PerAxis}
+use Rattle.ngc_machine_maker.specs.declared.line.Remark.{Remark}
 use Rattle.ngc_machine_maker.specs.declared.line.Remark.TheVariants as remarks
 use Rattle.ngc_machine_maker.specs.declared.line.Value.TheVariants as values
 use Rattle.ngc_machine_maker.specs.declared.numbers.MachineNumbers.{MachineNumbers}
@@ -65,12 +66,18 @@ unfoldable pub joint_lines : MachineNumbers → List ℕ
 joint_lines n = corner_comment ++ rate_line (codes "corner") n n.corner ++ jump_comment
     ++ rate_line (codes "jump") n n.jump
 
+-- where the turn holds at every place, a motion may still enter an arc at more than that
+abbrev pub arcs_remark : Bool → ℕ → Remark
+arcs_remark by_place acceleration =
+    if by_place then remarks.ArcsByPlace acceleration else remarks.Arcs acceleration
+
 unfoldable pub acceleration_lines : MachineNumbers → List ℕ
 acceleration_lines n =
     line_text (codes "change") (values.Number n.change) (remarks.Acceleration (acceleration n))
-    ++ line_text (codes "turn") (values.Number n.turn) (remarks.Arcs (arc_acceleration n))
+    ++ line_text (codes "turn") (values.Number n.turn) (arcs_remark n.arc_feed (arc_acceleration n))
 
--- how far the controller looks ahead, and the feed on arcs, if it is kept at every place
+-- how far the controller looks ahead, and the feed and the turn on arcs, if they are kept at every
+-- place
 unfoldable pub ring_lines : ℕ → List ℕ
 ring_lines ring =
     codes "# `ring`: the controller looks ahead over this many. If short lines are slow, try 1024.\n"
@@ -78,12 +85,12 @@ ring_lines ring =
 
 unfoldable pub arc_feed_comment : List ℕ
 arc_feed_comment =
-    codes "# `arc_feed`: if arcs run roughly at the machine, try 0. Then they are slower.\n"
+    codes "# `arc_feed`: if arcs run roughly, try 0 here and half of `turn`. Then they are slower.\n"
 
 abbrev pub arc_feed_lines : Bool → List ℕ
 arc_feed_lines arc_feed =
     if arc_feed
-    then arc_feed_comment ++ line_text (codes "arc_feed") (values.Number 1) remarks.ArcFeed
+    then arc_feed_comment ++ line_text (codes "arc_feed") (values.Number 2) remarks.ArcFeed
     else []
 
 abbrev pub place_line : List ℕ → PerAxis ℤ → List ℕ

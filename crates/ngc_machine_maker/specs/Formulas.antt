@@ -3,7 +3,7 @@
 -- steps, and the lesser number of steps is used. So the machine is neither faster than requested
 -- nor goes farther, with the file's step or with the motor's.
 use Rattle.std.specs.Prelude.{ℕ, ◌+◌, ◌*◌, ◌/◌, ◌==◌, ◌||◌, nat_lt, min, max, Option, Some, None}
-use Rattle.std.specs.Prelude.{Result, Ok, Err, if◌then◌else◌}
+use Rattle.std.specs.Prelude.{Result, Ok, Err, Bool, if◌then◌else◌}
 use Rattle.ngc_machine_maker.specs.declared.figures.Axis.{Axis}
 use Rattle.ngc_machine_maker.specs.declared.figures.Axis.TheVariants as axes
 use Rattle.ngc_machine_maker.specs.declared.figures.PerAxis.{PerAxis}
@@ -49,11 +49,15 @@ rate_of scale ticks speed =
 abbrev pub change_of : Scale → ℕ → ℕ → ℕ
 change_of scale ticks acceleration = steps_in scale (acceleration * 1000000000) (ticks * ticks)
 
--- half of the value of an arc where it runs along an axis; where it runs diagonally it has twice
--- that
-abbrev pub turn_of : Scale → ℕ → ℕ → ℕ
-turn_of scale ticks acceleration =
-    steps_in scale (acceleration * 1000000000000000) (2 * (ticks * ticks))
+-- The acceleration towards the centre where an arc runs diagonally, in turns. With `arc_feed = 2`
+-- the turn holds there too. Without it the rate is the same everywhere, and the acceleration there
+-- is twice that where the arc runs along an axis.
+abbrev pub diagonal_turns : Bool → ℕ
+diagonal_turns by_place = if by_place then 1 else 2
+
+abbrev pub turn_of : Bool → Scale → ℕ → ℕ → ℕ
+turn_of by_place scale ticks acceleration =
+    steps_in scale (acceleration * 1000000000000000) (diagonal_turns by_place * (ticks * ticks))
 
 abbrev pub fastest : PerAxis Speed → ℕ
 fastest speeds =
@@ -131,9 +135,9 @@ abbrev pub limited_change : Scale → ℕ → PerAxis Acceleration → Result �
 limited_change scale ticks accelerations =
     some refusals.LowAcceleration (min (change_of scale ticks (least accelerations)) 1000000)
 
-abbrev pub limited_turn : Scale → ℕ → ℕ → Result ℕ FigureRefusal
-limited_turn scale ticks acceleration =
-    some refusals.LowArcs (min (turn_of scale ticks acceleration) 1000000000000)
+abbrev pub limited_turn : Bool → Scale → ℕ → ℕ → Result ℕ FigureRefusal
+limited_turn by_place scale ticks acceleration =
+    some refusals.LowArcs (min (turn_of by_place scale ticks acceleration) 1000000000000)
 
 abbrev pub arcs_by : ℕ → Option Acceleration → ℕ
 arcs_by otherwise None = otherwise
@@ -151,7 +155,7 @@ rates_of scale f =
     and_then (each_rate scale ticks f.feed) (λ rates.
     and_then (corner_of scale ticks (greatest_of rates) f.corner) (λ corner.
     and_then (limited_change scale ticks f.acceleration) (λ change.
-    and_then (limited_turn scale ticks (arcs_of f)) (λ turn.
+    and_then (limited_turn f.arc_feed scale ticks (arcs_of f)) (λ turn.
     Ok (record {
       ticks = ticks;
       axis_rate = rates;

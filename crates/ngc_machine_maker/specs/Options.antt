@@ -96,8 +96,8 @@ reached_in_5_ms acceleration = acceleration * 5 * 60 / 1000
 abbrev pub usual_corner : PerAxis Acceleration → Speed
 usual_corner accelerations = speed_of (max (reached_in_5_ms (least accelerations)) 120000)
 
--- the figures of a machine with this corner speed, the same jump, a ring of 256 commands and arcs
--- at their feed. It starts at zero
+-- the figures of a machine with this corner speed, the same jump, a ring of 256 commands, and arcs
+-- at their feed and their turn. It starts at zero
 abbrev pub figures_by : StepsPerMillimetre → PerAxis Length → PerAxis Speed →
     PerAxis Acceleration → PerAxis End → Figures
 figures_by steps travel feed acceleration zero =

@@ -1,5 +1,5 @@
 -- The safe side: the limits in the file, converted back, are at most the requested ones.
-use Rattle.std.specs.Prelude.{ℕ, ◌≤◌, ◌*◌}
+use Rattle.std.specs.Prelude.{ℕ, ◌≤◌, ◌*◌, Bool}
 use Rattle.ngc_machine_maker.specs.declared.figures.PerAxis.{PerAxis}
 use Rattle.ngc_machine_maker.specs.declared.figures.Speed.{Speed}
 use Rattle.ngc_machine_maker.specs.declared.figures.Acceleration.{Acceleration}
@@ -7,7 +7,7 @@ use Rattle.ngc_machine_maker.specs.declared.figures.Figures.{Figures}
 use Rattle.ngc_machine_maker.specs.declared.figures.Length.{Length}
 use Rattle.ngc_machine_maker.specs.declared.rates.Rates.{Rates}
 use Rattle.ngc_machine_maker.specs.declared.scale.Scale.{Scale}
-use Rattle.ngc_machine_maker.specs.Formulas.{arcs_of, jump_speed}
+use Rattle.ngc_machine_maker.specs.Formulas.{arcs_of, diagonal_turns, jump_speed}
 
 -- a number of steps is no longer than an amount of nanometres over a divisor, with the file's step
 -- and with the motor's
@@ -25,10 +25,11 @@ abbrev pub IsNoGreaterAcceleration : Scale → ℕ → ℕ → ℕ → Type 0
 IsNoGreaterAcceleration scale ticks change acceleration =
     IsNoMore scale change (acceleration * 1000000000) (ticks * ticks)
 
--- the same for an arc where it runs diagonally, which has twice its turn
-abbrev pub IsNoHarderOnArcs : Scale → ℕ → ℕ → ℕ → Type 0
-IsNoHarderOnArcs scale ticks turn acceleration =
-    IsNoMore scale turn (acceleration * 1000000000000000) (2 * (ticks * ticks))
+-- the same for an arc where it runs diagonally, at the rate that is aimed at
+abbrev pub IsNoHarderOnArcs : Bool → Scale → ℕ → ℕ → ℕ → Type 0
+IsNoHarderOnArcs by_place scale ticks turn acceleration =
+    IsNoMore scale turn (acceleration * 1000000000000000)
+    (diagonal_turns by_place * (ticks * ticks))
 
 pub record AreNoFaster (scale : Scale) (ticks : ℕ) (rates : PerAxis ℕ) (feed : PerAxis Speed)
     : Type 0 where
@@ -47,7 +48,7 @@ pub record AreSafe (scale : Scale) (rates : Rates) (f : Figures) : Type 0 where
   pub x_follows : IsFollowedBy scale rates.ticks rates.change f.acceleration.x
   pub y_follows : IsFollowedBy scale rates.ticks rates.change f.acceleration.y
   pub z_follows : IsFollowedBy scale rates.ticks rates.change f.acceleration.z
-  pub arcs : IsNoHarderOnArcs scale rates.ticks rates.turn (arcs_of f)
+  pub arcs : IsNoHarderOnArcs f.arc_feed scale rates.ticks rates.turn (arcs_of f)
 
 -- a number of steps is no longer than a length
 abbrev pub IsNoFarther : Scale → ℕ → Length → Type 0

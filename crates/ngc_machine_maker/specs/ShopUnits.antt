@@ -3,6 +3,7 @@ use Rattle.std.specs.Prelude.{ℕ, ◌+◌, ◌-◌, ◌*◌, ◌/◌, ◌==◌,
 use Rattle.ngc_machine_maker.specs.declared.figures.Figures.{Figures}
 use Rattle.ngc_machine_maker.specs.declared.figures.PerAxis.{PerAxis}
 use Rattle.ngc_machine_maker.specs.declared.numbers.MachineNumbers.{MachineNumbers}
+use Rattle.ngc_machine_maker.specs.Formulas.{diagonal_turns}
 
 -- the number of units in a number, to the nearest; halves go up
 abbrev pub rounded : ℕ → ℕ → ℕ
@@ -28,9 +29,9 @@ gain n steps = steps * (step_speed n * n.ticks_per_second)
 abbrev pub acceleration : MachineNumbers → ℕ
 acceleration n = rounded (gain n n.change) 1000000000
 
--- the greatest acceleration towards the centre of an arc, in the same unit
+-- the greatest acceleration towards the centre of an arc that is aimed at, in the same unit
 abbrev pub arc_acceleration : MachineNumbers → ℕ
-arc_acceleration n = rounded (2 * gain n n.turn) 1000000000000000
+arc_acceleration n = rounded (diagonal_turns n.arc_feed * gain n n.turn) 1000000000000000
 
 -- ---- the motor's step and the file's
 

@@ -33,8 +33,10 @@ remark_text (remarks.Speeds p) =
     ++ codes " mm/min"
 remark_text (remarks.Acceleration n) = thousandths_text n ++ codes " mm/s^2"
 remark_text (remarks.Arcs n) = thousandths_text n ++ codes " mm/s^2 on arcs at most"
+remark_text (remarks.ArcsByPlace n) =
+    thousandths_text n ++ codes " mm/s^2 on arcs, up to twice that while slowing down"
 remark_text remarks.Ring = codes "how many commands are loaded and not done at most"
-remark_text remarks.ArcFeed = codes "arcs run at their feed at every place"
+remark_text remarks.ArcFeed = codes "arcs run at their feed and their turn at every place"
 remark_text (remarks.Place p) =
     axes_text (length_text p.x) (length_text p.y) (length_text p.z) ++ codes " mm"
 

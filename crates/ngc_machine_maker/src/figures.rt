@@ -72,7 +72,7 @@ pub struct Figures {
     pub ticks: Option<u32>,
     /// The greatest number of loaded commands that are not done.
     pub ring: u32,
-    /// Whether arcs run at their feed at every place.
+    /// Whether arcs run at their feed and their turn at every place.
     pub arc_feed: bool,
     pub zero: PerAxis<End>,
     /// The position of the axes when a program starts.

@@ -10,7 +10,7 @@ ghost use Rattle.ngc_machine_maker.specs.File.{heading, direction_text, steps_te
 ghost use Rattle.ngc_machine_maker.specs.File.{scale_text, scale_after, step_lines, rate_line};
 ghost use Rattle.ngc_machine_maker.specs.File.{speed_lines, joint_lines, acceleration_lines, place_line};
 ghost use Rattle.ngc_machine_maker.specs.File.{corner_comment, jump_comment, ring_lines, arc_feed_comment, arc_feed_lines, place_lines};
-ghost use Rattle.ngc_machine_maker.specs.File.{file_text, notes_text};
+ghost use Rattle.ngc_machine_maker.specs.File.{arcs_remark, file_text, notes_text};
 ghost use Rattle.ngc_machine_maker.specs.InFile.{AreInFile};
 ghost use Rattle.ngc_machine_maker.specs.Ranges.{IsScale};
 ghost use Rattle.ngc_machine_maker.specs.Texts.{axes_text};
@@ -192,6 +192,17 @@ fn add_joint_lines(chunk: &mut Chunk, numbers: &MachineNumbers)
     add_rate(chunk, b"jump", numbers, numbers.jump);
 }
 
+// Returns the remark on the acceleration towards the centre of arcs.
+fn arcs_remark(by_place: bool, acceleration: u128) -> Remark
+    ensures { result ≡ arcs_remark by_place acceleration }
+{
+    if by_place {
+        Remark::ArcsByPlace(acceleration)
+    } else {
+        Remark::Arcs(acceleration)
+    }
+}
+
 #[tactic(auto, unfolding(crate::specs::File::acceleration_lines))]
 fn add_acceleration_lines(chunk: &mut Chunk, numbers: &MachineNumbers)
     requires room { length chunk.old + 700 ≤ CHUNK_SIZE }
@@ -207,12 +218,8 @@ fn add_acceleration_lines(chunk: &mut Chunk, numbers: &MachineNumbers)
         change,
         Remark::Acceleration(acceleration(numbers)),
     );
-    add_line(
-        chunk,
-        b"turn",
-        turn,
-        Remark::Arcs(arc_acceleration(numbers)),
-    );
+    let arcs = arcs_remark(numbers.arc_feed, arc_acceleration(numbers));
+    add_line(chunk, b"turn", turn, arcs);
 }
 
 #[tactic(auto, unfolding(crate::specs::File::ring_lines))]
@@ -235,7 +242,7 @@ fn add_arc_feed_comment(chunk: &mut Chunk)
     ensures short { length chunk.new ≤ length chunk.old + 100 }
 {
     chunk.add_text(
-        b"# `arc_feed`: if arcs run roughly at the machine, try 0. Then they are slower.\n",
+        b"# `arc_feed`: if arcs run roughly, try 0 here and half of `turn`. Then they are slower.\n",
     );
 }
 
@@ -246,7 +253,7 @@ fn add_arc_feed(chunk: &mut Chunk, arc_feed: bool)
 {
     if arc_feed {
         add_arc_feed_comment(chunk);
-        add_line(chunk, b"arc_feed", Value::Number(1), Remark::ArcFeed);
+        add_line(chunk, b"arc_feed", Value::Number(2), Remark::ArcFeed);
     }
 }
 

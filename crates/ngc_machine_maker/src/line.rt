@@ -32,6 +32,8 @@ pub(crate) enum Remark {
     Acceleration(u128),
     /// The greatest acceleration towards the centre of an arc, in millimetres per second squared.
     Arcs(u128),
+    /// The greatest one that is aimed at, where the turn holds at every place.
+    ArcsByPlace(u128),
     Ring,
     ArcFeed,
     /// A place, in nanometres.
@@ -91,10 +93,10 @@ pub(crate) fn add_thousandths(chunk: &mut Chunk, number: u128)
 
 // Adds a number of thousandths and its unit.
 fn add_rounded(chunk: &mut Chunk, number: u128, unit: &[u8])
-    requires room { length chunk.old + 80 ≤ CHUNK_SIZE }
-    requires unit { length unit.now ≤ 30 }
+    requires room { length chunk.old + 110 ≤ CHUNK_SIZE }
+    requires unit { length unit.now ≤ 60 }
     ensures text { chunk.new ≡ chunk.old ++ (thousandths_text number ++ unit.now) }
-    ensures short { length chunk.new ≤ length chunk.old + 80 }
+    ensures short { length chunk.new ≤ length chunk.old + 110 }
 {
     add_thousandths(chunk, number);
     chunk.add_text(unit);
@@ -160,8 +162,13 @@ fn add_remark(chunk: &mut Chunk, remark: &Remark)
         Remark::Speeds(speeds) => add_speeds(chunk, speeds),
         Remark::Acceleration(number) => add_rounded(chunk, *number, b" mm/s^2"),
         Remark::Arcs(number) => add_rounded(chunk, *number, b" mm/s^2 on arcs at most"),
+        Remark::ArcsByPlace(number) => add_rounded(
+            chunk,
+            *number,
+            b" mm/s^2 on arcs, up to twice that while slowing down",
+        ),
         Remark::Ring => chunk.add_text(b"how many commands are loaded and not done at most"),
-        Remark::ArcFeed => chunk.add_text(b"arcs run at their feed at every place"),
+        Remark::ArcFeed => chunk.add_text(b"arcs run at their feed and their turn at every place"),
         Remark::Place(place) => add_coordinates(chunk, place),
     }
 }

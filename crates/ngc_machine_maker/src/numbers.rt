@@ -25,7 +25,7 @@ pub struct MachineNumbers {
     pub axis_rate: PerAxis<u32>,
     pub jump: u32,
     pub ring: u32,
-    /// Whether the file has this key, with the value 1.
+    /// Whether the file has this key, with the value 2.
     pub arc_feed: bool,
     pub low: PerAxis<i64>,
     pub high: PerAxis<i64>,

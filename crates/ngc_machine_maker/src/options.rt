@@ -155,7 +155,7 @@ fn usual_corner(accelerations: &PerAxis<Acceleration>) -> Speed
 }
 
 /// Returns the figures of a machine that starts at zero. It has the usual corner speed, the same
-/// jump, a ring of 256 commands, and arcs that run at their feed at every place.
+/// jump, a ring of 256 commands, and arcs that run at their feed and their turn at every place.
 pub(crate) fn figures_by(
     steps: StepsPerMillimetre,
     travel: PerAxis<Length>,

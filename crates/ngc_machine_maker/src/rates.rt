@@ -4,6 +4,7 @@ ghost use Rattle.ngc_machine_maker.specs.Formulas.{rate_of, change_of, turn_of, 
 ghost use Rattle.ngc_machine_maker.specs.Formulas.{each_rate, fastest, least};
 ghost use Rattle.ngc_machine_maker.specs.Formulas.{chosen_ticks, ticks_of, corner_of, jump_of, jump_speed};
 ghost use Rattle.ngc_machine_maker.specs.Formulas.{limited_change, limited_turn, arcs_of};
+ghost use Rattle.ngc_machine_maker.specs.Formulas.{diagonal_turns};
 ghost use Rattle.ngc_machine_maker.specs.Formulas.{greatest_of, rates_of};
 ghost use Rattle.ngc_machine_maker.specs.Ranges.{IsScale, IsRate, AreRates, IsTurn, AreAllRates};
 ghost use Rattle.ngc_machine_maker.specs.Safe.{IsNoMore, IsNoFaster, IsNoGreaterAcceleration, IsNoHarderOnArcs};
@@ -90,14 +91,25 @@ fn change_of(scale: &Scale, ticks: u32, acceleration: u32) -> u128
     scale.steps_in(amount, u128::from(ticks) * u128::from(ticks))
 }
 
-fn turn_of(scale: &Scale, ticks: u32, acceleration: u32) -> u128
+/// Returns the acceleration towards the centre where an arc runs diagonally, in turns. `by_place`
+/// tells whether the turn holds at every place.
+pub(crate) fn diagonal_turns(by_place: bool) -> u128
+    ensures value { result ≡ diagonal_turns by_place }
+    ensures least { 1 ≤ result }
+    ensures greatest { result ≤ 2 }
+{
+    if by_place { 1 } else { 2 }
+}
+
+fn turn_of(by_place: bool, scale: &Scale, ticks: u32, acceleration: u32) -> u128
     requires scale { IsScale scale.now }
     requires ticks { IsRate ticks }
-    ensures value { result ≡ turn_of scale.now ticks acceleration }
-    ensures safe { IsNoHarderOnArcs scale.now ticks result acceleration }
+    ensures value { result ≡ turn_of by_place scale.now ticks acceleration }
+    ensures safe { IsNoHarderOnArcs by_place scale.now ticks result acceleration }
 {
     let amount = u128::from(acceleration) * 1_000_000_000_000_000;
-    scale.steps_in(amount, 2 * (u128::from(ticks) * u128::from(ticks)))
+    let turns = diagonal_turns(by_place);
+    scale.steps_in(amount, turns * (u128::from(ticks) * u128::from(ticks)))
 }
 
 fn axis_rate(scale: &Scale, ticks: u32, speed: Speed, axis: Axis) -> Result<u32, FigureRefusal>
@@ -185,14 +197,20 @@ fn limited_change(
     Ok(change as u32)
 }
 
-fn limited_turn(scale: &Scale, ticks: u32, acceleration: u32) -> Result<u64, FigureRefusal>
+fn limited_turn(
+    by_place: bool,
+    scale: &Scale,
+    ticks: u32,
+    acceleration: u32,
+) -> Result<u64, FigureRefusal>
     requires scale { IsScale scale.now }
     requires ticks { IsRate ticks }
-    ensures value { result ≡ limited_turn scale.now ticks acceleration }
+    ensures value { result ≡ limited_turn by_place scale.now ticks acceleration }
     ensures range { IfOk result IsTurn }
-    ensures safe { IfOk result (λ turn. IsNoHarderOnArcs scale.now ticks turn acceleration) }
+    ensures safe { IfOk result (λ turn.
+        IsNoHarderOnArcs by_place scale.now ticks turn acceleration) }
 {
-    let turn = turn_of(scale, ticks, acceleration).min(GREATEST_TURN);
+    let turn = turn_of(by_place, scale, ticks, acceleration).min(GREATEST_TURN);
     if turn == 0 {
         return Err(FigureRefusal::LowArcs);
     }
@@ -229,7 +247,7 @@ pub(crate) fn rates_of(scale: &Scale, figures: &Figures) -> Result<Rates, Figure
     let max_rate = greatest_of(&axis_rate);
     let corner = corner_of(scale, ticks, max_rate, figures.corner)?;
     let change = limited_change(scale, ticks, &figures.acceleration)?;
-    let turn = limited_turn(scale, ticks, arcs_of(figures))?;
+    let turn = limited_turn(figures.arc_feed, scale, ticks, arcs_of(figures))?;
     Ok(Rates {
         ticks,
         axis_rate,

@@ -10,6 +10,7 @@ ghost use Rattle.ngc_machine_maker.specs.ShopUnits.{travel_length, errors};
 
 use crate::figures::{Figures, PerAxis};
 use crate::numbers::MachineNumbers;
+use crate::rates::diagonal_turns;
 
 const MOTOR_STEPS: u64 = 1_000_000_000_000;
 
@@ -72,13 +73,14 @@ pub(crate) fn acceleration(numbers: &MachineNumbers) -> u128
     rounded(gain(numbers, u64::from(numbers.change)), 1_000_000_000)
 }
 
-/// Returns the greatest acceleration towards the centre of an arc, in thousandths of a millimetre
-/// per second squared.
+/// Returns the greatest acceleration towards the centre of an arc that is aimed at, in thousandths
+/// of a millimetre per second squared.
 pub(crate) fn arc_acceleration(numbers: &MachineNumbers) -> u128
     requires { AreInFile numbers.now }
     ensures { result ≡ arc_acceleration numbers.now }
 {
-    rounded(2 * gain(numbers, numbers.turn), 1_000_000_000_000_000)
+    let turns = diagonal_turns(numbers.arc_feed);
+    rounded(turns * gain(numbers, numbers.turn), 1_000_000_000_000_000)
 }
 
 /// Returns the motor's step, in thousandths of a nanometre.

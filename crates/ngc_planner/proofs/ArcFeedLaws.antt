@@ -1,7 +1,7 @@
 -- Targets that depend on the place on an arc.
-use Rattle.std.proofs.Common.{◌≡◌, ℕ, ℤ, ◌-ℤ◌, zero, suc, ◌+◌, ◌-◌, ◌*◌, ◌/◌, ◌≤◌, ◌<◌, ◌^◌, ◌==◌, min, max, unsigned_abs, Bool, true, false, cond, inl, inr, arith, refl, ap, sym, subst}
-use Rattle.std.specs.Prelude.{◌&&◌}
-use Rattle.std.proofs.lemmas.Bool.{cases_lt}
+use Rattle.std.proofs.Common.{◌≡◌, ℕ, ℤ, ◌-ℤ◌, zero, suc, ◌+◌, ◌-◌, ◌*◌, ◌/◌, ◌≤◌, ◌<◌, ◌⊎◌, ◌^◌, ◌==◌, min, max, unsigned_abs, Bool, true, false, cond, inl, inr, arith, refl, ap, ap₂, sym, subst, ◌∙◌}
+use Rattle.std.specs.Prelude.{◌&&◌, ◌||◌}
+use Rattle.std.proofs.lemmas.Bool.{cases_lt, true≢false}
 use Rattle.std.proofs.lemmas.Bool.Decides.{nat_tests}
 use Rattle.std.proofs.lemmas.Int.{ints}
 use Rattle.std.proofs.lemmas.Nat.{mul-le}
@@ -14,8 +14,8 @@ use Rattle.ngc_fixed_length.specs.declared.modes.Plane.{Plane}
 use Rattle.ngc_fixed_length.specs.declared.modes.Plane.TheVariants.{XY, ZX, YZ}
 use Rattle.ngc_fixed_length.specs.declared.points.Point3.{Point3}
 use Rattle.ngc_fixed_length.specs.declared.points.StepPos.{StepPos}
-use Rattle.ngc_fixed_length.proofs.RootLaws.{at_most, whole_root_above-least}
-use Rattle.ngc_arc_geometry.specs.Radii.{IsArc, outer_radius, hi}
+use Rattle.ngc_fixed_length.proofs.RootLaws.{at_most, whole_root-greatest, whole_root_above-least}
+use Rattle.ngc_arc_geometry.specs.Radii.{IsArc, inner_radius, outer_radius, lo, hi}
 use Rattle.ngc_arc_geometry.specs.Shape.{ArcShape, IsNear}
 use Rattle.ngc_machine_files.specs.Machine.{MachineFile}
 use Rattle.ngc_machine_files.specs.MachineRanges.{IsMachine}
@@ -29,11 +29,12 @@ use Rattle.ngc_commands.specs.declared.movement.Way.{Way}
 use Rattle.ngc_commands.specs.declared.movement.Way.TheVariants.{Line, Arc}
 use Rattle.ngc_planner.specs.Headings.{is_level}
 use Rattle.ngc_planner.specs.Caps.{STEPS_LIMIT, cap_of}
-use Rattle.ngc_planner.specs.Bounds.{IsMotion, aimed_at}
-use Rattle.ngc_planner.proofs.BoundLaws.{target_some, step_within}
+use Rattle.ngc_planner.specs.Bounds.{IsMotion, turn_rate, is_turn_by_place, diagonal_rate, steady_turn_on, steady_turn, aimed_at}
+use Rattle.ngc_planner.proofs.BoundLaws.{target_some, step_within, turn_kept}
 use Rattle.ngc_planner.specs.ArcFeed.{axis_distance, place_cap, rise, sloped_length, sloped_cap, feed_cap_at, arc_cap_at, way_cap_at, cap_at, target_on}
+use Rattle.ngc_planner.specs.ArcFeed.{is_feed_by_place, place_turn, turn_radius, arc_turn_at, way_turn_at, turn_at}
 use Rattle.ngc_planner.specs.ArcFeed.{is_minute_feed, has_minute_feed, is_arc, is_by_place}
-use Rattle.ngc_planner.specs.ArcFeed.{PlacesKeepFeed, KeepsSlopedFeed, ArcsKeepFeed, IsNoLessByPlace, IsSameElsewhere}
+use Rattle.ngc_planner.specs.ArcFeed.{PlacesKeepFeed, KeepsSlopedFeed, ArcsKeepFeed, KeepsTurn, ArcsKeepTurn, IsNoLessByPlace, IsSameElsewhere}
 
 -- ---- the feed
 
@@ -214,17 +215,116 @@ arcs_keep_feed machine a n f v p ranges is few low =
     (far_height (height a.plane a.start) (height a.plane a.end) (near_height a.plane a.start is.start) (near_height a.plane a.end is.end))
     (level_rise (height a.plane a.start) (height a.plane a.end)) low
 
+-- ---- the turn
+
+-- r is the radius for the greatest rate, and `out` is at most the radius
+turn_of_place : (turn step r radius out rate v : ℕ) → 1 ≤ radius → r ≤ radius → rate * rate * step ≤ turn * r → v * radius ≤ rate * out →
+    v * v * step * radius ≤ turn * (out * out)
+turn_of_place turn step r radius out rate v some less bound low =
+    let a = mul-le (v * radius) (v * radius) (rate * out) (rate * out) low low in
+    let b = mul-le (v * radius * (v * radius)) step (rate * out * (rate * out)) step a (omega arith) in
+    let c = mul-le (rate * rate * step) (out * out) (turn * r) (out * out) bound (omega arith) in
+    let d = mul-le r (turn * (out * out)) radius (turn * (out * out)) less (omega arith) in
+    cancel (v * v * step * radius) (turn * (out * out)) radius some (omega (arith, b, c, d))
+
+turn_of_diagonal : (turn step r radius rate v : ℕ) → r ≤ radius → rate * rate * step ≤ turn * r → v * 1415 ≤ rate * 1000 →
+    2 * (v * v * step) ≤ turn * radius
+turn_of_diagonal turn step r radius rate v less bound low =
+    let a = mul-le (v * 1415) (v * 1415) (rate * 1000) (rate * 1000) low low in
+    let b = mul-le (v * 1415 * (v * 1415)) step (rate * 1000 * (rate * 1000)) step a (omega arith) in
+    let c = mul-le r turn radius turn less (omega arith) in
+    omega (arith, bound, b, c)
+
+below_diagonal : (v rate : ℕ) → 2 ≤ v → v ≤ diagonal_rate rate → v * 1415 ≤ rate * 1000
+below_diagonal v rate some low = omega (arith, some, low)
+
+below_place : (v rate out radius : ℕ) → v ≤ rate * out / radius → v * radius ≤ rate * out
+below_place v rate out radius low =
+    let a = mul-le v radius (rate * out / radius) radius low (omega arith) in
+    let b = div-mul-le_self (rate * out) radius in
+    omega (arith, a, b)
+
+keeps_at_place : (turn step r radius m rate v : ℕ) → 1 ≤ radius → r ≤ radius → rate * rate * step ≤ turn * r → v ≤ place_turn rate step radius m →
+    KeepsTurn turn step radius m v
+keeps_at_place turn step r radius m rate v some less bound low =
+    let out = min (m - step) radius in
+    let far = m - step in
+    let turned = turn_of_place turn step r radius out rate v some less bound (below_place v rate out radius low) in
+    let outs = mul-le out out far far (omega arith) (omega arith) in
+    let a = mul-le (out * out) turn (far * far) turn outs (omega arith) in
+    let most = mul-le (2 * (far * far)) turn (max (2 * (far * far)) (radius * radius)) turn (omega arith) (omega arith) in
+    let fars = mul-le far far m m (omega arith) (omega arith) in
+    let b = mul-le (far * far) turn (m * m) turn fars (omega arith) in
+    record { at_place = omega (arith, turned, a, most); on_circle = λ h. omega (arith, turned, a, b) }
+
+keeps_at_diagonal : (turn step r radius m rate v : ℕ) → r ≤ radius → rate * rate * step ≤ turn * r → v * 1415 ≤ rate * 1000 →
+    KeepsTurn turn step radius m v
+keeps_at_diagonal turn step r radius m rate v less bound low =
+    let far = m - step in
+    let turned = turn_of_diagonal turn step r radius rate v less bound low in
+    let a = mul-le (2 * (v * v * step)) radius (turn * radius) radius turned (omega arith) in
+    let most = mul-le (radius * radius) turn (max (2 * (far * far)) (radius * radius)) turn (omega arith) (omega arith) in
+    record {
+      at_place = omega (arith, a, most);
+      on_circle = λ h. (let b = mul-le (radius * radius) turn (2 * (m * m)) turn h (omega arith) in omega (arith, a, b));
+    }
+
+either : (v x y : ℕ) → v ≤ max x y → (v ≤ x) ⊎ (v ≤ y)
+either v x y h = elim (cases_lt x v) [ inl more ↦ inr (omega arith) | inr less ↦ inl less ]
+
+keeps_turn : (turn step r radius m rate v : ℕ) → 1 ≤ radius → r ≤ radius → rate * rate * step ≤ turn * r → 2 ≤ v →
+    v ≤ max (diagonal_rate rate) (place_turn rate step radius m) → KeepsTurn turn step radius m v
+keeps_turn turn step r radius m rate v some less bound two low =
+    elim (either v (diagonal_rate rate) (place_turn rate step radius m) low) [
+      | inl diagonal ↦ keeps_at_diagonal turn step r radius m rate v less bound (below_diagonal v rate two diagonal)
+      | inr place ↦ keeps_at_place turn step r radius m rate v some less bound place
+    ]
+
+inner_within : (a : ArcShape) → IsArc a → inner_radius a ≤ outer_radius a
+inner_within a is =
+    let inner = whole_root-greatest (lo a) (omega (arith, is.radius)) in
+    let outer = whole_root_above-least (hi a) (omega (arith, is.radius)) in
+    at_most (hi a) (inner_radius a) (outer_radius a) (omega (arith, inner.square)) (omega (arith, outer.square))
+
+pub arcs_keep_turn : ArcsKeepTurn
+arcs_keep_turn machine motion a n percent p v ranges is way by_place two low =
+    let step = unsigned_abs machine.step in
+    let some = step_within machine ranges in
+    let here : way_turn_at machine motion.way p ≡ arc_turn_at machine a p =
+    ap (λ w. way_turn_at machine w p) way
+    ∙ ap (λ f. cond (is_turn_by_place f) (arc_turn_at machine a p) (turn_rate machine (Arc a))) by_place in
+    let most : v ≤ way_turn_at machine motion.way p = omega (arith, low) in
+    let within = inner_within a is in
+    keeps_turn machine.turn step (max (inner_radius a) step) (turn_radius machine a) (axis_distance machine.step a p) (turn_rate machine (Arc a)) v
+    (omega (arith, some.0)) (omega (arith, within)) (turn_kept machine a ranges) two (omega (arith, most, here))
+
 -- ---- no less
 
 more_by : (none : Bool) (cap more percent : ℕ) → cap ≤ more → cond none 0 (max 1 (cap * percent / 100)) ≤ cond none 0 (max 1 (more * percent / 100))
 more_by true cap more percent h = omega arith
 more_by false cap more percent h = let p = mul-le cap percent more percent h (omega arith) in omega (arith, p)
 
-aimed_more : (m : MachineFile) (a : Action) (cap more percent : ℕ) → cap ≤ more → aimed_at m a cap percent ≤ aimed_at m a more percent
-aimed_more m a cap more percent h = let p = more_by (percent == 0) cap more percent h in omega (arith, p)
+aimed_more : (m : MachineFile) (a : Action) (cap more turn wide percent : ℕ) → cap ≤ more → turn ≤ wide →
+    aimed_at m a cap turn percent ≤ aimed_at m a more wide percent
+aimed_more m a cap more turn wide percent h k = let p = more_by (percent == 0) cap more percent h in omega (arith, p, k)
+
+wider_by : (by_place : Bool) (diagonal place rate : ℕ) → cond by_place diagonal rate ≤ cond by_place (max diagonal place) rate
+wider_by true diagonal place rate = omega arith
+wider_by false diagonal place rate = omega arith
+
+wider_on : (m : MachineFile) (w : Way) (p : StepPos) → steady_turn_on m w ≤ way_turn_at m w p
+wider_on m (Line b e) p = omega arith
+wider_on m (Arc a) p =
+    wider_by (is_turn_by_place m.arc_feed) (diagonal_rate (turn_rate m (Arc a)))
+    (place_turn (turn_rate m (Arc a)) (unsigned_abs m.step) (turn_radius m a) (axis_distance m.step a p)) (turn_rate m (Arc a))
+
+wider : (m : MachineFile) (a : Action) (p : StepPos) → steady_turn m a ≤ turn_at m a p
+wider m (Move motion) p = wider_on m motion.way p
+wider m _ p = omega arith
 
 pub no_less_by_place : IsNoLessByPlace
-no_less_by_place m a n percent p = aimed_more m a (cap_of a n m) (max (cap_of a n m) (cap_at m a n p)) percent (omega arith)
+no_less_by_place m a n percent p =
+    aimed_more m a (cap_of a n m) (max (cap_of a n m) (cap_at m a n p)) (steady_turn m a) (turn_at m a p) percent (omega arith) (wider m a p)
 
 -- a target is at least 1 on a motion at each place, unless the override is 0
 pub target_on_some : (a : Action) (n percent : ℕ) (p : StepPos) (m : MachineFile) → IsMachine m → IsMotion a → 1 ≤ percent →
@@ -244,23 +344,45 @@ none_on_arc : (m : MachineFile) (a : ArcShape) (n : ℕ) (pace : Pace) (p : Step
 none_on_arc m a n paces.Rapid p h = refl
 none_on_arc m a n (paces.Feed f) p h = none_at_feed m a n f p h
 
-none_on_way : (m : MachineFile) (w : Way) (n : ℕ) (pace : Pace) (p : StepPos) → (is_arc w && has_minute_feed pace) ≡ false → way_cap_at m w n pace p ≡ 0
-none_on_way m (Line b e) n pace p h = refl
-none_on_way m (Arc a) n pace p h = none_on_arc m a n pace p h
-
 none_by : (on both : Bool) (cap : ℕ) → (on && both) ≡ false → (both ≡ false → cap ≡ 0) → cond on cap 0 ≡ 0
 none_by true true cap h none = cc
 none_by true false cap h none = none refl
 none_by false both cap h none = refl
 
+none_anywhere : (on : Bool) → ◌≡◌ {A = ℕ} (cond on 0 0) 0
+none_anywhere true = refl
+none_anywhere false = refl
+
+or_false : (x y : Bool) → (x || y) ≡ false → (x ≡ false) × (y ≡ false)
+or_false true y h = absurd (true≢false h)
+or_false false y h = (refl, h)
+
+none_on_way : (m : MachineFile) (w : Way) (n : ℕ) (pace : Pace) (p : StepPos) →
+    (is_arc w && (is_turn_by_place m.arc_feed || (is_feed_by_place m.arc_feed && has_minute_feed pace))) ≡ false →
+    cond (is_feed_by_place m.arc_feed) (way_cap_at m w n pace p) 0 ≡ 0
+none_on_way m (Line b e) n pace p h = none_anywhere (is_feed_by_place m.arc_feed)
+none_on_way m (Arc a) n pace p h =
+    let parts = or_false (is_turn_by_place m.arc_feed) (is_feed_by_place m.arc_feed && has_minute_feed pace) h in
+    none_by (is_feed_by_place m.arc_feed) (has_minute_feed pace) (arc_cap_at m a n pace p) parts.1 (none_on_arc m a n pace p)
+
 none_at : (m : MachineFile) (a : Action) (n : ℕ) (p : StepPos) → is_by_place m a ≡ false → cap_at m a n p ≡ 0
-none_at m (Move motion) n p h =
-    none_by m.arc_feed (is_arc motion.way && has_minute_feed motion.pace) (way_cap_at m motion.way n motion.pace p) h
-    (none_on_way m motion.way n motion.pace p)
+none_at m (Move motion) n p h = none_on_way m motion.way n motion.pace p h
 none_at m _ n p h = refl
+
+same_turn_on : (m : MachineFile) (w : Way) (other : Bool) (p : StepPos) → (is_arc w && (is_turn_by_place m.arc_feed || other)) ≡ false →
+    way_turn_at m w p ≡ steady_turn_on m w
+same_turn_on m (Line b e) other p h = refl
+same_turn_on m (Arc a) other p h =
+    let parts = or_false (is_turn_by_place m.arc_feed) other h in
+    let rate = turn_rate m (Arc a) in
+    ap (λ b. cond b (arc_turn_at m a p) rate) parts.0 ∙ sym (ap (λ b. cond b (diagonal_rate rate) rate) parts.0)
+
+same_turn : (m : MachineFile) (a : Action) (p : StepPos) → is_by_place m a ≡ false → turn_at m a p ≡ steady_turn m a
+same_turn m (Move motion) p h = same_turn_on m motion.way (is_feed_by_place m.arc_feed && has_minute_feed motion.pace) p h
+same_turn m _ p h = refl
 
 pub same_elsewhere : IsSameElsewhere
 same_elsewhere m a n percent p h =
     let none = none_at m a n p h in
     let same : max (cap_of a n m) (cap_at m a n p) ≡ cap_of a n m = omega (arith, none) in
-    ap (λ cap. aimed_at m a cap percent) same
+    ap₂ (λ cap turn. aimed_at m a cap turn percent) same (same_turn m a p h)

@@ -8,6 +8,7 @@ use Rattle.ngc_fixed_length.specs.declared.modes.Turn.TheVariants.{Clockwise, Co
 use Rattle.ngc_fixed_length.specs.declared.points.Point3.{Point3}
 use Rattle.ngc_arc_geometry.specs.Shape.{ArcShape}
 use Rattle.ngc_machine_files.specs.Machine.{MachineFile, built_in_machine}
+use Rattle.ngc_machine_files.specs.declared.machine.ArcFeed.TheVariants as arc_feeds
 use Rattle.ngc_commands.specs.declared.command.Action.{Action}
 use Rattle.ngc_commands.specs.declared.command.Action.TheVariants.{Move}
 use Rattle.ngc_commands.specs.declared.movement.Feed.{Feed}
@@ -16,10 +17,10 @@ use Rattle.ngc_commands.specs.declared.movement.Pace.TheVariants as paces
 use Rattle.ngc_commands.specs.declared.movement.Way.{Way}
 use Rattle.ngc_commands.specs.declared.movement.Way.TheVariants as ways
 use Rattle.ngc_fixed_length.specs.declared.points.StepPos.{StepPos}
-use Rattle.ngc_planner.specs.ArcFeed.{axis_distance, target_on}
+use Rattle.ngc_planner.specs.ArcFeed.{axis_distance, place_turn, target_on}
 use Rattle.ngc_planner.specs.Braking.{braking, braking_terms}
 use Rattle.ngc_planner.specs.Caps.{cap_of}
-use Rattle.ngc_planner.specs.Bounds.{turn_rate, bound_of, target_at, least_travel}
+use Rattle.ngc_planner.specs.Bounds.{turn_rate, diagonal_rate, bound_of, target_at, least_travel}
 use Rattle.ngc_planner.specs.Joints.{joint_of}
 use Rattle.ngc_planner.specs.Reach.{reach, free}
 use Rattle.ngc_planner.specs.Room.{can_brake}
@@ -269,7 +270,7 @@ joint_plain_onward = refl
 
 -- the built-in machine with arcs at their feed
 abbrev at_feed : MachineFile
-at_feed = record built_in_machine { arc_feed = true }
+at_feed = record built_in_machine { arc_feed = arc_feeds.Feed }
 
 -- a circle of radius 5 mm about zero
 abbrev round : ArcShape
@@ -361,3 +362,62 @@ out_zx = refl
 
 out_yz : axis_distance (pos 10000) (record round { plane = YZ; centre = record { u = pos 1000000; v = pos 0 } }) (step_at (pos 700) (negsuc 299) (pos 200)) ≡ 4000000
 out_yz = refl
+
+-- ---- arcs at their turn
+
+-- the built-in machine with a turn that allows 100,000 on the circle: its square times a step of
+-- 0.01 mm is 20,000,000 times the radius of 5 mm
+abbrev at_turn : MachineFile
+at_turn = record built_in_machine { turn = 20000000; arc_feed = arc_feeds.FeedAndTurn }
+
+-- 1,200 mm per minute are 200,000 along an axis, more than the turn allows. Where the circle crosses
+-- the x axis the target is 499 of 500 steps of what the turn allows
+turn_on_axis : target_on at_turn (along round (PerMinute 1200000000)) 2828 100 (step_at (pos 500) (pos 0) (pos 0)) ≡ 99800
+unfolding whole_root whole_root_above
+turn_on_axis = refl
+
+turn_at_thirty : target_on at_turn (along round (PerMinute 1200000000)) 2828 100 (step_at (negsuc 432) (pos 250) (pos 0)) ≡ 86400
+unfolding whole_root whole_root_above
+turn_at_thirty = refl
+
+-- 353 of 500 steps are 70,600, and without a place it is 100,000 / 1.415
+turn_diagonal : target_on at_turn (along round (PerMinute 1200000000)) 2828 100 (step_at (pos 354) (negsuc 353) (pos 0)) ≡ 70671
+unfolding whole_root whole_root_above
+turn_diagonal = refl
+
+turn_without : target_at at_turn (along round (PerMinute 1200000000)) 2828 100 ≡ 70671
+unfolding whole_root
+turn_without = refl
+
+-- no bound of a tick depends on the place
+turn_bound_stays : bound_of at_turn (along round (PerMinute 1200000000)) 2828 ≡ 100000
+unfolding whole_root
+turn_bound_stays = refl
+
+-- a hundred times per minute over 2,828 path steps are 471,333
+turn_inverse : target_on at_turn (along round (Inverse 100000000)) 2828 100 (step_at (pos 500) (pos 0) (pos 0)) ≡ 99800
+unfolding whole_root whole_root_above
+turn_inverse = refl
+
+-- a feed that needs less than the turn allows
+turn_not_needed : target_on at_turn (along round (PerMinute 600000000)) 2828 50 (step_at (pos 500) (pos 0) (pos 0)) ≡ 49900
+unfolding whole_root whole_root_above
+turn_not_needed = refl
+
+-- with arcs at their feed alone, the turn allows 100,000 at each place
+turn_everywhere : target_on (record at_turn { arc_feed = arc_feeds.Feed }) (along round (PerMinute 1200000000)) 2828 100 (step_at (pos 354) (negsuc 353) (pos 0)) ≡ 100000
+unfolding whole_root whole_root_above
+turn_everywhere = refl
+
+-- a radius of 2.5 mm and steps of 0.0025 mm
+turn_of_a_small_circle : place_turn 223606 2500 2500000 2500000 ≡ 223382
+turn_of_a_small_circle = refl
+
+turn_off_its_axes : place_turn 223606 2500 2500000 1770000 ≡ 158089
+turn_off_its_axes = refl
+
+turn_of_its_diagonal : diagonal_rate 223606 ≡ 158025
+turn_of_its_diagonal = refl
+
+least_turn : diagonal_rate 1 ≡ 1
+least_turn = refl

@@ -41,5 +41,7 @@ pub mod RampLaws
 pub mod ReachLaws
 -- Distance to brake: for a rate that is free, for more legs, and after a tick.
 pub mod RoomLaws
+-- Ticks that are computed at once: a ramp that speeds up, goes on or slows down.
+pub mod StretchLaws
 -- The meaning of a ramp's fields after a load and after a tick.
 pub mod StateLaws

@@ -1,7 +1,7 @@
--- Arcs at their feed: a target that depends on the place. Our own; the meaning of F is that of
--- NISTIR 6556, 2.1.2.5.
+-- Arcs at their feed and their turn: a target that depends on the place. Our own; the meaning of F
+-- is that of NISTIR 6556, 2.1.2.5.
 use Rattle.std.specs.Prelude.{◌≡◌, ℕ, ◌+◌, ◌-◌, ◌*◌, ◌/◌, ◌≤◌, min, max, ℤ, unsigned_abs, Bool, true}
-use Rattle.std.specs.Prelude.{false, ◌&&◌, if◌then◌else◌}
+use Rattle.std.specs.Prelude.{false, ◌&&◌, ◌||◌, if◌then◌else◌}
 use Rattle.ngc_fixed_length.specs.Grid.{distance}
 use Rattle.ngc_fixed_length.specs.Limits.{MILLION}
 use Rattle.ngc_fixed_length.specs.Places.{height}
@@ -12,15 +12,19 @@ use Rattle.ngc_arc_geometry.specs.Radii.{IsArc, outer_radius}
 use Rattle.ngc_arc_geometry.specs.Shape.{ArcShape}
 use Rattle.ngc_machine_files.specs.Machine.{MachineFile}
 use Rattle.ngc_machine_files.specs.MachineRanges.{IsMachine}
+use Rattle.ngc_machine_files.specs.declared.machine.ArcFeed.{ArcFeed}
+use Rattle.ngc_machine_files.specs.declared.machine.ArcFeed.TheVariants as arc_feeds
 use Rattle.ngc_commands.specs.declared.command.Action.{Action}
 use Rattle.ngc_commands.specs.declared.command.Action.TheVariants.{Move}
 use Rattle.ngc_commands.specs.declared.movement.Feed.{Feed}
 use Rattle.ngc_commands.specs.declared.movement.Feed.TheVariants.{PerMinute, Inverse}
+use Rattle.ngc_commands.specs.declared.movement.Motion.{Motion}
 use Rattle.ngc_commands.specs.declared.movement.Pace.{Pace}
 use Rattle.ngc_commands.specs.declared.movement.Pace.TheVariants as paces
 use Rattle.ngc_commands.specs.declared.movement.Way.{Way}
 use Rattle.ngc_commands.specs.declared.movement.Way.TheVariants.{Line, Arc}
-use Rattle.ngc_planner.specs.Bounds.{aimed_at, target_at}
+use Rattle.ngc_planner.specs.Bounds.{turn_rate, is_turn_by_place, diagonal_rate, aimed_at}
+use Rattle.ngc_planner.specs.Bounds.{target_at}
 use Rattle.ngc_planner.specs.Caps.{STEPS_LIMIT, square, cap_of}
 use Rattle.ngc_planner.specs.Headings.{is_level}
 
@@ -80,16 +84,49 @@ abbrev pub way_cap_at : MachineFile → Way → ℕ → Pace → StepPos → ℕ
 way_cap_at m (Line b e) n pace p = 0
 way_cap_at m (Arc a) n pace p = arc_cap_at m a n pace p
 
+abbrev pub is_feed_by_place : ArcFeed → Bool
+is_feed_by_place arc_feeds.Off = false
+is_feed_by_place arc_feeds.Feed = true
+is_feed_by_place arc_feeds.FeedAndTurn = true
+
 -- if the machine runs arcs at their feed
 abbrev pub cap_at : MachineFile → Action → ℕ → StepPos → ℕ
-cap_at m (Move motion) n p = if m.arc_feed then way_cap_at m motion.way n motion.pace p else 0
+cap_at m (Move motion) n p =
+    if is_feed_by_place m.arc_feed then way_cap_at m motion.way n motion.pace p else 0
 cap_at m _ n p = 0
+
+-- Of the greatest rate on an arc, what its turn allows at a place m nanometres from the centre.
+-- A path step is as long there as for the cap.
+abbrev pub place_turn : ℕ → ℕ → ℕ → ℕ → ℕ
+place_turn rate step radius m = rate * min (m - step) radius / radius
+
+-- the radius of an arc for its turn
+abbrev pub turn_radius : MachineFile → ArcShape → ℕ
+turn_radius m a = max (outer_radius a) (unsigned_abs m.step)
+
+-- the greatest target that the turn allows at a place of an arc: no place has less than the arc
+-- where it runs diagonally
+abbrev pub arc_turn_at : MachineFile → ArcShape → StepPos → ℕ
+arc_turn_at m a p =
+    let rate = turn_rate m (Arc a) in
+    max (diagonal_rate rate)
+    (place_turn rate (unsigned_abs m.step) (turn_radius m a) (axis_distance m.step a p))
+
+abbrev pub way_turn_at : MachineFile → Way → StepPos → ℕ
+way_turn_at m (Line b e) p = MILLION
+way_turn_at m (Arc a) p =
+    if is_turn_by_place m.arc_feed then arc_turn_at m a p else turn_rate m (Arc a)
+
+abbrev pub turn_at : MachineFile → Action → StepPos → ℕ
+turn_at m (Move motion) p = way_turn_at m motion.way p
+turn_at m _ p = MILLION
 
 -- the target rate of a tick of a motion of n path steps at a place: from the greater of its two
 -- caps, so that no place has less than `target_at`
 abbrev pub target_on : MachineFile → Action → ℕ → ℕ → StepPos → ℕ
 target_on machine action n percent p =
-    aimed_at machine action (max (cap_of action n machine) (cap_at machine action n p)) percent
+    aimed_at machine action (max (cap_of action n machine) (cap_at machine action n p))
+    (turn_at machine action p) percent
 
 -- ---- whether it depends on the place
 
@@ -105,9 +142,12 @@ abbrev pub is_arc : Way → Bool
 is_arc (Line b e) = false
 is_arc (Arc a) = true
 
+-- the feed of an arc in units per minute, or the turn of any arc
 abbrev pub is_by_place : MachineFile → Action → Bool
 is_by_place m (Move motion) =
-    m.arc_feed && (is_arc motion.way && has_minute_feed motion.pace)
+    is_arc motion.way
+    && (is_turn_by_place m.arc_feed
+    || (is_feed_by_place m.arc_feed && has_minute_feed motion.pace))
 is_by_place m _ = false
 
 -- ---- properties of every place
@@ -141,6 +181,26 @@ ArcsKeepFeed =
     v ≤ feed_cap_at machine a n (PerMinute f) p →
     KeepsSlopedFeed machine.ticks_per_second (unsigned_abs machine.step) (outer_radius a) n
     (rise a) (axis_distance machine.step a p) f v
+
+-- The turn at a rate v, m nanometres from the centre. At a point of the circle that is m from the
+-- centre along one axis, path steps are step * radius / m nanometres long. So the square of
+-- v * step * radius / m, over the radius, is at most turn * step. One step is subtracted from m, as
+-- for the feed, but no m counts as less than where the circle runs diagonally: there the square of
+-- m is half of that of the radius, and on the circle m is never less.
+pub record KeepsTurn (turn step radius m v : ℕ) : Type 0 where
+  pub at_place :
+      2 * (v * v * step * radius) ≤ turn * max (2 * square (m - step)) (square radius)
+  pub on_circle : square radius ≤ 2 * square m → v * v * step * radius ≤ turn * square m
+
+-- a target above 1 on an arc, if the machine's turn holds at each place
+abbrev pub ArcsKeepTurn : Type 0
+ArcsKeepTurn =
+    (machine : MachineFile) (motion : Motion) (a : ArcShape) (n percent : ℕ) (p : StepPos)
+    (v : ℕ) → IsMachine machine → IsArc a → motion.way ≡ Arc a →
+    machine.arc_feed ≡ arc_feeds.FeedAndTurn → 2 ≤ v →
+    v ≤ target_on machine (Move motion) n percent p →
+    KeepsTurn machine.turn (unsigned_abs machine.step) (turn_radius machine a)
+    (axis_distance machine.step a p) v
 
 -- the target at a place is at least the target without a place
 abbrev pub IsNoLessByPlace : Type 0

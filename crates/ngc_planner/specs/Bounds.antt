@@ -1,11 +1,13 @@
 -- The allowed rates of a tick on a motion, and its target rate. Our own.
 use Rattle.std.specs.Prelude.{◌≡◌, ℕ, ◌*◌, ◌/◌, ◌≤◌, ◌↔◌, min, max, ◌==◌, unsigned_abs}
-use Rattle.std.specs.Prelude.{List, if◌then◌else◌}
+use Rattle.std.specs.Prelude.{List, Bool, true, false, if◌then◌else◌}
 use Rattle.ngc_fixed_length.specs.Roots.{whole_root}
 use Rattle.ngc_arc_geometry.specs.Radii.{inner_radius}
 use Rattle.ngc_arc_geometry.specs.Shape.{ArcShape}
 use Rattle.ngc_machine_files.specs.Machine.{MachineFile}
 use Rattle.ngc_machine_files.specs.MachineRanges.{IsMachine}
+use Rattle.ngc_machine_files.specs.declared.machine.ArcFeed.{ArcFeed}
+use Rattle.ngc_machine_files.specs.declared.machine.ArcFeed.TheVariants as arc_feeds
 use Rattle.ngc_commands.specs.declared.command.Action.{Action}
 use Rattle.ngc_commands.specs.declared.command.Action.TheVariants.{Move}
 use Rattle.ngc_commands.specs.declared.command.Command.{Command}
@@ -58,14 +60,37 @@ bound_of machine action n = min (min (greatest_rate machine action) (2 * cap_of 
 abbrev pub overridden : ℕ → ℕ → ℕ
 overridden cap percent = if percent == 0 then 0 else max 1 (cap * percent / 100)
 
--- the target rate of a tick of a motion, from a cap
-abbrev pub aimed_at : MachineFile → Action → ℕ → ℕ → ℕ
-aimed_at machine action cap percent =
-    min (min (overridden cap percent) (greatest_rate machine action)) (turn_bound machine action)
+-- the target rate of a tick of a motion, from a cap and the greatest rate that its turn allows
+abbrev pub aimed_at : MachineFile → Action → ℕ → ℕ → ℕ → ℕ
+aimed_at machine action cap turn percent =
+    min (min (overridden cap percent) (greatest_rate machine action)) turn
+
+-- the machine's turn holds at each place of an arc, and not only where it runs along an axis
+abbrev pub is_turn_by_place : ArcFeed → Bool
+is_turn_by_place arc_feeds.Off = false
+is_turn_by_place arc_feeds.Feed = false
+is_turn_by_place arc_feeds.FeedAndTurn = true
+
+-- Of the greatest rate on an arc, what its turn allows where the arc runs diagonally: a path step is
+-- a little less than 1.415 steps long there. It is raised to 1 if it is 0.
+abbrev pub diagonal_rate : ℕ → ℕ
+diagonal_rate rate = max 1 (rate * 1000 / 1415)
+
+-- the greatest target that the turn allows at every place of a motion
+abbrev pub steady_turn_on : MachineFile → Way → ℕ
+steady_turn_on machine (Line b e) = MILLION
+steady_turn_on machine (Arc a) =
+    if is_turn_by_place machine.arc_feed
+    then diagonal_rate (turn_rate machine (Arc a)) else turn_rate machine (Arc a)
+
+abbrev pub steady_turn : MachineFile → Action → ℕ
+steady_turn machine (Move m) = steady_turn_on machine m.way
+steady_turn machine _ = MILLION
 
 -- from the cap of a motion of n path steps
 abbrev pub target_at : MachineFile → Action → ℕ → ℕ → ℕ
-target_at machine action n percent = aimed_at machine action (cap_of action n machine) percent
+target_at machine action n percent =
+    aimed_at machine action (cap_of action n machine) (steady_turn machine action) percent
 
 -- the least rate of each tick of a motion of n path steps, if its end allows it
 abbrev pub least_travel : MachineFile → Action → ℕ → ℕ

@@ -13,6 +13,7 @@ pub mod Leg
 pub mod Reach
 pub mod Room
 pub mod Ramp
+pub mod Stretches
 pub mod Outlook
 pub mod Queue
 pub mod Legs

@@ -8,17 +8,19 @@ ghost use Rattle.ngc_commands.specs.declared.movement.Way.TheVariants as ways;
 ghost use Rattle.ngc_planner.specs.ArcFeed.{axis_distance, place_cap, rise, sloped_length};
 ghost use Rattle.ngc_planner.specs.ArcFeed.{length_along, helix_length, sloped_cap, feed_cap_at};
 ghost use Rattle.ngc_planner.specs.ArcFeed.{arc_cap_at, way_cap_at, cap_at, target_on};
+ghost use Rattle.ngc_planner.specs.ArcFeed.{is_feed_by_place, place_turn, turn_radius, arc_turn_at};
+ghost use Rattle.ngc_planner.specs.ArcFeed.{way_turn_at, turn_at};
 ghost use Rattle.ngc_planner.specs.ArcFeed.{is_minute_feed, has_minute_feed, is_arc, is_by_place};
-ghost use Rattle.ngc_planner.specs.Bounds.{IsMotion};
+ghost use Rattle.ngc_planner.specs.Bounds.{IsMotion, turn_rate};
 ghost use Rattle.ngc_planner.specs.Caps.{STEPS_LIMIT};
 
-use crate::bounds::aimed_at;
+use crate::bounds::{aimed_at, diagonal_rate, is_turn_by_place, turn_rate};
 use crate::caps::{cap_of, squared_distance};
 use crate::headings::is_level;
 use ngc_arc_geometry::Arc;
 use ngc_commands::{Action, Feed, Pace, Way};
 use ngc_fixed_length::{Nm, Plane, StepPos, nanometres_at, root_ceil};
-use ngc_machine_files::Machine;
+use ngc_machine_files::{ArcFeed, Machine};
 use std::alloc::Allocator;
 
 /// Returns the distance from a coordinate to a number of steps, in nanometres.
@@ -197,6 +199,15 @@ fn way_cap_at<A: Allocator>(
     }
 }
 
+fn is_feed_by_place(arc_feed: &ArcFeed) -> bool
+    ensures { result ≡ is_feed_by_place arc_feed.now }
+{
+    match arc_feed {
+        ArcFeed::Off => false,
+        ArcFeed::Feed | ArcFeed::FeedAndTurn => true,
+    }
+}
+
 /// Returns the cap of an action of `n` path steps at a place, or 0 if it doesn't depend on the
 /// place.
 fn cap_at<A: Allocator>(
@@ -213,7 +224,7 @@ fn cap_at<A: Allocator>(
 {
     match action {
         Action::Move(motion) => {
-            if machine.arc_feed {
+            if is_feed_by_place(&machine.arc_feed) {
                 way_cap_at(&motion.way, n, length, &motion.pace, position, machine)
             } else {
                 0
@@ -223,10 +234,59 @@ fn cap_at<A: Allocator>(
     }
 }
 
+/// Returns the part of the greatest rate on an arc of a radius that its turn allows at a place. The
+/// place is `axis_distance` nanometres from the centre along one axis.
+fn place_turn(rate: u64, step: u64, radius: u64, axis_distance: u64) -> u64
+    requires { 1 ≤ radius }
+    ensures { result ≡ place_turn rate step radius axis_distance }
+{
+    let inside = axis_distance.saturating_sub(step).min(radius);
+    (u128::from(rate) * u128::from(inside) / u128::from(radius)) as u64
+}
+
+/// Returns the greatest target that the turn allows at a place of an arc. `rate` is the greatest
+/// rate on the arc.
+fn arc_turn_at<A: Allocator>(arc: &Arc, rate: u64, position: &StepPos, machine: &Machine<A>) -> u64
+    requires { rate ≡ turn_rate (file_of machine.now) (ways.Arc arc.now) }
+    ensures { result ≡ arc_turn_at (file_of machine.now) arc.now position.now }
+{
+    let step = machine.step.nanometres().unsigned_abs();
+    let radius = arc.outer_radius().max(step);
+    let out = axis_distance(machine.step, arc, position);
+    diagonal_rate(rate).max(place_turn(rate, step, radius, out))
+}
+
+fn way_turn_at<A: Allocator>(way: &Way, position: &StepPos, machine: &Machine<A>) -> u64
+    ensures { result ≡ way_turn_at (file_of machine.now) way.now position.now }
+{
+    let rate = turn_rate(way, machine);
+    match way {
+        Way::Line { .. } => rate,
+        Way::Arc(arc) => {
+            if is_turn_by_place(&machine.arc_feed) {
+                arc_turn_at(arc, rate, position, machine)
+            } else {
+                rate
+            }
+        }
+    }
+}
+
+/// Returns the greatest target that the turn allows at a place of a motion, and 1,000,000 for any
+/// other action.
+fn turn_at<A: Allocator>(action: &Action, position: &StepPos, machine: &Machine<A>) -> u64
+    ensures { result ≡ turn_at (file_of machine.now) action.now position.now }
+{
+    match action {
+        Action::Move(motion) => way_turn_at(&motion.way, position, machine),
+        _ => 1_000_000,
+    }
+}
+
 /// Returns the target rate of a tick on a motion of `n` path steps, at most 10^9, at a grid point
 /// of its path, under an override in percent. It is that of `target_at`, or more on an arc if the
-/// machine runs arcs at their feed. `length` is that of `helix_length`, which is the same at each
-/// place.
+/// machine runs arcs at their feed or their turn. `length` is that of `helix_length`, which is the
+/// same at each place.
 pub fn target_on<A: Allocator>(
     action: &Action,
     n: u64,
@@ -242,7 +302,8 @@ pub fn target_on<A: Allocator>(
     ensures greatest { result ≤ MILLION }
 {
     let cap = cap_of(action, n, machine).max(cap_at(action, n, length, position, machine));
-    aimed_at(action, cap, percent, machine)
+    let turn = turn_at(action, position, machine);
+    aimed_at(action, cap, turn, percent, machine)
 }
 
 fn is_minute_feed(feed: &Feed) -> bool
@@ -270,13 +331,17 @@ fn is_arc(way: &Way) -> bool
 }
 
 /// Returns whether the target of `target_on` depends on the grid point: on an arc or a helix at a
-/// feed per minute, if the machine runs arcs at their feed.
+/// feed per minute, if the machine runs arcs at their feed, and on any arc or helix, if it runs them
+/// at their turn.
 pub fn is_by_place<A: Allocator>(action: &Action, machine: &Machine<A>) -> bool
     ensures { result ≡ is_by_place (file_of machine.now) action.now }
 {
     match action {
         Action::Move(motion) => {
-            machine.arc_feed && (is_arc(&motion.way) && has_minute_feed(&motion.pace))
+            let arc_feed = &machine.arc_feed;
+            is_arc(&motion.way)
+                && (is_turn_by_place(arc_feed)
+                    || (is_feed_by_place(arc_feed) && has_minute_feed(&motion.pace)))
         }
         _ => false,
     }

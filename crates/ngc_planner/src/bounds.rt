@@ -5,13 +5,14 @@ ghost use Rattle.ngc_fixed_length.specs.Limits.{MILLION};
 ghost use Rattle.ngc_planner.specs.Caps.{STEPS_LIMIT};
 ghost use Rattle.ngc_planner.specs.Bounds.{IsMotion, arc_rate, turn_rate, turn_bound};
 ghost use Rattle.ngc_planner.specs.Bounds.{greatest_rate, bound_of, overridden, aimed_at, target_at};
+ghost use Rattle.ngc_planner.specs.Bounds.{is_turn_by_place, diagonal_rate, steady_turn_on, steady_turn};
 
 use crate::axes::axes_rate;
 use crate::caps::cap_of;
 use ngc_arc_geometry::Arc;
 use ngc_commands::{Action, Way};
 use ngc_fixed_length::root_floor;
-use ngc_machine_files::Machine;
+use ngc_machine_files::{ArcFeed, Machine};
 use std::alloc::Allocator;
 
 /// Returns the greatest rate on an arc, for steps of `step` nanometres.
@@ -90,20 +91,67 @@ fn overridden(cap: u128, percent: u8) -> u128
     }
 }
 
-/// Returns the target rate of a tick on a motion, from a cap and an override in percent.
+/// Returns whether the machine's turn holds at each place of an arc.
+pub(crate) fn is_turn_by_place(arc_feed: &ArcFeed) -> bool
+    ensures { result ≡ is_turn_by_place arc_feed.now }
+{
+    match arc_feed {
+        ArcFeed::Off | ArcFeed::Feed => false,
+        ArcFeed::FeedAndTurn => true,
+    }
+}
+
+/// Returns the part of the greatest rate on an arc that its turn allows where the arc runs
+/// diagonally.
+pub(crate) fn diagonal_rate(rate: u64) -> u64
+    ensures { result ≡ diagonal_rate rate }
+{
+    (u128::from(rate) * 1_000 / 1_415).max(1) as u64
+}
+
+fn steady_turn_on<A: Allocator>(way: &Way, machine: &Machine<A>) -> u64
+    ensures { result ≡ steady_turn_on (file_of machine.now) way.now }
+{
+    let rate = turn_rate(way, machine);
+    match way {
+        Way::Line { .. } => rate,
+        Way::Arc(_) => {
+            if is_turn_by_place(&machine.arc_feed) {
+                diagonal_rate(rate)
+            } else {
+                rate
+            }
+        }
+    }
+}
+
+/// Returns the greatest target that the turn allows at every place of a motion, and 1,000,000 for
+/// any other action.
+fn steady_turn<A: Allocator>(action: &Action, machine: &Machine<A>) -> u64
+    ensures { result ≡ steady_turn (file_of machine.now) action.now }
+{
+    match action {
+        Action::Move(motion) => steady_turn_on(&motion.way, machine),
+        _ => 1_000_000,
+    }
+}
+
+/// Returns the target rate of a tick on a motion, from a cap, the greatest target that its turn
+/// allows, and an override in percent.
 pub(crate) fn aimed_at<A: Allocator>(
     action: &Action,
     cap: u128,
+    turn: u64,
     percent: u8,
     machine: &Machine<A>,
 ) -> u64
     requires { cap < 2 ^ 115 }
-    ensures value { result ≡ aimed_at (file_of machine.now) action.now cap percent }
+    ensures value { result ≡ aimed_at (file_of machine.now) action.now cap turn percent }
     ensures greatest { result ≤ MILLION }
 {
     let wanted = overridden(cap, percent);
     let greatest = wanted.min(u128::from(greatest_rate(action, machine))) as u64;
-    greatest.min(turn_bound(action, machine))
+    greatest.min(turn)
 }
 
 /// Returns the target rate of a tick on a motion of `n` path steps, at most 10^9, under an override
@@ -114,5 +162,6 @@ pub fn target_at<A: Allocator>(action: &Action, n: u64, percent: u8, machine: &M
     ensures least { IsMotion action.now → 1 ≤ percent → 1 ≤ result }
     ensures greatest { result ≤ MILLION }
 {
-    aimed_at(action, cap_of(action, n, machine), percent, machine)
+    let turn = steady_turn(action, machine);
+    aimed_at(action, cap_of(action, n, machine), turn, percent, machine)
 }

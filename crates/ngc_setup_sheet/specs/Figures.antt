@@ -1,6 +1,8 @@
 -- A machine's rates as speeds and accelerations. Our own.
 use Rattle.std.specs.Prelude.{ℕ, ◌+◌, ◌*◌, ◌/◌, unsigned_abs}
 use Rattle.ngc_machine_files.specs.Machine.{MachineFile}
+use Rattle.ngc_machine_files.specs.declared.machine.ArcFeed.{ArcFeed}
+use Rattle.ngc_machine_files.specs.declared.machine.ArcFeed.TheVariants as arc_feeds
 
 -- a number in a unit, to the nearest; halves go up
 abbrev pub rounded : ℕ → ℕ → ℕ
@@ -31,13 +33,19 @@ millimetres_a_minute m rate = rounded (60 * speed m rate) 1000000000
 abbrev pub acceleration : MachineFile → ℕ → ℕ
 acceleration m change = rounded (gain m change) 1000000000
 
--- the greatest acceleration towards the centre of an arc with a radius of a step or more, in
--- millionths of a millionth of a nanometre per second squared. The machine's turn times the radius
--- bounds the square of the rate, which is that of the axis that moves most. Where the arc runs along
--- an axis, its speed is that rate. Where it runs diagonally, two axes have that rate: the square of
--- the speed is twice as large, and so is the acceleration
+-- The greatest acceleration towards the centre of an arc with a radius of a step or more, in
+-- turns. The machine's turn times the radius bounds the square of the rate, which is that of the
+-- axis that moves most. Where the arc runs along an axis, its speed is that rate. Where it runs
+-- diagonally, two axes have that rate: the square of the speed is twice as large, and so is the
+-- acceleration. If the turn holds at each place, the rate that is aimed at there is lower.
+abbrev pub diagonal_turns : ArcFeed → ℕ
+diagonal_turns arc_feeds.Off = 2
+diagonal_turns arc_feeds.Feed = 2
+diagonal_turns arc_feeds.FeedAndTurn = 1
+
+-- in millionths of a millionth of a nanometre per second squared
 abbrev pub pull : MachineFile → ℕ
-pull m = 2 * gain m m.turn
+pull m = diagonal_turns m.arc_feed * gain m m.turn
 
 abbrev pub arc_acceleration : MachineFile → ℕ
 arc_acceleration m = rounded (pull m) 1000000000000000

@@ -6,6 +6,8 @@ use Rattle.ngc_fixed_length.specs.declared.modes.System.{System}
 use Rattle.ngc_fixed_length.specs.declared.modes.System.TheVariants as systems
 use Rattle.ngc_fixed_length.specs.declared.points.Point3.{Point3}
 use Rattle.ngc_machine_files.specs.Machine.{MachineFile}
+use Rattle.ngc_machine_files.specs.declared.machine.ArcFeed.{ArcFeed}
+use Rattle.ngc_machine_files.specs.declared.machine.ArcFeed.TheVariants as arc_feeds
 use Rattle.ngc_machine_files.specs.declared.machine.Fixture.{Fixture}
 use Rattle.ngc_machine_files.specs.declared.parts.Part.{Part}
 use Rattle.ngc_machine_files.specs.declared.tools.Tool.{Tool}
@@ -57,12 +59,18 @@ jump_facts m =
     line_where (nat_lt 0 m.jump)
     (lines.Fact facts.Jump (figures.Speed (millimetres_a_minute m m.jump)))
 
--- the ring's capacity, unless that is 16, and the feed on arcs, if it is kept at each point
+-- the ring's capacity, unless that is 16
 abbrev pub ring_facts : MachineFile → List Line
 ring_facts m = line_where (not (m.ring == 16)) (lines.Fact facts.Ring (figures.Count m.ring))
 
+-- what is kept at each place of an arc
+abbrev pub place_facts : ArcFeed → List Line
+place_facts arc_feeds.Off = []
+place_facts arc_feeds.Feed = lines.Fact facts.ArcFeed figures.ByPlace ∷ []
+place_facts arc_feeds.FeedAndTurn = lines.Fact facts.ArcFeed figures.ByPlaceWithTurn ∷ []
+
 abbrev pub arc_feed_facts : MachineFile → List Line
-arc_feed_facts m = line_where m.arc_feed (lines.Fact facts.ArcFeed figures.ByPlace)
+arc_feed_facts m = place_facts m.arc_feed
 
 -- the tool changer, if the machine has one
 abbrev pub changer_facts : MachineFile → List Line

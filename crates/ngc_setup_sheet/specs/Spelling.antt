@@ -82,6 +82,7 @@ figure_text (figures.PerMillimetre n) = thousandths_text n ++ codes " a mm"
 figure_text (figures.PerSecond n) = decimal n ++ codes " a second"
 figure_text (figures.Count n) = decimal n
 figure_text figures.ByPlace = codes "at each place"
+figure_text figures.ByPlaceWithTurn = codes "at each place, as is the acceleration"
 figure_text figures.ByMachine = codes "by the machine"
 figure_text (figures.Speed n) = thousandths_text n ++ codes " mm/min"
 figure_text (figures.Acceleration n) = thousandths_text n ++ codes " mm/s^2"

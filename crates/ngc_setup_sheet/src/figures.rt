@@ -4,10 +4,10 @@ ghost use Rattle.ngc_fixed_length.specs.Length.{IsStep};
 ghost use Rattle.ngc_machine_files.specs.Machine.{file_of};
 ghost use Rattle.ngc_setup_sheet.specs.Figures.{rounded, step_speed, speed, gain};
 ghost use Rattle.ngc_setup_sheet.specs.Figures.{millimetres_a_minute, acceleration};
-ghost use Rattle.ngc_setup_sheet.specs.Figures.{pull, arc_acceleration, steps_a_millimetre};
+ghost use Rattle.ngc_setup_sheet.specs.Figures.{diagonal_turns, pull, arc_acceleration, steps_a_millimetre};
 
 use ngc_fixed_length::Nm;
-use ngc_machine_files::Machine;
+use ngc_machine_files::{ArcFeed, Machine};
 use std::alloc::Allocator;
 
 /// Returns a number in a unit, rounded to the nearest, halves upwards.
@@ -77,17 +77,28 @@ pub(crate) fn acceleration<A: Allocator>(machine: &Machine<A>) -> u128
     rounded(gain(machine, u64::from(machine.change)), 1_000_000_000)
 }
 
-/// Returns the greatest acceleration towards the centre of an arc, in millionths of a millionth of
-/// a nanometre per second squared.
+/// Returns the greatest acceleration towards the centre of an arc that is aimed at, in turns.
+fn diagonal_turns(arc_feed: &ArcFeed) -> u128
+    ensures value { result ≡ diagonal_turns arc_feed.now }
+    ensures bound { result ≤ 2 }
+{
+    match arc_feed {
+        ArcFeed::Off | ArcFeed::Feed => 2,
+        ArcFeed::FeedAndTurn => 1,
+    }
+}
+
+/// Returns the greatest acceleration towards the centre of an arc that is aimed at, in millionths of
+/// a millionth of a nanometre per second squared.
 pub(crate) fn pull<A: Allocator>(machine: &Machine<A>) -> u128
     ensures value { result ≡ pull (file_of machine.now) }
     ensures bound { result ≤ 100000000000000000000000000000 }
 {
-    2 * gain(machine, machine.turn)
+    diagonal_turns(&machine.arc_feed) * gain(machine, machine.turn)
 }
 
-/// Returns the greatest acceleration towards the centre of an arc, in thousandths of a millimetre
-/// per second squared.
+/// Returns the greatest acceleration towards the centre of an arc that is aimed at, in thousandths
+/// of a millimetre per second squared.
 pub(crate) fn arc_acceleration<A: Allocator>(machine: &Machine<A>) -> u128
     ensures { result ≡ arc_acceleration (file_of machine.now) }
 {

@@ -35,7 +35,7 @@ pub enum Fact {
     /// By what the tools are changed.
     Changer,
     Acceleration,
-    /// The greatest acceleration towards the centre of an arc.
+    /// The greatest acceleration towards the centre of an arc that is aimed at.
     ArcAcceleration,
     /// The greatest speed of a motion that may move the axis.
     Speed(Axis),
@@ -65,6 +65,8 @@ pub enum Figure {
     Count(u32),
     /// At each point.
     ByPlace,
+    /// At each point, and so is the acceleration.
+    ByPlaceWithTurn,
     /// The machine itself, without a person.
     ByMachine,
     /// In thousandths of a millimetre per minute.

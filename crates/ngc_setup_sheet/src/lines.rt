@@ -23,7 +23,7 @@ use crate::warnings::{
 };
 use arrayvec::ArrayVec;
 use ngc_fixed_length::{Nm, Point3, System};
-use ngc_machine_files::{Fixture, Machine, Part, Parts, Tool};
+use ngc_machine_files::{ArcFeed, Fixture, Machine, Part, Parts, Tool};
 use std::alloc::Allocator;
 
 /// Space for the lines of a machine, of a fixture or of a tool.
@@ -114,11 +114,13 @@ fn add_arc_feed<A: Allocator>(lines: &mut Lines, machine: &Machine<A>)
     ensures items { lines.new.items ≡ lines.old.items ++ arc_feed_facts (file_of machine.now) }
     ensures few { array_vec_len lines.new ≤ array_vec_len lines.old + 1 }
 {
-    add_where(
-        lines,
-        machine.arc_feed,
-        Line::Fact(Fact::ArcFeed, Figure::ByPlace),
-    );
+    match &machine.arc_feed {
+        ArcFeed::Off => {}
+        ArcFeed::Feed => add_all(lines, &[Line::Fact(Fact::ArcFeed, Figure::ByPlace)]),
+        ArcFeed::FeedAndTurn => {
+            add_all(lines, &[Line::Fact(Fact::ArcFeed, Figure::ByPlaceWithTurn)]);
+        }
+    }
 }
 
 fn add_changer<A: Allocator>(lines: &mut Lines, machine: &Machine<A>)

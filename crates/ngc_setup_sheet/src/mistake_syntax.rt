@@ -33,7 +33,7 @@ fn asked(rule: Rule) -> &'static [u8]
         Rule::Ring =>
             b"In version 2 it must be a whole number from 16 to 1,024, or left out: how many commands are loaded and not done at most. Version 1 has no such key.\n",
         Rule::ArcFeed =>
-            b"In version 2 it must be 0 or 1, or left out: 1 where arcs run at their feed at every place. Version 1 has no such key.\n",
+            b"In version 2 it must be 0, 1 or 2, or left out: 1 where arcs run at their feed at every place, 2 where they keep `turn` there too. Version 1 has no such key.\n",
         Rule::Changer =>
             b"In version 2 it must be 0 or 1, or left out: 1 where the machine changes tools by itself. Version 1 has no such key.\n",
         Rule::Change =>

@@ -130,6 +130,7 @@ fn say_figure<W: Sink>(figure: &Figure, page: &mut Page, output: &mut W)
             say!(page, output; Part::Number(u128::from(*number)), b" a second"),
         Figure::Count(number) => say!(page, output; Part::Number(u128::from(*number))),
         Figure::ByPlace => say!(page, output; b"at each place"),
+        Figure::ByPlaceWithTurn => { say!(page, output; b"at each place, as is the acceleration") }
         Figure::ByMachine => say!(page, output; b"by the machine"),
         Figure::Speed(number) => { say!(page, output; Part::Thousandths(*number), b" mm/min") }
         Figure::Acceleration(number) => {

@@ -1,0 +1,308 @@
+-- Ticks that are computed at once.
+use Rattle.std.proofs.Common.{◌≡◌, ℕ, zero, suc, ◌+◌, ◌-◌, ◌*◌, ◌/◌, ◌≤◌, ◌<◌, ◌↔◌, min, max, nat_lt, nat_le, Bool, true, false, cond, List, [], ◌∷◌, arith, refl, ap, ap₂, sym, subst, ◌∙◌, inl, inr}
+use Rattle.std.specs.Prelude.{◌&&◌}
+use Rattle.std.proofs.lemmas.Bool.{cases_lt, lt-ltb, le-leb, and_from, false≢true}
+use Rattle.std.proofs.lemmas.Bool.Decides.{nat_tests}
+use Rattle.std.proofs.lemmas.Nat.{mul-le}
+use Rattle.ngc_planner.specs.declared.leg.Leg.{Leg}
+use Rattle.ngc_planner.specs.Braking.{braking}
+use Rattle.ngc_planner.specs.Leg.{tick_bound, is_due}
+use Rattle.ngc_planner.specs.Reach.{ahead, may_enter, free_ahead, free, reach}
+use Rattle.ngc_planner.specs.Ramp.{RampState, MayTick, TicksTo, on_legs, pace, after_tick, next_rest}
+use Rattle.ngc_planner.specs.Stretches.{TicksFrom, Ticks, rise, fall, MayRise, SpeedsUp, MayGoOn, GoesOn, MayFall, SlowsDown}
+use Rattle.ngc_planner.proofs.BrakingLaws.{braking_none, braking_step}
+use Rattle.ngc_planner.proofs.CoastLaws.{bound_after}
+use Rattle.ngc_planner.proofs.ReachLaws.{free_none, free_more, entered}
+use Rattle.ngc_planner.proofs.RoomLaws.{braking_faster, free_has_room, room_reached}
+use Rattle.ngc_planner.proofs.RampLaws.{tick_bound_greatest}
+
+-- ---- distances
+
+-- the first of n + 1 ticks, and the others
+rise_step : (n v a : ℕ) → rise (suc n) v a ≡ v + a + rise n (v + a) a
+rise_step n v a =
+    let whole : suc n * (suc n + 1) / 2 ≡ suc n + n * (n + 1) / 2 = omega arith in
+    let part : a * (suc n * (suc n + 1) / 2) ≡ a * (suc n + n * (n + 1) / 2) = ap (λ x. a * x) whole in
+    omega (arith, part)
+
+-- ---- a lower rate is free for as long
+
+enters_too : (v w e : ℕ) (l : Leg) → v ≤ w → may_enter w e l ≡ true → may_enter v e l ≡ true
+enters_too v w e l less h =
+    let p = entered w e l h in
+    let exit = le-leb v e (omega (arith, p.1)) in
+    let entry = le-leb v l.entry (omega (arith, p.2)) in
+    let bound = le-leb v l.bound (omega (arith, p.3)) in
+    and_from _ _ (and_from _ _ (and_from _ _ p.0 exit) entry) bound
+
+no_more_by : (b c : Bool) (x y : ℕ) → (b ≡ true → c ≡ true) → x ≤ y → cond b x 0 ≤ cond c y 0
+no_more_by true true x y also less = less
+no_more_by true false x y also less = absurd (false≢true (also refl))
+no_more_by false c x y also less = omega arith
+
+freer : (v w e : ℕ) (ls : List Leg) → v ≤ w → free_ahead w e ls ≤ free_ahead v e ls
+freer v w e [] less = omega arith
+freer v w e (l ∷ ls) less =
+    let more = freer v w l.exit ls less in
+    no_more_by (may_enter w e l) (may_enter v e l) (l.millionths + free_ahead w l.exit ls) (l.millionths + free_ahead v l.exit ls)
+    (enters_too v w e l less) (omega (arith, more))
+
+-- ---- one tick that does not end the head
+
+-- the ramp after it
+on_head : (a v rest w : ℕ) (head : Leg) (legs : List Leg) (room : ℕ) → w < rest →
+    after_tick (on_legs a v rest head legs room) legs w ≡ on_legs a w (rest - w) head legs room
+on_head a v rest w head legs room less =
+    ap (λ b. cond b (on_legs a w (rest - w) head legs room) (record { change = a; rate = w; rest = next_rest (w - rest) legs; legs = legs; room = room }))
+    (lt-ltb w rest less)
+
+-- its rate is this one, whatever the tick is
+only_tick : (a v rest w : ℕ) (head : Leg) (legs : List Leg) (room wish : ℕ) (mid : RampState) → w < rest →
+    ((x : ℕ) → MayTick (on_legs a v rest head legs room) wish head legs x → x ≡ w) →
+    TicksFrom (head ∷ legs) (on_legs a v rest head legs room) wish mid → mid ≡ on_legs a w (rest - w) head legs room
+only_tick a v rest w head legs room wish mid less only h =
+    let t = h.3 in
+    t.next ∙ ap (λ x. after_tick (on_legs a v rest head legs room) legs x) (only h.0 t.may) ∙ on_head a v rest w head legs room less
+
+-- such a tick
+one_tick : (a v rest w : ℕ) (head : Leg) (legs : List Leg) (room wish : ℕ) → w < rest → MayTick (on_legs a v rest head legs room) wish head legs w →
+    TicksFrom (head ∷ legs) (on_legs a v rest head legs room) wish (on_legs a w (rest - w) head legs room)
+one_tick a v rest w head legs room wish less may =
+    (w, is_due head rest w, nat_le rest w, record { may = may; tells = refl; ends = refl; next = sym (on_head a v rest w head legs room less) })
+
+-- the path is free for this rate
+brakes_on : (w rest : ℕ) (a : ℕ) (head : Leg) (legs : List Leg) → braking w a < free w rest head legs → braking w a ≤ reach rest legs
+brakes_on w rest a head legs short =
+    let far = room_reached w a rest head.exit legs (free_has_room w a rest head.exit legs short) in
+    omega (arith, far)
+
+-- ---- speeding up
+
+rising : (a v rest wish w : ℕ) (head : Leg) (legs : List Leg) (room : ℕ) → w ≡ v + a → w ≤ wish → w ≤ tick_bound head rest → w < rest →
+    braking w a < free w rest head legs → (x : ℕ) → MayTick (on_legs a v rest head legs room) wish head legs x → x ≡ w
+rising a v rest wish w head legs room same wished within less short x may =
+    let at_pace : pace (on_legs a v rest head legs room) wish head ≡ w = omega (arith, same, wished, within) in
+    let kept = may.keeps_pace in
+    let fast = subst (λ p. braking p a < free p rest head legs → p ≤ x) at_pace kept in
+    let least = fast short in
+    omega (arith, least, may.faster, same)
+
+may_rise : (a v rest wish w : ℕ) (head : Leg) (legs : List Leg) (room : ℕ) → w ≡ v + a → w ≤ wish → w ≤ tick_bound head rest → w < rest →
+    braking w a < free w rest head legs → MayTick (on_legs a v rest head legs room) wish head legs w
+may_rise a v rest wish w head legs room same wished within less short =
+    record {
+      faster = omega (arith, same);
+      slower = omega (arith, same);
+      within = within;
+      leaves = λ end. absurd (omega (arith, end, less));
+      goes_on = λ over. absurd (omega (arith, over, less));
+      brakes = brakes_on w rest a head legs short;
+      aims = omega (arith, wished);
+      keeps_pace = λ free_for. omega (arith, same, wished, within);
+      at_least = omega (arith, same);
+    }
+
+-- what the first of n + 1 ticks needs
+first_rise : (n a v rest : ℕ) (head : Leg) (legs : List Leg) (wish : ℕ) → 1 ≤ a → MayRise a v rest head legs wish (suc n) →
+    (v + a ≤ wish) × (v + a ≤ tick_bound head rest) × (v + a < rest) × (braking (v + a) a < free (v + a) rest head legs)
+first_rise n a v rest head legs wish some may =
+    let step = rise_step n v a in
+    let up = mul-le 1 a (suc n) a (omega arith) (omega arith) in
+    let less : v + a ≤ v + suc n * a = omega (arith, up) in
+    let more = freer (v + a) (v + suc n * a) head.exit legs less in
+    let first = braking_step (v + a) a (omega (arith, some)) some in
+    let back : v + a - a ≡ v = omega arith in
+    let here = ap (λ x. braking x a) back in
+    let later = braking_faster v (v + suc n * a - a) a some (omega (arith, up)) in (
+      omega (arith, may.wished, less),
+      omega (arith, may.within, less),
+      omega (arith, may.on_head, step),
+      omega (arith, may.brakes, step, more, first, here, later),
+    )
+
+-- and what the others need after it
+later_rise : (n a v rest : ℕ) (head : Leg) (legs : List Leg) (wish : ℕ) → rest ≤ head.millionths → MayRise a v rest head legs wish (suc n) →
+    MayRise a (v + a) (rest - (v + a)) head legs wish n
+later_rise n a v rest head legs wish within may =
+    let step = rise_step n v a in
+    let top : v + a + n * a ≡ v + suc n * a = omega arith in
+    let bound = bound_after head rest (v + a) within (omega (arith, may.on_head, step)) in
+    record {
+      wished = omega (arith, may.wished);
+      within = omega (arith, may.within, bound);
+      on_head = omega (arith, may.on_head, step);
+      brakes = subst (λ t. rise n (v + a) a + braking (t - a) a < free t (rest - (v + a)) head legs) (sym top) (omega (arith, may.brakes, may.on_head, step));
+    }
+
+risen_state : (n a v rest : ℕ) (head : Leg) (legs : List Leg) (room : ℕ) →
+    on_legs a (v + a + n * a) (rest - (v + a) - rise n (v + a) a) head legs room ≡ on_legs a (v + suc n * a) (rest - rise (suc n) v a) head legs room
+risen_state n a v rest head legs room =
+    let step = rise_step n v a in
+    let rate : v + a + n * a ≡ v + suc n * a = omega arith in
+    let left : rest - (v + a) - rise n (v + a) a ≡ rest - rise (suc n) v a = omega (arith, step) in
+    ap₂ (λ r l. on_legs a r l head legs room) rate left
+
+standing : (a v rest : ℕ) (head : Leg) (legs : List Leg) (room : ℕ) → on_legs a (v + 0 * a) (rest - rise 0 v a) head legs room ≡ on_legs a v rest head legs room
+standing a v rest head legs room =
+    let none : rise 0 v a ≡ 0 = omega arith in
+    let rate : v + 0 * a ≡ v = omega arith in
+    let left : rest - rise 0 v a ≡ rest = omega (arith, none) in
+    ap₂ (λ r l. on_legs a r l head legs room) rate left
+
+only_rise : (n a v rest : ℕ) (head : Leg) (legs : List Leg) (room wish : ℕ) (new : RampState) → 1 ≤ a → rest ≤ head.millionths →
+    MayRise a v rest head legs wish n → Ticks n (on_legs a v rest head legs room) wish new →
+    new ≡ on_legs a (v + n * a) (rest - rise n v a) head legs room
+only_rise zero a v rest head legs room wish new some within may h = h ∙ sym (standing a v rest head legs room)
+only_rise (suc n) a v rest head legs room wish new some within may h =
+    let p = first_rise n a v rest head legs wish some may in
+    let mid = only_tick a v rest (v + a) head legs room wish h.0 p.2
+    (rising a v rest wish (v + a) head legs room refl p.0 p.1 p.2 p.3) h.1 in
+    let others = subst (λ m. Ticks n m wish new) mid h.2 in
+    only_rise n a (v + a) (rest - (v + a)) head legs room wish new some (omega (arith, within)) (later_rise n a v rest head legs wish within may) others
+    ∙ risen_state n a v rest head legs room
+
+some_rise : (n a v rest : ℕ) (head : Leg) (legs : List Leg) (room wish : ℕ) → 1 ≤ a → rest ≤ head.millionths →
+    MayRise a v rest head legs wish n →
+    Ticks n (on_legs a v rest head legs room) wish (on_legs a (v + n * a) (rest - rise n v a) head legs room)
+some_rise zero a v rest head legs room wish some within may = standing a v rest head legs room
+some_rise (suc n) a v rest head legs room wish some within may =
+    let p = first_rise n a v rest head legs wish some may in
+    let tick = one_tick a v rest (v + a) head legs room wish p.2 (may_rise a v rest wish (v + a) head legs room refl p.0 p.1 p.2 p.3) in
+    let others = some_rise n a (v + a) (rest - (v + a)) head legs room wish some (omega (arith, within)) (later_rise n a v rest head legs wish within may) in
+    (on_legs a (v + a) (rest - (v + a)) head legs room, tick, subst (λ s. Ticks n (on_legs a (v + a) (rest - (v + a)) head legs room) wish s) (risen_state n a v rest head legs room) others)
+
+pub speeds_up : SpeedsUp
+speeds_up n a v rest head legs room wish new some within may = (
+  λ h. only_rise n a v rest head legs room wish new some within may h,
+  λ same. subst (λ s. Ticks n (on_legs a v rest head legs room) wish s) (sym same) (some_rise n a v rest head legs room wish some within may),
+)
+
+-- ---- going on
+
+braking_most : (v a : ℕ) → 1 ≤ a → braking v a ≤ v + braking (v - a) a
+braking_most zero a some = let none = braking_none a in omega (arith, none)
+braking_most (suc v) a some = let step = braking_step (suc v) a (omega arith) some in omega (arith, step)
+
+going_on : (a v rest wish : ℕ) (head : Leg) (legs : List Leg) (room : ℕ) → v ≡ min wish head.bound → v ≤ tick_bound head rest →
+    braking v a < free v rest head legs → (x : ℕ) → MayTick (on_legs a v rest head legs room) wish head legs x → x ≡ v
+going_on a v rest wish head legs room wished within short x may =
+    let most = tick_bound_greatest head rest in
+    let at_pace : pace (on_legs a v rest head legs room) wish head ≡ v = omega (arith, wished, within, most) in
+    let fast = subst (λ p. braking p a < free p rest head legs → p ≤ x) at_pace may.keeps_pace in
+    let least = fast short in
+    omega (arith, least, may.aims, may.within, most, wished)
+
+may_go_on : (a v rest wish : ℕ) (head : Leg) (legs : List Leg) (room : ℕ) → v ≡ min wish head.bound → v ≤ tick_bound head rest → v < rest →
+    braking v a < free v rest head legs → MayTick (on_legs a v rest head legs room) wish head legs v
+may_go_on a v rest wish head legs room wished within less short =
+    let most = tick_bound_greatest head rest in
+    record {
+      faster = omega arith;
+      slower = omega arith;
+      within = within;
+      leaves = λ end. absurd (omega (arith, end, less));
+      goes_on = λ over. absurd (omega (arith, over, less));
+      brakes = brakes_on v rest a head legs short;
+      aims = omega (arith, wished);
+      keeps_pace = λ free_for. omega (arith, wished, most);
+      at_least = omega (arith, wished);
+    }
+
+-- what the first of n + 1 ticks needs, and the others after it
+first_even : (n a v rest : ℕ) (head : Leg) (legs : List Leg) (wish : ℕ) → 1 ≤ a → MayGoOn a v rest head legs wish (suc n) →
+    (v < rest) × (braking v a < free v rest head legs)
+first_even n a v rest head legs wish some may =
+    let step : suc n * v ≡ v + n * v = omega arith in
+    let most = braking_most v a some in
+    (omega (arith, may.on_head, step), omega (arith, may.brakes, step, most))
+
+later_even : (n a v rest : ℕ) (head : Leg) (legs : List Leg) (wish : ℕ) → rest ≤ head.millionths → MayGoOn a v rest head legs wish (suc n) →
+    MayGoOn a v (rest - v) head legs wish n
+later_even n a v rest head legs wish within may =
+    let step : suc n * v ≡ v + n * v = omega arith in
+    let bound = bound_after head rest v within (omega (arith, may.on_head, step)) in
+    record {
+      wished = may.wished;
+      within = omega (arith, may.within, bound);
+      on_head = omega (arith, may.on_head, step);
+      brakes = omega (arith, may.brakes, may.on_head, step);
+    }
+
+even_state : (n a v rest : ℕ) (head : Leg) (legs : List Leg) (room : ℕ) →
+    on_legs a v (rest - v - n * v) head legs room ≡ on_legs a v (rest - suc n * v) head legs room
+even_state n a v rest head legs room =
+    let left : rest - v - n * v ≡ rest - suc n * v = omega arith in ap (λ l. on_legs a v l head legs room) left
+
+even_none : (a v rest : ℕ) (head : Leg) (legs : List Leg) (room : ℕ) → on_legs a v (rest - 0 * v) head legs room ≡ on_legs a v rest head legs room
+even_none a v rest head legs room = let left : rest - 0 * v ≡ rest = omega arith in ap (λ l. on_legs a v l head legs room) left
+
+only_even : (n a v rest : ℕ) (head : Leg) (legs : List Leg) (room wish : ℕ) (new : RampState) → 1 ≤ a → rest ≤ head.millionths →
+    MayGoOn a v rest head legs wish n → Ticks n (on_legs a v rest head legs room) wish new → new ≡ on_legs a v (rest - n * v) head legs room
+only_even zero a v rest head legs room wish new some within may h = h ∙ sym (even_none a v rest head legs room)
+only_even (suc n) a v rest head legs room wish new some within may h =
+    let p = first_even n a v rest head legs wish some may in
+    let mid = only_tick a v rest v head legs room wish h.0 p.0 (going_on a v rest wish head legs room may.wished may.within p.1) h.1 in
+    let others = subst (λ m. Ticks n m wish new) mid h.2 in
+    only_even n a v (rest - v) head legs room wish new some (omega (arith, within)) (later_even n a v rest head legs wish within may) others
+    ∙ even_state n a v rest head legs room
+
+some_even : (n a v rest : ℕ) (head : Leg) (legs : List Leg) (room wish : ℕ) → 1 ≤ a → rest ≤ head.millionths → MayGoOn a v rest head legs wish n →
+    Ticks n (on_legs a v rest head legs room) wish (on_legs a v (rest - n * v) head legs room)
+some_even zero a v rest head legs room wish some within may = even_none a v rest head legs room
+some_even (suc n) a v rest head legs room wish some within may =
+    let p = first_even n a v rest head legs wish some may in
+    let tick = one_tick a v rest v head legs room wish p.0 (may_go_on a v rest wish head legs room may.wished may.within p.0 p.1) in
+    let others = some_even n a v (rest - v) head legs room wish some (omega (arith, within)) (later_even n a v rest head legs wish within may) in
+    (on_legs a v (rest - v) head legs room, tick, subst (λ s. Ticks n (on_legs a v (rest - v) head legs room) wish s) (even_state n a v rest head legs room) others)
+
+pub goes_on : GoesOn
+goes_on n a v rest head legs room wish new some within may = (
+  λ h. only_even n a v rest head legs room wish new some within may h,
+  λ same. subst (λ s. Ticks n (on_legs a v rest head legs room) wish s) (sym same) (some_even n a v rest head legs room wish some within may),
+)
+
+-- ---- slowing down
+
+triangle_short : (n : ℕ) → n * (n + 1) / 2 ≤ n * n
+triangle_short zero = omega arith
+triangle_short (suc n) = let p = mul-le (suc n) 1 (suc n) (suc n) (omega arith) (omega arith) in omega (arith, p)
+
+-- the first of n + 1 ticks, and the others
+fall_step : (n v a : ℕ) → suc n * a ≤ v → fall (suc n) v a ≡ v - a + fall n (v - a) a
+fall_step n v a low =
+    let whole : suc n * (suc n + 1) / 2 ≡ suc n + n * (n + 1) / 2 = omega arith in
+    let part : a * (suc n * (suc n + 1) / 2) ≡ a * (suc n + n * (n + 1) / 2) = ap (λ x. a * x) whole in
+    let short = mul-le (n * (n + 1) / 2) a (n * n) a (triangle_short n) (omega arith) in
+    let left : n * a ≤ v - a = omega (arith, low) in
+    let far = mul-le (n * a) n (v - a) n left (omega arith) in
+    let back : v ≡ v - a + a = omega (arith, low) in
+    let times : suc n * v ≡ suc n * (v - a + a) = ap (λ x. suc n * x) back in
+    omega (arith, part, short, far, times, low)
+
+slowing : (a v rest wish : ℕ) (head : Leg) (legs : List Leg) (room : ℕ) → wish + a ≤ v → (x : ℕ) →
+    MayTick (on_legs a v rest head legs room) wish head legs x → x ≡ v - a
+slowing a v rest wish head legs room low x may = omega (arith, low, may.slower, may.aims)
+
+later_fall : (n a v rest wish : ℕ) → MayFall a v rest wish (suc n) → MayFall a (v - a) (rest - (v - a)) wish n
+later_fall n a v rest wish may =
+    let step = fall_step n v a (omega (arith, may.wished)) in
+    record { wished = omega (arith, may.wished); on_head = omega (arith, may.on_head, step) }
+
+only_fall : (n a v rest : ℕ) (head : Leg) (legs : List Leg) (room wish : ℕ) (new : RampState) → MayFall a v rest wish n →
+    Ticks n (on_legs a v rest head legs room) wish new → new ≡ on_legs a (v - n * a) (rest - fall n v a) head legs room
+only_fall zero a v rest head legs room wish new may h =
+    let rate : v ≡ v - 0 * a = omega arith in
+    let left : rest ≡ rest - fall 0 v a = omega arith in
+    h ∙ ap₂ (λ r l. on_legs a r l head legs room) rate left
+only_fall (suc n) a v rest head legs room wish new may h =
+    let step = fall_step n v a (omega (arith, may.wished)) in
+    let mid = only_tick a v rest (v - a) head legs room wish h.0 (omega (arith, may.on_head, step))
+    (slowing a v rest wish head legs room (omega (arith, may.wished))) h.1 in
+    let others = subst (λ m. Ticks n m wish new) mid h.2 in
+    let rate : v - a - n * a ≡ v - suc n * a = omega arith in
+    let left : rest - (v - a) - fall n (v - a) a ≡ rest - fall (suc n) v a = omega (arith, step) in
+    only_fall n a (v - a) (rest - (v - a)) head legs room wish new (later_fall n a v rest wish may) others
+    ∙ ap₂ (λ r l. on_legs a r l head legs room) rate left
+
+pub slows_down : SlowsDown
+slows_down n a v rest head legs room wish new may h = only_fall n a v rest head legs room wish new may h
