@@ -62,7 +62,7 @@ joints_before machine commands k = record {
 
 -- ---- how they are stored
 
--- a motion counts at most so many millionths of a path step
+-- the most that a motion counts, in millionths of a path step
 abbrev pub LONGEST : ℕ
 LONGEST = 400000000000000
 
@@ -88,8 +88,8 @@ pub record IsBlock (b : Block) : Type 0 where
   pub greatest : IsHeading b.greatest
   pub bound : b.length ≤ b.count * LONGEST
 
--- a block describes the nearest of some motions: as many as it counts, the extremes of their
--- headings, and their length, which doesn't matter if fewer are stored
+-- A block describes the first of some motions, `count` of them: it has the extremes of their
+-- headings, and their length, which doesn't matter if there are fewer motions.
 pub record Describes (b : Block) (ps : List Passage) : Type 0 where
   pub each : AllByRecursion (λ p. LiesBetween b.least b.greatest p.heading) (take b.count ps)
   pub whole : b.count ≤ length ps → b.length ≡ length_along (take b.count ps)
