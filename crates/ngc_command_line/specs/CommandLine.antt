@@ -38,11 +38,12 @@ origin_option = record (file_option (codes "origin")) { action = Some Append }
 abbrev pub flag : Text → Rule
 flag name = record (new_rule name) { long = Some name; action = Some SetTrue }
 
--- `list [--program FILE] [--machine FILE] [--tools FILE] [--delete] [--origin SYSTEM=X,Y,Z]..`
+-- `list [--program FILE] [--machine FILE] [--tools FILE] [--delete] [--origin SYSTEM=X,Y,Z]..
+-- [--dialect NAME]`
 abbrev pub list_app : App
 list_app = fold with_rule (new_app (codes "list"))
     (file_option (codes "program") ∷ file_option (codes "machine") ∷ file_option (codes "tools")
-    ∷ flag (codes "delete") ∷ origin_option ∷ [])
+    ∷ flag (codes "delete") ∷ origin_option ∷ file_option (codes "dialect") ∷ [])
 
 -- `certify --machine FILE --tools FILE [--program FILE] [--cuts N] [--format VERSION]
 -- [--origin SYSTEM=X,Y,Z]..`

@@ -26,11 +26,19 @@ const TOOLS: Argument<'static> = Argument {
     help: "Tool table in TOML: each tool's number, size and offset\n[default: no tools]",
 };
 
+const DIALECT: Argument<'static> = Argument {
+    name: "dialect",
+    is_named: true,
+    is_required: false,
+    takes: Takes::Text("NAME"),
+    help: "Language of the part program: linuxcnc, grbl, mach3\nor fanuc [default: our own]",
+};
+
 pub(crate) static LIST: SubcommandRow<'static> = SubcommandRow {
     name: "list",
     about: "Print the commands of a part program, one a line",
     help_end: help_end!("  ngc list --program examples/facing.ngc"),
-    arguments: &[PROGRAM, MACHINE, TOOLS, DELETE, ORIGIN],
+    arguments: &[PROGRAM, MACHINE, TOOLS, DELETE, ORIGIN, DIALECT],
 };
 
 pub(crate) fn list_options<'a>(found: &ArgMatches<'a>, origins: Origins) -> ListOptions<'a>
@@ -43,5 +51,6 @@ pub(crate) fn list_options<'a>(found: &ArgMatches<'a>, origins: Origins) -> List
         tools: found.get_str("tools"),
         delete: flag_is_set(found, "delete"),
         origins,
+        dialect: found.get_str("dialect"),
     }
 }

@@ -53,6 +53,8 @@ pub struct ListOptions<'a> {
     pub delete: bool,
     /// The origins that replace those of the machine file.
     pub origins: Origins,
+    /// The control in whose language the program is written. Without one it is our own language.
+    pub dialect: Option<&'a str>,
 }
 
 /// The version of the text of a certificate.

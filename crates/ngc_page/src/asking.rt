@@ -64,6 +64,7 @@ pub fn list_options(delete: bool) -> Options<'static>
         tools: Some("tools"),
         delete,
         origins: Origins::none(),
+        dialect: None,
     })
 }
 

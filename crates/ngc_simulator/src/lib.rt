@@ -5,6 +5,7 @@
 mod adapting;
 mod certifier;
 mod checking;
+mod dialects;
 mod done;
 mod drawing;
 mod drawing_files;
