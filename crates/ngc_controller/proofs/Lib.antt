@@ -14,3 +14,5 @@ pub mod KeptLaws
 pub mod CoastLaws
 -- The latest replies, and the one at a position before the last.
 pub mod RecentLaws
+-- The target of the head, and the next point of its path.
+pub mod AimLaws

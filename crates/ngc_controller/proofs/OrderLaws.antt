@@ -169,6 +169,10 @@ pub serves_done : (job : Job) (a : Action) (old new : State) (outcome : Outcome)
     Finishes job a old outcome new → Serves job a old outcome new
 serves_done job a old new outcome over h = subst (λ t. MatchBool t (Dwells job old outcome new) (Finishes job a old outcome new)) (sym over) h
 
+pub serves_more : (job : Job) (a : Action) (old new : State) (outcome : Outcome) → nat_lt (suc old.dwelt) (ticks_of job a) ≡ true →
+    Dwells job old outcome new → Serves job a old outcome new
+serves_more job a old new outcome more h = subst (λ t. MatchBool t (Dwells job old outcome new) (Finishes job a old outcome new)) (sym more) h
+
 -- ---- one more command
 
 pub few_on : {A : Type 0} (job : Job) (done : ℕ) (ring : RingData) (drive : Drive A) (dwelt : ℕ) (panel : Panel) → IsInOrder job done ring drive dwelt panel →

@@ -1,7 +1,7 @@
-use Rattle.std.proofs.Common.{arith, refl, false, sym, subst, ap, ◌∙◌, ◌≡◌, ◌/◌, suc, drop, nat_lt, Some, None}
+use Rattle.std.proofs.Common.{arith, ℕ, refl, false, true, sym, subst, ap, ◌∙◌, ◌≡◌, ◌+◌, ◌/◌, suc, drop, nat_lt, Some, None}
 use Rattle.std.specs.Prelude.{Ok}
 use Rattle.ngc_machine_model.specs.Headline.{job_of}
-use Rattle.ngc_machine_model.specs.Step.{Finishes, ticks_of}
+use Rattle.ngc_machine_model.specs.Step.{Dwells, Finishes, ticks_of}
 use Rattle.ngc_events.specs.declared.reply.Reply.TheVariants.{Ticked}
 use Rattle.ngc_checker.specs.Accepted.{commands_at}
 use Rattle.ngc_machine_files.specs.Machine.{MachineFile}
@@ -11,7 +11,7 @@ use Rattle.ngc_controller.specs.declared.drive.Drive.{Drive}
 use Rattle.ngc_controller.specs.Controller.{ControllerData}
 use Rattle.ngc_controller.specs.Fields.{travelled_of, state_of, IsServed}
 use Rattle.ngc_controller.specs.Panel.{effective_at}
-use Rattle.ngc_controller.proofs.OrderLaws.{left_order, target_as, served_still, served_left, served_some, rests_still, finished, serves_done}
+use Rattle.ngc_controller.proofs.OrderLaws.{left_order, target_as, served_still, served_left, served_some, rests_still, finished, serves_done, serves_more}
 use Rattle.ngc_controller.proofs.controller.Controller.serve.Goals as goal
 
 pub halt-requires : goal.halt-requires
@@ -81,3 +81,25 @@ returns-clause-serves g c =
           (ap (λ (x : RampState). x.rate) ramp) none c.leave.ensures.dwelt c.tool_after-self-inside.ensures c.panel_after-self-inside.ensures;
     } in
     rw (← c.self.view_is) (serves_done job c.args.action old _ _ over ends)
+
+pub returns-then-dwells_on-clause-serves : goal.returns-then-dwells_on-clause-serves
+returns-then-dwells_on-clause-serves g c =
+    let i = c.self.inside in
+    let p = i.progress in
+    let job = job_of i.accepted.machine (commands_at i.block_delete i.accepted) in
+    let o = c.self.invariant in
+    let old = state_of p.done p.ring p.drive p.dwelt i.position i.tool i.panel in
+    let served : IsServed p.ring.loaded c.args.action = subst (λ (x : ControllerData). IsServed x.state.ring c.args.action)
+    (sym c.self.view_is) c.requires.head in
+    let ticks = c.dwells_on.ensures.value job (ap (λ (m : MachineFile). m.ticks_per_second) (sym c.machine-machine.ensures.value)) in
+    let still : RampState = record p.drive.ramp { rate = 0 } in
+    let halted = record p.drive { ramp = still } in
+    let one : p.dwelt + 1 ≡ suc p.dwelt = omega arith in
+    let more : nat_lt (suc p.dwelt) (ticks_of job c.args.action) ≡ true = sym ticks ∙ c.if-dwells_on.true in
+    let dwells : Dwells job old (Ok (Ticked None None)) (state_of p.done p.ring c.halt.new.self (p.dwelt + 1) i.position i.tool i.panel) = record {
+      slow = o.slow (served_still p.ring.loaded c.args.action served);
+      quiet = refl;
+      counts = ap (λ (d : Drive _). state_of p.done p.ring d (p.dwelt + 1) i.position i.tool i.panel) {y = halted} c.halt.ensures
+          ∙ ap (λ (n : ℕ). state_of p.done p.ring halted n i.position i.tool i.panel) one;
+    } in
+    rw (← c.self.view_is) (serves_more job c.args.action old _ _ more dwells)

@@ -6,6 +6,7 @@ use Rattle.ngc_controller.specs.Controller.{ControllerData}
 use Rattle.ngc_controller.specs.Panel.{effective_at}
 use Rattle.ngc_controller.specs.Fields.{travelled_of, state_of}
 use Rattle.ngc_controller.specs.Ring.{IsMoving}
+use Rattle.ngc_controller.proofs.AimLaws.{has_next}
 use Rattle.ngc_controller.proofs.OrderLaws.{left_order, target_as}
 use Rattle.ngc_controller.proofs.HeadLaws.{travels_by, travel_goes_on, order_goes_on, ends_on, travel_ends, goes_if, ends_if}
 use Rattle.ngc_controller.proofs.controller.Controller.travel.Goals as goal
@@ -91,3 +92,13 @@ returns-clause-travels g c =
     (travel_ends job p.ring.loaded old _ p.drive.ramp t.new.self c.wish-wish.result p.drive.target t.result.rate p.ring.place t.result.due t.result.ended
     f.new.self.ring.place f.result _ n.ring.loaded n.drive.ramp.rate n.done n.dwelt h e beyond queue refl (ap (λ (x : RampState). x.rate) (c.leave.ensures.ramp ∙ f.ensures.ramp))
     (omega (arith, c.leave.ensures.done, f.ensures.done)) c.leave.ensures.dwelt refl)
+
+pub follow-self-inside-requires-clause-room : goal.follow-self-inside-requires-clause-room
+follow-self-inside-requires-clause-room g c =
+    let i = c.self.inside in
+    let p = i.progress in
+    let job = job_of i.accepted.machine (commands_at i.block_delete i.accepted) in
+    let o = c.self.invariant in
+    let moves : IsMoving p.ring.loaded = subst (λ (x : ControllerData). IsMoving x.state.ring) (sym c.self.view_is) c.requires.moves in
+    let t = c.tick-travel in
+    has_next job p.done p.ring.loaded p.ring.place p.drive.ramp t.new.self c.wish-wish.result t.result.rate t.result.due t.result.ended moves o.legs o.place t.ensures
