@@ -63,14 +63,18 @@ plane_by before (Some code) =
 abbrev pub turn_of : Code → Turn
 turn_of code = if is_among codes.COUNTERCLOCKWISE code then Counterclockwise else Clockwise
 
--- I, J and K; an absolute height has the offset of G43.1 added, as Z has
+-- an absolute height has the offset of G43.1 added, as Z has
+abbrev pub centre_in : Bool → InForce → AxisLengths → Result AxisLengths Fault
+centre_in absolute force lengths =
+    if absolute then with_length force.length lengths else Ok lengths
+
+-- I, J and K
 unfoldable pub centre_words : Bool → InForce → List Word → Result AxisLengths Fault
 centre_words absolute force words = do
   i ← word_length force.units bytes.I words
   j ← word_length force.units bytes.J words
   k ← word_length force.units bytes.K words
-  if absolute then with_length force.length (record { x = i; y = j; z = k })
-  else Ok (record { x = i; y = j; z = k })
+  centre_in absolute force (record { x = i; y = j; z = k })
 
 -- P counts turns, unless it is the dwell's
 abbrev pub turn_word : List Code → List Word → Result (Option ℤ) Fault
