@@ -6,6 +6,7 @@ use Rattle.std.specs.Prelude.{if◌then◌else◌}
 use Rattle.ngc_fixed_length.specs.Signed.{is_zero}
 use Rattle.ngc_fixed_length.specs.declared.modes.FeedMode.{FeedMode}
 use Rattle.ngc_fixed_length.specs.declared.modes.FeedMode.TheVariants.{PerMinute, InverseTime}
+use Rattle.ngc_fixed_length.specs.declared.modes.Turn.TheVariants.{Clockwise, Counterclockwise}
 use Rattle.ngc_modal_state.specs.declared.code.MotionMode.{MotionMode}
 use Rattle.ngc_modal_state.specs.declared.code.MotionMode.TheVariants as motions
 use Rattle.ngc_offsets.specs.declared.given.AxisLengths.{AxisLengths}
@@ -35,9 +36,11 @@ with_length length axes = do
 abbrev pub is_mode : MotionMode → Code → Bool
 is_mode motions.Traverse code = is_code code (G 0)
 is_mode motions.Straight code = is_code code (G 10)
+is_mode (motions.Arc Clockwise) code = is_code code (G 20)
+is_mode (motions.Arc Counterclockwise) code = is_code code (G 30)
 is_mode _ code = false
 
--- G1 needs a feed, and in inverse time F; there each motion may have F
+-- G1 and arcs need a feed, and in inverse time F; there each motion may have F
 abbrev pub has_no_feed : Option ℤ → Bool
 has_no_feed None = true
 has_no_feed (Some f) = is_zero f
@@ -61,10 +64,20 @@ abbrev pub motion_lengths : Bool → InForce → AxisLengths → Result AxisLeng
 motion_lengths is_machine force axes =
     if is_machine || is_incremental force.distance then Ok axes else with_length force.length axes
 
--- a motion by its code, lengths and F
+abbrev pub no_lengths : AxisLengths
+no_lengths = record { x = None; y = None; z = None }
+
+-- a straight motion by its code, lengths and F
 abbrev pub motion : Bool → Option Code → AxisLengths → Option ℤ → Action
-motion is_machine code axes f =
-    record { is_machine = is_machine; code = code; l = None; p = None; axes = axes; f = f }
+motion is_machine code axes f = record {
+  is_machine = is_machine;
+  code = code;
+  l = None;
+  p = None;
+  axes = axes;
+  centre = no_lengths;
+  f = f;
+}
 
 unfoldable pub straight :
     Known → List Code → List Word → InForce → Option ℤ → Code → Result Action Fault

@@ -1,5 +1,6 @@
 -- Faults and their numbers, and steps that may refuse a line. Our own.
 use Rattle.std.specs.Prelude.{ℕ, ◌≡◌, Option, Some, None, Result, Ok, Err, Bool, if◌then◌else◌}
+use Rattle.ngc_dialect_arcs.specs.Refusals.{refusal_number}
 use Rattle.ngc_dialect_rules.specs.declared.code.Code.{Code}
 use Rattle.ngc_dialect_rules.specs.declared.fault.Cause.{Cause}
 use Rattle.ngc_dialect_rules.specs.declared.fault.Cause.TheVariants as causes
@@ -11,6 +12,7 @@ fault_number causes.UnknownCode = 204
 fault_number (causes.LeftOut what) = 205
 fault_number causes.LengthTooLarge = 101
 fault_number causes.FeedZero = 252
+fault_number (causes.Arc refusal) = refusal_number refusal
 fault_number _ = 211
 
 -- a fault with the word that it is about

@@ -11,4 +11,5 @@ pub mod Moves
 pub mod Plain
 pub mod Actions
 pub mod Offsets
+pub mod Arcs
 pub mod Rules

@@ -35,7 +35,25 @@ abbrev pub first_axis : List Word → ℕ
 first_axis words =
     if has_letter bytes.X words then bytes.X else (if has_letter bytes.Y words then bytes.Y else bytes.Z)
 
--- A motion code of the line moves if there are axis words and no other code takes them.
+abbrev pub has_offsets : List Word → Bool
+has_offsets words =
+    has_letter bytes.I words || has_letter bytes.J words || has_letter bytes.K words
+
+-- an arc's code of the line moves by I, J, K and R too; one in force by I, J and K
+abbrev pub has_arc_words : Code → List Word → Bool
+has_arc_words code words =
+    is_among codes.ARCS code && (has_offsets words || has_letter bytes.R words)
+
+abbrev pub is_one_of : List Code → Option Code → Bool
+is_one_of table None = false
+is_one_of table (Some code) = is_among table code
+
+unfoldable pub goes_on : Known → List Code → List Word → Bool
+goes_on k line words =
+    is_one_of codes.ARCS k.front.motion && has_offsets words
+    && not (has codes.MOTION_END line) && not (has codes.TAKE_AXES line)
+
+-- A motion code of the line moves if there are words for it and no other code takes them.
 abbrev pub moved_by_code : Dialect → List Code → Bool → Code → Result (Option Code) Fault
 moved_by_code d line axes code =
     if axes && has codes.WORD_LENGTH line then Err (about_code causes.MotionBesideLength code) else (
@@ -58,9 +76,10 @@ moved_without_code k line words axes =
     if has codes.WORD_LENGTH line then Ok None else moved_by_mode (first_axis words) k.front.motion)))
 
 abbrev pub moved_by : Known → List Code → List Word → Option Code → Result (Option Code) Fault
-moved_by k line words None = moved_without_code k line words (has_axes k.dialect line words)
+moved_by k line words None =
+    moved_without_code k line words (has_axes k.dialect line words || goes_on k line words)
 moved_by k line words (Some code) =
-    moved_by_code k.dialect line (has_axes k.dialect line words) code
+    moved_by_code k.dialect line (has_axes k.dialect line words || has_arc_words code words) code
 
 -- the code of the motion that the line makes, if it makes one
 unfoldable pub motion_of : Known → List Code → List Word → Result (Option Code) Fault
@@ -87,10 +106,6 @@ machine_place_fault k line force =
     then Some (about_code causes.MachinePlaceInG91 (G 530)) else None))
 
 -- ---- words that nothing uses
-
-abbrev pub is_one_of : List Code → Option Code → Bool
-is_one_of table None = false
-is_one_of table (Some code) = is_among table code
 
 -- a letter that is on the line, where no code and no motion uses it
 unfoldable pub is_idle : List Code → ℕ → List Code → Option Code → List Word → Bool

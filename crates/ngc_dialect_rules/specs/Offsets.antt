@@ -28,7 +28,7 @@ use Rattle.ngc_dialect_rules.specs.declared.fault.LeftOut.TheVariants as things
 use Rattle.ngc_dialect_rules.specs.declared.plan.InForce.{InForce}
 use Rattle.ngc_dialect_rules.specs.declared.front.Front.{Front}
 use Rattle.ngc_dialect_rules.specs.declared.front.Known.{Known}
-use Rattle.ngc_dialect_rules.specs.Actions.{with_length, written_code, motion, motion_lengths}
+use Rattle.ngc_dialect_rules.specs.Actions.{with_length, written_code, motion, motion_lengths, no_lengths}
 use Rattle.ngc_dialect_rules.specs.Codes.{is_code}
 use Rattle.ngc_dialect_rules.specs.Faults.{◌>>=◌, about_code, about_letter, refuse_if}
 use Rattle.ngc_dialect_rules.specs.Force.{is_moved}
@@ -146,6 +146,7 @@ set_by system axes = record {
   l = Some (pos 2000000);
   p = Some (pos ((index system + 1) * 1000000));
   axes = axes;
+  centre = no_lengths;
   f = None;
 }
 

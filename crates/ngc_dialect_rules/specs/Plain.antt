@@ -1,7 +1,7 @@
 -- Plain lines of our own language: their words in order, with a mark after the last word of each
 -- line.
 use Rattle.std.specs.Prelude.{ℕ, ◌-◌, ◌*◌, ◌==◌, ℤ, pos, Bool, true, false, List, [], ◌∷◌, ◌++◌}
-use Rattle.std.specs.Prelude.{Option, Some, None, option_map, is_some}
+use Rattle.std.specs.Prelude.{Option, Some, None, option_map, is_some, ◌&&◌}
 use Rattle.std.specs.Prelude.{length, slice_get, if◌then◌else◌}
 use Rattle.ngc_fixed_length.specs.declared.units.Units.{Units}
 use Rattle.ngc_fixed_length.specs.declared.units.Units.TheVariants.{Millimetres, Inches}
@@ -70,12 +70,15 @@ action_words units a =
     ∷ a_word letters.P a.p
     ∷ axis_word units letters.X a.axes.x ∷ axis_word units letters.Y a.axes.y
     ∷ axis_word units letters.Z a.axes.z
+    ∷ axis_word units letters.I a.centre.x ∷ axis_word units letters.J a.centre.y
+    ∷ axis_word units letters.K a.centre.z
     ∷ a_word letters.F a.f ∷ []
 
 -- The words end the line that is begun. If inches can't write a length, the line is in
 -- millimetres, and G20 follows.
 unfoldable pub with_action : Units → Action → List Plain → List Plain
 with_action units a ps =
-    if is_exact units a.axes then ended (with_words (action_words units a) ps)
+    if is_exact units a.axes && is_exact units a.centre
+    then ended (with_words (action_words units a) ps)
     else ended (with_words (Some (code_word (G 200)) ∷ [])
     (ended (with_words (Some (code_word (G 210)) ∷ action_words Millimetres a) (ended ps))))

@@ -26,6 +26,7 @@ use Rattle.ngc_dialect_rules.specs.declared.plain.Plain.{Plain}
 use Rattle.ngc_dialect_rules.specs.declared.plan.Plan.{Plan}
 use Rattle.ngc_dialect_rules.specs.declared.plan.Amounts.{Amounts}
 use Rattle.ngc_dialect_rules.specs.Actions.{straight, is_mode, has_no_feed}
+use Rattle.ngc_dialect_rules.specs.Arcs.{arc}
 use Rattle.ngc_dialect_rules.specs.Codes.{is_code}
 use Rattle.ngc_dialect_rules.specs.Faults.{◌>>=◌, about_code, about_letter, refuse_of}
 use Rattle.ngc_dialect_rules.specs.Force.{force_of, retract_by, centres_by}
@@ -104,7 +105,9 @@ some_action r = r >>= λ a. Ok (Some a)
 abbrev pub motion_by :
     Known → List Code → List Word → InForce → Option ℤ → Option Code → Result (Option Action) Fault
 motion_by k line words force f None = Ok None
-motion_by k line words force f (Some code) = some_action (straight k line words force f code)
+motion_by k line words force f (Some code) =
+    some_action (if is_among codes.ARCS code then arc k line words force f code
+    else straight k line words force f code)
 
 unfoldable pub first_action :
     Known → List Code → List Word → InForce → Option ℤ → Option Code → Result (Option Action) Fault
@@ -119,7 +122,7 @@ abbrev pub second_action : Known → List Word → Option Code → Option Action
 second_action k words None = None
 second_action k words (Some home) = Some (go_home k words home)
 
--- a motion code without a motion, and G80, are written if they change the interpreter's motion
+-- LinuxCNC has no arc without words. Another motion code without a motion, and G80, are written if they change the interpreter's motion
 -- mode; after a way home that is G0
 abbrev pub mode_then : Known → List Code → MotionMode
 mode_then k line = if has codes.HOMES line then motions.Traverse else k.modes.motion
@@ -130,10 +133,12 @@ is_per_minute InverseTime = false
 
 abbrev pub lone_code : Known → List Code → InForce → Code → Result (Option Code) Fault
 lone_code k line force code =
+    if is_linuxcnc k.dialect && is_among codes.ARCS code
+    then Err (about_code causes.WordMissing code) else (
     if is_mode (mode_then k line) code then Ok None else (
     if is_linuxcnc k.dialect && is_among codes.FEED_MOTION code && is_per_minute force.feed_mode
     && has_no_feed force.feed
-    then Err (about_code causes.FeedZero code) else Ok (Some code))
+    then Err (about_code causes.FeedZero code) else Ok (Some code)))
 
 abbrev pub last_code : Known → List Code → InForce → Option Code → Result (Option Code) Fault
 last_code k line force None = Ok (if has codes.MOTION_END line then Some (G 800) else None)

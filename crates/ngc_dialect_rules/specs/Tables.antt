@@ -72,8 +72,7 @@ left_out_motion d code =
     if is_among codes.THREADS code then Some things.Threads else (
     if is_among codes.PROBING code then Some things.Probing else (
     if not (is_fanuc d) && is_among codes.SPLINES code then Some things.Splines else (
-    if is_among codes.ARCS code then Some things.Arcs else (
-    if is_among codes.CYCLES code then Some things.Cycles else None))))))
+    if is_among codes.CYCLES code then Some things.Cycles else None)))))
 
 -- modes
 unfoldable pub left_out_mode : Code → Option LeftOut

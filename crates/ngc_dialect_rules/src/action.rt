@@ -11,7 +11,7 @@ use crate::moves::is_incremental;
 use crate::plan::{Action, InForce};
 use crate::table::{has, is_among};
 use ngc_dialect_parameters::Word;
-use ngc_fixed_length::{FeedMode, Nm, Value};
+use ngc_fixed_length::{FeedMode, Nm, Turn, Value};
 use ngc_modal_state::MotionMode;
 use ngc_offsets::AxisLengths;
 
@@ -34,6 +34,8 @@ pub(crate) fn is_mode(mode: MotionMode, code: Code) -> bool
     match mode {
         MotionMode::Traverse => code.is(Code::G(0)),
         MotionMode::Straight => code.is(Code::G(10)),
+        MotionMode::Arc(Turn::Clockwise) => code.is(Code::G(20)),
+        MotionMode::Arc(Turn::Counterclockwise) => code.is(Code::G(30)),
         _ => false,
     }
 }
@@ -101,7 +103,18 @@ pub(crate) fn motion_lengths(
     }
 }
 
-/// Returns a motion, by its code, lengths and F.
+/// Returns no lengths.
+pub(crate) fn no_lengths() -> AxisLengths
+    ensures { result ≡ spec.no_lengths }
+{
+    AxisLengths {
+        x: None,
+        y: None,
+        z: None,
+    }
+}
+
+/// Returns a straight motion, by its code, lengths and F.
 pub(crate) fn motion(
     is_machine: bool,
     code: Option<Code>,
@@ -116,6 +129,7 @@ pub(crate) fn motion(
         l: None,
         p: None,
         axes,
+        centre: no_lengths(),
         f,
     }
 }

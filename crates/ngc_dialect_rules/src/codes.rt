@@ -5,11 +5,14 @@ use crate::code::Code::{G, M};
 /// Straight motions: G0 and G1.
 pub const STRAIGHT: [Code; 2] = [G(0), G(10)];
 
-/// G1, which moves at the feed.
-pub const FEED_MOTION: [Code; 1] = [G(10)];
+/// G1, G2 and G3, which move at the feed.
+pub const FEED_MOTION: [Code; 3] = [G(10), G(20), G(30)];
 
 /// Arcs: G2 and G3.
 pub const ARCS: [Code; 2] = [G(20), G(30)];
+
+/// G3, which turns counterclockwise.
+pub const COUNTERCLOCKWISE: [Code; 1] = [G(30)];
 
 /// Canned cycles.
 pub const CYCLES: [Code; 7] = [G(730), G(810), G(820), G(830), G(850), G(860), G(890)];
@@ -34,6 +37,11 @@ pub const MOTION_END: [Code; 1] = [G(800)];
 
 /// The planes.
 pub const PLANES: [Code; 3] = [G(170), G(180), G(190)];
+
+/// G18, and G19.
+pub const PLANE_ZX: [Code; 1] = [G(180)];
+
+pub const PLANE_YZ: [Code; 1] = [G(190)];
 
 /// The distance modes: G90 and G91.
 pub const DISTANCES: [Code; 2] = [G(900), G(910)];
@@ -132,6 +140,9 @@ pub const MACHINE_PLACE: [Code; 1] = [G(530)];
 
 /// G92, which sets an offset.
 pub const OFFSET: [Code; 1] = [G(920)];
+
+/// G92.3, which restores the offset of G92.
+pub const OFFSET_RESTORED: [Code; 1] = [G(923)];
 
 /// G92.1, G92.2 and G92.3.
 pub const OFFSET_CHANGES: [Code; 3] = [G(921), G(922), G(923)];

@@ -3,6 +3,7 @@ ghost use Rattle.std.specs.Prelude.{◌≡◌};
 ghost use Rattle.ngc_dialect_rules.specs.Faults as spec;
 
 use crate::code::Code;
+use ngc_dialect_arcs::ArcRefusal;
 use thiserror::Error;
 
 /// What no dialect has here.
@@ -42,8 +43,6 @@ pub enum LeftOut {
     ModeSaving,
     #[error("subprograms")]
     Calls,
-    #[error("arcs")]
-    Arcs,
     #[error("canned cycles")]
     Cycles,
     #[error("the tool table")]
@@ -96,8 +95,10 @@ pub enum Cause {
     #[error("G10 with a number that isn't a coordinate system")]
     NoSuchSystem,
     /// The offset of the line's G43 isn't known yet.
-    #[error("G43 beside G10 L20, G28, G30 or G52")]
+    #[error("G43 beside G10 L20, G28, G30, G52 or an arc")]
     LengthBeside,
+    #[error("{0}")]
+    Arc(ArcRefusal),
 }
 
 impl Cause {
@@ -112,6 +113,7 @@ impl Cause {
             Cause::LeftOut(_) => 205,
             Cause::LengthTooLarge => 101,
             Cause::FeedZero => 252,
+            Cause::Arc(refusal) => refusal.number(),
             _ => 211,
         }
     }

@@ -4,6 +4,7 @@
 
 mod action;
 mod amount;
+mod arc;
 mod code;
 mod codes;
 mod fault;

@@ -45,6 +45,30 @@ fn first_axis(words: &[Word]) -> u8
     }
 }
 
+fn has_offsets(words: &[Word]) -> bool
+    ensures { result ≡ spec.has_offsets words.now }
+{
+    has_letter(b'I', words) || has_letter(b'J', words) || has_letter(b'K', words)
+}
+
+// Returns whether a code is an arc's, and a line has words for one.
+fn has_arc_words(code: Code, words: &[Word]) -> bool
+    ensures { result ≡ spec.has_arc_words code words.now }
+{
+    is_among(&codes::ARCS, code) && (has_offsets(words) || has_letter(b'R', words))
+}
+
+// Returns whether a line's offsets alone make an arc.
+#[tactic(auto, unfolding(crate::specs::Moves::goes_on))]
+fn goes_on(known: &Known, line: &[Code], words: &[Word]) -> bool
+    ensures { result ≡ spec.goes_on known.now line.now words.now }
+{
+    is_one_of(&codes::ARCS, known.front.motion)
+        && has_offsets(words)
+        && !has(&codes::MOTION_END, line)
+        && !has(&codes::TAKE_AXES, line)
+}
+
 fn moved_by_code(
     dialect: Dialect,
     line: &[Code],
@@ -101,8 +125,11 @@ pub(crate) fn motion_of(known: &Known, line: &[Code], words: &[Word]) -> Result<
 {
     let axes = has_axes(known.dialect, line, words);
     match code_in(&codes::MOTIONS, line) {
-        Some(code) => moved_by_code(known.dialect, line, axes, code),
-        None => moved_without_code(known, line, words, axes),
+        Some(code) => {
+            let moves = axes || has_arc_words(code, words);
+            moved_by_code(known.dialect, line, moves, code)
+        }
+        None => moved_without_code(known, line, words, axes || goes_on(known, line, words)),
     }
 }
 

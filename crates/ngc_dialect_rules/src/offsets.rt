@@ -3,7 +3,7 @@ ghost use Rattle.std.specs.Prelude.{◌≡◌, ◌+◌, ◌*◌, ◌<◌, ◌≤
 ghost use Rattle.ngc_dialect_rules.specs.Offsets as spec;
 ghost use Rattle.ngc_offsets.specs.Frames.{index, origin_of as origin_in};
 
-use crate::action::{motion, motion_lengths, with_length, written_code};
+use crate::action::{motion, motion_lengths, no_lengths, with_length, written_code};
 use crate::code::Code;
 use crate::codes;
 use crate::fault::{Cause, Fault, LeftOut, about_code, about_letter};
@@ -44,7 +44,7 @@ fn system_of_code(code: Code) -> System
 }
 
 #[tactic(auto, unfolding(crate::specs::Offsets::system_after))]
-fn system_after(known: &Known, line: &[Code]) -> System
+pub(crate) fn system_after(known: &Known, line: &[Code]) -> System
     ensures { result ≡ spec.system_after known.now line.now }
 {
     match code_in(&codes::SYSTEMS, line) {
@@ -111,7 +111,7 @@ fn index_of(system: System) -> usize
     }
 }
 
-fn origin_of(frames: &Frames, system: System) -> Point3
+pub(crate) fn origin_of(frames: &Frames, system: System) -> Point3
     ensures { result ≡ origin_in frames.now system }
 {
     frames.origins[index_of(system)]
@@ -188,7 +188,7 @@ fn left_from(
 }
 
 #[tactic(auto, unfolding(crate::specs::Offsets::own_length))]
-fn own_length(known: &Known, line: &[Code], words: &[Word]) -> Result<Nm, Fault>
+pub(crate) fn own_length(known: &Known, line: &[Code], words: &[Word]) -> Result<Nm, Fault>
     ensures { result ≡ spec.own_length known.now line.now words.now }
 {
     if has(&codes::TABLE_LENGTHS, line) {
@@ -250,6 +250,7 @@ fn set_by(system: System, axes: AxisLengths) -> Action
         l: Some(whole_value(2)),
         p: Some(whole_value(index_of(system) + 1)),
         axes,
+        centre: no_lengths(),
         f: None,
     }
 }

@@ -124,10 +124,10 @@ fn machine_place(is_machine: bool) -> Option<Code>
 }
 
 fn add_action_words(lines: &mut PlainLines, units: Units, action: &Action)
-    requires { array_vec_len lines.old ≤ 56 }
+    requires { array_vec_len lines.old ≤ 53 }
     ensures items { lines.new.items
         ≡ spec.with_words (spec.action_words units action.now) lines.old.items }
-    ensures room { array_vec_len lines.new ≤ array_vec_len lines.old + 8 }
+    ensures room { array_vec_len lines.new ≤ array_vec_len lines.old + 11 }
 {
     add(lines, a_code(machine_place(action.is_machine)));
     add(lines, a_code(action.code));
@@ -136,6 +136,9 @@ fn add_action_words(lines: &mut PlainLines, units: Units, action: &Action)
     add(lines, axis_word(units, Letter::X, action.axes.x));
     add(lines, axis_word(units, Letter::Y, action.axes.y));
     add(lines, axis_word(units, Letter::Z, action.axes.z));
+    add(lines, axis_word(units, Letter::I, action.centre.x));
+    add(lines, axis_word(units, Letter::J, action.centre.y));
+    add(lines, axis_word(units, Letter::K, action.centre.z));
     add(lines, a_word(Letter::F, action.f));
 }
 
@@ -143,11 +146,11 @@ fn add_action_words(lines: &mut PlainLines, units: Units, action: &Action)
 /// millimetres, and a line with G20 follows.
 #[tactic(auto, unfolding(crate::specs::Plain::with_action))]
 pub(crate) fn add_action(lines: &mut PlainLines, units: Units, action: &Action)
-    requires { array_vec_len lines.old ≤ 51 }
+    requires { array_vec_len lines.old ≤ 48 }
     ensures items { lines.new.items ≡ spec.with_action units action.now lines.old.items }
-    ensures room { array_vec_len lines.new ≤ array_vec_len lines.old + 13 }
+    ensures room { array_vec_len lines.new ≤ array_vec_len lines.old + 16 }
 {
-    if is_exact(units, &action.axes) {
+    if is_exact(units, &action.axes) && is_exact(units, &action.centre) {
         add_action_words(lines, units, action);
         end_line(lines);
         return;

@@ -37,6 +37,8 @@ pub(crate) struct Action {
     pub(crate) l: Option<Value>,
     pub(crate) p: Option<Value>,
     pub(crate) axes: AxisLengths,
+    /// I, J and K of an arc, along X, Y and Z.
+    pub(crate) centre: AxisLengths,
     pub(crate) f: Option<Value>,
 }
 

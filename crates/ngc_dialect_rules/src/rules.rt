@@ -7,6 +7,7 @@ ghost use Rattle.ngc_line_reader.specs.Scan.{Gives};
 
 use crate::action::{has_no_feed, is_mode, straight};
 use crate::amount::{amounts_of, mounted_after, selected_after};
+use crate::arc::arc;
 use crate::code::Code;
 use crate::codes;
 use crate::fault::{Cause, Fault, about_code, about_letter};
@@ -154,7 +155,13 @@ fn motion_by(
 {
     match moves {
         None => Ok(None),
-        Some(code) => some_action(straight(known, line, words, force, f, code)),
+        Some(code) => {
+            if is_among(&codes::ARCS, code) {
+                some_action(arc(known, line, words, force, f, code))
+            } else {
+                some_action(straight(known, line, words, force, f, code))
+            }
+        }
     }
 }
 
@@ -224,6 +231,9 @@ fn lone_code(
 ) -> Result<Option<Code>, Fault>
     ensures { result ≡ spec.lone_code known.now line.now force.now code }
 {
+    if is_linuxcnc(known.dialect) && is_among(&codes::ARCS, code) {
+        return Err(about_code(Cause::WordMissing, code));
+    }
     if is_mode(mode_then(known, line), code) {
         return Ok(None);
     }
@@ -316,9 +326,9 @@ fn plan_of(known: &Known, line: &[Code], words: &[Word]) -> Result<Plan, Fault>
 }
 
 fn add_some_action(lines: &mut PlainLines, units: Units, action: &Option<Action>)
-    requires { array_vec_len lines.old ≤ 51 }
+    requires { array_vec_len lines.old ≤ 48 }
     ensures items { lines.new.items ≡ spec.with_some_action units action.now lines.old.items }
-    ensures room { array_vec_len lines.new ≤ array_vec_len lines.old + 13 }
+    ensures room { array_vec_len lines.new ≤ array_vec_len lines.old + 16 }
 {
     match action {
         None => {}
@@ -327,7 +337,7 @@ fn add_some_action(lines: &mut PlainLines, units: Units, action: &Option<Action>
 }
 
 fn add_last_words(lines: &mut PlainLines, line: &[Code], code: Option<Code>)
-    requires { array_vec_len lines.old ≤ 48 }
+    requires { array_vec_len lines.old ≤ 60 }
     ensures items { lines.new.items ≡ with_words (spec.last_words line.now code) lines.old.items }
     ensures room { array_vec_len lines.new ≤ array_vec_len lines.old + 2 }
 {

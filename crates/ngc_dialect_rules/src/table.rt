@@ -124,8 +124,6 @@ fn left_out_motion(dialect: Dialect, code: Code) -> Option<LeftOut>
         Some(LeftOut::Probing)
     } else if !is_fanuc(dialect) && is_among(&codes::SPLINES, code) {
         Some(LeftOut::Splines)
-    } else if is_among(&codes::ARCS, code) {
-        Some(LeftOut::Arcs)
     } else if is_among(&codes::CYCLES, code) {
         Some(LeftOut::Cycles)
     } else {
