@@ -1,0 +1,10 @@
+pub mod Marks
+pub mod Searches
+pub mod Places
+pub mod State
+pub mod Loops
+pub mod Calls
+pub mod Words
+pub mod Next
+pub mod Returning
+pub mod Faults
