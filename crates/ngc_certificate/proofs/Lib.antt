@@ -57,3 +57,5 @@ pub mod GoodResults
 pub mod UnclearedLaws
 -- The commands before the one at which a setting is refused, and that one.
 pub mod RefusedLaws
+-- Traverses on a machine whose control may take any way within the box of their ends.
+pub mod TraverseLaws

@@ -1,5 +1,5 @@
 -- The certificate that is made is valid, and it is made if each motion clears undivided.
-use Rattle.std.proofs.Common.{◌≡◌, inl, inr, ℕ, ◌+◌, ◌<◌, ◌≤◌, refl, ap, ap₂, sym, subst, ◌∙◌, arith, List, [], ◌∷◌, ◌++◌, map, Some, None, Ok, Err, true}
+use Rattle.std.proofs.Common.{◌≡◌, inl, inr, ℕ, ◌+◌, ◌<◌, ◌≤◌, refl, ap, ap₂, sym, subst, ◌∙◌, arith, List, [], ◌∷◌, ◌++◌, map, length, Some, None, Ok, Err, true}
 use Rattle.std.proofs.Common.{false}
 use Rattle.std.specs.Prelude.{Option, Result, option_map, Bool, nat_lt}
 use Rattle.std.specs.List.{find, filter}
@@ -26,6 +26,7 @@ use Rattle.ngc_certificate.specs.declared.fault.MakeFault.TheVariants.{NotCleare
 use Rattle.ngc_certificate.specs.declared.maker.MotionRefusal.{MotionRefusal}
 use Rattle.ngc_certificate.specs.declared.maker.MotionRefusal.TheVariants as refusals
 use Rattle.ngc_certificate.specs.PieceFault.{pieces_fault, place_fault, ArePiecesValid}
+use Rattle.ngc_certificate.specs.Traverses.{takes_any_way, most_pieces, AreWhole}
 use Rattle.ngc_certificate.specs.Valid.{AreClearFrom, IsValid}
 use Rattle.ngc_certificate.specs.Made.{pieces_of, cleared, with_entry, with_pieces, unless_met, MayFindPieces, IsMadeFrom, IsSettingMade, join_settings, from_start}
 use Rattle.ngc_certificate.specs.Made.{IsMade, MadeResultIs, clears_from, clears_undivided}
@@ -34,6 +35,7 @@ use Rattle.ngc_certificate.proofs.NoFault.{clear_at}
 use Rattle.ngc_certificate.proofs.TrueTests.{both}
 use Rattle.ngc_certificate.proofs.Cleared.{found_valid, none_of}
 use Rattle.ngc_certificate.proofs.SomeMade.{some_made}
+use Rattle.ngc_certificate.proofs.TraverseLaws.{most_least, most_greatest, found_whole}
 
 err_ok : {X E : Type 0} (x : X) (e : E) → Err e ≡ Ok x → ⊥
 err_ok x e h = cc
@@ -46,6 +48,7 @@ same_ok x y r h i = cc
 record AreMade (machine : MachineFile) (k : ℕ) (tool : Option Tool) (place : Point3) (actions : List Action) (entries : List Entry) : Type 0 where
   indices : map (λ entry. entry.index) entries ≡ motion_indices k actions
   clear : AreClearFrom machine tool place actions entries
+  whole : AreWhole machine actions entries
 
 -- a motion before those that are made
 record Fronted (k : ℕ) (pieces : List Piece) (rest : Result (List Entry) ℕ) (entries : List Entry) : Type 0 where
@@ -80,36 +83,38 @@ unmet (Some fixture) k rest entries h = absurd (err_ok entries k h)
 -- one more entry
 entry_more : (machine : MachineFile) (k : ℕ) (tool : Option Tool) (place : Point3) (m : Motion) (actions : List Action) (pieces : List Piece)
     (later entries : List Entry) →
-    ArePiecesValid machine tool m.way pieces → AreMade machine (k + 1) tool (end_of m.way) actions later →
+    ArePiecesValid machine tool m.way pieces → (takes_any_way machine m.pace ≡ true → length pieces ≤ 1) → AreMade machine (k + 1) tool (end_of m.way) actions later →
     entries ≡ record { index = k; pieces = pieces } ∷ later →
     AreMade machine k tool place (Move m ∷ actions) entries
-entry_more machine k tool place m actions pieces later entries valid rest all =
+entry_more machine k tool place m actions pieces later entries valid single rest all =
     subst (AreMade machine k tool place (Move m ∷ actions)) (sym all)
-    (record { indices = ap (λ ks. k ∷ ks) rest.indices; clear = (valid, rest.clear) })
+    (record { indices = ap (λ ks. k ∷ ks) rest.indices; clear = (valid, rest.clear); whole = (single, rest.whole) })
 
 are_made : (machine : MachineFile) (most k : ℕ) (tool : Option Tool) (place : Point3) (actions : List Action) (says : Result (List Entry) ℕ)
     (entries : List Entry) → 1 ≤ most → most ≤ 65535 →
     IsMadeFrom machine most k tool place actions says → says ≡ Ok entries → AreMade machine k tool place actions entries
 are_made machine most k tool place [] says entries least greatest made h =
-    record { indices = ap (map (λ (entry : Entry). entry.index)) (same_ok entries [] says h made); clear = tt }
+    record { indices = ap (map (λ (entry : Entry). entry.index)) (same_ok entries [] says h made); clear = tt; whole = tt }
 are_made machine most k tool place (Mount new ∷ actions) says entries least greatest made h =
     let u = unmet (place_fault machine new (grid machine.step place)) k made.0 entries (sym made.2 ∙ h) in
     let rest = are_made machine most (k + 1) new place actions made.0 entries least greatest made.1 (sym u.same) in
-    record { indices = rest.indices; clear = (clear_at machine new (grid machine.step place) u.none, rest.clear) }
+    record { indices = rest.indices; clear = (clear_at machine new (grid machine.step place) u.none, rest.clear); whole = rest.whole }
 are_made machine most k tool place (Move m ∷ actions) says entries least greatest made h =
     let c = pieces_in_front k made.0 made.1 entries (sym made.4 ∙ h) in
     let rest = are_made machine most (k + 1) tool (end_of m.way) actions made.1 c.front.later least greatest made.3 c.front.made in
     entry_more machine k tool place m actions c.pieces c.front.later entries
-    (found_valid machine most tool m.way made.0 c.pieces least greatest made.2 c.is) rest c.front.all
+    (found_valid machine (most_pieces machine most m.pace) tool m.way made.0 c.pieces (most_least machine most m.pace least)
+    (most_greatest machine most m.pace greatest) made.2 c.is)
+    (found_whole machine most tool m.way m.pace made.0 c.pieces made.2 c.is) rest c.front.all
 are_made machine most k tool place (_ ∷ actions) says entries least greatest made h =
     let rest = are_made machine most (k + 1) tool place actions says entries least greatest made h in
-    record { indices = rest.indices; clear = rest.clear }
+    record { indices = rest.indices; clear = rest.clear; whole = rest.whole }
 
 valid_setting : (machine : MachineFile) (most : ℕ) (commands : List Command) (entries : List Entry) → 1 ≤ most → most ≤ 65535 →
     place_fault machine None (grid machine.step machine.start) ≡ None → IsSettingMade machine most commands (Ok entries) → IsValid machine commands entries
 valid_setting machine most commands entries least greatest start h =
     let made = are_made machine most 0 None machine.start (actions_of commands) (Ok entries) entries least greatest h refl in
-    record { motions = made.indices; start = clear_at machine None (grid machine.step machine.start) start; clear = made.clear }
+    record { motions = made.indices; start = clear_at machine None (grid machine.step machine.start) start; clear = made.clear; whole = made.whole }
 
 -- ---- motions that clear undivided
 
@@ -157,7 +162,8 @@ all_made machine most k tool place (Mount new ∷ actions) says least h made =
 all_made machine most k tool place (Move m ∷ actions) says least h made =
     let e = both (is_none (pieces_fault machine tool m.way (pieces_of machine.step m.way 1))) (clears_from machine tool (end_of m.way) actions) h in
     let rest = all_made machine most (k + 1) tool (end_of m.way) actions made.1 least e.1 made.3 in
-    let more = list_more k (pieces_of machine.step m.way 1) made.0 made.1 (found_undivided machine most tool m.way made.0 least e.0 made.2) rest in
+    let more = list_more k (pieces_of machine.step m.way 1) made.0 made.1 (found_undivided machine (most_pieces machine most m.pace) tool m.way made.0
+    (most_least machine most m.pace least) e.0 made.2) rest in
     (more.0, made.4 ∙ more.1)
 all_made machine most k tool place (_ ∷ actions) says least h made = all_made machine most (k + 1) tool place actions says least h made
 

@@ -17,6 +17,7 @@ use Rattle.ngc_certificate_text.specs.declared.piece.Piece.{Piece}
 use Rattle.ngc_certificate_text.specs.Certificate.{Entry}
 use Rattle.ngc_certificate.specs.PieceFault.{place_fault}
 use Rattle.ngc_certificate.specs.Made.{with_entry, unless_met, MayFindPieces, IsMadeFrom, IsSettingMade}
+use Rattle.ngc_certificate.specs.Traverses.{most_pieces}
 use Rattle.ngc_certificate.specs.Making.{afterwards, MadeSoFar, IsAllowedFrom, Leads, SettingResultIs}
 use Rattle.ngc_certificate.specs.declared.maker.MotionRefusal.{MotionRefusal}
 use Rattle.ngc_certificate.specs.declared.maker.MotionRefusal.TheVariants.{NotCleared, Memory}
@@ -32,7 +33,7 @@ after_entry motions k pieces (Err refused) = refl
 -- a motion for which pieces are found
 pub goes_on : (machine : MachineFile) (most k : ℕ) (tool : Option Tool) (place new_place : Point3) (motions new_motions : List Entry) (m : Motion)
     (pieces same : List Piece) (actions : List Action) (says rest : Result (List Entry) ℕ) →
-    MayFindPieces machine most tool m.way (Some pieces) → same ≡ pieces → new_motions ≡ motions ++ (record { index = k; pieces = same } ∷ []) →
+    MayFindPieces machine (most_pieces machine most m.pace) tool m.way (Some pieces) → same ≡ pieces → new_motions ≡ motions ++ (record { index = k; pieces = same } ∷ []) →
     new_place ≡ end_of m.way →
     IsMadeFrom machine most (k + 1) tool new_place actions rest → says ≡ afterwards new_motions rest →
     (all : Result (List Entry) ℕ) × IsMadeFrom machine most k tool place (Move m ∷ actions) all × (says ≡ afterwards motions all)
@@ -45,7 +46,7 @@ goes_on machine most k tool place new_place motions new_motions m pieces same ac
 
 -- one for which none are found
 pub stops : (machine : MachineFile) (most k : ℕ) (tool : Option Tool) (place : Point3) (motions : List Entry) (m : Motion) (actions : List Action) →
-    MayFindPieces machine most tool m.way None → (all : Result (List Entry) ℕ) × IsMadeFrom machine most k tool place (Move m ∷ actions) all ×
+    MayFindPieces machine (most_pieces machine most m.pace) tool m.way None → (all : Result (List Entry) ℕ) × IsMadeFrom machine most k tool place (Move m ∷ actions) all ×
     (Err k ≡ afterwards motions all)
 stops machine most k tool place motions m actions found =
     let rest = some_made machine most (k + 1) tool (end_of m.way) actions in

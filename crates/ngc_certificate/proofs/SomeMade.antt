@@ -16,6 +16,7 @@ use Rattle.ngc_certificate_text.specs.Certificate.{Entry}
 use Rattle.ngc_certificate.specs.PieceFault.{place_fault}
 use Rattle.ngc_certificate.specs.Made.{pieces_of, cleared, with_pieces, unless_met, MayHavePieces, MayFindPieces, IsMadeFrom}
 use Rattle.ngc_certificate.specs.Making.{is_clear_in}
+use Rattle.ngc_certificate.specs.Traverses.{most_pieces}
 use Rattle.ngc_certificate.proofs.Cleared.{whole_stands, none_stands}
 
 whole_or_none : (machine : MachineFile) (most : ℕ) (tool : Option Tool) (a : ArcShape) (clear : Bool) → is_clear_in machine tool (Arc a) 1 ≡ clear →
@@ -34,7 +35,7 @@ some_made machine most k tool place (Mount new ∷ actions) =
     let rest = some_made machine most (k + 1) new place actions in
     (unless_met (place_fault machine new (grid machine.step place)) k rest.0, (rest.0, rest.1, refl))
 some_made machine most k tool place (Move m ∷ actions) =
-    let found = some_found machine most tool m.way in
+    let found = some_found machine (most_pieces machine most m.pace) tool m.way in
     let rest = some_made machine most (k + 1) tool (end_of m.way) actions in
     (with_pieces k found.0 rest.0, (found.0, rest.0, found.1, rest.1, refl))
 some_made machine most k tool place (_ ∷ actions) = some_made machine most (k + 1) tool place actions

@@ -14,6 +14,7 @@ use Rattle.ngc_certificate_text.specs.declared.piece.Piece.{Piece}
 use Rattle.ngc_certificate_text.specs.Certificate.{Entry}
 use Rattle.ngc_certificate.specs.PieceFault.{place_fault}
 use Rattle.ngc_certificate.specs.Made.{with_pieces, unless_met, MayFindPieces, IsMadeFrom}
+use Rattle.ngc_certificate.specs.Traverses.{most_pieces}
 use Rattle.ngc_certificate.specs.Uncleared.{unless_cleared, AreUnclearedFrom, BeginsAs, FirstUnclearedIsRefused, MadeNamesUncleared, NoneUnclearedIsMade}
 use Rattle.ngc_certificate.proofs.Cleared.{none_of}
 use Rattle.ngc_certificate.proofs.SomeMade.{some_found, some_made}
@@ -26,7 +27,7 @@ some_uncleared machine most k tool place (Mount new ∷ actions) =
     let rest = some_uncleared machine most (k + 1) new place actions in
     (unless_cleared (is_none (place_fault machine new (grid machine.step place))) k rest.0, (rest.0, rest.1, refl))
 some_uncleared machine most k tool place (Move m ∷ actions) =
-    let found = some_found machine most tool m.way in
+    let found = some_found machine (most_pieces machine most m.pace) tool m.way in
     let rest = some_uncleared machine most (k + 1) tool (end_of m.way) actions in
     (unless_cleared (is_some found.0) k rest.0, (found.0, rest.0, found.1, rest.1, refl))
 some_uncleared machine most k tool place (_ ∷ actions) = some_uncleared machine most (k + 1) tool place actions
@@ -43,7 +44,7 @@ at_mount machine most k tool new place actions (Some fixture) rest e h =
 
 at_motion : (machine : MachineFile) (most k : ℕ) (tool : Option Tool) (place : Point3) (m : Motion) (actions : List Action) (found : Option (List Piece))
     (rest : Result (List Entry) ℕ) →
-    MayFindPieces machine most tool m.way found → BeginsAs rest (AreUnclearedFrom machine most (k + 1) tool (end_of m.way) actions) →
+    MayFindPieces machine (most_pieces machine most m.pace) tool m.way found → BeginsAs rest (AreUnclearedFrom machine most (k + 1) tool (end_of m.way) actions) →
     BeginsAs (with_pieces k found rest) (AreUnclearedFrom machine most k tool place (Move m ∷ actions))
 at_motion machine most k tool place m actions None rest may h =
     let later = some_uncleared machine most (k + 1) tool (end_of m.way) actions in

@@ -4,6 +4,7 @@ pub mod DerivedBox
 pub mod PieceFault
 pub mod NoFault
 pub mod Inside
+pub mod Traverses
 pub mod Valid
 pub mod Covered
 pub mod Made

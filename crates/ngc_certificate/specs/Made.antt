@@ -26,6 +26,7 @@ use Rattle.ngc_certificate.specs.declared.fault.MakeFault.{MakeFault}
 use Rattle.ngc_certificate.specs.declared.fault.MakeFault.TheVariants.{NotCleared, Memory}
 use Rattle.ngc_certificate.specs.DerivedBox.{line_box, HaveDerivedBoxes}
 use Rattle.ngc_certificate.specs.PieceFault.{pieces_fault, place_fault}
+use Rattle.ngc_certificate.specs.Traverses.{most_pieces}
 
 -- the line between two cuts
 abbrev pub line_piece : ℤ → Point3 → Point3 → ℕ → ℕ → Piece
@@ -114,7 +115,7 @@ IsMadeFrom machine most k tool place (Mount new ∷ actions) says =
     × (says ≡ unless_met (place_fault machine new (grid machine.step place)) k rest)
 IsMadeFrom machine most k tool place (Move m ∷ actions) says =
     (found : Option (List Piece)) × (rest : Result (List Entry) ℕ) ×
-    MayFindPieces machine most tool m.way found
+    MayFindPieces machine (most_pieces machine most m.pace) tool m.way found
     × IsMadeFrom machine most (k + 1) tool (end_of m.way) actions rest ×
     (says ≡ with_pieces k found rest)
 IsMadeFrom machine most k tool place (_ ∷ actions) says =

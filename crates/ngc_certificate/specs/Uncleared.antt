@@ -16,6 +16,7 @@ use Rattle.ngc_commands.specs.Reached.{after}
 use Rattle.ngc_commands.specs.declared.reached.Reached.{Reached}
 use Rattle.ngc_certificate.specs.PieceFault.{place_fault}
 use Rattle.ngc_certificate.specs.Made.{MayFindPieces, IsSettingMade}
+use Rattle.ngc_certificate.specs.Traverses.{most_pieces}
 
 -- command k before those that follow, unless it is cleared
 abbrev pub unless_cleared : Bool → ℕ → List ℕ → List ℕ
@@ -32,7 +33,8 @@ AreUnclearedFrom machine most k tool place (Mount new ∷ actions) ks =
     (rest : List ℕ) × AreUnclearedFrom machine most (k + 1) new place actions rest
     × (ks ≡ unless_cleared (is_none (place_fault machine new (grid machine.step place))) k rest)
 AreUnclearedFrom machine most k tool place (Move m ∷ actions) ks =
-    (found : Option (List Piece)) × (rest : List ℕ) × MayFindPieces machine most tool m.way found
+    (found : Option (List Piece)) × (rest : List ℕ)
+    × MayFindPieces machine (most_pieces machine most m.pace) tool m.way found
     × AreUnclearedFrom machine most (k + 1) tool (end_of m.way) actions rest ×
     (ks ≡ unless_cleared (is_some found) k rest)
 AreUnclearedFrom machine most k tool place (_ ∷ actions) ks =

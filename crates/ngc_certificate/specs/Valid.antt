@@ -1,6 +1,7 @@
 -- The validity of a certificate for the commands of a setting. Our own.
 use Rattle.std.specs.Prelude.{◌≡◌, List, [], ◌∷◌, map, Option, None}
 use Rattle.ngc_fixed_length.specs.Grid.{grid}
+use Rattle.ngc_fixed_length.specs.Length.{IsStep}
 use Rattle.ngc_fixed_length.specs.declared.points.Point3.{Point3}
 use Rattle.ngc_commands.specs.declared.command.Command.{Command}
 use Rattle.ngc_machine_files.specs.declared.tools.Tool.{Tool}
@@ -11,6 +12,7 @@ use Rattle.ngc_commands.specs.declared.command.Action.TheVariants.{Move, Mount}
 use Rattle.ngc_collision.specs.Body.{IsClearAt}
 use Rattle.ngc_certificate_text.specs.Certificate.{Entry}
 use Rattle.ngc_certificate.specs.PieceFault.{ArePiecesValid}
+use Rattle.ngc_certificate.specs.Traverses.{AreWhole, AreSafeEachWay}
 
 -- From a position, with a tool mounted: each motion's pieces are valid with the tool that is
 -- mounted then, and each new tool is clear where it is mounted.
@@ -31,3 +33,10 @@ pub record IsValid (machine : MachineFile) (commands : List Command) (entries : 
   pub motions : map (λ entry. entry.index) entries ≡ motion_indices 0 (actions_of commands)
   pub start : IsClearAt machine None (grid machine.step machine.start)
   pub clear : AreClearFrom machine None machine.start (actions_of commands) entries
+  pub whole : AreWhole machine (actions_of commands) entries
+
+-- with free rapids each position in the box of a traverse's ends is safe
+abbrev pub ValidIsSafeEachWay : Type 0
+ValidIsSafeEachWay = (machine : MachineFile) (commands : List Command) (entries : List Entry) →
+    IsStep machine.step → IsValid machine commands entries →
+    AreSafeEachWay machine None (actions_of commands)

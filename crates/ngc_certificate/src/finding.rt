@@ -6,13 +6,15 @@ ghost use Rattle.ngc_commands.specs.declared.movement.Way.TheVariants as ways;
 ghost use Rattle.ngc_certificate_text.specs.Certificate.{good_piece};
 ghost use Rattle.ngc_certificate.specs.Made.{pieces_of, cleared, IsCutClear, MayFindPieces, MayHavePieces};
 ghost use Rattle.ngc_certificate.specs.Making.{is_clear_in, pieces_where};
+ghost use Rattle.ngc_certificate.specs.Traverses.{most_pieces};
 
 use crate::cutting::{Stops, cut_arc};
 use crate::divide::divide;
 use crate::pieces::pieces_fault;
+use crate::traverses::most_pieces;
 use ngc_arc_geometry::Arc;
 use ngc_certificate_text::Piece;
-use ngc_commands::Way;
+use ngc_commands::{Motion, Way};
 use ngc_machine_files::{Machine, Tool};
 use std::alloc::{AllocError, Allocator};
 
@@ -110,9 +112,9 @@ fn find_arc<A: Allocator>(
     clears_cut(machine, tool, arc, most, Stops::Outer, pieces)
 }
 
-/// Replaces `pieces` with at most `most` pieces that clear a motion with this tool mounted. Returns
-/// whether there are any.
-pub(crate) fn find_clear<A: Allocator>(
+// Replaces `pieces` with at most `most` pieces that clear a path with this tool mounted. Returns
+// whether there are any.
+fn find_way<A: Allocator>(
     machine: &Machine<A>,
     tool: &Option<Tool>,
     way: &Way,
@@ -130,4 +132,24 @@ pub(crate) fn find_clear<A: Allocator>(
         Way::Line { .. } => find_count(machine, tool, way, most, pieces),
         Way::Arc(arc) => find_arc(machine, tool, arc, most, pieces),
     }
+}
+
+/// Replaces `pieces` with at most `most` pieces that clear a motion with this tool mounted, and with
+/// one if the control may take any way to its end. Returns whether there are any.
+pub(crate) fn find_clear<A: Allocator>(
+    machine: &Machine<A>,
+    tool: &Option<Tool>,
+    motion: &Motion,
+    most: u16,
+    pieces: &mut Vec<Piece, A>,
+) -> Result<bool, AllocError>
+    requires { 1 ≤ most }
+    ensures found { IfOk result (λ clear. MayFindPieces (file_of machine.now)
+        (most_pieces (file_of machine.now) most motion.now.pace) tool.now motion.now.way
+        (pieces_where clear pieces.new.items)) }
+    ensures good { IfOk result (λ clear. clear ≡ true →
+        IsTrue (list_all good_piece pieces.new.items)) }
+{
+    let most = most_pieces(machine, most, &motion.pace);
+    find_way(machine, tool, &motion.way, most, pieces)
 }

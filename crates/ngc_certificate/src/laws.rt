@@ -3,6 +3,7 @@ ghost use Rattle.ngc_certificate.specs.Covered.{Covered, SafeOnPath};
 ghost use Rattle.ngc_certificate.specs.NoFault.{NoPiecesFaultIsValid, NoPlaceFaultIsClear};
 ghost use Rattle.ngc_certificate.specs.Uncleared.{FirstUnclearedIsRefused, MadeNamesUncleared};
 ghost use Rattle.ngc_certificate.specs.Uncleared.{NoneUnclearedIsMade};
+ghost use Rattle.ngc_certificate.specs.Valid.{ValidIsSafeEachWay};
 
 /// States that each point of a motion's path is in the derived box of one of its pieces.
 pub fn covered()
@@ -20,6 +21,13 @@ pub fn safe_on_path()
 pub fn no_fault_is_valid()
     ensures pieces { NoPiecesFaultIsValid }
     ensures place { NoPlaceFaultIsClear }
+{}
+
+/// States that if the machine's rapids are free and a certificate is valid for the commands of a
+/// setting, each position in the box of a traverse's ends is safe for the tool mounted then. So any
+/// way that a control takes within that box is safe.
+pub fn valid_is_safe_each_way()
+    ensures { ValidIsSafeEachWay }
 {}
 
 /// States how the two results for a setting agree. If motions are made for it, it may have no

@@ -24,6 +24,7 @@ mod quadrant;
 mod shared;
 mod store;
 mod stretch;
+mod traverses;
 
 pub use divide::undivided;
 pub use fault::{MakeFault, MemoryFault, PieceFault, PieceRefusal};
@@ -36,3 +37,4 @@ pub use plan::Plan;
 pub use planned_motions::PlannedMotions;
 pub use plans::{Plans, make_plans, make_plans_alike};
 pub use stretch::Stretch;
+pub use traverses::{most_pieces, takes_any_way};

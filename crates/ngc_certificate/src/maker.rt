@@ -104,7 +104,7 @@ impl<M: MotionStore + Drop> Progress<M> {
         ensures are { OnOk result
             (AreEntries (M.entries self.new.motions machine.now.step commands.now)) }
     {
-        match find_clear(machine, &self.tool, &motion.way, most, pieces) {
+        match find_clear(machine, &self.tool, motion, most, pieces) {
             Ok(true) => {}
             Ok(false) => return Err(MotionRefusal::NotCleared(index)),
             Err(_) => return Err(MotionRefusal::Memory),

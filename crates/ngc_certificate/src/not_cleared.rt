@@ -27,7 +27,7 @@ fn is_cleared<A: Allocator>(
         LeadsPast (file_of machine.now) most k action.now reached.now clear) }
 {
     match action {
-        Action::Move(motion) => find_clear(machine, &reached.tool, &motion.way, most, pieces),
+        Action::Move(motion) => find_clear(machine, &reached.tool, motion, most, pieces),
         Action::Mount(tool) => Ok(is_clear_at(machine, tool, &reached.place)),
         _ => Ok(true),
     }

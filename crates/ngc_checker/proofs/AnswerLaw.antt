@@ -29,6 +29,7 @@ first_is (faults.Program s e) o h = h
 first_is (faults.MotionsDiffer s k) o h = h
 first_is (faults.Start i) o h = h
 first_is (faults.Piece s k j e) o h = h
+first_is (faults.Divided s k) o h = h
 first_is (faults.ToolChange s k i) o h = h
 
 answered : (program : Program) (setup : Setup) (text : List ℕ) (kept : Option AcceptedData) (answer : Result AcceptedData CheckReadFault) →

@@ -1,7 +1,8 @@
 -- If the checker refuses nothing, the certificate is valid at both settings, and if it is valid,
 -- the checker refuses nothing.
-use Rattle.std.proofs.Common.{◌≡◌, ℕ, ◌+◌, ap, sym, ◌∙◌, arith, refl, List, [], ◌∷◌, Some, None, map}
-use Rattle.std.specs.Prelude.{Option, option_map, Result, Ok, Err, false, true, ◌==◌, min, if◌then◌else◌}
+use Rattle.std.proofs.Common.{◌≡◌, ℕ, ◌+◌, ◌≤◌, length, ap, ap₂, sym, ◌∙◌, arith, refl, List, [], ◌∷◌, Some, None, map}
+use Rattle.std.specs.Prelude.{Option, option_map, Result, Ok, Err, Bool, false, true, ◌&&◌, nat_lt, ◌==◌, min, if◌then◌else◌}
+use Rattle.std.proofs.lemmas.Bool.Decides.{nat_tests}
 use Rattle.ngc_fixed_length.specs.Grid.{grid}
 use Rattle.ngc_fixed_length.specs.declared.points.Point3.{Point3}
 use Rattle.ngc_machine_files.specs.declared.tools.Tool.{Tool}
@@ -10,18 +11,22 @@ use Rattle.ngc_commands.specs.declared.command.Command.{Command}
 use Rattle.ngc_canonical.specs.declared.fault.ProgramFault.{ProgramFault}
 use Rattle.ngc_commands.specs.declared.command.Action.{Action}
 use Rattle.ngc_commands.specs.declared.command.Action.TheVariants.{Move, Mount}
+use Rattle.ngc_commands.specs.declared.movement.Motion.{Motion}
 use Rattle.ngc_canonical.specs.Meaning.{Program, meaning}
 use Rattle.ngc_commands.specs.Movement.{actions_of, motion_indices, end_of}
 use Rattle.ngc_canonical.specs.State.{Setup}
+use Rattle.ngc_certificate_text.specs.declared.piece.Piece.{Piece}
 use Rattle.ngc_certificate_text.specs.declared.piece.Setting.{Setting}
 use Rattle.ngc_certificate_text.specs.declared.piece.Setting.TheVariants.{Off, On}
 use Rattle.ngc_certificate_text.specs.Certificate.{Entry, CertificateData}
+use Rattle.ngc_certificate.specs.Chain.{are_several}
+use Rattle.ngc_certificate.specs.Traverses.{takes_any_way, AreWhole}
 use Rattle.ngc_certificate.specs.Valid.{AreClearFrom, IsValid}
-use Rattle.ngc_certificate.specs.PieceFault.{pieces_fault, place_fault, ◌or◌}
+use Rattle.ngc_certificate.specs.PieceFault.{ArePiecesValid, pieces_fault, place_fault, ◌or◌}
 use Rattle.ngc_certificate.proofs.NoFault.{some_none, no_map, map_none, neither, both_none, clear_at, unmet_at, pieces_valid, pieces_pass}
 use Rattle.ngc_checker.specs.declared.fault.CheckFault.{CheckFault}
 use Rattle.ngc_checker.specs.declared.fault.CheckFault.TheVariants as faults
-use Rattle.ngc_checker.specs.FirstRefusal.{first_difference, motions_fault, start_fault, at_command, commands_fault, setting_fault, settings_fault}
+use Rattle.ngc_checker.specs.FirstRefusal.{first_difference, motions_fault, start_fault, is_divided, at_command, motion_fault, commands_fault, setting_fault, settings_fault}
 use Rattle.ngc_checker.specs.FirstRefusal.{first_refusal}
 use Rattle.ngc_checker.specs.Validity.{IsValidFor, NoneRefusedIsValid}
 
@@ -50,6 +55,56 @@ alike is js e = ap (first_difference is) e ∙ no_difference_of_one is
 
 -- ---- the commands of a setting
 
+-- a motion without a refusal, and one whose pieces are valid and that isn't divided
+record IsUnrefused (machine : MachineFile) (tool : Option Tool) (m : Motion) (pieces : List Piece) : Type 0 where
+  valid : ArePiecesValid machine tool m.way pieces
+  whole : takes_any_way machine m.pace ≡ true → length pieces ≤ 1
+
+not_several : (n : ℕ) → nat_lt 1 n ≡ false → n ≤ 1
+not_several n h = grind (arith, nat_tests)
+
+unrefused : (machine : MachineFile) (s : Setting) (k : ℕ) (tool : Option Tool) (m : Motion) (pieces : List Piece) (free several : Bool) →
+    takes_any_way machine m.pace ≡ free → are_several pieces ≡ several →
+    (if free && several then Some (faults.Divided s k) else option_map (at_command s k) (pieces_fault machine tool m.way pieces)) ≡ None →
+    IsUnrefused machine tool m pieces
+unrefused machine s k tool m pieces true true f n h = absurd (some_none (faults.Divided s k) h)
+unrefused machine s k tool m pieces true false f n h = record {
+  valid = pieces_valid machine tool m.way pieces (no_map (at_command s k) (pieces_fault machine tool m.way pieces) h);
+  whole = λ e. not_several (length pieces) n;
+}
+unrefused machine s k tool m pieces false several f n h = record {
+  valid = pieces_valid machine tool m.way pieces (no_map (at_command s k) (pieces_fault machine tool m.way pieces) h);
+  whole = λ e. absurd (false≢true (sym f ∙ e));
+}
+  where
+    false≢true : false ≡ true → ⊥
+    false≢true e = cc
+
+-- the test of a motion by its two parts
+by_parts : (machine : MachineFile) (s : Setting) (k : ℕ) (tool : Option Tool) (m : Motion) (pieces : List Piece) (free several : Bool) →
+    takes_any_way machine m.pace ≡ free → are_several pieces ≡ several →
+    motion_fault machine s k tool m pieces
+    ≡ (if free && several then Some (faults.Divided s k) else option_map (at_command s k) (pieces_fault machine tool m.way pieces))
+by_parts machine s k tool m pieces free several f n =
+    ap₂ (λ (a b : Bool). if a && b then Some (faults.Divided s k) else option_map (at_command s k) (pieces_fault machine tool m.way pieces)) f n
+
+unrefused_motion : (machine : MachineFile) (s : Setting) (k : ℕ) (tool : Option Tool) (m : Motion) (pieces : List Piece) →
+    motion_fault machine s k tool m pieces ≡ None → IsUnrefused machine tool m pieces
+unrefused_motion machine s k tool m pieces h =
+    unrefused machine s k tool m pieces (takes_any_way machine m.pace) (are_several pieces) refl refl h
+
+single : (n : ℕ) → n ≤ 1 → nat_lt 1 n ≡ false
+single n h = grind (arith, nat_tests)
+
+passing : (machine : MachineFile) (s : Setting) (k : ℕ) (tool : Option Tool) (m : Motion) (pieces : List Piece) (free : Bool) →
+    takes_any_way machine m.pace ≡ free → IsUnrefused machine tool m pieces → motion_fault machine s k tool m pieces ≡ None
+passing machine s k tool m pieces true f h =
+    by_parts machine s k tool m pieces true false f (single (length pieces) (h.whole f))
+    ∙ map_none (at_command s k) (pieces_fault machine tool m.way pieces) (pieces_pass machine tool m.way pieces h.valid)
+passing machine s k tool m pieces false f h =
+    by_parts machine s k tool m pieces false (are_several pieces) f refl
+    ∙ map_none (at_command s k) (pieces_fault machine tool m.way pieces) (pieces_pass machine tool m.way pieces h.valid)
+
 clear_from : (machine : MachineFile) (s : Setting) (k : ℕ) (tool : Option Tool) (place : Point3) (actions : List Action) (entries : List Entry) →
     commands_fault machine s k tool place actions entries ≡ None → AreClearFrom machine tool place actions entries
 clear_from machine s k tool place [] entries h = tt
@@ -60,29 +115,45 @@ clear_from machine s k tool place (Mount new ∷ actions) entries h =
       clear_from machine s (k + 1) new place actions entries e.1,
     )
 clear_from machine s k tool place (Move m ∷ actions) (entry ∷ entries) h =
-    let e = neither (option_map (at_command s k) (pieces_fault machine tool m.way entry.pieces))
+    let e = neither (motion_fault machine s k tool m entry.pieces)
     (commands_fault machine s (k + 1) tool (end_of m.way) actions entries) h in (
-      pieces_valid machine tool m.way entry.pieces (no_map (at_command s k) (pieces_fault machine tool m.way entry.pieces) e.0),
+      (unrefused_motion machine s k tool m entry.pieces e.0).valid,
       clear_from machine s (k + 1) tool (end_of m.way) actions entries e.1,
     )
 clear_from machine s k tool place (Move m ∷ actions) [] h = absurd (some_none (faults.MotionsDiffer s k) h)
 clear_from machine s k tool place (_ ∷ actions) entries h = clear_from machine s (k + 1) tool place actions entries h
 
+whole_from : (machine : MachineFile) (s : Setting) (k : ℕ) (tool : Option Tool) (place : Point3) (actions : List Action) (entries : List Entry) →
+    commands_fault machine s k tool place actions entries ≡ None → AreWhole machine actions entries
+whole_from machine s k tool place [] entries h = tt
+whole_from machine s k tool place (Mount new ∷ actions) entries h =
+    let e = neither (option_map (faults.ToolChange s k) (place_fault machine new (grid machine.step place)))
+    (commands_fault machine s (k + 1) new place actions entries) h in
+    whole_from machine s (k + 1) new place actions entries e.1
+whole_from machine s k tool place (Move m ∷ actions) (entry ∷ entries) h =
+    let e = neither (motion_fault machine s k tool m entry.pieces)
+    (commands_fault machine s (k + 1) tool (end_of m.way) actions entries) h in (
+      (unrefused_motion machine s k tool m entry.pieces e.0).whole,
+      whole_from machine s (k + 1) tool (end_of m.way) actions entries e.1,
+    )
+whole_from machine s k tool place (Move m ∷ actions) [] h = tt
+whole_from machine s k tool place (_ ∷ actions) entries h = whole_from machine s (k + 1) tool place actions entries h
+
 passes_from : (machine : MachineFile) (s : Setting) (k : ℕ) (tool : Option Tool) (place : Point3) (actions : List Action) (entries : List Entry) →
-    AreClearFrom machine tool place actions entries → commands_fault machine s k tool place actions entries ≡ None
-passes_from machine s k tool place [] entries h = refl
-passes_from machine s k tool place (Mount new ∷ actions) entries h =
+    AreClearFrom machine tool place actions entries → AreWhole machine actions entries → commands_fault machine s k tool place actions entries ≡ None
+passes_from machine s k tool place [] entries h w = refl
+passes_from machine s k tool place (Mount new ∷ actions) entries h w =
     both_none (option_map (faults.ToolChange s k) (place_fault machine new (grid machine.step place)))
     (commands_fault machine s (k + 1) new place actions entries)
     (map_none (faults.ToolChange s k) (place_fault machine new (grid machine.step place)) (unmet_at machine new (grid machine.step place) h.0))
-    (passes_from machine s (k + 1) new place actions entries h.1)
-passes_from machine s k tool place (Move m ∷ actions) (entry ∷ entries) h =
-    both_none (option_map (at_command s k) (pieces_fault machine tool m.way entry.pieces))
+    (passes_from machine s (k + 1) new place actions entries h.1 w)
+passes_from machine s k tool place (Move m ∷ actions) (entry ∷ entries) h w =
+    both_none (motion_fault machine s k tool m entry.pieces)
     (commands_fault machine s (k + 1) tool (end_of m.way) actions entries)
-    (map_none (at_command s k) (pieces_fault machine tool m.way entry.pieces) (pieces_pass machine tool m.way entry.pieces h.0))
-    (passes_from machine s (k + 1) tool (end_of m.way) actions entries h.1)
-passes_from machine s k tool place (Move m ∷ actions) [] h = absurd h
-passes_from machine s k tool place (_ ∷ actions) entries h = passes_from machine s (k + 1) tool place actions entries h
+    (passing machine s k tool m entry.pieces (takes_any_way machine m.pace) refl (record { valid = h.0; whole = w.0 }))
+    (passes_from machine s (k + 1) tool (end_of m.way) actions entries h.1 w.1)
+passes_from machine s k tool place (Move m ∷ actions) [] h w = absurd h
+passes_from machine s k tool place (_ ∷ actions) entries h w = passes_from machine s (k + 1) tool place actions entries h w
 
 -- ---- a setting
 
@@ -97,6 +168,7 @@ setting_valid machine s commands entries h =
           (no_map (faults.MotionsDiffer s) (first_difference (motion_indices 0 (actions_of commands)) (map (λ entry. entry.index) entries)) b.0);
       start = clear_at machine None (grid machine.step machine.start) (no_map faults.Start (place_fault machine None (grid machine.step machine.start)) b.1);
       clear = clear_from machine s 0 None machine.start (actions_of commands) entries a.1;
+      whole = whole_from machine s 0 None machine.start (actions_of commands) entries a.1;
     }
 
 setting_passes : (machine : MachineFile) (s : Setting) (commands : List Command) (entries : List Entry) →
@@ -107,7 +179,7 @@ setting_passes machine s commands entries h =
     (both_none (motions_fault s (actions_of commands) entries) (start_fault machine)
     (map_none (faults.MotionsDiffer s) _ (alike (motion_indices 0 (actions_of commands)) (map (λ entry. entry.index) entries) h.motions))
     (map_none faults.Start _ (unmet_at machine None (grid machine.step machine.start) h.start)))
-    (passes_from machine s 0 None machine.start (actions_of commands) entries h.clear)
+    (passes_from machine s 0 None machine.start (actions_of commands) entries h.clear h.whole)
 
 -- ---- both settings
 

@@ -1,7 +1,7 @@
 -- The effect of a certificate's motions and pieces on the check of a setting.
 use Rattle.std.proofs.Common.{◌≡◌, ℕ, zero, suc, ◌+◌, ◌-◌, ◌<◌, ◌≤◌, ap, ap₂, Option, Some, None, List, [], ◌∷◌, length, drop, take, get_or, refl, sym, ◌∙◌}
 use Rattle.std.proofs.Common.{arith, add-one, drop-cons}
-use Rattle.std.specs.Prelude.{map, min, nat_le, nat_lt, ◌==◌, if◌then◌else◌}
+use Rattle.std.specs.Prelude.{map, min, nat_le, nat_lt, ◌==◌, if◌then◌else◌, Bool, true, false}
 use Rattle.std.specs.Option.{option_map}
 use Rattle.std.proofs.lemmas.Bool.Decides.{nat_tests}
 use Rattle.std.proofs.lemmas.List.{take_all, length-drop}
@@ -28,7 +28,7 @@ use Rattle.ngc_checker.specs.declared.command_walk.NextMotion.{NextMotion}
 use Rattle.ngc_checker.specs.declared.fault.CheckFault.{CheckFault}
 use Rattle.ngc_checker.specs.declared.fault.CheckFault.TheVariants as faults
 use Rattle.ngc_checker.specs.declared.setting_judge.SettingJudge.{SettingJudge}
-use Rattle.ngc_checker.specs.FirstRefusal.{first_difference, start_fault, at_command, commands_fault}
+use Rattle.ngc_checker.specs.FirstRefusal.{first_difference, start_fault, is_divided, at_command, motion_fault, commands_fault}
 use Rattle.ngc_checker.specs.Walking.{walk_from, with_motion, pieces_left, commands_ahead, fault_left}
 
 -- ---- lists
@@ -72,14 +72,14 @@ map_or f None b = refl
 
 abbrev after_move : MachineFile → Setting → CommandWalk → Motion → List Command → Entry → List Entry → Point3 → ℕ → Option CheckFault
 after_move machine s w m cs entry entries p k =
-    w.refusal or (option_map (at_command s w.index) (pieces_fault machine w.tool m.way entry.pieces) or commands_fault machine s (w.index + 1) w.tool p
+    w.refusal or (motion_fault machine s w.index w.tool m entry.pieces or commands_fault machine s (w.index + 1) w.tool p
     (actions_of (drop k cs)) entries)
 
 pub move_step : (machine : MachineFile) (s : Setting) (w : CommandWalk) (start : ℕ) (cs : List Command) (i : ℕ) (c : Command) (m : Motion) (place : Point3)
     (entry : Entry) (entries : List Entry)
     → i < length cs → c ≡ get_or cs i c → c.action ≡ Move m → place ≡ end_of m.way → w.index ≡ start + i
     → walk_from machine s w.index w (actions_of (drop i cs)) (entry ∷ entries)
-    ≡ with_motion machine s (record { index = w.index + 1; tool = w.tool; place = place; refusal = w.refusal }) (record { index = w.index; way = m.way })
+    ≡ with_motion machine s (record { index = w.index + 1; tool = w.tool; place = place; refusal = w.refusal }) (record { index = w.index; motion = m })
     (actions_of (drop (w.index + 1 - start) cs)) entry entries
 move_step machine s w start cs i c m place entry entries h e is stands at =
     let split = left_at i cs c h e in
@@ -103,24 +103,25 @@ none_left machine s k f x e = ap (λ (o : Option PieceJudge). (pieces_left machi
 abbrev by_parts : MachineFile → Setting → Option ℕ → Option ℕ → Option CheckFault → Option CheckFault
 by_parts machine s differs d x = option_map (faults.MotionsDiffer s) (differs or d) or start_fault machine or x
 
-abbrev judging : MachineFile → Setting → List Command → CommandWalk → List Entry → ℕ → Option PieceRefusal → Option CheckFault
-judging machine s commands w entries k f =
-    w.refusal or (option_map (at_command s k) f or commands_fault machine s w.index w.tool w.place (commands_ahead commands w) entries)
+-- the motions after it, and the walk with this refusal of the motion
+abbrev judging : MachineFile → Setting → List Command → Option ℕ → CommandWalk → List Entry → Option CheckFault → Option CheckFault
+judging machine s commands differs w entries x =
+    by_parts machine s differs (first_difference (motion_indices w.index (commands_ahead commands w)) (map (λ (e : Entry). e.index) entries))
+    (w.refusal or (x or commands_fault machine s w.index w.tool w.place (commands_ahead commands w) entries))
 
-pub compared : (machine : MachineFile) (s : Setting) (commands ahead : List Command) (old : SettingJudge) (w : CommandWalk) (m : NextMotion) (j : PieceJudge)
+reached : (machine : MachineFile) (s : Setting) (commands ahead : List Command) (old : SettingJudge) (w : CommandWalk) (m : NextMotion)
     (index : ℕ) (pieces : List Piece) (entries : List Entry)
-    → ahead ≡ drop old.walk.index commands → old.walk.index ≤ w.index → w.index ≡ m.index + 1 → old.following ≡ None
+    → ahead ≡ drop old.walk.index commands → old.walk.index ≤ w.index → old.following ≡ None
     → motion_indices old.walk.index (actions_of ahead) ≡ m.index ∷ motion_indices w.index (actions_of (drop (w.index - old.walk.index) ahead))
     → ((entry : Entry) (es : List Entry) → walk_from machine s old.walk.index old.walk (actions_of ahead) (entry ∷ es)
     ≡ with_motion machine s w m (actions_of (drop (w.index - old.walk.index) ahead)) entry es)
-    → m.index ≡ index → pieces_fault machine w.tool m.way pieces ≡ fault_ahead machine j pieces
+    → m.index ≡ index
     → fault_left machine s commands old [] (record { index = index; pieces = pieces } ∷ entries)
-    ≡ fault_left machine s commands (record { walk = w; differs = old.differs; following = Some j }) pieces entries
-compared machine s commands ahead old w m j index pieces entries at on afterwards none indices walk same judged =
+    ≡ judging machine s commands old.differs w entries (motion_fault machine s m.index w.tool m.motion pieces)
+reached machine s commands ahead old w m index pieces entries at on none indices walk same =
     let entry : Entry = record { index = index; pieces = pieces } in
     let rest : drop (w.index - old.walk.index) ahead ≡ drop w.index commands =
     ap (drop (w.index - old.walk.index)) at ∙ drop_on old.walk.index w.index commands on in
-    let last : m.index ≡ w.index - 1 = omega (arith, afterwards) in
     ap₂ (by_parts machine s old.differs)
     (ap (λ (l : List Command). first_difference (motion_indices old.walk.index (actions_of l)) (index ∷ map (λ (e : Entry). e.index) entries)) (sym at)
     ∙ ap (λ (is : List ℕ). first_difference is (index ∷ map (λ (e : Entry). e.index) entries)) indices
@@ -131,8 +132,50 @@ compared machine s commands ahead old w m j index pieces entries at on afterward
     (commands_fault machine s old.walk.index old.walk.tool old.walk.place (commands_ahead commands old.walk) (entry ∷ entries)) none)
     ∙ ap (λ (l : List Command). walk_from machine s old.walk.index old.walk (actions_of l) (entry ∷ entries)) (sym at)
     ∙ walk entry entries
-    ∙ ap (λ (l : List Command). with_motion machine s w m (actions_of l) entry entries) rest
-    ∙ ap₂ (judging machine s commands w entries) last judged)
+    ∙ ap (λ (l : List Command). with_motion machine s w m (actions_of l) entry entries) rest)
+
+undivided : (machine : MachineFile) (s : Setting) (k : ℕ) (tool : Option Tool) (m : Motion) (pieces : List Piece) → is_divided machine m pieces ≡ false →
+    motion_fault machine s k tool m pieces ≡ option_map (at_command s k) (pieces_fault machine tool m.way pieces)
+undivided machine s k tool m pieces e =
+    ap (λ (b : Bool). if b then Some (faults.Divided s k) else option_map (at_command s k) (pieces_fault machine tool m.way pieces)) e
+
+divided : (machine : MachineFile) (s : Setting) (k : ℕ) (tool : Option Tool) (m : Motion) (pieces : List Piece) → is_divided machine m pieces ≡ true →
+    motion_fault machine s k tool m pieces ≡ Some (faults.Divided s k)
+divided machine s k tool m pieces e =
+    ap (λ (b : Bool). if b then Some (faults.Divided s k) else option_map (at_command s k) (pieces_fault machine tool m.way pieces)) e
+
+pub compared : (machine : MachineFile) (s : Setting) (commands ahead : List Command) (old : SettingJudge) (w : CommandWalk) (m : NextMotion) (j : PieceJudge)
+    (index : ℕ) (pieces : List Piece) (entries : List Entry)
+    → ahead ≡ drop old.walk.index commands → old.walk.index ≤ w.index → w.index ≡ m.index + 1 → old.following ≡ None
+    → motion_indices old.walk.index (actions_of ahead) ≡ m.index ∷ motion_indices w.index (actions_of (drop (w.index - old.walk.index) ahead))
+    → ((entry : Entry) (es : List Entry) → walk_from machine s old.walk.index old.walk (actions_of ahead) (entry ∷ es)
+    ≡ with_motion machine s w m (actions_of (drop (w.index - old.walk.index) ahead)) entry es)
+    → m.index ≡ index → is_divided machine m.motion pieces ≡ false → pieces_fault machine w.tool m.motion.way pieces ≡ fault_ahead machine j pieces
+    → fault_left machine s commands old [] (record { index = index; pieces = pieces } ∷ entries)
+    ≡ fault_left machine s commands (record { walk = w; differs = old.differs; following = Some j }) pieces entries
+compared machine s commands ahead old w m j index pieces entries at on afterwards none indices walk same whole judged =
+    let last : m.index ≡ w.index - 1 = omega (arith, afterwards) in
+    reached machine s commands ahead old w m index pieces entries at on none indices walk same
+    ∙ ap (judging machine s commands old.differs w entries)
+    (undivided machine s m.index w.tool m.motion pieces whole ∙ ap₂ (λ (k : ℕ) (f : Option PieceRefusal). option_map (at_command s k) f) last judged)
+
+-- a traverse that is divided is refused, and its pieces aren't followed
+pub not_followed : (machine : MachineFile) (s : Setting) (commands ahead : List Command) (old : SettingJudge) (w : CommandWalk) (m : NextMotion)
+    (index : ℕ) (pieces : List Piece) (entries : List Entry)
+    → ahead ≡ drop old.walk.index commands → old.walk.index ≤ w.index → old.following ≡ None
+    → motion_indices old.walk.index (actions_of ahead) ≡ m.index ∷ motion_indices w.index (actions_of (drop (w.index - old.walk.index) ahead))
+    → ((entry : Entry) (es : List Entry) → walk_from machine s old.walk.index old.walk (actions_of ahead) (entry ∷ es)
+    ≡ with_motion machine s w m (actions_of (drop (w.index - old.walk.index) ahead)) entry es)
+    → m.index ≡ index → is_divided machine m.motion pieces ≡ true
+    → fault_left machine s commands old [] (record { index = index; pieces = pieces } ∷ entries)
+    ≡ fault_left machine s commands
+    (record { walk = record w { refusal = w.refusal or Some (faults.Divided s m.index) }; differs = old.differs; following = None }) pieces entries
+not_followed machine s commands ahead old w m index pieces entries at on none indices walk same several =
+    let rest = commands_fault machine s w.index w.tool w.place (commands_ahead commands w) entries in
+    reached machine s commands ahead old w m index pieces entries at on none indices walk same
+    ∙ ap (judging machine s commands old.differs w entries) (divided machine s m.index w.tool m.motion pieces several)
+    ∙ ap (by_parts machine s old.differs (first_difference (motion_indices w.index (commands_ahead commands w)) (map (λ (e : Entry). e.index) entries)))
+    (or_both w.refusal (Some (faults.Divided s m.index)) rest)
 
 -- ---- a piece of a motion that is followed
 

@@ -51,6 +51,7 @@ IsFirst (faults.Program s e) first = first ≡ Some (faults.Program s e)
 IsFirst (faults.MotionsDiffer s k) first = first ≡ Some (faults.MotionsDiffer s k)
 IsFirst (faults.Start i) first = first ≡ Some (faults.Start i)
 IsFirst (faults.Piece s k j e) first = first ≡ Some (faults.Piece s k j e)
+IsFirst (faults.Divided s k) first = first ≡ Some (faults.Divided s k)
 IsFirst (faults.ToolChange s k i) first = first ≡ Some (faults.ToolChange s k i)
 
 -- the result is acceptance if nothing is refused, and otherwise the first refusal

@@ -1,6 +1,6 @@
 -- The first refusal of a certificate, in the checker's order. Our own.
 use Rattle.std.specs.Prelude.{ℕ, ◌+◌, ◌==◌, min, List, [], ◌∷◌, map, Option, Some, None, option_map}
-use Rattle.std.specs.Prelude.{Result, Ok, Err, true, false, if◌then◌else◌}
+use Rattle.std.specs.Prelude.{Result, Ok, Err, Bool, true, false, ◌&&◌, if◌then◌else◌}
 use Rattle.ngc_fixed_length.specs.Grid.{grid}
 use Rattle.ngc_fixed_length.specs.declared.points.Point3.{Point3}
 use Rattle.ngc_commands.specs.declared.command.Command.{Command}
@@ -12,11 +12,15 @@ use Rattle.ngc_canonical.specs.State.{Setup}
 use Rattle.ngc_commands.specs.Movement.{actions_of, motion_indices, end_of}
 use Rattle.ngc_commands.specs.declared.command.Action.{Action}
 use Rattle.ngc_commands.specs.declared.command.Action.TheVariants.{Move, Mount}
+use Rattle.ngc_commands.specs.declared.movement.Motion.{Motion}
+use Rattle.ngc_certificate_text.specs.declared.piece.Piece.{Piece}
 use Rattle.ngc_certificate_text.specs.declared.piece.Setting.{Setting}
 use Rattle.ngc_certificate_text.specs.declared.piece.Setting.TheVariants.{Off, On}
 use Rattle.ngc_certificate_text.specs.Certificate.{Entry, CertificateData}
 use Rattle.ngc_certificate.specs.declared.fault.PieceRefusal.{PieceRefusal}
+use Rattle.ngc_certificate.specs.Chain.{are_several}
 use Rattle.ngc_certificate.specs.PieceFault.{pieces_fault, place_fault, ◌or◌}
+use Rattle.ngc_certificate.specs.Traverses.{takes_any_way}
 use Rattle.ngc_checker.specs.declared.fault.CheckFault.{CheckFault}
 use Rattle.ngc_checker.specs.declared.fault.CheckFault.TheVariants as faults
 
@@ -35,8 +39,18 @@ abbrev pub start_fault : MachineFile → Option CheckFault
 start_fault machine =
     option_map faults.Start (place_fault machine None (grid machine.step machine.start))
 
+-- a traverse in several pieces, though the control may take any way to its end
+abbrev pub is_divided : MachineFile → Motion → List Piece → Bool
+is_divided machine m pieces = takes_any_way machine m.pace && are_several pieces
+
 abbrev pub at_command : Setting → ℕ → PieceRefusal → CheckFault
 at_command s k refusal = faults.Piece s k refusal.piece refusal.fault
+
+abbrev pub motion_fault : MachineFile → Setting → ℕ → Option Tool → Motion → List Piece →
+    Option CheckFault
+motion_fault machine s k tool m pieces =
+    if is_divided machine m pieces then Some (faults.Divided s k)
+    else option_map (at_command s k) (pieces_fault machine tool m.way pieces)
 
 -- from command k on, with the tool mounted and the place reached so far
 abbrev pub commands_fault : MachineFile → Setting → ℕ → Option Tool → Point3 → List Action →
@@ -46,7 +60,7 @@ commands_fault machine s k tool place (Mount new ∷ actions) entries =
     option_map (faults.ToolChange s k) (place_fault machine new (grid machine.step place))
     or commands_fault machine s (k + 1) new place actions entries
 commands_fault machine s k tool place (Move m ∷ actions) (entry ∷ entries) =
-    option_map (at_command s k) (pieces_fault machine tool m.way entry.pieces)
+    motion_fault machine s k tool m entry.pieces
     or commands_fault machine s (k + 1) tool (end_of m.way) actions entries
 commands_fault machine s k tool place (Move m ∷ actions) [] = Some (faults.MotionsDiffer s k)
 commands_fault machine s k tool place (_ ∷ actions) entries =

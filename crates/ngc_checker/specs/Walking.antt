@@ -7,7 +7,7 @@ use Rattle.ngc_commands.specs.declared.command.Command.{Command}
 use Rattle.ngc_certificate_text.specs.declared.piece.Piece.{Piece}
 use Rattle.ngc_certificate_text.specs.declared.piece.Setting.{Setting}
 use Rattle.ngc_certificate_text.specs.Certificate.{Entry}
-use Rattle.ngc_certificate.specs.PieceFault.{pieces_fault, ◌or◌}
+use Rattle.ngc_certificate.specs.PieceFault.{◌or◌}
 use Rattle.ngc_certificate.specs.PieceJudging.{fault_ahead}
 use Rattle.ngc_certificate.specs.declared.pieces.PieceJudge.{PieceJudge}
 use Rattle.ngc_checker.specs.declared.command_walk.CommandWalk.{CommandWalk}
@@ -15,7 +15,7 @@ use Rattle.ngc_checker.specs.declared.command_walk.NextMotion.{NextMotion}
 use Rattle.ngc_checker.specs.declared.fault.CheckFault.{CheckFault}
 use Rattle.ngc_checker.specs.declared.fault.CheckFault.TheVariants as faults
 use Rattle.ngc_checker.specs.declared.setting_judge.SettingJudge.{SettingJudge}
-use Rattle.ngc_checker.specs.FirstRefusal.{first_difference, start_fault, at_command}
+use Rattle.ngc_checker.specs.FirstRefusal.{first_difference, start_fault, at_command, motion_fault}
 use Rattle.ngc_checker.specs.FirstRefusal.{commands_fault}
 
 -- the first refusal of the commands so far and of those from k on
@@ -28,7 +28,7 @@ walk_from machine s k w actions entries =
 abbrev pub with_motion : MachineFile → Setting → CommandWalk → NextMotion → List Action → Entry →
     List Entry → Option CheckFault
 with_motion machine s w m actions entry entries =
-    w.refusal or (option_map (at_command s m.index) (pieces_fault machine w.tool m.way entry.pieces)
+    w.refusal or (motion_fault machine s m.index w.tool m.motion entry.pieces
     or commands_fault machine s w.index w.tool w.place actions entries)
 
 -- of the remaining pieces of the motion that has begun, if they are judged

@@ -9,7 +9,7 @@ ghost use Rattle.ngc_checker.specs.Walking.{walk_from, with_motion};
 
 use crate::fault::CheckFault;
 use ngc_certificate::{Setting, place_fault};
-use ngc_commands::{Action, Command, Way};
+use ngc_commands::{Action, Command, Motion};
 use ngc_fixed_length::Point3;
 use ngc_machine_files::{Machine, Tool};
 use std::alloc::Allocator;
@@ -24,11 +24,11 @@ pub struct CommandWalk {
     pub refusal: Option<CheckFault>,
 }
 
-/// A motion of the program: its index in the list of commands, and its path.
+/// A motion of the program, with its index in the list of commands.
 #[derive(Clone, Copy)]
 pub struct NextMotion {
     pub index: u32,
-    pub way: Way,
+    pub motion: Motion,
 }
 
 impl CommandWalk {
@@ -113,7 +113,7 @@ impl CommandWalk {
                     self.place = motion.way.end();
                     return Some(NextMotion {
                         index,
-                        way: motion.way,
+                        motion: *motion,
                     });
                 }
                 Action::Mount(tool) => self.mount(machine, setting, index, tool),

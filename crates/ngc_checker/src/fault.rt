@@ -35,6 +35,12 @@ pub enum CheckFault {
         piece: u32,
         fault: PieceFault,
     },
+    /// Fault 319: rapids are free, and this traverse has several pieces.
+    #[error("the traverse of command {command} is divided")]
+    Divided {
+        setting: Setting,
+        command: u32,
+    },
     /// Fault 317: the body of the tool that this command mounts meets a fixture.
     #[error("the tool of command {command} meets fixture {fixture}")]
     ToolChange {
@@ -48,7 +54,7 @@ pub enum CheckFault {
 }
 
 impl CheckFault {
-    /// Returns the fault's number: 311 to 318, 900.
+    /// Returns the fault's number: 311 to 319, 900.
     pub fn number(&self) -> u16
         ensures { result ≡ number_of self.now }
     {
@@ -57,6 +63,7 @@ impl CheckFault {
             CheckFault::MotionsDiffer { .. } => 312,
             CheckFault::Start { .. } => 318,
             CheckFault::Piece { fault, .. } => fault.number(),
+            CheckFault::Divided { .. } => 319,
             CheckFault::ToolChange { .. } => 317,
             CheckFault::Memory => 900,
         }

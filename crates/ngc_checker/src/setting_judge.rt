@@ -1,8 +1,9 @@
 //! The check of a setting of block delete, motion by motion.
 ghost use Rattle.std.specs.Prelude.{◌≡◌, ◌+◌, ◌-◌, ◌<◌, ◌≤◌, ◌∷◌, [], length, drop, List};
-ghost use Rattle.std.specs.Prelude.{MatchOption, Option, Some, None, IfSome};
+ghost use Rattle.std.specs.Prelude.{MatchOption, Option, Some, None, IfSome, ◌&&◌, nat_lt};
 ghost use Rattle.ngc_machine_files.specs.Machine.{MachineFile, file_of};
 ghost use Rattle.ngc_commands.specs.Sequence.{COMMAND_LIMIT};
+ghost use Rattle.ngc_certificate.specs.Traverses.{takes_any_way};
 ghost use Rattle.ngc_certificate_text.specs.Certificate.{PIECE_LIMIT, entry_at};
 ghost use Rattle.ngc_checker.specs.FirstRefusal.{setting_fault, start_fault};
 ghost use Rattle.ngc_checker.specs.Walking.{fault_left};
@@ -11,9 +12,9 @@ ghost use Rattle.ngc_checker.specs.Following.{IsFollowing};
 use crate::command_walk::CommandWalk;
 use crate::fault::CheckFault;
 use crate::setting::start_fault;
-use ngc_certificate::{Piece, PieceJudge, Setting};
+use ngc_certificate::{Piece, PieceJudge, Setting, takes_any_way};
 use ngc_certificate_text::MotionList;
-use ngc_commands::Command;
+use ngc_commands::{Command, Pace};
 use ngc_machine_files::Machine;
 use std::alloc::Allocator;
 
@@ -26,6 +27,13 @@ pub struct SettingJudge {
     pub differs: Option<u32>,
     /// The judge of the motion that has begun, if its pieces still matter.
     pub following: Option<PieceJudge>,
+}
+
+// Returns whether a motion has several pieces, though the control may take any way to its end.
+fn is_divided<A: Allocator>(machine: &Machine<A>, pace: &Pace, pieces: u32) -> bool
+    ensures { result ≡ (takes_any_way (file_of machine.now) pace.now && nat_lt 1 pieces) }
+{
+    takes_any_way(machine, pace) && pieces > 1
 }
 
 impl SettingJudge {
@@ -73,15 +81,20 @@ impl SettingJudge {
     {
         let ahead = &commands[self.walk.index as usize..];
         match self.walk.next_motion(machine, setting, ahead) {
-            Some(motion) if motion.index == index => {
+            Some(next) if next.index == index => {
+                if is_divided(machine, &next.motion.pace, pieces) {
+                    let command = next.index;
+                    self.walk.refuse(CheckFault::Divided { setting, command });
+                    return;
+                }
                 self.following = Some(PieceJudge::new(
                     machine,
                     self.walk.tool,
-                    &motion.way,
+                    &next.motion.way,
                     pieces > 1,
                 ));
             }
-            Some(motion) => self.differs = Some(motion.index.min(index)),
+            Some(next) => self.differs = Some(next.index.min(index)),
             None => self.differs = Some(index),
         }
     }

@@ -11,7 +11,7 @@ use Rattle.ngc_fixed_length.specs.Signed.{is_within, is_zero}
 use Rattle.ngc_machine_files.specs.Ranges.{PLACE_LIMIT, CORNER_LIMIT, IsFrom, IsSized, IsAtMost, IsBelow, IsOnGrid, IsTravel, IsFixture}
 use Rattle.ngc_machine_files.specs.Numbers.{from_to}
 use Rattle.ngc_machine_files.specs.Refusals.{◌>>◌, refuse_unless}
-use Rattle.ngc_machine_files.specs.MachineText.{MachineValues, is_sized, is_at_most, is_below, is_multiple, is_on_grid, is_rate, good_axis_rates, good_jump, good_ring, good_arc_feed, good_changer, good_travel}
+use Rattle.ngc_machine_files.specs.MachineText.{MachineValues, is_sized, is_at_most, is_below, is_multiple, is_on_grid, is_rate, good_axis_rates, good_jump, good_ring, good_arc_feed, good_changer, good_margin, good_limits}
 use Rattle.ngc_machine_files.specs.MachineText.{good_fixture, good_fixtures, machine_ranges, place_of, fixture_of, AreFrom, IsGood}
 use Rattle.ngc_machine_files.specs.ToolText.{ToolNumbers, TableValues, good_part, good_parts, good_tool, good_tools, table_ranges, IsPartEntry, ArePartEntries}
 use Rattle.ngc_machine_files.specs.ToolText.{IsEntry, AreEntries}
@@ -75,7 +75,7 @@ on_grid step p h =
     let (x, y, z) = three (is_multiple step p.x) (is_multiple step p.y) (is_multiple step p.z) h in
     record { x = zero_of _ x; y = zero_of _ y; z = zero_of _ z }
 
-travel : (step : ℤ) (p : MachinePoints) → good_travel step p ≡ true → IsTravel step (place_of p.low) (place_of p.high) (place_of p.start)
+travel : (step : ℤ) (p : MachinePoints) → good_limits step p ≡ true → IsTravel step (place_of p.low) (place_of p.high) (place_of p.start)
 travel step p h =
     let (h5, grid) = and_parts _ (is_on_grid step p.start) h in
     let (h4, below_high) = and_parts _ (is_at_most p.start p.high) h5 in
@@ -110,9 +110,10 @@ IsGood-from_ranges m h =
     let (step, h5) = passes _ _ _ h6 in
     let (ticks, h4) = passes _ _ _ h5 in
     let (rates, h3) = passes _ _ _ h4 in
-    let (limits, h2) = passes _ _ _ h3 in
+    let (travels, h2) = passes _ _ _ h3 in
     let (places, h1) = passes _ _ _ h2 in
-    let fixtures : good_fixtures m.fixtures ≡ true = passes_last _ _ h1 in
+    let fixtures : good_fixtures m ≡ true = passes_last _ _ h1 in
+    let (limits, travel_margin) = and_parts (good_limits m.numbers.step m.points) (good_margin m.numbers.optional.travel_margin) travels in
     let in_step = from (pos 500) (pos 50000) m.numbers.step step in
     let (rates8, _) = and_parts _ (good_changer m.numbers.optional.changer) rates in
     let (rates7, _) = and_parts _ (good_arc_feed m.numbers.optional.arc_feed) rates8 in
@@ -123,7 +124,7 @@ IsGood-from_ranges m h =
     let (max_rate, change, corner) = three (is_rate m.numbers.max_rate) (is_rate m.numbers.change) (is_rate m.numbers.corner) rates3 in
     let (home28, home30, origins) = three (is_sized PLACE_LIMIT m.points.home28) (is_sized PLACE_LIMIT m.points.home30)
     (list_all (is_sized PLACE_LIMIT) m.origins) places in
-    let (count, each) = and_parts _ (list_all good_fixture m.fixtures) fixtures in
+    let (count, each, margin) = three _ (list_all good_fixture m.fixtures) (good_margin m.numbers.optional.margin) fixtures in
     record {
       step = record { least = in_step.least; greatest = in_step.greatest };
       ticks_per_second = a_rate _ ticks;
@@ -140,6 +141,8 @@ IsGood-from_ranges m h =
       origins = each_passes _ _ (sized PLACE_LIMIT) m.origins origins;
       fixture_count = leb-true _ _ count;
       fixtures = each_passes _ _ a_fixture m.fixtures each;
+      margin = from _ _ _ margin;
+      travel_margin = from _ _ _ travel_margin;
     }
 
 a_part : (p : PartEntry) → good_part p ≡ true → IsPartEntry p

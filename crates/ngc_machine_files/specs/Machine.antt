@@ -3,9 +3,14 @@ use Rattle.std.specs.Prelude.{ℕ, ℤ, pos, negsuc, List, [], Bool, false}
 use Rattle.std.specs.Prelude.{replicate}
 use Rattle.ngc_fixed_length.specs.Places.{zero_point}
 use Rattle.ngc_fixed_length.specs.declared.points.Point3.{Point3}
+use Rattle.ngc_machine_files.specs.declared.machine.ArcFeed.{ArcFeed}
+use Rattle.ngc_machine_files.specs.declared.machine.ArcFeed.TheVariants.{Off}
 use Rattle.ngc_machine_files.specs.declared.machine.AxisRates.{AxisRates}
 use Rattle.ngc_machine_files.specs.declared.machine.Fixture.{Fixture}
 use Rattle.ngc_machine_files.specs.declared.machine.Machine.{Machine}
+use Rattle.ngc_machine_files.specs.declared.machine.Margins.{Margins}
+use Rattle.ngc_machine_files.specs.declared.machine.Rapids.{Rapids}
+use Rattle.ngc_machine_files.specs.declared.machine.Rapids.TheVariants.{Straight}
 
 pub record MachineFile : Type 0 where
   pub step : ℤ
@@ -17,7 +22,7 @@ pub record MachineFile : Type 0 where
   pub jump : ℕ
   pub turn : ℕ
   pub ring : ℕ
-  pub arc_feed : Bool
+  pub arc_feed : ArcFeed
   pub changer : Bool
   pub low : Point3
   pub high : Point3
@@ -26,6 +31,8 @@ pub record MachineFile : Type 0 where
   pub home30 : Point3
   pub origins : List Point3
   pub fixtures : List Fixture
+  pub margins : Margins
+  pub rapids : Rapids
 
 -- the contents of a machine
 abbrev pub file_of : {A : Type 0} → Machine A → MachineFile
@@ -48,6 +55,8 @@ file_of m = record {
   home30 = m.home30;
   origins = m.origins;
   fixtures = m.fixtures.items;
+  margins = m.margins;
+  rapids = m.rapids;
 }
 
 -- a small mill of 300 mm by 300 mm by 100 mm, with steps of 0.01 mm and no fixture
@@ -62,7 +71,7 @@ built_in_machine = record {
   jump = 0;
   turn = 1000000000;
   ring = 16;
-  arc_feed = false;
+  arc_feed = Off;
   changer = false;
   low = record { x = pos 0; y = pos 0; z = negsuc 99999999 };
   high = record { x = pos 300000000; y = pos 300000000; z = pos 0 };
@@ -71,4 +80,6 @@ built_in_machine = record {
   home30 = zero_point;
   origins = replicate 9 zero_point;
   fixtures = [];
+  margins = record { fixtures = pos 0; travel = pos 0 };
+  rapids = Straight;
 }

@@ -1,7 +1,7 @@
 -- The ranges that hold for every machine that is read. Our own.
 use Rattle.ngc_fixed_length.specs.Length.{IsStep}
 use Rattle.ngc_machine_files.specs.Machine.{MachineFile}
-use Rattle.ngc_machine_files.specs.Ranges.{IsRate, IsJump, IsRing, AreRates, IsArcBound, IsTravel, AreFixtures}
+use Rattle.ngc_machine_files.specs.Ranges.{IsRate, IsJump, IsRing, AreRates, IsArcBound, IsTravel, AreFixtures, AreMargins}
 
 pub record IsMachine (m : MachineFile) : Type 0 where
   pub step : IsStep m.step
@@ -15,3 +15,4 @@ pub record IsMachine (m : MachineFile) : Type 0 where
   pub ring : IsRing m.ring
   pub travel : IsTravel m.step m.low m.high m.start
   pub fixtures : AreFixtures m.fixtures
+  pub margins : AreMargins m.margins

@@ -7,7 +7,11 @@ use Rattle.std.specs.Ordering.{int_eq}
 use Rattle.toml.specs.Data.{Data, array, Items, get}
 use Rattle.ngc_fixed_length.specs.Signed.{is_within, is_zero}
 use Rattle.ngc_fixed_length.specs.declared.points.Point3.{Point3}
+use Rattle.ngc_machine_files.specs.declared.machine.ArcFeed.{ArcFeed}
+use Rattle.ngc_machine_files.specs.declared.machine.ArcFeed.TheVariants.{Off, Feed, FeedAndTurn}
 use Rattle.ngc_machine_files.specs.declared.machine.AxisRates.{AxisRates}
+use Rattle.ngc_machine_files.specs.declared.machine.Margins.{Margins}
+use Rattle.ngc_machine_files.specs.declared.machine.Rapids.{Rapids}
 use Rattle.ngc_machine_files.specs.declared.machine.Fixture.{Fixture}
 use Rattle.ngc_machine_files.specs.declared.machine_contents.Coordinates.{Coordinates}
 use Rattle.ngc_machine_files.specs.declared.machine_contents.Corners.{Corners}
@@ -21,18 +25,19 @@ use Rattle.ngc_machine_files.specs.declared.fault.FileFault.TheVariants.{Rates, 
 use Rattle.ngc_machine_files.specs.declared.fault.FileFault.TheVariants.{Document}
 use Rattle.ngc_machine_files.specs.Machine.{MachineFile}
 use Rattle.ngc_machine_files.specs.Ranges.{PLACE_LIMIT, CORNER_LIMIT, IsSized, IsTravel, IsFixture}
-use Rattle.ngc_machine_files.specs.Ranges.{IsFrom}
+use Rattle.ngc_machine_files.specs.Ranges.{MARGIN_LIMIT, IsFrom}
 use Rattle.ngc_fixed_length.specs.Length.{IsStep}
 use Rattle.ngc_machine_files.specs.Names.{name_from}
 use Rattle.ngc_machine_files.specs.Numbers.{from_to}
 use Rattle.ngc_machine_files.specs.Refusals.{◌>>◌, refuse_unless}
 use Rattle.ngc_machine_files.specs.Tree.{◌>>=◌, tree_of, known, has_only, whole_at, whole_or, coordinates, coordinates_at}
-use Rattle.ngc_machine_files.specs.Tree.{each, list_at, or_missing, name_at}
+use Rattle.ngc_machine_files.specs.Tree.{each, list_at, or_missing, name_at, rapids_at}
 
 -- ---- the values of the keys
 
 pub record MachineValues : Type 0 where
   pub numbers : MachineNumbers
+  pub rapids : Rapids
   pub axis_rates : Coordinates
   pub points : MachinePoints
   pub origins : List Coordinates
@@ -42,6 +47,7 @@ abbrev pub values_of : MachineContents → MachineValues
 values_of c =
     record {
       numbers = c.numbers;
+      rapids = c.rapids;
       axis_rates = c.axis_rates;
       points = c.points;
       origins = c.origins;
@@ -57,8 +63,8 @@ common_keys =
     ∷ codes "origins" ∷
     codes "fixture" ∷ []
 
--- version 2 has rates of the axes, and may have a jump, a ring, the feed of arcs and a tool changer;
--- no other version has them
+-- version 2 has rates of the axes, and may have a jump, a ring, the feed of arcs, a tool changer,
+-- margins and the way of traverses; no other version has them
 abbrev pub has_axis_rates : ℤ → Bool
 has_axis_rates version = int_eq version (pos 2)
 
@@ -66,7 +72,7 @@ unfoldable pub machine_keys : ℤ → List (List ℕ)
 machine_keys version =
     if has_axis_rates version
     then codes "axis_rate" ∷ codes "jump" ∷ codes "ring" ∷ codes "arc_feed"
-    ∷ codes "changer" ∷ common_keys
+    ∷ codes "changer" ∷ codes "margin" ∷ codes "travel_margin" ∷ codes "rapids" ∷ common_keys
     else common_keys
 
 -- three numbers; in a version without them, those that bound no rate
@@ -76,14 +82,23 @@ machine_axis_rates version tree =
     then coordinates_at (codes "axis_rate") tree
     else Some (record { x = pos 1000000; y = pos 1000000; z = pos 1000000 })
 
--- a missing jump, feed of arcs or tool changer is 0, and a missing ring is 16
+-- a missing ring is 16, and any other missing number is 0
 abbrev pub optional_numbers : Data → Option OptionalNumbers
 optional_numbers tree = do
   jump ← whole_or (pos 0) (codes "jump") tree
   ring ← whole_or (pos 16) (codes "ring") tree
   arc_feed ← whole_or (pos 0) (codes "arc_feed") tree
   changer ← whole_or (pos 0) (codes "changer") tree
-  Some (record { jump = jump; ring = ring; arc_feed = arc_feed; changer = changer })
+  margin ← whole_or (pos 0) (codes "margin") tree
+  travel_margin ← whole_or (pos 0) (codes "travel_margin") tree
+  Some (record {
+    jump = jump;
+    ring = ring;
+    arc_feed = arc_feed;
+    changer = changer;
+    margin = margin;
+    travel_margin = travel_margin;
+  })
 
 abbrev pub machine_numbers : Data → Option MachineNumbers
 machine_numbers tree = do
@@ -156,12 +171,14 @@ abbrev pub machine_values : Data → Option MachineValues
 machine_values root = do
   numbers ← machine_numbers root
   tree ← known (machine_keys numbers.version) root
+  rapids ← rapids_at tree
   axis_rates ← machine_axis_rates numbers.version tree
   points ← machine_points tree
   origins ← machine_origins tree
   fixtures ← machine_fixtures numbers.version tree
   Some (record {
     numbers = numbers;
+    rapids = rapids;
     axis_rates = axis_rates;
     points = points;
     origins = origins;
@@ -198,7 +215,7 @@ abbrev pub good_ring : ℤ → Bool
 good_ring z = from_to (pos 16) (pos 1024) z
 
 abbrev pub good_arc_feed : ℤ → Bool
-good_arc_feed z = from_to (pos 0) (pos 1) z
+good_arc_feed z = from_to (pos 0) (pos 2) z
 
 abbrev pub good_changer : ℤ → Bool
 good_changer z = from_to (pos 0) (pos 1) z
@@ -216,10 +233,16 @@ good_rates m =
     good_bounds m && good_jump m.numbers.optional.jump && good_ring m.numbers.optional.ring
     && good_arc_feed m.numbers.optional.arc_feed && good_changer m.numbers.optional.changer
 
-abbrev pub good_travel : ℤ → MachinePoints → Bool
-good_travel step p =
+abbrev pub good_margin : ℤ → Bool
+good_margin z = from_to (pos 0) MARGIN_LIMIT z
+
+abbrev pub good_limits : ℤ → MachinePoints → Bool
+good_limits step p =
     is_sized PLACE_LIMIT p.low && is_sized PLACE_LIMIT p.high && is_at_most p.low p.high &&
     is_at_most p.low p.start && is_at_most p.start p.high && is_on_grid step p.start
+
+abbrev pub good_travel : MachineNumbers → MachinePoints → Bool
+good_travel n p = good_limits n.step p && good_margin n.optional.travel_margin
 
 abbrev pub good_places : MachineValues → Bool
 good_places m =
@@ -231,8 +254,10 @@ good_fixture f =
     is_sized CORNER_LIMIT f.low && is_sized CORNER_LIMIT f.high && is_below f.low f.high &&
     is_some f.name
 
-abbrev pub good_fixtures : List Corners → Bool
-good_fixtures fixtures = nat_le (length fixtures) 256 && list_all good_fixture fixtures
+abbrev pub good_fixtures : MachineValues → Bool
+good_fixtures m =
+    nat_le (length m.fixtures) 256 && list_all good_fixture m.fixtures
+    && good_margin m.numbers.optional.margin
 
 -- the first refusal
 abbrev pub machine_ranges : MachineValues → Result (Unit {0}) FileFault
@@ -241,9 +266,9 @@ machine_ranges m =
     (refuse_unless (from_to (pos 500) (pos 50000) m.numbers.step) Step >>
     (refuse_unless (is_rate m.numbers.ticks_per_second) TicksPerSecond >>
     (refuse_unless (good_rates m) Rates >>
-    (refuse_unless (good_travel m.numbers.step m.points) Travel >>
+    (refuse_unless (good_travel m.numbers m.points) Travel >>
     (refuse_unless (good_places m) Places >>
-    refuse_unless (good_fixtures m.fixtures) Fixtures)))))
+    refuse_unless (good_fixtures m) Fixtures)))))
 
 -- ---- the machine of a file
 
@@ -257,9 +282,11 @@ abbrev pub fixture_of : Corners → Fixture
 fixture_of f =
     record { low = place_of f.low; high = place_of f.high; name = name_from f.name }
 
--- true if arcs run at their feed at every point
-abbrev pub has_arc_feed : ℤ → Bool
-has_arc_feed z = int_eq z (pos 1)
+abbrev pub arc_feed_of : ℤ → ArcFeed
+arc_feed_of z = if int_eq z (pos 1) then Feed else (if int_eq z (pos 2) then FeedAndTurn else Off)
+
+abbrev pub margins_of : OptionalNumbers → Margins
+margins_of n = record { fixtures = n.margin; travel = n.travel_margin }
 
 -- true if the machine changes tools by itself, without a person
 abbrev pub has_changer : ℤ → Bool
@@ -276,7 +303,7 @@ machine_from m = record {
   jump = unsigned_abs m.numbers.optional.jump;
   turn = unsigned_abs m.numbers.turn;
   ring = unsigned_abs m.numbers.optional.ring;
-  arc_feed = has_arc_feed m.numbers.optional.arc_feed;
+  arc_feed = arc_feed_of m.numbers.optional.arc_feed;
   changer = has_changer m.numbers.optional.changer;
   low = place_of m.points.low;
   high = place_of m.points.high;
@@ -285,6 +312,8 @@ machine_from m = record {
   home30 = place_of m.points.home30;
   origins = map place_of m.origins;
   fixtures = map fixture_of m.fixtures;
+  margins = margins_of m.numbers.optional;
+  rapids = m.rapids;
 }
 
 -- each of three numbers lies between two bounds, both included
@@ -311,6 +340,8 @@ pub record IsGood (m : MachineValues) : Type 0 where
   pub origins : All (λ p. IsSized PLACE_LIMIT (place_of p)) m.origins
   pub fixture_count : length m.fixtures ≤ 256
   pub fixtures : All (λ f. IsFixture (fixture_of f)) m.fixtures
+  pub margin : IsFrom (pos 0) MARGIN_LIMIT m.numbers.optional.margin
+  pub travel_margin : IsFrom (pos 0) MARGIN_LIMIT m.numbers.optional.travel_margin
 
 abbrev pub checked_machine : Option MachineValues → Result MachineFile FileFault
 checked_machine None = Err Document

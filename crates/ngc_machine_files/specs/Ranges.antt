@@ -5,6 +5,7 @@ use Rattle.std.specs.List.{All}
 use Rattle.ngc_fixed_length.specs.declared.points.Point3.{Point3}
 use Rattle.ngc_machine_files.specs.declared.machine.AxisRates.{AxisRates}
 use Rattle.ngc_machine_files.specs.declared.machine.Fixture.{Fixture}
+use Rattle.ngc_machine_files.specs.declared.machine.Margins.{Margins}
 use Rattle.ngc_machine_files.specs.declared.parts.Part.{Part}
 use Rattle.ngc_machine_files.specs.declared.tools.Tool.{Tool}
 use Rattle.ngc_machine_files.specs.Numbers.{AreDifferent}
@@ -16,6 +17,10 @@ PLACE_LIMIT = 1000000000
 -- the greatest size of a coordinate of a fixture's corner, in nanometres
 abbrev pub CORNER_LIMIT : ℕ
 CORNER_LIMIT = 4000000000
+
+-- the greatest margin, in nanometres
+abbrev pub MARGIN_LIMIT : ℤ
+MARGIN_LIMIT = pos 100000000
 
 -- a number between two bounds, both included
 pub record IsFrom (low high z : ℤ) : Type 0 where
@@ -88,6 +93,10 @@ pub record IsFixture (f : Fixture) : Type 0 where
 pub record AreFixtures (fixtures : List Fixture) : Type 0 where
   pub count : length fixtures ≤ 256
   pub each : All IsFixture fixtures
+
+pub record AreMargins (m : Margins) : Type 0 where
+  pub fixtures : IsFrom (pos 0) MARGIN_LIMIT m.fixtures
+  pub travel : IsFrom (pos 0) MARGIN_LIMIT m.travel
 
 pub record IsPart (p : Part) : Type 0 where
   pub length : IsFrom (pos 0) (pos 1000000000) p.length

@@ -6,6 +6,8 @@ use Rattle.std.specs.Str.{is_utf8, bytes_eq}
 use Rattle.toml.specs.Parse.{parse_document}
 use Rattle.toml.specs.Data.{Data, array, table, Items, no_items, item, Members, no_members, member}
 use Rattle.toml.specs.Data.{get, as_integer, as_str}
+use Rattle.ngc_machine_files.specs.declared.machine.Rapids.{Rapids}
+use Rattle.ngc_machine_files.specs.declared.machine.Rapids.TheVariants.{Straight, Free}
 use Rattle.ngc_machine_files.specs.declared.machine_contents.Coordinates.{Coordinates}
 use Rattle.ngc_machine_files.specs.Names.{name_of}
 
@@ -79,6 +81,15 @@ named value = as_str value >>= (λ text. Some (name_of text))
 -- the name of the key `name`, without characters if the key is missing
 abbrev pub name_at : Data → Option (Option (List ℕ))
 name_at tree = or_missing (Some []) named (get (codes "name") tree)
+
+abbrev pub rapids_named : List ℕ → Option Rapids
+rapids_named text =
+    if bytes_eq text (codes "straight") then Some Straight
+    else (if bytes_eq text (codes "free") then Some Free else None)
+
+-- the traverses of the key `rapids`, straight if the key is missing
+abbrev pub rapids_at : Data → Option Rapids
+rapids_at tree = or_missing Straight (λ value. as_str value >>= rapids_named) (get (codes "rapids") tree)
 
 -- the items of a key, none if the key is missing
 abbrev pub list_at : {A : Type 0} → (Data → Option A) → List ℕ → Data → Option (List A)

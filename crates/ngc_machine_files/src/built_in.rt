@@ -2,7 +2,7 @@ ghost use Rattle.std.specs.Prelude.{◌≡◌};
 ghost use Rattle.ngc_machine_files.specs.Machine.{file_of, built_in_machine as row_file};
 ghost use Rattle.ngc_fixed_length.specs.Places.{zero_point as zero_place};
 
-use crate::machine::{AxisRates, Machine};
+use crate::machine::{ArcFeed, AxisRates, Machine, Margins, Rapids};
 use crate::numbers::length;
 use ngc_fixed_length::Point3;
 use std::alloc::Allocator;
@@ -47,7 +47,7 @@ pub fn built_in_machine<A: Allocator>(alloc: A) -> Machine<A>
         jump: 0,
         turn: 1_000_000_000,
         ring: 16,
-        arc_feed: false,
+        arc_feed: ArcFeed::Off,
         changer: false,
         low,
         high,
@@ -56,5 +56,10 @@ pub fn built_in_machine<A: Allocator>(alloc: A) -> Machine<A>
         home30: zero_point(),
         origins: [zero_point(); 9],
         fixtures: Vec::new(alloc),
+        margins: Margins {
+            fixtures: length(0),
+            travel: length(0),
+        },
+        rapids: Rapids::Straight,
     }
 }

@@ -15,18 +15,19 @@ pub enum FileFault {
     #[error("the ticks per second are out of range")]
     TicksPerSecond,
     /// 264: a rate is not 1 to 1,000,000, the bound for arcs not 1 to 10^12, a jump over 1,000,000,
-    /// a ring not 16 to 1,024, or a feed of arcs not 0 or 1.
+    /// a ring not 16 to 1,024, a feed of arcs not 0 to 2, or a tool changer not 0 or 1.
     #[error("a rate is out of range")]
     Rates,
     /// 265: a travel limit is over 10^9 nm in size, a low limit is above its high one, or the start
-    /// point is beyond the limits or off the grid.
+    /// point is beyond the limits or off the grid, or the margin isn't 0 to 10^8 nm.
     #[error("the travel limits or the start point are out of range")]
     Travel,
     /// 266: a home position or an origin is over 10^9 nm in size.
     #[error("a home position or an origin is out of range")]
     Places,
     /// 267: a corner is over 4*10^9 nm in size, a low corner is not below the high one, a name
-    /// isn't 1 to 40 printable ASCII characters, or there are over 256 fixtures.
+    /// isn't 1 to 40 printable ASCII characters, there are over 256 fixtures, or the margin isn't 0
+    /// to 10^8 nm.
     #[error("a fixture is out of range, or there are too many")]
     Fixtures,
     /// 268: a number is out of range, a tool's number occurs twice, a tool has no parts or over

@@ -2,7 +2,7 @@ ghost use Rattle.std.specs.Prelude.{◌≡◌};
 ghost use Rattle.std.specs.List.{All};
 ghost use Rattle.ngc_fixed_length.specs.Length.{IsStep};
 ghost use Rattle.ngc_machine_files.specs.Ranges.{PLACE_LIMIT, IsRate, IsJump, AreRates, IsArcBound, IsTravel};
-ghost use Rattle.ngc_machine_files.specs.Ranges.{IsSized, IsRing, AreFixtures};
+ghost use Rattle.ngc_machine_files.specs.Ranges.{IsSized, IsRing, AreFixtures, AreMargins};
 
 use crate::name::Name;
 use ngc_fixed_length::{Nm, Point3};
@@ -23,6 +23,34 @@ pub struct AxisRates {
     pub x: u32,
     pub y: u32,
     pub z: u32,
+}
+
+/// What holds on an arc at each point of it, by the distance of that point from the arc's centre.
+#[derive(Clone, Copy)]
+pub enum ArcFeed {
+    /// Nothing: an arc runs at the lowest rate that its feed allows at any point.
+    Off,
+    /// The feed.
+    Feed,
+    /// The feed, and the bound of rates on arcs.
+    FeedAndTurn,
+}
+
+/// How far a program keeps from the fixtures and from the travel limits, in nanometres, 0 to
+/// 100,000,000 each.
+#[derive(Clone, Copy)]
+pub struct Margins {
+    pub fixtures: Nm,
+    pub travel: Nm,
+}
+
+/// The ways that a control may take to the end of a traverse.
+#[derive(Clone, Copy)]
+pub enum Rapids {
+    /// The straight line.
+    Straight,
+    /// Any way within the box that the two ends span, such as each axis at its own greatest rate.
+    Free,
 }
 
 /// A machine. Lengths are in nanometres, rates in millionths of a path step per tick.
@@ -47,9 +75,8 @@ pub struct Machine<A: Allocator> {
     pub turn: u64,
     /// The most commands that may be loaded and not done, 16 to 1,024.
     pub ring: u32,
-    /// Whether an arc runs at its feed at every point. If not, it runs at the lowest rate that its
-    /// feed allows at any point.
-    pub arc_feed: bool,
+    /// What holds on an arc at each point of it.
+    pub arc_feed: ArcFeed,
     /// Whether the machine changes tools by itself. If not, a person changes them, and a program must
     /// stop for that.
     pub changer: bool,
@@ -69,6 +96,10 @@ pub struct Machine<A: Allocator> {
     /// The fixtures: at most 256, numbered from 0. Coordinates are at most 4*10^9 nm in size, and
     /// low is below high on each axis.
     pub fixtures: Vec<Fixture, A>,
+    /// How far programs keep from fixtures and travel limits.
+    pub margins: Margins,
+    /// The ways that the control may take to the end of a traverse.
+    pub rapids: Rapids,
     ghost step_in_range: { IsStep step },
     ghost ticks_in_range: { IsRate ticks_per_second },
     ghost max_rate_in_range: { IsRate max_rate },
@@ -83,6 +114,7 @@ pub struct Machine<A: Allocator> {
     ghost home30_in_range: { IsSized PLACE_LIMIT home30 },
     ghost origins_in_range: { All (IsSized PLACE_LIMIT) origins },
     ghost fixtures_in_range: { AreFixtures fixtures.items },
+    ghost margins_in_range: { AreMargins margins },
 }
 
 fn copied(origins: &[Point3; 9]) -> [Point3; 9]
@@ -124,6 +156,8 @@ impl<A: Allocator> Machine<A> {
             home30: self.home30,
             origins: copied(&self.origins),
             fixtures,
+            margins: self.margins,
+            rapids: self.rapids,
         })
     }
 }

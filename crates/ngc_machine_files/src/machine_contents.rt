@@ -8,9 +8,11 @@ ghost use Rattle.ngc_machine_files.specs.MachineText.{machine_points, machine_or
 ghost use Rattle.ngc_machine_files.specs.MachineText.{machine_axis_rates, corners, machine_keys};
 ghost use Rattle.ngc_machine_files.specs.MachineText.{machine_values, nine_coordinates, has_fixture_keys};
 
+use crate::machine::Rapids;
 use crate::name::Name;
 use crate::tree::{
-    Entry, coordinates, coordinates_at, entries_at, has_only, name_at, whole_at, whole_or,
+    Entry, coordinates, coordinates_at, entries_at, has_only, name_at, rapids_at, whole_at,
+    whole_or,
 };
 use std::alloc::{AllocError, Global};
 use toml::Value;
@@ -52,6 +54,8 @@ pub struct OptionalNumbers {
     pub ring: i64,
     pub arc_feed: i64,
     pub changer: i64,
+    pub margin: i64,
+    pub travel_margin: i64,
 }
 
 /// The single points of a machine file, of any size.
@@ -68,6 +72,7 @@ pub struct MachinePoints {
 #[derive(Drop)]
 pub struct MachineContents {
     pub numbers: MachineNumbers,
+    pub rapids: Rapids,
     pub axis_rates: Coordinates,
     pub points: MachinePoints,
     pub origins: [Coordinates; 9],
@@ -107,6 +112,8 @@ fn optional_numbers(tree: &Value) -> Option<OptionalNumbers>
         ring: whole_or(16, tree, "ring")?,
         arc_feed: whole_or(0, tree, "arc_feed")?,
         changer: whole_or(0, tree, "changer")?,
+        margin: whole_or(0, tree, "margin")?,
+        travel_margin: whole_or(0, tree, "travel_margin")?,
     })
 }
 
@@ -189,13 +196,16 @@ fn machine_origins(tree: &Value) -> Option<[Coordinates; 9]>
     }
 }
 
-/// The keys of a machine file of version 2. Version 1 has all but the first five.
-pub const MACHINE_KEYS: [&str; 19] = [
+/// The keys of a machine file of version 2. Version 1 has all but the first eight.
+pub const MACHINE_KEYS: [&str; 22] = [
     "axis_rate",
     "jump",
     "ring",
     "arc_feed",
     "changer",
+    "margin",
+    "travel_margin",
+    "rapids",
     "version",
     "step",
     "ticks_per_second",
@@ -218,7 +228,7 @@ fn has_machine_keys(numbers: &MachineNumbers, tree: &Value) -> bool
     if has_axis_rates(numbers) {
         has_only(tree, &MACHINE_KEYS)
     } else {
-        has_only(tree, &MACHINE_KEYS[5..])
+        has_only(tree, &MACHINE_KEYS[8..])
     }
 }
 
@@ -236,6 +246,9 @@ impl MachineContents {
         if !has_machine_keys(&numbers, tree) {
             return Ok(None);
         }
+        let Some(rapids) = rapids_at(tree) else {
+            return Ok(None);
+        };
         let Some(axis_rates) = machine_axis_rates(&numbers, tree) else {
             return Ok(None);
         };
@@ -248,6 +261,7 @@ impl MachineContents {
         match entries_at(alloc, numbers.version, tree, "fixture")? {
             Some(fixtures) => Ok(Some(MachineContents {
                 numbers,
+                rapids,
                 axis_rates,
                 points,
                 origins,

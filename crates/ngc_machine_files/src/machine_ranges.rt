@@ -6,15 +6,17 @@ ghost use Rattle.ngc_machine_files.specs.Machine.{file_of};
 ghost use Rattle.ngc_machine_files.specs.Numbers.{from_to};
 ghost use Rattle.ngc_machine_files.specs.Ranges.{CORNER_LIMIT, IsFrom, IsRate, IsJump, IsRing, AreRates};
 ghost use Rattle.ngc_machine_files.specs.Ranges.{IsArcBound, IsSized, IsFixture, PLACE_LIMIT};
+ghost use Rattle.ngc_machine_files.specs.Ranges.{MARGIN_LIMIT, AreMargins};
 ghost use Rattle.ngc_machine_files.specs.MachineText.{values_of, is_sized, is_at_most, is_below};
 ghost use Rattle.ngc_machine_files.specs.MachineText.{is_multiple, is_on_grid, good_version, is_rate};
 ghost use Rattle.ngc_machine_files.specs.MachineText.{good_axis_rates, good_bounds, good_rates, good_travel};
 ghost use Rattle.ngc_machine_files.specs.MachineText.{good_places, good_fixture, good_fixtures};
 ghost use Rattle.ngc_machine_files.specs.MachineText.{machine_ranges, machine_from, place_of};
-ghost use Rattle.ngc_machine_files.specs.MachineText.{axis_rates_of, fixture_of, has_arc_feed, has_changer, AreFrom, IsGood};
+ghost use Rattle.ngc_machine_files.specs.MachineText.{axis_rates_of, fixture_of, arc_feed_of, has_changer, AreFrom, IsGood};
+ghost use Rattle.ngc_machine_files.specs.MachineText.{good_limits, good_margin, margins_of};
 
 use crate::fault::FileFault;
-use crate::machine::{AxisRates, Fixture, Machine};
+use crate::machine::{ArcFeed, AxisRates, Fixture, Machine, Margins};
 use crate::machine_contents::{
     Coordinates, Corners, MachineContents, MachineNumbers, MachinePoints, OptionalNumbers,
 };
@@ -28,6 +30,9 @@ const PLACE_LIMIT: u64 = 1_000_000_000;
 
 /// The greatest size of a coordinate of a fixture's corner, in nanometres.
 const CORNER_LIMIT: u64 = 4_000_000_000;
+
+/// The greatest margin, in nanometres.
+const MARGIN_LIMIT: i64 = 100_000_000;
 
 fn is_sized(limit: u64, point: &Coordinates) -> bool
     ensures { result ≡ is_sized limit point.now }
@@ -116,20 +121,33 @@ fn are_rates_good(contents: &MachineContents) -> bool
     are_bounds_good(contents)
         && is_from_to(0, 1_000_000, contents.numbers.optional.jump)
         && is_from_to(16, 1_024, contents.numbers.optional.ring)
-        && is_from_to(0, 1, contents.numbers.optional.arc_feed)
+        && is_from_to(0, 2, contents.numbers.optional.arc_feed)
         && is_from_to(0, 1, contents.numbers.optional.changer)
 }
 
-fn is_travel_good(numbers: &MachineNumbers, points: &MachinePoints) -> bool
-    requires { pos 0 <ℤ numbers.now.step }
-    ensures { result ≡ good_travel numbers.now.step points.now }
+fn is_margin_good(margin: i64) -> bool
+    ensures { result ≡ good_margin margin }
+{
+    is_from_to(0, MARGIN_LIMIT, margin)
+}
+
+fn are_limits_good(step: i64, points: &MachinePoints) -> bool
+    requires { pos 0 <ℤ step }
+    ensures { result ≡ good_limits step points.now }
 {
     is_sized(PLACE_LIMIT, &points.low)
         && is_sized(PLACE_LIMIT, &points.high)
         && points.low.is_at_most(&points.high)
         && points.low.is_at_most(&points.start)
         && points.start.is_at_most(&points.high)
-        && points.start.is_on_grid(numbers.step)
+        && points.start.is_on_grid(step)
+}
+
+fn is_travel_good(numbers: &MachineNumbers, points: &MachinePoints) -> bool
+    requires { pos 0 <ℤ numbers.now.step }
+    ensures { result ≡ good_travel numbers.now points.now }
+{
+    are_limits_good(numbers.step, points) && is_margin_good(numbers.optional.travel_margin)
 }
 
 fn are_origins_good(origins: &[Coordinates]) -> bool
@@ -161,10 +179,12 @@ fn is_each_fixture_good(fixtures: &[Corners]) -> bool
     fixtures.iter().all(is_fixture_good)
 }
 
-fn are_fixtures_good(fixtures: &[Corners]) -> bool
-    ensures { result ≡ good_fixtures fixtures.now }
+fn are_fixtures_good(contents: &MachineContents) -> bool
+    ensures { result ≡ good_fixtures (values_of contents.now) }
 {
-    fixtures.len() <= 256 && is_each_fixture_good(fixtures)
+    contents.fixtures.len() <= 256
+        && is_each_fixture_good(contents.fixtures.as_slice())
+        && is_margin_good(contents.numbers.optional.margin)
 }
 
 fn step_length(numbers: &MachineNumbers) -> Nm
@@ -201,11 +221,15 @@ fn ring(value: i64) -> u32
     value as u32
 }
 
-/// Returns whether arcs run at their feed at every point.
-fn has_arc_feed(numbers: &OptionalNumbers) -> bool
-    ensures { result ≡ has_arc_feed numbers.now.arc_feed }
+/// Returns what holds at each point of an arc.
+fn arc_feed(numbers: &OptionalNumbers) -> ArcFeed
+    ensures { result ≡ arc_feed_of numbers.now.arc_feed }
 {
-    numbers.arc_feed == 1
+    match numbers.arc_feed {
+        1 => ArcFeed::Feed,
+        2 => ArcFeed::FeedAndTurn,
+        _ => ArcFeed::Off,
+    }
 }
 
 /// Returns whether the machine changes tools by itself.
@@ -213,6 +237,18 @@ fn has_changer(numbers: &OptionalNumbers) -> bool
     ensures { result ≡ has_changer numbers.now.changer }
 {
     numbers.changer == 1
+}
+
+fn margins(numbers: &OptionalNumbers) -> Margins
+    requires fixtures { IsFrom (pos 0) MARGIN_LIMIT numbers.now.margin }
+    requires travel { IsFrom (pos 0) MARGIN_LIMIT numbers.now.travel_margin }
+    ensures value { result ≡ margins_of numbers.now }
+    ensures range { AreMargins result }
+{
+    Margins {
+        fixtures: length(numbers.margin),
+        travel: length(numbers.travel_margin),
+    }
 }
 
 fn axis_rates(rates: &Coordinates) -> AxisRates
@@ -302,7 +338,7 @@ impl MachineContents {
         if !are_places_good(self) {
             return Err(FileFault::Places);
         }
-        if !are_fixtures_good(self.fixtures.as_slice()) {
+        if !are_fixtures_good(self) {
             return Err(FileFault::Fixtures);
         }
         Ok(())
@@ -324,7 +360,7 @@ impl MachineContents {
             jump: jump(self.numbers.optional.jump),
             turn: arc_bound(self.numbers.turn),
             ring: ring(self.numbers.optional.ring),
-            arc_feed: has_arc_feed(&self.numbers.optional),
+            arc_feed: arc_feed(&self.numbers.optional),
             changer: has_changer(&self.numbers.optional),
             low: place(&self.points.low),
             high: place(&self.points.high),
@@ -333,6 +369,8 @@ impl MachineContents {
             home30: place(&self.points.home30),
             origins: origins(&self.origins),
             fixtures,
+            margins: margins(&self.numbers.optional),
+            rapids: self.rapids,
         })
     }
 }

@@ -8,7 +8,9 @@ ghost use Rattle.toml.specs.Errors.{IsBlank};
 ghost use Rattle.toml.specs.View.{view, items_view};
 ghost use Rattle.ngc_machine_files.specs.Tree.{tree_of, is_one_of, has_only, whole_at, whole_or, coordinates};
 ghost use Rattle.ngc_machine_files.specs.Tree.{coordinates_at, each, list_at, named, name_at};
+ghost use Rattle.ngc_machine_files.specs.Tree.{rapids_named, rapids_at};
 
+use crate::machine::Rapids;
 use crate::machine_contents::Coordinates;
 use crate::name::Name;
 use std::alloc::{AllocError, Global};
@@ -110,6 +112,29 @@ pub(crate) fn name_at(tree: &Value) -> Option<Option<Name>>
     match tree.get("name") {
         Some(value) => named(value),
         None => Some(Some(Name::none())),
+    }
+}
+
+fn rapids_named(text: &str) -> Option<Rapids>
+    ensures { result ≡ rapids_named text.now }
+{
+    if text == "straight" {
+        Some(Rapids::Straight)
+    } else if text == "free" {
+        Some(Rapids::Free)
+    } else {
+        None
+    }
+}
+
+/// Returns the traverses of the key `rapids`, which are straight if the key is missing, or `None`
+/// for a value other than `"straight"` and `"free"`.
+pub(crate) fn rapids_at(tree: &Value) -> Option<Rapids>
+    ensures { result ≡ rapids_at (view tree.now) }
+{
+    match tree.get("rapids") {
+        Some(value) => rapids_named(value.as_str()?),
+        None => Some(Rapids::Straight),
     }
 }
 

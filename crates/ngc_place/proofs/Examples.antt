@@ -47,6 +47,8 @@ mill = record {
   home30 = built_in_machine.home30;
   origins = built_in_machine.origins;
   fixtures = vise ∷ [];
+  margins = built_in_machine.margins;
+  rapids = built_in_machine.rapids;
 }
 
 abbrev home : Point3

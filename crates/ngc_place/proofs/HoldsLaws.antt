@@ -31,6 +31,8 @@ use Rattle.ngc_certificate.proofs.TrueTests.{both, and, no_truth}
 use Rattle.ngc_place.specs.Shifts.{shifted, way_shifted, end_moves, actions_shifted}
 use Rattle.ngc_commands.specs.Reached.{after, at_start}
 use Rattle.ngc_commands.specs.declared.reached.Reached.{Reached}
+use Rattle.ngc_certificate.specs.Traverses.{most_pieces}
+use Rattle.ngc_certificate.proofs.TraverseLaws.{most_least, most_greatest}
 use Rattle.ngc_place.specs.Holds.{action_clear, over, is_clear, pieces_clear, way_clear, place_clear, holds_from, holds, HoldsIsMade, HoldsIsCertified, HoldsWithin}
 use Rattle.ngc_place.proofs.Rounded.{scale_by, sum_up}
 use Rattle.ngc_place.proofs.ClearBoxes.{clear_within, unmet_within}
@@ -162,8 +164,9 @@ action_within machine most outer inner r start end (Mount new) step least greate
 action_within machine most outer inner r start end (Move m) step least greatest low high h =
     let e = both _ _ h in
     and _ _ e.0
-    (way_within machine most r.tool (way_shifted machine.step outer.low start end m.way) (way_shifted machine.step inner.low start end m.way)
-    (way_shifted machine.step inner.high start end m.way) (way_shifted machine.step outer.high start end m.way) step least greatest
+    (way_within machine (most_pieces machine most m.pace) r.tool (way_shifted machine.step outer.low start end m.way) (way_shifted machine.step inner.low start end m.way)
+    (way_shifted machine.step inner.high start end m.way) (way_shifted machine.step outer.high start end m.way) step
+    (most_least machine most m.pace least) (most_greatest machine most m.pace greatest)
     (way_rises machine.step outer.low inner.low start end m.way step low) (way_rises machine.step inner.high outer.high start end m.way step high) e.1)
 action_within machine most outer inner r start end _ step least greatest low high h = refl
 
@@ -250,7 +253,8 @@ made_from machine most k n r start (end ∷ moving) (Move m ∷ actions) says le
     let later = subst (λ p. IsMadeFrom machine most (k + 1) r.tool p (actions_shifted machine.step n end moving actions) made.1)
     (end_shifted machine.step n start end m.way) made.3 in
     let rest = made_from machine most (k + 1) n (after r (Move m)) end moving actions made.1 least greatest e.1 later in
-    let found = way_found machine most r.tool w made.0 least greatest f.1 made.2 in
+    let found = way_found machine (most_pieces machine most m.pace) r.tool w made.0 (most_least machine most m.pace least)
+    (most_greatest machine most m.pace greatest) f.1 made.2 in
     let more = list_more k found.0 made.0 made.1 found.1 rest in
     (more.0, made.4 ∙ more.1)
 made_from machine most k n r start (end ∷ moving) (_ ∷ actions) says least greatest h made =

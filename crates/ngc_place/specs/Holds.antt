@@ -28,6 +28,7 @@ use Rattle.ngc_certificate.specs.declared.fault.MakeFault.{MakeFault}
 use Rattle.ngc_certificate.specs.DerivedBox.{line_box}
 use Rattle.ngc_certificate.specs.Made.{tries, IsSettingMade, IsMade}
 use Rattle.ngc_certificate.specs.PieceFault.{place_fault}
+use Rattle.ngc_certificate.specs.Traverses.{most_pieces}
 use Rattle.ngc_place.specs.Shifts.{shifted, way_shifted, end_moves, AreShifted}
 
 -- from the lowest corner of one box to the highest of another
@@ -79,7 +80,8 @@ action_clear machine most shifts r start end (Mount new) =
     (shifted machine.step shifts.high start r.place)
 action_clear machine most shifts r start end (Move m) =
     keeps_shape start end m.way
-    && way_clear machine most r.tool (way_shifted machine.step shifts.low start end m.way)
+    && way_clear machine (most_pieces machine most m.pace) r.tool
+    (way_shifted machine.step shifts.low start end m.way)
     (way_shifted machine.step shifts.high start end m.way)
 action_clear machine most shifts r start end _ = true
 

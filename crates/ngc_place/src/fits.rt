@@ -13,7 +13,7 @@ use crate::round::{arc_high, arc_low};
 use crate::spots::{shifted, to_grid};
 use crate::straight::{Cuts, Straight};
 use ngc_arc_geometry::Arc;
-use ngc_certificate::place_fault;
+use ngc_certificate::{most_pieces, place_fault};
 use ngc_collision::{first_met, is_in_travel};
 use ngc_commands::{Action, Command, Reached, Way};
 use ngc_fixed_length::{GridBox, Point3};
@@ -185,12 +185,14 @@ fn action_is_clear<A: Allocator>(
     action: &Action,
     cuts: u16,
 ) -> bool
-    requires { AreShifts shifts.now }
+    requires shifts { AreShifts shifts.now }
+    requires cuts { 1 ≤ cuts }
     ensures { result ≡ action_clear (file_of machine.now) cuts shifts.now reached.now moving.start
         moving.end action.now }
 {
     match action {
         Action::Move(motion) => {
+            let cuts = most_pieces(machine, cuts, &motion.pace);
             way_is_clear(machine, &reached.tool, shifts, moving, &motion.way, cuts)
         }
         Action::Mount(tool) => place_is_clear(machine, tool, shifts, moving.start, &reached.place),
@@ -224,7 +226,7 @@ fn mark_at(moving: &[bool], index: usize) -> Option<bool>
 /// at most 4,000,000 along each axis.
 ///
 /// Lines are tried in 1, 2, 4 and so on pieces below `cuts`, and then in `cuts`, which is at least
-/// 1; arcs are undivided. If the result is true, motions are made of the shifted commands with
+/// 1; arcs are undivided, and so are traverses if the control may take any way to their end. If the result is true, motions are made of the shifted commands with
 /// these `cuts` at each shift of the box, by the law `holds_is_made`. No memory is allocated.
 pub fn holds<A: Allocator>(
     machine: &Machine<A>,

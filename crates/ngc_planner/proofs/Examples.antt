@@ -157,7 +157,7 @@ jumping jump = record {
   jump = jump;
   turn = 1000000000;
   ring = 16;
-  arc_feed = false;
+  arc_feed = built_in_machine.arc_feed;
   changer = false;
   low = record { x = pos 0; y = pos 0; z = negsuc 99999999 };
   high = record { x = pos 300000000; y = pos 300000000; z = pos 0 };
@@ -166,6 +166,8 @@ jumping jump = record {
   home30 = zero_point;
   origins = [];
   fixtures = [];
+  margins = built_in_machine.margins;
+  rapids = built_in_machine.rapids;
 }
 
 -- from zero along a vector, and on along another one

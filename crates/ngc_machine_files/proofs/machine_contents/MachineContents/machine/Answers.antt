@@ -21,6 +21,7 @@ invariant_of-result c = record {
   origins_in_range = origins_in_range _ _ c.origins.ensures c.requires.origins;
   fixtures_in_range =
       fixtures_in_range _ _ (c.in_ok-fixtures.ensures ∙ ap (map fixture_of) c.as_slice.ensures.value) c.requires.fixture_count c.requires.fixtures;
+  margins_in_range = c.margins.ensures.range;
 }
 
 pub returns : goal.returns
@@ -44,7 +45,7 @@ returns c =
       jump,
       turn,
       ring,
-      c.has_arc_feed.ensures,
+      c.arc_feed.ensures,
       c.has_changer.ensures,
       c.place.ensures,
       c.place-2.ensures,
@@ -53,4 +54,5 @@ returns c =
       c.place-5.ensures,
       c.origins.ensures,
       fixtures,
+      c.margins.ensures.value,
     ) refl

@@ -24,4 +24,5 @@ invariant_of-machine g c =
       origins_in_range = subst (λ (places : List Point3). All (IsSized PLACE_LIMIT) places) (sym c.replaced-machine.ensures)
           (replaced_sized c.self.inside.systems m.origins c.self.invariant.sized m.origins_in_range);
       fixtures_in_range = m.fixtures_in_range;
+      margins_in_range = m.margins_in_range;
     }

@@ -3,7 +3,7 @@ use Rattle.ngc_machine_files.specs.Machine.{file_of}
 use Rattle.ngc_certificate.specs.Making.{pieces_where}
 use Rattle.ngc_certificate.proofs.Cleared.{cleared_good, line_found}
 use Rattle.ngc_certificate.proofs.GoodResults.{map_ok}
-use Rattle.ngc_certificate.proofs.finding.find_clear.Goals as goal
+use Rattle.ngc_certificate.proofs.finding.find_way.Goals as goal
 
 pub returns-in-Line-clause-found : goal.returns-in-Line-clause-found
 returns-in-Line-clause-found g c =
