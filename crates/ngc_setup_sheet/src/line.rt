@@ -34,6 +34,12 @@ pub enum Fact {
     ArcFeed,
     /// By what the tools are changed.
     Changer,
+    /// How far programs keep from fixtures.
+    Margin,
+    /// How far they keep from the travel limits.
+    TravelMargin,
+    /// The way to the end of a traverse.
+    Rapids,
     Acceleration,
     /// The greatest acceleration towards the centre of an arc.
     ArcAcceleration,
@@ -67,6 +73,8 @@ pub enum Figure {
     ByPlace,
     /// The machine itself, without a person.
     ByMachine,
+    /// Any way within the box of a traverse's ends.
+    AnyWay,
     /// In thousandths of a millimetre per minute.
     Speed(u128),
     /// In thousandths of a millimetre per second squared.

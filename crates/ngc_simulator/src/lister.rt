@@ -62,7 +62,7 @@ pub(crate) fn list_files<F: Files, W: Sink>(
         alloc,
         options.machine,
         options.tools,
-        &options.origins,
+        &options.changes,
         files,
     )?;
     let mut source = open_file(options.program, files)?;

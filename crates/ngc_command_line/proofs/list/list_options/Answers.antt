@@ -9,5 +9,5 @@ returns c = record {
   machine = c.get_str-2.ensures ∙ first_value-rows (found_of c.args.found.now) (codes "machine");
   tools = c.get_str-3.ensures ∙ first_value-rows (found_of c.args.found.now) (codes "tools");
   delete = c.flag_is_set.ensures;
-  origins = c.requires;
+  changes = c.requires;
 }
