@@ -1,10 +1,9 @@
 -- The options are read back from the words in which they are written.
 use Rattle.std.proofs.Common.{◌≡◌, ◌==◌, ◌∙◌, [], ◌∷◌, cond, drop, if◌then◌else◌, ℕ, Bool, true, false, List, Option, Some, None, refl, inl, inr, subst, sym}
 use Rattle.std.proofs.Common.{codes, ◌≤◌, ◌<◌, ◌^◌, ap, option_map, arith}
-use Rattle.std.specs.Prelude.{unwrap_or, IsOk, Ok, Err, Result}
-use Rattle.ngc_origins.specs.Texts.{OriginList, no_origins, parsed_origins}
-use Rattle.ngc_origins.specs.declared.reading.OriginMistake.{OriginMistake}
-use Rattle.std.specs.Result.{result_ok}
+use Rattle.std.specs.Prelude.{unwrap_or, IsSome}
+use Rattle.ngc_margins.specs.Changes.{no_changes}
+use Rattle.ngc_margins.specs.declared.changes.Changes.{Changes}
 use Rattle.std.specs.Fmt.{decimal}
 use Rattle.std.specs.Str.Parse.{IsNumeral, digits_value, without_leading_plus}
 use Rattle.std.proofs.lemmas.Fmt.{decimal_is_IsNumeral}
@@ -24,7 +23,7 @@ use Rattle.ngc_command_line.specs.CommandLine.{certify_words, check_words, draw_
 use Rattle.ngc_command_line.specs.CommandLine.{run_words, show_words}
 use Rattle.ngc_command_line.specs.Meant.{AreCommands, AreCuts, AreCutsInRange, AreOptions, IsCertifyRequest, IsCheckRequest, IsDrawRequest, IsHelpRequest, IsListRequest}
 use Rattle.ngc_command_line.specs.Meant.{IsAdaptRequest, IsLiveRequest, IsMachineRequest, acceleration_in, feed_in, grbl_in, steps_in, travel_in}
-use Rattle.ngc_command_line.specs.Meant.{HaveOrigins, origins_in}
+use Rattle.ngc_command_line.specs.Meant.{ChangeTexts, HaveChanges, change_texts, changes_in, changes_written, no_texts}
 use Rattle.ngc_command_line.specs.Meant.{IsPlaceRequest, IsReportRequest, IsRunRequest, IsShowRequest, IsFormat, IsMask, IsTaken, IsTool, IsToolInRange, is_set}
 use Rattle.ngc_command_line.specs.declared.options.Format.{Format}
 use Rattle.ngc_command_line.specs.declared.options.Format.TheVariants.{One, Two}
@@ -41,26 +40,26 @@ use Rattle.ngc_command_line.proofs.RequiredValues.{no_run, other_letter, other_n
 abbrev Spells : List Text → (Option (Text × List Row) → Type 0) → Type 0
 Spells words Finds = IsTaken words × Finds (subcommand_of ngc_app words)
 
--- no origin is replaced where no value of `--origin` was found
-none_replaced : (rows : List Row) (origins : OriginList) → origins_in rows ≡ Ok origins → all_of (codes "origin") rows ≡ None → origins ≡ no_origins
-none_replaced rows origins are none =
-    let In : Option (List Text) → Type 0 = λ texts. parsed_origins (unwrap_or texts []) ≡ Ok origins in
-    let said : Ok no_origins ≡ Ok origins = subst In none are in
-    sym (same_Some _ _ (ap result_ok said))
+-- no key is replaced where no value of such an option was found
+none_replaced : (rows : List Row) (changes : Changes) → changes_in rows ≡ Some changes → change_texts rows ≡ no_texts → changes ≡ no_changes
+none_replaced rows changes are none =
+    let In : ChangeTexts → Type 0 = λ texts. changes_written texts ≡ Some changes in
+    let said : Some no_changes ≡ Some changes = subst In none are in
+    sym (same_Some _ _ said)
 
--- words without `--origin` have no wrong one
-none_wrong : (found : Text × List Row) → all_of (codes "origin") found.1 ≡ None → HaveOrigins (Some found)
+-- words without such options have no wrong one
+none_wrong : (found : Text × List Row) → change_texts found.1 ≡ no_texts → HaveChanges (Some found)
 none_wrong found none =
-    let Are : Option (List Text) → Type 0 = λ texts. IsOk (parsed_origins (unwrap_or texts [])) in
+    let Are : ChangeTexts → Type 0 = λ texts. IsSome (changes_written texts) in
     subst Are (sym none) refl
 
--- a wrong origin isn't in words without one
-pub wrong_origins : {X : Type 0} (found : Option (Text × List Row)) (name : Text) (rows : List Row) (mistake : OriginMistake) → found ≡ Some (name, rows)
-    → origins_in rows ≡ Err mistake → HaveOrigins found → X
-wrong_origins found name rows mistake is wrong have =
-    let said : HaveOrigins (Some (name, rows)) = subst HaveOrigins is have in
-    let refused : Result OriginList OriginMistake = Err mistake in
-    let bad : IsOk refused = subst (λ (r : Result OriginList OriginMistake). IsOk r) wrong said in
+-- a wrong value isn't in words without one
+pub wrong_changes : {X : Type 0} (found : Option (Text × List Row)) (name : Text) (rows : List Row) → found ≡ Some (name, rows)
+    → changes_in rows ≡ None → HaveChanges found → X
+wrong_changes found name rows is wrong have =
+    let said : HaveChanges (Some (name, rows)) = subst HaveChanges is have in
+    let refused : Option Changes = None in
+    let bad : IsSome refused = subst (λ (r : Option Changes). IsSome r) wrong said in
     cc
 
 -- the values of `list` that were found are these
@@ -68,7 +67,7 @@ abbrev FindsList : Option Text → Option Text → Option Text → Bool → Opti
 FindsList program machine tools delete None = ⊥
 FindsList program machine tools delete (Some found) = (found.0 ≡ codes "list") × (first_of (codes "program") found.1 ≡ program)
     × (first_of (codes "machine") found.1 ≡ machine) × (first_of (codes "tools") found.1 ≡ tools) × (is_set (codes "delete") found.1 ≡ delete)
-    × (all_of (codes "origin") found.1 ≡ None) × (first_of (codes "dialect") found.1 ≡ None)
+    × (change_texts found.1 ≡ no_texts) × (first_of (codes "dialect") found.1 ≡ None)
 
 list_spells : (program machine tools : Option Text) (delete : Bool) → Spells (list_words program machine tools delete) (FindsList program machine tools delete)
 unfolding clap_on_literals
@@ -94,7 +93,7 @@ requested_list : (program machine tools : Option Text) (delete : Bool) (found : 
     → AreOptions found options → IsListRequest program machine tools delete options
 requested_list program machine tools delete None options finds are = absurd finds
 requested_list program machine tools delete (Some found) (ToList list) finds are =
-    (are.1.program ∙ finds.1, are.1.machine ∙ finds.2, are.1.tools ∙ finds.3, are.1.delete ∙ finds.4, none_replaced found.1 list.origins are.1.origins finds.5,
+    (are.1.program ∙ finds.1, are.1.machine ∙ finds.2, are.1.tools ∙ finds.3, are.1.delete ∙ finds.4, none_replaced found.1 list.changes are.1.changes finds.5,
     are.1.dialect ∙ finds.6)
 requested_list program machine tools delete (Some found) (ToCertify certify) finds are =
     other_name (codes "list") (codes "certify") (sym finds.0 ∙ are.0) (λ lengths. omega (arith, lengths))
@@ -128,13 +127,13 @@ requested_list program machine tools delete (Some found) ToVersion finds are =
 pub list_taken : (words : List Text) (program machine tools : Option Text) (delete : Bool) → words ≡ list_words program machine tools delete → IsTaken words
 list_taken words program machine tools delete spelled = subst IsTaken (sym spelled) (list_spells program machine tools delete).0
 
-list_have : (found : Option (Text × List Row)) (program : Option Text) (machine : Option Text) (tools : Option Text) (delete : Bool) → FindsList program machine tools delete found → HaveOrigins found
+list_have : (found : Option (Text × List Row)) (program : Option Text) (machine : Option Text) (tools : Option Text) (delete : Bool) → FindsList program machine tools delete found → HaveChanges found
 list_have None program machine tools delete finds = absurd finds
 list_have (Some found) program machine tools delete finds = none_wrong found finds.5
 
-pub list_origins : (words : List Text) (program machine tools : Option Text) (delete : Bool) → words ≡ list_words program machine tools delete → HaveOrigins (subcommand_of ngc_app words)
-list_origins words program machine tools delete spelled =
-    let Have : List Text → Type 0 = λ ws. HaveOrigins (subcommand_of ngc_app ws) in
+pub list_changes : (words : List Text) (program machine tools : Option Text) (delete : Bool) → words ≡ list_words program machine tools delete → HaveChanges (subcommand_of ngc_app words)
+list_changes words program machine tools delete spelled =
+    let Have : List Text → Type 0 = λ ws. HaveChanges (subcommand_of ngc_app ws) in
     subst Have (sym spelled) (list_have _ program machine tools delete (list_spells program machine tools delete).1)
 
 pub list_read : (words : List Text) (program machine tools : Option Text) (delete : Bool) (options : Options) → words ≡ list_words program machine tools delete
@@ -149,7 +148,7 @@ FindsCheck machine tools certificate program None = ⊥
 FindsCheck machine tools certificate program (Some found) = (found.0 ≡ codes "check") × (first_of (codes "machine") found.1 ≡ Some machine)
     × (first_of (codes "tools") found.1 ≡ Some tools) × (first_of (codes "certificate") found.1 ≡ Some certificate) ×
     (first_of (codes "program") found.1 ≡ program)
-    × (all_of (codes "origin") found.1 ≡ None)
+    × (change_texts found.1 ≡ no_texts)
 
 check_spells : (machine tools certificate : Text) (program : Option Text) →
     Spells (check_words machine tools certificate program) (FindsCheck machine tools certificate program)
@@ -168,7 +167,7 @@ requested_check machine tools certificate program (Some found) (ToCheck check) f
   same_text _ _ _ are.1.tools finds.2,
   same_text _ _ _ are.1.certificate finds.3,
   are.1.program ∙ finds.4,
-  none_replaced found.1 check.origins are.1.origins finds.5,
+  none_replaced found.1 check.changes are.1.changes finds.5,
 )
 requested_check machine tools certificate program (Some found) (ToCertify certify) finds are =
     other_name (codes "check") (codes "certify") (sym finds.0 ∙ are.0) (λ lengths. omega (arith, lengths))
@@ -203,13 +202,13 @@ pub check_taken : (words : List Text) (machine tools certificate : Text) (progra
     IsTaken words
 check_taken words machine tools certificate program spelled = subst IsTaken (sym spelled) (check_spells machine tools certificate program).0
 
-check_have : (found : Option (Text × List Row)) (machine : Text) (tools : Text) (certificate : Text) (program : Option Text) → FindsCheck machine tools certificate program found → HaveOrigins found
+check_have : (found : Option (Text × List Row)) (machine : Text) (tools : Text) (certificate : Text) (program : Option Text) → FindsCheck machine tools certificate program found → HaveChanges found
 check_have None machine tools certificate program finds = absurd finds
 check_have (Some found) machine tools certificate program finds = none_wrong found finds.5
 
-pub check_origins : (words : List Text) (machine tools certificate : Text) (program : Option Text) → words ≡ check_words machine tools certificate program → HaveOrigins (subcommand_of ngc_app words)
-check_origins words machine tools certificate program spelled =
-    let Have : List Text → Type 0 = λ ws. HaveOrigins (subcommand_of ngc_app ws) in
+pub check_changes : (words : List Text) (machine tools certificate : Text) (program : Option Text) → words ≡ check_words machine tools certificate program → HaveChanges (subcommand_of ngc_app words)
+check_changes words machine tools certificate program spelled =
+    let Have : List Text → Type 0 = λ ws. HaveChanges (subcommand_of ngc_app ws) in
     subst Have (sym spelled) (check_have _ machine tools certificate program (check_spells machine tools certificate program).1)
 
 pub check_read : (words : List Text) (machine tools certificate : Text) (program : Option Text) (options : Options) →
@@ -227,7 +226,7 @@ FindsRun recording machine tools certificate events program delete output (Some 
     × (first_of (codes "certificate") found.1 ≡ Some certificate) × (first_of (codes "events") found.1 ≡ events)
     × (first_of (codes "program") found.1 ≡ program) × (is_set (codes "delete") found.1 ≡ delete)
     × (first_of (codes "output") found.1 ≡ output) × (first_of (codes "inverted") found.1 ≡ None)
-    × (all_of (codes "origin") found.1 ≡ None)
+    × (change_texts found.1 ≡ no_texts)
 
 run_spells : (recording : Recording) (machine tools certificate : Text) (events program : Option Text) (delete : Bool) (output : Option Text)
     → Spells (run_words recording machine tools certificate events program delete output) (FindsRun recording machine tools certificate events program delete output)
@@ -292,7 +291,7 @@ requested_run recording machine tools certificate (Some events) program delete o
   are.1.delete ∙ finds.6,
   are.1.output ∙ finds.7,
   no_mask _ run.inverted are.1.inverted finds.8,
-  none_replaced found.1 run.origins are.1.origins finds.9,
+  none_replaced found.1 run.changes are.1.changes finds.9,
 )
 requested_run recording machine tools certificate None program delete output (Some found) (ToRun run) finds are = let h : Some run.events.now ≡ None =
     are.1.events ∙ finds.4 in cc
@@ -307,7 +306,7 @@ requested_run recording machine tools certificate None program delete output (So
   are.1.delete ∙ finds.6,
   are.1.output ∙ finds.7,
   no_mask _ run.inverted are.1.inverted finds.8,
-  none_replaced found.1 run.origins are.1.origins finds.9,
+  none_replaced found.1 run.changes are.1.changes finds.9,
 )
 requested_run recording machine tools certificate events program delete output (Some found) (ToList list) finds are =
     no_run (codes "list") recording (sym (are.0) ∙ finds.0) (λ three. omega (arith, three)) (λ six. omega (arith, six))
@@ -340,13 +339,13 @@ pub run_taken : (words : List Text) (recording : Recording) (machine tools certi
 run_taken words recording machine tools certificate events program delete output spelled =
     subst IsTaken (sym spelled) (run_spells recording machine tools certificate events program delete output).0
 
-run_have : (found : Option (Text × List Row)) (recording : Recording) (machine : Text) (tools : Text) (certificate : Text) (events : Option Text) (program : Option Text) (delete : Bool) (output : Option Text) → FindsRun recording machine tools certificate events program delete output found → HaveOrigins found
+run_have : (found : Option (Text × List Row)) (recording : Recording) (machine : Text) (tools : Text) (certificate : Text) (events : Option Text) (program : Option Text) (delete : Bool) (output : Option Text) → FindsRun recording machine tools certificate events program delete output found → HaveChanges found
 run_have None recording machine tools certificate events program delete output finds = absurd finds
 run_have (Some found) recording machine tools certificate events program delete output finds = none_wrong found finds.9
 
-pub run_origins : (words : List Text) (recording : Recording) (machine tools certificate : Text) (events program : Option Text) (delete : Bool) (output : Option Text) → words ≡ run_words recording machine tools certificate events program delete output → HaveOrigins (subcommand_of ngc_app words)
-run_origins words recording machine tools certificate events program delete output spelled =
-    let Have : List Text → Type 0 = λ ws. HaveOrigins (subcommand_of ngc_app ws) in
+pub run_changes : (words : List Text) (recording : Recording) (machine tools certificate : Text) (events program : Option Text) (delete : Bool) (output : Option Text) → words ≡ run_words recording machine tools certificate events program delete output → HaveChanges (subcommand_of ngc_app words)
+run_changes words recording machine tools certificate events program delete output spelled =
+    let Have : List Text → Type 0 = λ ws. HaveChanges (subcommand_of ngc_app ws) in
     subst Have (sym spelled) (run_have _ recording machine tools certificate events program delete output (run_spells recording machine tools certificate events program delete output).1)
 
 pub run_read : (words : List Text) (recording : Recording) (machine tools certificate : Text) (events program : Option Text) (delete : Bool) (output : Option Text) (options : Options)
@@ -364,7 +363,7 @@ FindsLive machine tools certificate program delete output feed_ring (Some found)
     × (first_of (codes "tools") found.1 ≡ Some tools) × (first_of (codes "certificate") found.1 ≡ Some certificate)
     × (first_of (codes "program") found.1 ≡ Some program) × (is_set (codes "delete") found.1 ≡ delete)
     × (first_of (codes "output") found.1 ≡ output) × (first_of (codes "inverted") found.1 ≡ None) × (is_set (codes "feed-ring") found.1 ≡ feed_ring)
-    × (is_set (codes "abort") found.1 ≡ false) × (all_of (codes "origin") found.1 ≡ None)
+    × (is_set (codes "abort") found.1 ≡ false) × (change_texts found.1 ≡ no_texts)
 
 live_spells : (machine tools certificate program : Text) (delete : Bool) (output : Option Text) (feed_ring : Bool)
     → Spells (live_words machine tools certificate program delete output feed_ring) (FindsLive machine tools certificate program delete output feed_ring)
@@ -392,7 +391,7 @@ requested_live machine tools certificate program delete output feed_ring (Some f
   no_mask _ live.inverted are.1.inverted finds.7,
   are.1.feed_ring ∙ finds.8,
   are.1.aborts ∙ finds.9,
-  none_replaced found.1 live.origins are.1.origins finds.10,
+  none_replaced found.1 live.changes are.1.changes finds.10,
 )
 requested_live machine tools certificate program delete output feed_ring (Some found) (ToList list) finds are =
     other_third (codes "live") (codes "list") (sym finds.0 ∙ are.0) (λ thirds. omega (arith, thirds))
@@ -428,13 +427,13 @@ pub live_taken : (words : List Text) (machine tools certificate program : Text) 
 live_taken words machine tools certificate program delete output feed_ring spelled =
     subst IsTaken (sym spelled) (live_spells machine tools certificate program delete output feed_ring).0
 
-live_have : (found : Option (Text × List Row)) (machine : Text) (tools : Text) (certificate : Text) (program : Text) (delete : Bool) (output : Option Text) (feed_ring : Bool) → FindsLive machine tools certificate program delete output feed_ring found → HaveOrigins found
+live_have : (found : Option (Text × List Row)) (machine : Text) (tools : Text) (certificate : Text) (program : Text) (delete : Bool) (output : Option Text) (feed_ring : Bool) → FindsLive machine tools certificate program delete output feed_ring found → HaveChanges found
 live_have None machine tools certificate program delete output feed_ring finds = absurd finds
 live_have (Some found) machine tools certificate program delete output feed_ring finds = none_wrong found finds.10
 
-pub live_origins : (words : List Text) (machine tools certificate program : Text) (delete : Bool) (output : Option Text) (feed_ring : Bool) → words ≡ live_words machine tools certificate program delete output feed_ring → HaveOrigins (subcommand_of ngc_app words)
-live_origins words machine tools certificate program delete output feed_ring spelled =
-    let Have : List Text → Type 0 = λ ws. HaveOrigins (subcommand_of ngc_app ws) in
+pub live_changes : (words : List Text) (machine tools certificate program : Text) (delete : Bool) (output : Option Text) (feed_ring : Bool) → words ≡ live_words machine tools certificate program delete output feed_ring → HaveChanges (subcommand_of ngc_app words)
+live_changes words machine tools certificate program delete output feed_ring spelled =
+    let Have : List Text → Type 0 = λ ws. HaveChanges (subcommand_of ngc_app ws) in
     subst Have (sym spelled) (live_have _ machine tools certificate program delete output feed_ring (live_spells machine tools certificate program delete output feed_ring).1)
 
 pub live_read : (words : List Text) (machine tools certificate program : Text) (delete : Bool) (output : Option Text) (feed_ring : Bool) (options : Options)
@@ -453,7 +452,7 @@ FindsDraw machine tools certificate program view delete bodies whole (Some found
     × (first_of (codes "program") found.1 ≡ program) × (first_of (codes "view") found.1 ≡ view)
     × (is_set (codes "delete") found.1 ≡ delete) × (is_set (codes "bodies") found.1 ≡ bodies)
     × (is_set (codes "whole") found.1 ≡ whole)
-    × (all_of (codes "origin") found.1 ≡ None)
+    × (change_texts found.1 ≡ no_texts)
 
 draw_spells : (machine tools : Text) (certificate program view : Option Text) (delete bodies whole : Bool)
     → Spells (draw_words machine tools certificate program view delete bodies whole) (FindsDraw machine tools certificate program view delete bodies whole)
@@ -536,7 +535,7 @@ requested_draw machine tools certificate program view delete bodies whole (Some 
   are.1.delete ∙ finds.6,
   are.1.bodies ∙ finds.7,
   are.1.whole ∙ finds.8,
-  none_replaced found.1 draw.origins are.1.origins finds.9,
+  none_replaced found.1 draw.changes are.1.changes finds.9,
 )
 requested_draw machine tools certificate program view delete bodies whole (Some found) (ToLive live) finds are =
     other_letter (codes "draw") (codes "live") (sym finds.0 ∙ are.0) (λ letters. omega (arith, letters))
@@ -572,13 +571,13 @@ pub draw_taken : (words : List Text) (machine tools : Text) (certificate program
 draw_taken words machine tools certificate program view delete bodies whole spelled =
     subst IsTaken (sym spelled) (draw_spells machine tools certificate program view delete bodies whole).0
 
-draw_have : (found : Option (Text × List Row)) (machine : Text) (tools : Text) (certificate : Option Text) (program : Option Text) (view : Option Text) (delete : Bool) (bodies : Bool) (whole : Bool) → FindsDraw machine tools certificate program view delete bodies whole found → HaveOrigins found
+draw_have : (found : Option (Text × List Row)) (machine : Text) (tools : Text) (certificate : Option Text) (program : Option Text) (view : Option Text) (delete : Bool) (bodies : Bool) (whole : Bool) → FindsDraw machine tools certificate program view delete bodies whole found → HaveChanges found
 draw_have None machine tools certificate program view delete bodies whole finds = absurd finds
 draw_have (Some found) machine tools certificate program view delete bodies whole finds = none_wrong found finds.9
 
-pub draw_origins : (words : List Text) (machine tools : Text) (certificate program view : Option Text) (delete bodies whole : Bool) → words ≡ draw_words machine tools certificate program view delete bodies whole → HaveOrigins (subcommand_of ngc_app words)
-draw_origins words machine tools certificate program view delete bodies whole spelled =
-    let Have : List Text → Type 0 = λ ws. HaveOrigins (subcommand_of ngc_app ws) in
+pub draw_changes : (words : List Text) (machine tools : Text) (certificate program view : Option Text) (delete bodies whole : Bool) → words ≡ draw_words machine tools certificate program view delete bodies whole → HaveChanges (subcommand_of ngc_app words)
+draw_changes words machine tools certificate program view delete bodies whole spelled =
+    let Have : List Text → Type 0 = λ ws. HaveChanges (subcommand_of ngc_app ws) in
     subst Have (sym spelled) (draw_have _ machine tools certificate program view delete bodies whole (draw_spells machine tools certificate program view delete bodies whole).1)
 
 pub draw_read : (words : List Text) (machine tools : Text) (certificate program view : Option Text) (delete bodies whole : Bool) (options : Options)
@@ -594,7 +593,7 @@ FindsShow machine tools warnings None = ⊥
 FindsShow machine tools warnings (Some found) =
     (found.0 ≡ codes "show") × (first_of (codes "machine") found.1 ≡ Some machine) × (first_of (codes "tools") found.1 ≡ tools)
     × (is_set (codes "warnings") found.1 ≡ warnings)
-    × (all_of (codes "origin") found.1 ≡ None)
+    × (change_texts found.1 ≡ no_texts)
 
 show_spells : (machine : Text) (tools : Option Text) (warnings : Bool) → Spells (show_words machine tools warnings) (FindsShow machine tools warnings)
 unfolding clap_on_literals
@@ -639,13 +638,13 @@ requested_show machine tools warnings (Some found) ToVersion finds are =
 pub show_taken : (words : List Text) (machine : Text) (tools : Option Text) (warnings : Bool) → words ≡ show_words machine tools warnings → IsTaken words
 show_taken words machine tools warnings spelled = subst IsTaken (sym spelled) (show_spells machine tools warnings).0
 
-show_have : (found : Option (Text × List Row)) (machine : Text) (tools : Option Text) (warnings : Bool) → FindsShow machine tools warnings found → HaveOrigins found
+show_have : (found : Option (Text × List Row)) (machine : Text) (tools : Option Text) (warnings : Bool) → FindsShow machine tools warnings found → HaveChanges found
 show_have None machine tools warnings finds = absurd finds
 show_have (Some found) machine tools warnings finds = none_wrong found finds.4
 
-pub show_origins : (words : List Text) (machine : Text) (tools : Option Text) (warnings : Bool) → words ≡ show_words machine tools warnings → HaveOrigins (subcommand_of ngc_app words)
-show_origins words machine tools warnings spelled =
-    let Have : List Text → Type 0 = λ ws. HaveOrigins (subcommand_of ngc_app ws) in
+pub show_changes : (words : List Text) (machine : Text) (tools : Option Text) (warnings : Bool) → words ≡ show_words machine tools warnings → HaveChanges (subcommand_of ngc_app words)
+show_changes words machine tools warnings spelled =
+    let Have : List Text → Type 0 = λ ws. HaveChanges (subcommand_of ngc_app ws) in
     subst Have (sym spelled) (show_have _ machine tools warnings (show_spells machine tools warnings).1)
 
 pub show_read : (words : List Text) (machine : Text) (tools : Option Text) (warnings : Bool) (options : Options)
@@ -660,7 +659,7 @@ FindsCertify machine tools program cuts format None = ⊥
 FindsCertify machine tools program cuts format (Some found) = (found.0 ≡ codes "certify") × (first_of (codes "machine") found.1 ≡ Some machine)
     × (first_of (codes "tools") found.1 ≡ Some tools) × (first_of (codes "program") found.1 ≡ program) × (first_of (codes "cuts") found.1 ≡ cuts)
     × (first_of (codes "format") found.1 ≡ format)
-    × (all_of (codes "origin") found.1 ≡ None)
+    × (change_texts found.1 ≡ no_texts)
 
 -- a number as a text
 abbrev text_of : Option ℕ → Option Text
@@ -763,7 +762,7 @@ requested_certify machine tools program cuts format (Some found) (ToCertify cert
       are.1.program ∙ finds.3,
       cuts_read cuts certify.cuts range read,
       format_read format certify.format version,
-      none_replaced found.1 certify.origins are.1.origins finds.6,
+      none_replaced found.1 certify.changes are.1.changes finds.6,
     )
 requested_certify machine tools program cuts format (Some found) (ToList list) range finds are =
     other_name (codes "certify") (codes "list") (sym finds.0 ∙ are.0) (λ lengths. omega (arith, lengths))
@@ -798,13 +797,13 @@ pub certify_taken : (words : List Text) (machine tools : Text) (program : Option
     → words ≡ certify_words machine tools program cuts format → IsTaken words
 certify_taken words machine tools program cuts format range spelled = subst IsTaken (sym spelled) (certify_spells machine tools program cuts format range)
 
-certify_have : (found : Option (Text × List Row)) (machine : Text) (tools : Text) (program : Option Text) (cuts : Option Text) (format : Option Text) → FindsCertify machine tools program cuts format found → HaveOrigins found
+certify_have : (found : Option (Text × List Row)) (machine : Text) (tools : Text) (program : Option Text) (cuts : Option Text) (format : Option Text) → FindsCertify machine tools program cuts format found → HaveChanges found
 certify_have None machine tools program cuts format finds = absurd finds
 certify_have (Some found) machine tools program cuts format finds = none_wrong found finds.6
 
-pub certify_origins : (words : List Text) (machine tools : Text) (program : Option Text) (cuts : Option ℕ) (format : Option Format) → AreCutsInRange cuts → words ≡ certify_words machine tools program cuts format → HaveOrigins (subcommand_of ngc_app words)
-certify_origins words machine tools program cuts format range spelled =
-    let Have : List Text → Type 0 = λ ws. HaveOrigins (subcommand_of ngc_app ws) in
+pub certify_changes : (words : List Text) (machine tools : Text) (program : Option Text) (cuts : Option ℕ) (format : Option Format) → AreCutsInRange cuts → words ≡ certify_words machine tools program cuts format → HaveChanges (subcommand_of ngc_app words)
+certify_changes words machine tools program cuts format range spelled =
+    let Have : List Text → Type 0 = λ ws. HaveChanges (subcommand_of ngc_app ws) in
     subst Have (sym spelled) (certify_have _ machine tools program (text_of cuts) (text_of_format format) (certify_finds machine tools program cuts format))
 
 pub certify_read : (words : List Text) (machine tools : Text) (program : Option Text) (cuts : Option ℕ) (format : Option Format) (options : Options) →
@@ -821,7 +820,7 @@ FindsReport machine tools program cuts all json None = ⊥
 FindsReport machine tools program cuts all json (Some found) = (found.0 ≡ codes "report") × (first_of (codes "machine") found.1 ≡ Some machine)
     × (first_of (codes "tools") found.1 ≡ Some tools) × (first_of (codes "program") found.1 ≡ program) × (first_of (codes "cuts") found.1 ≡ cuts)
     × (is_set (codes "all") found.1 ≡ all) × (is_set (codes "json") found.1 ≡ json)
-    × (all_of (codes "origin") found.1 ≡ None)
+    × (change_texts found.1 ≡ no_texts)
 
 report_finds : (machine tools : Text) (program : Option Text) (cuts : Option ℕ) (all json : Bool)
     → FindsReport machine tools program (text_of cuts) all json (subcommand_of ngc_app (report_words machine tools program cuts all json))
@@ -882,7 +881,7 @@ requested_report machine tools program cuts all json (Some found) (ToReport repo
       cuts_read cuts report.cuts range read,
       are.1.all ∙ finds.5,
       are.1.json ∙ finds.6,
-      none_replaced found.1 report.origins are.1.origins finds.7,
+      none_replaced found.1 report.changes are.1.changes finds.7,
     )
 requested_report machine tools program cuts all json (Some found) (ToPlace place) range finds are =
     other_name (codes "report") (codes "place") (sym finds.0 ∙ are.0) (λ lengths. omega (arith, lengths))
@@ -915,13 +914,13 @@ pub report_taken : (words : List Text) (machine tools : Text) (program : Option 
     → words ≡ report_words machine tools program cuts all json → IsTaken words
 report_taken words machine tools program cuts all json range spelled = subst IsTaken (sym spelled) (report_spells machine tools program cuts all json range)
 
-report_have : (found : Option (Text × List Row)) (machine : Text) (tools : Text) (program : Option Text) (cuts : Option Text) (all : Bool) (json : Bool) → FindsReport machine tools program cuts all json found → HaveOrigins found
+report_have : (found : Option (Text × List Row)) (machine : Text) (tools : Text) (program : Option Text) (cuts : Option Text) (all : Bool) (json : Bool) → FindsReport machine tools program cuts all json found → HaveChanges found
 report_have None machine tools program cuts all json finds = absurd finds
 report_have (Some found) machine tools program cuts all json finds = none_wrong found finds.7
 
-pub report_origins : (words : List Text) (machine tools : Text) (program : Option Text) (cuts : Option ℕ) (all json : Bool) → AreCutsInRange cuts → words ≡ report_words machine tools program cuts all json → HaveOrigins (subcommand_of ngc_app words)
-report_origins words machine tools program cuts all json range spelled =
-    let Have : List Text → Type 0 = λ ws. HaveOrigins (subcommand_of ngc_app ws) in
+pub report_changes : (words : List Text) (machine tools : Text) (program : Option Text) (cuts : Option ℕ) (all json : Bool) → AreCutsInRange cuts → words ≡ report_words machine tools program cuts all json → HaveChanges (subcommand_of ngc_app words)
+report_changes words machine tools program cuts all json range spelled =
+    let Have : List Text → Type 0 = λ ws. HaveChanges (subcommand_of ngc_app ws) in
     subst Have (sym spelled) (report_have _ machine tools program (text_of cuts) all json (report_finds machine tools program cuts all json))
 
 pub report_read : (words : List Text) (machine tools : Text) (program : Option Text) (cuts : Option ℕ) (all json : Bool) (options : Options) →
@@ -938,7 +937,7 @@ FindsPlace machine tools program system cuts json None = ⊥
 FindsPlace machine tools program system cuts json (Some found) = (found.0 ≡ codes "place") × (first_of (codes "machine") found.1 ≡ Some machine)
     × (first_of (codes "tools") found.1 ≡ Some tools) × (first_of (codes "program") found.1 ≡ program) × (first_of (codes "system") found.1 ≡ system)
     × (first_of (codes "cuts") found.1 ≡ cuts) × (is_set (codes "json") found.1 ≡ json)
-    × (all_of (codes "origin") found.1 ≡ None)
+    × (change_texts found.1 ≡ no_texts)
 
 place_finds : (machine tools : Text) (program system : Option Text) (cuts : Option ℕ) (json : Bool)
     → FindsPlace machine tools program system (text_of cuts) json (subcommand_of ngc_app (place_words machine tools program system cuts json))
@@ -999,7 +998,7 @@ requested_place machine tools program system cuts json (Some found) (ToPlace pla
       are.1.system ∙ finds.4,
       cuts_read cuts place.cuts range read,
       are.1.json ∙ finds.6,
-      none_replaced found.1 place.origins are.1.origins finds.7,
+      none_replaced found.1 place.changes are.1.changes finds.7,
     )
 requested_place machine tools program system cuts json (Some found) (ToList list) range finds are =
     other_name (codes "place") (codes "list") (sym finds.0 ∙ are.0) (λ lengths. omega (arith, lengths))
@@ -1036,14 +1035,14 @@ place_taken words machine tools program system cuts json range spelled =
     subst IsTaken (sym spelled) (place_spells machine tools program system cuts json range)
 
 place_have : (found : Option (Text × List Row)) (machine tools : Text) (program system cuts : Option Text) (json : Bool)
-    → FindsPlace machine tools program system cuts json found → HaveOrigins found
+    → FindsPlace machine tools program system cuts json found → HaveChanges found
 place_have None machine tools program system cuts json finds = absurd finds
 place_have (Some found) machine tools program system cuts json finds = none_wrong found finds.7
 
-pub place_origins : (words : List Text) (machine tools : Text) (program system : Option Text) (cuts : Option ℕ) (json : Bool) → AreCutsInRange cuts
-    → words ≡ place_words machine tools program system cuts json → HaveOrigins (subcommand_of ngc_app words)
-place_origins words machine tools program system cuts json range spelled =
-    let Have : List Text → Type 0 = λ ws. HaveOrigins (subcommand_of ngc_app ws) in
+pub place_changes : (words : List Text) (machine tools : Text) (program system : Option Text) (cuts : Option ℕ) (json : Bool) → AreCutsInRange cuts
+    → words ≡ place_words machine tools program system cuts json → HaveChanges (subcommand_of ngc_app words)
+place_changes words machine tools program system cuts json range spelled =
+    let Have : List Text → Type 0 = λ ws. HaveChanges (subcommand_of ngc_app ws) in
     subst Have (sym spelled) (place_have _ machine tools program system (text_of cuts) json (place_finds machine tools program system cuts json))
 
 pub place_read : (words : List Text) (machine tools : Text) (program system : Option Text) (cuts : Option ℕ) (json : Bool) (options : Options) →
@@ -1060,7 +1059,7 @@ FindsAdapt from machine tool drop program None = ⊥
 FindsAdapt from machine tool drop program (Some found) = (found.0 ≡ codes "adapt") × (first_of (codes "from") found.1 ≡ Some from)
     × (first_of (codes "machine") found.1 ≡ machine) × (first_of (codes "tool") found.1 ≡ tool) × (first_of (codes "drop") found.1 ≡ drop)
     × (first_of (codes "program") found.1 ≡ program)
-    × (all_of (codes "origin") found.1 ≡ None)
+    × (change_texts found.1 ≡ no_texts)
 
 adapt_finds : (from : Text) (machine : Option Text) (tool : Option ℕ) (drop program : Option Text)
     → FindsAdapt from machine (text_of tool) drop program (subcommand_of ngc_app (adapt_words from machine tool drop program))
@@ -1167,13 +1166,13 @@ pub adapt_taken : (words : List Text) (from : Text) (machine : Option Text) (too
     → words ≡ adapt_words from machine tool drop program → IsTaken words
 adapt_taken words from machine tool drop program range spelled = subst IsTaken (sym spelled) (adapt_spells from machine tool drop program range)
 
-adapt_have : (found : Option (Text × List Row)) (from : Text) (machine : Option Text) (tool : Option Text) (drop : Option Text) (program : Option Text) → FindsAdapt from machine tool drop program found → HaveOrigins found
+adapt_have : (found : Option (Text × List Row)) (from : Text) (machine : Option Text) (tool : Option Text) (drop : Option Text) (program : Option Text) → FindsAdapt from machine tool drop program found → HaveChanges found
 adapt_have None from machine tool drop program finds = absurd finds
 adapt_have (Some found) from machine tool drop program finds = none_wrong found finds.6
 
-pub adapt_origins : (words : List Text) (from : Text) (machine : Option Text) (tool : Option ℕ) (drop program : Option Text) → IsToolInRange tool → words ≡ adapt_words from machine tool drop program → HaveOrigins (subcommand_of ngc_app words)
-adapt_origins words from machine tool drop program range spelled =
-    let Have : List Text → Type 0 = λ ws. HaveOrigins (subcommand_of ngc_app ws) in
+pub adapt_changes : (words : List Text) (from : Text) (machine : Option Text) (tool : Option ℕ) (drop program : Option Text) → IsToolInRange tool → words ≡ adapt_words from machine tool drop program → HaveChanges (subcommand_of ngc_app words)
+adapt_changes words from machine tool drop program range spelled =
+    let Have : List Text → Type 0 = λ ws. HaveChanges (subcommand_of ngc_app ws) in
     subst Have (sym spelled) (adapt_have _ from machine (text_of tool) drop program (adapt_finds from machine tool drop program))
 
 pub adapt_read : (words : List Text) (from : Text) (machine : Option Text) (tool : Option ℕ) (drop program : Option Text) (options : Options) →
@@ -1192,7 +1191,7 @@ FindsMachine source corner ticks frame (Some found) = (found.0 ≡ codes "machin
     × (first_of (codes "corner") found.1 ≡ corner) × (first_of (codes "ticks") found.1 ≡ ticks) × (first_of (codes "frame") found.1 ≡ frame)
     × (first_of (codes "jump") found.1 ≡ None) × (first_of (codes "turn") found.1 ≡ None) × (first_of (codes "start") found.1 ≡ None) × (first_of (codes "home28") found.1 ≡ None) × (first_of (codes "home30") found.1 ≡ None)
     × (first_of (codes "ring") found.1 ≡ None) × (is_set (codes "arc-feed") found.1 ≡ false)
-    × (all_of (codes "origin") found.1 ≡ None)
+    × (change_texts found.1 ≡ no_texts)
 
 machine_spells : (source : MachineSource) (corner ticks frame : Option Text) →
     Spells (machine_words source corner ticks frame) (FindsMachine source corner ticks frame)
@@ -1267,13 +1266,13 @@ pub machine_taken : (words : List Text) (source : MachineSource) (corner ticks f
     IsTaken words
 machine_taken words source corner ticks frame spelled = subst IsTaken (sym spelled) (machine_spells source corner ticks frame).0
 
-machine_have : (found : Option (Text × List Row)) (source : MachineSource) (corner : Option Text) (ticks : Option Text) (frame : Option Text) → FindsMachine source corner ticks frame found → HaveOrigins found
+machine_have : (found : Option (Text × List Row)) (source : MachineSource) (corner : Option Text) (ticks : Option Text) (frame : Option Text) → FindsMachine source corner ticks frame found → HaveChanges found
 machine_have None source corner ticks frame finds = absurd finds
 machine_have (Some found) source corner ticks frame finds = none_wrong found finds.16
 
-pub machine_origins : (words : List Text) (source : MachineSource) (corner ticks frame : Option Text) → words ≡ machine_words source corner ticks frame → HaveOrigins (subcommand_of ngc_app words)
-machine_origins words source corner ticks frame spelled =
-    let Have : List Text → Type 0 = λ ws. HaveOrigins (subcommand_of ngc_app ws) in
+pub machine_changes : (words : List Text) (source : MachineSource) (corner ticks frame : Option Text) → words ≡ machine_words source corner ticks frame → HaveChanges (subcommand_of ngc_app words)
+machine_changes words source corner ticks frame spelled =
+    let Have : List Text → Type 0 = λ ws. HaveChanges (subcommand_of ngc_app ws) in
     subst Have (sym spelled) (machine_have _ source corner ticks frame (machine_spells source corner ticks frame).1)
 
 pub machine_read : (words : List Text) (source : MachineSource) (corner ticks frame : Option Text) (options : Options) →
@@ -1287,7 +1286,7 @@ machine_read words source corner ticks frame options spelled are =
 abbrev FindsHelp : Option Text → Option (Text × List Row) → Type 0
 FindsHelp command None = ⊥
 FindsHelp command (Some found) = (found.0 ≡ codes "help") × (first_of (codes "command") found.1 ≡ command)
-    × (all_of (codes "origin") found.1 ≡ None)
+    × (change_texts found.1 ≡ no_texts)
 
 help_on : (command name : Text) → command ≡ name → Spells (help_words (Some name)) (FindsHelp (Some name)) →
     Spells (help_words (Some command)) (FindsHelp (Some command))
@@ -1346,13 +1345,13 @@ requested_help command (Some found) ToVersion finds are = other_name (codes "hel
 pub help_taken : (words : List Text) (command : Option Text) → AreCommands command → words ≡ help_words command → IsTaken words
 help_taken words command among spelled = subst IsTaken (sym spelled) (help_spells command among).0
 
-help_have : (found : Option (Text × List Row)) (command : Option Text) → FindsHelp command found → HaveOrigins found
+help_have : (found : Option (Text × List Row)) (command : Option Text) → FindsHelp command found → HaveChanges found
 help_have None command finds = absurd finds
 help_have (Some found) command finds = none_wrong found finds.2
 
-pub help_origins : (words : List Text) (command : Option Text) → AreCommands command → words ≡ help_words command → HaveOrigins (subcommand_of ngc_app words)
-help_origins words command among spelled =
-    let Have : List Text → Type 0 = λ ws. HaveOrigins (subcommand_of ngc_app ws) in
+pub help_changes : (words : List Text) (command : Option Text) → AreCommands command → words ≡ help_words command → HaveChanges (subcommand_of ngc_app words)
+help_changes words command among spelled =
+    let Have : List Text → Type 0 = λ ws. HaveChanges (subcommand_of ngc_app ws) in
     subst Have (sym spelled) (help_have _ command (help_spells command among).1)
 
 pub help_read : (words : List Text) (command : Option Text) (options : Options) → AreCommands command → words ≡ help_words command
@@ -1364,7 +1363,7 @@ help_read words command options among spelled are =
 -- the subcommand that was found is `version`
 abbrev FindsVersion : Option (Text × List Row) → Type 0
 FindsVersion None = ⊥
-FindsVersion (Some found) = (found.0 ≡ codes "version") × (all_of (codes "origin") found.1 ≡ None)
+FindsVersion (Some found) = (found.0 ≡ codes "version") × (change_texts found.1 ≡ no_texts)
 
 version_spells : Spells (codes "version" ∷ []) FindsVersion
 unfolding clap_on_literals
@@ -1398,13 +1397,13 @@ requested_version (Some found) (ToHelp command) finds are = other_name (codes "v
 pub version_taken : (words : List Text) → words ≡ codes "version" ∷ [] → IsTaken words
 version_taken words spelled = subst IsTaken (sym spelled) version_spells.0
 
-version_have : (found : Option (Text × List Row)) → FindsVersion found → HaveOrigins found
+version_have : (found : Option (Text × List Row)) → FindsVersion found → HaveChanges found
 version_have None finds = absurd finds
 version_have (Some found) finds = none_wrong found finds.1
 
-pub version_origins : (words : List Text) → words ≡ codes "version" ∷ [] → HaveOrigins (subcommand_of ngc_app words)
-version_origins words spelled =
-    let Have : List Text → Type 0 = λ ws. HaveOrigins (subcommand_of ngc_app ws) in
+pub version_changes : (words : List Text) → words ≡ codes "version" ∷ [] → HaveChanges (subcommand_of ngc_app words)
+version_changes words spelled =
+    let Have : List Text → Type 0 = λ ws. HaveChanges (subcommand_of ngc_app ws) in
     subst Have (sym spelled) (version_have _ version_spells.1)
 
 pub version_read : (words : List Text) (options : Options) → words ≡ codes "version" ∷ [] → AreOptions (subcommand_of ngc_app words) options →

@@ -34,6 +34,16 @@ inverted_option = record (file_option (codes "inverted")) { parser = Some (Unsig
 abbrev pub origin_option : Rule
 origin_option = record (file_option (codes "origin")) { action = Some Append }
 
+-- `--margin MM`, `--travel-margin MM` and `--rapids WAY`
+abbrev pub margin_option : Rule
+margin_option = file_option (codes "margin")
+
+abbrev pub travel_margin_option : Rule
+travel_margin_option = file_option (codes "travel-margin")
+
+abbrev pub rapids_option : Rule
+rapids_option = file_option (codes "rapids")
+
 -- `--NAME`
 abbrev pub flag : Text → Rule
 flag name = record (new_rule name) { long = Some name; action = Some SetTrue }
@@ -45,28 +55,34 @@ list_app = fold with_rule (new_app (codes "list"))
     (file_option (codes "program") ∷ file_option (codes "machine") ∷ file_option (codes "tools")
     ∷ flag (codes "delete") ∷ origin_option ∷ file_option (codes "dialect") ∷ [])
 
+-- In the commands below, the last two points stand for `[--margin MM] [--travel-margin MM]` and
+-- `[--rapids WAY]`.
+
 -- `certify --machine FILE --tools FILE [--program FILE] [--cuts N] [--format VERSION]
--- [--origin SYSTEM=X,Y,Z]..`
+-- [--origin SYSTEM=X,Y,Z].. ..`
 abbrev pub certify_app : App
 certify_app = fold with_rule (new_app (codes "certify"))
     (required_file (codes "machine") ∷ required_file (codes "tools")
-    ∷ file_option (codes "program") ∷ cuts_option ∷ format_option ∷ origin_option ∷ [])
+    ∷ file_option (codes "program") ∷ cuts_option ∷ format_option ∷ origin_option ∷ margin_option
+    ∷ travel_margin_option ∷ rapids_option ∷ [])
 
 -- `check --machine FILE --tools FILE --certificate FILE [--program FILE]
--- [--origin SYSTEM=X,Y,Z]..`
+-- [--origin SYSTEM=X,Y,Z].. ..`
 abbrev pub check_app : App
 check_app = fold with_rule (new_app (codes "check"))
     (required_file (codes "machine") ∷ required_file (codes "tools")
-    ∷ required_file (codes "certificate") ∷ file_option (codes "program") ∷ origin_option ∷ [])
+    ∷ required_file (codes "certificate") ∷ file_option (codes "program") ∷ origin_option ∷ margin_option
+    ∷ travel_margin_option ∷ rapids_option ∷ [])
 
 -- `--machine FILE --tools FILE --certificate FILE [--events FILE] [--program FILE] [--delete]`
--- and `[--output FORM] [--inverted MASK] [--origin SYSTEM=X,Y,Z]..`
+-- and `[--output FORM] [--inverted MASK] [--origin SYSTEM=X,Y,Z].. ..`
 abbrev pub with_run_rules : App → App
 with_run_rules app = fold with_rule app
     (required_file (codes "machine") ∷ required_file (codes "tools")
     ∷ required_file (codes "certificate") ∷ file_option (codes "events")
     ∷ file_option (codes "program") ∷ flag (codes "delete") ∷ file_option (codes "output")
-    ∷ inverted_option ∷ origin_option ∷ [])
+    ∷ inverted_option ∷ origin_option ∷ margin_option
+    ∷ travel_margin_option ∷ rapids_option ∷ [])
 
 -- the name of a run's command, by its output
 abbrev pub run_name : Recording → Text
@@ -82,22 +98,24 @@ abbrev pub pulses_app : App
 pulses_app = with_run_rules (new_app (codes "pulses"))
 
 -- `live --machine FILE --tools FILE --certificate FILE --program FILE [--delete] [--output FORM]
--- [--inverted MASK] [--feed-ring] [--abort] [--origin SYSTEM=X,Y,Z]..`
+-- [--inverted MASK] [--feed-ring] [--abort] [--origin SYSTEM=X,Y,Z].. ..`
 abbrev pub live_app : App
 live_app = fold with_rule (new_app (codes "live"))
     (required_file (codes "machine") ∷ required_file (codes "tools")
     ∷ required_file (codes "certificate") ∷ required_file (codes "program")
     ∷ flag (codes "delete") ∷ file_option (codes "output") ∷ inverted_option
-    ∷ flag (codes "feed-ring") ∷ flag (codes "abort") ∷ origin_option ∷ [])
+    ∷ flag (codes "feed-ring") ∷ flag (codes "abort") ∷ origin_option ∷ margin_option
+    ∷ travel_margin_option ∷ rapids_option ∷ [])
 
 -- `draw --machine FILE --tools FILE [--certificate FILE] [--program FILE] [--view VIEW] [--delete]
--- [--bodies] [--whole] [--origin SYSTEM=X,Y,Z]..`
+-- [--bodies] [--whole] [--origin SYSTEM=X,Y,Z].. ..`
 abbrev pub draw_app : App
 draw_app = fold with_rule (new_app (codes "draw"))
     (required_file (codes "machine") ∷ required_file (codes "tools")
     ∷ file_option (codes "certificate") ∷ file_option (codes "program")
     ∷ file_option (codes "view") ∷ flag (codes "delete") ∷ flag (codes "bodies")
-    ∷ flag (codes "whole") ∷ origin_option ∷ [])
+    ∷ flag (codes "whole") ∷ origin_option ∷ margin_option
+    ∷ travel_margin_option ∷ rapids_option ∷ [])
 
 -- `show --machine FILE [--tools FILE] [--warnings]`
 abbrev pub show_app : App
@@ -105,20 +123,22 @@ show_app = fold with_rule (new_app (codes "show"))
     (required_file (codes "machine") ∷ file_option (codes "tools") ∷ flag (codes "warnings") ∷ [])
 
 -- `report --machine FILE --tools FILE [--program FILE] [--cuts N] [--all] [--json]
--- [--origin SYSTEM=X,Y,Z]..`
+-- [--origin SYSTEM=X,Y,Z].. ..`
 abbrev pub report_app : App
 report_app = fold with_rule (new_app (codes "report"))
     (required_file (codes "machine") ∷ required_file (codes "tools")
     ∷ file_option (codes "program") ∷ cuts_option ∷ flag (codes "all") ∷ flag (codes "json")
-    ∷ origin_option ∷ [])
+    ∷ origin_option ∷ margin_option
+    ∷ travel_margin_option ∷ rapids_option ∷ [])
 
 -- `place --machine FILE --tools FILE [--program FILE] [--system SYSTEM] [--cuts N] [--json]
--- [--origin SYSTEM=X,Y,Z]..`
+-- [--origin SYSTEM=X,Y,Z].. ..`
 abbrev pub place_app : App
 place_app = fold with_rule (new_app (codes "place"))
     (required_file (codes "machine") ∷ required_file (codes "tools")
     ∷ file_option (codes "program") ∷ file_option (codes "system") ∷ cuts_option
-    ∷ flag (codes "json") ∷ origin_option ∷ [])
+    ∷ flag (codes "json") ∷ origin_option ∷ margin_option
+    ∷ travel_margin_option ∷ rapids_option ∷ [])
 
 -- `--tool N`, with a number from 1 to 9,999
 abbrev pub tool_option : Rule

@@ -1,11 +1,16 @@
 -- The options, by the subcommand that `clap` finds in the words and its values.
 use Rattle.std.specs.Prelude.{◌≡◌, ◌≤◌, ℕ, Bool, List, [], ◌∷◌, ◌⊎◌, Option, Some, None, IfSome}
-use Rattle.std.specs.Prelude.{option_map, codes, false, true, is_some, unwrap_or, Result, Ok, IsOk}
+use Rattle.std.specs.Prelude.{option_map, codes, false, true, is_some, unwrap_or, Result, Ok, IsSome}
 use Rattle.std.specs.Str.{bytes_eq}
 use Rattle.std.specs.Str.Parse.{IsNumeral, digits_value, without_leading_plus}
 use Rattle.std.specs.Option.{option_map_or}
 use Rattle.clap.specs.Words.{IsUnsignedIn, Row, Shape, Text, all_of, fault_of, first_of}
-use Rattle.ngc_origins.specs.Texts.{OriginList, no_origins, parsed_origins}
+use Rattle.ngc_margins.specs.Changes.{no_changes}
+use Rattle.ngc_margins.specs.Demands.{Demand}
+use Rattle.ngc_margins.specs.Texts.{parsed_demands}
+use Rattle.ngc_margins.specs.declared.changes.Changes.{Changes}
+use Rattle.ngc_margins.specs.declared.reading.DemandMistake.{DemandMistake}
+use Rattle.ngc_origins.specs.Texts.{OriginList, parsed_origins}
 use Rattle.ngc_origins.specs.declared.reading.OriginMistake.{OriginMistake}
 use Rattle.ngc_command_line.specs.CommandLine.{MachineSource, FromGrbl, FromFigures, ngc_app, run_name}
 use Rattle.ngc_command_line.specs.declared.options.AdaptOptions.{AdaptOptions}
@@ -54,10 +59,44 @@ is_set name rows = option_map_or (λ value. bytes_eq value (codes "true")) (firs
 abbrev pub origins_in : List Row → Result OriginList OriginMistake
 origins_in rows = parsed_origins (unwrap_or (all_of (codes "origin") rows) [])
 
--- the values of `--origin` are origins, each of another system
-abbrev pub HaveOrigins : Option (Text × List Row) → Type 0
-HaveOrigins None = Unit {0}
-HaveOrigins (Some found) = IsOk (origins_in found.1)
+-- the texts of the options that replace keys of the machine file
+pub record ChangeTexts : Type 0 where
+  pub origins : Option (List Text)
+  pub margin : Option Text
+  pub travel_margin : Option Text
+  pub rapids : Option Text
+
+abbrev pub change_texts : List Row → ChangeTexts
+change_texts rows = record {
+  origins = all_of (codes "origin") rows;
+  margin = first_of (codes "margin") rows;
+  travel_margin = first_of (codes "travel-margin") rows;
+  rapids = first_of (codes "rapids") rows;
+}
+
+abbrev pub no_texts : ChangeTexts
+no_texts = record { origins = None; margin = None; travel_margin = None; rapids = None }
+
+-- what the texts replace, if all of them can be read
+abbrev pub both_read : Result OriginList OriginMistake → Result Demand DemandMistake →
+    Option Changes
+both_read (Ok origins) (Ok demands) = Some (record { origins = origins; demands = demands })
+both_read _ _ = None
+
+abbrev pub demands_written : ChangeTexts → Result Demand DemandMistake
+demands_written t = parsed_demands t.margin t.travel_margin t.rapids
+
+abbrev pub changes_written : ChangeTexts → Option Changes
+changes_written t = both_read (parsed_origins (unwrap_or t.origins [])) (demands_written t)
+
+abbrev pub changes_in : List Row → Option Changes
+changes_in rows = changes_written (change_texts rows)
+
+-- the values of `--origin` are origins, each of another system, and those of the other options that
+-- replace keys of the machine file can be read
+abbrev pub HaveChanges : Option (Text × List Row) → Type 0
+HaveChanges None = Unit {0}
+HaveChanges (Some found) = IsSome (changes_in found.1)
 
 -- each option of `list` by the values that were found: a file by the first value under its own name
 pub record AreListOptions (rows : List Row) (options : ListOptions) : Type 0 where
@@ -66,7 +105,7 @@ pub record AreListOptions (rows : List Row) (options : ListOptions) : Type 0 whe
   pub tools : option_map (λ name. name.now) options.tools ≡ first_of (codes "tools") rows
   pub delete : options.delete ≡ is_set (codes "delete") rows
   pub dialect : option_map (λ name. name.now) options.dialect ≡ first_of (codes "dialect") rows
-  pub origins : origins_in rows ≡ Ok options.origins
+  pub changes : changes_in rows ≡ Some options.changes
 
 -- the number of cuts: 8 without a text, otherwise the number from 1 to 65,535 whose decimal the
 -- text is; a plus sign may precede it
@@ -100,7 +139,7 @@ pub record AreCertifyOptions (rows : List Row) (options : CertifyOptions) : Type
   pub program : option_map (λ name. name.now) options.program ≡ first_of (codes "program") rows
   pub cuts : AreCuts (first_of (codes "cuts") rows) options.cuts
   pub format : IsFormat (first_of (codes "format") rows) options.format
-  pub origins : origins_in rows ≡ Ok options.origins
+  pub changes : changes_in rows ≡ Some options.changes
 
 -- the number whose decimal the text is; a plus sign may precede it
 abbrev pub IsNumber : Option Text → ℕ → Type 0
@@ -114,7 +153,7 @@ pub record AreCheckOptions (rows : List Row) (options : CheckOptions) : Type 0 w
   pub tools : Some options.tools.now ≡ first_of (codes "tools") rows
   pub certificate : Some options.certificate.now ≡ first_of (codes "certificate") rows
   pub program : option_map (λ name. name.now) options.program ≡ first_of (codes "program") rows
-  pub origins : origins_in rows ≡ Ok options.origins
+  pub changes : changes_in rows ≡ Some options.changes
 
 -- each option of a run with events by the first value that was found under its own name
 pub record AreRunOptions (rows : List Row) (options : RunOptions) : Type 0 where
@@ -126,7 +165,7 @@ pub record AreRunOptions (rows : List Row) (options : RunOptions) : Type 0 where
   pub delete : options.delete ≡ is_set (codes "delete") rows
   pub output : option_map (λ name. name.now) options.output ≡ first_of (codes "output") rows
   pub inverted : IsMask (first_of (codes "inverted") rows) options.inverted
-  pub origins : origins_in rows ≡ Ok options.origins
+  pub changes : changes_in rows ≡ Some options.changes
 
 -- and of a run without events
 pub record AreRunThroughOptions (rows : List Row) (options : RunThroughOptions) : Type 0 where
@@ -138,7 +177,7 @@ pub record AreRunThroughOptions (rows : List Row) (options : RunThroughOptions) 
   pub delete : options.delete ≡ is_set (codes "delete") rows
   pub output : option_map (λ name. name.now) options.output ≡ first_of (codes "output") rows
   pub inverted : IsMask (first_of (codes "inverted") rows) options.inverted
-  pub origins : origins_in rows ≡ Ok options.origins
+  pub changes : changes_in rows ≡ Some options.changes
 
 -- the options are those of a run that writes this, with events or without
 abbrev pub AreRunsOptions : Recording → List Row → Options → Type 0
@@ -158,7 +197,7 @@ pub record AreLiveOptions (rows : List Row) (options : LiveOptions) : Type 0 whe
   pub inverted : IsMask (first_of (codes "inverted") rows) options.inverted
   pub feed_ring : options.feed_ring ≡ is_set (codes "feed-ring") rows
   pub aborts : options.aborts ≡ is_set (codes "abort") rows
-  pub origins : origins_in rows ≡ Ok options.origins
+  pub changes : changes_in rows ≡ Some options.changes
 
 -- each option of `draw` by the first value that was found under its own name
 pub record AreDrawOptions (rows : List Row) (options : DrawOptions) : Type 0 where
@@ -171,7 +210,7 @@ pub record AreDrawOptions (rows : List Row) (options : DrawOptions) : Type 0 whe
   pub delete : options.delete ≡ is_set (codes "delete") rows
   pub bodies : options.bodies ≡ is_set (codes "bodies") rows
   pub whole : options.whole ≡ is_set (codes "whole") rows
-  pub origins : origins_in rows ≡ Ok options.origins
+  pub changes : changes_in rows ≡ Some options.changes
 
 -- each option of `show` by the first value that was found under its own name
 pub record AreShowOptions (rows : List Row) (options : ShowOptions) : Type 0 where
@@ -187,7 +226,7 @@ pub record AreReportOptions (rows : List Row) (options : ReportOptions) : Type 0
   pub cuts : AreCuts (first_of (codes "cuts") rows) options.cuts
   pub all : options.all ≡ is_set (codes "all") rows
   pub json : options.json ≡ is_set (codes "json") rows
-  pub origins : origins_in rows ≡ Ok options.origins
+  pub changes : changes_in rows ≡ Some options.changes
 
 -- each option of `place` by the first value that was found under its own name
 pub record ArePlaceOptions (rows : List Row) (options : PlaceOptions) : Type 0 where
@@ -197,7 +236,7 @@ pub record ArePlaceOptions (rows : List Row) (options : PlaceOptions) : Type 0 w
   pub system : option_map (λ name. name.now) options.system ≡ first_of (codes "system") rows
   pub cuts : AreCuts (first_of (codes "cuts") rows) options.cuts
   pub json : options.json ≡ is_set (codes "json") rows
-  pub origins : origins_in rows ≡ Ok options.origins
+  pub changes : changes_in rows ≡ Some options.changes
 
 -- the number of a tool: none without a text, otherwise the number from 1 to 9,999 whose decimal the
 -- text is; a plus sign may precede it
@@ -333,36 +372,36 @@ AreOptions (Some found) (ToHelp command) = (found.0 ≡ codes "help")
     × (option_map (λ name. name.now) command ≡ first_of (codes "command") found.1)
 AreOptions (Some found) ToVersion = found.0 ≡ codes "version"
 
--- `list` is requested, with these options, and no origin is replaced
+-- `list` is requested, with these options, and no key is replaced
 abbrev pub IsListRequest : Option Text → Option Text → Option Text → Bool → Options → Type 0
 IsListRequest program machine tools delete (ToList list) =
     (option_map (λ name. name.now) list.program ≡ program)
     × (option_map (λ name. name.now) list.machine ≡ machine)
     × (option_map (λ name. name.now) list.tools ≡ tools)
-    × (list.delete ≡ delete) × (list.origins ≡ no_origins)
+    × (list.delete ≡ delete) × (list.changes ≡ no_changes)
     × (option_map (λ name. name.now) list.dialect ≡ None)
 IsListRequest program machine tools delete other = ⊥
 
--- `certify` is requested, with these options, by default 8 cuts and version 1, and no origin is
+-- `certify` is requested, with these options, by default 8 cuts and version 1, and no key is
 -- replaced
 abbrev pub IsCertifyRequest : Text → Text → Option Text → Option ℕ → Option Format → Options → Type 0
 IsCertifyRequest machine tools program cuts format (ToCertify certify) =
     (certify.machine.now ≡ machine) × (certify.tools.now ≡ tools)
     × (option_map (λ name. name.now) certify.program ≡ program)
     × (certify.cuts ≡ unwrap_or cuts 8) × (certify.format ≡ unwrap_or format One)
-    × (certify.origins ≡ no_origins)
+    × (certify.changes ≡ no_changes)
 IsCertifyRequest machine tools program cuts format other = ⊥
 
--- `check` is requested, with these options, and no origin is replaced
+-- `check` is requested, with these options, and no key is replaced
 abbrev pub IsCheckRequest : Text → Text → Text → Option Text → Options → Type 0
 IsCheckRequest machine tools certificate program (ToCheck check) =
     (check.machine.now ≡ machine) × (check.tools.now ≡ tools)
     × (check.certificate.now ≡ certificate)
-    × (option_map (λ name. name.now) check.program ≡ program) × (check.origins ≡ no_origins)
+    × (option_map (λ name. name.now) check.program ≡ program) × (check.changes ≡ no_changes)
 IsCheckRequest machine tools certificate program other = ⊥
 
 -- a run that writes this is requested, with these options, and no bits are inverted and no
--- origin is replaced
+-- key is replaced
 abbrev pub IsRunRequest : Recording → Text → Text → Text → Option Text → Option Text → Bool →
     Option Text → Options → Type 0
 IsRunRequest recording machine tools certificate (Some events) program delete output (ToRun run) =
@@ -370,27 +409,27 @@ IsRunRequest recording machine tools certificate (Some events) program delete ou
     × (run.certificate.now ≡ certificate) × (run.events.now ≡ events)
     × (option_map (λ name. name.now) run.program ≡ program) × (run.delete ≡ delete)
     × (option_map (λ name. name.now) run.output ≡ output) × (run.inverted ≡ 0)
-    × (run.origins ≡ no_origins)
+    × (run.changes ≡ no_changes)
 IsRunRequest recording machine tools certificate None program delete output (ToRunThrough run) =
     (run.recording ≡ recording) × (run.machine.now ≡ machine) × (run.tools.now ≡ tools)
     × (run.certificate.now ≡ certificate)
     × (option_map (λ name. name.now) run.program ≡ program) × (run.delete ≡ delete)
     × (option_map (λ name. name.now) run.output ≡ output) × (run.inverted ≡ 0)
-    × (run.origins ≡ no_origins)
+    × (run.changes ≡ no_changes)
 IsRunRequest recording machine tools certificate events program delete output other = ⊥
 
 -- `live` is requested, with these options; no bits are inverted, the run ends at rest, and no
--- origin is replaced
+-- key is replaced
 abbrev pub IsLiveRequest : Text → Text → Text → Text → Bool → Option Text → Bool → Options → Type 0
 IsLiveRequest machine tools certificate program delete output feed_ring (ToLive live) =
     (live.machine.now ≡ machine) × (live.tools.now ≡ tools)
     × (live.certificate.now ≡ certificate) × (live.program.now ≡ program)
     × (live.delete ≡ delete) × (option_map (λ name. name.now) live.output ≡ output)
     × (live.inverted ≡ 0) × (live.feed_ring ≡ feed_ring) × (live.aborts ≡ false)
-    × (live.origins ≡ no_origins)
+    × (live.changes ≡ no_changes)
 IsLiveRequest machine tools certificate program delete output feed_ring other = ⊥
 
--- `draw` is requested, with these options, and no origin is replaced
+-- `draw` is requested, with these options, and no key is replaced
 abbrev pub IsDrawRequest : Text → Text → Option Text → Option Text → Option Text → Bool → Bool →
     Bool → Options → Type 0
 IsDrawRequest machine tools certificate program view delete bodies whole (ToDraw draw) =
@@ -399,7 +438,7 @@ IsDrawRequest machine tools certificate program view delete bodies whole (ToDraw
     × (option_map (λ name. name.now) draw.program ≡ program)
     × (option_map (λ name. name.now) draw.view ≡ view) × (draw.delete ≡ delete)
     × (draw.bodies ≡ bodies) × (draw.whole ≡ whole)
-    × (draw.origins ≡ no_origins)
+    × (draw.changes ≡ no_changes)
 IsDrawRequest machine tools certificate program view delete bodies whole other = ⊥
 
 -- `show` is requested, with these options
@@ -409,23 +448,23 @@ IsShowRequest machine tools warnings (ToShow show) =
     × (show.warnings ≡ warnings)
 IsShowRequest machine tools warnings other = ⊥
 
--- `report` is requested, with these options, by default 8 cuts, and no origin is replaced
+-- `report` is requested, with these options, by default 8 cuts, and no key is replaced
 abbrev pub IsReportRequest : Text → Text → Option Text → Option ℕ → Bool → Bool → Options → Type 0
 IsReportRequest machine tools program cuts all json (ToReport report) =
     (report.machine.now ≡ machine) × (report.tools.now ≡ tools)
     × (option_map (λ name. name.now) report.program ≡ program)
     × (report.cuts ≡ unwrap_or cuts 8) × (report.all ≡ all) × (report.json ≡ json)
-    × (report.origins ≡ no_origins)
+    × (report.changes ≡ no_changes)
 IsReportRequest machine tools program cuts all json other = ⊥
 
--- `place` is requested, with these options, by default 8 cuts, and no origin is replaced
+-- `place` is requested, with these options, by default 8 cuts, and no key is replaced
 abbrev pub IsPlaceRequest : Text → Text → Option Text → Option Text → Option ℕ → Bool → Options →
     Type 0
 IsPlaceRequest machine tools program system cuts json (ToPlace place) =
     (place.machine.now ≡ machine) × (place.tools.now ≡ tools)
     × (option_map (λ name. name.now) place.program ≡ program)
     × (option_map (λ name. name.now) place.system ≡ system)
-    × (place.cuts ≡ unwrap_or cuts 8) × (place.json ≡ json) × (place.origins ≡ no_origins)
+    × (place.cuts ≡ unwrap_or cuts 8) × (place.json ≡ json) × (place.changes ≡ no_changes)
 IsPlaceRequest machine tools program system cuts json other = ⊥
 
 -- `adapt` is requested, with these options

@@ -86,6 +86,30 @@ pub(crate) const ORIGIN: Argument<'static> = Argument {
     help: "Origin of a system in place of the machine file's,\nin mm, as 54=60,40,-140; once for each system",
 };
 
+pub(crate) const MARGIN: Argument<'static> = Argument {
+    name: "margin",
+    is_named: true,
+    is_required: false,
+    takes: Takes::Text("MM"),
+    help: "How far to keep from every fixture, 0 to 100 mm\n[default: the machine file's]",
+};
+
+pub(crate) const TRAVEL_MARGIN: Argument<'static> = Argument {
+    name: "travel-margin",
+    is_named: true,
+    is_required: false,
+    takes: Takes::Text("MM"),
+    help: "How far to keep from the travel limits, 0 to 100 mm\n[default: the machine file's]",
+};
+
+pub(crate) const RAPIDS: Argument<'static> = Argument {
+    name: "rapids",
+    is_named: true,
+    is_required: false,
+    takes: Takes::Text("WAY"),
+    help: "Way of a traverse: straight, or free within the box\nof its ends [default: the machine file's]",
+};
+
 pub(crate) fn flag_is_set(found: &ArgMatches<'_>, name: &str) -> bool
     ensures { result ≡ is_set name.now (rows_of (found_of found.now)) }
 {

@@ -1,17 +1,17 @@
 //! `ngc certify`.
 
-ghost use Rattle.std.specs.Prelude.{◌≡◌, IfSome, Ok, Some, codes};
+ghost use Rattle.std.specs.Prelude.{◌≡◌, IfSome, Some, codes};
 ghost use Rattle.clap.specs.Words.{IsUnsignedIn, first_of, found_of, rows_of};
 ghost use Rattle.ngc_command_line.specs.Meant.{AreCertifyOptions, AreCuts, HasCertifyValues};
-ghost use Rattle.ngc_command_line.specs.Meant.{IsFormat, origins_in};
+ghost use Rattle.ngc_command_line.specs.Meant.{IsFormat, changes_in};
 
 use crate::arguments::{
-    CUTS, ORIGIN, PROGRAM, REQUIRED_MACHINE, REQUIRED_TOOLS, help_end, required,
+    CUTS, MARGIN, ORIGIN, PROGRAM, RAPIDS, REQUIRED_MACHINE, REQUIRED_TOOLS, TRAVEL_MARGIN, help_end, required,
 };
 use crate::options::{CertifyOptions, Format};
 use crate::table::{Argument, SubcommandRow, Takes};
 use clap::ArgMatches;
-use ngc_origins::Origins;
+use ngc_margins::Changes;
 
 const FORMAT: Argument<'static> = Argument {
     name: "format",
@@ -35,6 +35,9 @@ pub(crate) static CERTIFY: SubcommandRow<'static> = SubcommandRow {
         CUTS,
         FORMAT,
         ORIGIN,
+        MARGIN,
+        TRAVEL_MARGIN,
+        RAPIDS,
     ],
 };
 
@@ -81,9 +84,9 @@ fn format_of(found: &ArgMatches<'_>) -> Format
     }
 }
 
-pub(crate) fn certify_options<'a>(found: &ArgMatches<'a>, origins: Origins) -> CertifyOptions<'a>
+pub(crate) fn certify_options<'a>(found: &ArgMatches<'a>, changes: Changes) -> CertifyOptions<'a>
     requires values { HasCertifyValues (rows_of (found_of found.now)) }
-    requires origins { origins_in (rows_of (found_of found.now)) ≡ Ok origins }
+    requires changes { changes_in (rows_of (found_of found.now)) ≡ Some changes }
     ensures { AreCertifyOptions (rows_of (found_of found.now)) result }
 {
     CertifyOptions {
@@ -92,6 +95,6 @@ pub(crate) fn certify_options<'a>(found: &ArgMatches<'a>, origins: Origins) -> C
         program: found.get_str("program"),
         cuts: cuts_of(found),
         format: format_of(found),
-        origins,
+        changes,
     }
 }

@@ -1,16 +1,16 @@
 //! `ngc check`.
 
-ghost use Rattle.std.specs.Prelude.{◌≡◌, Ok};
+ghost use Rattle.std.specs.Prelude.{◌≡◌, Some};
 ghost use Rattle.clap.specs.Words.{found_of, rows_of};
-ghost use Rattle.ngc_command_line.specs.Meant.{AreCheckOptions, HasCheckValues, origins_in};
+ghost use Rattle.ngc_command_line.specs.Meant.{AreCheckOptions, HasCheckValues, changes_in};
 
 use crate::CheckOptions;
 use crate::arguments::{
-    ORIGIN, PROGRAM, REQUIRED_CERTIFICATE, REQUIRED_MACHINE, REQUIRED_TOOLS, help_end, required,
+    MARGIN, ORIGIN, PROGRAM, RAPIDS, REQUIRED_CERTIFICATE, REQUIRED_MACHINE, REQUIRED_TOOLS, TRAVEL_MARGIN, help_end, required,
 };
 use crate::table::SubcommandRow;
 use clap::ArgMatches;
-use ngc_origins::Origins;
+use ngc_margins::Changes;
 
 pub(crate) static CHECK: SubcommandRow<'static> = SubcommandRow {
     name: "check",
@@ -25,12 +25,15 @@ pub(crate) static CHECK: SubcommandRow<'static> = SubcommandRow {
         REQUIRED_CERTIFICATE,
         PROGRAM,
         ORIGIN,
+        MARGIN,
+        TRAVEL_MARGIN,
+        RAPIDS,
     ],
 };
 
-pub(crate) fn check_options<'a>(found: &ArgMatches<'a>, origins: Origins) -> CheckOptions<'a>
+pub(crate) fn check_options<'a>(found: &ArgMatches<'a>, changes: Changes) -> CheckOptions<'a>
     requires values { HasCheckValues (rows_of (found_of found.now)) }
-    requires origins { origins_in (rows_of (found_of found.now)) ≡ Ok origins }
+    requires changes { changes_in (rows_of (found_of found.now)) ≡ Some changes }
     ensures { AreCheckOptions (rows_of (found_of found.now)) result }
 {
     CheckOptions {
@@ -38,6 +41,6 @@ pub(crate) fn check_options<'a>(found: &ArgMatches<'a>, origins: Origins) -> Che
         tools: required(found, "tools"),
         certificate: required(found, "certificate"),
         program: found.get_str("program"),
-        origins,
+        changes,
     }
 }

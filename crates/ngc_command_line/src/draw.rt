@@ -1,16 +1,16 @@
 //! `ngc draw`.
 
-ghost use Rattle.std.specs.Prelude.{◌≡◌, Ok};
+ghost use Rattle.std.specs.Prelude.{◌≡◌, Some};
 ghost use Rattle.clap.specs.Words.{found_of, rows_of};
-ghost use Rattle.ngc_command_line.specs.Meant.{AreDrawOptions, HasDrawValues, origins_in};
+ghost use Rattle.ngc_command_line.specs.Meant.{AreDrawOptions, HasDrawValues, changes_in};
 
 use crate::arguments::{
-    DELETE, ORIGIN, PROGRAM, REQUIRED_MACHINE, REQUIRED_TOOLS, flag_is_set, help_end, required,
+    DELETE, MARGIN, ORIGIN, PROGRAM, RAPIDS, REQUIRED_MACHINE, REQUIRED_TOOLS, TRAVEL_MARGIN, flag_is_set, help_end, required,
 };
 use crate::options::DrawOptions;
 use crate::table::{Argument, SubcommandRow, Takes};
 use clap::ArgMatches;
-use ngc_origins::Origins;
+use ngc_margins::Changes;
 
 const VIEW: Argument<'static> = Argument {
     name: "view",
@@ -61,12 +61,15 @@ pub(crate) static DRAW: SubcommandRow<'static> = SubcommandRow {
         BODIES,
         WHOLE,
         ORIGIN,
+        MARGIN,
+        TRAVEL_MARGIN,
+        RAPIDS,
     ],
 };
 
-pub(crate) fn draw_options<'a>(found: &ArgMatches<'a>, origins: Origins) -> DrawOptions<'a>
+pub(crate) fn draw_options<'a>(found: &ArgMatches<'a>, changes: Changes) -> DrawOptions<'a>
     requires values { HasDrawValues (rows_of (found_of found.now)) }
-    requires origins { origins_in (rows_of (found_of found.now)) ≡ Ok origins }
+    requires changes { changes_in (rows_of (found_of found.now)) ≡ Some changes }
     ensures { AreDrawOptions (rows_of (found_of found.now)) result }
 {
     DrawOptions {
@@ -78,6 +81,6 @@ pub(crate) fn draw_options<'a>(found: &ArgMatches<'a>, origins: Origins) -> Draw
         delete: flag_is_set(found, "delete"),
         bodies: flag_is_set(found, "bodies"),
         whole: flag_is_set(found, "whole"),
-        origins,
+        changes,
     }
 }

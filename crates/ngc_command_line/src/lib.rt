@@ -17,13 +17,14 @@ ghost use Rattle.ngc_command_line.specs.Meant.{AreCutsInRange, AreOptions, IsCer
 ghost use Rattle.ngc_command_line.specs.Meant.{IsCheckRequest, IsDrawRequest, IsListRequest, IsRunRequest};
 ghost use Rattle.ngc_command_line.specs.Meant.{IsLiveRequest, IsShowRequest, IsHelpRequest};
 ghost use Rattle.ngc_command_line.specs.Meant.{AreCommands, IsPlaceRequest, IsReportRequest};
-ghost use Rattle.ngc_command_line.specs.Meant.{IsAdaptRequest, IsMachineRequest, HaveOrigins, IsTaken};
-ghost use Rattle.ngc_command_line.specs.Meant.{IsToolInRange, IsWhole, origins_in};
+ghost use Rattle.ngc_command_line.specs.Meant.{IsAdaptRequest, IsMachineRequest, HaveChanges, IsTaken};
+ghost use Rattle.ngc_command_line.specs.Meant.{IsToolInRange, IsWhole, changes_in};
 ghost use Rattle.ngc_command_line.specs.Meant.{help_fault_number, usage_fault_number};
 
 mod adapt;
 mod arguments;
 mod certify;
+mod changes;
 mod check;
 mod commands;
 mod draw;
@@ -33,7 +34,6 @@ mod list;
 mod live;
 mod machine;
 mod options;
-mod origin;
 mod place;
 mod report;
 mod run;
@@ -42,6 +42,7 @@ mod table;
 
 use adapt::adapt_options;
 use certify::certify_options;
+use changes::{change_fault, changes_of};
 use check::check_options;
 use clap::ArgMatches;
 use clap::error::ErrorKind;
@@ -52,13 +53,12 @@ use guide::topic;
 use list::list_options;
 use live::live_options;
 use machine::machine_options;
-use ngc_origins::Origins;
+use ngc_margins::Changes;
 pub use options::{
     AdaptOptions, CertifyOptions, CheckOptions, DrawOptions, Format, ListOptions, LiveOptions,
     MachineOptions, Options, PlaceOptions, Recording, ReportOptions, RunOptions, RunThroughOptions,
     ShowOptions,
 };
-use origin::{origin_fault, origins_of};
 use place::place_options;
 use report::report_options;
 use run::run_options;
@@ -126,22 +126,22 @@ fn usage_fault(alloc: Global, error: clap::Error) -> UsageFault
 }
 
 // Returns the options of a subcommand from its matches. A new subcommand is one more arm here.
-fn options_of<'a>(name: &str, found: &ArgMatches<'a>, origins: Origins) -> Options<'a>
+fn options_of<'a>(name: &str, found: &ArgMatches<'a>, changes: Changes) -> Options<'a>
     requires whole { IsWhole name.now (rows_of (found_of found.now)) }
-    requires origins { origins_in (rows_of (found_of found.now)) ≡ Ok origins }
+    requires changes { changes_in (rows_of (found_of found.now)) ≡ Some changes }
     ensures { AreOptions (Some (name.now, rows_of (found_of found.now))) result }
 {
     match name {
-        "list" => Options::List(list_options(found, origins)),
-        "certify" => Options::Certify(certify_options(found, origins)),
-        "check" => Options::Check(check_options(found, origins)),
-        "run" => run_options(Recording::Log, found, origins),
-        "pulses" => run_options(Recording::Pulses, found, origins),
-        "live" => Options::Live(live_options(found, origins)),
-        "draw" => Options::Draw(draw_options(found, origins)),
+        "list" => Options::List(list_options(found, changes)),
+        "certify" => Options::Certify(certify_options(found, changes)),
+        "check" => Options::Check(check_options(found, changes)),
+        "run" => run_options(Recording::Log, found, changes),
+        "pulses" => run_options(Recording::Pulses, found, changes),
+        "live" => Options::Live(live_options(found, changes)),
+        "draw" => Options::Draw(draw_options(found, changes)),
         "show" => Options::Show(show_options(found)),
-        "report" => Options::Report(report_options(found, origins)),
-        "place" => Options::Place(place_options(found, origins)),
+        "report" => Options::Report(report_options(found, changes)),
+        "place" => Options::Place(place_options(found, changes)),
         "adapt" => Options::Adapt(adapt_options(found)),
         "machine" => Options::Machine(machine_options(found)),
         "explain" => Options::Explain(explained_number(found)),
@@ -153,18 +153,18 @@ fn options_of<'a>(name: &str, found: &ArgMatches<'a>, origins: Origins) -> Optio
 
 /// Reads the words after the program's name.
 ///
-/// The result is `Usage` only if `clap` finds a fault in the words, or if an `--origin` isn't an
-/// origin; a request for help counts as a fault. If there is one and memory runs out as well, the
+/// The result is `Usage` only if `clap` finds a fault in the words, or if a value of `--origin`,
+/// `--margin`, `--travel-margin` or `--rapids` isn't one; a request for help counts as a fault. If there is one and memory runs out as well, the
 /// result may be either fault. The texts are shown by tests.
 pub fn read_options<'a>(alloc: Global, words: &'a [&'a str]) -> Result<Options<'a>, UsageFault>
     // The options are those of the subcommand that the words name. Words that name none are never
     // `Ok`.
     ensures options { IfOk result (AreOptions (subcommand_of ngc_app (texts words.entry.now))) }
     // Words are `Ok` only where `clap` finds no fault in them. Those in which it finds none, and
-    // whose origins are origins of different systems, are refused only for lack of memory.
+    // whose origins, margins and way of traverses can be read, are refused only for lack of memory.
     ensures taken { OnOk result (IsTaken (texts words.entry.now)) }
     ensures refused { IsTaken (texts words.entry.now) →
-        HaveOrigins (subcommand_of ngc_app (texts words.entry.now)) →
+        HaveChanges (subcommand_of ngc_app (texts words.entry.now)) →
         IsOkUnless result UsageFault.Memory }
     // `list --program=FILE --machine=FILE --tools=FILE --delete` is read as it is written, where
     // each option may be left out.
@@ -267,9 +267,9 @@ pub fn read_options<'a>(alloc: Global, words: &'a [&'a str]) -> Result<Options<'
         Err(error) => return Err(usage_fault(alloc, error)),
     };
     match matches.subcommand() {
-        Some((name, found)) => match origins_of(found) {
-            Ok(origins) => Ok(options_of(name, found, origins)),
-            Err(refused) => Err(origin_fault(alloc, &refused)),
+        Some((name, found)) => match changes_of(found) {
+            Ok(changes) => Ok(options_of(name, found, changes)),
+            Err(refused) => Err(change_fault(alloc, found, &refused)),
         },
         None => unreachable!(),
     }

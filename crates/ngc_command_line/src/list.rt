@@ -1,14 +1,14 @@
 //! `ngc list`.
 
-ghost use Rattle.std.specs.Prelude.{◌≡◌, Ok};
+ghost use Rattle.std.specs.Prelude.{◌≡◌, Some};
 ghost use Rattle.clap.specs.Words.{found_of, rows_of};
-ghost use Rattle.ngc_command_line.specs.Meant.{AreListOptions, origins_in};
+ghost use Rattle.ngc_command_line.specs.Meant.{AreListOptions, changes_in};
 
 use crate::ListOptions;
 use crate::arguments::{DELETE, ORIGIN, PROGRAM, flag_is_set, help_end};
 use crate::table::{Argument, SubcommandRow, Takes};
 use clap::ArgMatches;
-use ngc_origins::Origins;
+use ngc_margins::Changes;
 
 const MACHINE: Argument<'static> = Argument {
     name: "machine",
@@ -41,8 +41,8 @@ pub(crate) static LIST: SubcommandRow<'static> = SubcommandRow {
     arguments: &[PROGRAM, MACHINE, TOOLS, DELETE, ORIGIN, DIALECT],
 };
 
-pub(crate) fn list_options<'a>(found: &ArgMatches<'a>, origins: Origins) -> ListOptions<'a>
-    requires { origins_in (rows_of (found_of found.now)) ≡ Ok origins }
+pub(crate) fn list_options<'a>(found: &ArgMatches<'a>, changes: Changes) -> ListOptions<'a>
+    requires { changes_in (rows_of (found_of found.now)) ≡ Some changes }
     ensures { AreListOptions (rows_of (found_of found.now)) result }
 {
     ListOptions {
@@ -50,7 +50,7 @@ pub(crate) fn list_options<'a>(found: &ArgMatches<'a>, origins: Origins) -> List
         machine: found.get_str("machine"),
         tools: found.get_str("tools"),
         delete: flag_is_set(found, "delete"),
-        origins,
+        changes,
         dialect: found.get_str("dialect"),
     }
 }

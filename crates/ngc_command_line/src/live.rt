@@ -1,18 +1,17 @@
 //! `ngc live`.
 
-ghost use Rattle.std.specs.Prelude.{◌≡◌, Ok};
+ghost use Rattle.std.specs.Prelude.{◌≡◌, Some};
 ghost use Rattle.clap.specs.Words.{found_of, rows_of};
-ghost use Rattle.ngc_command_line.specs.Meant.{AreLiveOptions, HasLiveValues, origins_in};
+ghost use Rattle.ngc_command_line.specs.Meant.{AreLiveOptions, HasLiveValues, changes_in};
 
 use crate::arguments::{
-    DELETE, ORIGIN, REQUIRED_CERTIFICATE, REQUIRED_MACHINE, REQUIRED_TOOLS, flag_is_set, help_end,
-    required,
+    DELETE, MARGIN, ORIGIN, RAPIDS, REQUIRED_CERTIFICATE, REQUIRED_MACHINE, REQUIRED_TOOLS, TRAVEL_MARGIN, flag_is_set, help_end, required,
 };
 use crate::options::LiveOptions;
 use crate::run::{INVERTED, LOG_OUTPUT, mask_of};
 use crate::table::{Argument, SubcommandRow, Takes};
 use clap::ArgMatches;
-use ngc_origins::Origins;
+use ngc_margins::Changes;
 
 const REQUIRED_PROGRAM: Argument<'static> = Argument {
     name: "program",
@@ -56,12 +55,15 @@ pub(crate) static LIVE: SubcommandRow<'static> = SubcommandRow {
         FEED_RING,
         ABORT,
         ORIGIN,
+        MARGIN,
+        TRAVEL_MARGIN,
+        RAPIDS,
     ],
 };
 
-pub(crate) fn live_options<'a>(found: &ArgMatches<'a>, origins: Origins) -> LiveOptions<'a>
+pub(crate) fn live_options<'a>(found: &ArgMatches<'a>, changes: Changes) -> LiveOptions<'a>
     requires values { HasLiveValues (rows_of (found_of found.now)) }
-    requires origins { origins_in (rows_of (found_of found.now)) ≡ Ok origins }
+    requires changes { changes_in (rows_of (found_of found.now)) ≡ Some changes }
     ensures { AreLiveOptions (rows_of (found_of found.now)) result }
 {
     LiveOptions {
@@ -74,6 +76,6 @@ pub(crate) fn live_options<'a>(found: &ArgMatches<'a>, origins: Origins) -> Live
         inverted: mask_of(found),
         feed_ring: flag_is_set(found, "feed-ring"),
         aborts: flag_is_set(found, "abort"),
-        origins,
+        changes,
     }
 }

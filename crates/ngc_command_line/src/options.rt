@@ -2,7 +2,7 @@
 
 ghost use Rattle.std.specs.Prelude.{◌≤◌};
 
-use ngc_origins::Origins;
+use ngc_margins::Changes;
 
 /// A command of the program with its options.
 #[derive(Clone, Copy)]
@@ -51,8 +51,8 @@ pub struct ListOptions<'a> {
     pub tools: Option<&'a str>,
     /// Whether block delete is on, so that lines that begin with `/` are left out.
     pub delete: bool,
-    /// The origins that replace those of the machine file.
-    pub origins: Origins,
+    /// What replaces keys of the machine file.
+    pub changes: Changes,
     /// The control in whose language the program is written. Without one it is our own language.
     pub dialect: Option<&'a str>,
 }
@@ -80,8 +80,8 @@ pub struct CertifyOptions<'a> {
     pub cuts: u16,
     /// The version of the text. The default is 1.
     pub format: Format,
-    /// The origins that replace those of the machine file.
-    pub origins: Origins,
+    /// What replaces keys of the machine file.
+    pub changes: Changes,
     ghost some_cuts: { 1 ≤ cuts },
 }
 
@@ -96,8 +96,8 @@ pub struct CheckOptions<'a> {
     pub certificate: &'a str,
     /// The file of the part program. Without one it is read from standard input.
     pub program: Option<&'a str>,
-    /// The origins that replace those of the machine file.
-    pub origins: Origins,
+    /// What replaces keys of the machine file.
+    pub changes: Changes,
 }
 
 /// The output of a run.
@@ -131,8 +131,8 @@ pub struct RunOptions<'a> {
     pub output: Option<&'a str>,
     /// The bits that are inverted in each byte of the samples. The default is 0.
     pub inverted: u8,
-    /// The origins that replace those of the machine file.
-    pub origins: Origins,
+    /// What replaces keys of the machine file.
+    pub changes: Changes,
 }
 
 /// The options of `ngc run` and `ngc pulses` without events.
@@ -155,8 +155,8 @@ pub struct RunThroughOptions<'a> {
     pub output: Option<&'a str>,
     /// The bits that are inverted in each byte of the samples. The default is 0.
     pub inverted: u8,
-    /// The origins that replace those of the machine file.
-    pub origins: Origins,
+    /// What replaces keys of the machine file.
+    pub changes: Changes,
 }
 
 /// The options of `ngc live`. Its events arrive on standard input.
@@ -182,8 +182,8 @@ pub struct LiveOptions<'a> {
     /// Whether the run ends at the last line at once. Otherwise the machine is held after it until it
     /// is at rest.
     pub aborts: bool,
-    /// The origins that replace those of the machine file.
-    pub origins: Origins,
+    /// What replaces keys of the machine file.
+    pub changes: Changes,
 }
 
 /// The options of `ngc draw`.
@@ -207,8 +207,8 @@ pub struct DrawOptions<'a> {
     /// Whether the whole travel is shown, also where it is more than three times larger than
     /// fixtures and path.
     pub whole: bool,
-    /// The origins that replace those of the machine file.
-    pub origins: Origins,
+    /// What replaces keys of the machine file.
+    pub changes: Changes,
 }
 
 /// The options of `ngc show`.
@@ -238,8 +238,8 @@ pub struct ReportOptions<'a> {
     pub all: bool,
     /// Whether the report is a JSON document in place of sentences.
     pub json: bool,
-    /// The origins that replace those of the machine file.
-    pub origins: Origins,
+    /// What replaces keys of the machine file.
+    pub changes: Changes,
     ghost some_cuts: { 1 ≤ cuts },
 }
 
@@ -260,8 +260,8 @@ pub struct PlaceOptions<'a> {
     pub cuts: u16,
     /// Whether the output is a JSON document in place of sentences.
     pub json: bool,
-    /// The origins that replace those of the machine file.
-    pub origins: Origins,
+    /// What replaces keys of the machine file.
+    pub changes: Changes,
     ghost some_cuts: { 1 ≤ cuts },
 }
 

@@ -1,18 +1,18 @@
 //! `ngc place`.
 
-ghost use Rattle.std.specs.Prelude.{◌≡◌, Ok};
+ghost use Rattle.std.specs.Prelude.{◌≡◌, Some};
 ghost use Rattle.clap.specs.Words.{found_of, rows_of};
-ghost use Rattle.ngc_command_line.specs.Meant.{ArePlaceOptions, HasPlaceValues, origins_in};
+ghost use Rattle.ngc_command_line.specs.Meant.{ArePlaceOptions, HasPlaceValues, changes_in};
 
 use crate::arguments::{
-    CUTS, ORIGIN, PROGRAM, REQUIRED_MACHINE, REQUIRED_TOOLS, flag_is_set, help_end, required,
+    CUTS, MARGIN, ORIGIN, PROGRAM, RAPIDS, REQUIRED_MACHINE, REQUIRED_TOOLS, TRAVEL_MARGIN, flag_is_set, help_end, required,
 };
 use crate::certify::cuts_of;
 use crate::options::PlaceOptions;
 use crate::report::JSON;
 use crate::table::{Argument, SubcommandRow, Takes};
 use clap::ArgMatches;
-use ngc_origins::Origins;
+use ngc_margins::Changes;
 
 const SYSTEM: Argument<'static> = Argument {
     name: "system",
@@ -37,12 +37,15 @@ pub(crate) static PLACE: SubcommandRow<'static> = SubcommandRow {
         CUTS,
         JSON,
         ORIGIN,
+        MARGIN,
+        TRAVEL_MARGIN,
+        RAPIDS,
     ],
 };
 
-pub(crate) fn place_options<'a>(found: &ArgMatches<'a>, origins: Origins) -> PlaceOptions<'a>
+pub(crate) fn place_options<'a>(found: &ArgMatches<'a>, changes: Changes) -> PlaceOptions<'a>
     requires values { HasPlaceValues (rows_of (found_of found.now)) }
-    requires origins { origins_in (rows_of (found_of found.now)) ≡ Ok origins }
+    requires changes { changes_in (rows_of (found_of found.now)) ≡ Some changes }
     ensures { ArePlaceOptions (rows_of (found_of found.now)) result }
 {
     PlaceOptions {
@@ -52,6 +55,6 @@ pub(crate) fn place_options<'a>(found: &ArgMatches<'a>, origins: Origins) -> Pla
         system: found.get_str("system"),
         cuts: cuts_of(found),
         json: flag_is_set(found, "json"),
-        origins,
+        changes,
     }
 }

@@ -1,17 +1,17 @@
 //! `ngc report`.
 
-ghost use Rattle.std.specs.Prelude.{◌≡◌, Ok};
+ghost use Rattle.std.specs.Prelude.{◌≡◌, Some};
 ghost use Rattle.clap.specs.Words.{found_of, rows_of};
-ghost use Rattle.ngc_command_line.specs.Meant.{AreReportOptions, HasReportValues, origins_in};
+ghost use Rattle.ngc_command_line.specs.Meant.{AreReportOptions, HasReportValues, changes_in};
 
 use crate::arguments::{
-    CUTS, ORIGIN, PROGRAM, REQUIRED_MACHINE, REQUIRED_TOOLS, flag_is_set, help_end, required,
+    CUTS, MARGIN, ORIGIN, PROGRAM, RAPIDS, REQUIRED_MACHINE, REQUIRED_TOOLS, TRAVEL_MARGIN, flag_is_set, help_end, required,
 };
 use crate::certify::cuts_of;
 use crate::options::ReportOptions;
 use crate::table::{Argument, SubcommandRow, Takes};
 use clap::ArgMatches;
-use ngc_origins::Origins;
+use ngc_margins::Changes;
 
 const ALL: Argument<'static> = Argument {
     name: "all",
@@ -44,12 +44,15 @@ pub(crate) static REPORT: SubcommandRow<'static> = SubcommandRow {
         ALL,
         JSON,
         ORIGIN,
+        MARGIN,
+        TRAVEL_MARGIN,
+        RAPIDS,
     ],
 };
 
-pub(crate) fn report_options<'a>(found: &ArgMatches<'a>, origins: Origins) -> ReportOptions<'a>
+pub(crate) fn report_options<'a>(found: &ArgMatches<'a>, changes: Changes) -> ReportOptions<'a>
     requires values { HasReportValues (rows_of (found_of found.now)) }
-    requires origins { origins_in (rows_of (found_of found.now)) ≡ Ok origins }
+    requires changes { changes_in (rows_of (found_of found.now)) ≡ Some changes }
     ensures { AreReportOptions (rows_of (found_of found.now)) result }
 {
     ReportOptions {
@@ -59,6 +62,6 @@ pub(crate) fn report_options<'a>(found: &ArgMatches<'a>, origins: Origins) -> Re
         cuts: cuts_of(found),
         all: flag_is_set(found, "all"),
         json: flag_is_set(found, "json"),
-        origins,
+        changes,
     }
 }

@@ -1,17 +1,16 @@
 //! `ngc run` and `ngc pulses`.
 
-ghost use Rattle.std.specs.Prelude.{◌≡◌, IfSome, Ok, Some, codes};
+ghost use Rattle.std.specs.Prelude.{◌≡◌, IfSome, Some, codes};
 ghost use Rattle.clap.specs.Words.{IsUnsignedIn, first_of, found_of, rows_of};
-ghost use Rattle.ngc_command_line.specs.Meant.{AreRunsOptions, HasRunValues, IsMask, origins_in};
+ghost use Rattle.ngc_command_line.specs.Meant.{AreRunsOptions, HasRunValues, IsMask, changes_in};
 
 use crate::arguments::{
-    DELETE, ORIGIN, PROGRAM, REQUIRED_CERTIFICATE, REQUIRED_MACHINE, REQUIRED_TOOLS, flag_is_set,
-    help_end, required,
+    DELETE, MARGIN, ORIGIN, PROGRAM, RAPIDS, REQUIRED_CERTIFICATE, REQUIRED_MACHINE, REQUIRED_TOOLS, TRAVEL_MARGIN, flag_is_set, help_end, required,
 };
 use crate::options::{Options, Recording, RunOptions, RunThroughOptions};
 use crate::table::{Argument, SubcommandRow, Takes};
 use clap::ArgMatches;
-use ngc_origins::Origins;
+use ngc_margins::Changes;
 
 const EVENTS: Argument<'static> = Argument {
     name: "events",
@@ -62,6 +61,9 @@ pub(crate) static RUN: SubcommandRow<'static> = SubcommandRow {
         LOG_OUTPUT,
         INVERTED,
         ORIGIN,
+        MARGIN,
+        TRAVEL_MARGIN,
+        RAPIDS,
     ],
 };
 
@@ -82,6 +84,9 @@ pub(crate) static PULSES: SubcommandRow<'static> = SubcommandRow {
         PULSES_OUTPUT,
         INVERTED,
         ORIGIN,
+        MARGIN,
+        TRAVEL_MARGIN,
+        RAPIDS,
     ],
 };
 
@@ -110,10 +115,10 @@ pub(crate) fn mask_of(found: &ArgMatches<'_>) -> u8
 pub(crate) fn run_options<'a>(
     recording: Recording,
     found: &ArgMatches<'a>,
-    origins: Origins,
+    changes: Changes,
 ) -> Options<'a>
     requires values { HasRunValues (rows_of (found_of found.now)) }
-    requires origins { origins_in (rows_of (found_of found.now)) ≡ Ok origins }
+    requires changes { changes_in (rows_of (found_of found.now)) ≡ Some changes }
     ensures { AreRunsOptions recording (rows_of (found_of found.now)) result }
 {
     let machine = required(found, "machine");
@@ -134,7 +139,7 @@ pub(crate) fn run_options<'a>(
             delete,
             output,
             inverted,
-            origins,
+            changes,
         }),
         None => Options::RunThrough(RunThroughOptions {
             recording,
@@ -145,7 +150,7 @@ pub(crate) fn run_options<'a>(
             delete,
             output,
             inverted,
-            origins,
+            changes,
         }),
     }
 }

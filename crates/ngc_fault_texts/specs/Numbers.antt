@@ -41,7 +41,8 @@ setup_numbers = 261 ∷ 261 ∷ 262 ∷ 263 ∷ 264 ∷ 265 ∷ 266 ∷ 267 ∷ 
 
 -- certificates
 abbrev pub certificate_numbers : List ℕ
-certificate_numbers = 301 ∷ 302 ∷ 303 ∷ 304 ∷ 311 ∷ 312 ∷ 313 ∷ 314 ∷ 315 ∷ 316 ∷ 317 ∷ 318 ∷ []
+certificate_numbers = 301 ∷ 302 ∷ 303 ∷ 304 ∷ 311 ∷ 312 ∷ 313 ∷ 314 ∷ 315 ∷ 316 ∷ 317 ∷ 318
+    ∷ 319 ∷ []
 
 -- events
 abbrev pub event_numbers : List ℕ

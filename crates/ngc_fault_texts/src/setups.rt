@@ -16,7 +16,8 @@ pub(crate) fn setup() -> &'static [Row]
             example: "machine file `version = 3`",
             answer: "`ngc: fault 261 machine`",
             place: None,
-            mend: "Only version 2 has `axis_rate`, `jump`, `ring`, `arc_feed` and `changer`.",
+            mend: "Only version 2 has `axis_rate`, `jump`, `ring`, `arc_feed`, `changer`, `margin`,\n\
+             `travel_margin` and `rapids`.",
         },
         Row {
             number: 261,
@@ -57,11 +58,13 @@ pub(crate) fn setup() -> &'static [Row]
             number: 265,
             rule: "The travel or the start point is wrong: `low` can't be above `high`, and `start` must be between\n\
              them, on a whole step.\n\
-             `low` and `high` are at most 1,000,000,000 nm either way.",
+             `low` and `high` are at most 1,000,000,000 nm either way, and `travel_margin` is 0 to\n\
+             100,000,000 nm.",
             example: "machine file `start = [5, 0, 0]`",
             answer: "`ngc: fault 265 machine`",
             place: None,
-            mend: "Write `start` as a multiple of `step`: with `step = 10000` it can be 0 or 10000, and not 5.",
+            mend: "Write `start` as a multiple of `step`: with `step = 10000` it can be 0 or 10000, and not 5. With\n\
+             a travel margin `start` is at least that far from `low` and `high`.",
         },
         Row {
             number: 266,
@@ -75,7 +78,8 @@ pub(crate) fn setup() -> &'static [Row]
             number: 267,
             rule: "A fixture has no size on some axis, or is too far out: put its lower corner into `low`, and the\n\
              other into `high`.\n\
-             Corners are at most 4,000,000,000 nm either way.",
+             Corners are at most 4,000,000,000 nm either way, with the margin too; `margin` is 0 to\n\
+             100,000,000 nm.",
             example: "machine file `fixture = [{low = [0, 0, 0], high = [1, 1, 0]}]`",
             answer: "`ngc: fault 267 machine`",
             place: None,
@@ -239,6 +243,17 @@ pub(crate) fn certificates() -> &'static [Row]
             answer: "`ngc: fault 318 fixture 0`",
             place: None,
             mend: "Only the spindle nose is tested there, as a single point, since no tool is mounted yet.",
+        },
+        Row {
+            number: 319,
+            rule: "This traverse has several pieces, and the control may take any way to its end: make the\n\
+             certificate again with `ngc certify`.\n\
+             With free rapids a traverse has one piece, whose box holds every way.",
+            example: "program `G0 X0.03`, `M2`, machine file with `rapids = \"free\"`, certificate with two\n\
+             pieces",
+            answer: "`ngc: fault 319 setting off command 0`",
+            place: None,
+            mend: "It was made for `--rapids straight`. If one piece isn't clear, retract first and then move.",
         },
     ];
     ROWS

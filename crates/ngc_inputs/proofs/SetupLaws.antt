@@ -8,13 +8,13 @@ use Rattle.ngc_machine_files.specs.ToolText.{tool_table}
 use Rattle.ngc_machine_files.specs.declared.fault.FileFault.{FileFault}
 use Rattle.ngc_machine_files.specs.declared.tools.Tool.{Tool}
 use Rattle.ngc_inputs.specs.Setups.{FileBytes, IfParsed, KeepsFiles, IfMachine, IfTools, OnSetup, AreSetup, Refuses}
-use Rattle.ngc_inputs.specs.Setups.{OnPlaced}
-use Rattle.ngc_inputs.specs.Shops.{PlacedResultIs, ShopResultIs, IsPlaced, RefusesMachine, RefusesShop, RefusesTools}
+use Rattle.ngc_inputs.specs.Setups.{OnPlaced, changed_in}
+use Rattle.ngc_inputs.specs.Shops.{PlacedResultIs, ShopResultIs, IsPlaced, RefusesMachine, RefusesPlaced, RefusesShop, RefusesTools}
 use Rattle.ngc_inputs.specs.declared.setup.Shop.{Shop}
 use Rattle.ngc_machine_files.specs.Machine.{file_of}
 use Rattle.ngc_machine_files.specs.Tools.{tools_of}
-use Rattle.ngc_origins.specs.Placed.{placed}
-use Rattle.ngc_origins.specs.Texts.{OriginList}
+use Rattle.ngc_margins.specs.Changes.{changed}
+use Rattle.ngc_margins.specs.declared.changes.Changes.{Changes}
 use Rattle.ngc_inputs.specs.declared.fault.AnswerFault.{AnswerFault}
 use Rattle.ngc_inputs.specs.declared.fault.AnswerFault.TheVariants as answers
 
@@ -53,33 +53,46 @@ on_setup bytes machine tools setup P parsed_machine parsed_tools p =
     (λ t said_t. (setup, record { parsed_machine = said_m; parsed_tools = said_t }, p)) parsed_tools)
     parsed_machine
 
--- and with other origins, for the contents of the two files and these origins
-pub on_placed : (bytes : FileBytes) (machine tools : Option (List ℕ)) (origins : OriginList) (setup : Setup) (P : Setup → Type 0)
-    → IfMachine bytes machine (IsPlaced origins setup.machine) → IfTools bytes tools (λ says. says ≡ Ok setup.tools) → P setup
-    → OnPlaced bytes machine tools origins P
-on_placed bytes machine tools origins setup P parsed_machine parsed_tools p =
-    said_weaker machine_file built_in_machine bytes machine (IsPlaced origins setup.machine)
-    (λ m. IfTools bytes tools (λ t. (s : Setup) × AreSetup m t s × P (record s { machine = placed origins s.machine })))
+-- and with changes, for the contents of the two files and these changes
+pub on_placed : (bytes : FileBytes) (machine tools : Option (List ℕ)) (changes : Changes) (setup : Setup) (P : Setup → Type 0)
+    → IfMachine bytes machine (IsPlaced changes setup.machine) → IfTools bytes tools (λ says. says ≡ Ok setup.tools) → P setup
+    → OnPlaced bytes machine tools changes P
+on_placed bytes machine tools changes setup P parsed_machine parsed_tools p =
+    said_weaker machine_file built_in_machine bytes machine (IsPlaced changes setup.machine)
+    (λ m. IfTools bytes tools (λ t. (s : Setup) × AreSetup (changed_in changes m) t s × P s))
     (λ m said_m.
-    said_weaker tool_table [] bytes tools (λ says. says ≡ Ok setup.tools)
-    (λ t. (s : Setup) × AreSetup m t s × P (record s { machine = placed origins s.machine }))
-    (λ t said_t. (
-      record { machine = said_m.0; tools = setup.tools },
-      record { parsed_machine = said_m.1; parsed_tools = said_t },
-      subst (λ (m : MachineFile). P (record { machine = m; tools = setup.tools })) said_m.2 p,
-    )) parsed_tools)
+    said_weaker tool_table [] bytes tools (λ says. says ≡ Ok setup.tools) (λ t. (s : Setup) × AreSetup (changed_in changes m) t s × P s)
+    (λ t said_t. (setup, record { parsed_machine = said_m; parsed_tools = said_t }, p)) parsed_tools)
     parsed_machine
 
--- a machine and its tools that were read, with these origins
-pub shop_placed : (bytes : FileBytes) (machine tools : Option (List ℕ)) (origins : OriginList) (shop placed_shop : Shop)
-    → ShopResultIs bytes machine tools (Ok shop) → file_of placed_shop.machine ≡ placed origins (file_of shop.machine)
-    → tools_of placed_shop.tools ≡ tools_of shop.tools → PlacedResultIs bytes machine tools origins (Ok placed_shop)
-shop_placed bytes machine tools origins shop placed_shop said placed_machine same_tools = (
-  said_weaker machine_file built_in_machine bytes machine (λ says. says ≡ Ok (file_of shop.machine)) (IsPlaced origins (file_of placed_shop.machine))
-      (λ says is. (file_of shop.machine, is, placed_machine)) said.0,
+-- a machine and its tools that were read, with these changes
+pub shop_placed : (bytes : FileBytes) (machine tools : Option (List ℕ)) (changes : Changes) (shop placed_shop : Shop)
+    → ShopResultIs bytes machine tools (Ok shop) → changed changes (file_of shop.machine) ≡ Ok (file_of placed_shop.machine)
+    → tools_of placed_shop.tools ≡ tools_of shop.tools → PlacedResultIs bytes machine tools changes (Ok placed_shop)
+shop_placed bytes machine tools changes shop placed_shop said placed_machine same_tools = (
+  said_weaker machine_file built_in_machine bytes machine (λ says. says ≡ Ok (file_of shop.machine)) (IsPlaced changes (file_of placed_shop.machine))
+      (λ says is. ap (changed_in changes) is ∙ placed_machine) said.0,
   said_weaker tool_table [] bytes tools (λ says. says ≡ Ok (tools_of shop.tools)) (λ says. says ≡ Ok (tools_of placed_shop.tools))
       (λ says is. is ∙ ap Ok (sym same_tools)) said.1,
 )
+
+-- changes that a machine that was read refuses
+pub changes_refused : (bytes : FileBytes) (machine tools : Option (List ℕ)) (changes : Changes) (shop : Shop) (e : FileFault)
+    → ShopResultIs bytes machine tools (Ok shop) → changed changes (file_of shop.machine) ≡ Err e
+    → PlacedResultIs bytes machine tools changes (Err (answers.Machine e))
+changes_refused bytes machine tools changes shop e said refused =
+    said_weaker machine_file built_in_machine bytes machine (λ says. says ≡ Ok (file_of shop.machine)) (λ says. Refuses e (changed_in changes says))
+    (λ says is _. ap (changed_in changes) is ∙ refused) said.0
+
+-- a refusal of one of the two files
+pub shop_refused : (bytes : FileBytes) (machine tools : Option (List ℕ)) (changes : Changes) (fault : AnswerFault) → RefusesShop bytes machine tools fault
+    → RefusesPlaced bytes machine tools changes fault
+shop_refused bytes machine tools changes (answers.Machine e) refuses =
+    said_weaker machine_file built_in_machine bytes machine (Refuses e) (λ says. Refuses e (changed_in changes says))
+    (λ says refused held. ap (changed_in changes) (refused held)) refuses
+shop_refused bytes machine tools changes (answers.Tools e) refuses = refuses
+shop_refused bytes machine tools changes (answers.Input e) refuses = refuses
+shop_refused bytes machine tools changes _ refuses = absurd refuses
 
 -- of a file's bytes, from a source with these bytes
 pub of_file : (known source : Option (List ℕ)) (P : List ℕ → Type 0) → source ≡ known → IfSome source P → IfSome known P

@@ -13,7 +13,7 @@ use Rattle.ngc_machine_files.specs.MachineText.{machine_file}
 use Rattle.ngc_machine_files.specs.ToolText.{tool_table}
 use Rattle.ngc_inputs.specs.Setups.{FileBytes, IfMachine, KeepsFiles}
 use Rattle.ngc_inputs.specs.Shops.{PlacedResultIs, ShopResultIs, IsPlaced}
-use Rattle.ngc_origins.specs.Texts.{OriginList}
+use Rattle.ngc_margins.specs.declared.changes.Changes.{Changes}
 use Rattle.ngc_inputs.specs.Faults.{OfCertifying, OfChecking, OfDrawing, OfListing, OfLiving, OfRunning}
 use Rattle.ngc_inputs.specs.Unread.{Kind, OfMachine, OfTools, OfProgram, OfCertificate, OfEvents, OfSource, IsReadAs, Input, setup_input, shop_inputs, AtFirst}
 use Rattle.ngc_inputs.specs.Unread.{ReportsKindUnread, ReportsFirstUnread, FailsBy, FailsByInput, program_unread, certificate_unread, unread_by}
@@ -107,17 +107,21 @@ shop_read bytes (Some m) None shop said = (is_read machine_file _ (bytes (Some m
 shop_read bytes (Some m) (Some t) shop said =
     (is_read machine_file _ (bytes (Some m)) (bytes (Some m)) refl said.0, (is_read tool_table _ (bytes (Some t)) (bytes (Some t)) refl said.1, tt))
 
--- the same of a machine with other origins
-pub placed_read : (bytes : FileBytes) (machine tools : Option (List ℕ)) (origins : OriginList) (shop : Shop) → PlacedResultIs bytes machine tools origins (Ok shop)
+-- the same of a machine with changes
+pub placed_read : (bytes : FileBytes) (machine tools : Option (List ℕ)) (changes : Changes) (shop : Shop) → PlacedResultIs bytes machine tools changes (Ok shop)
     → AllRead bytes (shop_inputs machine tools)
-placed_read bytes machine tools origins shop said = both machine tools said
+placed_read bytes machine tools changes shop said = both machine tools said
   where
-    of_machine : (known : Option (List ℕ)) → IfSome known (λ text. IsPlaced origins (file_of shop.machine) (machine_file text)) →
+    unchanged : (says : Result MachineFile FileFault) → IsPlaced changes (file_of shop.machine) says → IsOk says
+    unchanged (Ok m) said = refl
+    unchanged (Err e) said = let bad : Err e ≡ Ok (file_of shop.machine) = said in cc
+
+    of_machine : (known : Option (List ℕ)) → IfSome known (λ text. IsPlaced changes (file_of shop.machine) (machine_file text)) →
         IfSome known (λ text. IsOk (machine_file text))
     of_machine None said = tt
-    of_machine (Some text) said = subst IsOk (sym said.1) refl
+    of_machine (Some text) said = unchanged (machine_file text) said
 
-    both : (machine tools : Option (List ℕ)) → PlacedResultIs bytes machine tools origins (Ok shop) → AllRead bytes (shop_inputs machine tools)
+    both : (machine tools : Option (List ℕ)) → PlacedResultIs bytes machine tools changes (Ok shop) → AllRead bytes (shop_inputs machine tools)
     both None None said = tt
     both None (Some t) said = (is_read tool_table _ (bytes (Some t)) (bytes (Some t)) refl said.1, tt)
     both (Some m) None said = (of_machine (bytes (Some m)) said.0, tt)

@@ -105,6 +105,7 @@ make_place makes.Memory = codes ""
 abbrev pub check_place : CheckFault → List ℕ
 check_place (refusals.Program setting e) = refused_place setting e
 check_place (refusals.MotionsDiffer setting command) = command_place setting command
+check_place (refusals.Divided setting command) = command_place setting command
 check_place (refusals.Start fixture) = fixture_place fixture
 check_place (refusals.Piece setting command piece e) =
     command_place setting command ++ codes " piece " ++ decimal piece ++ piece_place e
@@ -169,6 +170,7 @@ text_status (texts.OutOfRange line) = 4
 abbrev pub check_status : CheckFault → ℕ
 check_status (refusals.Program setting e) = 3
 check_status (refusals.MotionsDiffer setting command) = 4
+check_status (refusals.Divided setting command) = 4
 check_status (refusals.Start fixture) = 4
 check_status (refusals.Piece setting command piece e) = 4
 check_status (refusals.ToolChange setting command fixture) = 4

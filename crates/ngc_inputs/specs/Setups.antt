@@ -7,8 +7,8 @@ use Rattle.ngc_machine_files.specs.ToolText.{tool_table}
 use Rattle.ngc_machine_files.specs.declared.fault.FileFault.{FileFault}
 use Rattle.ngc_machine_files.specs.declared.fault.FileFault.TheVariants.{Memory}
 use Rattle.ngc_machine_files.specs.declared.tools.Tool.{Tool}
-use Rattle.ngc_origins.specs.Placed.{placed}
-use Rattle.ngc_origins.specs.Texts.{OriginList}
+use Rattle.ngc_margins.specs.Changes.{changed}
+use Rattle.ngc_margins.specs.declared.changes.Changes.{Changes}
 
 -- the bytes of a file by its name, or of standard input, where they are known
 abbrev pub FileBytes : Type 0
@@ -47,11 +47,17 @@ OnSetup bytes machine tools P =
     IfMachine bytes machine
     (λ m. IfTools bytes tools (λ t. (setup : Setup) × AreSetup m t setup × P setup))
 
--- P of the same machine with these origins in place of its own, and of its tools
-abbrev pub OnPlaced : FileBytes → Option (List ℕ) → Option (List ℕ) → OriginList →
+-- a machine that was read, with these changes, or the first refusal
+abbrev pub changed_in : Changes → Result MachineFile FileFault → Result MachineFile FileFault
+changed_in changes (Ok machine) = changed changes machine
+changed_in changes (Err e) = Err e
+
+-- P of the machine with these changes, and of its tools
+abbrev pub OnPlaced : FileBytes → Option (List ℕ) → Option (List ℕ) → Changes →
     (Setup → Type 0) → Type 0
-OnPlaced bytes machine tools origins P = OnSetup bytes machine tools
-    (λ setup. P (record setup { machine = placed origins setup.machine }))
+OnPlaced bytes machine tools changes P =
+    IfMachine bytes machine (λ m. IfTools bytes tools
+    (λ t. (setup : Setup) × AreSetup (changed_in changes m) t setup × P setup))
 
 -- a refusal is that of the file, unless memory ran out
 abbrev pub Refuses : {T : Type 0} → FileFault → Result T FileFault → Type 0

@@ -3,12 +3,11 @@ use Rattle.std.specs.Prelude.{◌≡◌, ℕ, List, Option, Result, Ok, Err, IsO
 use Rattle.ngc_machine_files.specs.Machine.{MachineFile, file_of}
 use Rattle.ngc_machine_files.specs.declared.fault.FileFault.{FileFault}
 use Rattle.ngc_machine_files.specs.Tools.{tools_of}
-use Rattle.ngc_origins.specs.Placed.{placed}
-use Rattle.ngc_origins.specs.Texts.{OriginList}
+use Rattle.ngc_margins.specs.declared.changes.Changes.{Changes}
 use Rattle.ngc_inputs.specs.declared.fault.AnswerFault.{AnswerFault}
 use Rattle.ngc_inputs.specs.declared.fault.AnswerFault.TheVariants as answers
 use Rattle.ngc_inputs.specs.declared.setup.Shop.{Shop}
-use Rattle.ngc_inputs.specs.Setups.{FileBytes, IfMachine, IfTools, Refuses}
+use Rattle.ngc_inputs.specs.Setups.{FileBytes, IfMachine, IfTools, Refuses, changed_in}
 
 -- a machine file, or a tool table, is refused or isn't read
 abbrev pub RefusesMachine : FileBytes → Option (List ℕ) → AnswerFault → Type 0
@@ -35,15 +34,23 @@ ShopResultIs bytes machine tools (Ok shop) =
     IfTools bytes tools (λ says. says ≡ Ok (tools_of shop.tools))
 ShopResultIs bytes machine tools (Err fault) = RefusesShop bytes machine tools fault
 
--- what is read is a machine, and with these origins it is this one
-abbrev pub IsPlaced : OriginList → MachineFile → Result MachineFile FileFault → Type 0
-IsPlaced origins machine says =
-    (m : MachineFile) × (says ≡ Ok m) × (machine ≡ placed origins m)
+-- what is read is a machine, and with these changes it is this one
+abbrev pub IsPlaced : Changes → MachineFile → Result MachineFile FileFault → Type 0
+IsPlaced changes machine says = changed_in changes says ≡ Ok machine
 
--- the machine has these origins in place of its own
-abbrev pub PlacedResultIs : FileBytes → Option (List ℕ) → Option (List ℕ) → OriginList →
+-- a refusal of the machine with these changes: of the file, or of the changes in a file that isn't
+-- refused; any other is a refusal of one of the two files
+abbrev pub RefusesPlaced : FileBytes → Option (List ℕ) → Option (List ℕ) → Changes →
+    AnswerFault → Type 0
+RefusesPlaced bytes machine tools changes (answers.Machine e) =
+    IfMachine bytes machine (λ says. Refuses e (changed_in changes says))
+RefusesPlaced bytes machine tools changes fault = RefusesShop bytes machine tools fault
+
+-- the machine has these changes
+abbrev pub PlacedResultIs : FileBytes → Option (List ℕ) → Option (List ℕ) → Changes →
     Result Shop AnswerFault → Type 0
-PlacedResultIs bytes machine tools origins (Ok shop) =
-    IfMachine bytes machine (IsPlaced origins (file_of shop.machine)) ×
+PlacedResultIs bytes machine tools changes (Ok shop) =
+    IfMachine bytes machine (IsPlaced changes (file_of shop.machine)) ×
     IfTools bytes tools (λ says. says ≡ Ok (tools_of shop.tools))
-PlacedResultIs bytes machine tools origins (Err fault) = RefusesShop bytes machine tools fault
+PlacedResultIs bytes machine tools changes (Err fault) =
+    RefusesPlaced bytes machine tools changes fault

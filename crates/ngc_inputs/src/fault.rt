@@ -49,7 +49,7 @@ pub enum AnswerFault {
     /// The certificate isn't read: 301 to 303, 900, 901.
     #[error(transparent)]
     Certificate(CertificateFault),
-    /// The certificate isn't accepted: 311 to 318, 900.
+    /// The certificate isn't accepted: 311 to 319, 900.
     #[error(transparent)]
     Check(CheckFault),
     /// The events are refused: 711, 712, 900.
@@ -194,6 +194,7 @@ fn status_of_check(fault: &CheckFault) -> u8
     match fault {
         CheckFault::Program { .. } => 3,
         CheckFault::MotionsDiffer { .. }
+        | CheckFault::Divided { .. }
         | CheckFault::Start { .. }
         | CheckFault::Piece { .. }
         | CheckFault::ToolChange { .. } => 4,

@@ -1,19 +1,19 @@
 //! The machine and its tools, from the files that the command line names.
-ghost use Rattle.std.specs.Prelude.{◌≡◌, IfErr, IfOk, IfSome, MatchResult, Ok, OnOk, Some};
+ghost use Rattle.std.specs.Prelude.{◌≡◌, IfErr, IfOk, Err, IfSome, MatchResult, Ok, OnOk, Some};
 ghost use Rattle.std.specs.Prelude.{option_map};
 ghost use Rattle.ngc_machine_files.specs.Machine.{file_of};
 ghost use Rattle.ngc_machine_files.specs.Tools.{tools_of};
 ghost use Rattle.ngc_inputs.specs.Setups.{IfMachine, IfTools, KeepsFiles};
 ghost use Rattle.ngc_inputs.specs.Shops.{PlacedResultIs, ShopResultIs, RefusesMachine, RefusesTools};
-ghost use Rattle.ngc_origins.specs.Placed.{placed};
+ghost use Rattle.ngc_margins.specs.Changes.{changed};
 ghost use Rattle.ngc_inputs.specs.Unread.{FailsByInput, OfMachine, OfTools, SourceFails};
 ghost use Rattle.ngc_inputs.specs.Unread.{ReportsUnread, setup_input, shop_inputs};
 
 use crate::fault::AnswerFault;
 use crate::files::Files;
 use crate::opening::open_file;
-use ngc_machine_files::{Machine, Tools, built_in_machine};
-use ngc_origins::Origins;
+use ngc_machine_files::{FileFault, Machine, Tools, built_in_machine};
+use ngc_margins::Changes;
 use ngc_text::{InputFault, read_whole};
 use std::alloc::Global;
 
@@ -25,14 +25,21 @@ pub struct Shop {
 }
 
 impl Shop {
-    /// Returns the machine with these origins in place of its own, and its tools.
-    pub fn with_origins(self, origins: &Origins) -> Shop
-        ensures machine { file_of result.machine ≡ placed origins.now (file_of self.machine) }
-        ensures tools { tools_of result.tools ≡ tools_of self.tools }
+    /// Returns the machine of a call, with the changes of its options and its margins kept, and its
+    /// tools; or 265 if the start is outside the travel limits then, and 267 if a fixture is too
+    /// large.
+    pub fn with_changes(self, changes: &Changes) -> Result<Shop, FileFault>
+        ensures machine { MatchResult result
+            (λ shop. changed changes.now (file_of self.machine) ≡ Ok (file_of shop.machine))
+            (λ fault. changed changes.now (file_of self.machine) ≡ Err fault) }
+        ensures tools { IfOk result (λ shop. tools_of shop.tools ≡ tools_of self.tools) }
     {
-        Shop {
-            machine: origins.place(self.machine),
-            tools: self.tools,
+        match changes.apply(self.machine) {
+            Ok(machine) => Ok(Shop {
+                machine,
+                tools: self.tools,
+            }),
+            Err(fault) => Err(fault),
         }
     }
 }
@@ -156,16 +163,16 @@ pub fn read_shop<F: Files>(
     Ok(Shop { machine, tools })
 }
 
-/// Returns the machine, with these origins in place of its own, and its tools.
+/// Returns the machine, with these changes, and its tools.
 pub fn read_placed<F: Files>(
     alloc: Global,
     machine: Option<&str>,
     tools: Option<&str>,
-    origins: &Origins,
+    changes: &Changes,
     files: &mut F,
 ) -> Result<Shop, AnswerFault>
     ensures said { PlacedResultIs (F.bytes files.old) (option_map (λ n. n.now) machine.entry)
-        (option_map (λ n. n.now) tools.entry) origins.now result }
+        (option_map (λ n. n.now) tools.entry) changes.now result }
     ensures keeps { KeepsFiles (F.bytes files.old) (F.bytes files.new) }
     // The first file that isn't read can't be opened, its source fails, or it is too long.
     ensures unread { FailsByInput (SourceFails F.R.remaining F.R.failures) (F.bytes files.old)
@@ -173,7 +180,10 @@ pub fn read_placed<F: Files>(
         (F.failures files.old) (F.failures files.new) result }
 {
     match read_shop(alloc, machine, tools, files) {
-        Ok(shop) => Ok(shop.with_origins(origins)),
+        Ok(shop) => match shop.with_changes(changes) {
+            Ok(changed) => Ok(changed),
+            Err(fault) => Err(AnswerFault::Machine(fault)),
+        },
         Err(fault) => Err(fault),
     }
 }

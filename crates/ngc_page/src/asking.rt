@@ -9,7 +9,7 @@ use ngc_command_line::{
     AdaptOptions, CertifyOptions, CheckOptions, DrawOptions, Format, ListOptions, MachineOptions,
     Options, Recording, ReportOptions, RunThroughOptions, ShowOptions,
 };
-use ngc_origins::Origins;
+use ngc_margins::Changes;
 
 /// Returns the options of a report.
 pub fn report_options(all: bool, json: bool) -> Options<'static>
@@ -22,7 +22,7 @@ pub fn report_options(all: bool, json: bool) -> Options<'static>
         cuts: 8,
         all,
         json,
-        origins: Origins::none(),
+        changes: Changes::none(),
     })
 }
 
@@ -50,7 +50,7 @@ pub fn draw_options(view: u32, delete: bool) -> Options<'static>
         delete,
         bodies: false,
         whole: false,
-        origins: Origins::none(),
+        changes: Changes::none(),
     })
 }
 
@@ -63,7 +63,7 @@ pub fn list_options(delete: bool) -> Options<'static>
         machine: Some("machine"),
         tools: Some("tools"),
         delete,
-        origins: Origins::none(),
+        changes: Changes::none(),
         dialect: None,
     })
 }
@@ -84,7 +84,7 @@ pub fn certify_options(second: bool) -> Options<'static>
         program: Some("program"),
         cuts: 8,
         format: requested_format(second),
-        origins: Origins::none(),
+        changes: Changes::none(),
     })
 }
 
@@ -97,7 +97,7 @@ pub fn check_options() -> Options<'static>
         tools: "tools",
         certificate: "certificate",
         program: Some("program"),
-        origins: Origins::none(),
+        changes: Changes::none(),
     })
 }
 
@@ -114,7 +114,7 @@ pub fn pulses_options(delete: bool) -> Options<'static>
         delete,
         output: None,
         inverted: 0,
-        origins: Origins::none(),
+        changes: Changes::none(),
     })
 }
 

@@ -229,7 +229,8 @@ pub(crate) fn write_refused<A: Allocator, W: Sink>(
         named,
         setting,
     };
-    write_heading(subject.form, subject.origins, heading, output)?;
+    let machine = Some(subject.machine);
+    write_heading(subject.form, subject.origins, machine, heading, output)?;
     let told = refused_command(subject.machine, command);
     write_missing(subject, execution, told, output)?;
     let commands = execution.commands;
@@ -389,7 +390,8 @@ fn write_setting_refusals<A: Allocator, W: Sink>(
         (history_of execution.now.history.now.start execution.now.history.now.changes.items)
         indices.now (text_in subject.now.program.now).lines) }
 {
-    write_heading(subject.form, subject.origins, heading, output)?;
+    let machine = Some(subject.machine);
+    write_heading(subject.form, subject.origins, machine, heading, output)?;
     write_missing(subject, execution, first_of(indices), output)?;
     write_obstacles(subject, execution, indices, output)?;
     write_setting_warnings(subject, heading.setting, execution, output)
@@ -509,7 +511,7 @@ pub fn write_rejection<A: Allocator, W: Sink>(
         named,
         setting,
     };
-    write_heading(form, origins, heading, output)?;
+    write_heading(form, origins, None::<&Machine<A>>, heading, output)?;
     write_all(output, refused_line(form))?;
     write_line(form, program, number, output)?;
     write_rejection_end(form, program, setting, number, fault, output)

@@ -1,5 +1,5 @@
 //! The text before and after the reports of programs.
-ghost use Rattle.std.specs.Prelude.{◌≡◌, ◌+◌, ◌≤◌, ◌++◌, length, OnOk, OnErr};
+ghost use Rattle.std.specs.Prelude.{◌≡◌, ◌+◌, ◌≤◌, ◌++◌, length, OnOk, OnErr, option_map};
 ghost use Rattle.std.specs.Io.KnownBytes.{Appends};
 ghost use Rattle.ngc_text.specs.Collected.{CHUNK_SIZE};
 ghost use Rattle.ngc_text.specs.Failures.{CountsFailure};
@@ -7,15 +7,19 @@ ghost use Rattle.ngc_text.specs.Written.{AppendsPrefix};
 ghost use Rattle.ngc_report.specs.Forms.{closing, opening};
 ghost use Rattle.ngc_sentences.specs.Saying.{Says};
 ghost use Rattle.ngc_program_report.specs.Texts.{ending, heading as heading_text, hint};
-ghost use Rattle.ngc_program_report.specs.Texts.{origins_text, setting_line};
+ghost use Rattle.ngc_machine_files.specs.Machine.{file_of};
+ghost use Rattle.ngc_program_report.specs.Texts.{kept_in, kept_text, origins_text, setting_line};
 ghost use Rattle.ngc_program_report.specs.Writing.{Writes};
 
 use crate::subject::Heading;
 use ngc_certificate::Setting;
+use ngc_machine_files::Machine;
+use ngc_margins::{Kept, add_kept_facts, add_kept_words};
 use ngc_origins::{Origins, add_origin_facts, add_origin_words};
 use ngc_report::Form;
 use ngc_sentences::{Page, Part, say};
 use ngc_text::{Chunk, Sink, WriteFault};
+use std::alloc::Allocator;
 
 // Returns the line that names a setting.
 fn setting_line(form: Form, setting: Setting) -> &'static [u8]
@@ -61,15 +65,42 @@ fn add_origins(chunk: &mut Chunk, form: Form, origins: &Origins)
     }
 }
 
+fn kept_in<A: Allocator>(machine: Option<&Machine<A>>) -> Kept
+    ensures { result ≡ kept_in (option_map (λ m. file_of m.now) machine.entry) }
+{
+    match machine {
+        Some(machine) => Kept::by(machine),
+        None => Kept::nothing(),
+    }
+}
+
+fn add_kept(chunk: &mut Chunk, form: Form, kept: &Kept)
+    requires { length chunk.old + 500 ≤ CHUNK_SIZE }
+    ensures text { chunk.new ≡ chunk.old ++ kept_text form kept.now }
+    ensures short { length chunk.new ≤ length chunk.old + 500 }
+{
+    match form {
+        Form::Words => add_kept_words(chunk, kept),
+        Form::Json => add_kept_facts(chunk, kept),
+    }
+}
+
 // Returns the text before the first setting of a report, or before the other.
-fn heading_of(form: Form, origins: &Origins, heading: Heading) -> Chunk
+fn heading_of<A: Allocator>(
+    form: Form,
+    origins: &Origins,
+    machine: Option<&Machine<A>>,
+    heading: Heading,
+) -> Chunk
     ensures { result
-        ≡ heading_text form origins.now heading.first heading.named heading.setting }
+        ≡ heading_text form origins.now (option_map (λ m. file_of m.now) machine.entry)
+        heading.first heading.named heading.setting }
 {
     let mut chunk = Chunk::new();
     if heading.first {
         chunk.add_text(opening(form));
         add_origins(&mut chunk, form, origins);
+        add_kept(&mut chunk, form, &kept_in(machine));
     }
     if heading.named {
         chunk.add_text(setting_line(form, heading.setting));
@@ -77,17 +108,19 @@ fn heading_of(form: Form, origins: &Origins, heading: Heading) -> Chunk
     chunk
 }
 
-pub(crate) fn write_heading<W: Sink>(
+pub(crate) fn write_heading<A: Allocator, W: Sink>(
     form: Form,
     origins: &Origins,
+    machine: Option<&Machine<A>>,
     heading: Heading,
     output: &mut W,
 ) -> Result<(), WriteFault>
     ensures { Writes (W.written output.old) (W.written output.new) (W.failures output.old)
         (W.failures output.new) result
-        (heading_text form origins.now heading.first heading.named heading.setting) }
+        (heading_text form origins.now (option_map (λ m. file_of m.now) machine.entry)
+        heading.first heading.named heading.setting) }
 {
-    heading_of(form, origins, heading).write_out(output)
+    heading_of(form, origins, machine, heading).write_out(output)
 }
 
 // Says the number of the reported fault, in words with `ngc explain`.

@@ -9,6 +9,8 @@ use Rattle.ngc_machine_files.specs.Machine.{MachineFile}
 use Rattle.ngc_machine_files.specs.declared.machine.ArcFeed.{ArcFeed}
 use Rattle.ngc_machine_files.specs.declared.machine.ArcFeed.TheVariants as arc_feeds
 use Rattle.ngc_machine_files.specs.declared.machine.Fixture.{Fixture}
+use Rattle.ngc_machine_files.specs.declared.machine.Rapids.{Rapids}
+use Rattle.ngc_machine_files.specs.declared.machine.Rapids.TheVariants as ways
 use Rattle.ngc_machine_files.specs.declared.parts.Part.{Part}
 use Rattle.ngc_machine_files.specs.declared.tools.Tool.{Tool}
 use Rattle.ngc_setup_sheet.specs.Figures.{steps_a_millimetre, millimetres_a_minute, acceleration}
@@ -76,6 +78,19 @@ arc_feed_facts m = place_facts m.arc_feed
 abbrev pub changer_facts : MachineFile → List Line
 changer_facts m = line_where m.changer (lines.Fact facts.Changer figures.ByMachine)
 
+-- the margins, unless they are 0, and the way of traverses, unless it is straight
+abbrev pub is_free : Rapids → Bool
+is_free ways.Straight = false
+is_free ways.Free = true
+
+abbrev pub margin_facts : MachineFile → List Line
+margin_facts m =
+    line_where (not (int_eq m.margins.fixtures (pos 0)))
+    (lines.Fact facts.Margin (figures.Length m.margins.fixtures)) ++
+    (line_where (not (int_eq m.margins.travel (pos 0)))
+    (lines.Fact facts.TravelMargin (figures.Length m.margins.travel)) ++
+    line_where (is_free m.rapids) (lines.Fact facts.Rapids figures.AnyWay))
+
 abbrev pub rate_facts : MachineFile → List Line
 rate_facts m =
     lines.Fact facts.Acceleration (figures.Acceleration (acceleration m m.change)) ∷
@@ -136,8 +151,8 @@ machine_warnings m =
 unfoldable pub machine_lines : MachineFile → Reach → List Line
 machine_lines m r =
     step_facts m ++ (jump_facts m ++ (rate_facts m ++ (ring_facts m ++ (arc_feed_facts m ++
-    (changer_facts m ++ (machine_places m ++
-    (origins_from m r systems.First m.origins ++ (corner_notes m ++ machine_warnings m))))))))
+    (changer_facts m ++ (margin_facts m ++ (machine_places m ++
+    (origins_from m r systems.First m.origins ++ (corner_notes m ++ machine_warnings m)))))))))
 
 -- ---- fixtures
 

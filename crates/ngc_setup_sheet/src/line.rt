@@ -34,6 +34,12 @@ pub enum Fact {
     ArcFeed,
     /// By what the tools are changed.
     Changer,
+    /// How far programs keep from fixtures.
+    Margin,
+    /// How far they keep from the travel limits.
+    TravelMargin,
+    /// The way to the end of a traverse.
+    Rapids,
     Acceleration,
     /// The greatest acceleration towards the centre of an arc that is aimed at.
     ArcAcceleration,
@@ -69,6 +75,8 @@ pub enum Figure {
     ByPlaceWithTurn,
     /// The machine itself, without a person.
     ByMachine,
+    /// Any way within the box of a traverse's ends.
+    AnyWay,
     /// In thousandths of a millimetre per minute.
     Speed(u128),
     /// In thousandths of a millimetre per second squared.

@@ -7,7 +7,7 @@ ghost use Rattle.ngc_setup_sheet.specs.Reaches.{IsReach};
 ghost use Rattle.ngc_fixed_length.specs.declared.modes.System.TheVariants as systems;
 ghost use Rattle.ngc_setup_sheet.specs.declared.line.Figure.TheVariants as figures;
 ghost use Rattle.ngc_setup_sheet.specs.Sheets.{line_where, warned, from, axis_speed, step_facts};
-ghost use Rattle.ngc_setup_sheet.specs.Sheets.{jump_facts, ring_facts, arc_feed_facts, changer_facts, rate_facts, machine_places, corner_notes};
+ghost use Rattle.ngc_setup_sheet.specs.Sheets.{jump_facts, ring_facts, arc_feed_facts, changer_facts, is_free, margin_facts, rate_facts, machine_places, corner_notes};
 ghost use Rattle.ngc_setup_sheet.specs.Sheets.{is_zero, origin_lines, next_system, origins_from};
 ghost use Rattle.ngc_setup_sheet.specs.Sheets.{machine_warnings, machine_lines, fixture_facts};
 ghost use Rattle.ngc_setup_sheet.specs.Sheets.{fixture_lines, part_line, part_lines, tool_facts};
@@ -23,16 +23,16 @@ use crate::warnings::{
 };
 use arrayvec::ArrayVec;
 use ngc_fixed_length::{Nm, Point3, System};
-use ngc_machine_files::{ArcFeed, Fixture, Machine, Part, Parts, Tool};
+use ngc_machine_files::{ArcFeed, Fixture, Machine, Part, Parts, Rapids, Tool};
 use std::alloc::Allocator;
 
 /// Space for the lines of a machine, of a fixture or of a tool.
-pub(crate) type Lines = ArrayVec<Line, 48>;
+pub(crate) type Lines = ArrayVec<Line, 52>;
 
 const SHORT_TRAVEL: i64 = 10_000_000;
 
 fn add_all(lines: &mut Lines, told: &[Line])
-    requires { array_vec_len lines.old + length told.now ≤ 48 }
+    requires { array_vec_len lines.old + length told.now ≤ 52 }
     ensures items { lines.new.items ≡ lines.old.items ++ told.now }
     ensures count { array_vec_len lines.new ≡ array_vec_len lines.old + length told.now }
 {
@@ -41,7 +41,7 @@ fn add_all(lines: &mut Lines, told: &[Line])
 
 /// Adds a line if a condition holds.
 fn add_where(lines: &mut Lines, holds: bool, line: Line)
-    requires { array_vec_len lines.old < 48 }
+    requires { array_vec_len lines.old < 52 }
     ensures items { lines.new.items ≡ lines.old.items ++ line_where holds line }
     ensures few { array_vec_len lines.new ≤ array_vec_len lines.old + 1 }
 {
@@ -51,7 +51,7 @@ fn add_where(lines: &mut Lines, holds: bool, line: Line)
 }
 
 fn warn(lines: &mut Lines, wrong: bool, warning: Warning)
-    requires { array_vec_len lines.old < 48 }
+    requires { array_vec_len lines.old < 52 }
     ensures items { lines.new.items ≡ lines.old.items ++ warned wrong warning }
     ensures few { array_vec_len lines.new ≤ array_vec_len lines.old + 1 }
 {
@@ -92,7 +92,7 @@ fn step_facts<A: Allocator>(machine: &Machine<A>) -> [Line; 6]
 }
 
 fn add_jump<A: Allocator>(lines: &mut Lines, machine: &Machine<A>)
-    requires { array_vec_len lines.old < 48 }
+    requires { array_vec_len lines.old < 52 }
     ensures items { lines.new.items ≡ lines.old.items ++ jump_facts (file_of machine.now) }
     ensures few { array_vec_len lines.new ≤ array_vec_len lines.old + 1 }
 {
@@ -101,7 +101,7 @@ fn add_jump<A: Allocator>(lines: &mut Lines, machine: &Machine<A>)
 }
 
 fn add_ring<A: Allocator>(lines: &mut Lines, machine: &Machine<A>)
-    requires { array_vec_len lines.old < 48 }
+    requires { array_vec_len lines.old < 52 }
     ensures items { lines.new.items ≡ lines.old.items ++ ring_facts (file_of machine.now) }
     ensures few { array_vec_len lines.new ≤ array_vec_len lines.old + 1 }
 {
@@ -110,7 +110,7 @@ fn add_ring<A: Allocator>(lines: &mut Lines, machine: &Machine<A>)
 }
 
 fn add_arc_feed<A: Allocator>(lines: &mut Lines, machine: &Machine<A>)
-    requires { array_vec_len lines.old < 48 }
+    requires { array_vec_len lines.old < 52 }
     ensures items { lines.new.items ≡ lines.old.items ++ arc_feed_facts (file_of machine.now) }
     ensures few { array_vec_len lines.new ≤ array_vec_len lines.old + 1 }
 {
@@ -124,7 +124,7 @@ fn add_arc_feed<A: Allocator>(lines: &mut Lines, machine: &Machine<A>)
 }
 
 fn add_changer<A: Allocator>(lines: &mut Lines, machine: &Machine<A>)
-    requires { array_vec_len lines.old < 48 }
+    requires { array_vec_len lines.old < 52 }
     ensures items { lines.new.items ≡ lines.old.items ++ changer_facts (file_of machine.now) }
     ensures few { array_vec_len lines.new ≤ array_vec_len lines.old + 1 }
 {
@@ -133,6 +133,39 @@ fn add_changer<A: Allocator>(lines: &mut Lines, machine: &Machine<A>)
         machine.changer,
         Line::Fact(Fact::Changer, Figure::ByMachine),
     );
+}
+
+fn add_margins<A: Allocator>(lines: &mut Lines, machine: &Machine<A>)
+    requires { array_vec_len lines.old + 3 ≤ 52 }
+    ensures items { lines.new.items ≡ lines.old.items ++ margin_facts (file_of machine.now) }
+    ensures few { array_vec_len lines.new ≤ array_vec_len lines.old + 3 }
+{
+    let margin = machine.margins.fixtures.nanometres();
+    let travel = machine.margins.travel.nanometres();
+    add_where(
+        lines,
+        margin != 0,
+        Line::Fact(Fact::Margin, Figure::Length(margin)),
+    );
+    add_where(
+        lines,
+        travel != 0,
+        Line::Fact(Fact::TravelMargin, Figure::Length(travel)),
+    );
+    add_where(
+        lines,
+        is_free(machine.rapids),
+        Line::Fact(Fact::Rapids, Figure::AnyWay),
+    );
+}
+
+fn is_free(rapids: Rapids) -> bool
+    ensures { result ≡ is_free rapids }
+{
+    match rapids {
+        Rapids::Straight => false,
+        Rapids::Free => true,
+    }
 }
 
 fn rate_facts<A: Allocator>(machine: &Machine<A>) -> [Line; 5]
@@ -189,7 +222,7 @@ fn add_origin<A: Allocator>(
     system: System,
     origin: &Point3,
 )
-    requires room { array_vec_len lines.old + 2 ≤ 48 }
+    requires room { array_vec_len lines.old + 2 ≤ 52 }
     requires reach { IsReach reach.now }
     ensures items { lines.new.items ≡ lines.old.items
         ++ origin_lines (file_of machine.now) reach.now system origin.now }
@@ -206,7 +239,7 @@ fn add_origin<A: Allocator>(
 }
 
 fn add_corner_note<A: Allocator>(lines: &mut Lines, machine: &Machine<A>)
-    requires { array_vec_len lines.old < 48 }
+    requires { array_vec_len lines.old < 52 }
     ensures items { lines.new.items ≡ lines.old.items ++ corner_notes (file_of machine.now) }
     ensures few { array_vec_len lines.new ≤ array_vec_len lines.old + 1 }
 {
@@ -236,7 +269,7 @@ fn add_origins<A: Allocator>(
     reach: &Reach,
     origins: &[Point3; 9],
 )
-    requires room { array_vec_len lines.old + 18 ≤ 48 }
+    requires room { array_vec_len lines.old + 18 ≤ 52 }
     requires reach { IsReach reach.now }
     ensures items { lines.new.items ≡ lines.old.items
         ++ origins_from (file_of machine.now) reach.now systems.First origins.now }
@@ -250,7 +283,7 @@ fn add_origins<A: Allocator>(
 }
 
 fn warn_of_machine<A: Allocator>(lines: &mut Lines, machine: &Machine<A>)
-    requires { array_vec_len lines.old + 6 ≤ 48 }
+    requires { array_vec_len lines.old + 6 ≤ 52 }
     ensures { lines.new.items ≡ lines.old.items ++ machine_warnings (file_of machine.now) }
 {
     let (low, high) = (machine.low, machine.high);
@@ -286,6 +319,7 @@ pub(crate) fn machine_lines<A: Allocator>(machine: &Machine<A>, reach: &Reach) -
     add_ring(&mut lines, machine);
     add_arc_feed(&mut lines, machine);
     add_changer(&mut lines, machine);
+    add_margins(&mut lines, machine);
     add_all(&mut lines, &machine_places(machine));
     add_origins(&mut lines, machine, reach, &machine.origins);
     add_corner_note(&mut lines, machine);
@@ -337,7 +371,7 @@ fn part_line(foot: i64, part: &Part) -> Line
 }
 
 fn add_parts(lines: &mut Lines, foot: Nm, parts: &Parts)
-    requires { array_vec_len lines.old + 4 ≤ 48 }
+    requires { array_vec_len lines.old + 4 ≤ 52 }
     ensures items { lines.new.items ≡ lines.old.items ++ part_lines foot parts.now }
     ensures few { array_vec_len lines.new ≤ array_vec_len lines.old + 4 }
 {

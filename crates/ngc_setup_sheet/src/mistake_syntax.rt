@@ -36,6 +36,12 @@ fn asked(rule: Rule) -> &'static [u8]
             b"In version 2 it must be 0, 1 or 2, or left out: 1 where arcs run at their feed at every place, 2 where they keep `turn` there too. Version 1 has no such key.\n",
         Rule::Changer =>
             b"In version 2 it must be 0 or 1, or left out: 1 where the machine changes tools by itself. Version 1 has no such key.\n",
+        Rule::Margin =>
+            b"In version 2 it must be a whole number from 0 to 100,000,000, or left out: how far programs keep from every fixture, in nm. Version 1 has no such key.\n",
+        Rule::TravelMargin =>
+            b"In version 2 it must be a whole number from 0 to 100,000,000, or left out: how far programs keep from the travel limits, in nm. Version 1 has no such key.\n",
+        Rule::Rapids =>
+            b"In version 2 it must be \"straight\" or \"free\", or left out: the way that the control takes to the end of a traverse. Version 1 has no such key.\n",
         Rule::Change =>
             b"It must be a whole number from 1 to 1,000,000: how much the rate may change in a tick, in millionths of a step a tick.\n",
         Rule::Corner =>
@@ -85,11 +91,11 @@ fn asked(rule: Rule) -> &'static [u8]
 #[tactic(auto, unfolding(crate::specs::MistakeTexts::known_text))]
 fn known(section: Section) -> &'static [u8]
     ensures text { result.now ≡ known_text section }
-    ensures short { length result.now ≤ 240 }
+    ensures short { length result.now ≤ 290 }
 {
     match section {
         Section::Machine =>
-            b"Known are `version`, `step`, `ticks_per_second`, `max_rate`, `change`, `corner`, `turn`, `low`, `high`, `start`, `home28`, `home30`, `origins`, `fixture`, and in version 2 `axis_rate`, `jump`, `ring`, `arc_feed` and `changer`.\n",
+            b"Known are `version`, `step`, `ticks_per_second`, `max_rate`, `change`, `corner`, `turn`, `low`, `high`, `start`, `home28`, `home30`, `origins`, `fixture`, and in version 2 `axis_rate`, `jump`, `ring`, `arc_feed`, `changer`, `margin`, `travel_margin` and `rapids`.\n",
         Section::FirstFixture(_) => b"Known are `low` and `high`.\n",
         Section::SecondFixture(_) => b"Known are `low`, `high` and `name`.\n",
         Section::Tools => b"Known are `version` and `tool`.\n",
@@ -135,11 +141,11 @@ fn add_section(chunk: &mut Chunk, section: Section)
 
 /// Adds what is said of a key, and the requirement.
 fn add_sentence(chunk: &mut Chunk, section: Section, key: &[u8], said: &[u8], asked: &[u8])
-    requires room { length chunk.old + 680 ≤ CHUNK_SIZE }
+    requires room { length chunk.old + 730 ≤ CHUNK_SIZE }
     requires said { length said.now ≤ 10 }
-    requires asked { length asked.now ≤ 240 }
+    requires asked { length asked.now ≤ 290 }
     ensures text { chunk.new ≡ chunk.old ++ sentence_text section key.now said.now asked.now }
-    ensures short { length chunk.new ≤ length chunk.old + 680 }
+    ensures short { length chunk.new ≤ length chunk.old + 730 }
 {
     add_section(chunk, section);
     chunk.add_text(b" key `");

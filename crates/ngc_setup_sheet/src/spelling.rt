@@ -89,6 +89,9 @@ fn fact(fact: &Fact) -> &'static [u8]
         Fact::Ring => b"  commands in the ring  ",
         Fact::ArcFeed => b"  feed on arcs          ",
         Fact::Changer => b"  tools are changed     ",
+        Fact::Margin => b"  margin to fixtures    ",
+        Fact::TravelMargin => b"  margin to the limits  ",
+        Fact::Rapids => b"  traverses take        ",
         Fact::Acceleration => b"  acceleration          ",
         Fact::ArcAcceleration => b"  acceleration on arcs  ",
         Fact::Speed(Axis::X) => b"  speed of X            ",
@@ -132,6 +135,7 @@ fn say_figure<W: Sink>(figure: &Figure, page: &mut Page, output: &mut W)
         Figure::ByPlace => say!(page, output; b"at each place"),
         Figure::ByPlaceWithTurn => { say!(page, output; b"at each place, as is the acceleration") }
         Figure::ByMachine => say!(page, output; b"by the machine"),
+        Figure::AnyWay => say!(page, output; b"any way within the box of their ends"),
         Figure::Speed(number) => { say!(page, output; Part::Thousandths(*number), b" mm/min") }
         Figure::Acceleration(number) => {
             say!(page, output; Part::Thousandths(*number), b" mm/s^2")

@@ -222,13 +222,13 @@ From bytes options view old new outcome setup text named =
 pub plain_files : (bytes after : FileBytes) (options : DrawOptions) (view : View) (shop : Shop) (old new : Option (List ℕ))
     (outcome : Result (Unit {0}) AnswerFault) (P : List ℕ → Type 0)
     → option_map (λ n. n.now) options.certificate ≡ None
-    → PlacedResultIs bytes (Some options.machine.now) (Some options.tools.now) options.origins (Ok shop) → KeepsFiles bytes after
+    → PlacedResultIs bytes (Some options.machine.now) (Some options.tools.now) options.changes (Ok shop) → KeepsFiles bytes after
     → IfSome (after (option_map (λ n. n.now) options.program)) P
     → ((a : List ℕ) → P a → DrawsProgram (setup_of shop.machine shop.tools) a options.delete (look_of options view) old new outcome)
     → DrawsFrom bytes options view old new outcome
 unfolding From
 plain_files bytes after options view shop old new outcome P is_none said keeps p on =
-    on_placed bytes (Some options.machine.now) (Some options.tools.now) options.origins (setup_of shop.machine shop.tools)
+    on_placed bytes (Some options.machine.now) (Some options.tools.now) options.changes (setup_of shop.machine shop.tools)
     (λ setup. IfSome (bytes (option_map (λ n. n.now) options.program))
     (λ text. From bytes options view old new outcome setup text (option_map (λ n. n.now) options.certificate)))
     said.0 said.1
@@ -246,13 +246,13 @@ plain_files bytes after options view shop old new outcome P is_none said keeps p
 pub given_files : (bytes after later : FileBytes) (options : DrawOptions) (name : List ℕ) (view : View) (shop : Shop) (old new : Option (List ℕ))
     (outcome : Result (Unit {0}) AnswerFault) (P Q : List ℕ → Type 0)
     → option_map (λ n. n.now) options.certificate ≡ Some name
-    → PlacedResultIs bytes (Some options.machine.now) (Some options.tools.now) options.origins (Ok shop) → KeepsFiles bytes after → KeepsNamed after later
+    → PlacedResultIs bytes (Some options.machine.now) (Some options.tools.now) options.changes (Ok shop) → KeepsFiles bytes after → KeepsNamed after later
     → IfSome (after (option_map (λ n. n.now) options.program)) P → IfSome (later (Some name)) Q
     → ((a b : List ℕ) → P a → Q b → DrawsNamed (setup_of shop.machine shop.tools) a b options.delete (look_of options view) old new outcome)
     → DrawsFrom bytes options view old new outcome
 unfolding From
 given_files bytes after later options name view shop old new outcome P Q is_some said keeps named p q on =
-    on_placed bytes (Some options.machine.now) (Some options.tools.now) options.origins (setup_of shop.machine shop.tools)
+    on_placed bytes (Some options.machine.now) (Some options.tools.now) options.changes (setup_of shop.machine shop.tools)
     (λ setup. IfSome (bytes (option_map (λ n. n.now) options.program))
     (λ text. From bytes options view old new outcome setup text (option_map (λ n. n.now) options.certificate)))
     said.0 said.1

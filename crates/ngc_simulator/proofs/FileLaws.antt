@@ -28,23 +28,23 @@ or_of_reading Of _ of = of
 
 pub listed : (bytes after : FileBytes) (options : ListOptions) (shop : Shop) (source : Option (List ℕ)) (old new : Option (List ℕ))
     (outcome : Result (Unit {0}) AnswerFault)
-    → PlacedResultIs bytes (option_map (λ n. n.now) options.machine) (option_map (λ n. n.now) options.tools) options.origins (Ok shop) → KeepsFiles bytes after
+    → PlacedResultIs bytes (option_map (λ n. n.now) options.machine) (option_map (λ n. n.now) options.tools) options.changes (Ok shop) → KeepsFiles bytes after
     → source ≡ after (option_map (λ n. n.now) options.program)
     → IfSome source (λ text. Lists (setup_of shop.machine shop.tools) text options.delete old new outcome) → ListsOn bytes options old new outcome
 listed bytes after options shop source old new outcome said keeps is lists =
-    on_placed bytes _ _ options.origins (setup_of shop.machine shop.tools)
+    on_placed bytes _ _ options.changes (setup_of shop.machine shop.tools)
     (λ setup. IfSome (bytes (option_map (λ n. n.now) options.program)) (λ text. Lists setup text options.delete old new outcome))
     said.0 said.1 (of_file _ source (λ text. Lists (setup_of shop.machine shop.tools) text options.delete old new outcome)
     (is ∙ keeps (option_map (λ n. n.now) options.program)) lists)
 
 pub certified_files : (bytes after : FileBytes) (options : CertifyOptions) (shop : Shop) (source : Option (List ℕ)) (old new : Option (List ℕ))
     (outcome : Result (Unit {0}) AnswerFault)
-    → PlacedResultIs bytes (Some options.machine.now) (Some options.tools.now) options.origins (Ok shop) → KeepsFiles bytes after
+    → PlacedResultIs bytes (Some options.machine.now) (Some options.tools.now) options.changes (Ok shop) → KeepsFiles bytes after
     → source ≡ after (option_map (λ n. n.now) options.program)
     → IfSome source (λ text. Certifies (setup_of shop.machine shop.tools) text options.cuts options.format old new outcome) →
     CertifiesOn bytes options old new outcome
 certified_files bytes after options shop source old new outcome said keeps is certifies =
-    on_placed bytes (Some options.machine.now) (Some options.tools.now) options.origins (setup_of shop.machine shop.tools)
+    on_placed bytes (Some options.machine.now) (Some options.tools.now) options.changes (setup_of shop.machine shop.tools)
     (λ setup. IfSome (bytes (option_map (λ n. n.now) options.program)) (λ text. Certifies setup text options.cuts options.format old new outcome))
     said.0 said.1 (of_file _ source (λ text. Certifies (setup_of shop.machine shop.tools) text options.cuts options.format old new outcome)
     (is ∙ keeps (option_map (λ n. n.now) options.program)) certifies)
@@ -57,12 +57,12 @@ both_files bytes first second known source P is_first is_second p =
 
 pub checked_files : (bytes after later : FileBytes) (options : CheckOptions) (shop : Shop) (known source : Option (List ℕ)) (old new : Option (List ℕ))
     (outcome : Result (Unit {0}) AnswerFault)
-    → PlacedResultIs bytes (Some options.machine.now) (Some options.tools.now) options.origins (Ok shop) → KeepsFiles bytes after → KeepsNamed after later
+    → PlacedResultIs bytes (Some options.machine.now) (Some options.tools.now) options.changes (Ok shop) → KeepsFiles bytes after → KeepsNamed after later
     → known ≡ after (option_map (λ n. n.now) options.program) → source ≡ later (Some options.certificate.now)
     → IfSome known (λ text. IfSome source (λ certificate. Checks (setup_of shop.machine shop.tools) text certificate old new outcome))
     → ChecksOn bytes options old new outcome
 checked_files bytes after later options shop known source old new outcome said keeps named is_program is_certificate on_both =
-    on_placed bytes (Some options.machine.now) (Some options.tools.now) options.origins (setup_of shop.machine shop.tools)
+    on_placed bytes (Some options.machine.now) (Some options.tools.now) options.changes (setup_of shop.machine shop.tools)
     (λ setup. IfSome (bytes (option_map (λ n. n.now) options.program))
     (λ text. IfSome (bytes (Some options.certificate.now)) (λ certificate. Checks setup text certificate old new outcome)))
     said.0 said.1
@@ -76,11 +76,11 @@ all_known (Some bytes) P on = on bytes
 
 -- a program that isn't read stops the run before the certificate
 pub unread_files : (bytes after : FileBytes) (options : CheckOptions) (shop : Shop) (source known : Option (List ℕ)) (fault : ReadFault)
-    → PlacedResultIs bytes (Some options.machine.now) (Some options.tools.now) options.origins (Ok shop) → KeepsFiles bytes after
+    → PlacedResultIs bytes (Some options.machine.now) (Some options.tools.now) options.changes (Ok shop) → KeepsFiles bytes after
     → source ≡ after (option_map (λ n. n.now) options.program)
     → IfSome source (λ text. FaultIs fault (program_of text)) → ChecksOn bytes options known known (Err (answers.Read fault))
 unread_files bytes after options shop source known fault said keeps is unread =
-    on_placed bytes (Some options.machine.now) (Some options.tools.now) options.origins (setup_of shop.machine shop.tools)
+    on_placed bytes (Some options.machine.now) (Some options.tools.now) options.changes (setup_of shop.machine shop.tools)
     (λ setup. IfSome (bytes (option_map (λ n. n.now) options.program))
     (λ text. IfSome (bytes (Some options.certificate.now)) (λ certificate. Checks setup text certificate known known (Err (answers.Read fault)))))
     said.0 said.1

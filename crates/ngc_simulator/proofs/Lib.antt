@@ -1,5 +1,7 @@
 -- Programs for other controls, adapted.
 mod AdaptLaws
+-- A refused file is refused with changes too, and the report of it is the same.
+mod PlacedRefusals
 -- The result of listing a file, from the results of its parts.
 pub mod ListLaws
 -- The text that the second sink takes.

@@ -95,13 +95,13 @@ output_failed (live.Write e) old new rises = rises
 
 pub lived_files : (bytes after later : FileBytes) (options : LiveOptions) (form : LiveForm) (shop : Shop) (old new : Option (List ℕ))
     (outcome : Result (Unit {0}) AnswerFault) (P Q : List ℕ → Type 0)
-    → PlacedResultIs bytes (Some options.machine.now) (Some options.tools.now) options.origins (Ok shop) → KeepsFiles bytes after → KeepsNamed after later
+    → PlacedResultIs bytes (Some options.machine.now) (Some options.tools.now) options.changes (Ok shop) → KeepsFiles bytes after → KeepsNamed after later
     → IfSome (after (Some options.program.now)) P → IfSome (later (Some options.certificate.now)) Q
     → ((a b : List ℕ) → P a → Q b →
     (rest : Option (List ℕ)) × Lives (live_request options form) (setup_of shop.machine shop.tools) a b options.delete (bytes None) rest old new outcome)
     → LivesOnFiles bytes options form old new outcome
 lived_files bytes after later options form shop old new outcome P Q said keeps named p q on =
-    on_placed bytes (Some options.machine.now) (Some options.tools.now) options.origins (setup_of shop.machine shop.tools)
+    on_placed bytes (Some options.machine.now) (Some options.tools.now) options.changes (setup_of shop.machine shop.tools)
     (λ setup. IfSome (bytes (Some options.program.now))
     (λ a. IfSome (bytes (Some options.certificate.now))
     (λ b. (rest : Option (List ℕ)) × Lives (live_request options form) setup a b options.delete (bytes None) rest old new outcome)))

@@ -88,12 +88,12 @@ requested_placing options system shop request source old new outcome is written 
 
 pub placed_files : (bytes after : FileBytes) (options : PlaceOptions) (system : System) (shop : Shop) (source : Option (List ℕ)) (old new : Option (List ℕ))
     (outcome : Result (Unit {0}) AnswerFault)
-    → PlacedResultIs bytes (Some options.machine.now) (Some options.tools.now) options.origins (Ok shop) → KeepsFiles bytes after
+    → PlacedResultIs bytes (Some options.machine.now) (Some options.tools.now) options.changes (Ok shop) → KeepsFiles bytes after
     → source ≡ after (option_map (λ n. n.now) options.program)
     → IfSome source (λ text. PlaceWritten (setup_of shop.machine shop.tools) text (place_request options system) old new outcome)
     → PlaceWrittenOn bytes options system old new outcome
 placed_files bytes after options system shop source old new outcome said keeps is written =
-    on_placed bytes (Some options.machine.now) (Some options.tools.now) options.origins (setup_of shop.machine shop.tools)
+    on_placed bytes (Some options.machine.now) (Some options.tools.now) options.changes (setup_of shop.machine shop.tools)
     (λ setup. IfSome (bytes (option_map (λ n. n.now) options.program)) (λ text. PlaceWritten setup text (place_request options system) old new outcome))
     said.0 said.1 (of_file _ source (λ text. PlaceWritten (setup_of shop.machine shop.tools) text (place_request options system) old new outcome)
     (is ∙ keeps (option_map (λ n. n.now) options.program)) written)

@@ -232,11 +232,11 @@ asked options shop request source old new outcome is reports =
 
 pub reported_files : (bytes after : FileBytes) (options : ReportOptions) (shop : Shop) (source : Option (List ℕ)) (old new : Option (List ℕ))
     (outcome : Result (Unit {0}) AnswerFault)
-    → PlacedResultIs bytes (Some options.machine.now) (Some options.tools.now) options.origins (Ok shop) → KeepsFiles bytes after
+    → PlacedResultIs bytes (Some options.machine.now) (Some options.tools.now) options.changes (Ok shop) → KeepsFiles bytes after
     → source ≡ after (option_map (λ n. n.now) options.program)
     → IfSome source (λ text. Reports (setup_of shop.machine shop.tools) text (request_of options) old new outcome) → ReportsOn bytes options old new outcome
 reported_files bytes after options shop source old new outcome said keeps is reports =
-    on_placed bytes (Some options.machine.now) (Some options.tools.now) options.origins (setup_of shop.machine shop.tools)
+    on_placed bytes (Some options.machine.now) (Some options.tools.now) options.changes (setup_of shop.machine shop.tools)
     (λ setup. IfSome (bytes (option_map (λ n. n.now) options.program)) (λ text. Reports setup text (request_of options) old new outcome))
     said.0 said.1 (of_file _ source (λ text. Reports (setup_of shop.machine shop.tools) text (request_of options) old new outcome)
     (is ∙ keeps (option_map (λ n. n.now) options.program)) reports)

@@ -149,12 +149,12 @@ on_files first second third known source events P Q R S is_first is_second is_th
 -- of what was read: the shop, then the program, the certificate and the events
 pub ran_files : (bytes after later last : FileBytes) (options : RunOptions) (writing : Writing) (shop : Shop) (old new : Option (List ℕ)) (outcome : Result Report AnswerFault)
     (P Q R : List ℕ → Type 0)
-    → PlacedResultIs bytes (Some options.machine.now) (Some options.tools.now) options.origins (Ok shop) → KeepsFiles bytes after → KeepsNamed after later → KeepsFiles later last
+    → PlacedResultIs bytes (Some options.machine.now) (Some options.tools.now) options.changes (Ok shop) → KeepsFiles bytes after → KeepsNamed after later → KeepsFiles later last
     → IfSome (after (option_map (λ n. n.now) options.program)) P → IfSome (later (Some options.certificate.now)) Q → IfSome (last (Some options.events.now)) R
     → ((a b e : List ℕ) → P a → Q b → R e → Runs writing (setup_of shop.machine shop.tools) a b e options.delete old new outcome)
     → RunsOn bytes options writing old new outcome
 ran_files bytes after later last options writing shop old new outcome P Q R said keeps named kept p q r on =
-    on_placed bytes (Some options.machine.now) (Some options.tools.now) options.origins (setup_of shop.machine shop.tools)
+    on_placed bytes (Some options.machine.now) (Some options.tools.now) options.changes (setup_of shop.machine shop.tools)
     (λ setup. IfSome (bytes (option_map (λ n. n.now) options.program))
     (λ a. IfSome (bytes (Some options.certificate.now))
     (λ b. IfSome (bytes (Some options.events.now)) (λ e. Runs writing setup a b e options.delete old new outcome))))
@@ -214,12 +214,12 @@ on_two_files first second known source P Q S is_first is_second on p q =
 -- of what was read: the shop, then the program and the certificate
 pub went_files : (bytes after later : FileBytes) (options : RunThroughOptions) (writing : Writing) (shop : Shop) (old new : Option (List ℕ)) (outcome : Result Report AnswerFault)
     (P Q : List ℕ → Type 0)
-    → PlacedResultIs bytes (Some options.machine.now) (Some options.tools.now) options.origins (Ok shop) → KeepsFiles bytes after → KeepsNamed after later
+    → PlacedResultIs bytes (Some options.machine.now) (Some options.tools.now) options.changes (Ok shop) → KeepsFiles bytes after → KeepsNamed after later
     → IfSome (after (option_map (λ n. n.now) options.program)) P → IfSome (later (Some options.certificate.now)) Q
     → ((a b : List ℕ) → P a → Q b → RunsThrough writing (setup_of shop.machine shop.tools) a b options.delete old new outcome)
     → RunsThroughOn bytes options writing old new outcome
 went_files bytes after later options writing shop old new outcome P Q said keeps named p q on =
-    on_placed bytes (Some options.machine.now) (Some options.tools.now) options.origins (setup_of shop.machine shop.tools)
+    on_placed bytes (Some options.machine.now) (Some options.tools.now) options.changes (setup_of shop.machine shop.tools)
     (λ setup. IfSome (bytes (option_map (λ n. n.now) options.program))
     (λ a. IfSome (bytes (Some options.certificate.now)) (λ b. RunsThrough writing setup a b options.delete old new outcome)))
     said.0 said.1
@@ -229,8 +229,8 @@ went_files bytes after later options writing shop old new outcome P Q said keeps
 
 -- the time that is reported for it
 pub run_timed : (bytes : FileBytes) (options : RunThroughOptions) (shop : Shop) (report : Report) (time : RunTime)
-    → PlacedResultIs bytes (Some options.machine.now) (Some options.tools.now) options.origins (Ok shop)
+    → PlacedResultIs bytes (Some options.machine.now) (Some options.tools.now) options.changes (Ok shop)
     → time.ticks ≡ report.ticks → time.ticks_per_second ≡ shop.machine.ticks_per_second → IsTimeOn bytes options report time
 run_timed bytes options shop report time said ticks per_second =
-    on_placed bytes (Some options.machine.now) (Some options.tools.now) options.origins (setup_of shop.machine shop.tools) (λ setup. IsTimeOf setup report time)
+    on_placed bytes (Some options.machine.now) (Some options.tools.now) options.changes (setup_of shop.machine shop.tools) (λ setup. IsTimeOf setup report time)
     said.0 said.1 (record { ticks = ticks; ticks_per_second = per_second })

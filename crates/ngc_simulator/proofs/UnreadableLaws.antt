@@ -63,7 +63,7 @@ told_begun form name known items slice old new fault stopped same read named of_
 -- ---- on the files that the command line names
 
 module _ (bytes after : FileBytes) (options : ReportOptions) (shop : Shop) (source old : Option (List ℕ))
-    (said : PlacedResultIs bytes (Some options.machine.now) (Some options.tools.now) options.origins (Ok shop)) (keeps : KeepsFiles bytes after)
+    (said : PlacedResultIs bytes (Some options.machine.now) (Some options.tools.now) options.changes (Ok shop)) (keeps : KeepsFiles bytes after)
     (is_source : source ≡ after (option_map (λ n. n.now) options.program)) where
   abbrev Known : (List ℕ → Type 0) → Type 0
   Known P = IfSome (bytes (option_map (λ n. n.now) options.program)) P
@@ -76,7 +76,7 @@ module _ (bytes after : FileBytes) (options : ReportOptions) (shop : Shop) (sour
 
   reports_on : (new : Option (List ℕ)) (outcome : Result (Unit {0}) AnswerFault) → Known (Reported new outcome) → ReportsOn bytes options old new outcome
   reports_on new outcome reports =
-      on_placed bytes (Some options.machine.now) (Some options.tools.now) options.origins (setup_of shop.machine shop.tools)
+      on_placed bytes (Some options.machine.now) (Some options.tools.now) options.changes (setup_of shop.machine shop.tools)
       (λ setup. Known (λ text. Reports setup text (request_of options) old new outcome)) said.0 said.1 reports
 
   abbrev Prints : Option (List ℕ) → AnswerFault → List ℕ → Type 0
@@ -84,7 +84,7 @@ module _ (bytes after : FileBytes) (options : ReportOptions) (shop : Shop) (sour
 
   unreadable_on : (new : Option (List ℕ)) (answer : AnswerFault) → Known (Prints new answer) → UnreadableOn bytes options old new answer
   unreadable_on new answer tells =
-      on_placed bytes (Some options.machine.now) (Some options.tools.now) options.origins (setup_of shop.machine shop.tools)
+      on_placed bytes (Some options.machine.now) (Some options.tools.now) options.changes (setup_of shop.machine shop.tools)
       (λ setup. Known (Prints new answer)) said.0 said.1 tells
 
   -- where nothing is written besides the report
@@ -129,7 +129,7 @@ module _ (bytes after : FileBytes) (options : ReportOptions) (shop : Shop) (sour
   pub faults_comes : (new : Option (List ℕ)) (fault : AnswerFault) → options.all ≡ true → IfSome source (ToldAll new fault) → ReportResult bytes options old new (Err fault)
   faults_comes new fault all tells = inr (inr (inr (
     all,
-    on_placed bytes (Some options.machine.now) (Some options.tools.now) options.origins (setup_of shop.machine shop.tools)
+    on_placed bytes (Some options.machine.now) (Some options.tools.now) options.changes (setup_of shop.machine shop.tools)
         (λ setup. Known (λ text. ReportsFaults setup (requested_form options.json) text old new fault)) said.0 said.1
         (known (ToldAll new fault) tells),
   )))

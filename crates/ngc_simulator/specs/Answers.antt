@@ -54,8 +54,9 @@ use Rattle.ngc_simulator.specs.Lives.{Lives, live_named}
 use Rattle.ngc_simulator.specs.Running.{Runs, RunsThrough}
 use Rattle.ngc_canonical.specs.State.{Setup}
 use Rattle.ngc_inputs.specs.Setups.{FileBytes, OnPlaced, OnSetup}
-use Rattle.ngc_inputs.specs.Shops.{RefusesShop}
-use Rattle.ngc_simulator.specs.Mistaken.{ReportsRefusal}
+use Rattle.ngc_margins.specs.declared.changes.Changes.{Changes}
+use Rattle.ngc_inputs.specs.Shops.{RefusesPlaced, RefusesShop}
+use Rattle.ngc_simulator.specs.Mistaken.{ReportsPlacedRefusal, ReportsRefusal}
 use Rattle.ngc_program_report.specs.Times.{time_line}
 use Rattle.ngc_simulator.specs.Unreadable.{ReportsUnreadableFile}
 use Rattle.ngc_simulator.specs.AllFaults.{ReportsFaults}
@@ -72,14 +73,14 @@ abbrev pub ListsOn : FileBytes → ListOptions → Option (List ℕ) → Option 
     Result (Unit {0}) AnswerFault → Type 0
 ListsOn bytes options old new outcome =
     OnPlaced bytes (option_map (λ name. name.now) options.machine)
-    (option_map (λ name. name.now) options.tools) options.origins (λ setup.
+    (option_map (λ name. name.now) options.tools) options.changes (λ setup.
     IfSome (bytes (option_map (λ name. name.now) options.program))
     (λ text. Lists setup text options.delete old new outcome))
 
 abbrev pub CertifiesOn : FileBytes → CertifyOptions → Option (List ℕ) → Option (List ℕ) →
     Result (Unit {0}) AnswerFault → Type 0
 CertifiesOn bytes options old new outcome =
-    OnPlaced bytes (Some options.machine.now) (Some options.tools.now) options.origins
+    OnPlaced bytes (Some options.machine.now) (Some options.tools.now) options.changes
     (λ setup.
     IfSome (bytes (option_map (λ name. name.now) options.program))
     (λ text. Certifies setup text options.cuts options.format old new outcome))
@@ -87,7 +88,7 @@ CertifiesOn bytes options old new outcome =
 abbrev pub ChecksOn : FileBytes → CheckOptions → Option (List ℕ) → Option (List ℕ) →
     Result (Unit {0}) AnswerFault → Type 0
 ChecksOn bytes options old new outcome =
-    OnPlaced bytes (Some options.machine.now) (Some options.tools.now) options.origins
+    OnPlaced bytes (Some options.machine.now) (Some options.tools.now) options.changes
     (λ setup.
     IfSome (bytes (option_map (λ name. name.now) options.program)) (λ text.
     IfSome (bytes (Some options.certificate.now))
@@ -96,7 +97,7 @@ ChecksOn bytes options old new outcome =
 abbrev pub RunsOn : FileBytes → RunOptions → Writing → Option (List ℕ) → Option (List ℕ) →
     Result Report AnswerFault → Type 0
 RunsOn bytes options writing old new outcome =
-    OnPlaced bytes (Some options.machine.now) (Some options.tools.now) options.origins
+    OnPlaced bytes (Some options.machine.now) (Some options.tools.now) options.changes
     (λ setup.
     IfSome (bytes (option_map (λ name. name.now) options.program)) (λ text.
     IfSome (bytes (Some options.certificate.now)) (λ certificate.
@@ -107,7 +108,7 @@ RunsOn bytes options writing old new outcome =
 abbrev pub RunsThroughOn : FileBytes → RunThroughOptions → Writing → Option (List ℕ) →
     Option (List ℕ) → Result Report AnswerFault → Type 0
 RunsThroughOn bytes options writing old new outcome =
-    OnPlaced bytes (Some options.machine.now) (Some options.tools.now) options.origins
+    OnPlaced bytes (Some options.machine.now) (Some options.tools.now) options.changes
     (λ setup.
     IfSome (bytes (option_map (λ name. name.now) options.program)) (λ text.
     IfSome (bytes (Some options.certificate.now))
@@ -118,7 +119,7 @@ RunsThroughOn bytes options writing old new outcome =
 abbrev pub DrawsFrom : FileBytes → DrawOptions → View → Option (List ℕ) → Option (List ℕ) →
     Result (Unit {0}) AnswerFault → Type 0
 DrawsFrom bytes options view old new outcome =
-    OnPlaced bytes (Some options.machine.now) (Some options.tools.now) options.origins
+    OnPlaced bytes (Some options.machine.now) (Some options.tools.now) options.changes
     (λ setup.
     IfSome (bytes (option_map (λ name. name.now) options.program)) (λ text.
     MatchOption (option_map (λ name. name.now) options.certificate)
@@ -143,14 +144,14 @@ request_of options = record {
   cuts = options.cuts;
   all = options.all;
   form = requested_form options.json;
-  origins = options.origins;
+  origins = options.changes.origins;
   some_cuts = options.some_cuts;
 }
 
 abbrev pub ReportsOn : FileBytes → ReportOptions → Option (List ℕ) → Option (List ℕ) →
     Result (Unit {0}) AnswerFault → Type 0
 ReportsOn bytes options old new outcome =
-    OnPlaced bytes (Some options.machine.now) (Some options.tools.now) options.origins
+    OnPlaced bytes (Some options.machine.now) (Some options.tools.now) options.changes
     (λ setup.
     IfSome (bytes (option_map (λ name. name.now) options.program))
     (λ text. Reports setup text (request_of options) old new outcome))
@@ -160,6 +161,12 @@ ReportsOn bytes options old new outcome =
 abbrev pub StopsEarly : FileBytes → Option (List ℕ) → Option (List ℕ) → Option (List ℕ) →
     Option (List ℕ) → AnswerFault → Type 0
 StopsEarly bytes machine tools old new fault = RefusesShop bytes machine tools fault × Keeps old new
+
+-- so does a machine file that is refused with the changes of the options
+abbrev pub StopsPlaced : FileBytes → Option (List ℕ) → Option (List ℕ) → Changes →
+    Option (List ℕ) → Option (List ℕ) → AnswerFault → Type 0
+StopsPlaced bytes machine tools changes old new fault =
+    RefusesPlaced bytes machine tools changes fault × Keeps old new
 
 -- The result of a command: it is stopped, it does its work, or it fails with one of its faults.
 abbrev pub Comes : (AnswerFault → Type 0) → (AnswerFault → Type 0) →
@@ -172,15 +179,15 @@ Comes Stops MayFail Does (Err fault) = Stops fault ⊎ (MayFail fault × Does (E
 abbrev pub OwnListResult : FileBytes → ListOptions → Option (List ℕ) → Option (List ℕ) →
     Result Done AnswerFault → Type 0
 OwnListResult bytes options old new outcome =
-    Comes (StopsEarly bytes (option_map (λ name. name.now) options.machine)
-    (option_map (λ name. name.now) options.tools) old new) OfListing
+    Comes (StopsPlaced bytes (option_map (λ name. name.now) options.machine)
+    (option_map (λ name. name.now) options.tools) options.changes old new) OfListing
     (ListsOn bytes options old new) outcome
 
 abbrev pub DialectListsOn : FileBytes → ListOptions → Option (List ℕ) → Option (List ℕ) →
     Result Done AnswerFault → Type 0
 DialectListsOn bytes options old new outcome =
     OnPlaced bytes (option_map (λ name. name.now) options.machine)
-    (option_map (λ name. name.now) options.tools) options.origins
+    (option_map (λ name. name.now) options.tools) options.changes
     (λ setup. ListsDialect setup old new outcome)
 
 -- a program for another control: the control is unknown, or the files aren't read, or it is listed
@@ -191,8 +198,8 @@ DialectListResult name bytes options old new (Ok done) =
 DialectListResult name bytes options old new (Err answers.UnknownControl) =
     (named_dialect name ≡ None) × Keeps old new
 DialectListResult name bytes options old new (Err fault) =
-    StopsEarly bytes (option_map (λ name. name.now) options.machine)
-    (option_map (λ name. name.now) options.tools) old new fault
+    StopsPlaced bytes (option_map (λ name. name.now) options.machine)
+    (option_map (λ name. name.now) options.tools) options.changes old new fault
     ⊎ DialectListsOn bytes options old new (Err fault)
 
 abbrev pub ListResultIn : Option (List ℕ) → FileBytes → ListOptions → Option (List ℕ) →
@@ -209,13 +216,15 @@ ListResult bytes options old new outcome =
 abbrev pub CertifyResult : FileBytes → CertifyOptions → Option (List ℕ) → Option (List ℕ) →
     Result Done AnswerFault → Type 0
 CertifyResult bytes options old new outcome =
-    Comes (StopsEarly bytes (Some options.machine.now) (Some options.tools.now) old new)
+    Comes (StopsPlaced bytes (Some options.machine.now) (Some options.tools.now) options.changes
+    old new)
     OfCertifying (CertifiesOn bytes options old new) outcome
 
 abbrev pub CheckResult : FileBytes → CheckOptions → Option (List ℕ) → Option (List ℕ) →
     Result Done AnswerFault → Type 0
 CheckResult bytes options old new outcome =
-    Comes (StopsEarly bytes (Some options.machine.now) (Some options.tools.now) old new)
+    Comes (StopsPlaced bytes (Some options.machine.now) (Some options.tools.now) options.changes
+    old new)
     (OrOfReading OfChecking) (ChecksOn bytes options old new) outcome
 
 -- the output of a run, if the name of the form is known
@@ -239,7 +248,8 @@ abbrev pub RunResult : FileBytes → RunOptions → Option Writing → Option (L
 RunResult bytes options None old new outcome =
     (outcome ≡ Err answers.UnknownForm) × Keeps old new
 RunResult bytes options (Some writing) old new outcome =
-    Comes (StopsEarly bytes (Some options.machine.now) (Some options.tools.now) old new)
+    Comes (StopsPlaced bytes (Some options.machine.now) (Some options.tools.now) options.changes
+    old new)
     (OrOfReading OfRunning) (WithReport (RunsOn bytes options writing old new)) outcome
 
 -- a view that isn't known is rejected before a file is read
@@ -247,7 +257,8 @@ abbrev pub DrawResult : FileBytes → DrawOptions → Option View → Option (Li
     Result Done AnswerFault → Type 0
 DrawResult bytes options None old new outcome = (outcome ≡ Err answers.UnknownView) × Keeps old new
 DrawResult bytes options (Some view) old new outcome =
-    Comes (StopsEarly bytes (Some options.machine.now) (Some options.tools.now) old new)
+    Comes (StopsPlaced bytes (Some options.machine.now) (Some options.tools.now) options.changes
+    old new)
     (OrOfReading OfDrawing) (DrawsFrom bytes options view old new) outcome
 
 abbrev pub ShowResult : FileBytes → ShowOptions → Option (List ℕ) → Option (List ℕ) →
@@ -261,7 +272,7 @@ ShowResult bytes options old new outcome =
 abbrev pub UnreadableOn : FileBytes → ReportOptions → Option (List ℕ) → Option (List ℕ) →
     AnswerFault → Type 0
 UnreadableOn bytes options old new fault =
-    OnPlaced bytes (Some options.machine.now) (Some options.tools.now) options.origins
+    OnPlaced bytes (Some options.machine.now) (Some options.tools.now) options.changes
     (λ setup.
     IfSome (bytes (option_map (λ name. name.now) options.program)) (λ text.
     ReportsUnreadableFile (requested_form options.json)
@@ -271,7 +282,7 @@ UnreadableOn bytes options old new fault =
 abbrev pub FaultsOn : FileBytes → ReportOptions → Option (List ℕ) → Option (List ℕ) →
     AnswerFault → Type 0
 FaultsOn bytes options old new fault = (options.all ≡ true) ×
-    OnPlaced bytes (Some options.machine.now) (Some options.tools.now) options.origins
+    OnPlaced bytes (Some options.machine.now) (Some options.tools.now) options.changes
     (λ setup.
     IfSome (bytes (option_map (λ name. name.now) options.program)) (λ text.
     ReportsFaults setup (requested_form options.json) text old new fault))
@@ -290,8 +301,8 @@ ReportResult bytes options old new (Ok Quietly) = ReportsOn bytes options old ne
 ReportResult bytes options old new (Ok (RunThrough time)) = ⊥
 ReportResult bytes options old new (Ok (WithNotes notes)) = ⊥
 ReportResult bytes options old new (Err fault) =
-    ReportsRefusal (requested_form options.json) bytes (Some options.machine.now)
-    (Some options.tools.now) old new fault ⊎ ReportFails bytes options old new fault
+    ReportsPlacedRefusal (requested_form options.json) bytes (Some options.machine.now)
+    (Some options.tools.now) options.changes old new fault ⊎ ReportFails bytes options old new fault
 
 -- what is requested of `place`, where the system is known
 abbrev pub place_request : PlaceOptions → System → PlaceRequest
@@ -305,7 +316,7 @@ place_request options system = record {
 abbrev pub PlaceWrittenOn : FileBytes → PlaceOptions → System → Option (List ℕ) →
     Option (List ℕ) → Result (Unit {0}) AnswerFault → Type 0
 PlaceWrittenOn bytes options system old new outcome =
-    OnPlaced bytes (Some options.machine.now) (Some options.tools.now) options.origins
+    OnPlaced bytes (Some options.machine.now) (Some options.tools.now) options.changes
     (λ setup.
     IfSome (bytes (option_map (λ name. name.now) options.program))
     (λ text. PlaceWritten setup text (place_request options system) old new outcome))
@@ -316,8 +327,8 @@ abbrev pub PlaceResult : FileBytes → PlaceOptions → Option System → Option
 PlaceResult bytes options None old new outcome =
     (outcome ≡ Err answers.UnknownSystem) × Keeps old new
 PlaceResult bytes options (Some system) old new outcome =
-    Comes (ReportsRefusal (requested_form options.json) bytes (Some options.machine.now)
-    (Some options.tools.now) old new) OfCertifying (PlaceWrittenOn bytes options system old new)
+    Comes (ReportsPlacedRefusal (requested_form options.json) bytes (Some options.machine.now)
+    (Some options.tools.now) options.changes old new) OfCertifying (PlaceWrittenOn bytes options system old new)
     outcome
 
 -- the system that is named, G54 without a name
@@ -331,7 +342,7 @@ pub record IsTimeOf (setup : Setup) (report : Report) (time : RunTime) : Type 0 
 
 abbrev pub IsTimeOn : FileBytes → RunThroughOptions → Report → RunTime → Type 0
 IsTimeOn bytes options report time = OnPlaced bytes (Some options.machine.now)
-    (Some options.tools.now) options.origins
+    (Some options.tools.now) options.changes
     (λ setup. IsTimeOf setup report time)
 
 -- the program reports the time of a run to the end; a form that isn't known is rejected before a
@@ -346,8 +357,8 @@ RunThroughResult bytes options (Some writing) old new (Ok (RunThrough time)) =
     (report : Report) × RunsThroughOn bytes options writing old new (Ok report) ×
     IsTimeOn bytes options report time
 RunThroughResult bytes options (Some writing) old new (Err fault) =
-    StopsEarly bytes (Some options.machine.now) (Some options.tools.now) old new fault
-    ⊎ (OrOfReading OfRunning fault × RunsThroughOn bytes options writing old new (Err fault))
+    StopsPlaced bytes (Some options.machine.now) (Some options.tools.now) options.changes old
+    new fault ⊎ (OrOfReading OfRunning fault × RunsThroughOn bytes options writing old new (Err fault))
 
 -- ---- events on standard input
 
@@ -362,7 +373,7 @@ live_request options form =
 abbrev pub LivesOnFiles : FileBytes → LiveOptions → LiveForm → Option (List ℕ) →
     Option (List ℕ) → Result (Unit {0}) AnswerFault → Type 0
 LivesOnFiles bytes options form old new outcome =
-    OnPlaced bytes (Some options.machine.now) (Some options.tools.now) options.origins
+    OnPlaced bytes (Some options.machine.now) (Some options.tools.now) options.changes
     (λ setup.
     IfSome (bytes (Some options.program.now)) (λ text.
     IfSome (bytes (Some options.certificate.now))
@@ -375,7 +386,8 @@ abbrev pub LiveResult : FileBytes → LiveOptions → Option LiveForm → Option
     Option (List ℕ) → Result Done AnswerFault → Type 0
 LiveResult bytes options None old new outcome = (outcome ≡ Err answers.UnknownForm) × Keeps old new
 LiveResult bytes options (Some form) old new outcome =
-    Comes (StopsEarly bytes (Some options.machine.now) (Some options.tools.now) old new)
+    Comes (StopsPlaced bytes (Some options.machine.now) (Some options.tools.now) options.changes
+    old new)
     (OrOfReading OfLiving) (LivesOnFiles bytes options form old new) outcome
 
 -- ---- programs for other controls

@@ -84,6 +84,7 @@ piece_refusal k (pieces.MeetsFixture i) =
 abbrev pub drawn_refusal : CheckFault → Option RefusedMotion
 drawn_refusal (checks.Program s e) = None
 drawn_refusal (checks.MotionsDiffer s k) = None
+drawn_refusal (checks.Divided s k) = None
 drawn_refusal (checks.Start i) = Some (record { command = 0; fault = 318; fixture = Some i })
 drawn_refusal (checks.Piece s k j e) = piece_refusal k e
 drawn_refusal (checks.ToolChange s k i) =

@@ -15,8 +15,8 @@ use Rattle.ngc_inputs.specs.declared.fault.AnswerFault.TheVariants as answers
 use Rattle.ngc_inputs.specs.declared.setup.Shop.{Shop}
 use Rattle.ngc_program_report.specs.Texts.{ending}
 use Rattle.ngc_inputs.specs.Setups.{FileBytes}
-use Rattle.ngc_inputs.specs.Shops.{PlacedResultIs, ShopResultIs, RefusesShop}
-use Rattle.ngc_origins.specs.Texts.{OriginList}
+use Rattle.ngc_inputs.specs.Shops.{PlacedResultIs, ShopResultIs, RefusesPlaced, RefusesShop}
+use Rattle.ngc_margins.specs.declared.changes.Changes.{Changes}
 
 -- a document has the fault's number alone
 abbrev pub fault_document : ℕ → List ℕ
@@ -60,13 +60,22 @@ ReportResultIs form bytes machine tools old new (Ok shop) =
 ReportResultIs form bytes machine tools old new (Err fault) =
     ReportsRefusal form bytes machine tools old new fault
 
--- the same with these origins in place of the machine's
-abbrev pub PlacedReportResultIs : Form → FileBytes → Option (List ℕ) → Option (List ℕ) → OriginList →
+-- The same with changes of the machine. Nothing is written where a machine file that isn't refused
+-- is refused with the changes.
+abbrev pub ReportsPlacedRefusal : Form → FileBytes → Option (List ℕ) → Option (List ℕ) → Changes →
+    Option (List ℕ) → Option (List ℕ) → AnswerFault → Type 0
+ReportsPlacedRefusal form bytes machine tools changes old new (answers.Write fault) =
+    ReportsRefusal form bytes machine tools old new (answers.Write fault)
+ReportsPlacedRefusal form bytes machine tools changes old new fault =
+    RefusesPlaced bytes machine tools changes fault ×
+    (Keeps old new ⊎ OfMistake form bytes machine tools fault (Appends old new))
+
+abbrev pub PlacedReportResultIs : Form → FileBytes → Option (List ℕ) → Option (List ℕ) → Changes →
     Option (List ℕ) → Option (List ℕ) → Result Shop AnswerFault → Type 0
-PlacedReportResultIs form bytes machine tools origins old new (Ok shop) =
-    PlacedResultIs bytes machine tools origins (Ok shop) × (new ≡ old)
-PlacedReportResultIs form bytes machine tools origins old new (Err fault) =
-    ReportsRefusal form bytes machine tools old new fault
+PlacedReportResultIs form bytes machine tools changes old new (Ok shop) =
+    PlacedResultIs bytes machine tools changes (Ok shop) × (new ≡ old)
+PlacedReportResultIs form bytes machine tools changes old new (Err fault) =
+    ReportsPlacedRefusal form bytes machine tools changes old new fault
 
 -- the result of writing one file's mistake, where the file may not be readable again
 abbrev pub ReportsMistake : ((List ℕ → Type 0) → Type 0) → Option (List ℕ) → Option (List ℕ) →

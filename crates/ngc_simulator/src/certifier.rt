@@ -175,7 +175,7 @@ pub(crate) fn certify_files<F: Files, W: Sink>(
         alloc,
         Some(options.machine),
         Some(options.tools),
-        &options.origins,
+        &options.changes,
         files,
     )?;
     let mut source = open_file(options.program, files)?;

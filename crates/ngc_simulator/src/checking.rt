@@ -66,7 +66,7 @@ pub(crate) fn check_files<F: Files, W: Sink>(
         alloc,
         Some(options.machine),
         Some(options.tools),
-        &options.origins,
+        &options.changes,
         files,
     )?;
     let program = read_program(alloc, options.program, files)?;

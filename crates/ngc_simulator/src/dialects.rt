@@ -103,7 +103,7 @@ pub(crate) fn list_dialect<F: Files, W: Sink>(
         alloc,
         options.machine,
         options.tools,
-        &options.origins,
+        &options.changes,
         files,
     )?;
     let text = source_bytes(alloc, options.program, files)?;

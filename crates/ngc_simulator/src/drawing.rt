@@ -75,7 +75,10 @@ fn drawn_refusal(fault: &CheckFault) -> Option<RefusedMotion>
             fault: 318,
             fixture: Some(*fixture as usize),
         }),
-        CheckFault::Program { .. } | CheckFault::MotionsDiffer { .. } | CheckFault::Memory => None,
+        CheckFault::Program { .. }
+        | CheckFault::MotionsDiffer { .. }
+        | CheckFault::Divided { .. }
+        | CheckFault::Memory => None,
     }
 }
 

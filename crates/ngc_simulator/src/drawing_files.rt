@@ -32,7 +32,7 @@ fn draw_plain<F: Files, W: Sink>(
         alloc,
         Some(options.machine),
         Some(options.tools),
-        &options.origins,
+        &options.changes,
         files,
     )?;
     let program = read_program(alloc, options.program, files)?;
@@ -72,7 +72,7 @@ fn draw_with<F: Files, W: Sink>(
         alloc,
         Some(options.machine),
         Some(options.tools),
-        &options.origins,
+        &options.changes,
         files,
     )?;
     let program = read_program(alloc, options.program, files)?;

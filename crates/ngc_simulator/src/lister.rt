@@ -63,7 +63,7 @@ fn list_own<F: Files, W: Sink>(
         alloc,
         options.machine,
         options.tools,
-        &options.origins,
+        &options.changes,
         files,
     )?;
     let mut source = open_file(options.program, files)?;

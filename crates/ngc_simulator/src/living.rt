@@ -124,7 +124,7 @@ fn live_files<F: Files, W: Sink>(
         alloc,
         Some(options.machine),
         Some(options.tools),
-        &options.origins,
+        &options.changes,
         files,
     )?;
     let program = read_program(alloc, Some(options.program), files)?;

@@ -17,7 +17,7 @@ ghost use Rattle.ngc_inputs.specs.Unread.{setup_input, shop_inputs, unread_by};
 
 use ngc_inputs::{AnswerFault, Files, Shop, bytes_of, read_shop};
 use ngc_machine_files::FileFault;
-use ngc_origins::Origins;
+use ngc_margins::Changes;
 use ngc_program_report::{opening, write_ending};
 use ngc_report::Form;
 use ngc_setup_sheet::{write_machine_mistake, write_tools_mistake};
@@ -186,19 +186,19 @@ pub(crate) fn read_shop_reporting<F: Files, W: Sink>(
     }
 }
 
-/// Returns the machine, with these origins in place of its own, and its tools, or the fault for
+/// Returns the machine, with these changes, and its tools, or the fault for
 /// which there are none, as `read_shop_reporting` does.
 pub(crate) fn read_placed_reporting<F: Files, W: Sink>(
     alloc: Global,
     form: Form,
     machine: &str,
     tools: Option<&str>,
-    origins: &Origins,
+    changes: &Changes,
     files: &mut F,
     output: &mut W,
 ) -> Result<Shop, AnswerFault>
     ensures said { PlacedReportResultIs form (F.bytes files.old) (Some machine.now)
-        (option_map (λ n. n.now) tools.entry) origins.now (W.written output.old)
+        (option_map (λ n. n.now) tools.entry) changes.now (W.written output.old)
         (W.written output.new) result }
     ensures keeps { KeepsFiles (F.bytes files.old) (F.bytes files.new) }
     // The first file that isn't read can't be opened, its source fails, or it is too long.
@@ -208,7 +208,10 @@ pub(crate) fn read_placed_reporting<F: Files, W: Sink>(
     ensures sink { FailsByOutput result (W.failures output.old) (W.failures output.new) }
 {
     match read_shop_reporting(alloc, form, machine, tools, files, output) {
-        Ok(shop) => Ok(shop.with_origins(origins)),
+        Ok(shop) => match shop.with_changes(changes) {
+            Ok(changed) => Ok(changed),
+            Err(fault) => Err(AnswerFault::Machine(fault)),
+        },
         Err(fault) => Err(fault),
     }
 }

@@ -165,8 +165,8 @@ fn place_named<F: Files, W: Sink>(
     let request = request_of(options, system);
     let form = request.form;
     let (machine, tools) = (options.machine, Some(options.tools));
-    let origins = &options.origins;
-    let shop = read_placed_reporting(alloc, form, machine, tools, origins, files, output)?;
+    let changes = &options.changes;
+    let shop = read_placed_reporting(alloc, form, machine, tools, changes, files, output)?;
     let mut source = open_file(options.program, files)?;
     place_program(
         alloc,

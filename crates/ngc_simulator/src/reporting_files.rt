@@ -30,7 +30,7 @@ fn request_of(options: &ReportOptions<'_>) -> ReportRequest
         cuts: options.cuts,
         all: options.all,
         form: requested_form(options.json),
-        origins: options.origins,
+        origins: options.changes.origins,
     }
 }
 
@@ -53,8 +53,8 @@ pub(crate) fn report_files<F: Files, W: Sink>(
     let request = request_of(options);
     let form = request.form;
     let (machine, tools) = (options.machine, Some(options.tools));
-    let origins = &options.origins;
-    let shop = read_placed_reporting(alloc, form, machine, tools, origins, files, output)?;
+    let changes = &options.changes;
+    let shop = read_placed_reporting(alloc, form, machine, tools, changes, files, output)?;
     report_all_faults(alloc, options, form, &shop, files, output)?;
     let mut source = open_file(options.program, files)?;
     let fault = match report_program(

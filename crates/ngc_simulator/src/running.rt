@@ -97,7 +97,7 @@ fn run_files<F: Files, W: Sink>(
         alloc,
         Some(options.machine),
         Some(options.tools),
-        &options.origins,
+        &options.changes,
         files,
     )?;
     let program = read_program(alloc, options.program, files)?;

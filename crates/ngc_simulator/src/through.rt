@@ -86,7 +86,7 @@ fn run_through_files<F: Files, W: Sink>(
         alloc,
         Some(options.machine),
         Some(options.tools),
-        &options.origins,
+        &options.changes,
         files,
     )?;
     let program = read_program(alloc, options.program, files)?;

@@ -6,8 +6,8 @@ use Rattle.ngc_command_line.proofs.FoundSubcommand.{found_from_parts}
 use Rattle.ngc_command_line.proofs.SimpleCommand.{ngc_is_free, ngc_is_simple, taken_is_memory}
 use Rattle.ngc_command_line.proofs.OptionsReadBack.{adapt_read, adapt_taken, certify_read, certify_taken, check_read, check_taken, draw_read, draw_taken, help_read, help_taken, list_read, machine_read, machine_taken}
 use Rattle.ngc_command_line.proofs.OptionsReadBack.{list_taken, live_read, live_taken, place_read, place_taken, report_read, report_taken, run_read, run_taken, show_read, show_taken, version_read, version_taken}
-use Rattle.ngc_command_line.proofs.OptionsReadBack.{adapt_origins, certify_origins, check_origins, draw_origins, help_origins, list_origins, live_origins}
-use Rattle.ngc_command_line.proofs.OptionsReadBack.{machine_origins, place_origins, report_origins, run_origins, show_origins, version_origins, wrong_origins}
+use Rattle.ngc_command_line.proofs.OptionsReadBack.{adapt_changes, certify_changes, check_changes, draw_changes, help_changes, list_changes, live_changes}
+use Rattle.ngc_command_line.proofs.OptionsReadBack.{machine_changes, place_changes, report_changes, run_changes, show_changes, version_changes, wrong_changes}
 use Rattle.ngc_command_line.proofs.RequiredValues.{taken_is_whole}
 use Rattle.ngc_command_line.proofs.read_options.Goals as goal
 
@@ -20,70 +20,70 @@ options_of-requires c =
     let none = c.in-Ok-try_get_matches_from.ensures.kinds (ap is_simple_and_free built ∙ ngc_is_free) in
     record {
       whole = taken_is_whole words _ (ap (λ (app : App). fault_of app words) (sym built) ∙ none) found;
-      origins = c.in-Ok-origins_of.ensures;
+      changes = c.in-Ok-changes_of.ensures;
     }
 
-pub returns-in-Ok-origins_of-clause-options : goal.returns-in-Ok-origins_of-clause-options
-returns-in-Ok-origins_of-clause-options c =
+pub returns-in-Ok-changes_of-clause-options : goal.returns-in-Ok-changes_of-clause-options
+returns-in-Ok-changes_of-clause-options c =
     let built = c.in-Ok.ensures in
     let matches = (c.in-Ok-try_get_matches_from.ensures.matches (ap is_simple built ∙ ngc_is_simple)).1 in
     let words = texts c.args.words.now in
     let found = found_from_parts _ _ _ _ _ _ c.in-Some.ensures.name c.in-Some.ensures.rows (matches ∙ ap (λ (app : App). subcommand_of app words) built) in
     subst (λ found. AreOptions found c.options_of.result) (sym found) c.options_of.ensures
 
-pub returns-in-Ok-origins_of-clause-taken : goal.returns-in-Ok-origins_of-clause-taken
-returns-in-Ok-origins_of-clause-taken c =
+pub returns-in-Ok-changes_of-clause-taken : goal.returns-in-Ok-changes_of-clause-taken
+returns-in-Ok-changes_of-clause-taken c =
     let built = c.in-Ok.ensures in
     let none = c.in-Ok-try_get_matches_from.ensures.kinds (ap is_simple_and_free built ∙ ngc_is_free) in
     ap (λ (app : App). fault_of app (texts c.args.words.now)) (sym built) ∙ none
 
-pub returns-in-Ok-origins_of-clause-spelled : goal.returns-in-Ok-origins_of-clause-spelled
-returns-in-Ok-origins_of-clause-spelled c = λ program machine tools delete spelled. list_read _ program machine tools delete _ spelled (returns-in-Ok-origins_of-clause-options c)
+pub returns-in-Ok-changes_of-clause-spelled : goal.returns-in-Ok-changes_of-clause-spelled
+returns-in-Ok-changes_of-clause-spelled c = λ program machine tools delete spelled. list_read _ program machine tools delete _ spelled (returns-in-Ok-changes_of-clause-options c)
 
-pub returns-in-Ok-origins_of-clause-spelled_certify : goal.returns-in-Ok-origins_of-clause-spelled_certify
-returns-in-Ok-origins_of-clause-spelled_certify c =
-    λ machine tools program cuts format range spelled. certify_read _ machine tools program cuts format _ range spelled (returns-in-Ok-origins_of-clause-options c)
+pub returns-in-Ok-changes_of-clause-spelled_certify : goal.returns-in-Ok-changes_of-clause-spelled_certify
+returns-in-Ok-changes_of-clause-spelled_certify c =
+    λ machine tools program cuts format range spelled. certify_read _ machine tools program cuts format _ range spelled (returns-in-Ok-changes_of-clause-options c)
 
-pub returns-in-Ok-origins_of-clause-spelled_check : goal.returns-in-Ok-origins_of-clause-spelled_check
-returns-in-Ok-origins_of-clause-spelled_check c =
-    λ machine tools certificate program spelled. check_read _ machine tools certificate program _ spelled (returns-in-Ok-origins_of-clause-options c)
+pub returns-in-Ok-changes_of-clause-spelled_check : goal.returns-in-Ok-changes_of-clause-spelled_check
+returns-in-Ok-changes_of-clause-spelled_check c =
+    λ machine tools certificate program spelled. check_read _ machine tools certificate program _ spelled (returns-in-Ok-changes_of-clause-options c)
 
-pub returns-in-Ok-origins_of-clause-spelled_run : goal.returns-in-Ok-origins_of-clause-spelled_run
-returns-in-Ok-origins_of-clause-spelled_run c = λ recording machine tools certificate events program delete output spelled.
-    run_read _ recording machine tools certificate events program delete output _ spelled (returns-in-Ok-origins_of-clause-options c)
+pub returns-in-Ok-changes_of-clause-spelled_run : goal.returns-in-Ok-changes_of-clause-spelled_run
+returns-in-Ok-changes_of-clause-spelled_run c = λ recording machine tools certificate events program delete output spelled.
+    run_read _ recording machine tools certificate events program delete output _ spelled (returns-in-Ok-changes_of-clause-options c)
 
-pub returns-in-Ok-origins_of-clause-spelled_live : goal.returns-in-Ok-origins_of-clause-spelled_live
-returns-in-Ok-origins_of-clause-spelled_live c = λ machine tools certificate program delete output feed_ring spelled.
-    live_read _ machine tools certificate program delete output feed_ring _ spelled (returns-in-Ok-origins_of-clause-options c)
+pub returns-in-Ok-changes_of-clause-spelled_live : goal.returns-in-Ok-changes_of-clause-spelled_live
+returns-in-Ok-changes_of-clause-spelled_live c = λ machine tools certificate program delete output feed_ring spelled.
+    live_read _ machine tools certificate program delete output feed_ring _ spelled (returns-in-Ok-changes_of-clause-options c)
 
-pub returns-in-Ok-origins_of-clause-spelled_draw : goal.returns-in-Ok-origins_of-clause-spelled_draw
-returns-in-Ok-origins_of-clause-spelled_draw c =
-    λ machine tools certificate program view delete bodies whole spelled. draw_read _ machine tools certificate program view delete bodies whole _ spelled (returns-in-Ok-origins_of-clause-options c)
+pub returns-in-Ok-changes_of-clause-spelled_draw : goal.returns-in-Ok-changes_of-clause-spelled_draw
+returns-in-Ok-changes_of-clause-spelled_draw c =
+    λ machine tools certificate program view delete bodies whole spelled. draw_read _ machine tools certificate program view delete bodies whole _ spelled (returns-in-Ok-changes_of-clause-options c)
 
-pub returns-in-Ok-origins_of-clause-spelled_show : goal.returns-in-Ok-origins_of-clause-spelled_show
-returns-in-Ok-origins_of-clause-spelled_show c = λ machine tools warnings spelled. show_read _ machine tools warnings _ spelled (returns-in-Ok-origins_of-clause-options c)
+pub returns-in-Ok-changes_of-clause-spelled_show : goal.returns-in-Ok-changes_of-clause-spelled_show
+returns-in-Ok-changes_of-clause-spelled_show c = λ machine tools warnings spelled. show_read _ machine tools warnings _ spelled (returns-in-Ok-changes_of-clause-options c)
 
-pub returns-in-Ok-origins_of-clause-spelled_report : goal.returns-in-Ok-origins_of-clause-spelled_report
-returns-in-Ok-origins_of-clause-spelled_report c =
-    λ machine tools program cuts all json range spelled. report_read _ machine tools program cuts all json _ range spelled (returns-in-Ok-origins_of-clause-options c)
+pub returns-in-Ok-changes_of-clause-spelled_report : goal.returns-in-Ok-changes_of-clause-spelled_report
+returns-in-Ok-changes_of-clause-spelled_report c =
+    λ machine tools program cuts all json range spelled. report_read _ machine tools program cuts all json _ range spelled (returns-in-Ok-changes_of-clause-options c)
 
-pub returns-in-Ok-origins_of-clause-spelled_place : goal.returns-in-Ok-origins_of-clause-spelled_place
-returns-in-Ok-origins_of-clause-spelled_place c =
-    λ machine tools program system cuts json range spelled. place_read _ machine tools program system cuts json _ range spelled (returns-in-Ok-origins_of-clause-options c)
+pub returns-in-Ok-changes_of-clause-spelled_place : goal.returns-in-Ok-changes_of-clause-spelled_place
+returns-in-Ok-changes_of-clause-spelled_place c =
+    λ machine tools program system cuts json range spelled. place_read _ machine tools program system cuts json _ range spelled (returns-in-Ok-changes_of-clause-options c)
 
-pub returns-in-Ok-origins_of-clause-spelled_adapt : goal.returns-in-Ok-origins_of-clause-spelled_adapt
-returns-in-Ok-origins_of-clause-spelled_adapt c =
-    λ from machine tool drop program range spelled. adapt_read _ from machine tool drop program _ range spelled (returns-in-Ok-origins_of-clause-options c)
+pub returns-in-Ok-changes_of-clause-spelled_adapt : goal.returns-in-Ok-changes_of-clause-spelled_adapt
+returns-in-Ok-changes_of-clause-spelled_adapt c =
+    λ from machine tool drop program range spelled. adapt_read _ from machine tool drop program _ range spelled (returns-in-Ok-changes_of-clause-options c)
 
-pub returns-in-Ok-origins_of-clause-spelled_machine : goal.returns-in-Ok-origins_of-clause-spelled_machine
-returns-in-Ok-origins_of-clause-spelled_machine c =
-    λ source corner ticks frame spelled. machine_read _ source corner ticks frame _ spelled (returns-in-Ok-origins_of-clause-options c)
+pub returns-in-Ok-changes_of-clause-spelled_machine : goal.returns-in-Ok-changes_of-clause-spelled_machine
+returns-in-Ok-changes_of-clause-spelled_machine c =
+    λ source corner ticks frame spelled. machine_read _ source corner ticks frame _ spelled (returns-in-Ok-changes_of-clause-options c)
 
-pub returns-in-Ok-origins_of-clause-spelled_help : goal.returns-in-Ok-origins_of-clause-spelled_help
-returns-in-Ok-origins_of-clause-spelled_help c = λ command among spelled. help_read _ command _ among spelled (returns-in-Ok-origins_of-clause-options c)
+pub returns-in-Ok-changes_of-clause-spelled_help : goal.returns-in-Ok-changes_of-clause-spelled_help
+returns-in-Ok-changes_of-clause-spelled_help c = λ command among spelled. help_read _ command _ among spelled (returns-in-Ok-changes_of-clause-options c)
 
-pub returns-in-Ok-origins_of-clause-spelled_version : goal.returns-in-Ok-origins_of-clause-spelled_version
-returns-in-Ok-origins_of-clause-spelled_version c = λ spelled. version_read _ _ spelled (returns-in-Ok-origins_of-clause-options c)
+pub returns-in-Ok-changes_of-clause-spelled_version : goal.returns-in-Ok-changes_of-clause-spelled_version
+returns-in-Ok-changes_of-clause-spelled_version c = λ spelled. version_read _ _ spelled (returns-in-Ok-changes_of-clause-options c)
 
 pub returns-in-Err-clause-refused : goal.returns-in-Err-clause-refused
 returns-in-Err-clause-refused c = λ taken have. c.usage_fault.ensures (taken_is_memory _ _ c.in-Err.error c.in-Ok.ensures taken c.in-Err.ensures.kinds)
@@ -149,7 +149,7 @@ pub returns-in-Err-clause-spelled_version : goal.returns-in-Err-clause-spelled_v
 returns-in-Err-clause-spelled_version c = λ spelled.
     c.usage_fault.ensures (taken_is_memory _ _ c.in-Err.error c.in-Ok.ensures (version_taken _ spelled) c.in-Err.ensures.kinds)
 
--- ---- an origin that is refused
+-- ---- a value that is refused
 
 pub returns-in-Some-clause-refused : goal.returns-in-Some-clause-refused
 returns-in-Some-clause-refused c =
@@ -157,7 +157,7 @@ returns-in-Some-clause-refused c =
     let words = texts c.args.words.now in
     let matches = (c.in-Ok-try_get_matches_from.ensures.matches (ap is_simple built ∙ ngc_is_simple)).1 in
     let found = found_from_parts _ _ _ _ _ _ c.in-Some.ensures.name c.in-Some.ensures.rows (matches ∙ ap (λ (app : App). subcommand_of app words) built) in
-    λ taken have. wrong_origins _ _ _ _ found c.in-Err-origins_of.ensures have
+    λ taken have. wrong_changes _ _ _ found c.in-Err-changes_of.ensures have
 
 pub returns-in-Some-clause-spelled : goal.returns-in-Some-clause-spelled
 returns-in-Some-clause-spelled c =
@@ -165,7 +165,7 @@ returns-in-Some-clause-spelled c =
     let words = texts c.args.words.now in
     let matches = (c.in-Ok-try_get_matches_from.ensures.matches (ap is_simple built ∙ ngc_is_simple)).1 in
     let found = found_from_parts _ _ _ _ _ _ c.in-Some.ensures.name c.in-Some.ensures.rows (matches ∙ ap (λ (app : App). subcommand_of app words) built) in
-    λ program machine tools delete spelled. wrong_origins _ _ _ _ found c.in-Err-origins_of.ensures (list_origins _ program machine tools delete spelled)
+    λ program machine tools delete spelled. wrong_changes _ _ _ found c.in-Err-changes_of.ensures (list_changes _ program machine tools delete spelled)
 
 pub returns-in-Some-clause-spelled_certify : goal.returns-in-Some-clause-spelled_certify
 returns-in-Some-clause-spelled_certify c =
@@ -173,7 +173,7 @@ returns-in-Some-clause-spelled_certify c =
     let words = texts c.args.words.now in
     let matches = (c.in-Ok-try_get_matches_from.ensures.matches (ap is_simple built ∙ ngc_is_simple)).1 in
     let found = found_from_parts _ _ _ _ _ _ c.in-Some.ensures.name c.in-Some.ensures.rows (matches ∙ ap (λ (app : App). subcommand_of app words) built) in
-    λ machine tools program cuts format range spelled. wrong_origins _ _ _ _ found c.in-Err-origins_of.ensures (certify_origins _ machine tools program cuts format range spelled)
+    λ machine tools program cuts format range spelled. wrong_changes _ _ _ found c.in-Err-changes_of.ensures (certify_changes _ machine tools program cuts format range spelled)
 
 pub returns-in-Some-clause-spelled_check : goal.returns-in-Some-clause-spelled_check
 returns-in-Some-clause-spelled_check c =
@@ -181,7 +181,7 @@ returns-in-Some-clause-spelled_check c =
     let words = texts c.args.words.now in
     let matches = (c.in-Ok-try_get_matches_from.ensures.matches (ap is_simple built ∙ ngc_is_simple)).1 in
     let found = found_from_parts _ _ _ _ _ _ c.in-Some.ensures.name c.in-Some.ensures.rows (matches ∙ ap (λ (app : App). subcommand_of app words) built) in
-    λ machine tools certificate program spelled. wrong_origins _ _ _ _ found c.in-Err-origins_of.ensures (check_origins _ machine tools certificate program spelled)
+    λ machine tools certificate program spelled. wrong_changes _ _ _ found c.in-Err-changes_of.ensures (check_changes _ machine tools certificate program spelled)
 
 pub returns-in-Some-clause-spelled_run : goal.returns-in-Some-clause-spelled_run
 returns-in-Some-clause-spelled_run c =
@@ -189,7 +189,7 @@ returns-in-Some-clause-spelled_run c =
     let words = texts c.args.words.now in
     let matches = (c.in-Ok-try_get_matches_from.ensures.matches (ap is_simple built ∙ ngc_is_simple)).1 in
     let found = found_from_parts _ _ _ _ _ _ c.in-Some.ensures.name c.in-Some.ensures.rows (matches ∙ ap (λ (app : App). subcommand_of app words) built) in
-    λ recording machine tools certificate events program delete output spelled. wrong_origins _ _ _ _ found c.in-Err-origins_of.ensures (run_origins _ recording machine tools certificate events program delete output spelled)
+    λ recording machine tools certificate events program delete output spelled. wrong_changes _ _ _ found c.in-Err-changes_of.ensures (run_changes _ recording machine tools certificate events program delete output spelled)
 
 pub returns-in-Some-clause-spelled_live : goal.returns-in-Some-clause-spelled_live
 returns-in-Some-clause-spelled_live c =
@@ -197,7 +197,7 @@ returns-in-Some-clause-spelled_live c =
     let words = texts c.args.words.now in
     let matches = (c.in-Ok-try_get_matches_from.ensures.matches (ap is_simple built ∙ ngc_is_simple)).1 in
     let found = found_from_parts _ _ _ _ _ _ c.in-Some.ensures.name c.in-Some.ensures.rows (matches ∙ ap (λ (app : App). subcommand_of app words) built) in
-    λ machine tools certificate program delete output feed_ring spelled. wrong_origins _ _ _ _ found c.in-Err-origins_of.ensures (live_origins _ machine tools certificate program delete output feed_ring spelled)
+    λ machine tools certificate program delete output feed_ring spelled. wrong_changes _ _ _ found c.in-Err-changes_of.ensures (live_changes _ machine tools certificate program delete output feed_ring spelled)
 
 pub returns-in-Some-clause-spelled_draw : goal.returns-in-Some-clause-spelled_draw
 returns-in-Some-clause-spelled_draw c =
@@ -205,7 +205,7 @@ returns-in-Some-clause-spelled_draw c =
     let words = texts c.args.words.now in
     let matches = (c.in-Ok-try_get_matches_from.ensures.matches (ap is_simple built ∙ ngc_is_simple)).1 in
     let found = found_from_parts _ _ _ _ _ _ c.in-Some.ensures.name c.in-Some.ensures.rows (matches ∙ ap (λ (app : App). subcommand_of app words) built) in
-    λ machine tools certificate program view delete bodies whole spelled. wrong_origins _ _ _ _ found c.in-Err-origins_of.ensures (draw_origins _ machine tools certificate program view delete bodies whole spelled)
+    λ machine tools certificate program view delete bodies whole spelled. wrong_changes _ _ _ found c.in-Err-changes_of.ensures (draw_changes _ machine tools certificate program view delete bodies whole spelled)
 
 pub returns-in-Some-clause-spelled_show : goal.returns-in-Some-clause-spelled_show
 returns-in-Some-clause-spelled_show c =
@@ -213,7 +213,7 @@ returns-in-Some-clause-spelled_show c =
     let words = texts c.args.words.now in
     let matches = (c.in-Ok-try_get_matches_from.ensures.matches (ap is_simple built ∙ ngc_is_simple)).1 in
     let found = found_from_parts _ _ _ _ _ _ c.in-Some.ensures.name c.in-Some.ensures.rows (matches ∙ ap (λ (app : App). subcommand_of app words) built) in
-    λ machine tools warnings spelled. wrong_origins _ _ _ _ found c.in-Err-origins_of.ensures (show_origins _ machine tools warnings spelled)
+    λ machine tools warnings spelled. wrong_changes _ _ _ found c.in-Err-changes_of.ensures (show_changes _ machine tools warnings spelled)
 
 pub returns-in-Some-clause-spelled_report : goal.returns-in-Some-clause-spelled_report
 returns-in-Some-clause-spelled_report c =
@@ -221,7 +221,7 @@ returns-in-Some-clause-spelled_report c =
     let words = texts c.args.words.now in
     let matches = (c.in-Ok-try_get_matches_from.ensures.matches (ap is_simple built ∙ ngc_is_simple)).1 in
     let found = found_from_parts _ _ _ _ _ _ c.in-Some.ensures.name c.in-Some.ensures.rows (matches ∙ ap (λ (app : App). subcommand_of app words) built) in
-    λ machine tools program cuts all json range spelled. wrong_origins _ _ _ _ found c.in-Err-origins_of.ensures (report_origins _ machine tools program cuts all json range spelled)
+    λ machine tools program cuts all json range spelled. wrong_changes _ _ _ found c.in-Err-changes_of.ensures (report_changes _ machine tools program cuts all json range spelled)
 
 pub returns-in-Some-clause-spelled_place : goal.returns-in-Some-clause-spelled_place
 returns-in-Some-clause-spelled_place c =
@@ -229,7 +229,7 @@ returns-in-Some-clause-spelled_place c =
     let words = texts c.args.words.now in
     let matches = (c.in-Ok-try_get_matches_from.ensures.matches (ap is_simple built ∙ ngc_is_simple)).1 in
     let found = found_from_parts _ _ _ _ _ _ c.in-Some.ensures.name c.in-Some.ensures.rows (matches ∙ ap (λ (app : App). subcommand_of app words) built) in
-    λ machine tools program system cuts json range spelled. wrong_origins _ _ _ _ found c.in-Err-origins_of.ensures (place_origins _ machine tools program system cuts json range spelled)
+    λ machine tools program system cuts json range spelled. wrong_changes _ _ _ found c.in-Err-changes_of.ensures (place_changes _ machine tools program system cuts json range spelled)
 
 pub returns-in-Some-clause-spelled_adapt : goal.returns-in-Some-clause-spelled_adapt
 returns-in-Some-clause-spelled_adapt c =
@@ -237,7 +237,7 @@ returns-in-Some-clause-spelled_adapt c =
     let words = texts c.args.words.now in
     let matches = (c.in-Ok-try_get_matches_from.ensures.matches (ap is_simple built ∙ ngc_is_simple)).1 in
     let found = found_from_parts _ _ _ _ _ _ c.in-Some.ensures.name c.in-Some.ensures.rows (matches ∙ ap (λ (app : App). subcommand_of app words) built) in
-    λ from machine tool drop program range spelled. wrong_origins _ _ _ _ found c.in-Err-origins_of.ensures (adapt_origins _ from machine tool drop program range spelled)
+    λ from machine tool drop program range spelled. wrong_changes _ _ _ found c.in-Err-changes_of.ensures (adapt_changes _ from machine tool drop program range spelled)
 
 pub returns-in-Some-clause-spelled_machine : goal.returns-in-Some-clause-spelled_machine
 returns-in-Some-clause-spelled_machine c =
@@ -245,7 +245,7 @@ returns-in-Some-clause-spelled_machine c =
     let words = texts c.args.words.now in
     let matches = (c.in-Ok-try_get_matches_from.ensures.matches (ap is_simple built ∙ ngc_is_simple)).1 in
     let found = found_from_parts _ _ _ _ _ _ c.in-Some.ensures.name c.in-Some.ensures.rows (matches ∙ ap (λ (app : App). subcommand_of app words) built) in
-    λ source corner ticks frame spelled. wrong_origins _ _ _ _ found c.in-Err-origins_of.ensures (machine_origins _ source corner ticks frame spelled)
+    λ source corner ticks frame spelled. wrong_changes _ _ _ found c.in-Err-changes_of.ensures (machine_changes _ source corner ticks frame spelled)
 
 pub returns-in-Some-clause-spelled_help : goal.returns-in-Some-clause-spelled_help
 returns-in-Some-clause-spelled_help c =
@@ -253,7 +253,7 @@ returns-in-Some-clause-spelled_help c =
     let words = texts c.args.words.now in
     let matches = (c.in-Ok-try_get_matches_from.ensures.matches (ap is_simple built ∙ ngc_is_simple)).1 in
     let found = found_from_parts _ _ _ _ _ _ c.in-Some.ensures.name c.in-Some.ensures.rows (matches ∙ ap (λ (app : App). subcommand_of app words) built) in
-    λ command among spelled. wrong_origins _ _ _ _ found c.in-Err-origins_of.ensures (help_origins _ command among spelled)
+    λ command among spelled. wrong_changes _ _ _ found c.in-Err-changes_of.ensures (help_changes _ command among spelled)
 
 pub returns-in-Some-clause-spelled_version : goal.returns-in-Some-clause-spelled_version
 returns-in-Some-clause-spelled_version c =
@@ -261,4 +261,4 @@ returns-in-Some-clause-spelled_version c =
     let words = texts c.args.words.now in
     let matches = (c.in-Ok-try_get_matches_from.ensures.matches (ap is_simple built ∙ ngc_is_simple)).1 in
     let found = found_from_parts _ _ _ _ _ _ c.in-Some.ensures.name c.in-Some.ensures.rows (matches ∙ ap (λ (app : App). subcommand_of app words) built) in
-    λ spelled. wrong_origins _ _ _ _ found c.in-Err-origins_of.ensures (version_origins _ spelled)
+    λ spelled. wrong_changes _ _ _ found c.in-Err-changes_of.ensures (version_changes _ spelled)

@@ -10,5 +10,5 @@ returns c = record {
   program = c.get_str.ensures ∙ first_value-rows (found_of c.args.found.now) (codes "program");
   cuts = c.cuts_of.ensures;
   format = c.format_of.ensures;
-  origins = c.requires.origins;
+  changes = c.requires.changes;
 }

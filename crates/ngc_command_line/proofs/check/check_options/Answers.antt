@@ -9,5 +9,5 @@ returns c = record {
   tools = c.required-2.ensures;
   certificate = c.required-3.ensures;
   program = c.get_str.ensures ∙ first_value-rows (found_of c.args.found.now) (codes "program");
-  origins = c.requires.origins;
+  changes = c.requires.changes;
 }

@@ -13,5 +13,5 @@ returns c = record {
   delete = c.flag_is_set.ensures;
   bodies = c.flag_is_set-2.ensures;
   whole = c.flag_is_set-3.ensures;
-  origins = c.requires.origins;
+  changes = c.requires.changes;
 }

@@ -10,5 +10,5 @@ returns c = record {
   tools = c.get_str-3.ensures ∙ first_value-rows (found_of c.args.found.now) (codes "tools");
   dialect = c.get_str-4.ensures ∙ first_value-rows (found_of c.args.found.now) (codes "dialect");
   delete = c.flag_is_set.ensures;
-  origins = c.requires;
+  changes = c.requires;
 }

@@ -14,5 +14,5 @@ returns c = record {
   inverted = c.mask_of.ensures;
   feed_ring = c.flag_is_set-2.ensures;
   aborts = c.flag_is_set-3.ensures;
-  origins = c.requires.origins;
+  changes = c.requires.changes;
 }

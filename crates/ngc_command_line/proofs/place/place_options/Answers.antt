@@ -11,5 +11,5 @@ returns c = record {
   system = c.get_str-2.ensures ∙ first_value-rows (found_of c.args.found.now) (codes "system");
   cuts = c.cuts_of.ensures;
   json = c.flag_is_set.ensures;
-  origins = c.requires.origins;
+  changes = c.requires.changes;
 }

@@ -11,5 +11,5 @@ returns c = record {
   cuts = c.cuts_of.ensures;
   all = c.flag_is_set.ensures;
   json = c.flag_is_set-2.ensures;
-  origins = c.requires.origins;
+  changes = c.requires.changes;
 }

@@ -16,7 +16,7 @@ returns-in-Some c = (
     delete = c.flag_is_set-delete.ensures;
     output = c.get_str-output.ensures ∙ first_value-rows (found_of c.args.found.now) (codes "output");
     inverted = c.mask_of-inverted.ensures;
-    origins = c.requires.origins;
+    changes = c.requires.changes;
   },
 )
 
@@ -32,6 +32,6 @@ returns-in-None c = (
     delete = c.flag_is_set-delete.ensures;
     output = c.get_str-output.ensures ∙ first_value-rows (found_of c.args.found.now) (codes "output");
     inverted = c.mask_of-inverted.ensures;
-    origins = c.requires.origins;
+    changes = c.requires.changes;
   },
 )

@@ -1,8 +1,18 @@
 use Rattle.std.specs.Prelude.{option_map}
-use Rattle.ngc_inputs.proofs.SetupLaws.{shop_placed}
+use Rattle.ngc_inputs.proofs.SetupLaws.{changes_refused, shop_placed, shop_refused}
 use Rattle.ngc_inputs.proofs.setup.read_placed.Goals as goal
 
-pub returns-in-Ok-clause-said : goal.returns-in-Ok-clause-said
-returns-in-Ok-clause-said g c =
-    shop_placed (g.F.Files.bytes c.args.files.now) (option_map (λ n. n.now) c.args.machine) (option_map (λ n. n.now) c.args.tools) c.args.origins.now
-    c.in-Ok.shop c.with_origins.result c.in-Ok.ensures.said c.with_origins.ensures.machine c.with_origins.ensures.tools
+pub returns-in-Ok-with_changes-clause-said : goal.returns-in-Ok-with_changes-clause-said
+returns-in-Ok-with_changes-clause-said g c =
+    shop_placed (g.F.Files.bytes c.args.files.now) (option_map (λ n. n.now) c.args.machine) (option_map (λ n. n.now) c.args.tools) c.args.changes.now
+    c.in-Ok.shop c.in-Ok-with_changes.changed c.in-Ok.ensures.said c.in-Ok-with_changes.ensures.machine c.in-Ok-with_changes.ensures.tools
+
+pub returns-in-Err-with_changes-clause-said : goal.returns-in-Err-with_changes-clause-said
+returns-in-Err-with_changes-clause-said g c =
+    changes_refused (g.F.Files.bytes c.args.files.now) (option_map (λ n. n.now) c.args.machine) (option_map (λ n. n.now) c.args.tools) c.args.changes.now
+    c.in-Ok.shop c.in-Err-with_changes.fault c.in-Ok.ensures.said c.in-Err-with_changes.ensures.machine
+
+pub returns-in-Err-clause-said : goal.returns-in-Err-clause-said
+returns-in-Err-clause-said g c =
+    shop_refused (g.F.Files.bytes c.args.files.now) (option_map (λ n. n.now) c.args.machine) (option_map (λ n. n.now) c.args.tools) c.args.changes.now
+    c.in-Err.fault c.in-Err.ensures.said

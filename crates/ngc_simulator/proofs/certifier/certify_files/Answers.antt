@@ -55,7 +55,7 @@ returns-in_err-source-clause-unread g c =
     (shop_inputs (Some c.args.options.now.machine.now) (Some c.args.options.now.tools.now)) OfProgram
     (option_map (λ n. n.now) c.args.options.now.program) [] _ _ _ c.in_err-source.field-0.0 c.in_err-source.ensures.fault
     (placed_read (g.F.Files.bytes c.args.files.now) (Some c.args.options.now.machine.now)
-    (Some c.args.options.now.tools.now) c.args.options.now.origins c.in_ok-shop.shop c.in_ok-shop.ensures.said) c.in_ok-shop.ensures.unread c.in_err-source.ensures.counts)
+    (Some c.args.options.now.tools.now) c.args.options.now.changes c.in_ok-shop.shop c.in_ok-shop.ensures.said) c.in_ok-shop.ensures.unread c.in_err-source.ensures.counts)
 
 pub returns-in_err-certify-clause-unread : goal.returns-in_err-certify-clause-unread
 returns-in_err-certify-clause-unread g c =
@@ -65,7 +65,7 @@ returns-in_err-certify-clause-unread g c =
     (shop_inputs (Some c.args.options.now.machine.now) (Some c.args.options.now.tools.now))
     (option_map (λ n. n.now) c.args.options.now.program) _ _ c.in_err-certify.field-0.0 c.in_err-certify.ensures.faults
     (placed_read (g.F.Files.bytes c.args.files.now) (Some c.args.options.now.machine.now)
-    (Some c.args.options.now.tools.now) c.args.options.now.origins c.in_ok-shop.shop c.in_ok-shop.ensures.said) (c.in_ok-source.ensures.counts ∙ c.in_ok-shop.ensures.unread)
+    (Some c.args.options.now.tools.now) c.args.options.now.changes c.in_ok-shop.shop c.in_ok-shop.ensures.said) (c.in_ok-source.ensures.counts ∙ c.in_ok-shop.ensures.unread)
     (λ is. record {
       opened = c.in_ok-source.source;
       left = c.certify.new.source;

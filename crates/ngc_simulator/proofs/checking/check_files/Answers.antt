@@ -75,7 +75,7 @@ returns-in_err-program-clause-unread g c =
     (shop_inputs (Some c.args.options.now.machine.now) (Some c.args.options.now.tools.now)) OfProgram (option_map (λ n. n.now) c.args.options.now.program)
     (certificate_input c.args.options.now.certificate.now ∷ []) _ _ _ (program_unread c.in_err-program.field-0.0)
     (placed_read (g.F.Files.bytes c.args.files.now) (Some c.args.options.now.machine.now)
-    (Some c.args.options.now.tools.now) c.args.options.now.origins c.in_ok-shop.shop c.in_ok-shop.ensures.said)
+    (Some c.args.options.now.tools.now) c.args.options.now.changes c.in_ok-shop.shop c.in_ok-shop.ensures.said)
     (c.read_placed.ensures.keeps (option_map (λ n. n.now) c.args.options.now.program)) c.in_ok-shop.ensures.unread c.in_err-program.ensures.unread)
 
 pub returns-in_err-certificate-clause-unread : goal.returns-in_err-certificate-clause-unread
@@ -89,7 +89,7 @@ returns-in_err-certificate-clause-unread g c =
     (all_read (g.F.Files.bytes c.args.files.now) (shop_inputs (Some c.args.options.now.machine.now) (Some c.args.options.now.tools.now))
     (program_input (option_map (λ n. n.now) c.args.options.now.program) ∷ [])
     (placed_read (g.F.Files.bytes c.args.files.now) (Some c.args.options.now.machine.now)
-    (Some c.args.options.now.tools.now) c.args.options.now.origins c.in_ok-shop.shop c.in_ok-shop.ensures.said) (
+    (Some c.args.options.now.tools.now) c.args.options.now.changes c.in_ok-shop.shop c.in_ok-shop.ensures.said) (
       is_read program_of _ (g.F.Files.bytes c.args.files.now (option_map (λ n. n.now) c.args.options.now.program))
           (g.F.Files.bytes c.read_placed.new.files (option_map (λ n. n.now) c.args.options.now.program))
           (c.read_placed.ensures.keeps (option_map (λ n. n.now) c.args.options.now.program)) c.in_ok-program.ensures.text,
@@ -107,7 +107,7 @@ returns-in_err-check_program-clause-unread g c =
     (all_read (g.F.Files.bytes c.args.files.now) (shop_inputs (Some c.args.options.now.machine.now) (Some c.args.options.now.tools.now))
     (program_input (option_map (λ n. n.now) c.args.options.now.program) ∷ [])
     (placed_read (g.F.Files.bytes c.args.files.now) (Some c.args.options.now.machine.now)
-    (Some c.args.options.now.tools.now) c.args.options.now.origins c.in_ok-shop.shop c.in_ok-shop.ensures.said) (
+    (Some c.args.options.now.tools.now) c.args.options.now.changes c.in_ok-shop.shop c.in_ok-shop.ensures.said) (
       is_read program_of _ (g.F.Files.bytes c.args.files.now (option_map (λ n. n.now) c.args.options.now.program))
           (g.F.Files.bytes c.read_placed.new.files (option_map (λ n. n.now) c.args.options.now.program))
           (c.read_placed.ensures.keeps (option_map (λ n. n.now) c.args.options.now.program)) c.in_ok-program.ensures.text,

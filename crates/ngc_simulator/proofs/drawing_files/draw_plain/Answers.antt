@@ -66,7 +66,7 @@ returns-in_err-program-clause-unread g c =
     (shop_inputs (Some c.args.options.now.machine.now) (Some c.args.options.now.tools.now)) OfProgram (option_map (λ n. n.now) c.args.options.now.program)
     (certificate_inputs (option_map (λ n. n.now) c.args.options.now.certificate)) _ _ _ (program_unread c.in_err-program.field-0.0)
     (placed_read (g.F.Files.bytes c.args.files.now) (Some c.args.options.now.machine.now)
-    (Some c.args.options.now.tools.now) c.args.options.now.origins c.in_ok-shop.shop c.in_ok-shop.ensures.said)
+    (Some c.args.options.now.tools.now) c.args.options.now.changes c.in_ok-shop.shop c.in_ok-shop.ensures.said)
     (c.read_placed.ensures.keeps (option_map (λ n. n.now) c.args.options.now.program)) c.in_ok-shop.ensures.unread c.in_err-program.ensures.unread)
 
 pub returns-in_err-draw_program-clause-unread : goal.returns-in_err-draw_program-clause-unread

@@ -55,7 +55,7 @@ returns-in_err-source-clause-unread g c =
     (shop_inputs (option_map (λ n. n.now) c.args.options.now.machine) (option_map (λ n. n.now) c.args.options.now.tools)) OfProgram
     (option_map (λ n. n.now) c.args.options.now.program) [] _ _ _ c.in_err-source.field-0.0 c.in_err-source.ensures.fault
     (placed_read (g.F.Files.bytes c.args.files.now) (option_map (λ n. n.now) c.args.options.now.machine)
-    (option_map (λ n. n.now) c.args.options.now.tools) c.args.options.now.origins c.in_ok-shop.shop c.in_ok-shop.ensures.said) c.in_ok-shop.ensures.unread
+    (option_map (λ n. n.now) c.args.options.now.tools) c.args.options.now.changes c.in_ok-shop.shop c.in_ok-shop.ensures.said) c.in_ok-shop.ensures.unread
     c.in_err-source.ensures.counts)
 
 pub returns-in_err-list-clause-unread : goal.returns-in_err-list-clause-unread
@@ -66,7 +66,7 @@ returns-in_err-list-clause-unread g c =
     (shop_inputs (option_map (λ n. n.now) c.args.options.now.machine) (option_map (λ n. n.now) c.args.options.now.tools))
     (option_map (λ n. n.now) c.args.options.now.program) _ _ c.in_err-list.field-0.0 c.in_err-list.ensures.faults
     (placed_read (g.F.Files.bytes c.args.files.now) (option_map (λ n. n.now) c.args.options.now.machine)
-    (option_map (λ n. n.now) c.args.options.now.tools) c.args.options.now.origins c.in_ok-shop.shop c.in_ok-shop.ensures.said)
+    (option_map (λ n. n.now) c.args.options.now.tools) c.args.options.now.changes c.in_ok-shop.shop c.in_ok-shop.ensures.said)
     (c.in_ok-source.ensures.counts ∙ c.in_ok-shop.ensures.unread)
     (λ is. record {
       opened = c.in_ok-source.source;

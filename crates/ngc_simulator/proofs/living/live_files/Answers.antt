@@ -91,7 +91,7 @@ returns-in_err-program-clause-unread g c =
     (told_behind (SourceFails g.F.R.Source.remaining g.F.R.Source.failures) (g.F.Files.bytes c.args.files.now) (g.F.Files.bytes c.read_placed.new.files) (shop_inputs (Some c.args.options.now.machine.now) (Some c.args.options.now.tools.now)) OfProgram (Some c.args.options.now.program.now)
     (certificate_input c.args.options.now.certificate.now ∷ record { kind = OfSource; name = None } ∷ []) _ _ _
     (program_unread c.in_err-program.field-0.0) (placed_read (g.F.Files.bytes c.args.files.now) (Some c.args.options.now.machine.now)
-    (Some c.args.options.now.tools.now) c.args.options.now.origins c.in_ok-shop.shop c.in_ok-shop.ensures.said)
+    (Some c.args.options.now.tools.now) c.args.options.now.changes c.in_ok-shop.shop c.in_ok-shop.ensures.said)
     (c.read_placed.ensures.keeps (Some c.args.options.now.program.now)) c.in_ok-shop.ensures.unread c.in_err-program.ensures.unread)
 
 pub returns-in_err-verdict-clause-unread : goal.returns-in_err-verdict-clause-unread
@@ -101,7 +101,7 @@ returns-in_err-verdict-clause-unread g c =
     (certificate_unread c.in_err-verdict.field-0.0) (all_read (g.F.Files.bytes c.args.files.now) (shop_inputs (Some c.args.options.now.machine.now) (Some c.args.options.now.tools.now))
     (program_input (Some c.args.options.now.program.now) ∷ [])
     (placed_read (g.F.Files.bytes c.args.files.now) (Some c.args.options.now.machine.now)
-    (Some c.args.options.now.tools.now) c.args.options.now.origins c.in_ok-shop.shop c.in_ok-shop.ensures.said) (
+    (Some c.args.options.now.tools.now) c.args.options.now.changes c.in_ok-shop.shop c.in_ok-shop.ensures.said) (
       is_read program_of _ ((g.F.Files.bytes c.args.files.now) (Some c.args.options.now.program.now))
           ((g.F.Files.bytes c.read_placed.new.files) (Some c.args.options.now.program.now))
           (c.read_placed.ensures.keeps (Some c.args.options.now.program.now)) c.in_ok-program.ensures.text,
@@ -120,7 +120,7 @@ returns-in_err-events-clause-unread g c =
     (all_read (g.F.Files.bytes c.args.files.now) (shop_inputs (Some c.args.options.now.machine.now) (Some c.args.options.now.tools.now))
     (program_input (Some c.args.options.now.program.now) ∷ [])
     (placed_read (g.F.Files.bytes c.args.files.now) (Some c.args.options.now.machine.now)
-    (Some c.args.options.now.tools.now) c.args.options.now.origins c.in_ok-shop.shop c.in_ok-shop.ensures.said) (
+    (Some c.args.options.now.tools.now) c.args.options.now.changes c.in_ok-shop.shop c.in_ok-shop.ensures.said) (
       is_read program_of _ ((g.F.Files.bytes c.args.files.now) (Some c.args.options.now.program.now))
           ((g.F.Files.bytes c.read_placed.new.files) (Some c.args.options.now.program.now))
           (c.read_placed.ensures.keeps (Some c.args.options.now.program.now)) c.in_ok-program.ensures.text,
@@ -143,7 +143,7 @@ returns-in_err-run_live-clause-unread g c =
     (all_read (g.F.Files.bytes c.args.files.now) (shop_inputs (Some c.args.options.now.machine.now) (Some c.args.options.now.tools.now))
     (program_input (Some c.args.options.now.program.now) ∷ [])
     (placed_read (g.F.Files.bytes c.args.files.now) (Some c.args.options.now.machine.now)
-    (Some c.args.options.now.tools.now) c.args.options.now.origins c.in_ok-shop.shop c.in_ok-shop.ensures.said) (
+    (Some c.args.options.now.tools.now) c.args.options.now.changes c.in_ok-shop.shop c.in_ok-shop.ensures.said) (
       is_read program_of _ ((g.F.Files.bytes c.args.files.now) (Some c.args.options.now.program.now))
           ((g.F.Files.bytes c.read_placed.new.files) (Some c.args.options.now.program.now))
           (c.read_placed.ensures.keeps (Some c.args.options.now.program.now)) c.in_ok-program.ensures.text,

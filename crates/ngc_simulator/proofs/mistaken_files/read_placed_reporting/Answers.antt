@@ -1,10 +1,24 @@
+use Rattle.std.proofs.Common.{inl, subst, sym}
 use Rattle.std.specs.Prelude.{Some, option_map}
-use Rattle.ngc_inputs.proofs.SetupLaws.{shop_placed}
+use Rattle.ngc_inputs.proofs.SetupLaws.{changes_refused, shop_placed}
+use Rattle.ngc_simulator.proofs.PlacedRefusals.{kept_output, report_refused}
 use Rattle.ngc_simulator.proofs.mistaken_files.read_placed_reporting.Goals as goal
 
-pub returns-in-Ok-clause-said : goal.returns-in-Ok-clause-said
-returns-in-Ok-clause-said g c = (
-  shop_placed (g.F.Files.bytes c.args.files.now) (Some c.args.machine.now) (option_map (λ n. n.now) c.args.tools) c.args.origins.now
-      c.in-Ok.shop c.with_origins.result c.in-Ok.ensures.said.0 c.with_origins.ensures.machine c.with_origins.ensures.tools,
+pub returns-in-Ok-with_changes-clause-said : goal.returns-in-Ok-with_changes-clause-said
+returns-in-Ok-with_changes-clause-said g c = (
+  shop_placed (g.F.Files.bytes c.args.files.now) (Some c.args.machine.now) (option_map (λ n. n.now) c.args.tools) c.args.changes.now
+      c.in-Ok.shop c.in-Ok-with_changes.changed c.in-Ok.ensures.said.0 c.in-Ok-with_changes.ensures.machine c.in-Ok-with_changes.ensures.tools,
   c.in-Ok.ensures.said.1,
 )
+
+pub returns-in-Err-with_changes-clause-said : goal.returns-in-Err-with_changes-clause-said
+returns-in-Err-with_changes-clause-said g c = (
+  changes_refused (g.F.Files.bytes c.args.files.now) (Some c.args.machine.now) (option_map (λ n. n.now) c.args.tools) c.args.changes.now
+      c.in-Ok.shop c.in-Err-with_changes.fault c.in-Ok.ensures.said.0 c.in-Err-with_changes.ensures.machine,
+  inl (kept_output _ _ c.in-Ok.ensures.said.1),
+)
+
+pub returns-in-Err-clause-said : goal.returns-in-Err-clause-said
+returns-in-Err-clause-said g c =
+    report_refused c.args.form (g.F.Files.bytes c.args.files.now) (Some c.args.machine.now) (option_map (λ n. n.now) c.args.tools) c.args.changes.now
+    (g.W.Sink.written c.args.output.now) (g.W.Sink.written c.read_shop_reporting.new.output) c.in-Err.fault c.in-Err.ensures.said

@@ -9,7 +9,7 @@ use Rattle.ngc_inputs.specs.Unread.{OfProgram, SourceFails, shop_inputs, unread_
 use Rattle.ngc_inputs.specs.declared.fault.AnswerFault.TheVariants as answers
 use Rattle.ngc_simulator.proofs.PlaceLaws.{placed_files, requested_placing}
 use Rattle.ngc_simulator.specs.Answers.{PlaceResult, PlaceWrittenOn, place_inputs, program_input}
-use Rattle.ngc_simulator.specs.Mistaken.{ReportsRefusal}
+use Rattle.ngc_simulator.specs.Mistaken.{ReportsPlacedRefusal}
 use Rattle.ngc_simulator.proofs.placing.place_named.Goals as goal
 
 pub returns-in_err-shop-clause-comes : goal.returns-in_err-shop-clause-comes
@@ -17,7 +17,7 @@ returns-in_err-shop-clause-comes g c =
     turned _ c.in_err-shop.field-0.0
     (PlaceResult (g.F.Files.bytes c.args.files.now) c.args.options.now (Some c.args.system) (g.W.Sink.written c.args.output.now)
     (g.W.Sink.written c.read_placed_reporting.new.output)) c.from_residual.ensures.1
-    (inl (subst (λ (f : Form). ReportsRefusal f (g.F.Files.bytes c.args.files.now) (Some c.args.options.now.machine.now) (Some c.args.options.now.tools.now)
+    (inl (subst (λ (f : Form). ReportsPlacedRefusal f (g.F.Files.bytes c.args.files.now) (Some c.args.options.now.machine.now) (Some c.args.options.now.tools.now) c.args.options.now.changes
     (g.W.Sink.written c.args.output.now) (g.W.Sink.written c.read_placed_reporting.new.output) c.in_err-shop.field-0.0)
     (ap (λ r. r.form) c.request_of-request.ensures) c.in_err-shop.ensures.said))
 
@@ -74,7 +74,7 @@ returns-in_err-source-clause-unread g c =
     (shop_inputs (Some c.args.options.now.machine.now) (Some c.args.options.now.tools.now)) OfProgram
     (option_map (λ n. n.now) c.args.options.now.program) [] _ _ _ c.in_err-source.field-0.0 c.in_err-source.ensures.fault
     (placed_read (g.F.Files.bytes c.args.files.now) (Some c.args.options.now.machine.now)
-    (Some c.args.options.now.tools.now) c.args.options.now.origins c.in_ok-shop.shop c.in_ok-shop.ensures.said.0) c.in_ok-shop.ensures.unread c.in_err-source.ensures.counts)
+    (Some c.args.options.now.tools.now) c.args.options.now.changes c.in_ok-shop.shop c.in_ok-shop.ensures.said.0) c.in_ok-shop.ensures.unread c.in_err-source.ensures.counts)
 
 pub returns-in_err-place_program-clause-unread : goal.returns-in_err-place_program-clause-unread
 returns-in_err-place_program-clause-unread g c =
@@ -84,7 +84,7 @@ returns-in_err-place_program-clause-unread g c =
     (shop_inputs (Some c.args.options.now.machine.now) (Some c.args.options.now.tools.now))
     (option_map (λ n. n.now) c.args.options.now.program) _ _ c.in_err-place_program.field-0.0 c.in_err-place_program.ensures.faults
     (placed_read (g.F.Files.bytes c.args.files.now) (Some c.args.options.now.machine.now)
-    (Some c.args.options.now.tools.now) c.args.options.now.origins c.in_ok-shop.shop c.in_ok-shop.ensures.said.0)
+    (Some c.args.options.now.tools.now) c.args.options.now.changes c.in_ok-shop.shop c.in_ok-shop.ensures.said.0)
     (c.in_ok-source.ensures.counts ∙ c.in_ok-shop.ensures.unread)
     (λ is. record {
       opened = c.in_ok-source.source;

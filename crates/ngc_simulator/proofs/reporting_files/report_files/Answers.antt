@@ -7,7 +7,7 @@ use Rattle.ngc_inputs.proofs.JobLaws.{keeps_same}
 use Rattle.ngc_simulator.proofs.ReportLaws.{asked, reported_files}
 use Rattle.ngc_simulator.specs.Answers.{ReportResult, ReportsOn, program_input, request_of, report_inputs}
 use Rattle.ngc_simulator.specs.AllFaults.{ReportsFaults}
-use Rattle.ngc_simulator.specs.Mistaken.{ReportsRefusal}
+use Rattle.ngc_simulator.specs.Mistaken.{ReportsPlacedRefusal}
 use Rattle.ngc_simulator.specs.Reporting.{Reports}
 use Rattle.ngc_inputs.specs.Unread.{OfProgram, SourceFails, shop_inputs, unread_by}
 use Rattle.ngc_inputs.specs.declared.fault.AnswerFault.{AnswerFault}
@@ -22,7 +22,7 @@ returns-in_err-shop-clause-comes g c =
     turned _ c.in_err-shop.field-0.0
     (ReportResult (g.F.Files.bytes c.args.files.now) c.args.options.now (g.W.Sink.written c.args.output.now)
     (g.W.Sink.written c.read_placed_reporting.new.output)) c.from_residual.ensures.1
-    (inl (subst (λ (f : Form). ReportsRefusal f (g.F.Files.bytes c.args.files.now) (Some c.args.options.now.machine.now) (Some c.args.options.now.tools.now)
+    (inl (subst (λ (f : Form). ReportsPlacedRefusal f (g.F.Files.bytes c.args.files.now) (Some c.args.options.now.machine.now) (Some c.args.options.now.tools.now) c.args.options.now.changes
     (g.W.Sink.written c.args.output.now) (g.W.Sink.written c.read_placed_reporting.new.output) c.in_err-shop.field-0.0)
     (ap (λ r. r.form) c.request_of-request.ensures) c.in_err-shop.ensures.said))
 
@@ -115,7 +115,7 @@ returns-in_err-report_all_faults-clause-unread g c =
     (shop_inputs (Some c.args.options.now.machine.now) (Some c.args.options.now.tools.now)) OfProgram program [] _ _ _
     (unread_by c.in_err-report_all_faults.field-0.0)
     (placed_read (g.F.Files.bytes c.args.files.now) (Some c.args.options.now.machine.now)
-    (Some c.args.options.now.tools.now) c.args.options.now.origins c.in_ok-shop.shop c.in_ok-shop.ensures.said.0)
+    (Some c.args.options.now.tools.now) c.args.options.now.changes c.in_ok-shop.shop c.in_ok-shop.ensures.said.0)
     (c.read_placed_reporting.ensures.keeps program) c.in_ok-shop.ensures.unread c.in_err-report_all_faults.ensures.unread)
 
 pub returns-in_err-source-clause-unread : goal.returns-in_err-source-clause-unread
@@ -126,7 +126,7 @@ returns-in_err-source-clause-unread g c =
     (shop_inputs (Some c.args.options.now.machine.now) (Some c.args.options.now.tools.now)) OfProgram
     (option_map (λ n. n.now) c.args.options.now.program) [] _ _ _ c.in_err-source.field-0.0 c.in_err-source.ensures.fault
     (placed_read (g.F.Files.bytes c.args.files.now) (Some c.args.options.now.machine.now)
-    (Some c.args.options.now.tools.now) c.args.options.now.origins c.in_ok-shop.shop c.in_ok-shop.ensures.said.0) (c.in_ok-report_all_faults.ensures.unread ∙ c.in_ok-shop.ensures.unread) c.in_err-source.ensures.counts)
+    (Some c.args.options.now.tools.now) c.args.options.now.changes c.in_ok-shop.shop c.in_ok-shop.ensures.said.0) (c.in_ok-report_all_faults.ensures.unread ∙ c.in_ok-shop.ensures.unread) c.in_err-source.ensures.counts)
 
 pub returns-in-None-clause-unread : goal.returns-in-None-clause-unread
 returns-in-None-clause-unread g c =
@@ -134,7 +134,7 @@ returns-in-None-clause-unread g c =
     (shop_inputs (Some c.args.options.now.machine.now) (Some c.args.options.now.tools.now))
     (option_map (λ n. n.now) c.args.options.now.program) _ _ c.in-Err.fault c.in-Err.ensures.faults
     (placed_read (g.F.Files.bytes c.args.files.now) (Some c.args.options.now.machine.now)
-    (Some c.args.options.now.tools.now) c.args.options.now.origins c.in_ok-shop.shop c.in_ok-shop.ensures.said.0) (c.in_ok-source.ensures.counts ∙ (c.in_ok-report_all_faults.ensures.unread ∙ c.in_ok-shop.ensures.unread))
+    (Some c.args.options.now.tools.now) c.args.options.now.changes c.in_ok-shop.shop c.in_ok-shop.ensures.said.0) (c.in_ok-source.ensures.counts ∙ (c.in_ok-report_all_faults.ensures.unread ∙ c.in_ok-shop.ensures.unread))
     (λ is. record {
       opened = c.in_ok-source.source;
       left = c.report_program.new.source;
@@ -148,7 +148,7 @@ returns-clause-unread g c =
     (shop_inputs (Some c.args.options.now.machine.now) (Some c.args.options.now.tools.now))
     (option_map (λ n. n.now) c.args.options.now.program) _ _ c.in-Err.fault c.in-Err.ensures.faults
     (placed_read (g.F.Files.bytes c.args.files.now) (Some c.args.options.now.machine.now)
-    (Some c.args.options.now.tools.now) c.args.options.now.origins c.in_ok-shop.shop c.in_ok-shop.ensures.said.0) (c.in_ok-source.ensures.counts ∙ (c.in_ok-report_all_faults.ensures.unread ∙ c.in_ok-shop.ensures.unread))
+    (Some c.args.options.now.tools.now) c.args.options.now.changes c.in_ok-shop.shop c.in_ok-shop.ensures.said.0) (c.in_ok-source.ensures.counts ∙ (c.in_ok-report_all_faults.ensures.unread ∙ c.in_ok-shop.ensures.unread))
     (λ is. record {
       opened = c.in_ok-source.source;
       left = c.report_program.new.source;
@@ -165,7 +165,7 @@ returns-in-Read-clause-unread g c =
     (shop_inputs (Some c.args.options.now.machine.now) (Some c.args.options.now.tools.now))
     (option_map (λ n. n.now) c.args.options.now.program) name _ _ _ c.report_unreadable-told.result named
     (placed_read (g.F.Files.bytes c.args.files.now) (Some c.args.options.now.machine.now)
-    (Some c.args.options.now.tools.now) c.args.options.now.origins c.in_ok-shop.shop c.in_ok-shop.ensures.said.0)
+    (Some c.args.options.now.tools.now) c.args.options.now.changes c.in_ok-shop.shop c.in_ok-shop.ensures.said.0)
     (keeps_later (Some name) ∙ (λ (n : Option (List ℕ)). c.report_all_faults.ensures.keeps n ∙ c.read_placed_reporting.ensures.keeps n) (Some name)) (c.in_ok-source.ensures.counts ∙ (c.in_ok-report_all_faults.ensures.unread ∙ c.in_ok-shop.ensures.unread))
     (c.report_unreadable-told.ensures.unread (λ is. record {
       opened = c.in_ok-source.source;

@@ -3,7 +3,7 @@ use Rattle.std.specs.Prelude.{MatchResult, unwrap_or}
 use Rattle.clap.specs.Words.{Text, found_of}
 use Rattle.clap.proofs.WalkLemmas.{raw_values-rows}
 use Rattle.ngc_origins.specs.Texts.{parsed_origins}
-use Rattle.ngc_command_line.proofs.origin.origins_of.Goals as goal
+use Rattle.ngc_command_line.proofs.changes.origins_of.Goals as goal
 
 pub returns-in-Some : goal.returns-in-Some
 returns-in-Some c =

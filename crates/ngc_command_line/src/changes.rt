@@ -1,0 +1,133 @@
+//! `--origin`, `--margin`, `--travel-margin` and `--rapids`.
+
+ghost use Rattle.std.specs.Prelude.{◌≡◌, Err, MatchResult, None, Ok, Some};
+ghost use Rattle.clap.specs.Words.{found_of, rows_of};
+ghost use Rattle.ngc_command_line.specs.Meant.{change_texts, changes_in, demands_written, origins_in};
+
+use crate::UsageFault;
+use clap::ArgMatches;
+use ngc_margins::{Changes, DemandMistake, Demands, read_demands};
+use ngc_origins::{OriginMistake, Origins, Refused, read_origins};
+use std::alloc::Global;
+
+/// Why the values of these options are refused.
+#[derive(Clone, Copy)]
+pub(crate) enum RefusedChange<'a> {
+    /// A value of `--origin`.
+    Origin(Refused<'a>),
+    /// A value of another option.
+    Demand(DemandMistake),
+}
+
+// Returns the origins in the words of a subcommand, or the first text that is no origin.
+fn origins_of<'a>(found: &ArgMatches<'a>) -> Result<Origins, Refused<'a>>
+    ensures { MatchResult result
+        (λ origins. origins_in (rows_of (found_of found.now)) ≡ Ok origins)
+        (λ refused. origins_in (rows_of (found_of found.now)) ≡ Err refused.mistake) }
+{
+    match found.get_strs("origin") {
+        Some(texts) => read_origins(texts),
+        None => Ok(Origins::none()),
+    }
+}
+
+fn reason(mistake: OriginMistake) -> &'static str {
+    match mistake {
+        OriginMistake::NoSystem => "the system is 54 to 59, 59.1, 59.2 or 59.3",
+        OriginMistake::NoPlace => {
+            "X, Y and Z are three numbers from -1000 to 1000, in mm, with at most six decimals"
+        }
+        OriginMistake::Twice => "this system has an origin already",
+    }
+}
+
+fn origin_fault(alloc: Global, refused: &Refused<'_>) -> UsageFault {
+    let (text, reason) = (refused.text, reason(refused.mistake));
+    let told = format!(in alloc;
+        "error: invalid value '{text}' for '--origin <PLACE>': {reason}
+
+For more information, try '--help'.
+"
+    );
+    match told {
+        Ok(text) => UsageFault::Usage(text),
+        Err(_) => UsageFault::Memory,
+    }
+}
+
+// Returns what the other three options demand, or the first that is refused.
+fn demands_of(found: &ArgMatches<'_>) -> Result<Demands, DemandMistake>
+    ensures { result ≡ demands_written (change_texts (rows_of (found_of found.now))) }
+{
+    read_demands(
+        found.get_str("margin"),
+        found.get_str("travel-margin"),
+        found.get_str("rapids"),
+    )
+}
+
+// Returns what the words of a subcommand replace, or the first value that is refused.
+pub(crate) fn changes_of<'a>(found: &ArgMatches<'a>) -> Result<Changes, RefusedChange<'a>>
+    ensures { MatchResult result
+        (λ changes. changes_in (rows_of (found_of found.now)) ≡ Some changes)
+        (λ refused. changes_in (rows_of (found_of found.now)) ≡ None) }
+{
+    let origins = match origins_of(found) {
+        Ok(origins) => origins,
+        Err(refused) => return Err(RefusedChange::Origin(refused)),
+    };
+    match demands_of(found) {
+        Ok(demands) => Ok(Changes { origins, demands }),
+        Err(mistake) => Err(RefusedChange::Demand(mistake)),
+    }
+}
+
+fn name(mistake: DemandMistake) -> &'static str {
+    match mistake {
+        DemandMistake::Margin => "margin",
+        DemandMistake::TravelMargin => "travel-margin",
+        DemandMistake::Rapids => "rapids",
+    }
+}
+
+fn written(mistake: DemandMistake) -> &'static str {
+    match mistake {
+        DemandMistake::Margin => "--margin <MM>",
+        DemandMistake::TravelMargin => "--travel-margin <MM>",
+        DemandMistake::Rapids => "--rapids <WAY>",
+    }
+}
+
+fn demand_reason(mistake: DemandMistake) -> &'static str {
+    match mistake {
+        DemandMistake::Rapids => "a traverse is straight or free",
+        _ => "a margin is a number from 0 to 100, in mm, with at most six decimals",
+    }
+}
+
+fn demand_fault(alloc: Global, found: &ArgMatches<'_>, mistake: DemandMistake) -> UsageFault {
+    let (written, reason) = (written(mistake), demand_reason(mistake));
+    let text = found.get_str(name(mistake)).unwrap_or("");
+    let told = format!(in alloc;
+        "error: invalid value '{text}' for '{written}': {reason}
+
+For more information, try '--help'.
+"
+    );
+    match told {
+        Ok(text) => UsageFault::Usage(text),
+        Err(_) => UsageFault::Memory,
+    }
+}
+
+/// Returns the fault that tells of a refused value.
+pub(crate) fn change_fault(
+    alloc: Global,
+    found: &ArgMatches<'_>,
+    refused: &RefusedChange<'_>,
+) -> UsageFault {
+    match refused {
+        RefusedChange::Origin(refused) => origin_fault(alloc, refused),
+        RefusedChange::Demand(mistake) => demand_fault(alloc, found, *mistake),
+    }
+}

@@ -1,0 +1,57 @@
+-- The lines of a report that name margins and the way of traverses. Our own.
+use Rattle.std.specs.Prelude.{ℕ, ℤ, pos, List, [], ◌++◌, codes, Bool, ◌&&◌}
+use Rattle.std.specs.Prelude.{if◌then◌else◌}
+use Rattle.std.specs.Fmt.{signed_decimal}
+use Rattle.std.specs.Ordering.{int_eq}
+use Rattle.ngc_machine_files.specs.Machine.{MachineFile}
+use Rattle.ngc_machine_files.specs.declared.machine.Margins.{Margins}
+use Rattle.ngc_machine_files.specs.declared.machine.Rapids.{Rapids}
+use Rattle.ngc_machine_files.specs.declared.machine.Rapids.TheVariants.{Free, Straight}
+use Rattle.ngc_margins.specs.declared.report_lines.Kept.{Kept}
+use Rattle.ngc_text.specs.Millimetres.{mm_text}
+
+abbrev pub kept_by : MachineFile → Kept
+kept_by m = record { margins = m.margins; rapids = m.rapids }
+
+abbrev pub nothing_kept : Kept
+nothing_kept =
+    record { margins = record { fixtures = pos 0; travel = pos 0 }; rapids = Straight }
+
+abbrev pub margin_words : ℤ → List ℕ
+margin_words m =
+    if int_eq m (pos 0) then [] else
+    codes "Clear of a fixture is clear by at least " ++ mm_text m
+    ++ codes ": its corners below have this margin.\n"
+
+abbrev pub travel_words : ℤ → List ℕ
+travel_words m =
+    if int_eq m (pos 0) then [] else
+    codes "Inside the travel is inside by at least " ++ mm_text m
+    ++ codes ": its limits below have this margin.\n"
+
+abbrev pub rapids_words : Rapids → List ℕ
+rapids_words Straight = []
+rapids_words Free = codes "A traverse may take any way within the box of its ends.\n"
+
+abbrev pub kept_words : Kept → List ℕ
+kept_words k =
+    margin_words k.margins.fixtures ++ travel_words k.margins.travel ++ rapids_words k.rapids
+
+-- the same as facts of a JSON document
+abbrev pub are_zero : Margins → Bool
+are_zero m = int_eq m.fixtures (pos 0) && int_eq m.travel (pos 0)
+
+abbrev pub lengths_fact : Margins → List ℕ
+lengths_fact m =
+    codes ",\n{\"fact\":\"margins\",\"fixtures\":" ++ signed_decimal m.fixtures
+    ++ codes ",\"travel\":" ++ signed_decimal m.travel ++ codes "}"
+
+abbrev pub margins_fact : Margins → List ℕ
+margins_fact m = if are_zero m then [] else lengths_fact m
+
+abbrev pub rapids_fact : Rapids → List ℕ
+rapids_fact Straight = []
+rapids_fact Free = codes ",\n{\"fact\":\"rapids\",\"way\":\"free\"}"
+
+abbrev pub kept_facts : Kept → List ℕ
+kept_facts k = margins_fact k.margins ++ rapids_fact k.rapids
