@@ -4,7 +4,7 @@
 //! `clap`.
 #![tactic(auto)]
 
-ghost use Rattle.std.specs.Prelude.{◌≡◌, Bool, Err, IfOk, IsOkUnless, MatchResult, Ok, OnOk};
+ghost use Rattle.std.specs.Prelude.{◌≡◌, Bool, Err, IfOk, IsOkUnless, MatchResult, OnOk};
 ghost use Rattle.std.specs.Prelude.{Option, Some, ℕ, codes, ◌∷◌, []};
 ghost use Rattle.clap.specs.Words.{Text, found_of, kind_of, rows_of, subcommand_of};
 ghost use Rattle.clap.specs.Walk.{texts};
