@@ -1,5 +1,5 @@
 -- Fixtures that are made larger one at a time.
-use Rattle.std.proofs.Common.{◌≡◌, ◌∙◌, ℕ, ◌+◌, ◌<◌, List, [], ◌∷◌, length, drop, set, get_or, subst, sym, arith}
+use Rattle.std.proofs.Common.{◌≡◌, ℕ, ◌+◌, ◌<◌, List, length, drop, set, get_or, subst, sym, arith}
 use Rattle.std.specs.List.{All}
 use Rattle.std.proofs.lemmas.List.{drop_more, drop-set-lt}
 use Rattle.std.proofs.lemmas.List.Elements.{All-head, All-tail}

@@ -1,12 +1,12 @@
 -- A machine whose margins are kept is in the range of machines.
-use Rattle.std.proofs.Common.{◌≡◌, ◌∙◌, ℕ, suc, ◌≤◌, ℤ, pos, negsuc, ◌+ℤ◌, ◌-ℤ◌, ◌≤ℤ◌, List, [], ◌∷◌, length, map, ap, arith, refl, subst, sym}
-use Rattle.std.specs.Prelude.{Bool, IsTrue, unsigned_abs, ◌&&◌, nat_le}
+use Rattle.std.proofs.Common.{◌≡◌, ℕ, suc, ◌≤◌, ℤ, pos, negsuc, ◌≤ℤ◌, List, [], ◌∷◌, length, map, ap, arith, refl, subst, sym}
+use Rattle.std.specs.Prelude.{IsTrue, unsigned_abs, ◌&&◌, nat_le}
 use Rattle.std.specs.List.{All, list_all}
 use Rattle.std.proofs.lemmas.Int.{ints}
 use Rattle.std.proofs.lemmas.List.Elements.{All-cons, All-head, All-nil, All-tail}
 use Rattle.ngc_collision.specs.Body.{is_below}
 use Rattle.ngc_fixed_length.specs.declared.points.Point3.{Point3}
-use Rattle.ngc_machine_files.specs.Ranges.{AreFixtures, CORNER_LIMIT, IsAtMost, IsFixture, IsFrom, IsSized, IsTravel, MARGIN_LIMIT, PLACE_LIMIT}
+use Rattle.ngc_machine_files.specs.Ranges.{AreFixtures, CORNER_LIMIT, IsAtMost, IsFixture, IsSized, IsTravel, PLACE_LIMIT}
 use Rattle.ngc_machine_files.specs.declared.machine.Fixture.{Fixture}
 use Rattle.ngc_margins.specs.Margins.{fits, grown, is_sized, lowered, raised}
 use Rattle.ngc_margins.proofs.Tests.{both, le_of}

@@ -1,21 +1,17 @@
 -- The laws of margins: a box that is apart from a larger fixture is apart from the fixture wherever
 -- it moves by at most the margin, and apart from one that is less large.
-use Rattle.std.proofs.Common.{refl, arith, Some, None, true, ℤ, ◌+ℤ◌, ◌-ℤ◌, ◌≤ℤ◌, List, [], ◌∷◌, map}
+use Rattle.std.proofs.Common.{refl, arith, Some, None, true, ℤ, ◌+ℤ◌, ◌-ℤ◌, ◌≤ℤ◌, List, [], ◌∷◌}
 use Rattle.std.specs.Prelude.{Option, IsTrue, int_le, ◌&&◌}
 use Rattle.std.specs.List.{list_all}
 use Rattle.std.proofs.lemmas.Int.{ints}
 use Rattle.ngc_fixed_length.specs.Boxes.{only}
-use Rattle.ngc_fixed_length.specs.declared.points.GridBox.{GridBox}
 use Rattle.ngc_fixed_length.specs.declared.points.Point3.{Point3}
-use Rattle.ngc_fixed_length.specs.declared.points.StepPos.{StepPos}
-use Rattle.ngc_machine_files.specs.Machine.{MachineFile}
 use Rattle.ngc_machine_files.specs.declared.machine.Fixture.{Fixture}
-use Rattle.ngc_machine_files.specs.declared.machine.Margins.{Margins}
 use Rattle.ngc_machine_files.specs.declared.parts.Part.{Part}
 use Rattle.ngc_machine_files.specs.declared.tools.Tool.{Tool}
-use Rattle.ngc_collision.specs.Body.{Solid, are_apart, bodies, clears, filled, is_below, is_in_travel, nanometres_of, span, stacked, IsClearAt}
-use Rattle.ngc_margins.specs.Laws.{AreSmaller, IsClearOf, IsNear, IsSafeOver, MarginIsKept, SafeWithSmaller, TravelMarginIsKept}
-use Rattle.ngc_margins.specs.Margins.{grown, lowered, raised, with_margins}
+use Rattle.ngc_collision.specs.Body.{Solid, are_apart, bodies, clears, filled, is_below, nanometres_of, span, stacked}
+use Rattle.ngc_margins.specs.Laws.{IsNear, MarginIsKept, SafeWithSmaller, TravelMarginIsKept}
+use Rattle.ngc_margins.specs.Margins.{grown, lowered, raised}
 use Rattle.ngc_margins.proofs.Tests.{and, both, le_of, le_test, list_to, of_images, or_to, to_images}
 
 -- ---- a box that moves by at most a margin

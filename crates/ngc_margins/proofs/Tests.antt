@@ -1,5 +1,5 @@
 -- Tests that are true.
-use Rattle.std.proofs.Common.{refl, arith, List, [], ◌∷◌, true, false, map, ℤ, ◌≤ℤ◌, ◌+ℤ◌, ◌-ℤ◌}
+use Rattle.std.proofs.Common.{refl, arith, List, [], ◌∷◌, true, false, map, ℤ, ◌≤ℤ◌}
 use Rattle.std.specs.Prelude.{IsTrue, Bool, ◌&&◌, ◌||◌, int_le}
 use Rattle.std.specs.List.{list_all}
 use Rattle.std.proofs.lemmas.Int.{ints}

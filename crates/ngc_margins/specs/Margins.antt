@@ -1,6 +1,6 @@
 -- A machine as the checker sees it: each fixture is larger by the margin on all six sides, and the
 -- travel limits are nearer by the travel margin. Our own.
-use Rattle.std.specs.Prelude.{ℕ, ℤ, ◌+ℤ◌, ◌-ℤ◌, nat_le, unsigned_abs, List, map, Bool, ◌&&◌, Result}
+use Rattle.std.specs.Prelude.{ℤ, ◌+ℤ◌, ◌-ℤ◌, nat_le, unsigned_abs, map, Bool, ◌&&◌, Result}
 use Rattle.std.specs.Prelude.{Ok}
 use Rattle.std.specs.List.{list_all}
 use Rattle.ngc_fixed_length.specs.declared.points.Point3.{Point3}

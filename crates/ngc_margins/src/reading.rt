@@ -34,13 +34,15 @@ fn margin_in(text: &[u8]) -> Option<Nm>
     }
 }
 
-fn rapids_in(text: &[u8]) -> Option<Rapids>
+fn rapids_in(text: &str) -> Option<Rapids>
     ensures { result ≡ spec.rapids_in text.now }
 {
-    match text {
-        b"free" => Some(Rapids::Free),
-        b"straight" => Some(Rapids::Straight),
-        _ => None,
+    if text == "free" {
+        Some(Rapids::Free)
+    } else if text == "straight" {
+        Some(Rapids::Straight)
+    } else {
+        None
     }
 }
 
@@ -63,7 +65,7 @@ fn rapids_of(text: Option<&str>) -> Result<Option<Rapids>, DemandMistake>
     let Some(text) = text else {
         return Ok(None);
     };
-    match rapids_in(text.as_bytes()) {
+    match rapids_in(text) {
         Some(rapids) => Ok(Some(rapids)),
         None => Err(DemandMistake::Rapids),
     }
@@ -79,8 +81,16 @@ pub fn read_demands(
     ensures { result ≡ spec.parsed_demands (option_map (λ t. t.now) margin.entry)
         (option_map (λ t. t.now) travel_margin.entry) (option_map (λ t. t.now) rapids.entry) }
 {
-    let margin = margin_of(margin, DemandMistake::Margin)?;
-    let travel_margin = margin_of(travel_margin, DemandMistake::TravelMargin)?;
-    let rapids = rapids_of(rapids)?;
-    Ok(Demands::of(margin, travel_margin, rapids))
+    match (
+        margin_of(margin, DemandMistake::Margin),
+        margin_of(travel_margin, DemandMistake::TravelMargin),
+        rapids_of(rapids),
+    ) {
+        (Ok(margin), Ok(travel_margin), Ok(rapids)) => {
+            Ok(Demands::of(margin, travel_margin, rapids))
+        }
+        (Err(mistake), _, _) | (Ok(_), Err(mistake), _) | (Ok(_), Ok(_), Err(mistake)) => {
+            Err(mistake)
+        }
+    }
 }
