@@ -1,5 +1,5 @@
 -- Each step takes one unit of fuel.
-use Rattle.std.proofs.Common.{◌≡◌, ℕ, ℤ, ◌||◌, nat_le, take, slice_get, zero, suc, ◌+◌, ◌-◌, ◌==◌, Bool, true, false, List, [], ◌∷◌, length, Option, Some, None, Result, Ok, Err, IfOk, true≢false, refl, ap, sym, ◌∙◌, arith}
+use Rattle.std.proofs.Common.{◌≡◌, ℕ, ℤ, ◌||◌, nat_le, take, slice_get, zero, suc, ◌+◌, ◌-◌, ◌==◌, Bool, true, false, List, [], ◌∷◌, length, Option, Some, None, Result, Ok, Err, IfOk, true≢false, refl, ap, ◌∙◌, arith}
 use Rattle.std.specs.Prelude.{if◌then◌else◌}
 use Rattle.std.specs.List.{list_all}
 use Rattle.std.proofs.lemmas.Result.{IfOk-weaker}
@@ -18,7 +18,7 @@ use Rattle.ngc_dialect_flow.specs.declared.state.CallKind.{CallKind}
 use Rattle.ngc_dialect_flow.specs.declared.state.CallKind.TheVariants as callers
 use Rattle.ngc_dialect_flow.specs.declared.table.Row.{Row}
 use Rattle.ngc_dialect_flow.specs.Places.{Plan}
-use Rattle.ngc_dialect_flow.specs.State.{Flow, depth, after, go, seek, burnt, burn}
+use Rattle.ngc_dialect_flow.specs.State.{Flow, depth, after, go, burnt, burn}
 use Rattle.ngc_dialect_flow.specs.Loops as l
 use Rattle.ngc_dialect_flow.specs.Words.{Values, holds, argument, or_zero, loop_holds, jump_in, label_in, word_in, has_m, needed}
 use Rattle.ngc_dialect_flow.specs.Marks.{whole_of, number_label}

@@ -1,10 +1,9 @@
 -- One more line of the pass over a program's lines, from the last to the first.
-use Rattle.std.proofs.Common.{◌≡◌, ℕ, suc, ◌+◌, ◌<◌, List, [], ◌∷◌, ◌++◌, length, map, drop, reverse, get_or, Option, Result, Ok, Err, OnOk, subst, refl, ap, sym, ◌∙◌, arith}
+use Rattle.std.proofs.Common.{◌≡◌, ℕ, suc, ◌+◌, ◌<◌, List, [], ◌∷◌, ◌++◌, length, map, drop, get_or, Result, Ok, Err, OnOk, subst, ap, sym, ◌∙◌, arith}
 use Rattle.std.proofs.Math.Seq.{drop-cons}
 use Rattle.std.proofs.lemmas.List.{drop-map, reverse-append}
 use Rattle.ngc_dialect_reader.specs.declared.dialect.Dialect.{Dialect}
 use Rattle.ngc_dialect_flow.specs.declared.mark.Mark.{Mark}
-use Rattle.ngc_dialect_flow.specs.declared.table.Place.{Place}
 use Rattle.ngc_dialect_flow.specs.declared.table.Row.{Row}
 use Rattle.ngc_dialect_flow.specs.declared.table.Table.{Table}
 use Rattle.ngc_dialect_flow.specs.Marks.{Line, line_in}

@@ -1,7 +1,7 @@
 -- Calls of subprograms (LinuxCNC, "O codes", "Subroutines" and "Fanuc-Style Programs"; Fanuc,
 -- "Subprogram"; Mach3, "M98" and "M99").
-use Rattle.std.specs.Prelude.{ℕ, ◌+◌, ◌-◌, ◌/◌, ◌%◌, ◌==◌, ◌&&◌, nat_le, nat_lt, ℤ, List, [], ◌∷◌, ◌++◌, length, take}
-use Rattle.std.specs.Prelude.{Bool, Option, Some, None, Result, Ok, Err, if◌then◌else◌, option_and_then}
+use Rattle.std.specs.Prelude.{ℕ, ◌+◌, ◌-◌, ◌/◌, ◌%◌, ◌==◌, ◌&&◌, nat_le, nat_lt, ℤ, List, [], ◌∷◌, ◌++◌}
+use Rattle.std.specs.Prelude.{Option, Some, None, Result, Ok, Err, if◌then◌else◌}
 use Rattle.ngc_line_reader.specs.Scan.{◌>>=◌}
 use Rattle.ngc_dialect_reader.specs.declared.dialect.Dialect.{Dialect}
 use Rattle.ngc_dialect_reader.specs.Table.{switches_of}
@@ -18,7 +18,6 @@ use Rattle.ngc_dialect_flow.specs.declared.state.Call.{Call}
 use Rattle.ngc_dialect_flow.specs.declared.state.CallKind.{CallKind}
 use Rattle.ngc_dialect_flow.specs.declared.state.CallKind.TheVariants as calls
 use Rattle.ngc_dialect_flow.specs.Marks.{whole_of, number_label}
-use Rattle.ngc_dialect_flow.specs.Searches.{key_of}
 use Rattle.ngc_dialect_flow.specs.Places.{Plan, key_with}
 use Rattle.ngc_dialect_flow.specs.State.{Flow, depth, after, go, with_calls}
 use Rattle.ngc_dialect_flow.specs.Loops.{last_of, without_last, on}

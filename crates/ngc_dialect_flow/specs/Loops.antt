@@ -1,6 +1,6 @@
 -- Loops (LinuxCNC, "O codes", "Looping"; Fanuc, "Custom macro", "Repetition").
 use Rattle.std.specs.Prelude.{ℕ, ◌+◌, ◌-◌, ◌/◌, ◌==◌, ◌&&◌, nat_le, ℤ, pos, int_lt, unsigned_abs, List, [], ◌∷◌, ◌++◌}
-use Rattle.std.specs.Prelude.{length, take, slice_get, Bool, true, false, Option, Some, None, option_and_then, is_some}
+use Rattle.std.specs.Prelude.{length, take, slice_get, Bool, Option, Some, None, option_and_then, is_some}
 use Rattle.std.specs.Prelude.{Result, Ok, Err, if◌then◌else◌}
 use Rattle.std.specs.List.{list_any}
 use Rattle.ngc_line_reader.specs.Scan.{◌>>=◌}

@@ -1,5 +1,5 @@
 -- One step of the flow: the line's words are executed, and then it says which line is next.
-use Rattle.std.specs.Prelude.{ℕ, ◌==◌, ◌+◌, ◌||◌, ◌&&◌, not, ℤ, List, [], ◌∷◌, take, slice_get, Bool, true, false}
+use Rattle.std.specs.Prelude.{ℕ, ◌||◌, not, ℤ, List, [], ◌∷◌, take, slice_get, Bool, true, false}
 use Rattle.std.specs.Prelude.{Option, Some, None, Result, Ok, Err, if◌then◌else◌}
 use Rattle.std.specs.List.{list_all}
 use Rattle.ngc_line_reader.specs.Scan.{◌>>=◌}

@@ -1,5 +1,5 @@
 -- Where the lines are for which the flow searches.
-use Rattle.std.specs.Prelude.{ℕ, ◌≡◌, ◌+◌, reverse, List, [], ◌∷◌, map, Bool, Option, Some, None, option_map, is_some, if◌then◌else◌}
+use Rattle.std.specs.Prelude.{ℕ, ◌≡◌, ◌+◌, reverse, List, [], ◌∷◌, map, Option, Some, None, option_map, is_some, if◌then◌else◌}
 use Rattle.std.specs.Str.{bytes_eq}
 use Rattle.std.specs.Ordering.{nat_cmp}
 use Rattle.std.specs.Cmp.Lexicographic.{slice_cmp}

@@ -7,7 +7,7 @@ use Rattle.ngc_dialect_numbers.specs.Numbers.{truth}
 use Rattle.ngc_dialect_parameters.specs.declared.parameters.Parameters.{Parameters}
 use Rattle.ngc_dialect_parameters.specs.declared.parameters.Call.{Call}
 use Rattle.ngc_dialect_parameters.specs.Names.{value_in, is_global}
-use Rattle.ngc_dialect_parameters.specs.Stored.{number_in, name_in, dialect_of, is_local}
+use Rattle.ngc_dialect_parameters.specs.Stored.{number_in, name_in, is_local}
 use Rattle.ngc_dialect_flow.specs.Words.{or_zero}
 
 -- the value of a name after the return, by its value before; it is the caller's, or one of all calls

@@ -1,5 +1,5 @@
 -- For which lines the flow searches (LinuxCNC, "O codes"; Fanuc, "Custom macro").
-use Rattle.std.specs.Prelude.{ℕ, ◌++◌, List, [], ◌∷◌, Option, Some, None}
+use Rattle.std.specs.Prelude.{ℕ, List, ◌∷◌, Option, Some, None}
 use Rattle.std.specs.Int.{w128, to_be_bytes}
 use Rattle.ngc_dialect_reader.specs.declared.part.Keyword.TheVariants as words
 use Rattle.ngc_dialect_reader.specs.Line.{name_of}

@@ -1,6 +1,6 @@
 -- What the flow takes from the values of a line.
-use Rattle.std.specs.Prelude.{ℕ, ◌*◌, ◌==◌, ◌&&◌, ℤ, pos, List, [], ◌∷◌, slice_get, Bool, true, false}
-use Rattle.std.specs.Prelude.{Option, Some, None, option_and_then, Result, Ok, Err, if◌then◌else◌}
+use Rattle.std.specs.Prelude.{ℕ, ◌*◌, ◌==◌, ◌&&◌, ℤ, pos, List, [], ◌∷◌, slice_get, Bool, false}
+use Rattle.std.specs.Prelude.{Option, Some, None, Result, Ok, Err, if◌then◌else◌}
 use Rattle.std.specs.List.{list_any}
 use Rattle.std.specs.Ordering.{int_eq}
 use Rattle.ngc_dialect_numbers.specs.Numbers.{ONE}

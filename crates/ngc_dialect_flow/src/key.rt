@@ -1,6 +1,5 @@
 //! A search and a label, as bytes.
 ghost use Rattle.std.specs.Prelude.{◌≡◌, ◌≤◌, length, option_map};
-ghost use Rattle.arrayvec.specs.ArrayVec.{array_vec_len};
 ghost use Rattle.ngc_dialect_reader.specs.Line.{name_of};
 ghost use Rattle.ngc_dialect_flow.specs.Searches as spec;
 ghost use Rattle.ngc_dialect_flow.specs.Places.{key_with as key_bytes};

@@ -1,5 +1,5 @@
 //! What the parameters become when a call ends.
-ghost use Rattle.std.specs.Prelude.{◌≡◌, ◌<◌, OnOk};
+ghost use Rattle.std.specs.Prelude.{◌<◌, OnOk};
 ghost use Rattle.ngc_dialect_parameters.specs.Stored.{depth_of};
 ghost use Rattle.ngc_dialect_flow.specs.Returning.{HasReturned};
 

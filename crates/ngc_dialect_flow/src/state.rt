@@ -1,6 +1,5 @@
 //! Where the flow of a program is.
-ghost use Rattle.std.specs.Prelude.{◌≡◌, ◌≤◌, ◌+◌, ℕ, [], length, filter};
-ghost use Rattle.arrayvec.specs.ArrayVec.{array_vec_len};
+ghost use Rattle.std.specs.Prelude.{◌≡◌, ◌+◌, filter};
 ghost use Rattle.ngc_line_reader.specs.Scan.{Gives};
 ghost use Rattle.ngc_dialect_flow.specs.State as spec;
 ghost use Rattle.ngc_dialect_flow.specs.State.{flow_of};

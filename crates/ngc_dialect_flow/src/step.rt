@@ -1,6 +1,5 @@
 //! One step of the flow.
-ghost use Rattle.std.specs.Prelude.{◌≡◌, take};
-ghost use Rattle.std.specs.List.{list_all};
+ghost use Rattle.std.specs.Prelude.{◌≡◌};
 ghost use Rattle.ngc_line_reader.specs.Scan.{Gives};
 ghost use Rattle.ngc_dialect_flow.specs.Next as spec;
 ghost use Rattle.ngc_dialect_flow.specs.Places.{plan_of};

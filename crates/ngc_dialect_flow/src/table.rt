@@ -4,7 +4,7 @@ ghost use Rattle.std.specs.List.{list_all};
 ghost use Rattle.ngc_dialect_flow.specs.Marks.{Line, line_in};
 ghost use Rattle.ngc_dialect_flow.specs.Next.{is_blank};
 ghost use Rattle.ngc_dialect_flow.specs.Places as spec;
-ghost use Rattle.ngc_dialect_flow.specs.Places.{plan_of, place_of, rows_of};
+ghost use Rattle.ngc_dialect_flow.specs.Places.{place_of, rows_of};
 
 use crate::key::{Key, key_with};
 use crate::mark::{LineKind, Mark, number_label, read_mark};

@@ -1,5 +1,5 @@
 //! What the flow takes from the values of a line.
-ghost use Rattle.std.specs.Prelude.{◌≡◌, ◌≤◌, slice_get};
+ghost use Rattle.std.specs.Prelude.{◌≡◌, slice_get};
 ghost use Rattle.std.specs.List.{list_any};
 ghost use Rattle.ngc_dialect_flow.specs.Words as spec;
 
