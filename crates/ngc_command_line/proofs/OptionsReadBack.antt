@@ -93,9 +93,14 @@ requested_list : (program machine tools : Option Text) (delete : Bool) (found : 
     FindsList program machine tools delete found
     → AreOptions found options → IsListRequest program machine tools delete options
 requested_list program machine tools delete None options finds are = absurd finds
-requested_list program machine tools delete (Some found) (ToList list) finds are =
-    (are.1.program ∙ finds.1, are.1.machine ∙ finds.2, are.1.tools ∙ finds.3, are.1.delete ∙ finds.4, none_replaced found.1 list.origins are.1.origins finds.5,
-    are.1.dialect ∙ finds.6)
+requested_list program machine tools delete (Some found) (ToList list) finds are = (
+  are.1.program ∙ finds.1,
+  are.1.machine ∙ finds.2,
+  are.1.tools ∙ finds.3,
+  are.1.delete ∙ finds.4,
+  none_replaced found.1 list.origins are.1.origins finds.5,
+  are.1.dialect ∙ finds.6,
+)
 requested_list program machine tools delete (Some found) (ToCertify certify) finds are =
     other_name (codes "list") (codes "certify") (sym finds.0 ∙ are.0) (λ lengths. omega (arith, lengths))
 requested_list program machine tools delete (Some found) (ToCheck check) finds are =

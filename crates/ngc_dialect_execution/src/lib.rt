@@ -4,8 +4,8 @@
 
 mod fault;
 mod fold;
-mod lines;
 pub mod laws;
+mod lines;
 mod program;
 mod reading;
 mod words;

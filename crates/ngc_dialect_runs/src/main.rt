@@ -58,9 +58,7 @@ fn print_fault(rt: &impl Print, fault: &DialectFault) -> io::Result<()> {
     let number = fault.number();
     match fault {
         DialectFault::At { line, cause } => match cause {
-            Cause::Reading(fault) => {
-                println!(rt; "fault {number} line {line}: {fault}")
-            }
+            Cause::Reading(fault) => { println!(rt; "fault {number} line {line}: {fault}") }
             Cause::Value(cause) => println!(rt; "fault {number} line {line}: {cause}"),
             Cause::Rule(fault) => {
                 let cause = fault.cause;
