@@ -1,5 +1,6 @@
-use Rattle.std.proofs.Common.{◌^◌, ap, length, arith, rules, refl}
+use Rattle.std.proofs.Common.{◌≡◌, ◌*◌, ◌^◌, ℕ, ap, subst, length, arith, rules, refl}
 use Rattle.ngc_machine_model.specs.State.{Job}
+use Rattle.ngc_run_through.specs.Stretches.{Finishes}
 use Rattle.ngc_run_through.proofs.Policy.{last_ticks}
 use Rattle.ngc_run_through.proofs.UntouchedEvents.{none_finished, one_more_finished, breaks_later, few_behind}
 use Rattle.ngc_run_through.proofs.through.finish.Goals as goal
@@ -35,3 +36,9 @@ loop-command-preserved g c = record {
 
 pub returns-in-Err-clause-fault : goal.returns-in-Err-clause-fault
 returns-in-Err-clause-fault g c = breaks_later _ _ _ _ _ _ _ _ _ _ c.loop-command.invariant.goes.goes c.in-Err.ensures.fault
+
+pub returns-clause-goes : goal.returns-clause-goes
+returns-clause-goes g c =
+    let all : c.loop-command._command ≡ c.args.count = omega (arith, c.loop-command-test.false, c.loop-command.auto._command-end) in
+    subst (λ (n : ℕ). Finishes (n * 2 ^ 103) 0 n c.args.controller.now c.loop-command.controller c.args.recorder.now c.loop-command.recorder
+    (g.W.Sink.written c.args.sink.now) (g.W.Sink.written c.loop-command.sink)) all c.loop-command.invariant.goes
