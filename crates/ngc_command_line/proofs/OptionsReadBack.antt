@@ -67,39 +67,33 @@ abbrev FindsList : Option Text → Option Text → Option Text → Bool → Opti
 FindsList program machine tools delete None = ⊥
 FindsList program machine tools delete (Some found) = (found.0 ≡ codes "list") × (first_of (codes "program") found.1 ≡ program)
     × (first_of (codes "machine") found.1 ≡ machine) × (first_of (codes "tools") found.1 ≡ tools) × (is_set (codes "delete") found.1 ≡ delete)
-    × (change_texts found.1 ≡ no_texts) × (first_of (codes "dialect") found.1 ≡ None)
+    × (change_texts found.1 ≡ no_texts)
 
 list_spells : (program machine tools : Option Text) (delete : Bool) → Spells (list_words program machine tools delete) (FindsList program machine tools delete)
 unfolding clap_on_literals
-list_spells None None None false = (refl, (refl, refl, refl, refl, refl, refl, refl))
-list_spells None None None true = (refl, (refl, refl, refl, refl, refl, refl, refl))
-list_spells None None (Some tools) false = (refl, (refl, refl, refl, refl, refl, refl, refl))
-list_spells None None (Some tools) true = (refl, (refl, refl, refl, refl, refl, refl, refl))
-list_spells None (Some machine) None false = (refl, (refl, refl, refl, refl, refl, refl, refl))
-list_spells None (Some machine) None true = (refl, (refl, refl, refl, refl, refl, refl, refl))
-list_spells None (Some machine) (Some tools) false = (refl, (refl, refl, refl, refl, refl, refl, refl))
-list_spells None (Some machine) (Some tools) true = (refl, (refl, refl, refl, refl, refl, refl, refl))
-list_spells (Some program) None None false = (refl, (refl, refl, refl, refl, refl, refl, refl))
-list_spells (Some program) None None true = (refl, (refl, refl, refl, refl, refl, refl, refl))
-list_spells (Some program) None (Some tools) false = (refl, (refl, refl, refl, refl, refl, refl, refl))
-list_spells (Some program) None (Some tools) true = (refl, (refl, refl, refl, refl, refl, refl, refl))
-list_spells (Some program) (Some machine) None false = (refl, (refl, refl, refl, refl, refl, refl, refl))
-list_spells (Some program) (Some machine) None true = (refl, (refl, refl, refl, refl, refl, refl, refl))
-list_spells (Some program) (Some machine) (Some tools) false = (refl, (refl, refl, refl, refl, refl, refl, refl))
-list_spells (Some program) (Some machine) (Some tools) true = (refl, (refl, refl, refl, refl, refl, refl, refl))
+list_spells None None None false = (refl, (refl, refl, refl, refl, refl, refl))
+list_spells None None None true = (refl, (refl, refl, refl, refl, refl, refl))
+list_spells None None (Some tools) false = (refl, (refl, refl, refl, refl, refl, refl))
+list_spells None None (Some tools) true = (refl, (refl, refl, refl, refl, refl, refl))
+list_spells None (Some machine) None false = (refl, (refl, refl, refl, refl, refl, refl))
+list_spells None (Some machine) None true = (refl, (refl, refl, refl, refl, refl, refl))
+list_spells None (Some machine) (Some tools) false = (refl, (refl, refl, refl, refl, refl, refl))
+list_spells None (Some machine) (Some tools) true = (refl, (refl, refl, refl, refl, refl, refl))
+list_spells (Some program) None None false = (refl, (refl, refl, refl, refl, refl, refl))
+list_spells (Some program) None None true = (refl, (refl, refl, refl, refl, refl, refl))
+list_spells (Some program) None (Some tools) false = (refl, (refl, refl, refl, refl, refl, refl))
+list_spells (Some program) None (Some tools) true = (refl, (refl, refl, refl, refl, refl, refl))
+list_spells (Some program) (Some machine) None false = (refl, (refl, refl, refl, refl, refl, refl))
+list_spells (Some program) (Some machine) None true = (refl, (refl, refl, refl, refl, refl, refl))
+list_spells (Some program) (Some machine) (Some tools) false = (refl, (refl, refl, refl, refl, refl, refl))
+list_spells (Some program) (Some machine) (Some tools) true = (refl, (refl, refl, refl, refl, refl, refl))
 
 requested_list : (program machine tools : Option Text) (delete : Bool) (found : Option (Text × List Row)) (options : Options) →
     FindsList program machine tools delete found
     → AreOptions found options → IsListRequest program machine tools delete options
 requested_list program machine tools delete None options finds are = absurd finds
-requested_list program machine tools delete (Some found) (ToList list) finds are = (
-  are.1.program ∙ finds.1,
-  are.1.machine ∙ finds.2,
-  are.1.tools ∙ finds.3,
-  are.1.delete ∙ finds.4,
-  none_replaced found.1 list.changes are.1.changes finds.5,
-  are.1.dialect ∙ finds.6,
-)
+requested_list program machine tools delete (Some found) (ToList list) finds are =
+    (are.1.program ∙ finds.1, are.1.machine ∙ finds.2, are.1.tools ∙ finds.3, are.1.delete ∙ finds.4, none_replaced found.1 list.changes are.1.changes finds.5)
 requested_list program machine tools delete (Some found) (ToCertify certify) finds are =
     other_name (codes "list") (codes "certify") (sym finds.0 ∙ are.0) (λ lengths. omega (arith, lengths))
 requested_list program machine tools delete (Some found) (ToCheck check) finds are =

@@ -48,12 +48,11 @@ rapids_option = file_option (codes "rapids")
 abbrev pub flag : Text → Rule
 flag name = record (new_rule name) { long = Some name; action = Some SetTrue }
 
--- `list [--program FILE] [--machine FILE] [--tools FILE] [--delete] [--origin SYSTEM=X,Y,Z]..
--- [--dialect NAME]`
+-- `list [--program FILE] [--machine FILE] [--tools FILE] [--delete] [--origin SYSTEM=X,Y,Z]..`
 abbrev pub list_app : App
 list_app = fold with_rule (new_app (codes "list"))
     (file_option (codes "program") ∷ file_option (codes "machine") ∷ file_option (codes "tools")
-    ∷ flag (codes "delete") ∷ origin_option ∷ file_option (codes "dialect") ∷ [])
+    ∷ flag (codes "delete") ∷ origin_option ∷ [])
 
 -- In the commands below, the last two points stand for `[--margin MM] [--travel-margin MM]` and
 -- `[--rapids WAY]`.

@@ -104,7 +104,6 @@ pub record AreListOptions (rows : List Row) (options : ListOptions) : Type 0 whe
   pub machine : option_map (λ name. name.now) options.machine ≡ first_of (codes "machine") rows
   pub tools : option_map (λ name. name.now) options.tools ≡ first_of (codes "tools") rows
   pub delete : options.delete ≡ is_set (codes "delete") rows
-  pub dialect : option_map (λ name. name.now) options.dialect ≡ first_of (codes "dialect") rows
   pub changes : changes_in rows ≡ Some options.changes
 
 -- the number of cuts: 8 without a text, otherwise the number from 1 to 65,535 whose decimal the
@@ -379,7 +378,6 @@ IsListRequest program machine tools delete (ToList list) =
     × (option_map (λ name. name.now) list.machine ≡ machine)
     × (option_map (λ name. name.now) list.tools ≡ tools)
     × (list.delete ≡ delete) × (list.changes ≡ no_changes)
-    × (option_map (λ name. name.now) list.dialect ≡ None)
 IsListRequest program machine tools delete other = ⊥
 
 -- `certify` is requested, with these options, by default 8 cuts and version 1, and no key is

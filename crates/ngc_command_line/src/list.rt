@@ -26,19 +26,11 @@ const TOOLS: Argument<'static> = Argument {
     help: "Tool table in TOML: each tool's number, size and offset\n[default: no tools]",
 };
 
-const DIALECT: Argument<'static> = Argument {
-    name: "dialect",
-    is_named: true,
-    is_required: false,
-    takes: Takes::Text("NAME"),
-    help: "Language of the part program: linuxcnc, grbl, mach3\nor fanuc [default: our own]",
-};
-
 pub(crate) static LIST: SubcommandRow<'static> = SubcommandRow {
     name: "list",
     about: "Print the commands of a part program, one a line",
     help_end: help_end!("  ngc list --program examples/facing.ngc"),
-    arguments: &[PROGRAM, MACHINE, TOOLS, DELETE, ORIGIN, DIALECT],
+    arguments: &[PROGRAM, MACHINE, TOOLS, DELETE, ORIGIN],
 };
 
 pub(crate) fn list_options<'a>(found: &ArgMatches<'a>, changes: Changes) -> ListOptions<'a>
@@ -51,6 +43,5 @@ pub(crate) fn list_options<'a>(found: &ArgMatches<'a>, changes: Changes) -> List
         tools: found.get_str("tools"),
         delete: flag_is_set(found, "delete"),
         changes,
-        dialect: found.get_str("dialect"),
     }
 }

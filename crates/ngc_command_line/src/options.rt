@@ -53,8 +53,6 @@ pub struct ListOptions<'a> {
     pub delete: bool,
     /// What replaces keys of the machine file.
     pub changes: Changes,
-    /// The control in whose language the program is written. Without one it is our own language.
-    pub dialect: Option<&'a str>,
 }
 
 /// The version of the text of a certificate.

@@ -2,7 +2,6 @@ ghost use Rattle.std.specs.Prelude.{◌≡◌};
 ghost use Rattle.ngc_fault_texts.specs.Numbers.{fault_numbers};
 ghost use Rattle.ngc_fault_texts.specs.Explanations.{numbers_of};
 
-use crate::dialects::dialects;
 use crate::programs::{places, values, words};
 use crate::reading::{files, lines};
 use crate::runs::{events, log, shell};
@@ -36,7 +35,7 @@ pub struct Part {
 }
 
 /// Returns the parts of the page in their order.
-pub fn page() -> [Part; 13]
+pub fn page() -> [Part; 12]
     ensures { numbers_of result ≡ fault_numbers }
 {
     [
@@ -74,11 +73,6 @@ pub fn page() -> [Part; 13]
             title: "Arcs",
             column: None,
             rows: arcs(),
-        },
-        Part {
-            title: "Programs for other controls",
-            column: None,
-            rows: dialects(),
         },
         Part {
             title: "Machine file and tool table",

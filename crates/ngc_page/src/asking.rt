@@ -64,7 +64,6 @@ pub fn list_options(delete: bool) -> Options<'static>
         tools: Some("tools"),
         delete,
         changes: Changes::none(),
-        dialect: None,
     })
 }
 

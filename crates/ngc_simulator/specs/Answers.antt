@@ -64,7 +64,6 @@ use Rattle.ngc_inputs.specs.Unread.{Input, OfProgram, OfCertificate, OfEvents, O
 use Rattle.ngc_adapt_program.specs.declared.request.Request.{Request}
 use Rattle.ngc_adapt_program.specs.Requests.{control_named, dropped_codes}
 use Rattle.ngc_simulator.specs.Adapting.{Adapts, IsRequest}
-use Rattle.ngc_simulator.specs.Dialects.{ListsDialect, named_dialect}
 use Rattle.ngc_simulator.specs.Making.{Makes, OnDump, has_source}
 use Rattle.ngc_inputs.specs.Unread.{FailsByInput}
 
@@ -176,42 +175,12 @@ Comes Stops MayFail Does (Ok (RunThrough time)) = ⊥
 Comes Stops MayFail Does (Ok (WithNotes notes)) = ⊥
 Comes Stops MayFail Does (Err fault) = Stops fault ⊎ (MayFail fault × Does (Err fault))
 
-abbrev pub OwnListResult : FileBytes → ListOptions → Option (List ℕ) → Option (List ℕ) →
-    Result Done AnswerFault → Type 0
-OwnListResult bytes options old new outcome =
-    Comes (StopsPlaced bytes (option_map (λ name. name.now) options.machine)
-    (option_map (λ name. name.now) options.tools) options.changes old new) OfListing
-    (ListsOn bytes options old new) outcome
-
-abbrev pub DialectListsOn : FileBytes → ListOptions → Option (List ℕ) → Option (List ℕ) →
-    Result Done AnswerFault → Type 0
-DialectListsOn bytes options old new outcome =
-    OnPlaced bytes (option_map (λ name. name.now) options.machine)
-    (option_map (λ name. name.now) options.tools) options.changes
-    (λ setup. ListsDialect setup old new outcome)
-
--- a program for another control: the control is unknown, or the files aren't read, or it is listed
-abbrev pub DialectListResult : List ℕ → FileBytes → ListOptions → Option (List ℕ) →
-    Option (List ℕ) → Result Done AnswerFault → Type 0
-DialectListResult name bytes options old new (Ok done) =
-    DialectListsOn bytes options old new (Ok done)
-DialectListResult name bytes options old new (Err answers.UnknownControl) =
-    (named_dialect name ≡ None) × Keeps old new
-DialectListResult name bytes options old new (Err fault) =
-    StopsPlaced bytes (option_map (λ name. name.now) options.machine)
-    (option_map (λ name. name.now) options.tools) options.changes old new fault
-    ⊎ DialectListsOn bytes options old new (Err fault)
-
-abbrev pub ListResultIn : Option (List ℕ) → FileBytes → ListOptions → Option (List ℕ) →
-    Option (List ℕ) → Result Done AnswerFault → Type 0
-ListResultIn None bytes options old new outcome = OwnListResult bytes options old new outcome
-ListResultIn (Some name) bytes options old new outcome =
-    DialectListResult name bytes options old new outcome
-
 abbrev pub ListResult : FileBytes → ListOptions → Option (List ℕ) → Option (List ℕ) →
     Result Done AnswerFault → Type 0
 ListResult bytes options old new outcome =
-    ListResultIn (option_map (λ name. name.now) options.dialect) bytes options old new outcome
+    Comes (StopsPlaced bytes (option_map (λ name. name.now) options.machine)
+    (option_map (λ name. name.now) options.tools) options.changes old new) OfListing
+    (ListsOn bytes options old new) outcome
 
 abbrev pub CertifyResult : FileBytes → CertifyOptions → Option (List ℕ) → Option (List ℕ) →
     Result Done AnswerFault → Type 0
@@ -626,7 +595,7 @@ Takes sink text =
 
 -- the commands that print nothing on standard error when they are done
 abbrev pub IsQuiet : Options → Type 0
-IsQuiet (commands.List options) = options.dialect ≡ None
+IsQuiet (commands.List options) = Unit {0}
 IsQuiet (commands.Certify options) = Unit {0}
 IsQuiet (commands.Check options) = Unit {0}
 IsQuiet (commands.Run options) = Unit {0}

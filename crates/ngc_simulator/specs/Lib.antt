@@ -12,7 +12,6 @@ pub mod Making
 pub mod Mistaken
 pub mod Status
 pub mod Adapting
-pub mod Dialects
 pub mod Certifying
 pub mod Placing
 pub mod Answers

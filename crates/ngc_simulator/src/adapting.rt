@@ -171,7 +171,7 @@ fn request_on(machine: &Machine<Global>, options: &AdaptOptions<'_>, asked: &Req
 }
 
 // Returns the bytes of the named file, or of standard input.
-pub(crate) fn source_bytes<F: Files>(
+fn source_bytes<F: Files>(
     alloc: Global,
     name: Option<&str>,
     files: &mut F,

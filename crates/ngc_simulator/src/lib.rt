@@ -5,7 +5,6 @@
 mod adapting;
 mod certifier;
 mod checking;
-mod dialects;
 mod done;
 mod drawing;
 mod drawing_files;

@@ -2,23 +2,23 @@ use Rattle.std.proofs.Common.{[], ◌∷◌, Ok, Err, ap, ◌∙◌, inl, inr}
 use Rattle.ngc_simulator.proofs.FileLaws.{listed}
 use Rattle.ngc_report.proofs.Converted.{turned}
 use Rattle.ngc_inputs.proofs.JobLaws.{keeps_same}
-use Rattle.ngc_simulator.specs.Answers.{program_input, OwnListResult, list_inputs}
+use Rattle.ngc_simulator.specs.Answers.{program_input, ListResult, list_inputs}
 use Rattle.ngc_inputs.specs.Unread.{OfProgram, SourceFails, shop_inputs, unread_by}
 use Rattle.ngc_inputs.specs.declared.fault.AnswerFault.TheVariants as answers
 use Rattle.ngc_inputs.proofs.UnreadLaws.{list_told, placed_read, reported_before, unopened, unread_told}
 use Rattle.std.specs.Prelude.{option_map}
-use Rattle.ngc_simulator.proofs.lister.list_own.Goals as goal
+use Rattle.ngc_simulator.proofs.lister.list_files.Goals as goal
 
 pub returns-in_err-shop-clause-comes : goal.returns-in_err-shop-clause-comes
 returns-in_err-shop-clause-comes g c =
     turned _ c.in_err-shop.field-0.0
-    (OwnListResult (g.F.Files.bytes c.args.files.now) c.args.options.now (g.W.Sink.written c.args.output.now) (g.W.Sink.written c.args.output.now))
+    (ListResult (g.F.Files.bytes c.args.files.now) c.args.options.now (g.W.Sink.written c.args.output.now) (g.W.Sink.written c.args.output.now))
     c.from_residual.ensures.1 (inl (c.in_err-shop.ensures.said, keeps_same _))
 
 pub returns-in_err-source-clause-comes : goal.returns-in_err-source-clause-comes
 returns-in_err-source-clause-comes g c =
     turned _ (answers.Input c.in_err-source.field-0.0)
-    (OwnListResult (g.F.Files.bytes c.args.files.now) c.args.options.now (g.W.Sink.written c.args.output.now) (g.W.Sink.written c.args.output.now))
+    (ListResult (g.F.Files.bytes c.args.files.now) c.args.options.now (g.W.Sink.written c.args.output.now) (g.W.Sink.written c.args.output.now))
     c.from_residual-in_err-source.ensures.1 (inl (tt, keeps_same _))
 
 pub returns-clause-comes : goal.returns-clause-comes
@@ -30,7 +30,7 @@ returns-clause-comes g c =
 pub returns-in_err-list-clause-comes : goal.returns-in_err-list-clause-comes
 returns-in_err-list-clause-comes g c =
     turned _ c.in_err-list.field-0.0
-    (OwnListResult (g.F.Files.bytes c.args.files.now) c.args.options.now (g.W.Sink.written c.args.output.now) (g.W.Sink.written c.list.new.output))
+    (ListResult (g.F.Files.bytes c.args.files.now) c.args.options.now (g.W.Sink.written c.args.output.now) (g.W.Sink.written c.list.new.output))
     c.from_residual-in_err-list.ensures.1
     (inr (
       c.in_err-list.ensures.faults,

@@ -1,6 +1,0 @@
-pub mod Faults
-pub mod Executed
-pub mod Taken
-pub mod Views
-pub mod Laws
-pub mod Text
