@@ -79,8 +79,16 @@ pub fn read_demands(
     ensures { result ≡ spec.parsed_demands (option_map (λ t. t.now) margin.entry)
         (option_map (λ t. t.now) travel_margin.entry) (option_map (λ t. t.now) rapids.entry) }
 {
-    let margin = margin_of(margin, DemandMistake::Margin)?;
-    let travel_margin = margin_of(travel_margin, DemandMistake::TravelMargin)?;
-    let rapids = rapids_of(rapids)?;
-    Ok(Demands::of(margin, travel_margin, rapids))
+    match (
+        margin_of(margin, DemandMistake::Margin),
+        margin_of(travel_margin, DemandMistake::TravelMargin),
+        rapids_of(rapids),
+    ) {
+        (Ok(margin), Ok(travel_margin), Ok(rapids)) => {
+            Ok(Demands::of(margin, travel_margin, rapids))
+        }
+        (Err(mistake), _, _) | (Ok(_), Err(mistake), _) | (Ok(_), Ok(_), Err(mistake)) => {
+            Err(mistake)
+        }
+    }
 }
