@@ -6,7 +6,8 @@ ghost use Rattle.ngc_command_line.specs.Meant.{AreCertifyOptions, AreCuts, HasCe
 ghost use Rattle.ngc_command_line.specs.Meant.{IsFormat, changes_in};
 
 use crate::arguments::{
-    CUTS, MARGIN, ORIGIN, PROGRAM, RAPIDS, REQUIRED_MACHINE, REQUIRED_TOOLS, TRAVEL_MARGIN, help_end, required,
+    CUTS, MARGIN, ORIGIN, PROGRAM, RAPIDS, REQUIRED_MACHINE, REQUIRED_TOOLS, TRAVEL_MARGIN,
+    help_end, required,
 };
 use crate::options::{CertifyOptions, Format};
 use crate::table::{Argument, SubcommandRow, Takes};

@@ -6,7 +6,8 @@ ghost use Rattle.ngc_command_line.specs.Meant.{AreCheckOptions, HasCheckValues, 
 
 use crate::CheckOptions;
 use crate::arguments::{
-    MARGIN, ORIGIN, PROGRAM, RAPIDS, REQUIRED_CERTIFICATE, REQUIRED_MACHINE, REQUIRED_TOOLS, TRAVEL_MARGIN, help_end, required,
+    MARGIN, ORIGIN, PROGRAM, RAPIDS, REQUIRED_CERTIFICATE, REQUIRED_MACHINE, REQUIRED_TOOLS,
+    TRAVEL_MARGIN, help_end, required,
 };
 use crate::table::SubcommandRow;
 use clap::ArgMatches;

@@ -5,7 +5,8 @@ ghost use Rattle.clap.specs.Words.{found_of, rows_of};
 ghost use Rattle.ngc_command_line.specs.Meant.{AreLiveOptions, HasLiveValues, changes_in};
 
 use crate::arguments::{
-    DELETE, MARGIN, ORIGIN, RAPIDS, REQUIRED_CERTIFICATE, REQUIRED_MACHINE, REQUIRED_TOOLS, TRAVEL_MARGIN, flag_is_set, help_end, required,
+    DELETE, MARGIN, ORIGIN, RAPIDS, REQUIRED_CERTIFICATE, REQUIRED_MACHINE, REQUIRED_TOOLS,
+    TRAVEL_MARGIN, flag_is_set, help_end, required,
 };
 use crate::options::LiveOptions;
 use crate::run::{INVERTED, LOG_OUTPUT, mask_of};

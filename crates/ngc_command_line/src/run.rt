@@ -5,7 +5,8 @@ ghost use Rattle.clap.specs.Words.{IsUnsignedIn, first_of, found_of, rows_of};
 ghost use Rattle.ngc_command_line.specs.Meant.{AreRunsOptions, HasRunValues, IsMask, changes_in};
 
 use crate::arguments::{
-    DELETE, MARGIN, ORIGIN, PROGRAM, RAPIDS, REQUIRED_CERTIFICATE, REQUIRED_MACHINE, REQUIRED_TOOLS, TRAVEL_MARGIN, flag_is_set, help_end, required,
+    DELETE, MARGIN, ORIGIN, PROGRAM, RAPIDS, REQUIRED_CERTIFICATE, REQUIRED_MACHINE,
+    REQUIRED_TOOLS, TRAVEL_MARGIN, flag_is_set, help_end, required,
 };
 use crate::options::{Options, Recording, RunOptions, RunThroughOptions};
 use crate::table::{Argument, SubcommandRow, Takes};

@@ -131,8 +131,8 @@ fn add_check_place(chunk: &mut Chunk, fault: &CheckFault)
 {
     match fault {
         CheckFault::Program { setting, fault } => add_refused(chunk, *setting, fault),
-        CheckFault::MotionsDiffer { setting, command }
-        | CheckFault::Divided { setting, command } => add_command(chunk, *setting, *command),
+        CheckFault::MotionsDiffer { setting, command } | CheckFault::Divided { setting, command } =>
+            add_command(chunk, *setting, *command),
         CheckFault::Start { fixture } => add_fixture(chunk, *fixture),
         CheckFault::Piece {
             setting,

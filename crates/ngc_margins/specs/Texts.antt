@@ -1,10 +1,9 @@
 -- The values of the options: `--margin 2` and `--travel-margin 0.5` are millimetres, and
 -- `--rapids free` or `--rapids straight` is the way of traverses. Our own.
-use Rattle.std.specs.Prelude.{ℕ, ℤ, pos, nat_le, List, Option, Some, None, Result, Ok, Err, codes}
+use Rattle.std.specs.Prelude.{ℕ, ℤ, pos, nat_le, List, Option, Some, None, Result, Ok, Err}
 use Rattle.std.specs.Prelude.{if◌then◌else◌}
-use Rattle.std.specs.Str.{bytes_eq}
+use Rattle.ngc_machine_files.specs.Tree.{rapids_named}
 use Rattle.ngc_machine_files.specs.declared.machine.Rapids.{Rapids}
-use Rattle.ngc_machine_files.specs.declared.machine.Rapids.TheVariants.{Free, Straight}
 use Rattle.ngc_machine_maker.specs.Decimals.{number_in}
 use Rattle.ngc_margins.specs.Demands.{Demand}
 use Rattle.ngc_margins.specs.declared.reading.DemandMistake.{DemandMistake}
@@ -18,11 +17,6 @@ small (Some n) = if nat_le n 100000000 then Some (pos n) else None
 -- millimetres with at most six decimals, in nanometres
 abbrev pub margin_in : List ℕ → Option ℤ
 margin_in text = small (number_in 6 text)
-
-abbrev pub rapids_in : List ℕ → Option Rapids
-rapids_in text =
-    if bytes_eq text (codes "free") then Some Free else
-    if bytes_eq text (codes "straight") then Some Straight else None
 
 abbrev pub written : {T : Type 0} → DemandMistake → Option T → Result (Option T) DemandMistake
 written mistake None = Err mistake
@@ -47,4 +41,4 @@ abbrev pub parsed_demands : Option (List ℕ) → Option (List ℕ) → Option (
     Result Demand DemandMistake
 parsed_demands margin travel rapids =
     three (value_of margin_in mistakes.Margin margin)
-    (value_of margin_in mistakes.TravelMargin travel) (value_of rapids_in mistakes.Rapids rapids)
+    (value_of margin_in mistakes.TravelMargin travel) (value_of rapids_named mistakes.Rapids rapids)

@@ -82,8 +82,8 @@ impl Demands {
     fn margins(&self, own: &Margins) -> Margins
         requires { AreMargins own.now }
         ensures value { result ≡ record {
-            fixtures = unwrap_or self.now.margin own.now.fixtures;
-            travel = unwrap_or self.now.travel_margin own.now.travel;
+          fixtures = unwrap_or self.now.margin own.now.fixtures;
+          travel = unwrap_or self.now.travel_margin own.now.travel;
         } }
         ensures range { AreMargins result }
     {

@@ -1,5 +1,6 @@
 ghost use Rattle.std.specs.Prelude.{◌≡◌, IfOk, IfSome, option_map, pos};
 ghost use Rattle.ngc_machine_files.specs.Ranges.{IsFrom, MARGIN_LIMIT};
+ghost use Rattle.ngc_machine_files.specs.Tree.{rapids_named};
 ghost use Rattle.ngc_margins.specs.Texts as spec;
 
 use crate::demands::Demands;
@@ -34,13 +35,15 @@ fn margin_in(text: &[u8]) -> Option<Nm>
     }
 }
 
-fn rapids_in(text: &[u8]) -> Option<Rapids>
-    ensures { result ≡ spec.rapids_in text.now }
+fn rapids_in(text: &str) -> Option<Rapids>
+    ensures { result ≡ rapids_named text.now }
 {
-    match text {
-        b"free" => Some(Rapids::Free),
-        b"straight" => Some(Rapids::Straight),
-        _ => None,
+    if text == "straight" {
+        Some(Rapids::Straight)
+    } else if text == "free" {
+        Some(Rapids::Free)
+    } else {
+        None
     }
 }
 
@@ -58,12 +61,12 @@ fn margin_of(text: Option<&str>, mistake: DemandMistake) -> Result<Option<Nm>, D
 }
 
 fn rapids_of(text: Option<&str>) -> Result<Option<Rapids>, DemandMistake>
-    ensures { result ≡ spec.value_of spec.rapids_in DemandMistake.Rapids (option_map (λ t. t.now) text.entry) }
+    ensures { result ≡ spec.value_of rapids_named DemandMistake.Rapids (option_map (λ t. t.now) text.entry) }
 {
     let Some(text) = text else {
         return Ok(None);
     };
-    match rapids_in(text.as_bytes()) {
+    match rapids_in(text) {
         Some(rapids) => Ok(Some(rapids)),
         None => Err(DemandMistake::Rapids),
     }
