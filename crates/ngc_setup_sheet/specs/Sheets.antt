@@ -83,12 +83,15 @@ abbrev pub is_free : Rapids → Bool
 is_free ways.Straight = false
 is_free ways.Free = true
 
+-- a margin, if it isn't 0
+abbrev pub margin_line : Fact → ℤ → List Line
+margin_line fact margin =
+    line_where (not (int_eq margin (pos 0))) (lines.Fact fact (figures.Length margin))
+
 abbrev pub margin_facts : MachineFile → List Line
 margin_facts m =
-    line_where (not (int_eq m.margins.fixtures (pos 0)))
-    (lines.Fact facts.Margin (figures.Length m.margins.fixtures)) ++
-    (line_where (not (int_eq m.margins.travel (pos 0)))
-    (lines.Fact facts.TravelMargin (figures.Length m.margins.travel)) ++
+    margin_line facts.Margin m.margins.fixtures ++
+    (margin_line facts.TravelMargin m.margins.travel ++
     line_where (is_free m.rapids) (lines.Fact facts.Rapids figures.AnyWay))
 
 abbrev pub rate_facts : MachineFile → List Line

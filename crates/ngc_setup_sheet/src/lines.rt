@@ -7,7 +7,7 @@ ghost use Rattle.ngc_setup_sheet.specs.Reaches.{IsReach};
 ghost use Rattle.ngc_fixed_length.specs.declared.modes.System.TheVariants as systems;
 ghost use Rattle.ngc_setup_sheet.specs.declared.line.Figure.TheVariants as figures;
 ghost use Rattle.ngc_setup_sheet.specs.Sheets.{line_where, warned, from, axis_speed, step_facts};
-ghost use Rattle.ngc_setup_sheet.specs.Sheets.{jump_facts, ring_facts, arc_feed_facts, changer_facts, is_free, margin_facts, rate_facts, machine_places, corner_notes};
+ghost use Rattle.ngc_setup_sheet.specs.Sheets.{jump_facts, ring_facts, arc_feed_facts, changer_facts, is_free, margin_line, margin_facts, rate_facts, machine_places, corner_notes};
 ghost use Rattle.ngc_setup_sheet.specs.Sheets.{is_zero, origin_lines, next_system, origins_from};
 ghost use Rattle.ngc_setup_sheet.specs.Sheets.{machine_warnings, machine_lines, fixture_facts};
 ghost use Rattle.ngc_setup_sheet.specs.Sheets.{fixture_lines, part_line, part_lines, tool_facts};
@@ -135,23 +135,26 @@ fn add_changer<A: Allocator>(lines: &mut Lines, machine: &Machine<A>)
     );
 }
 
+fn add_margin(lines: &mut Lines, fact: Fact, margin: Nm)
+    requires { array_vec_len lines.old < 52 }
+    ensures items { lines.new.items ≡ lines.old.items ++ margin_line fact margin }
+    ensures few { array_vec_len lines.new ≤ array_vec_len lines.old + 1 }
+{
+    let nanometres = margin.nanometres();
+    add_where(
+        lines,
+        nanometres != 0,
+        Line::Fact(fact, Figure::Length(nanometres)),
+    );
+}
+
 fn add_margins<A: Allocator>(lines: &mut Lines, machine: &Machine<A>)
     requires { array_vec_len lines.old + 3 ≤ 52 }
     ensures items { lines.new.items ≡ lines.old.items ++ margin_facts (file_of machine.now) }
     ensures few { array_vec_len lines.new ≤ array_vec_len lines.old + 3 }
 {
-    let margin = machine.margins.fixtures.nanometres();
-    let travel = machine.margins.travel.nanometres();
-    add_where(
-        lines,
-        margin != 0,
-        Line::Fact(Fact::Margin, Figure::Length(margin)),
-    );
-    add_where(
-        lines,
-        travel != 0,
-        Line::Fact(Fact::TravelMargin, Figure::Length(travel)),
-    );
+    add_margin(lines, Fact::Margin, machine.margins.fixtures);
+    add_margin(lines, Fact::TravelMargin, machine.margins.travel);
     add_where(
         lines,
         is_free(machine.rapids),

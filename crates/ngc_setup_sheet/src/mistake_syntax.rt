@@ -156,7 +156,7 @@ fn add_sentence(chunk: &mut Chunk, section: Section, key: &[u8], said: &[u8], as
 }
 
 fn add_unknown(chunk: &mut Chunk, section: Section, key: &[u8], bytes: &[u8])
-    requires { length chunk.old + 1100 ≤ CHUNK_SIZE }
+    requires { length chunk.old + 1130 ≤ CHUNK_SIZE }
     ensures { chunk.new ≡ chunk.old
         ++ (sentence_text section key.now (codes "unknown. ") (known_text section)
         ++ quote_of section key.now bytes.now) }
@@ -166,7 +166,7 @@ fn add_unknown(chunk: &mut Chunk, section: Section, key: &[u8], bytes: &[u8])
 }
 
 fn add_refused(chunk: &mut Chunk, section: Section, rule: Rule, bytes: &[u8])
-    requires { length chunk.old + 1100 ≤ CHUNK_SIZE }
+    requires { length chunk.old + 1130 ≤ CHUNK_SIZE }
     ensures { chunk.new ≡ chunk.old
         ++ (sentence_text section (key_text rule) (codes "refused. ") (requested_text rule)
         ++ quote_of section (key_text rule) bytes.now) }
@@ -178,7 +178,7 @@ fn add_refused(chunk: &mut Chunk, section: Section, rule: Rule, bytes: &[u8])
 
 /// Adds what is wrong in a file.
 fn add_mistake(chunk: &mut Chunk, mistake: &Mistake, bytes: &[u8])
-    requires { length chunk.old + 1100 ≤ CHUNK_SIZE }
+    requires { length chunk.old + 1130 ≤ CHUNK_SIZE }
     ensures { chunk.new ≡ chunk.old ++ mistake_text bytes.now mistake.now }
 {
     match mistake {

@@ -6,3 +6,7 @@ pub returns-in-Part : goal.returns-in-Part
 unfolding figure_text
 returns-in-Part g c =
     rw c.in-Part.is (then (then (says_as c.say-in-Part.ensures c.span-in-Part.ensures) c.say-in-Part-2.ensures) c.say_length-in-Part.ensures)
+
+pub returns-in-AnyWay : goal.returns-in-AnyWay
+unfolding figure_text
+returns-in-AnyWay g c = rw c.in-AnyWay.is c.say-in-AnyWay.ensures
