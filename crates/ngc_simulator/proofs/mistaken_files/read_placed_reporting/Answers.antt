@@ -1,4 +1,4 @@
-use Rattle.std.proofs.Common.{inl, subst, sym}
+use Rattle.std.proofs.Common.{inl}
 use Rattle.std.specs.Prelude.{Some, option_map}
 use Rattle.ngc_inputs.proofs.SetupLaws.{changes_refused, shop_placed}
 use Rattle.ngc_simulator.proofs.PlacedRefusals.{kept_output, report_refused}
