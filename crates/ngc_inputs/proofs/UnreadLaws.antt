@@ -10,6 +10,7 @@ use Rattle.ngc_line_reader.specs.declared.program.fault.ReadFault.{ReadFault}
 use Rattle.ngc_line_reader.specs.declared.program.fault.ReadFault.TheVariants as reads
 use Rattle.ngc_machine_files.specs.Machine.{MachineFile, file_of}
 use Rattle.ngc_machine_files.specs.MachineText.{machine_file}
+use Rattle.ngc_machine_files.specs.declared.fault.FileFault.{FileFault}
 use Rattle.ngc_machine_files.specs.ToolText.{tool_table}
 use Rattle.ngc_inputs.specs.Setups.{FileBytes, IfMachine, KeepsFiles}
 use Rattle.ngc_inputs.specs.Shops.{PlacedResultIs, ShopResultIs, IsPlaced}
