@@ -98,20 +98,15 @@ abbrev pub origins_text : Form → OriginList → List ℕ
 origins_text Words origins = origins_words origins
 origins_text Json origins = origins_facts origins
 
--- the margins that a machine keeps, and the way of its traverses; a program that is refused before
--- it moves has no machine
-abbrev pub kept_in : Option MachineFile → Kept
-kept_in None = nothing_kept
-kept_in (Some machine) = kept_by machine
-
+-- the margins that a machine keeps, and the way of its traverses
 abbrev pub kept_text : Form → Kept → List ℕ
 kept_text Words kept = kept_words kept
 kept_text Json kept = kept_facts kept
 
 -- the text before the first setting of a report, and before the other
-abbrev pub heading : Form → OriginList → Option MachineFile → Bool → Bool → Setting → List ℕ
-heading form origins machine first named s =
-    (if first then opening form ++ (origins_text form origins ++ kept_text form (kept_in machine))
+abbrev pub heading : Form → OriginList → Kept → Bool → Bool → Setting → List ℕ
+heading form origins kept first named s =
+    (if first then opening form ++ (origins_text form origins ++ kept_text form kept)
     else [])
     ++ (if named then setting_line form s else [])
 
@@ -139,7 +134,7 @@ remarks form s setup h commands lines =
 abbrev pub setting_text : Form → OriginList → Bool → Bool → Setting → Setup → List Command →
     List Entry → ProgramTimeData → History → List Line → List ℕ
 setting_text form origins first named s setup commands motions time h lines =
-    heading form origins (Some setup.machine) first named s
+    heading form origins (kept_by setup.machine) first named s
     ++ (report_text form (fit_lines setup.machine commands motions)
     ++ (duration_text form setup.tools commands time
     ++ remarks form s setup h commands lines))
@@ -233,7 +228,7 @@ told_at machine k =
 abbrev pub refusal_text : Form → OriginList → Bool → Setting → Setup → List Command → ℕ →
     List Line → History → List ℕ
 refusal_text form origins named s setup commands k lines h =
-    heading form origins (Some setup.machine) true named s
+    heading form origins (kept_by setup.machine) true named s
     ++ (missing_at form origins setup.machine commands h (told_at setup.machine k)
     ++ (cause_text form origins setup.machine commands (told_at setup.machine k)
     (met_at setup.machine commands k) lines (frame_of commands h k)
@@ -269,7 +264,7 @@ first_of (k ∷ ks) = Some k
 abbrev pub setting_refusals : Form → OriginList → Bool → Bool → Setting → Setup → List Command →
     History → List ℕ → List Line → List ℕ
 setting_refusals form origins first named s setup commands h ks lines =
-    heading form origins (Some setup.machine) first named s
+    heading form origins (kept_by setup.machine) first named s
     ++ (missing_at form origins setup.machine commands h (first_of ks)
     ++ (all_refusals form origins setup.machine commands h ks
     ++ warnings form s setup h commands lines))
@@ -294,7 +289,7 @@ refused_line Json = codes ",\n{\"fact\":\"verdict\",\"fits\":false}"
 -- the rejection at a line, with the word that a fault names, and the values of 221, 222 and 243
 abbrev pub rejection_text : Form → OriginList → Bool → Setting → ℕ → Fault → List Line → List ℕ
 rejection_text form origins named s number fault lines =
-    heading form origins None true named s
+    heading form origins nothing_kept true named s
     ++ (refused_line form
     ++ (quoted form number lines
     ++ (named_line form number fault lines

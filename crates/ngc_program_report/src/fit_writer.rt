@@ -169,13 +169,7 @@ fn write_setting<A: Allocator, M: MotionList, W: Sink>(
         (text_in subject.now.program.now).lines) }
 {
     let form = subject.form;
-    write_heading(
-        form,
-        subject.origins,
-        Some(subject.machine),
-        heading,
-        output,
-    )?;
+    write_heading(form, subject.origins, subject.machine, heading, output)?;
     write_fit(form, subject.machine, commands, motions, output)?;
     write_duration(form, subject.tools, commands, &fit.time, output)?;
     let history = fit.history;

@@ -26,7 +26,7 @@ ghost use Rattle.ngc_program_report.specs.Writing.{Writes};
 use crate::coordinates::{collect_coordinates, line_of, refused_path, write_coordinates};
 use crate::fit_writer::{is_on, write_setting_warnings, write_shop};
 use crate::met::met_at;
-use crate::report_frame::{write_ending, write_heading};
+use crate::report_frame::{write_early_heading, write_ending, write_heading};
 use crate::subject::{Execution, Heading, Subject};
 use ngc_canonical::Fault;
 use ngc_certificate::{Setting, place_fault};
@@ -229,8 +229,13 @@ pub(crate) fn write_refused<A: Allocator, W: Sink>(
         named,
         setting,
     };
-    let machine = Some(subject.machine);
-    write_heading(subject.form, subject.origins, machine, heading, output)?;
+    write_heading(
+        subject.form,
+        subject.origins,
+        subject.machine,
+        heading,
+        output,
+    )?;
     let told = refused_command(subject.machine, command);
     write_missing(subject, execution, told, output)?;
     let commands = execution.commands;
@@ -390,8 +395,13 @@ fn write_setting_refusals<A: Allocator, W: Sink>(
         (history_of execution.now.history.now.start execution.now.history.now.changes.items)
         indices.now (text_in subject.now.program.now).lines) }
 {
-    let machine = Some(subject.machine);
-    write_heading(subject.form, subject.origins, machine, heading, output)?;
+    write_heading(
+        subject.form,
+        subject.origins,
+        subject.machine,
+        heading,
+        output,
+    )?;
     write_missing(subject, execution, first_of(indices), output)?;
     write_obstacles(subject, execution, indices, output)?;
     write_setting_warnings(subject, heading.setting, execution, output)
@@ -511,7 +521,7 @@ pub fn write_rejection<A: Allocator, W: Sink>(
         named,
         setting,
     };
-    write_heading(form, origins, None::<&Machine<A>>, heading, output)?;
+    write_early_heading(form, origins, heading, output)?;
     write_all(output, refused_line(form))?;
     write_line(form, program, number, output)?;
     write_rejection_end(form, program, setting, number, fault, output)

@@ -1,5 +1,5 @@
 //! The text before and after the reports of programs.
-ghost use Rattle.std.specs.Prelude.{◌≡◌, ◌+◌, ◌≤◌, ◌++◌, length, OnOk, OnErr, option_map};
+ghost use Rattle.std.specs.Prelude.{◌≡◌, ◌+◌, ◌≤◌, ◌++◌, length, OnOk, OnErr};
 ghost use Rattle.std.specs.Io.KnownBytes.{Appends};
 ghost use Rattle.ngc_text.specs.Collected.{CHUNK_SIZE};
 ghost use Rattle.ngc_text.specs.Failures.{CountsFailure};
@@ -8,7 +8,8 @@ ghost use Rattle.ngc_report.specs.Forms.{closing, opening};
 ghost use Rattle.ngc_sentences.specs.Saying.{Says};
 ghost use Rattle.ngc_program_report.specs.Texts.{ending, heading as heading_text, hint};
 ghost use Rattle.ngc_machine_files.specs.Machine.{file_of};
-ghost use Rattle.ngc_program_report.specs.Texts.{kept_in, kept_text, origins_text, setting_line};
+ghost use Rattle.ngc_margins.specs.Lines.{kept_by, nothing_kept};
+ghost use Rattle.ngc_program_report.specs.Texts.{kept_text, origins_text, setting_line};
 ghost use Rattle.ngc_program_report.specs.Writing.{Writes};
 
 use crate::subject::Heading;
@@ -65,15 +66,6 @@ fn add_origins(chunk: &mut Chunk, form: Form, origins: &Origins)
     }
 }
 
-fn kept_in<A: Allocator>(machine: Option<&Machine<A>>) -> Kept
-    ensures { result ≡ kept_in (option_map (λ m. file_of m.now) machine.entry) }
-{
-    match machine {
-        Some(machine) => Kept::by(machine),
-        None => Kept::nothing(),
-    }
-}
-
 fn add_kept(chunk: &mut Chunk, form: Form, kept: &Kept)
     requires { length chunk.old + 500 ≤ CHUNK_SIZE }
     ensures text { chunk.new ≡ chunk.old ++ kept_text form kept.now }
@@ -86,21 +78,15 @@ fn add_kept(chunk: &mut Chunk, form: Form, kept: &Kept)
 }
 
 // Returns the text before the first setting of a report, or before the other.
-fn heading_of<A: Allocator>(
-    form: Form,
-    origins: &Origins,
-    machine: Option<&Machine<A>>,
-    heading: Heading,
-) -> Chunk
+fn heading_of(form: Form, origins: &Origins, kept: &Kept, heading: Heading) -> Chunk
     ensures { result
-        ≡ heading_text form origins.now (option_map (λ m. file_of m.now) machine.entry)
-        heading.first heading.named heading.setting }
+        ≡ heading_text form origins.now kept.now heading.first heading.named heading.setting }
 {
     let mut chunk = Chunk::new();
     if heading.first {
         chunk.add_text(opening(form));
         add_origins(&mut chunk, form, origins);
-        add_kept(&mut chunk, form, &kept_in(machine));
+        add_kept(&mut chunk, form, kept);
     }
     if heading.named {
         chunk.add_text(setting_line(form, heading.setting));
@@ -111,16 +97,30 @@ fn heading_of<A: Allocator>(
 pub(crate) fn write_heading<A: Allocator, W: Sink>(
     form: Form,
     origins: &Origins,
-    machine: Option<&Machine<A>>,
+    machine: &Machine<A>,
     heading: Heading,
     output: &mut W,
 ) -> Result<(), WriteFault>
     ensures { Writes (W.written output.old) (W.written output.new) (W.failures output.old)
         (W.failures output.new) result
-        (heading_text form origins.now (option_map (λ m. file_of m.now) machine.entry)
-        heading.first heading.named heading.setting) }
+        (heading_text form origins.now (kept_by (file_of machine.now)) heading.first heading.named
+        heading.setting) }
 {
-    heading_of(form, origins, machine, heading).write_out(output)
+    heading_of(form, origins, &Kept::by(machine), heading).write_out(output)
+}
+
+// Writes the heading of a program that is refused before its machine counts.
+pub(crate) fn write_early_heading<W: Sink>(
+    form: Form,
+    origins: &Origins,
+    heading: Heading,
+    output: &mut W,
+) -> Result<(), WriteFault>
+    ensures { Writes (W.written output.old) (W.written output.new) (W.failures output.old)
+        (W.failures output.new) result
+        (heading_text form origins.now nothing_kept heading.first heading.named heading.setting) }
+{
+    heading_of(form, origins, &Kept::nothing(), heading).write_out(output)
 }
 
 // Says the number of the reported fault, in words with `ngc explain`.

@@ -147,3 +147,9 @@ returns-in_err-on_tips-clause-tells g c =
     let said = both_planned j.machine.step j.off (commands_in true j) c.args.plans.now in
     memory_tells (IsFitText j said c.args.form c.args.origins.now (text_in c.args.program.now).lines) (g.W.Sink.written c.args.output.now) _
     c.in_err-on_tips.field-0.0 c.from_residual-in_err-on_tips.ensures.1 c.in_err-on_tips.ensures.memory
+
+pub returns-in_err-write_once-clause-counts : goal.returns-in_err-write_once-clause-counts
+returns-in_err-write_once-clause-counts g c =
+    turned _ (faults.Write c.in_err-write_once.field-0.0)
+    (λ r. FailsByWriting r (g.W.Sink.failures c.args.output.now) (g.W.Sink.failures c.write_once.new.output))
+    c.from_residual-in_err-write_once.ensures.1 c.in_err-write_once.ensures.counts
