@@ -1,7 +1,7 @@
 -- The result of reporting whether a program fits, from the results of its parts.
 use Rattle.std.proofs.Common.{◌≡◌, ℕ, List, Option, Some, Bool, true, false, Result, Ok, Err, IfSome, ap, ap₂, inl, inr, refl, subst, sym}
 use Rattle.std.proofs.Common.{◌∙◌}
-use Rattle.std.specs.Prelude.{is_some, option_map}
+use Rattle.std.specs.Prelude.{IsErrAnd, is_some, option_map}
 use Rattle.std.specs.Io.KnownBytes.{Appends, Keeps}
 use Rattle.ngc_text.specs.Written.{AppendsPrefix}
 use Rattle.ngc_text.specs.declared.writing.WriteFault.{WriteFault}
@@ -41,6 +41,7 @@ use Rattle.ngc_program_report.specs.JobReports.{FailsByWriting}
 use Rattle.ngc_inputs.specs.Faults.{FailsWith, OfCertifying, of_report}
 use Rattle.ngc_inputs.specs.declared.fault.AnswerFault.{AnswerFault}
 use Rattle.ngc_inputs.specs.declared.fault.AnswerFault.TheVariants as answers
+use Rattle.ngc_line_reader.specs.declared.program.fault.ReadFault.TheVariants as reads
 use Rattle.ngc_inputs.specs.declared.setup.Shop.{Shop}
 use Rattle.ngc_inputs.proofs.JobLaws.{HasNoJob, IsJobFor, keeps_same, made_for_file, means_job, refused_program}
 use Rattle.ngc_inputs.proofs.SetupLaws.{of_file, on_placed}
@@ -220,6 +221,15 @@ report_sink (faults.Write fault) old new h = h
 pub report_faults : (fault : ReportFault) → OfCertifying (of_report fault)
 report_faults faults.Memory = tt
 report_faults (faults.Write fault) = tt
+
+-- nor is it a fault of reading the program
+not_reading : (fault : ReportFault) (P : Type 0) → answers.Read reads.Device ≡ of_report fault → P
+not_reading faults.Memory P is = cc
+not_reading (faults.Write fault) P is = cc
+
+pub report_source : (r : Result (Unit {0}) AnswerFault) (fault : ReportFault) (P : Type 0) → IsErrAnd r (λ a. a ≡ of_report fault)
+    → r ≡ Err (answers.Read reads.Device) → P
+report_source r fault P fails read = not_reading fault P (subst (λ (x : Result (Unit {0}) AnswerFault). IsErrAnd x (λ a. a ≡ of_report fault)) read fails)
 
 -- ---- on the files that the command line names
 

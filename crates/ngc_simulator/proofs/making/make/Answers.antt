@@ -60,3 +60,6 @@ returns-clause-makes g c =
           c.in-Ok-numbers_of.ensures.value
           ((c.in_ok-text.text.items, c.in_ok-text.ensures.made, appends), refl, rw (c.into_inner.ensures, noted, c.new-told.ensures.inner, c.new.ensures.items) refl),
     )
+
+pub returns-then-is_err-clause-makes : goal.returns-then-is_err-clause-makes
+returns-then-is_err-clause-makes g c = keeps_same (g.W.Sink.written c.args.output.now)

@@ -8,7 +8,7 @@ use Rattle.ngc_inputs.specs.Jobs.{IsUnmade}
 use Rattle.ngc_simulator.specs.Reporting.{Reports}
 use Rattle.ngc_report.proofs.Converted.{turned}
 use Rattle.ngc_inputs.proofs.JobLaws.{if_known}
-use Rattle.ngc_simulator.proofs.ReportLaws.{fit_stopped, refusal_stopped, rejected, report_faults, report_sink, told_fit, told_refusal}
+use Rattle.ngc_simulator.proofs.ReportLaws.{fit_stopped, refusal_stopped, rejected, report_faults, report_sink, report_source, told_fit, told_refusal}
 use Rattle.ngc_simulator.proofs.reporting.report_program.Goals as goal
 
 pub returns-in-Err-clause-reports : goal.returns-in-Err-clause-reports
@@ -84,3 +84,11 @@ pub returns-in_err-report_refusal-in-Err-NotCleared-clause-faults : goal.returns
 returns-in_err-report_refusal-in-Err-NotCleared-clause-faults g c =
     let fault = c.in_err-report_refusal-in-Err-NotCleared.field-0.0 in
     turned _ (of_report fault) (λ r. IfErr r OfCertifying) c.from_residual-in_err-report_refusal-in-Err-NotCleared.ensures.1 (report_faults fault)
+
+pub returns-in_err-report_fit-in-Ok-plans_for-clause-source : goal.returns-in_err-report_fit-in-Ok-plans_for-clause-source
+returns-in_err-report_fit-in-Ok-plans_for-clause-source g c =
+    report_source _ c.in_err-report_fit-in-Ok-plans_for.field-0.0 _ c.from_residual-in_err-report_fit-in-Ok-plans_for.ensures.1
+
+pub returns-in_err-report_refusal-in-Err-NotCleared-clause-source : goal.returns-in_err-report_refusal-in-Err-NotCleared-clause-source
+returns-in_err-report_refusal-in-Err-NotCleared-clause-source g c =
+    report_source _ c.in_err-report_refusal-in-Err-NotCleared.field-0.0 _ c.from_residual-in_err-report_refusal-in-Err-NotCleared.ensures.1
