@@ -1,19 +1,23 @@
 -- Ticks that are computed at once.
 use Rattle.std.proofs.Common.{◌≡◌, ℕ, zero, suc, ◌+◌, ◌-◌, ◌*◌, ◌/◌, ◌≤◌, ◌<◌, ◌↔◌, min, max, nat_lt, nat_le, Bool, true, false, cond, List, [], ◌∷◌, arith, refl, ap, ap₂, sym, subst, ◌∙◌, inl, inr}
 use Rattle.std.specs.Prelude.{◌&&◌}
-use Rattle.std.proofs.lemmas.Bool.{cases_lt, lt-ltb, le-leb, and_from, false≢true}
+use Rattle.std.proofs.lemmas.Bool.{lt-ltb, le-ltb, le-leb, ltb-true, and_from, and_parts, false≢true}
 use Rattle.std.proofs.lemmas.Bool.Decides.{nat_tests}
 use Rattle.std.proofs.lemmas.Nat.{mul-le}
+use Rattle.std.proofs.Math.Nat.{div-mul-le_self}
+use Rattle.std.specs.List.{All}
+use Rattle.std.proofs.lemmas.List.Elements.{All-head}
 use Rattle.ngc_planner.specs.declared.leg.Leg.{Leg}
 use Rattle.ngc_planner.specs.Braking.{braking}
-use Rattle.ngc_planner.specs.Leg.{tick_bound, is_due}
+use Rattle.ngc_planner.specs.Leg.{IsLeg, tick_bound, is_due}
+use Rattle.ngc_planner.specs.Room.{can_brake, beyond}
 use Rattle.ngc_planner.specs.Reach.{ahead, may_enter, free_ahead, free, reach}
-use Rattle.ngc_planner.specs.Ramp.{RampState, MayTick, TicksTo, on_legs, pace, after_tick, next_rest}
-use Rattle.ngc_planner.specs.Stretches.{TicksFrom, Ticks, rise, fall, MayRise, SpeedsUp, MayGoOn, GoesOn, MayFall, SlowsDown}
+use Rattle.ngc_planner.specs.Ramp.{RampState, IsRamp, MayTick, TicksTo, on_legs, pace, after_tick, next_rest}
+use Rattle.ngc_planner.specs.Stretches.{TicksFrom, Ticks, rise, fall, MayRise, may_rise, MayRiseOn, risen, SpeedsUp, MayGoOn, MayGoOnOn, gone_on, GoesOn, MayFall, SlowsDown, highest_rate, chosen_rate, after_ticks, MayBrake, BrakesDown}
 use Rattle.ngc_planner.proofs.BrakingLaws.{braking_none, braking_step}
 use Rattle.ngc_planner.proofs.CoastLaws.{bound_after}
 use Rattle.ngc_planner.proofs.ReachLaws.{free_none, free_more, entered}
-use Rattle.ngc_planner.proofs.RoomLaws.{braking_faster, free_has_room, room_reached}
+use Rattle.ngc_planner.proofs.RoomLaws.{braking_faster, free_has_room, room_reached, short_has_room, room_far}
 use Rattle.ngc_planner.proofs.RampLaws.{tick_bound_greatest}
 
 -- ---- distances
@@ -24,6 +28,18 @@ rise_step n v a =
     let whole : suc n * (suc n + 1) / 2 ≡ suc n + n * (n + 1) / 2 = omega arith in
     let part : a * (suc n * (suc n + 1) / 2) ≡ a * (suc n + n * (n + 1) / 2) = ap (λ x. a * x) whole in
     omega (arith, part)
+
+-- the products of a rise are small
+pub rise_small : (n v a : ℕ) → n ≤ 1000000 → v ≤ 1000000 → a ≤ 1000000 →
+    (n * v ≤ 1000000 * 1000000) × (n * (n + 1) ≤ 1000000 * 1000001) × (a * (n * (n + 1) / 2) ≤ 1000000 * (1000000 * 1000001))
+rise_small n v a few rate change =
+    let way = mul-le n v 1000000 1000000 few rate in
+    let sum = mul-le n (n + 1) 1000000 1000001 few (omega (arith, few)) in
+    (way, sum, mul-le a (n * (n + 1) / 2) 1000000 (1000000 * 1000001) change (omega (arith, sum)))
+
+-- fewer ticks end at a lower rate
+pub slower : (n most v a : ℕ) → n ≤ most → v + most * a ≤ 1000000 → v + n * a ≤ 1000000
+slower n most v a few low = let p = mul-le n a most a few (omega arith) in omega (arith, p, low)
 
 -- ---- a lower rate is free for as long
 
@@ -87,9 +103,9 @@ rising a v rest wish w head legs room same wished within less short x may =
     let least = fast short in
     omega (arith, least, may.faster, same)
 
-may_rise : (a v rest wish w : ℕ) (head : Leg) (legs : List Leg) (room : ℕ) → w ≡ v + a → w ≤ wish → w ≤ tick_bound head rest → w < rest →
+may_speed_up : (a v rest wish w : ℕ) (head : Leg) (legs : List Leg) (room : ℕ) → w ≡ v + a → w ≤ wish → w ≤ tick_bound head rest → w < rest →
     braking w a < free w rest head legs → MayTick (on_legs a v rest head legs room) wish head legs w
-may_rise a v rest wish w head legs room same wished within less short =
+may_speed_up a v rest wish w head legs room same wished within less short =
     record {
       faster = omega (arith, same);
       slower = omega (arith, same);
@@ -167,7 +183,7 @@ some_rise : (n a v rest : ℕ) (head : Leg) (legs : List Leg) (room wish : ℕ) 
 some_rise zero a v rest head legs room wish some within may = standing a v rest head legs room
 some_rise (suc n) a v rest head legs room wish some within may =
     let p = first_rise n a v rest head legs wish some may in
-    let tick = one_tick a v rest (v + a) head legs room wish p.2 (may_rise a v rest wish (v + a) head legs room refl p.0 p.1 p.2 p.3) in
+    let tick = one_tick a v rest (v + a) head legs room wish p.2 (may_speed_up a v rest wish (v + a) head legs room refl p.0 p.1 p.2 p.3) in
     let others = some_rise n a (v + a) (rest - (v + a)) head legs room wish some (omega (arith, within)) (later_rise n a v rest head legs wish within may) in
     (on_legs a (v + a) (rest - (v + a)) head legs room, tick, subst (λ s. Ticks n (on_legs a (v + a) (rest - (v + a)) head legs room) wish s) (risen_state n a v rest head legs room) others)
 
@@ -306,3 +322,205 @@ only_fall (suc n) a v rest head legs room wish new may h =
 
 pub slows_down : SlowsDown
 slows_down n a v rest head legs room wish new may h = only_fall n a v rest head legs room wish new may h
+
+-- ---- the ramp after ticks that speed up
+
+-- the test leaves the distance to brake
+pub rises_within : (n v a rest : ℕ) → may_rise n v a rest ≡ true → (rise n v a < rest) × (rise n v a + braking (v + n * a - a) a < rest)
+rises_within n v a rest h =
+    let parts = and_parts (nat_lt (rise n v a) rest) (nat_lt (braking (v + n * a - a) a) (rest - rise n v a)) h in
+    let less = ltb-true (rise n v a) rest parts.0 in
+    let short = ltb-true (braking (v + n * a - a) a) (rest - rise n v a) parts.1 in
+    (less, omega (arith, less, short))
+
+pub may_rise_on : (n a v rest wish : ℕ) (head : Leg) (legs : List Leg) → v + n * a ≤ wish → v + n * a ≤ tick_bound head rest →
+    may_rise n v a rest ≡ true → MayRise a v rest head legs wish n
+may_rise_on n a v rest wish head legs wished within h =
+    let p = rises_within n v a rest h in
+    record { wished = wished; within = within; on_head = p.0; brakes = omega (arith, p.1) }
+
+-- the number of ticks that reach a rate
+pub reaches : (n rate a highest : ℕ) → 1 ≤ a → 1 ≤ n → n ≤ (highest - rate) / a → rate + n * a ≤ highest
+reaches n rate a highest some one few =
+    let p = mul-le n a ((highest - rate) / a) a few (omega arith) in
+    let q = div-mul-le_self (highest - rate) a in
+    let more = mul-le 1 1 n a one some in
+    omega (arith, p, q, more)
+
+-- it stays small, and so does their number
+pub reaches_small : (n rate a highest : ℕ) → 1 ≤ a → rate ≤ 1000000 → highest ≤ 1000000 → n ≤ (highest - rate) / a →
+    (rate + n * a ≤ 1000000) × (n ≤ 1000000)
+reaches_small zero rate a highest some slow low few = (omega (arith, slow), omega arith)
+reaches_small (suc n) rate a highest some slow low few =
+    let top = reaches (suc n) rate a highest some (omega arith) few in
+    let more = mul-le (suc n) 1 (suc n) a (omega arith) some in
+    (omega (arith, top, low), omega (arith, top, low, more))
+
+-- no rate up to the bound of a leg is greater than a million
+pub low_bound : (highest wish rest : ℕ) (head : Leg) (legs all : List Leg) → all ≡ head ∷ legs → All IsLeg all → highest ≡ min wish (tick_bound head rest) →
+    highest ≤ 1000000
+low_bound highest wish rest head legs all were each h =
+    let leg = All-head IsLeg head legs (subst (All IsLeg) were each) in
+    let most = tick_bound_greatest head rest in
+    omega (arith, h, most, leg.bound_greatest)
+
+pub rise_as : (r : RampState) (head : Leg) (legs : List Leg) (wish n : ℕ) → r.legs ≡ head ∷ legs →
+    (1 ≤ n → MayRise r.change r.rate r.rest head legs wish n) → MayRiseOn r.legs r wish n
+rise_as r head legs wish n were may = subst (λ ls. MayRiseOn ls r wish n) (sym were) may
+
+risen_kept : (places n a v rest wish : ℕ) (legs : List Leg) → IsRamp (record { change = a; rate = v; rest = rest; legs = legs; room = places }) →
+    MayRiseOn legs (record { change = a; rate = v; rest = rest; legs = legs; room = places }) wish n → (0 < n → may_rise n v a rest ≡ true) →
+    IsRamp (record { change = a; rate = v + n * a; rest = rest - rise n v a; legs = legs; room = places })
+risen_kept places zero a v rest wish legs ramp may leaves =
+    let rate : v + 0 * a ≡ v = omega arith in
+    let none : rise 0 v a ≡ 0 = omega arith in
+    let left : rest - rise 0 v a ≡ rest = omega (arith, none) in
+    rw (rate, left) ramp
+risen_kept places (suc n) a v rest wish [] ramp may leaves = absurd (omega (arith, may))
+risen_kept places (suc n) a v rest wish (head ∷ legs) ramp may leaves =
+    let h = may (omega arith) in
+    let p = rises_within (suc n) v a rest (leaves (omega arith)) in
+    let most = tick_bound_greatest head rest in
+    let leg = All-head IsLeg head legs ramp.each in
+    let way = rise (suc n) v a in
+    record {
+      change_least = ramp.change_least;
+      change_greatest = ramp.change_greatest;
+      rate_greatest = omega (arith, h.within, most, leg.bound_greatest);
+      few = ramp.few;
+      each = ramp.each;
+      left = (omega (arith, p.0), omega (arith, ramp.left.1));
+      kept = record {
+        bounded = omega (arith, h.within, bound_after head rest way ramp.left.1 (omega (arith, p.0)));
+        braked = λ some. short_has_room (v + suc n * a - a) a (rest - way) head.exit legs (omega (arith, p.0, p.1));
+      };
+    }
+
+pub risen_ramp : (r : RampState) (wish n : ℕ) → IsRamp r → MayRiseOn r.legs r wish n → (0 < n → may_rise n r.rate r.change r.rest ≡ true) →
+    IsRamp (risen r n)
+risen_ramp r wish n ramp may leaves = risen_kept r.room n r.change r.rate r.rest wish r.legs ramp may leaves
+
+-- and these are n ticks of it
+rises_on : (places n a v rest wish : ℕ) (legs : List Leg) → IsRamp (record { change = a; rate = v; rest = rest; legs = legs; room = places }) →
+    MayRiseOn legs (record { change = a; rate = v; rest = rest; legs = legs; room = places }) wish n →
+    Ticks n (record { change = a; rate = v; rest = rest; legs = legs; room = places }) wish
+    (record { change = a; rate = v + n * a; rest = rest - rise n v a; legs = legs; room = places })
+rises_on places zero a v rest wish legs ramp may =
+    let rate : v + 0 * a ≡ v = omega arith in
+    let none : rise 0 v a ≡ 0 = omega arith in
+    let left : rest - rise 0 v a ≡ rest = omega (arith, none) in
+    ap₂ (λ x l. record { change = a; rate = x; rest = l; legs = legs; room = places }) rate left
+rises_on places (suc n) a v rest wish [] ramp may = absurd (omega (arith, may))
+rises_on places (suc n) a v rest wish (head ∷ legs) ramp may =
+    some_rise (suc n) a v rest head legs places wish ramp.change_least ramp.left.1 (may (omega arith))
+
+pub rises : (r : RampState) (wish n : ℕ) → IsRamp r → MayRiseOn r.legs r wish n → Ticks n r wish (risen r n)
+rises r wish n ramp may = rises_on r.room n r.change r.rate r.rest wish r.legs ramp may
+
+-- ---- the ramp after ticks at one rate
+
+pub may_go_on_as : (r : RampState) (head : Leg) (legs : List Leg) (wish n : ℕ) → r.legs ≡ head ∷ legs →
+    (1 ≤ n → MayGoOn r.change r.rate r.rest head legs wish n) → MayGoOnOn r.legs r wish n
+may_go_on_as r head legs wish n were may = subst (λ ls. MayGoOnOn ls r wish n) (sym were) may
+
+pub may_last : (n a v rest wish : ℕ) (head : Leg) (legs : List Leg) → v ≡ min wish head.bound → v ≤ tick_bound head rest →
+    n * v + braking (v - a) a < rest → MayGoOn a v rest head legs wish n
+may_last n a v rest wish head legs wished within short =
+    record { wished = wished; within = within; on_head = omega (arith, short); brakes = omega (arith, short) }
+
+-- the greatest number of ticks
+pub lasts : (v needed rest : ℕ) → needed < rest → (rest - needed - 1) / v * v + needed < rest
+lasts v needed rest some = let p = div-mul-le_self (rest - needed - 1) v in omega (arith, p, some)
+
+pub fewer_last : (n most v needed rest : ℕ) → n ≤ most → most * v + needed < rest → n * v + needed < rest
+fewer_last n most v needed rest few short = let p = mul-le n v most v few (omega arith) in omega (arith, p, short)
+
+gone_on_kept : (places n a v rest wish : ℕ) (legs : List Leg) → IsRamp (record { change = a; rate = v; rest = rest; legs = legs; room = places }) →
+    MayGoOnOn legs (record { change = a; rate = v; rest = rest; legs = legs; room = places }) wish n → (0 < n → n * v + braking (v - a) a < rest) →
+    IsRamp (record { change = a; rate = v; rest = rest - n * v; legs = legs; room = places })
+gone_on_kept places zero a v rest wish legs ramp may leaves = let left : rest - 0 * v ≡ rest = omega arith in rw left ramp
+gone_on_kept places (suc n) a v rest wish [] ramp may leaves = absurd (omega (arith, may))
+gone_on_kept places (suc n) a v rest wish (head ∷ legs) ramp may leaves =
+    let h = may (omega arith) in
+    let short = leaves (omega arith) in
+    let way = suc n * v in
+    record {
+      change_least = ramp.change_least;
+      change_greatest = ramp.change_greatest;
+      rate_greatest = ramp.rate_greatest;
+      few = ramp.few;
+      each = ramp.each;
+      left = (omega (arith, short), omega (arith, ramp.left.1));
+      kept = record {
+        bounded = omega (arith, h.within, bound_after head rest way ramp.left.1 (omega (arith, short)));
+        braked = λ some. short_has_room (v - a) a (rest - way) head.exit legs (omega (arith, short));
+      };
+    }
+
+pub gone_on_ramp : (r : RampState) (wish n : ℕ) → IsRamp r → MayGoOnOn r.legs r wish n → (0 < n → n * r.rate + braking (r.rate - r.change) r.change < r.rest) →
+    IsRamp (gone_on r n)
+gone_on_ramp r wish n ramp may leaves = gone_on_kept r.room n r.change r.rate r.rest wish r.legs ramp may leaves
+
+goes_on_so : (places n a v rest wish : ℕ) (legs : List Leg) → IsRamp (record { change = a; rate = v; rest = rest; legs = legs; room = places }) →
+    MayGoOnOn legs (record { change = a; rate = v; rest = rest; legs = legs; room = places }) wish n →
+    Ticks n (record { change = a; rate = v; rest = rest; legs = legs; room = places }) wish
+    (record { change = a; rate = v; rest = rest - n * v; legs = legs; room = places })
+goes_on_so places zero a v rest wish legs ramp may =
+    let left : rest - 0 * v ≡ rest = omega arith in
+    ap (λ l. record { change = a; rate = v; rest = l; legs = legs; room = places }) left
+goes_on_so places (suc n) a v rest wish [] ramp may = absurd (omega (arith, may))
+goes_on_so places (suc n) a v rest wish (head ∷ legs) ramp may =
+    some_even (suc n) a v rest head legs places wish ramp.change_least ramp.left.1 (may (omega arith))
+
+pub lasting : (r : RampState) (wish n : ℕ) → IsRamp r → MayGoOnOn r.legs r wish n → Ticks n r wish (gone_on r n)
+lasting r wish n ramp may = goes_on_so r.room n r.change r.rate r.rest wish r.legs ramp may
+
+-- ---- slowing down for what is ahead
+
+no_room : (a v rest : ℕ) (head : Leg) (legs : List Leg) → 1 ≤ a → v + a < rest → rest + beyond a head.exit legs ≤ braking (v + a) a →
+    can_brake (v + a) a rest head legs ≡ false
+no_room a v rest head legs some near short =
+    room_far (v + a) a rest head.exit legs some near ∙ le-ltb (braking (v + a) a) (rest + beyond a head.exit legs) short
+
+chosen_low : (a v rest wish : ℕ) (head : Leg) (legs : List Leg) (room : ℕ) → 1 ≤ a → 2 * a ≤ v → v + a ≤ wish → v + a ≤ tick_bound head rest → v + a < rest →
+    rest + beyond a head.exit legs ≤ braking (v + a) a → chosen_rate (on_legs a v rest head legs room) wish head legs ≡ v - a
+chosen_low a v rest wish head legs room some fast wished within near short =
+    let high : highest_rate (on_legs a v rest head legs room) wish head ≡ v + a = omega (arith, fast, wished, within) in
+    let none = no_room a v rest head legs some near short in
+    let least : max (v - a) (min (min (min (v + a) a) head.exit) rest) ≡ v - a = omega (arith, fast) in
+    ap (λ h. cond (can_brake h a rest head legs) h (max (v - a) (min (min (min h a) head.exit) rest))) high
+    ∙ ap (λ b. cond b (v + a) (max (v - a) (min (min (min (v + a) a) head.exit) rest))) none ∙ least
+
+later_brake : (n a v rest : ℕ) (head : Leg) (legs : List Leg) (wish : ℕ) → 1 ≤ a → rest ≤ head.millionths → MayBrake a v rest head legs wish (suc n) →
+    MayBrake a (v - a) (rest - (v - a)) head legs wish n
+later_brake n a v rest head legs wish some within may =
+    let step = fall_step n v a (omega (arith, may.fast)) in
+    let back : v - a + a ≡ v = omega (arith, may.fast) in
+    let bound = bound_after head rest (v - a) within (omega (arith, may.on_head, step)) in
+    let first = braking_step (v + a) a (omega (arith, some)) some in
+    let up : v + a - a ≡ v = omega arith in
+    let here = ap (λ x. braking x a) up in
+    record {
+      wished = omega (arith, back, may.wished);
+      within = omega (arith, back, may.within, bound);
+      fast = omega (arith, may.fast);
+      on_head = omega (arith, may.on_head, step);
+      short = subst (λ x. rest - (v - a) + beyond a head.exit legs + 2 * (n * a) ≤ braking x a + 2 * a) (sym back)
+          (omega (arith, may.short, first, here, may.fast, may.on_head, step));
+    }
+
+pub brakes_down : BrakesDown
+brakes_down zero a v rest head legs room wish some within may =
+    let rate : v ≡ v - 0 * a = omega arith in
+    let left : rest ≡ rest - fall 0 v a = omega arith in
+    ap₂ (λ r l. on_legs a r l head legs room) rate left
+brakes_down (suc n) a v rest head legs room wish some within may =
+    let step = fall_step n v a (omega (arith, may.fast)) in
+    let low = chosen_low a v rest wish head legs room some (omega (arith, may.fast)) may.wished may.within (omega (arith, may.on_head, step, may.fast))
+    (omega (arith, may.short)) in
+    let mid = ap (λ x. after_tick (on_legs a v rest head legs room) legs x) low ∙ on_head a v rest (v - a) head legs room (omega (arith, may.on_head, step)) in
+    let rate : v - a - n * a ≡ v - suc n * a = omega arith in
+    let left : rest - (v - a) - fall n (v - a) a ≡ rest - fall (suc n) v a = omega (arith, step) in
+    ap (λ s. after_ticks n s wish) mid
+    ∙ brakes_down n a (v - a) (rest - (v - a)) head legs room wish some (omega (arith, within)) (later_brake n a v rest head legs wish some within may)
+    ∙ ap₂ (λ r l. on_legs a r l head legs room) rate left

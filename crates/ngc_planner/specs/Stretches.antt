@@ -1,12 +1,13 @@
 -- Ticks that are computed at once: a ramp that speeds up, goes on or slows down at constant bounds.
 -- Our own.
-use Rattle.std.specs.Prelude.{◌≡◌, ℕ, zero, suc, ◌+◌, ◌-◌, ◌*◌, ◌/◌, ◌≤◌, ◌<◌, ◌↔◌, min, List, [], ◌∷◌}
-use Rattle.std.specs.Prelude.{Bool}
+use Rattle.std.specs.Prelude.{◌≡◌, ℕ, zero, suc, ◌+◌, ◌-◌, ◌*◌, ◌/◌, ◌≤◌, ◌<◌, ◌↔◌, min, max, List, [], ◌∷◌}
+use Rattle.std.specs.Prelude.{nat_lt, Bool, ◌&&◌, if◌then◌else◌}
 use Rattle.ngc_planner.specs.declared.leg.Leg.{Leg}
 use Rattle.ngc_planner.specs.Braking.{braking}
 use Rattle.ngc_planner.specs.Leg.{tick_bound}
 use Rattle.ngc_planner.specs.Reach.{free}
-use Rattle.ngc_planner.specs.Ramp.{RampState, TicksTo, on_legs}
+use Rattle.ngc_planner.specs.Room.{can_brake, beyond}
+use Rattle.ngc_planner.specs.Ramp.{RampState, TicksTo, on_legs, after_tick}
 
 -- a tick of a ramp with a wish
 abbrev pub TicksFrom : List Leg → RampState → ℕ → RampState → Type 0
@@ -37,6 +38,20 @@ pub record MayRise (a v rest : ℕ) (head : Leg) (legs : List Leg) (wish n : ℕ
   pub on_head : rise n v a < rest
   pub brakes : rise n v a + braking (v + n * a - a) a < free (v + n * a) rest head legs
 
+-- whether n ticks that speed up leave more of the head than the braking distance
+abbrev pub may_rise : ℕ → ℕ → ℕ → ℕ → Bool
+may_rise n v a rest =
+    nat_lt (rise n v a) rest && nat_lt (braking (v + n * a - a) a) (rest - rise n v a)
+
+abbrev pub MayRiseOn : List Leg → RampState → ℕ → ℕ → Type 0
+MayRiseOn [] r wish n = n ≡ 0
+MayRiseOn (head ∷ legs) r wish n = 1 ≤ n → MayRise r.change r.rate r.rest head legs wish n
+
+-- the ramp after n ticks that speed up
+abbrev pub risen : RampState → ℕ → RampState
+risen r n =
+    record r { rate = r.rate + n * r.change; rest = r.rest - rise n r.rate r.change }
+
 -- then the state after n ticks is this one, and no other
 abbrev pub SpeedsUp : Type 0
 SpeedsUp =
@@ -51,6 +66,14 @@ pub record MayGoOn (a v rest : ℕ) (head : Leg) (legs : List Leg) (wish n : ℕ
   pub within : v ≤ tick_bound head rest
   pub on_head : n * v < rest
   pub brakes : n * v + braking (v - a) a < free v rest head legs
+
+abbrev pub MayGoOnOn : List Leg → RampState → ℕ → ℕ → Type 0
+MayGoOnOn [] r wish n = n ≡ 0
+MayGoOnOn (head ∷ legs) r wish n = 1 ≤ n → MayGoOn r.change r.rate r.rest head legs wish n
+
+-- the ramp after n ticks at the rate of the last one
+abbrev pub gone_on : RampState → ℕ → RampState
+gone_on r n = record r { rest = r.rest - n * r.rate }
 
 abbrev pub GoesOn : Type 0
 GoesOn =
@@ -69,3 +92,44 @@ SlowsDown =
     (n a v rest : ℕ) (head : Leg) (legs : List Leg) (room wish : ℕ) (new : RampState) →
     MayFall a v rest wish n → Ticks n (on_legs a v rest head legs room) wish new →
     new ≡ on_legs a (v - n * a) (rest - fall n v a) head legs room
+
+-- ---- slowing down for what is ahead
+
+-- the greatest rate that the last one, the wish and the bound allow
+abbrev pub highest_rate : RampState → ℕ → Leg → ℕ
+highest_rate r wish head =
+    min (min (r.rate + r.change) (max wish (r.rate - r.change))) (tick_bound head r.rest)
+
+-- the rate that the ramp chooses: that one, if the distance to brake from it is left; otherwise the
+-- least, which is above 0
+abbrev pub chosen_rate : RampState → ℕ → Leg → List Leg → ℕ
+chosen_rate r wish head legs =
+    if can_brake (highest_rate r wish head) r.change r.rest head legs
+    then highest_rate r wish head
+    else max (r.rate - r.change)
+    (min (min (min (highest_rate r wish head) r.change) head.exit) r.rest)
+
+abbrev pub chosen_state : List Leg → RampState → ℕ → RampState
+chosen_state [] r wish = r
+chosen_state (head ∷ legs) r wish = after_tick r legs (chosen_rate r wish head legs)
+
+-- the ramp after n ticks at the rates that it chooses
+abbrev pub after_ticks : ℕ → RampState → ℕ → RampState
+after_ticks zero r wish = r
+after_ticks (suc n) r wish = after_ticks n (chosen_state r.legs r wish) wish
+
+-- n ticks that slow down: faster ones would be within the wish and the bound, but have no distance
+-- to brake. After them the rate is still at least the change, and the head isn't ended.
+pub record MayBrake (a v rest : ℕ) (head : Leg) (legs : List Leg) (wish n : ℕ) : Type 0 where
+  pub wished : v + a ≤ wish
+  pub within : v + a ≤ tick_bound head rest
+  pub fast : (n + 1) * a ≤ v
+  pub on_head : fall n v a + 2 * a < rest
+  pub short : rest + beyond a head.exit legs + 2 * (n * a) ≤ braking (v + a) a + 2 * a
+
+abbrev pub BrakesDown : Type 0
+BrakesDown =
+    (n a v rest : ℕ) (head : Leg) (legs : List Leg) (room wish : ℕ) →
+    1 ≤ a → rest ≤ head.millionths → MayBrake a v rest head legs wish n →
+    after_ticks n (on_legs a v rest head legs room) wish
+    ≡ on_legs a (v - n * a) (rest - fall n v a) head legs room
