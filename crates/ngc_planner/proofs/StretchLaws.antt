@@ -1,8 +1,6 @@
 -- Ticks that are computed at once.
-use Rattle.std.proofs.Common.{◌≡◌, ℕ, zero, suc, ◌+◌, ◌-◌, ◌*◌, ◌/◌, ◌≤◌, ◌<◌, ◌↔◌, min, max, nat_lt, nat_le, Bool, true, false, cond, List, [], ◌∷◌, arith, refl, ap, ap₂, sym, subst, ◌∙◌, inl, inr}
-use Rattle.std.specs.Prelude.{◌&&◌}
+use Rattle.std.proofs.Common.{◌≡◌, ℕ, zero, suc, ◌+◌, ◌-◌, ◌*◌, ◌/◌, ◌≤◌, ◌<◌, min, max, nat_lt, nat_le, Bool, true, false, cond, List, [], ◌∷◌, arith, refl, ap, ap₂, sym, subst, ◌∙◌}
 use Rattle.std.proofs.lemmas.Bool.{lt-ltb, le-ltb, le-leb, ltb-true, and_from, and_parts, false≢true}
-use Rattle.std.proofs.lemmas.Bool.Decides.{nat_tests}
 use Rattle.std.proofs.lemmas.Nat.{mul-le}
 use Rattle.std.proofs.Math.Nat.{div-mul-le_self}
 use Rattle.std.specs.List.{All}
@@ -10,15 +8,15 @@ use Rattle.std.proofs.lemmas.List.Elements.{All-head}
 use Rattle.ngc_planner.specs.declared.leg.Leg.{Leg}
 use Rattle.ngc_planner.specs.Braking.{braking}
 use Rattle.ngc_planner.specs.Leg.{IsLeg, tick_bound, is_due}
-use Rattle.ngc_planner.specs.Room.{can_brake, beyond}
-use Rattle.ngc_planner.specs.Reach.{ahead, may_enter, free_ahead, free, reach}
-use Rattle.ngc_planner.specs.Ramp.{RampState, IsRamp, MayTick, TicksTo, on_legs, pace, after_tick, next_rest}
-use Rattle.ngc_planner.specs.Stretches.{TicksFrom, Ticks, rise, fall, MayRise, may_rise, MayRiseOn, risen, SpeedsUp, MayGoOn, MayGoOnOn, gone_on, GoesOn, MayFall, SlowsDown, highest_rate, chosen_rate, after_ticks, MayBrake, BrakesDown}
-use Rattle.ngc_planner.proofs.BrakingLaws.{braking_none, braking_step}
+use Rattle.ngc_planner.specs.Room.{GREATEST, can_brake, beyond}
+use Rattle.ngc_planner.specs.Reach.{may_enter, free_ahead, free, reach}
+use Rattle.ngc_planner.specs.Ramp.{RampState, IsRamp, MayTick, on_legs, pace, after_tick, next_rest}
+use Rattle.ngc_planner.specs.Stretches.{TicksFrom, Ticks, rise, fall, MayRise, may_rise, MayRiseOn, risen, SpeedsUp, MayGoOn, MayGoOnOn, gone_on, GoesOn, MayFall, SlowsDown, highest_rate, chosen_rate, after_ticks, MayBrake, BrakesDown, ChoosesWell, MayBrakeDown, MayBrakeOn, fallen, MayFallTo}
+use Rattle.ngc_planner.proofs.BrakingLaws.{braking_none, braking_step, brakes_in, few_ticks}
 use Rattle.ngc_planner.proofs.CoastLaws.{bound_after}
-use Rattle.ngc_planner.proofs.ReachLaws.{free_none, free_more, entered}
+use Rattle.ngc_planner.proofs.ReachLaws.{entered}
 use Rattle.ngc_planner.proofs.RoomLaws.{braking_faster, free_has_room, room_reached, short_has_room, room_far}
-use Rattle.ngc_planner.proofs.RampLaws.{tick_bound_greatest}
+use Rattle.ngc_planner.proofs.RampLaws.{tick_bound_greatest, may_go_fast, may_go_slow, slow_suits, suits_fast, ramp_after}
 
 -- ---- distances
 
@@ -524,3 +522,136 @@ brakes_down (suc n) a v rest head legs room wish some within may =
     ap (λ s. after_ticks n s wish) mid
     ∙ brakes_down n a (v - a) (rest - (v - a)) head legs room wish some (omega (arith, within)) (later_brake n a v rest head legs wish some within may)
     ∙ ap₂ (λ r l. on_legs a r l head legs room) rate left
+
+-- ---- the choice of a rate
+
+chosen_by : (b : Bool) (places a r rest wish c v : ℕ) (h : Leg) (ls : List Leg) → IsRamp (on_legs a r rest h ls places) →
+    c ≡ min (min (r + a) (max wish (r - a))) (tick_bound h rest) → can_brake c a rest h ls ≡ b →
+    v ≡ cond b c (max (r - a) (min (min (min c a) h.exit) rest)) →
+    MayTick (on_legs a r rest h ls places) wish h ls v × IsRamp (after_tick (on_legs a r rest h ls places) ls v)
+chosen_by true places a r rest wish c v h ls ramp highest room same =
+    let leg = All-head IsLeg h ls ramp.each in
+    let within = tick_bound_greatest h rest in
+    let may = may_go_fast places a r rest wish (tick_bound h rest) c h ls ramp.change_least refl ramp.kept.bounded highest room in
+    let kept = ramp_after places a r rest c h ls ramp (omega (arith, highest, within, leg.bound_greatest)) (omega (arith, highest, within)) (λ fast. room) in
+    (subst (λ x. MayTick (on_legs a r rest h ls places) wish h ls x) (sym same) may, subst (λ x. IsRamp (after_tick (on_legs a r rest h ls places) ls x)) (sym same) kept)
+chosen_by false places a r rest wish c v h ls ramp highest none same =
+    let leg = All-head IsLeg h ls ramp.each in
+    let within = tick_bound_greatest h rest in
+    let may = may_go_slow places a r rest wish (tick_bound h rest) c v h ls ramp.change_least refl ramp.kept.bounded ramp.kept.braked highest none same in
+    let suits = slow_suits a (r - a) (min c a) rest v h ls ramp.kept.braked (omega arith) (omega (arith, same)) in
+    let high : v ≤ c = omega (arith, same, highest, ramp.kept.bounded) in (
+      may,
+      ramp_after places a r rest v h ls ramp (omega (arith, high, highest, within, leg.bound_greatest)) (omega (arith, high, highest, within))
+          (λ fast. suits_fast a rest v h ls suits fast),
+    )
+
+pub chooses_well : ChoosesWell
+chooses_well a v rest head legs room wish ramp =
+    let c = highest_rate (on_legs a v rest head legs room) wish head in
+    let both = chosen_by (can_brake c a rest head legs) room a v rest wish c (chosen_rate (on_legs a v rest head legs room) wish head legs) head legs ramp refl refl refl in
+    record { may = both.0; kept = both.1 }
+
+pub may_brake_down : MayBrakeDown
+may_brake_down zero a v rest head legs room wish ramp may =
+    let rate : v - 0 * a ≡ v = omega arith in
+    let left : rest - fall 0 v a ≡ rest = omega arith in
+    let same = ap₂ (λ r l. on_legs a r l head legs room) rate left in
+    (same, subst IsRamp (sym same) ramp)
+may_brake_down (suc n) a v rest head legs room wish ramp may =
+    let some = ramp.change_least in
+    let step = fall_step n v a (omega (arith, may.fast)) in
+    let low = chosen_low a v rest wish head legs room some (omega (arith, may.fast)) may.wished may.within (omega (arith, may.on_head, step, may.fast))
+    (omega (arith, may.short)) in
+    let choice = chooses_well a v rest head legs room wish ramp in
+    let less : v - a < rest = omega (arith, may.on_head, step) in
+    let tick = one_tick a v rest (v - a) head legs room wish less (subst (λ x. MayTick (on_legs a v rest head legs room) wish head legs x) low choice.may) in
+    let kept = subst IsRamp (ap (λ x. after_tick (on_legs a v rest head legs room) legs x) low ∙ on_head a v rest (v - a) head legs room less) choice.kept in
+    let others = may_brake_down n a (v - a) (rest - (v - a)) head legs room wish kept (later_brake n a v rest head legs wish some ramp.left.1 may) in
+    let rate : v - a - n * a ≡ v - suc n * a = omega arith in
+    let left : rest - (v - a) - fall n (v - a) a ≡ rest - fall (suc n) v a = omega (arith, step) in
+    let same = ap₂ (λ r l. on_legs a r l head legs room) rate left in (
+      (on_legs a (v - a) (rest - (v - a)) head legs room, tick, subst (λ s. Ticks n (on_legs a (v - a) (rest - (v - a)) head legs room) wish s) same others.0),
+      subst IsRamp same others.1,
+    )
+
+-- ---- the ramp after ticks that slow down
+
+fall_most : (n v a : ℕ) → fall n v a ≤ n * v
+fall_most n v a = omega arith
+
+-- the products of a fall are small
+pub fall_small : (n v a : ℕ) → v ≤ 1000000 → 1 ≤ a → n * a ≤ v → (n ≤ 1000000) × (n * v ≤ 1000000 * 1000000) × (n * (n + 1) ≤ 1000000 * 1000001) × (a * (n * (n + 1) / 2) ≤ n * v)
+fall_small n v a rate some low =
+    let few = mul-le n 1 n a (omega arith) some in
+    let small : n ≤ 1000000 = omega (arith, few, low, rate) in
+    let way = mul-le n v 1000000 1000000 small rate in
+    let sum = mul-le n (n + 1) 1000000 1000001 small (omega (arith, small)) in
+    let short = mul-le (n * (n + 1) / 2) a (n * n) a (triangle_short n) (omega arith) in
+    let far = mul-le (n * a) n v n low (omega arith) in
+    (small, way, sum, omega (arith, short, far))
+
+pub may_fall_to : (n a v rest d needed : ℕ) → 1 ≤ a → 1 ≤ v → needed ≡ braking (v + a) a + 2 * a → 0 < n → n ≤ v / a - 1 → n ≤ (rest - (2 * a + 1)) / v →
+    n ≤ (needed - min 18446744073709551615 (rest + d)) / (2 * a) → needed < 18446744073709551615 → MayFallTo a v rest d n
+may_fall_to n a v rest d needed some moves is one fast near short small =
+    let p = mul-le (n + 1) a (v / a) a (omega (arith, fast, one)) (omega arith) in
+    let q = div-mul-le_self v a in
+    let r = mul-le n v ((rest - (2 * a + 1)) / v) v near (omega arith) in
+    let s = div-mul-le_self (rest - (2 * a + 1)) v in
+    let t = mul-le n (2 * a) ((needed - min 18446744073709551615 (rest + d)) / (2 * a)) (2 * a) short (omega arith) in
+    let u = div-mul-le_self (needed - min 18446744073709551615 (rest + d)) (2 * a) in
+    let step = mul-le 1 1 n v one moves in
+    let some_steps = mul-le 1 1 n a one some in
+    let most = fall_most n v a in
+    record {
+      fast = omega (arith, p, q);
+      on_head = omega (arith, r, s, step, most);
+      short = omega (arith, t, u, some_steps, is, small);
+    }
+
+pub braking_small : (v a : ℕ) → v ≤ 1000000 → 1 ≤ a → a ≤ 1000000 → braking v a ≤ 2000000 * 1000000
+braking_small v a slow some short =
+    let whole = brakes_in v a some in
+    let few = few_ticks v a slow short in
+    omega (arith, whole, few)
+
+pub may_brake_as : (r : RampState) (head : Leg) (legs : List Leg) (wish n : ℕ) → r.legs ≡ head ∷ legs →
+    (1 ≤ n → MayBrake r.change r.rate r.rest head legs wish n) → MayBrakeOn r.legs r wish n
+may_brake_as r head legs wish n were may = subst (λ ls. MayBrakeOn ls r wish n) (sym were) may
+
+fallen_by : (places n a v rest wish : ℕ) (legs : List Leg) → IsRamp (record { change = a; rate = v; rest = rest; legs = legs; room = places }) →
+    MayBrakeOn legs (record { change = a; rate = v; rest = rest; legs = legs; room = places }) wish n →
+    Ticks n (record { change = a; rate = v; rest = rest; legs = legs; room = places }) wish
+    (record { change = a; rate = v - n * a; rest = rest - fall n v a; legs = legs; room = places })
+    × IsRamp (record { change = a; rate = v - n * a; rest = rest - fall n v a; legs = legs; room = places })
+fallen_by places zero a v rest wish legs ramp may =
+    let rate : v - 0 * a ≡ v = omega arith in
+    let left : rest - fall 0 v a ≡ rest = omega arith in
+    let same = ap₂ (λ x l. record { change = a; rate = x; rest = l; legs = legs; room = places }) rate left in
+    (same, subst IsRamp (sym same) ramp)
+fallen_by places (suc n) a v rest wish [] ramp may = absurd (omega (arith, may))
+fallen_by places (suc n) a v rest wish (head ∷ legs) ramp may = may_brake_down (suc n) a v rest head legs places wish ramp (may (omega arith))
+
+pub falls : (r : RampState) (wish n : ℕ) → IsRamp r → MayBrakeOn r.legs r wish n → Ticks n r wish (fallen r n) × IsRamp (fallen r n)
+falls r wish n ramp may = fallen_by r.room n r.change r.rate r.rest wish r.legs ramp may
+
+falls_by : (legs : List Leg) (r : RampState) (wish n : ℕ) → MayBrakeOn legs r wish n → (n * r.change ≤ r.rate) × (fall n r.rate r.change ≤ r.rest)
+falls_by legs r wish zero may = (omega arith, omega arith)
+falls_by [] r wish (suc n) may = absurd (omega (arith, may))
+falls_by (head ∷ legs) r wish (suc n) may = let h = may (omega arith) in (omega (arith, h.fast), omega (arith, h.on_head))
+
+-- a stretch that slows down is short enough
+pub falls_within : (r : RampState) (wish n : ℕ) → MayBrakeOn r.legs r wish n → (n * r.change ≤ r.rate) × (fall n r.rate r.change ≤ r.rest)
+falls_within r wish n may = falls_by r.legs r wish n may
+
+pub may_brake_by : (n a v rest wish d : ℕ) (head : Leg) (legs : List Leg) → v + a ≤ wish → v + a ≤ tick_bound head rest → d ≡ min GREATEST (beyond a head.exit legs) →
+    v + a ≤ 1000000 → 1 ≤ a → MayFallTo a v rest d n → MayBrake a v rest head legs wish n
+may_brake_by n a v rest wish d head legs wished within is low some may =
+    let small = braking_small (v + a) a low some (omega (arith, low)) in
+    record {
+      wished = wished;
+      within = within;
+      fast = may.fast;
+      on_head = may.on_head;
+      short = omega (arith, may.short, is, small, low);
+    }

@@ -1,6 +1,6 @@
 -- The motions passed before a joint: what a block of them allows, and how a trail follows the
 -- commands.
-use Rattle.std.proofs.Common.{◌≡◌, inl, inr, ℕ, zero, suc, ◌+◌, ◌-◌, ◌*◌, ◌≤◌, ◌<◌, ◌==◌, min, max, cond, ℤ, ◌≤ℤ◌, unsigned_abs, Bool, true, false, Option, Some, None, List, [], ◌∷◌, ◌++◌, length, take, drop, map, reverse, slice_get, get_or, unwrap_or, arith, refl, sym, subst, ap, ◌∙◌}
+use Rattle.std.proofs.Common.{◌≡◌, inl, inr, ℕ, zero, suc, ◌+◌, ◌-◌, ◌*◌, ◌≤◌, ◌<◌, ◌==◌, min, max, cond, ℤ, ◌≤ℤ◌, unsigned_abs, Bool, true, false, Option, Some, None, List, [], ◌∷◌, length, take, drop, map, reverse, slice_get, get_or, unwrap_or, arith, refl, sym, subst, ap, ◌∙◌}
 use Rattle.std.proofs.lemmas.Bool.{cases_lt}
 use Rattle.std.proofs.lemmas.Int.{ints, int_min_is, int_max_is}
 use Rattle.std.specs.Int.{int_min, int_max}
@@ -20,8 +20,8 @@ use Rattle.ngc_planner.specs.declared.trail.Look.{Look}
 use Rattle.ngc_planner.specs.declared.trail.Mark.{Mark}
 use Rattle.ngc_planner.specs.Headings.{IsHeading, difference_of}
 use Rattle.ngc_planner.specs.Joints.{MayHead, heading_rate, rate_from, rate_from_all}
-use Rattle.ngc_planner.specs.Trail.{Passage, TrailData, JointsData, passage_with, passages, measured, trail_on, trail_before, joints_before, LiesBetween, length_along, IsBlock, Describes, passage_of, IsMark, IsTrail, IsSameRate, LONGEST, BLOCK}
-use Rattle.ngc_planner.specs.Window.{Passed, window_length, passing_heading, way_on, passed_with, passed_on, earlier}
+use Rattle.ngc_planner.specs.Trail.{Passage, TrailData, JointsData, passage_with, passages, measured, trail_on, trail_before, joints_before, LiesBetween, length_along, IsBlock, Describes, passage_of, IsMark, IsTrail, IsSameRate, LONGEST}
+use Rattle.ngc_planner.specs.Window.{window_length, passing_heading, way_on, passed_with, passed_on, earlier}
 use Rattle.ngc_planner.proofs.WindowLaws.{rate_law, difference_small}
 
 -- ---- the distances on a trail are those on the commands

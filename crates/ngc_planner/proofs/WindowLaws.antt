@@ -1,5 +1,5 @@
 -- The rates that a window allows.
-use Rattle.std.proofs.Common.{◌≡◌, inl, inr, ℕ, zero, suc, ◌+◌, ◌-◌, ◌*◌, ◌/◌, ◌%◌, ◌^◌, ◌≤◌, ◌<◌, ◌↔◌, ◌==◌, nat_le, min, cond, ℤ, pos, ◌*ℤ◌, unsigned_abs, Bool, true, false, Option, Some, None, List, [], ◌∷◌, reverse, length, arith, refl, sym, subst, ap, ◌∙◌}
+use Rattle.std.proofs.Common.{◌≡◌, inl, inr, ℕ, zero, suc, ◌+◌, ◌-◌, ◌*◌, ◌/◌, ◌%◌, ◌^◌, ◌≤◌, ◌<◌, ◌↔◌, ◌==◌, nat_le, min, cond, ℤ, pos, ◌*ℤ◌, unsigned_abs, Bool, true, false, Option, Some, None, List, length, arith, refl, sym, subst, ap, ◌∙◌}
 use Rattle.std.proofs.lemmas.Bool.Decides.{nat_tests}
 use Rattle.std.proofs.lemmas.Bool.{cases_lt}
 use Rattle.std.proofs.lemmas.Grind.{div_ceil_times}
@@ -21,7 +21,7 @@ use Rattle.ngc_commands.specs.declared.command.Command.{Command}
 use Rattle.ngc_commands.specs.declared.movement.Way.{Way}
 use Rattle.ngc_planner.proofs.HeadingLaws.{heading_small}
 use Rattle.ngc_planner.specs.Headings.{IsHeading, greatest_size, in_millionths, heading_of, difference_of, difference_between, end_vector}
-use Rattle.ngc_planner.specs.Window.{Passed, is_still, passing_heading, way_of, way_on, passed_with, passed_on, window}
+use Rattle.ngc_planner.specs.Window.{is_still, passing_heading, way_of, passed_on, window}
 use Rattle.ngc_planner.specs.Joints.{MayHead, may_head, greatest_root, heading_rate, rate_from_all}
 
 -- ---- the greatest root

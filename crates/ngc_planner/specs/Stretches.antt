@@ -7,7 +7,7 @@ use Rattle.ngc_planner.specs.Braking.{braking}
 use Rattle.ngc_planner.specs.Leg.{tick_bound}
 use Rattle.ngc_planner.specs.Reach.{free}
 use Rattle.ngc_planner.specs.Room.{can_brake, beyond}
-use Rattle.ngc_planner.specs.Ramp.{RampState, TicksTo, on_legs, after_tick}
+use Rattle.ngc_planner.specs.Ramp.{RampState, IsRamp, MayTick, TicksTo, on_legs, after_tick}
 
 -- a tick of a ramp with a wish
 abbrev pub TicksFrom : List Leg → RampState → ℕ → RampState → Type 0
@@ -133,3 +133,39 @@ BrakesDown =
     1 ≤ a → rest ≤ head.millionths → MayBrake a v rest head legs wish n →
     after_ticks n (on_legs a v rest head legs room) wish
     ≡ on_legs a (v - n * a) (rest - fall n v a) head legs room
+
+-- a rate that the ramp chooses is one of those that a tick may have, and keeps the ramp
+pub record IsChoice (r : RampState) (wish : ℕ) (head : Leg) (legs : List Leg) : Type 0 where
+  pub may : MayTick r wish head legs (chosen_rate r wish head legs)
+  pub kept : IsRamp (after_tick r legs (chosen_rate r wish head legs))
+
+abbrev pub ChoosesWell : Type 0
+ChoosesWell =
+    (a v rest : ℕ) (head : Leg) (legs : List Leg) (room wish : ℕ) →
+    IsRamp (on_legs a v rest head legs room) →
+    IsChoice (on_legs a v rest head legs room) wish head legs
+
+-- so n ticks that slow down for what is ahead are ticks of the ramp
+abbrev pub MayBrakeDown : Type 0
+MayBrakeDown =
+    (n a v rest : ℕ) (head : Leg) (legs : List Leg) (room wish : ℕ) →
+    IsRamp (on_legs a v rest head legs room) → MayBrake a v rest head legs wish n →
+    Ticks n (on_legs a v rest head legs room) wish
+    (on_legs a (v - n * a) (rest - fall n v a) head legs room)
+    × IsRamp (on_legs a (v - n * a) (rest - fall n v a) head legs room)
+
+abbrev pub MayBrakeOn : List Leg → RampState → ℕ → ℕ → Type 0
+MayBrakeOn [] r wish n = n ≡ 0
+MayBrakeOn (head ∷ legs) r wish n = 1 ≤ n → MayBrake r.change r.rate r.rest head legs wish n
+
+-- the ramp after n ticks that slow down
+abbrev pub fallen : RampState → ℕ → RampState
+fallen r n =
+    record r { rate = r.rate - n * r.change; rest = r.rest - fall n r.rate r.change }
+
+-- what n ticks that slow down need of the numbers alone: d is how far beyond the head's end the
+-- braking distance may end
+pub record MayFallTo (a v rest d n : ℕ) : Type 0 where
+  pub fast : (n + 1) * a ≤ v
+  pub on_head : fall n v a + 2 * a < rest
+  pub short : rest + d + 2 * (n * a) ≤ braking (v + a) a + 2 * a

@@ -1,8 +1,8 @@
-//! How many ticks may speed up by the change, or go on at one rate.
+//! How many ticks may speed up by the change, go on at one rate, or slow down by the change.
 ghost use Rattle.std.specs.Prelude.{◌≡◌, ◌+◌, ◌-◌, ◌*◌, ◌≤◌, ◌<◌, nat_lt, ◌&&◌, true};
 ghost use Rattle.ngc_planner.specs.Braking.{braking};
 ghost use Rattle.ngc_fixed_length.specs.Limits.{MILLION};
-ghost use Rattle.ngc_planner.specs.Stretches.{rise, may_rise};
+ghost use Rattle.ngc_planner.specs.Stretches.{rise, fall, may_rise, MayFallTo};
 
 use crate::slowing::{brakes_within, braking};
 
@@ -72,4 +72,35 @@ pub(crate) fn lasting_ticks(rate: u64, change: u64, rest: u64) -> u64
         return 0;
     }
     (rest - needed - 1) / rate
+}
+
+/// Returns the distance of `ticks` ticks after one at `rate`, each by `change` slower than the one
+/// before.
+#[tactic(auto, using(crate::proofs::StretchLaws::fall_small))]
+pub(crate) fn fall(ticks: u64, rate: u64, change: u64) -> u64
+    requires rate { rate ≤ MILLION }
+    requires change_least { 1 ≤ change }
+    requires change_greatest { change ≤ MILLION }
+    requires least { ticks * change ≤ rate }
+    ensures { result ≡ fall ticks rate change }
+{
+    ticks * rate - change * (ticks * (ticks + 1) / 2)
+}
+
+/// Returns how many ticks may slow down for what is ahead, at most `most`. The braking distance may
+/// end `beyond` after `rest`.
+#[tactic(auto, using(crate::proofs::StretchLaws::braking_small))]
+pub(crate) fn falling_ticks(most: u64, rate: u64, change: u64, rest: u64, beyond: u64) -> u64
+    requires rate_least { 1 ≤ rate }
+    requires rate_greatest { rate + change ≤ MILLION }
+    requires change_least { 1 ≤ change }
+    requires change_greatest { change ≤ MILLION }
+    ensures few { result ≤ most }
+    ensures may { 0 < result → MayFallTo change rate rest beyond result }
+{
+    let needed = braking(rate + change, change) + 2 * change;
+    let fast = (rate / change).saturating_sub(1);
+    let near = rest.saturating_sub(2 * change + 1) / rate;
+    let short = needed.saturating_sub(rest.saturating_add(beyond)) / (2 * change);
+    most.min(fast).min(near).min(short)
 }

@@ -1,9 +1,7 @@
-use Rattle.std.proofs.Common.{◌≡◌, ℕ, ◌==◌, false, length, slice_get, Some, arith, ap, refl, sym, ◌∙◌}
+use Rattle.std.proofs.Common.{◌≡◌, ℕ, ◌==◌, false, length, arith, refl, ◌∙◌}
 use Rattle.std.proofs.lemmas.Bool.Decides.{nat_tests}
 use Rattle.std.proofs.lemmas.Option.{slice_get_read}
 use Rattle.ngc_machine_files.specs.Machine.{file_of}
-use Rattle.ngc_planner.specs.Trail.{TrailData, passage_with, trail_before}
-use Rattle.ngc_planner.specs.Window.{passing_heading, way_on}
 use Rattle.ngc_planner.proofs.TrailLaws.{trail_more}
 use Rattle.ngc_planner.proofs.joints.follow.Goals as goal
 

@@ -1,4 +1,4 @@
-use Rattle.std.proofs.Common.{◌≡◌, ◌<◌, ◌-◌, ◌+◌, ◌*◌, sym, subst}
+use Rattle.std.proofs.Common.{◌<◌, ◌-◌, ◌+◌, ◌*◌, sym, subst}
 use Rattle.ngc_planner.specs.Braking.{braking}
 use Rattle.ngc_planner.specs.Inside.{state_of}
 use Rattle.ngc_planner.specs.Ramp.{RampState}

@@ -1,5 +1,5 @@
-use Rattle.std.proofs.Common.{◌≡◌, ◌∷◌, Some, slice_get, ap, sym, subst, ◌∙◌, map}
-use Rattle.ngc_planner.specs.Trail.{TrailData, passage_of, IsMark, Describes}
+use Rattle.std.proofs.Common.{ap, sym, subst, ◌∙◌}
+use Rattle.ngc_planner.specs.Trail.{TrailData, Describes}
 use Rattle.ngc_planner.proofs.TrailLaws.{mark_at}
 use Rattle.ngc_planner.proofs.trail.Trail.block_with.Goals as goal
 

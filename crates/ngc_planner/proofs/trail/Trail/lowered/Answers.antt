@@ -1,4 +1,4 @@
-use Rattle.std.proofs.Common.{◌≡◌, ◌≤◌, ◌<◌, ◌∷◌, length, map, ap, arith, sym, ◌∙◌}
+use Rattle.std.proofs.Common.{◌∷◌, map, ap, arith, sym}
 use Rattle.std.proofs.lemmas.Option.{slice_get_within}
 use Rattle.ngc_machine_files.specs.Machine.{file_of}
 use Rattle.ngc_planner.specs.Trail.{TrailData, passage_of}

@@ -1,6 +1,6 @@
-use Rattle.std.proofs.Common.{◌≡◌, ◌∷◌, map, ap, refl, sym, subst, ◌∙◌}
+use Rattle.std.proofs.Common.{◌∷◌, ap, sym, subst, ◌∙◌}
 use Rattle.ngc_machine_files.specs.Machine.{file_of}
-use Rattle.ngc_planner.specs.Trail.{TrailData, passage_of, Describes, IsMark}
+use Rattle.ngc_planner.specs.Trail.{TrailData, Describes}
 use Rattle.ngc_planner.proofs.WindowLaws.{passing_is}
 use Rattle.ngc_planner.proofs.TrailLaws.{stored_more, viewed_more}
 use Rattle.ngc_planner.proofs.trail.Trail.pass.Goals as goal
