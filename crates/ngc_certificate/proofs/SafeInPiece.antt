@@ -1,9 +1,10 @@
--- Each position in the derived box of a valid piece is safe.
+-- Each position and each point in the derived box of a valid piece is safe.
 use Rattle.std.proofs.Common.{ℕ, suc, ◌≤◌, arith, refl, Some, None, true, ℤ, pos, negsuc, ◌+ℤ◌, ◌*ℤ◌, ◌≤ℤ◌, List, [], ◌∷◌}
 use Rattle.std.specs.Prelude.{Option, IsTrue, int_le}
 use Rattle.std.specs.List.{list_all}
 use Rattle.std.proofs.lemmas.Int.{ints}
 use Rattle.std.proofs.Math.Nat.{mul-le-mul_left}
+use Rattle.ngc_fixed_length.specs.declared.points.Point3.{Point3}
 use Rattle.ngc_fixed_length.specs.declared.points.StepPos.{StepPos}
 use Rattle.ngc_fixed_length.specs.declared.points.GridBox.{GridBox}
 use Rattle.ngc_fixed_length.specs.Boxes.{IsIn, holds_box, only}
@@ -17,6 +18,7 @@ use Rattle.ngc_certificate_text.specs.declared.piece.Piece.{Piece}
 use Rattle.ngc_certificate.specs.declared.stretch.Stretch.{Stretch}
 use Rattle.ngc_certificate.specs.DerivedBox.{derived_box}
 use Rattle.ngc_certificate.specs.PieceFault.{IsPieceValid}
+use Rattle.ngc_certificate.specs.Traverses.{IsSafePoint, lies_in}
 use Rattle.ngc_certificate.proofs.TrueTests.{le_of, le_test, both, and, or_to, list_to}
 
 pub scale_up : (s : ℕ) (a b : ℤ) → a ≤ℤ b → (a *ℤ pos s) ≤ℤ (b *ℤ pos s)
@@ -127,3 +129,61 @@ pub safe_in_piece : (machine : MachineFile) (tool : Option Tool) (way : Way) (s 
     IsPieceValid machine tool way s piece → IsIn (derived_box machine.step way s piece.end) q → IsSafe machine tool q
 safe_in_piece machine tool way s piece q p v k =
     safe_in_box machine tool piece.bounds q p (held_by piece.bounds (derived_box machine.step way s piece.end) q v.covers k) v.travel v.clear
+
+-- ---- a point in nanometres
+
+-- a point that lies in a box of grid points lies in one that contains it
+held_point : (step : ℤ) (outer inner : GridBox) (q : Point3) → pos 1 ≤ℤ step → IsTrue (holds_box outer inner) → IsTrue (lies_in step inner q) →
+    IsTrue (lies_in step outer q)
+held_point step o i q p h k =
+    let lowhigh = both _ _ h in
+    let low = both _ _ lowhigh.0 in let low_yz = both _ _ low.1 in
+    let high = both _ _ lowhigh.1 in let high_yz = both _ _ high.1 in
+    let lies = both _ _ k in
+    let above = both _ _ lies.0 in let above_yz = both _ _ above.1 in
+    let below = both _ _ lies.1 in let below_yz = both _ _ below.1 in
+    let down : (a b c : ℤ) → IsTrue (int_le a b) → IsTrue (int_le (b *ℤ step) c) → IsTrue (int_le (a *ℤ step) c) =
+    λ a b c l m. test_down (b *ℤ step) c (a *ℤ step) (scale_by step a b p (le_of a b l)) m in
+    let up : (a b c : ℤ) → IsTrue (int_le b c) → IsTrue (int_le a (b *ℤ step)) → IsTrue (int_le a (c *ℤ step)) =
+    λ a b c l m. test_up a (b *ℤ step) (c *ℤ step) (scale_by step b c p (le_of b c l)) m in
+    and _ _
+    (and _ _ (down o.low.x i.low.x q.x low.0 above.0)
+    (and _ _ (down o.low.y i.low.y q.y low_yz.0 above_yz.0) (down o.low.z i.low.z q.z low_yz.1 above_yz.1)))
+    (and _ _ (up q.x i.high.x o.high.x high.0 below.0)
+    (and _ _ (up q.y i.high.y o.high.y high_yz.0 below_yz.0) (up q.z i.high.z o.high.z high_yz.1 below_yz.1)))
+
+point_within : (step : ℤ) (b : GridBox) (q : Point3) → IsTrue (lies_in step b q) → Within (span step b) (record { low = q; high = q })
+point_within step b q k =
+    let lies = both _ _ k in
+    let above = both _ _ lies.0 in let above_yz = both _ _ above.1 in
+    let below = both _ _ lies.1 in let below_yz = both _ _ below.1 in
+    record {
+      x_low = le_of (b.low.x *ℤ step) q.x above.0;
+      x_high = le_of q.x (b.high.x *ℤ step) below.0;
+      y_low = le_of (b.low.y *ℤ step) q.y above_yz.0;
+      y_high = le_of q.y (b.high.y *ℤ step) below_yz.0;
+      z_low = le_of (b.low.z *ℤ step) q.z above_yz.1;
+      z_high = le_of q.z (b.high.z *ℤ step) below_yz.1;
+    }
+
+-- a point in a box that is within travel and clear is safe
+point_in_box : (machine : MachineFile) (tool : Option Tool) (b : GridBox) (q : Point3) → IsTrue (lies_in machine.step b q) →
+    IsTrue (is_in_travel machine b) → IsTrue (list_all (clears machine.step tool b) machine.fixtures) → IsSafePoint machine tool q
+point_in_box machine tool b q k t c =
+    let at : Solid = record { low = q; high = q } in
+    let w = point_within machine.step b q k in
+    let lowhigh = both _ _ t in
+    let low = both _ _ lowhigh.0 in let low_yz = both _ _ low.1 in
+    let high = both _ _ lowhigh.1 in let high_yz = both _ _ high.1 in
+    record {
+      inside = and _ _
+          (and _ _ (test_up _ _ _ w.x_low low.0) (and _ _ (test_up _ _ _ w.y_low low_yz.0) (test_up _ _ _ w.z_low low_yz.1)))
+          (and _ _ (test_down _ _ _ w.x_high high.0) (and _ _ (test_down _ _ _ w.y_high high_yz.0) (test_down _ _ _ w.z_high high_yz.1)));
+      clear = list_to (clears machine.step tool b) (λ f. list_all (are_apart f) (bodies tool at)) machine.fixtures
+          (λ f h. bodies_within f tool (span machine.step b) at w h) c;
+    }
+
+pub point_in_piece : (machine : MachineFile) (tool : Option Tool) (way : Way) (s : Stretch) (piece : Piece) (q : Point3) → pos 1 ≤ℤ machine.step →
+    IsPieceValid machine tool way s piece → IsTrue (lies_in machine.step (derived_box machine.step way s piece.end) q) → IsSafePoint machine tool q
+point_in_piece machine tool way s piece q p v k =
+    point_in_box machine tool piece.bounds q (held_point machine.step piece.bounds (derived_box machine.step way s piece.end) q p v.covers k) v.travel v.clear

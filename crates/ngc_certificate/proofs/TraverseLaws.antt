@@ -4,7 +4,7 @@ use Rattle.std.specs.Prelude.{Option, Bool, option_map, ℤ, ◌==◌, nat_lt, I
 use Rattle.std.specs.List.{find}
 use Rattle.std.proofs.lemmas.Int.{ints}
 use Rattle.std.proofs.lemmas.Bool.Decides.{nat_tests}
-use Rattle.ngc_fixed_length.specs.Boxes.{IsIn, box_of}
+use Rattle.ngc_fixed_length.specs.Boxes.{box_of}
 use Rattle.ngc_fixed_length.specs.Grid.{grid}
 use Rattle.ngc_fixed_length.specs.Length.{IsStep}
 use Rattle.ngc_fixed_length.specs.declared.points.Point3.{Point3}
@@ -26,10 +26,10 @@ use Rattle.ngc_certificate.specs.DerivedBox.{line_box}
 use Rattle.ngc_certificate.specs.PieceFault.{ArePiecesValid}
 use Rattle.ngc_certificate.specs.Made.{pieces_of, cleared, MayHavePieces, MayFindPieces}
 use Rattle.ngc_certificate.specs.Making.{is_clear_in}
-use Rattle.ngc_certificate.specs.Traverses.{takes_any_way, most_pieces, AreWhole, IsSafeEachWay, AreSafeEachWay}
+use Rattle.ngc_certificate.specs.Traverses.{takes_any_way, most_pieces, AreWhole, IsSafeEachWay, AreSafeEachWay, lies_in}
 use Rattle.ngc_certificate.specs.Valid.{AreClearFrom, ValidIsSafeEachWay}
 use Rattle.ngc_certificate.proofs.TrueTests.{both}
-use Rattle.ngc_certificate.proofs.SafeInPiece.{safe_in_piece}
+use Rattle.ngc_certificate.proofs.SafeInPiece.{point_in_piece}
 use Rattle.ngc_certificate.proofs.WholeLine.{whole_line}
 
 -- ---- how many pieces a motion may have
@@ -87,7 +87,7 @@ found_whole machine most tool w pace found pieces may is free =
     single machine tool w pieces (subst (λ (n : ℕ). MayFindPieces machine n tool w (Some pieces)) one
     (subst (MayFindPieces machine (most_pieces machine most pace) tool w) is may))
 
--- ---- each position in the box of a line's ends
+-- ---- each point in the box of a line's ends
 
 end_whole : (step : ℤ) (b e : Point3) (cut : Cut) → IsTrue (follows step (Line b e) (stretch false true (Part 0)) cut) → part_of cut ≡ 65536
 end_whole step b e (Part t) h =
@@ -106,8 +106,8 @@ safe_line machine tool b e (p ∷ []) step valid few = λ q inside.
     let last = end_whole machine.step b e p.end valid.chain in
     let whole : line_box machine.step b e 0 (part_of p.end) ≡ box_of (grid machine.step b) (grid machine.step e) =
     ap (line_box machine.step b e 0) last ∙ whole_line machine.step b e step in
-    safe_in_piece machine tool (Line b e) (stretch false true (Part 0)) p q (omega (arith, ints, step.least)) valid
-    (subst (λ bounds. IsIn bounds q) (sym whole) inside)
+    point_in_piece machine tool (Line b e) (stretch false true (Part 0)) p q (omega (arith, ints, step.least)) valid
+    (subst (λ bounds. IsTrue (lies_in machine.step bounds q)) (sym whole) inside)
 safe_line machine tool b e (p ∷ r ∷ ps) step valid few = absurd (omega (arith, few))
 
 safe_way : (machine : MachineFile) (tool : Option Tool) (w : Way) (pieces : List Piece) → IsStep machine.step →

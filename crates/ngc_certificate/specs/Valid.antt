@@ -35,7 +35,7 @@ pub record IsValid (machine : MachineFile) (commands : List Command) (entries : 
   pub clear : AreClearFrom machine None machine.start (actions_of commands) entries
   pub whole : AreWhole machine (actions_of commands) entries
 
--- with free rapids each position in the box of a traverse's ends is safe
+-- with free rapids each point in the box of a traverse's ends is safe
 abbrev pub ValidIsSafeEachWay : Type 0
 ValidIsSafeEachWay = (machine : MachineFile) (commands : List Command) (entries : List Entry) →
     IsStep machine.step → IsValid machine commands entries →

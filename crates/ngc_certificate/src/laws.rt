@@ -24,8 +24,9 @@ pub fn no_fault_is_valid()
 {}
 
 /// States that if the machine's rapids are free and a certificate is valid for the commands of a
-/// setting, each position in the box of a traverse's ends is safe for the tool mounted then. So any
-/// way that a control takes within that box is safe.
+/// setting, each point in the box of a traverse's ends, in whole nanometres, is safe for the tool
+/// mounted then. So any way that a control takes within that box is safe. The ends are positions of
+/// motor steps.
 pub fn valid_is_safe_each_way()
     ensures { ValidIsSafeEachWay }
 {}

@@ -17,17 +17,21 @@ abbrev pub nothing_kept : Kept
 nothing_kept =
     record { margins = record { fixtures = pos 0; travel = pos 0 }; rapids = Straight }
 
+abbrev pub larger : ℤ → List ℕ
+larger m =
+    codes "Margin: each fixture is " ++ mm_text m
+    ++ codes " larger on every side, also in the corners below.\n"
+
 abbrev pub margin_words : ℤ → List ℕ
-margin_words m =
-    if int_eq m (pos 0) then [] else
-    codes "Clear of a fixture is clear by at least " ++ mm_text m
-    ++ codes ": its corners below have this margin.\n"
+margin_words m = if int_eq m (pos 0) then [] else larger m
+
+abbrev pub nearer : ℤ → List ℕ
+nearer m =
+    codes "Margin: each travel limit is " ++ mm_text m
+    ++ codes " nearer, also in the figures below.\n"
 
 abbrev pub travel_words : ℤ → List ℕ
-travel_words m =
-    if int_eq m (pos 0) then [] else
-    codes "Inside the travel is inside by at least " ++ mm_text m
-    ++ codes ": its limits below have this margin.\n"
+travel_words m = if int_eq m (pos 0) then [] else nearer m
 
 abbrev pub rapids_words : Rapids → List ℕ
 rapids_words Straight = []

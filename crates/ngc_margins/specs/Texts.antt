@@ -11,13 +11,13 @@ use Rattle.ngc_margins.specs.declared.reading.DemandMistake.{DemandMistake}
 use Rattle.ngc_margins.specs.declared.reading.DemandMistake.TheVariants as mistakes
 
 -- at most 100 mm, in nanometres
-abbrev pub small : Option ℕ → Option ℤ
-small None = None
-small (Some n) = if nat_le n 100000000 then Some (pos n) else None
+abbrev pub within_limit : Option ℕ → Option ℤ
+within_limit None = None
+within_limit (Some n) = if nat_le n 100000000 then Some (pos n) else None
 
 -- millimetres with at most six decimals, in nanometres
 abbrev pub margin_in : List ℕ → Option ℤ
-margin_in text = small (number_in 6 text)
+margin_in text = within_limit (number_in 6 text)
 
 abbrev pub rapids_in : List ℕ → Option Rapids
 rapids_in text =
@@ -34,17 +34,17 @@ abbrev pub value_of : {T : Type 0} → (List ℕ → Option T) → DemandMistake
 value_of read mistake None = Ok None
 value_of read mistake (Some text) = written mistake (read text)
 
-abbrev pub three : Result (Option ℤ) DemandMistake → Result (Option ℤ) DemandMistake →
+abbrev pub demand_of : Result (Option ℤ) DemandMistake → Result (Option ℤ) DemandMistake →
     Result (Option Rapids) DemandMistake → Result Demand DemandMistake
-three (Ok margin) (Ok travel) (Ok rapids) =
+demand_of (Ok margin) (Ok travel) (Ok rapids) =
     Ok (record { margin = margin; travel_margin = travel; rapids = rapids })
-three (Err mistake) travel rapids = Err mistake
-three (Ok margin) (Err mistake) rapids = Err mistake
-three (Ok margin) (Ok travel) (Err mistake) = Err mistake
+demand_of (Err mistake) travel rapids = Err mistake
+demand_of (Ok margin) (Err mistake) rapids = Err mistake
+demand_of (Ok margin) (Ok travel) (Err mistake) = Err mistake
 
 -- what the three options write, or the first mistake
 abbrev pub parsed_demands : Option (List ℕ) → Option (List ℕ) → Option (List ℕ) →
     Result Demand DemandMistake
 parsed_demands margin travel rapids =
-    three (value_of margin_in mistakes.Margin margin)
+    demand_of (value_of margin_in mistakes.Margin margin)
     (value_of margin_in mistakes.TravelMargin travel) (value_of rapids_in mistakes.Rapids rapids)

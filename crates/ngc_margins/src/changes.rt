@@ -10,7 +10,9 @@ use std::alloc::Allocator;
 /// What the options of a call replace in a machine file.
 #[derive(Clone, Copy)]
 pub struct Changes {
+    /// The origins that replace those of the machine file.
     pub origins: Origins,
+    /// The margins and the way of traverses that replace those of the machine file.
     pub demands: Demands,
 }
 

@@ -13,4 +13,4 @@ pub use changes::Changes;
 pub use demands::Demands;
 pub use laws::{margin_is_kept, safe_with_smaller_margins};
 pub use reading::{DemandMistake, read_demands};
-pub use report_lines::{Kept, add_kept_facts, add_kept_words};
+pub use report_lines::{Kept, say_kept_facts, say_kept_words};

@@ -1,14 +1,14 @@
 //! The lines of a report that name margins and the way of traverses.
-ghost use Rattle.std.specs.Prelude.{◌≡◌, ◌+◌, ◌≤◌, ◌++◌, length};
-ghost use Rattle.ngc_margins.specs.Lines.{are_zero, kept_facts, kept_words, lengths_fact};
-ghost use Rattle.ngc_margins.specs.Lines.{margin_words, margins_fact};
+ghost use Rattle.std.specs.Prelude.{◌≡◌};
+ghost use Rattle.ngc_margins.specs.Lines.{are_zero, kept_facts, kept_words, larger, lengths_fact};
+ghost use Rattle.ngc_margins.specs.Lines.{margin_words, margins_fact, nearer};
 ghost use Rattle.ngc_margins.specs.Lines.{rapids_fact, rapids_words, travel_words};
-ghost use Rattle.ngc_text.specs.Collected.{CHUNK_SIZE};
-ghost use Rattle.ngc_text.specs.Millimetres.{mm_text};
+ghost use Rattle.ngc_sentences.specs.Saying.{Says};
 
 use ngc_fixed_length::Nm;
 use ngc_machine_files::{Machine, Margins, Rapids};
-use ngc_text::Chunk;
+use ngc_sentences::{Page, Part, say};
+use ngc_text::Sink;
 use std::alloc::Allocator;
 
 /// The margins that are kept, and the ways of traverses that are covered.
@@ -46,61 +46,58 @@ impl Kept {
     }
 }
 
-fn add_length(chunk: &mut Chunk, nanometres: Nm)
-    requires { length chunk.old + 60 ≤ CHUNK_SIZE }
-    ensures text { chunk.new ≡ chunk.old ++ mm_text nanometres }
-    ensures short { length chunk.new ≤ length chunk.old + 51 }
+fn say_larger<W: Sink>(margin: Nm, page: &mut Page, output: &mut W)
+    ensures { Says (W.written output.old) (W.written output.new)
+        (W.failures output.old) (W.failures output.new) page.old page.new (larger margin) }
 {
-    chunk.add_millimetres(i128::from(nanometres.nanometres()));
+    say!(page, output; b"Margin: each fixture is ", Part::Millimetres(margin.nanometres()), b" larger on every side, also in the corners below.\n");
 }
 
-fn add_margin_words(chunk: &mut Chunk, margin: Nm)
-    requires { length chunk.old + 200 ≤ CHUNK_SIZE }
-    ensures text { chunk.new ≡ chunk.old ++ margin_words margin }
-    ensures short { length chunk.new ≤ length chunk.old + 200 }
+fn say_margin<W: Sink>(margin: Nm, page: &mut Page, output: &mut W)
+    ensures { Says (W.written output.old) (W.written output.new)
+        (W.failures output.old) (W.failures output.new) page.old page.new (margin_words margin) }
 {
     if margin.nanometres() != 0 {
-        chunk.add_text(b"Clear of a fixture is clear by at least ");
-        add_length(chunk, margin);
-        chunk.add_text(b": its corners below have this margin.\n");
+        say_larger(margin, page, output);
     }
 }
 
-fn add_travel_words(chunk: &mut Chunk, margin: Nm)
-    requires { length chunk.old + 200 ≤ CHUNK_SIZE }
-    ensures text { chunk.new ≡ chunk.old ++ travel_words margin }
-    ensures short { length chunk.new ≤ length chunk.old + 200 }
+fn say_nearer<W: Sink>(margin: Nm, page: &mut Page, output: &mut W)
+    ensures { Says (W.written output.old) (W.written output.new)
+        (W.failures output.old) (W.failures output.new) page.old page.new (nearer margin) }
+{
+    say!(page, output; b"Margin: each travel limit is ", Part::Millimetres(margin.nanometres()), b" nearer, also in the figures below.\n");
+}
+
+fn say_travel_margin<W: Sink>(margin: Nm, page: &mut Page, output: &mut W)
+    ensures { Says (W.written output.old) (W.written output.new)
+        (W.failures output.old) (W.failures output.new) page.old page.new (travel_words margin) }
 {
     if margin.nanometres() != 0 {
-        chunk.add_text(b"Inside the travel is inside by at least ");
-        add_length(chunk, margin);
-        chunk.add_text(b": its limits below have this margin.\n");
+        say_nearer(margin, page, output);
     }
 }
 
-fn add_rapids_words(chunk: &mut Chunk, rapids: Rapids)
-    requires { length chunk.old + 100 ≤ CHUNK_SIZE }
-    ensures text { chunk.new ≡ chunk.old ++ rapids_words rapids }
-    ensures short { length chunk.new ≤ length chunk.old + 100 }
+fn say_rapids<W: Sink>(rapids: Rapids, page: &mut Page, output: &mut W)
+    ensures { Says (W.written output.old) (W.written output.new)
+        (W.failures output.old) (W.failures output.new) page.old page.new (rapids_words rapids) }
 {
     match rapids {
         Rapids::Straight => {}
         Rapids::Free => {
-            chunk.add_text(b"A traverse may take any way within the box of its ends.\n")
+            say!(page, output; b"A traverse may take any way within the box of its ends.\n")
         }
     }
 }
 
-/// Adds a sentence for each margin that isn't 0, and one where traverses may take any way. Space for
-/// 500 bytes must be free.
-pub fn add_kept_words(chunk: &mut Chunk, kept: &Kept)
-    requires { length chunk.old + 500 ≤ CHUNK_SIZE }
-    ensures text { chunk.new ≡ chunk.old ++ kept_words kept.now }
-    ensures short { length chunk.new ≤ length chunk.old + 500 }
+/// Says a sentence for each margin that isn't 0, and one where traverses may take any way.
+pub fn say_kept_words<W: Sink>(kept: &Kept, page: &mut Page, output: &mut W)
+    ensures { Says (W.written output.old) (W.written output.new)
+        (W.failures output.old) (W.failures output.new) page.old page.new (kept_words kept.now) }
 {
-    add_margin_words(chunk, kept.margins.fixtures);
-    add_travel_words(chunk, kept.margins.travel);
-    add_rapids_words(chunk, kept.rapids);
+    say_margin(kept.margins.fixtures, page, output);
+    say_travel_margin(kept.margins.travel, page, output);
+    say_rapids(kept.rapids, page, output);
 }
 
 fn are_zero(margins: &Margins) -> bool
@@ -109,45 +106,37 @@ fn are_zero(margins: &Margins) -> bool
     margins.fixtures.nanometres() == 0 && margins.travel.nanometres() == 0
 }
 
-fn add_lengths(chunk: &mut Chunk, margins: &Margins)
-    requires { length chunk.old + 200 ≤ CHUNK_SIZE }
-    ensures text { chunk.new ≡ chunk.old ++ lengths_fact margins.now }
-    ensures short { length chunk.new ≤ length chunk.old + 200 }
+fn say_lengths<W: Sink>(margins: &Margins, page: &mut Page, output: &mut W)
+    ensures { Says (W.written output.old) (W.written output.new)
+        (W.failures output.old) (W.failures output.new) page.old page.new (lengths_fact margins.now) }
 {
-    chunk.add_text(b",\n{\"fact\":\"margins\",\"fixtures\":");
-    chunk.add_number(margins.fixtures.nanometres());
-    chunk.add_text(b",\"travel\":");
-    chunk.add_number(margins.travel.nanometres());
-    chunk.add_text(b"}");
+    say!(page, output; b",\n{\"fact\":\"margins\",\"fixtures\":", Part::Signed(margins.fixtures.nanometres()), b",\"travel\":", Part::Signed(margins.travel.nanometres()), b"}");
 }
 
-fn add_margins_fact(chunk: &mut Chunk, margins: &Margins)
-    requires { length chunk.old + 200 ≤ CHUNK_SIZE }
-    ensures text { chunk.new ≡ chunk.old ++ margins_fact margins.now }
-    ensures short { length chunk.new ≤ length chunk.old + 200 }
+fn say_margins_fact<W: Sink>(margins: &Margins, page: &mut Page, output: &mut W)
+    ensures { Says (W.written output.old) (W.written output.new)
+        (W.failures output.old) (W.failures output.new) page.old page.new (margins_fact margins.now) }
 {
     if !are_zero(margins) {
-        add_lengths(chunk, margins);
+        say_lengths(margins, page, output);
     }
 }
 
-fn add_rapids_fact(chunk: &mut Chunk, rapids: Rapids)
-    requires { length chunk.old + 100 ≤ CHUNK_SIZE }
-    ensures text { chunk.new ≡ chunk.old ++ rapids_fact rapids }
-    ensures short { length chunk.new ≤ length chunk.old + 100 }
+fn say_rapids_fact<W: Sink>(rapids: Rapids, page: &mut Page, output: &mut W)
+    ensures { Says (W.written output.old) (W.written output.new)
+        (W.failures output.old) (W.failures output.new) page.old page.new (rapids_fact rapids) }
 {
     match rapids {
         Rapids::Straight => {}
-        Rapids::Free => chunk.add_text(b",\n{\"fact\":\"rapids\",\"way\":\"free\"}"),
+        Rapids::Free => say!(page, output; b",\n{\"fact\":\"rapids\",\"way\":\"free\"}"),
     }
 }
 
-/// Adds the same as facts of a JSON document, in nanometres. Space for 500 bytes must be free.
-pub fn add_kept_facts(chunk: &mut Chunk, kept: &Kept)
-    requires { length chunk.old + 500 ≤ CHUNK_SIZE }
-    ensures text { chunk.new ≡ chunk.old ++ kept_facts kept.now }
-    ensures short { length chunk.new ≤ length chunk.old + 500 }
+/// Says the same as facts of a JSON document, in nanometres.
+pub fn say_kept_facts<W: Sink>(kept: &Kept, page: &mut Page, output: &mut W)
+    ensures { Says (W.written output.old) (W.written output.new)
+        (W.failures output.old) (W.failures output.new) page.old page.new (kept_facts kept.now) }
 {
-    add_margins_fact(chunk, &kept.margins);
-    add_rapids_fact(chunk, kept.rapids);
+    say_margins_fact(&kept.margins, page, output);
+    say_rapids_fact(kept.rapids, page, output);
 }

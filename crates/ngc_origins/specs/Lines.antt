@@ -18,23 +18,17 @@ code_text system =
     if system == 6 then codes "G59.1" else
     if system == 7 then codes "G59.2" else codes "G59.3"
 
-unfoldable pub origin_words : ℕ → Point3 → List ℕ
+abbrev pub origin_words : ℕ → Point3 → List ℕ
 origin_words system p =
     code_text system ++ codes " at X " ++ mm_text p.x ++ codes ", Y " ++ mm_text p.y
     ++ codes ", Z " ++ mm_text p.z ++ codes " by --origin.\n"
 
--- three numbers in nanometres
-unfoldable pub place_fact : Point3 → List ℕ
-place_fact p = codes "[" ++ signed_decimal p.x ++ codes "," ++ signed_decimal p.y ++ codes ","
-    ++ signed_decimal p.z ++ codes "]"
-
--- the same as a fact of a JSON document
-abbrev pub system_fact : ℕ → List ℕ
-system_fact system =
-    codes ",\n{\"fact\":\"origin\",\"system\":\"" ++ (code_text system ++ codes "\",\"at\":")
-
-unfoldable pub origin_fact : ℕ → Point3 → List ℕ
-origin_fact system p = system_fact system ++ (place_fact p ++ codes "}")
+-- the same as a fact of a JSON document, in nanometres
+abbrev pub origin_fact : ℕ → Point3 → List ℕ
+origin_fact system p =
+    codes ",\n{\"fact\":\"origin\",\"system\":\"" ++ code_text system ++ codes "\",\"at\":["
+    ++ signed_decimal p.x ++ codes "," ++ signed_decimal p.y ++ codes ","
+    ++ signed_decimal p.z ++ codes "]}"
 
 abbrev pub line_of : (ℕ → Point3 → List ℕ) → ℕ → Option Point3 → List ℕ
 line_of line system None = []

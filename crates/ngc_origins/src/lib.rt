@@ -9,4 +9,4 @@ mod report_lines;
 
 pub use origins::Origins;
 pub use reading::{OriginMistake, Refused, read_origins};
-pub use report_lines::{add_origin_facts, add_origin_words};
+pub use report_lines::{say_origin_facts, say_origin_words};

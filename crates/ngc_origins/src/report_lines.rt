@@ -1,19 +1,17 @@
 //! The lines of a report that name the replaced origins.
-ghost use Rattle.std.specs.Prelude.{◌≡◌, ◌+◌, ◌<◌, ◌≤◌, ◌++◌, length};
+ghost use Rattle.std.specs.Prelude.{◌≡◌};
 ghost use Rattle.ngc_origins.specs.Lines.{code_text, line_of, origin_fact, origin_words};
-ghost use Rattle.ngc_origins.specs.Lines.{origins_facts, origins_words, place_fact};
-ghost use Rattle.ngc_origins.specs.Lines.{system_fact};
-ghost use Rattle.ngc_text.specs.Collected.{CHUNK_SIZE};
-ghost use Rattle.ngc_text.specs.Millimetres.{mm_text};
+ghost use Rattle.ngc_origins.specs.Lines.{origins_facts, origins_words};
+ghost use Rattle.ngc_sentences.specs.Saying.{Says};
 
 use crate::origins::Origins;
-use ngc_fixed_length::{Nm, Point3};
-use ngc_text::Chunk;
+use ngc_fixed_length::Point3;
+use ngc_sentences::{Page, Part, say};
+use ngc_text::Sink;
 
 #[tactic(auto, unfolding(crate::specs::Lines::code_text))]
 fn code(system: usize) -> &'static [u8]
-    ensures text { result.now ≡ code_text system }
-    ensures short { length result.now ≤ 5 }
+    ensures { result.now ≡ code_text system }
 {
     match system {
         0 => b"G54",
@@ -28,108 +26,57 @@ fn code(system: usize) -> &'static [u8]
     }
 }
 
-fn add_length(chunk: &mut Chunk, nanometres: Nm)
-    requires { length chunk.old + 60 ≤ CHUNK_SIZE }
-    ensures text { chunk.new ≡ chunk.old ++ mm_text nanometres }
-    ensures short { length chunk.new ≤ length chunk.old + 51 }
+fn say_words<W: Sink>(system: usize, place: &Point3, page: &mut Page, output: &mut W)
+    ensures { Says (W.written output.old) (W.written output.new)
+        (W.failures output.old) (W.failures output.new) page.old page.new (origin_words system place.now) }
 {
-    chunk.add_millimetres(i128::from(nanometres.nanometres()));
+    say!(page, output; Part::Text(code(system)), b" at X ", Part::Millimetres(place.x.nanometres()), b", Y ", Part::Millimetres(place.y.nanometres()), b", Z ", Part::Millimetres(place.z.nanometres()), b" by --origin.\n");
 }
 
-#[tactic(auto, unfolding(crate::specs::Lines::origin_words))]
-fn add_words(chunk: &mut Chunk, system: usize, place: &Point3)
-    requires { length chunk.old + 250 ≤ CHUNK_SIZE }
-    ensures text { chunk.new ≡ chunk.old ++ origin_words system place.now }
-    ensures short { length chunk.new ≤ length chunk.old + 250 }
+fn say_fact<W: Sink>(system: usize, place: &Point3, page: &mut Page, output: &mut W)
+    ensures { Says (W.written output.old) (W.written output.new)
+        (W.failures output.old) (W.failures output.new) page.old page.new (origin_fact system place.now) }
 {
-    chunk.add_text(code(system));
-    chunk.add_text(b" at X ");
-    add_length(chunk, place.x);
-    chunk.add_text(b", Y ");
-    add_length(chunk, place.y);
-    chunk.add_text(b", Z ");
-    add_length(chunk, place.z);
-    chunk.add_text(b" by --origin.\n");
+    say!(page, output; b",\n{\"fact\":\"origin\",\"system\":\"", Part::Text(code(system)), b"\",\"at\":[", Part::Signed(place.x.nanometres()), b",", Part::Signed(place.y.nanometres()), b",", Part::Signed(place.z.nanometres()), b"]}");
 }
 
-#[tactic(auto, unfolding(crate::specs::Lines::place_fact))]
-fn add_place(chunk: &mut Chunk, place: &Point3)
-    requires { length chunk.old + 150 ≤ CHUNK_SIZE }
-    ensures text { chunk.new ≡ chunk.old ++ place_fact place.now }
-    ensures short { length chunk.new ≤ length chunk.old + 130 }
-{
-    chunk.add_text(b"[");
-    chunk.add_number(place.x.nanometres());
-    chunk.add_text(b",");
-    chunk.add_number(place.y.nanometres());
-    chunk.add_text(b",");
-    chunk.add_number(place.z.nanometres());
-    chunk.add_text(b"]");
-}
-
-fn add_system(chunk: &mut Chunk, system: usize)
-    requires { length chunk.old + 100 ≤ CHUNK_SIZE }
-    ensures text { chunk.new ≡ chunk.old ++ system_fact system }
-    ensures short { length chunk.new ≤ length chunk.old + 100 }
-{
-    chunk.add_text(b",\n{\"fact\":\"origin\",\"system\":\"");
-    chunk.add_text(code(system));
-    chunk.add_text(b"\",\"at\":");
-}
-
-#[tactic(auto, unfolding(crate::specs::Lines::origin_fact))]
-fn add_fact(chunk: &mut Chunk, system: usize, place: &Point3)
-    requires { length chunk.old + 250 ≤ CHUNK_SIZE }
-    ensures text { chunk.new ≡ chunk.old ++ origin_fact system place.now }
-    ensures short { length chunk.new ≤ length chunk.old + 250 }
-{
-    add_system(chunk, system);
-    add_place(chunk, place);
-    chunk.add_text(b"}");
-}
-
-fn add_line_of_words(chunk: &mut Chunk, system: usize, origin: &Option<Point3>)
-    requires { length chunk.old + 250 ≤ CHUNK_SIZE }
-    ensures text { chunk.new ≡ chunk.old ++ line_of origin_words system origin.now }
-    ensures short { length chunk.new ≤ length chunk.old + 250 }
+fn say_words_if<W: Sink>(system: usize, origin: &Option<Point3>, page: &mut Page, output: &mut W)
+    ensures { Says (W.written output.old) (W.written output.new)
+        (W.failures output.old) (W.failures output.new) page.old page.new (line_of origin_words system origin.now) }
 {
     match origin {
-        Some(place) => add_words(chunk, system, place),
-        None => chunk.add_text(b""),
+        Some(place) => say_words(system, place, page, output),
+        None => {}
     }
 }
 
-fn add_line_of_facts(chunk: &mut Chunk, system: usize, origin: &Option<Point3>)
-    requires { length chunk.old + 250 ≤ CHUNK_SIZE }
-    ensures text { chunk.new ≡ chunk.old ++ line_of origin_fact system origin.now }
-    ensures short { length chunk.new ≤ length chunk.old + 250 }
+fn say_fact_if<W: Sink>(system: usize, origin: &Option<Point3>, page: &mut Page, output: &mut W)
+    ensures { Says (W.written output.old) (W.written output.new)
+        (W.failures output.old) (W.failures output.new) page.old page.new (line_of origin_fact system origin.now) }
 {
     match origin {
-        Some(place) => add_fact(chunk, system, place),
-        None => chunk.add_text(b""),
+        Some(place) => say_fact(system, place, page, output),
+        None => {}
     }
 }
 
-/// Adds a sentence for each origin that replaces one of the machine file, in millimetres. Space for
-/// 2,250 bytes must be free.
-pub fn add_origin_words(chunk: &mut Chunk, origins: &Origins)
-    requires { length chunk.old + 2250 ≤ CHUNK_SIZE }
-    ensures text { chunk.new ≡ chunk.old ++ origins_words origins.now }
-    ensures short { length chunk.new ≤ length chunk.old + 2250 }
+/// Says a sentence for each origin that replaces one of the machine file, in millimetres.
+pub fn say_origin_words<W: Sink>(origins: &Origins, page: &mut Page, output: &mut W)
+    ensures { Says (W.written output.old) (W.written output.new)
+        (W.failures output.old) (W.failures output.new) page.old page.new (origins_words origins.now) }
 {
     for (i, origin) in origins.systems().iter().enumerate() {
-        add_line_of_words(chunk, i, origin);
+        say_words_if(i, origin, page, output);
     }
 }
 
-/// Adds a fact of a JSON document for each origin that replaces one of the machine file, in
-/// nanometres. Space for 2,250 bytes must be free.
-pub fn add_origin_facts(chunk: &mut Chunk, origins: &Origins)
-    requires { length chunk.old + 2250 ≤ CHUNK_SIZE }
-    ensures text { chunk.new ≡ chunk.old ++ origins_facts origins.now }
-    ensures short { length chunk.new ≤ length chunk.old + 2250 }
+/// Says a fact of a JSON document for each origin that replaces one of the machine file, in
+/// nanometres.
+pub fn say_origin_facts<W: Sink>(origins: &Origins, page: &mut Page, output: &mut W)
+    ensures { Says (W.written output.old) (W.written output.new)
+        (W.failures output.old) (W.failures output.new) page.old page.new (origins_facts origins.now) }
 {
     for (i, origin) in origins.systems().iter().enumerate() {
-        add_line_of_facts(chunk, i, origin);
+        say_fact_if(i, origin, page, output);
     }
 }

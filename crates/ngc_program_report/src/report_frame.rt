@@ -1,7 +1,6 @@
 //! The text before and after the reports of programs.
-ghost use Rattle.std.specs.Prelude.{◌≡◌, ◌+◌, ◌≤◌, ◌++◌, length, OnOk, OnErr};
+ghost use Rattle.std.specs.Prelude.{◌≡◌, ◌≤◌, ◌++◌, [], length, OnOk, OnErr, if◌then◌else◌};
 ghost use Rattle.std.specs.Io.KnownBytes.{Appends};
-ghost use Rattle.ngc_text.specs.Collected.{CHUNK_SIZE};
 ghost use Rattle.ngc_text.specs.Failures.{CountsFailure};
 ghost use Rattle.ngc_text.specs.Written.{AppendsPrefix};
 ghost use Rattle.ngc_report.specs.Forms.{closing, opening};
@@ -15,11 +14,11 @@ ghost use Rattle.ngc_program_report.specs.Writing.{Writes};
 use crate::subject::Heading;
 use ngc_certificate::Setting;
 use ngc_machine_files::Machine;
-use ngc_margins::{Kept, add_kept_facts, add_kept_words};
-use ngc_origins::{Origins, add_origin_facts, add_origin_words};
+use ngc_margins::{Kept, say_kept_facts, say_kept_words};
+use ngc_origins::{Origins, say_origin_facts, say_origin_words};
 use ngc_report::Form;
 use ngc_sentences::{Page, Part, say};
-use ngc_text::{Chunk, Sink, WriteFault};
+use ngc_text::{Sink, WriteFault};
 use std::alloc::Allocator;
 
 // Returns the line that names a setting.
@@ -55,43 +54,106 @@ pub(crate) fn closing(form: Form) -> &'static [u8]
     }
 }
 
-fn add_origins(chunk: &mut Chunk, form: Form, origins: &Origins)
-    requires { length chunk.old + 2250 ≤ CHUNK_SIZE }
-    ensures text { chunk.new ≡ chunk.old ++ origins_text form origins.now }
-    ensures short { length chunk.new ≤ length chunk.old + 2250 }
+fn say_origins<W: Sink>(form: Form, origins: &Origins, page: &mut Page, output: &mut W)
+    ensures { Says (W.written output.old) (W.written output.new)
+        (W.failures output.old) (W.failures output.new) page.old page.new
+        (origins_text form origins.now) }
 {
     match form {
-        Form::Words => add_origin_words(chunk, origins),
-        Form::Json => add_origin_facts(chunk, origins),
+        Form::Words => say_origin_words(origins, page, output),
+        Form::Json => say_origin_facts(origins, page, output),
     }
 }
 
-fn add_kept(chunk: &mut Chunk, form: Form, kept: &Kept)
-    requires { length chunk.old + 500 ≤ CHUNK_SIZE }
-    ensures text { chunk.new ≡ chunk.old ++ kept_text form kept.now }
-    ensures short { length chunk.new ≤ length chunk.old + 500 }
+fn say_kept<W: Sink>(form: Form, kept: &Kept, page: &mut Page, output: &mut W)
+    ensures { Says (W.written output.old) (W.written output.new)
+        (W.failures output.old) (W.failures output.new) page.old page.new
+        (kept_text form kept.now) }
 {
     match form {
-        Form::Words => add_kept_words(chunk, kept),
-        Form::Json => add_kept_facts(chunk, kept),
+        Form::Words => say_kept_words(kept, page, output),
+        Form::Json => say_kept_facts(kept, page, output),
     }
 }
 
-// Returns the text before the first setting of a report, or before the other.
-fn heading_of(form: Form, origins: &Origins, kept: &Kept, heading: Heading) -> Chunk
-    ensures { result
-        ≡ heading_text form origins.now kept.now heading.first heading.named heading.setting }
+// Says the text before the first setting of a report.
+fn say_beginning<W: Sink>(
+    form: Form,
+    origins: &Origins,
+    kept: &Kept,
+    page: &mut Page,
+    output: &mut W,
+)
+    ensures { Says (W.written output.old) (W.written output.new)
+        (W.failures output.old) (W.failures output.new) page.old page.new
+        (opening form ++ (origins_text form origins.now ++ kept_text form kept.now)) }
 {
-    let mut chunk = Chunk::new();
-    if heading.first {
-        chunk.add_text(opening(form));
-        add_origins(&mut chunk, form, origins);
-        add_kept(&mut chunk, form, kept);
+    say!(page, output; Part::Text(opening(form)));
+    say_origins(form, origins, page, output);
+    say_kept(form, kept, page, output);
+}
+
+// Says the name of a setting.
+fn say_setting<W: Sink>(form: Form, setting: Setting, page: &mut Page, output: &mut W)
+    ensures { Says (W.written output.old) (W.written output.new)
+        (W.failures output.old) (W.failures output.new) page.old page.new
+        (setting_line form setting) }
+{
+    say!(page, output; Part::Text(setting_line(form, setting)));
+}
+
+// Says the beginning, before the first setting of a report.
+fn say_beginning_if<W: Sink>(
+    first: bool,
+    form: Form,
+    origins: &Origins,
+    kept: &Kept,
+    page: &mut Page,
+    output: &mut W,
+)
+    ensures { Says (W.written output.old) (W.written output.new)
+        (W.failures output.old) (W.failures output.new) page.old page.new
+        (if first then opening form ++ (origins_text form origins.now ++ kept_text form kept.now)
+        else []) }
+{
+    if first {
+        say_beginning(form, origins, kept, page, output);
     }
-    if heading.named {
-        chunk.add_text(setting_line(form, heading.setting));
+}
+
+// Says the name of a setting, if the two settings differ.
+fn say_setting_if<W: Sink>(
+    named: bool,
+    form: Form,
+    setting: Setting,
+    page: &mut Page,
+    output: &mut W,
+)
+    ensures { Says (W.written output.old) (W.written output.new)
+        (W.failures output.old) (W.failures output.new) page.old page.new
+        (if named then setting_line form setting else []) }
+{
+    if named {
+        say_setting(form, setting, page, output);
     }
-    chunk
+}
+
+// Writes the text before the first setting of a report, or before the other.
+fn write_frame<W: Sink>(
+    form: Form,
+    origins: &Origins,
+    kept: &Kept,
+    heading: Heading,
+    output: &mut W,
+) -> Result<(), WriteFault>
+    ensures { Writes (W.written output.old) (W.written output.new) (W.failures output.old)
+        (W.failures output.new) result
+        (heading_text form origins.now kept.now heading.first heading.named heading.setting) }
+{
+    let mut page = Page::new();
+    say_beginning_if(heading.first, form, origins, kept, &mut page, output);
+    say_setting_if(heading.named, form, heading.setting, &mut page, output);
+    page.finish(output)
 }
 
 pub(crate) fn write_heading<A: Allocator, W: Sink>(
@@ -106,7 +168,8 @@ pub(crate) fn write_heading<A: Allocator, W: Sink>(
         (heading_text form origins.now (kept_by (file_of machine.now)) heading.first heading.named
         heading.setting) }
 {
-    heading_of(form, origins, &Kept::by(machine), heading).write_out(output)
+    let kept = Kept::by(machine);
+    write_frame(form, origins, &kept, heading, output)
 }
 
 // Writes the heading of a program that is refused before its machine counts.
@@ -120,7 +183,8 @@ pub(crate) fn write_early_heading<W: Sink>(
         (W.failures output.new) result
         (heading_text form origins.now nothing_kept heading.first heading.named heading.setting) }
 {
-    heading_of(form, origins, &Kept::nothing(), heading).write_out(output)
+    let kept = Kept::nothing();
+    write_frame(form, origins, &kept, heading, output)
 }
 
 // Says the number of the reported fault, in words with `ngc explain`.
