@@ -20,7 +20,7 @@ nothing_kept =
 abbrev pub larger : ℤ → List ℕ
 larger m =
     codes "Margin: each fixture is " ++ mm_text m
-    ++ codes " larger on every side, also in the corners below.\n"
+    ++ codes " larger on every side, also in the figures below.\n"
 
 abbrev pub margin_words : ℤ → List ℕ
 margin_words m = if int_eq m (pos 0) then [] else larger m

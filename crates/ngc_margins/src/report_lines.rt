@@ -50,7 +50,7 @@ fn say_larger<W: Sink>(margin: Nm, page: &mut Page, output: &mut W)
     ensures { Says (W.written output.old) (W.written output.new)
         (W.failures output.old) (W.failures output.new) page.old page.new (larger margin) }
 {
-    say!(page, output; b"Margin: each fixture is ", Part::Millimetres(margin.nanometres()), b" larger on every side, also in the corners below.\n");
+    say!(page, output; b"Margin: each fixture is ", Part::Millimetres(margin.nanometres()), b" larger on every side, also in the figures below.\n");
 }
 
 fn say_margin<W: Sink>(margin: Nm, page: &mut Page, output: &mut W)

@@ -7,3 +7,4 @@ pub mod Texts
 pub mod FaultTexts
 pub mod Framed
 pub mod JobReports
+pub mod Demanded

@@ -43,6 +43,7 @@ use Rattle.ngc_origin_warnings.specs.Warnings.{origin_warnings}
 use Rattle.ngc_tool_figures.specs.Texts.{figures_text}
 use Rattle.ngc_tool_warnings.specs.Spelling.{tool_warnings}
 use Rattle.ngc_setup_sheet.specs.Sheets.{warning_facts, warnings_text}
+use Rattle.ngc_program_report.specs.Demanded.{demanded_text}
 use Rattle.ngc_program_report.specs.declared.run_time.RunTime.{RunTime}
 use Rattle.ngc_program_report.specs.Coordinates.{History, coordinates_text, line_of, refused_path}
 use Rattle.ngc_program_report.specs.Met.{met_at}
@@ -211,13 +212,15 @@ abbrev pub refusal_end : Form → Setting → Setup → History → List Command
 refusal_end form s setup h commands lines =
     warnings form s setup h commands lines ++ (shop_text form setup ++ ending form 304)
 
--- the obstacle of a command, its program line, and its coordinates in the program
+-- the obstacle of a command, what it lacks of a margin, its program line, and its coordinates in the
+-- program
 abbrev pub cause_text : Form → OriginList → MachineFile → List Command → Option ℕ → Option ℕ →
     List Line → FrameInForce → List ℕ
 cause_text form origins machine commands told fixture lines frame =
     report_text form (refusal_lines machine commands told fixture)
+    ++ (demanded_text form machine commands told fixture
     ++ (quoted_if form (refused_number commands told) lines
-    ++ coordinates_text form origins frame (refused_path commands told))
+    ++ coordinates_text form origins frame (refused_path commands told)))
 
 -- command `k`, unless the start point isn't clear
 abbrev pub told_at : MachineFile → ℕ → Option ℕ

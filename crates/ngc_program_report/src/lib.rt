@@ -3,6 +3,7 @@
 #![tactic(auto)]
 
 mod coordinates;
+mod demanded;
 mod fault_writer;
 mod fit_writer;
 mod framed;

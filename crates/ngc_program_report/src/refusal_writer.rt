@@ -24,6 +24,7 @@ ghost use Rattle.ngc_program_report.specs.Texts.{setting_refusals, shop_text};
 ghost use Rattle.ngc_program_report.specs.Writing.{Writes};
 
 use crate::coordinates::{collect_coordinates, line_of, refused_path, write_coordinates};
+use crate::demanded::write_demanded;
 use crate::fit_writer::{is_on, write_setting_warnings, write_shop};
 use crate::met::met_at;
 use crate::report_frame::{write_early_heading, write_ending, write_heading};
@@ -101,7 +102,7 @@ fn write_cause_end<A: Allocator, W: Sink>(
     write_coordinates(subject.form, subject.origins, frame, way, output)
 }
 
-// Writes the obstacle of a command, and its program line.
+// Writes the obstacle of a command, what it lacks of a margin, and its program line.
 fn write_cause<A: Allocator, W: Sink>(
     subject: &Subject<A>,
     commands: &[Command],
@@ -116,6 +117,14 @@ fn write_cause<A: Allocator, W: Sink>(
         commands.now told fixture (text_in subject.now.program.now).lines frame.now) }
 {
     write_refusal(
+        subject.form,
+        subject.machine,
+        commands,
+        told,
+        fixture,
+        output,
+    )?;
+    write_demanded(
         subject.form,
         subject.machine,
         commands,
