@@ -20,3 +20,5 @@ pub mod NotMadeLaws
 pub mod InsideLaws
 -- The frames that are kept with a job are those of its program.
 pub mod FramedLaws
+-- What a report adds for a command by its number.
+pub mod DemandedLaws
