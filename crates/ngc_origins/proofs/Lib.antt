@@ -2,3 +2,5 @@
 pub mod ReplacedOrigins
 -- The origins that texts write, up to the first mistake.
 pub mod ReadOrigins
+-- The lines that remain, one system further.
+pub mod RemainingLines

@@ -23,12 +23,16 @@ origin_words system p =
     code_text system ++ codes " at X " ++ mm_text p.x ++ codes ", Y " ++ mm_text p.y
     ++ codes ", Z " ++ mm_text p.z ++ codes " by --origin.\n"
 
--- the same as a fact of a JSON document, in nanometres
-abbrev pub origin_fact : ℕ → Point3 → List ℕ
+-- three numbers in nanometres
+unfoldable pub place_fact : Point3 → List ℕ
+place_fact p = codes "[" ++ signed_decimal p.x ++ codes "," ++ signed_decimal p.y ++ codes ","
+    ++ signed_decimal p.z ++ codes "]"
+
+-- the same as a fact of a JSON document
+unfoldable pub origin_fact : ℕ → Point3 → List ℕ
 origin_fact system p =
-    codes ",\n{\"fact\":\"origin\",\"system\":\"" ++ code_text system ++ codes "\",\"at\":["
-    ++ signed_decimal p.x ++ codes "," ++ signed_decimal p.y ++ codes ","
-    ++ signed_decimal p.z ++ codes "]}"
+    codes ",\n{\"fact\":\"origin\",\"system\":\"" ++ code_text system ++ codes "\",\"at\":"
+    ++ place_fact p ++ codes "}"
 
 abbrev pub line_of : (ℕ → Point3 → List ℕ) → ℕ → Option Point3 → List ℕ
 line_of line system None = []

@@ -1,7 +1,8 @@
 //! The lines of a report that name the replaced origins.
 ghost use Rattle.std.specs.Prelude.{◌≡◌};
 ghost use Rattle.ngc_origins.specs.Lines.{code_text, line_of, origin_fact, origin_words};
-ghost use Rattle.ngc_origins.specs.Lines.{origins_facts, origins_words};
+ghost use Rattle.ngc_origins.specs.Lines.{origins_facts, origins_words, place_fact};
+ghost use Rattle.ngc_sentences.specs.Parts.{parts_text};
 ghost use Rattle.ngc_sentences.specs.Saying.{Says};
 
 use crate::origins::Origins;
@@ -33,11 +34,30 @@ fn say_words<W: Sink>(system: usize, place: &Point3, page: &mut Page, output: &m
     say!(page, output; Part::Text(code(system)), b" at X ", Part::Millimetres(place.x.nanometres()), b", Y ", Part::Millimetres(place.y.nanometres()), b", Z ", Part::Millimetres(place.z.nanometres()), b" by --origin.\n");
 }
 
-fn say_fact<W: Sink>(system: usize, place: &Point3, page: &mut Page, output: &mut W)
-    ensures { Says (W.written output.old) (W.written output.new)
-        (W.failures output.old) (W.failures output.new) page.old page.new (origin_fact system place.now) }
+#[tactic(auto, unfolding(crate::specs::Lines::place_fact))]
+fn place(place: &Point3) -> [Part<'static>; 7]
+    ensures { parts_text result ≡ place_fact place.now }
 {
-    say!(page, output; b",\n{\"fact\":\"origin\",\"system\":\"", Part::Text(code(system)), b"\",\"at\":[", Part::Signed(place.x.nanometres()), b",", Part::Signed(place.y.nanometres()), b",", Part::Signed(place.z.nanometres()), b"]}");
+    [
+        Part::Text(b"["),
+        Part::Signed(place.x.nanometres()),
+        Part::Text(b","),
+        Part::Signed(place.y.nanometres()),
+        Part::Text(b","),
+        Part::Signed(place.z.nanometres()),
+        Part::Text(b"]"),
+    ]
+}
+
+#[tactic(auto, unfolding(crate::specs::Lines::origin_fact))]
+fn say_fact<W: Sink>(system: usize, origin: &Point3, page: &mut Page, output: &mut W)
+    ensures { Says (W.written output.old) (W.written output.new)
+        (W.failures output.old) (W.failures output.new) page.old page.new
+        (origin_fact system origin.now) }
+{
+    say!(page, output; b",\n{\"fact\":\"origin\",\"system\":\"", Part::Text(code(system)), b"\",\"at\":");
+    page.say(output, &place(origin));
+    say!(page, output; b"}");
 }
 
 fn say_words_if<W: Sink>(system: usize, origin: &Option<Point3>, page: &mut Page, output: &mut W)
