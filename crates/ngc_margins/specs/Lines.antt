@@ -17,7 +17,7 @@ abbrev pub nothing_kept : Kept
 nothing_kept =
     record { margins = record { fixtures = pos 0; travel = pos 0 }; rapids = Straight }
 
-abbrev pub larger : ℤ → List ℕ
+unfoldable pub larger : ℤ → List ℕ
 larger m =
     codes "Margin: each fixture is " ++ mm_text m
     ++ codes " larger on every side, also in the figures below.\n"
@@ -25,7 +25,7 @@ larger m =
 abbrev pub margin_words : ℤ → List ℕ
 margin_words m = if int_eq m (pos 0) then [] else larger m
 
-abbrev pub nearer : ℤ → List ℕ
+unfoldable pub nearer : ℤ → List ℕ
 nearer m =
     codes "Margin: each travel limit is " ++ mm_text m
     ++ codes " nearer, also in the figures below.\n"
@@ -45,7 +45,7 @@ kept_words k =
 abbrev pub are_zero : Margins → Bool
 are_zero m = int_eq m.fixtures (pos 0) && int_eq m.travel (pos 0)
 
-abbrev pub lengths_fact : Margins → List ℕ
+unfoldable pub lengths_fact : Margins → List ℕ
 lengths_fact m =
     codes ",\n{\"fact\":\"margins\",\"fixtures\":" ++ signed_decimal m.fixtures
     ++ codes ",\"travel\":" ++ signed_decimal m.travel ++ codes "}"

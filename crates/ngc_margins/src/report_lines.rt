@@ -3,6 +3,7 @@ ghost use Rattle.std.specs.Prelude.{◌≡◌};
 ghost use Rattle.ngc_margins.specs.Lines.{are_zero, kept_facts, kept_words, larger, lengths_fact};
 ghost use Rattle.ngc_margins.specs.Lines.{margin_words, margins_fact, nearer};
 ghost use Rattle.ngc_margins.specs.Lines.{rapids_fact, rapids_words, travel_words};
+ghost use Rattle.ngc_sentences.specs.Parts.{parts_text};
 ghost use Rattle.ngc_sentences.specs.Saying.{Says};
 
 use ngc_fixed_length::Nm;
@@ -46,11 +47,22 @@ impl Kept {
     }
 }
 
+#[tactic(auto, unfolding(crate::specs::Lines::larger))]
+fn larger(margin: Nm) -> [Part<'static>; 3]
+    ensures { parts_text result ≡ larger margin }
+{
+    [
+        Part::Text(b"Margin: each fixture is "),
+        Part::Millimetres(margin.nanometres()),
+        Part::Text(b" larger on every side, also in the figures below.\n"),
+    ]
+}
+
 fn say_larger<W: Sink>(margin: Nm, page: &mut Page, output: &mut W)
     ensures { Says (W.written output.old) (W.written output.new)
         (W.failures output.old) (W.failures output.new) page.old page.new (larger margin) }
 {
-    say!(page, output; b"Margin: each fixture is ", Part::Millimetres(margin.nanometres()), b" larger on every side, also in the figures below.\n");
+    page.say(output, &larger(margin));
 }
 
 fn say_margin<W: Sink>(margin: Nm, page: &mut Page, output: &mut W)
@@ -62,11 +74,22 @@ fn say_margin<W: Sink>(margin: Nm, page: &mut Page, output: &mut W)
     }
 }
 
+#[tactic(auto, unfolding(crate::specs::Lines::nearer))]
+fn nearer(margin: Nm) -> [Part<'static>; 3]
+    ensures { parts_text result ≡ nearer margin }
+{
+    [
+        Part::Text(b"Margin: each travel limit is "),
+        Part::Millimetres(margin.nanometres()),
+        Part::Text(b" nearer, also in the figures below.\n"),
+    ]
+}
+
 fn say_nearer<W: Sink>(margin: Nm, page: &mut Page, output: &mut W)
     ensures { Says (W.written output.old) (W.written output.new)
         (W.failures output.old) (W.failures output.new) page.old page.new (nearer margin) }
 {
-    say!(page, output; b"Margin: each travel limit is ", Part::Millimetres(margin.nanometres()), b" nearer, also in the figures below.\n");
+    page.say(output, &nearer(margin));
 }
 
 fn say_travel_margin<W: Sink>(margin: Nm, page: &mut Page, output: &mut W)
@@ -106,11 +129,25 @@ fn are_zero(margins: &Margins) -> bool
     margins.fixtures.nanometres() == 0 && margins.travel.nanometres() == 0
 }
 
+#[tactic(auto, unfolding(crate::specs::Lines::lengths_fact))]
+fn lengths(margins: &Margins) -> [Part<'static>; 5]
+    ensures { parts_text result ≡ lengths_fact margins.now }
+{
+    [
+        Part::Text(b",\n{\"fact\":\"margins\",\"fixtures\":"),
+        Part::Signed(margins.fixtures.nanometres()),
+        Part::Text(b",\"travel\":"),
+        Part::Signed(margins.travel.nanometres()),
+        Part::Text(b"}"),
+    ]
+}
+
 fn say_lengths<W: Sink>(margins: &Margins, page: &mut Page, output: &mut W)
     ensures { Says (W.written output.old) (W.written output.new)
-        (W.failures output.old) (W.failures output.new) page.old page.new (lengths_fact margins.now) }
+        (W.failures output.old) (W.failures output.new) page.old page.new
+        (lengths_fact margins.now) }
 {
-    say!(page, output; b",\n{\"fact\":\"margins\",\"fixtures\":", Part::Signed(margins.fixtures.nanometres()), b",\"travel\":", Part::Signed(margins.travel.nanometres()), b"}");
+    page.say(output, &lengths(margins));
 }
 
 fn say_margins_fact<W: Sink>(margins: &Margins, page: &mut Page, output: &mut W)

@@ -51,13 +51,19 @@ missing_by machine r i action =
     option_and_then (λ s. option_and_then (missing_past machine s) (slice_get machine.fixtures i))
     (swept_by machine r action)
 
-abbrev pub missing_text : Form → ℤ → ℕ → List ℕ
-missing_text Words margin missing =
+unfoldable pub missing_words : ℤ → ℕ → List ℕ
+missing_words margin missing =
     codes "Without the margin it would be clear of it: " ++ size_text missing
     ++ codes " mm of the " ++ mm_text margin ++ codes " are missing.\n"
-missing_text Json margin missing =
+
+unfoldable pub missing_fact : ℤ → ℕ → List ℕ
+missing_fact margin missing =
     codes ",\n{\"fact\":\"margin_missing\",\"margin\":" ++ signed_decimal margin
     ++ codes ",\"missing\":" ++ decimal missing ++ codes "}"
+
+abbrev pub missing_text : Form → ℤ → ℕ → List ℕ
+missing_text Words margin missing = missing_words margin missing
+missing_text Json margin missing = missing_fact margin missing
 
 abbrev pub missing_if : Form → ℤ → Option ℕ → List ℕ
 missing_if form margin None = []

@@ -3,6 +3,7 @@ ghost use Rattle.std.specs.Prelude.{◌≡◌, Some, [], if◌then◌else◌};
 ghost use Rattle.ngc_machine_files.specs.Machine.{file_of};
 ghost use Rattle.ngc_program_report.specs.Demanded as spec;
 ghost use Rattle.ngc_program_report.specs.Writing.{Writes};
+ghost use Rattle.ngc_sentences.specs.Parts.{parts_text};
 ghost use Rattle.ngc_sentences.specs.Saying.{Says};
 
 use ngc_certificate::takes_any_way;
@@ -86,18 +87,40 @@ fn missing_by<A: Allocator>(
     }
 }
 
+#[tactic(auto, unfolding(crate::specs::Demanded::missing_words))]
+fn missing_words(margin: Nm, missing: u128) -> [Part<'static>; 5]
+    ensures { parts_text result ≡ spec.missing_words margin missing }
+{
+    [
+        Part::Text(b"Without the margin it would be clear of it: "),
+        Part::Size(missing),
+        Part::Text(b" mm of the "),
+        Part::Millimetres(margin.nanometres()),
+        Part::Text(b" are missing.\n"),
+    ]
+}
+
+#[tactic(auto, unfolding(crate::specs::Demanded::missing_fact))]
+fn missing_fact(margin: Nm, missing: u128) -> [Part<'static>; 5]
+    ensures { parts_text result ≡ spec.missing_fact margin missing }
+{
+    [
+        Part::Text(b",\n{\"fact\":\"margin_missing\",\"margin\":"),
+        Part::Signed(margin.nanometres()),
+        Part::Text(b",\"missing\":"),
+        Part::Number(missing),
+        Part::Text(b"}"),
+    ]
+}
+
 fn say_missing<W: Sink>(form: Form, margin: Nm, missing: u128, page: &mut Page, output: &mut W)
     ensures { Says (W.written output.old) (W.written output.new)
         (W.failures output.old) (W.failures output.new) page.old page.new
         (spec.missing_text form margin missing) }
 {
     match form {
-        Form::Words => {
-            say!(page, output; b"Without the margin it would be clear of it: ", Part::Size(missing), b" mm of the ", Part::Millimetres(margin.nanometres()), b" are missing.\n")
-        }
-        Form::Json => {
-            say!(page, output; b",\n{\"fact\":\"margin_missing\",\"margin\":", Part::Signed(margin.nanometres()), b",\"missing\":", Part::Number(missing), b"}")
-        }
+        Form::Words => page.say(output, &missing_words(margin, missing)),
+        Form::Json => page.say(output, &missing_fact(margin, missing)),
     }
 }
 
