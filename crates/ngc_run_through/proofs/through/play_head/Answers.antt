@@ -2,7 +2,7 @@ use Rattle.std.proofs.Common.{◌+◌, ◌^◌, arith, rules, refl, ◌∙◌}
 use Rattle.std.proofs.lemmas.Result.{on_ok_weaker, on_err_weaker}
 use Rattle.ngc_run_through.proofs.Policy.{still_ticks}
 use Rattle.ngc_run_through.proofs.UntouchedEvents.{none_yet, breaks_later, few_behind, goes_both, spent_little, tick_more, tick_last, head_done}
-use Rattle.ngc_run_through.proofs.through.finish_head.Goals as goal
+use Rattle.ngc_run_through.proofs.through.play_head.Goals as goal
 
 pub ticks-init : goal.ticks-init
 ticks-init g c = record {
