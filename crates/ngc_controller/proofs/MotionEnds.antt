@@ -24,13 +24,13 @@ use Rattle.ngc_machine_model.specs.State.{Job, Queued, State, path_steps, millio
 use Rattle.ngc_machine_model.specs.Progress.{TravelsAtLeast, GoesOn, is_free}
 use Rattle.ngc_machine_model.specs.Reach.{leg_of, legs_after}
 use Rattle.ngc_machine_model.specs.Run.{positions}
-use Rattle.ngc_machine_model.specs.Step.{Outcome, Travels, Serves, Rests, HeadTick, TickBy, Step, place_after}
+use Rattle.ngc_machine_model.specs.Step.{Outcome, Travels, Serves, Rests, HeadTick, TickBy, Step, MayTake, place_after}
 use Rattle.ngc_machine_model.specs.Stretch.{Stretch}
 use Rattle.ngc_controller.specs.declared.drive.Drive.{Drive}
 use Rattle.ngc_controller.specs.declared.panel.Panel.{Panel}
 use Rattle.ngc_controller.specs.Drive.{legs_of, IsTarget, is_head_by_place}
 use Rattle.ngc_controller.specs.Fields.{travelled_of, state_of, IsInOrder, TravelsOn}
-use Rattle.ngc_controller.specs.Finishing.{EndsBy, EndsLeg, StaysOnHead, FinishesMotion}
+use Rattle.ngc_controller.specs.Finishing.{EndsBy, EndsLeg, StaysOnHead, FinishesMotion, TakePaths}
 use Rattle.ngc_controller.specs.Loaded.{LoadedData, next_place}
 use Rattle.ngc_controller.specs.Panel.{effective_at}
 use Rattle.ngc_controller.specs.Ring.{RingData, IsMoving, IsPointOn, head_of}
@@ -348,6 +348,20 @@ pub frees : (s : State) → is_free s ≡ true → (s.held ≡ false) × (s.stop
 frees s h =
     let parts = free_parts s.held s.stopped (nat_lt 0 (effective s)) h in
     (parts.0, parts.1, ltb-true 0 (effective s) parts.2)
+
+-- the head is a motion with path steps, on a path that it may take
+pub head_moves : (ring : List Queued) (place : ℕ) (head : LoadedData) → IsMoving ring → Some head ≡ head_of ring place → 1 ≤ path_steps head.queued
+head_moves [] place head moves is_head = elim moves [ ]
+head_moves (l ∷ ls) place head moves is_head =
+    let of : head ≡ record { queued = l; place = place } = cc in
+    subst (λ (x : LoadedData). 1 ≤ path_steps x.queued) (sym of) moves
+
+pub head_takes : (job : Job) (ring : List Queued) (place : ℕ) (head : LoadedData) → IsMoving ring → Some head ≡ head_of ring place → TakePaths job ring →
+    MayTake job head.queued.command.action head.queued.path
+head_takes job [] place head moves is_head takes = elim moves [ ]
+head_takes job (l ∷ ls) place head moves is_head takes =
+    let of : head ≡ record { queued = l; place = place } = cc in
+    subst (λ (x : LoadedData). MayTake job x.queued.command.action x.queued.path) (sym of) takes.0
 
 -- what is known of the ring and the ramp before the ticks
 pub record IsReady (job : Job) (ring : List Queued) (s : State) (r : RampState) (aimed place : ℕ) (head : LoadedData) : Type 0 where

@@ -167,7 +167,10 @@ impl<K: ArcKernel + Drop, A: Allocator + Copy> Controller<K, A> {
             (λ p. FinishesMotion p.ticks p.path_steps self.old.job self.old.state self.new.state) }
         ensures stays { result ≡ None → self.new ≡ self.old }
     {
-        if !self.is_free() || !self.progress.ring.moves() {
+        if !self.is_free() {
+            return None;
+        }
+        if !self.progress.ring.moves() {
             return None;
         }
         if self.progress.is_by_place(self.accepted.machine()) {
@@ -180,7 +183,7 @@ impl<K: ArcKernel + Drop, A: Allocator + Copy> Controller<K, A> {
     fn is_free(&self) -> bool
         ensures { result ≡ is_free self.now.state }
     {
-        !self.panel.held && !self.panel.stopped && self.panel.effective() > 0
+        !self.panel.held && (!self.panel.stopped && self.panel.effective() > 0)
     }
 
     // Makes the ticks up to the end of the motion at the head.

@@ -1,5 +1,5 @@
 -- A motion whose ticks were made at once.
-use Rattle.std.proofs.Common.{◌≡◌, ◌+◌, ◌^◌, ◌≤◌, ℕ, zero, suc, List, [], ◌∷◌, ◌++◌, length, replicate, count_by, Option, None, Some, Ok, false, refl, ap, sym, subst}
+use Rattle.std.proofs.Common.{◌≡◌, ◌+◌, ◌^◌, ◌≤◌, ℕ, zero, suc, List, [], ◌∷◌, ◌++◌, length, replicate, count_by, Option, None, Some, Ok, Bool, true, false, refl, ap, sym, subst}
 use Rattle.std.proofs.Common.{◌∙◌, arith}
 use Rattle.std.specs.List.{AllByRecursion}
 use Rattle.std.proofs.KnownBytes.{Appends-nil}
@@ -195,3 +195,13 @@ passed n pulses old new a b x u runs some next same accepted f none is =
     let ended = same_ending new.state.position (Done old.state.done) f.last f.told in
     let last = tick_last (ending_in f.last) (Done old.state.done) old mid new a m b x x x ended k.ring first tick in
     (head_done (Done old.state.done) old new new a b b x x x last (nothing_behind (Done old.state.done) new b x last.goes.untouched), last.stops)
+
+-- ---- whether it was done
+
+pub all_passed : (b : Bool) (old new : ControllerData) (a r : Recorder) (x : Option (List ℕ)) → b ≡ true → PassesHead b old new a r x →
+    FinishesHead old new a r x x × (new.state.stopped ≡ false)
+all_passed b old new a r x is h = subst (λ k. PassesHead k old new a r x) is h
+
+pub none_passed : (b : Bool) (old new : ControllerData) (a r : Recorder) (x : Option (List ℕ)) → b ≡ false → PassesHead b old new a r x →
+    (new ≡ old) × (r ≡ a)
+none_passed b old new a r x is h = subst (λ k. PassesHead k old new a r x) is h

@@ -223,14 +223,13 @@ fn pass_motion<A: Allocator + Copy>(
     ensures { (written : Option (List ℕ)) →
         PassesHead result controller.old controller.new recorder.old recorder.new written }
 {
-    if !recorder.is_silent() {
-        return false;
+    if recorder.is_silent() {
+        if let Some(passed) = controller.finish_motion() {
+            recorder.pass(passed.ticks, passed.path_steps, controller.position());
+            return true;
+        }
     }
-    let Some(passed) = controller.finish_motion() else {
-        return false;
-    };
-    recorder.pass(passed.ticks, passed.path_steps, controller.position());
-    true
+    false
 }
 
 // Processes the events until the command at the head is done and the machine runs.
