@@ -94,7 +94,7 @@ pub record Ends (r s : RampState) (afterwards : List Leg) (v : ℕ) : Type 0 whe
   pub change : s.change ≡ r.change
   pub room : s.room ≡ r.room
 
-goes : (r s : RampState) (legs : List Leg) (v : ℕ) (ended : Bool) → ended ≡ nat_le r.rest v → ended ≡ false → s ≡ after_tick r legs v → Goes r s v
+pub goes : (r s : RampState) (legs : List Leg) (v : ℕ) (ended : Bool) → ended ≡ nat_le r.rest v → ended ≡ false → s ≡ after_tick r legs v → Goes r s v
 goes r s legs v ended test on e =
     let less : v < r.rest = grind (arith, nat_tests) in
     let ends : RampState = record r { rate = v; rest = next_rest (v - r.rest) legs; legs = legs } in
@@ -108,7 +108,7 @@ goes r s legs v ended test on e =
       room = ap (λ (x : RampState). x.room) whole;
     }
 
-ends : (r s : RampState) (legs : List Leg) (v : ℕ) (ended : Bool) → ended ≡ nat_le r.rest v → ended ≡ true → s ≡ after_tick r legs v → Ends r s legs v
+pub ends : (r s : RampState) (legs : List Leg) (v : ℕ) (ended : Bool) → ended ≡ nat_le r.rest v → ended ≡ true → s ≡ after_tick r legs v → Ends r s legs v
 ends r s legs v ended test done e =
     let all : r.rest ≤ v = grind (arith, nat_tests) in
     let there : RampState = record r { rate = v; rest = next_rest (v - r.rest) legs; legs = legs } in

@@ -16,3 +16,7 @@ pub mod CoastLaws
 pub mod RecentLaws
 -- The target of the head, and the next point of its path.
 pub mod AimLaws
+-- Ticks of a ramp on its first leg.
+pub mod LegEnds
+-- Ticks on the motion at the head: those of the ramp are those of the machine.
+pub mod MotionEnds

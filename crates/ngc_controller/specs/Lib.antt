@@ -6,4 +6,5 @@ pub mod Drive
 pub mod Fields
 pub mod Opening
 pub mod Coasting
+pub mod Finishing
 pub mod Recent

@@ -1,8 +1,8 @@
 ghost use Rattle.std.specs.Prelude.{◌≡◌, ◌≤◌, ◌++◌, ◌∷◌, [], replicate, true, false, None, Ok};
-ghost use Rattle.std.specs.Prelude.{IfOk, IfErr, OnErr};
+ghost use Rattle.std.specs.Prelude.{IfOk, IfErr, IfSome, OnErr};
 ghost use Rattle.circular_buffer.specs.Buffer.{keep_last};
 ghost use Rattle.ngc_machine_model.specs.Headline.{job_of};
-ghost use Rattle.ngc_machine_model.specs.Progress.{GoesOn, TravelsAtLeast};
+ghost use Rattle.ngc_machine_model.specs.Progress.{GoesOn, TravelsAtLeast, is_free};
 ghost use Rattle.ngc_machine_model.specs.State.{opening, command_at, loaded};
 ghost use Rattle.ngc_machine_model.specs.Stretch.{Stretch};
 ghost use Rattle.ngc_machine_model.specs.Step.{Step, LoadCommand, Rests, Serves, TickBy};
@@ -11,11 +11,14 @@ ghost use Rattle.ngc_events.specs.declared.event.Event.TheVariants.{Tick};
 ghost use Rattle.ngc_events.specs.declared.reply.Reply.TheVariants.{Ticked};
 ghost use Rattle.ngc_controller.specs.Coasting.{coasted, CoastsFor};
 ghost use Rattle.ngc_controller.specs.Controller.{KEPT, from_the_last};
+ghost use Rattle.ngc_controller.specs.Drive.{is_head_by_place};
+ghost use Rattle.ngc_controller.specs.Finishing.{FinishesMotion, TakePaths};
 ghost use Rattle.ngc_controller.specs.Fields.{DWELL_LIMIT, TravelsOn, IsServed};
 ghost use Rattle.ngc_controller.specs.Loaded.{AreShort, LoadsShort};
 ghost use Rattle.ngc_controller.specs.Ring.{IsMoving};
 
 use crate::ending::{dwell_left, dwells_on, ending_of, panel_after, tool_after};
+use crate::leg_end::end_leg;
 use crate::panel::Panel;
 use crate::progress::Progress;
 use crate::recent::{QUIET, Recent};
@@ -28,6 +31,15 @@ use ngc_machine_files::Tool;
 use ngc_step_kernel::ArcKernel;
 use std::alloc::Allocator;
 use std::marker::Model;
+
+/// The ticks up to the end of a motion.
+#[derive(Clone, Copy)]
+pub struct Passed {
+    /// Their number, at least 1.
+    pub ticks: u64,
+    /// The number of their pulses, at least 1.
+    pub path_steps: u64,
+}
 
 /// A machine that runs an accepted program at a setting of block delete. Events drive it. `K`
 /// computes its arcs on the grid.
@@ -139,6 +151,66 @@ impl<K: ArcKernel + Drop, A: Allocator + Copy> Controller<K, A> {
         let ticks = self.go_on(most);
         self.recent.rest(ticks);
         ticks
+    }
+
+    /// Makes the ticks up to the end of the motion at the head, at once, and reports only their number
+    /// and that of their pulses. They are ticks of [`Controller::event`], but not among the latest
+    /// replies. It makes none and returns `None` if the head is no motion with path steps, if its
+    /// target depends on the place, if the machine is held or stopped, or if the override is 0. It
+    /// allocates no memory.
+    pub fn finish_motion(&mut self) -> Option<Passed>
+        requires { TakePaths self.old.job self.old.state.ring }
+        ensures job { self.new.job ≡ self.old.job }
+        ensures accepted { self.new.accepted ≡ self.old.accepted }
+        ensures recent { self.new.recent ≡ self.old.recent }
+        ensures finishes { IfSome result
+            (λ p. FinishesMotion p.ticks p.path_steps self.old.job self.old.state self.new.state) }
+        ensures stays { result ≡ None → self.new ≡ self.old }
+    {
+        if !self.is_free() {
+            return None;
+        }
+        if !self.progress.ring.moves() {
+            return None;
+        }
+        if self.progress.is_by_place(self.accepted.machine()) {
+            return None;
+        }
+        Some(self.pass())
+    }
+
+    // Returns whether the machine is free to travel.
+    fn is_free(&self) -> bool
+        ensures { result ≡ is_free self.now.state }
+    {
+        !self.panel.held && (!self.panel.stopped && self.panel.effective() > 0)
+    }
+
+    // Makes the ticks up to the end of the motion at the head.
+    fn pass(&mut self) -> Passed
+        requires takes { TakePaths self.old.job self.old.state.ring }
+        requires moves { IsMoving self.old.state.ring }
+        requires steady { is_head_by_place self.old.job.machine self.old.state.ring ≡ false }
+        requires free { is_free self.old.state ≡ true }
+        ensures job { self.new.job ≡ self.old.job }
+        ensures accepted { self.new.accepted ≡ self.old.accepted }
+        ensures recent { self.new.recent ≡ self.old.recent }
+        ensures finishes { FinishesMotion result.ticks result.path_steps self.old.job
+            self.old.state self.new.state }
+    {
+        let Some(head) = self.progress.ring.head() else {
+            unreachable!();
+        };
+        // A path is short enough for its ticks to be counted.
+        let _all = head.path_steps();
+        let path_steps = head.steps_left();
+        let end = head.end(self.accepted.machine().step);
+        let target = self.progress.drive.target;
+        let ticks = end_leg(&mut self.progress.drive.ramp, target);
+        self.position = end;
+        self.progress
+            .leave(self.panel.effective(), self.accepted.machine());
+        Passed { ticks, path_steps }
     }
 
     // Makes ticks, by the kind of the head.

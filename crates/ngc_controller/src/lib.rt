@@ -4,11 +4,12 @@
 mod controller;
 mod drive;
 mod ending;
+mod leg_end;
 mod panel;
 mod progress;
 mod recent;
 mod ring;
 mod route;
 
-pub use controller::Controller;
+pub use controller::{Controller, Passed};
 pub use ngc_checker::MemoryFault;

@@ -153,8 +153,8 @@ impl<K: ArcKernel + Drop, A: Allocator + Copy> Progress<K, A> {
         }
     }
 
-    // Returns whether the target of the head depends on the place.
-    fn is_by_place<B: Allocator>(&self, machine: &Machine<B>) -> bool
+    /// Returns whether the target of the head depends on the place.
+    pub fn is_by_place<B: Allocator>(&self, machine: &Machine<B>) -> bool
         ensures { result ≡ is_head_by_place (file_of machine.now) self.now.ring.loaded }
     {
         match self.ring.head() {

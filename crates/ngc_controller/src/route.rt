@@ -65,6 +65,18 @@ impl<K: ArcKernel + Drop> Route<K> {
         }
     }
 
+    /// Returns the number of path steps from the position to the end.
+    fn steps_left(&self) -> u64
+        requires { 1 < length (points_of K.points self.now) }
+        ensures { place_of K.place self.now + result + 1 ≡ length (points_of K.points self.now) }
+    {
+        match self {
+            Route::Line(line) => line.remaining(),
+            Route::Arc(arc) => arc.remaining(),
+            Route::Still => unreachable!(),
+        }
+    }
+
     /// Goes to the next point, if it is due, and returns the current point.
     fn follow(&mut self, due: bool) -> StepPos
         requires moves { 1 < length (points_of K.points self.old) }
@@ -176,6 +188,29 @@ impl<K: ArcKernel + Drop> Loaded<K> {
         ensures { result ≡ point self.now.queued.path self.now.place }
     {
         self.route.position()
+    }
+
+    /// Returns the number of path steps from the position to the end of the path.
+    pub fn steps_left(&self) -> u64
+        requires { 1 ≤ path_steps self.now.queued }
+        ensures { self.now.place + result ≡ path_steps self.now.queued }
+    {
+        self.route.steps_left()
+    }
+
+    /// Returns the last point of the path on a grid of this step, or zero for a command that is no
+    /// motion.
+    pub fn end(&self, step: Nm) -> StepPos
+        requires { IsStep step }
+        ensures { (job : Job) → job.machine.step ≡ step →
+            MayTake job self.now.queued.command.action self.now.queued.path →
+            1 ≤ path_steps self.now.queued →
+            result ≡ point self.now.queued.path (path_steps self.now.queued) }
+    {
+        match &self.command.action {
+            Action::Move(motion) => motion.way.end().to_grid(step),
+            _ => StepPos { x: 0, y: 0, z: 0 },
+        }
     }
 
     /// Goes to the next point of the path, if it is due, and returns the current point.

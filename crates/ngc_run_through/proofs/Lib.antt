@@ -18,6 +18,8 @@ pub mod Ticks
 pub mod UntouchedEvents
 -- The machine stays untouched in ticks without an output.
 pub mod UntouchedTicks
+-- A motion whose ticks were made at once.
+pub mod PassedMotions
 -- The result of a run through a program, from its record.
 pub mod WholeRun
 -- A run by itself, part by part.

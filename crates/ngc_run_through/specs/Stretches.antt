@@ -175,6 +175,13 @@ pub record FinishesHead (old new : ControllerData) (before after : Recorder)
   pub goes : GoesBy (2 ^ 102) 0 1 old new before after written now
   pub told : ReportsHead old.state.ring goes.outcomes
 
+-- the head is done at once, or nothing has happened
+abbrev pub PassesHead : Bool → ControllerData → ControllerData → Recorder → Recorder →
+    Option (List ℕ) → Type 0
+PassesHead true old new before after written =
+    FinishesHead old new before after written written × (new.state.stopped ≡ false)
+PassesHead false old new before after written = (new ≡ old) × (after ≡ before)
+
 -- the last command that is done
 abbrev pub ReportsDone : Job → ℕ → List Outcome → Type 0
 ReportsDone job done outcomes = (k : ℕ) (c : Command) → suc k ≡ done → command_at job k ≡ Some c →

@@ -1,6 +1,6 @@
 //! The record of a run in progress.
 ghost use Rattle.std.specs.Prelude.{◌≡◌, ◌+◌, ◌^◌, ◌++◌, ℕ, List, [], ◌∷◌, replicate, Option, None};
-ghost use Rattle.std.specs.Prelude.{Ok, IfOk, OnOk, OnErr};
+ghost use Rattle.std.specs.Prelude.{Ok, IfOk, OnOk, OnErr, IsTrue, ◌↔◌};
 ghost use Rattle.std.specs.Io.KnownBytes.{Appends};
 ghost use Rattle.ngc_events.specs.declared.event.Event.TheVariants.{Tick};
 ghost use Rattle.ngc_events.specs.declared.reply.Reply.TheVariants.{Ticked};
@@ -90,6 +90,30 @@ impl<'s> Recorder<'s> {
     {
         self.report.ticks += u128::from(count);
         self.trace.rest(count);
+    }
+
+    /// Returns whether no text is written.
+    pub fn is_silent(&self) -> bool
+        ensures { IsTrue result ↔ (self.now.trace ≡ Trace.NotReported) }
+    {
+        matches!(self.trace, Trace::NotReported)
+    }
+
+    /// Counts ticks with these pulses, the last of which leads to a position, in a record without
+    /// a text.
+    pub fn pass(&mut self, ticks: u64, path_steps: u64, position: StepPos)
+        requires few { HasFew (2 ^ 125) self.old }
+        ensures { self.new ≡ record self.old {
+          report = record self.old.report {
+            ticks = self.old.report.ticks + ticks;
+            path_steps = self.old.report.path_steps + path_steps;
+            position = position;
+          };
+        } }
+    {
+        self.report.ticks += u128::from(ticks);
+        self.report.path_steps += u128::from(path_steps);
+        self.report.position = position;
     }
 
     /// Returns the number of ticks so far.

@@ -15,7 +15,7 @@ ghost use Rattle.ngc_run_through.specs.Recording.{HasFew};
 ghost use Rattle.ngc_run_through.specs.Runs.{FailsByWriting};
 ghost use Rattle.ngc_run_through.specs.Stretches.{IsUntouched, IsGiven, Coasts, IsGivenLast, GoesBy};
 ghost use Rattle.ngc_run_through.specs.Stretches.{BreaksOff, TicksBy, GoesBehind, FinishesHead};
-ghost use Rattle.ngc_run_through.specs.Stretches.{Finishes, ending_in, is_stop};
+ghost use Rattle.ngc_run_through.specs.Stretches.{Finishes, PassesHead, ending_in, is_stop};
 ghost use Rattle.ngc_run_through.specs.Through.{RunsToEnd};
 ghost use Rattle.ngc_run_through.specs.Tracing.{ticks_of};
 
@@ -179,7 +179,7 @@ fn continue_after<A: Allocator + Copy, W: Sink>(
 }
 
 // Processes ticks until the command at the head is done, and starts again if it was a stop.
-fn finish_head<A: Allocator + Copy, W: Sink>(
+fn play_head<A: Allocator + Copy, W: Sink>(
     controller: &mut Controller<ArcPath, A>,
     recorder: &mut Recorder,
     sink: &mut W,
@@ -207,6 +207,54 @@ fn finish_head<A: Allocator + Copy, W: Sink>(
         }
         coast(controller, recorder);
     }
+}
+
+// Processes the ticks up to the end of the motion at the head at once, if no text is written. Returns
+// whether it did.
+fn pass_motion<A: Allocator + Copy>(
+    controller: &mut Controller<ArcPath, A>,
+    recorder: &mut Recorder,
+) -> bool
+    requires untouched { IsUntouched controller.old.job controller.old.state }
+    requires runs { controller.old.state.stopped ≡ false }
+    requires some { 1 ≤ length controller.old.state.ring }
+    requires next { next_event controller.old.job controller.old.state ≡ Some Event.Tick }
+    requires few { HasFew (2 ^ 125) recorder.old }
+    ensures { (written : Option (List ℕ)) →
+        PassesHead result controller.old controller.new recorder.old recorder.new written }
+{
+    if recorder.is_silent() {
+        if let Some(passed) = controller.finish_motion() {
+            recorder.pass(passed.ticks, passed.path_steps, controller.position());
+            return true;
+        }
+    }
+    false
+}
+
+// Processes the events until the command at the head is done and the machine runs.
+fn finish_head<A: Allocator + Copy, W: Sink>(
+    controller: &mut Controller<ArcPath, A>,
+    recorder: &mut Recorder,
+    sink: &mut W,
+) -> Result<(), WriteFault>
+    requires untouched { IsUntouched controller.old.job controller.old.state }
+    requires runs { controller.old.state.stopped ≡ false }
+    requires some { 1 ≤ length controller.old.state.ring }
+    requires next { next_event controller.old.job controller.old.state ≡ Some Event.Tick }
+    requires few { HasFew (2 ^ 125) recorder.old }
+    ensures goes { OnOk result
+        (FinishesHead controller.old controller.new recorder.old recorder.new (W.written sink.old)
+        (W.written sink.new)) }
+    ensures runs { OnOk result (controller.new.state.stopped ≡ false) }
+    ensures fault { OnErr result
+        (BreaksOff controller.old recorder.old (W.written sink.old) (W.written sink.new)) }
+    ensures failures { CountsFailure (W.failures sink.old) (W.failures sink.new) result }
+{
+    if pass_motion(controller, recorder) {
+        return Ok(());
+    }
+    play_head(controller, recorder, sink)
 }
 
 // Loads `count` commands.

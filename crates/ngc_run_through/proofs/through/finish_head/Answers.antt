@@ -1,83 +1,72 @@
-use Rattle.std.proofs.Common.{◌+◌, ◌^◌, arith, rules, refl, ◌∙◌}
-use Rattle.std.proofs.lemmas.Result.{on_ok_weaker, on_err_weaker}
-use Rattle.ngc_run_through.proofs.Policy.{still_ticks}
-use Rattle.ngc_run_through.proofs.UntouchedEvents.{none_yet, breaks_later, few_behind, goes_both, spent_little, tick_more, tick_last, head_done}
+use Rattle.std.proofs.Common.{◌≤◌, ◌≡◌, ◌^◌, Some, length, false, sym, subst}
+use Rattle.ngc_events.specs.declared.event.Event.TheVariants.{Tick}
+use Rattle.ngc_controller.specs.Controller.{ControllerData}
+use Rattle.ngc_run_through.specs.declared.recorder.Recorder.{Recorder}
+use Rattle.ngc_run_through.specs.Policy.{next_event}
+use Rattle.ngc_run_through.specs.Recording.{HasFew}
+use Rattle.ngc_run_through.specs.Stretches.{IsUntouched}
+use Rattle.ngc_run_through.proofs.PassedMotions.{all_passed, none_passed}
 use Rattle.ngc_run_through.proofs.through.finish_head.Goals as goal
 
-pub ticks-init : goal.ticks-init
-ticks-init g c = record {
-  goes = none_yet _ _ _ _ c.requires.untouched;
-  same = refl;
-  running = c.requires.runs;
-  failures = refl;
-}
+pub returns-then-pass_motion-clause-goes : goal.returns-then-pass_motion-clause-goes
+returns-then-pass_motion-clause-goes g c =
+    let p = c.pass_motion in
+    let e = all_passed p.result c.args.controller.now p.new.controller c.args.recorder.now p.new.recorder (g.W.Sink.written c.args.sink.now) c.if-pass_motion.true
+    (p.ensures (g.W.Sink.written c.args.sink.now)) in
+    e.0
 
-pub tick-requires-clause-few : goal.tick-requires-clause-few
-tick-requires-clause-few g c =
-    let little = spent_little _ _ c.ticks.invariant.goes.untouched in
-    few_behind _ _ _ (2 ^ 125) (2 ^ 126) _ _ _ _ _ _ c.ticks.invariant.goes c.requires.few (omega (arith, little))
+pub returns-then-pass_motion-clause-runs : goal.returns-then-pass_motion-clause-runs
+returns-then-pass_motion-clause-runs g c =
+    let p = c.pass_motion in
+    let e = all_passed p.result c.args.controller.now p.new.controller c.args.recorder.now p.new.recorder (g.W.Sink.written c.args.sink.now) c.if-pass_motion.true
+    (p.ensures (g.W.Sink.written c.args.sink.now)) in
+    e.1
 
-pub tick-requires-clause-next : goal.tick-requires-clause-next
-tick-requires-clause-next g c =
-    let i = c.ticks.invariant in
-    let done = i.goes.done in
-    still_ticks c.args.controller.now.job c.ticks.controller.job c.args.controller.now.state c.ticks.controller.state c.requires.next c.requires.runs
-    i.goes.job i.running i.same (omega (arith, done))
+pub play_head-requires-clause-untouched : goal.play_head-requires-clause-untouched
+play_head-requires-clause-untouched g c =
+    let p = c.pass_motion in
+    let e = none_passed p.result c.args.controller.now p.new.controller c.args.recorder.now p.new.recorder (g.W.Sink.written c.args.sink.now) c.if-pass_motion.false
+    (p.ensures (g.W.Sink.written c.args.sink.now)) in
+    subst (λ (x : ControllerData). IsUntouched x.job x.state) (sym e.0) c.requires.untouched
 
-pub returns-in-Err-clause-fault : goal.returns-in-Err-clause-fault
-returns-in-Err-clause-fault g c = breaks_later _ _ _ _ _ _ _ _ _ _ c.ticks.invariant.goes c.in-Err.ensures.fault
+pub play_head-requires-clause-runs : goal.play_head-requires-clause-runs
+play_head-requires-clause-runs g c =
+    let p = c.pass_motion in
+    let e = none_passed p.result c.args.controller.now p.new.controller c.args.recorder.now p.new.recorder (g.W.Sink.written c.args.sink.now) c.if-pass_motion.false
+    (p.ensures (g.W.Sink.written c.args.sink.now)) in
+    subst (λ (x : ControllerData). x.state.stopped ≡ false) (sym e.0) c.requires.runs
 
-pub coast-requires-clause-few : goal.coast-requires-clause-few
-coast-requires-clause-few g c =
-    let more = tick_more _ _ _ _ _ _ _ _ _ _ c.in_default.is c.ticks.invariant.goes c.in-Ok.ensures.ticks in
-    let little = spent_little _ _ more.0.untouched in
-    few_behind _ _ _ (2 ^ 125) (2 ^ 125 + 2 ^ 102) _ _ _ _ _ _ more.0 c.requires.few (omega (arith, little))
+pub play_head-requires-clause-some : goal.play_head-requires-clause-some
+play_head-requires-clause-some g c =
+    let p = c.pass_motion in
+    let e = none_passed p.result c.args.controller.now p.new.controller c.args.recorder.now p.new.recorder (g.W.Sink.written c.args.sink.now) c.if-pass_motion.false
+    (p.ensures (g.W.Sink.written c.args.sink.now)) in
+    subst (λ (x : ControllerData). 1 ≤ length x.state.ring) (sym e.0) c.requires.some
 
-pub coast-requires-clause-next : goal.coast-requires-clause-next
-coast-requires-clause-next g c =
-    let more = tick_more _ _ _ _ _ _ _ _ _ _ c.in_default.is c.ticks.invariant.goes c.in-Ok.ensures.ticks in
-    let done = more.0.done in
-    still_ticks c.args.controller.now.job c.tick.new.controller.job c.args.controller.now.state c.tick.new.controller.state c.requires.next c.requires.runs
-    more.0.job more.1.running (more.1.ring ∙ c.ticks.invariant.same) (omega (arith, done))
+pub play_head-requires-clause-next : goal.play_head-requires-clause-next
+play_head-requires-clause-next g c =
+    let p = c.pass_motion in
+    let e = none_passed p.result c.args.controller.now p.new.controller c.args.recorder.now p.new.recorder (g.W.Sink.written c.args.sink.now) c.if-pass_motion.false
+    (p.ensures (g.W.Sink.written c.args.sink.now)) in
+    subst (λ (x : ControllerData). next_event x.job x.state ≡ Some Tick) (sym e.0) c.requires.next
 
-pub ticks-smaller : goal.ticks-smaller
-ticks-smaller g c =
-    let more = tick_more _ _ _ _ _ _ _ _ _ _ c.in_default.is c.ticks.invariant.goes c.in-Ok.ensures.ticks in
-    let coasts = c.coast.ensures (g.W.Sink.written c.tick.new.sink) in
-    let little = spent_little _ _ more.0.untouched in
-    let works = more.1.spends in
-    let spends = coasts.spends in
-    omega (arith, little, works, spends)
+pub play_head-requires-clause-few : goal.play_head-requires-clause-few
+play_head-requires-clause-few g c =
+    let p = c.pass_motion in
+    let e = none_passed p.result c.args.controller.now p.new.controller c.args.recorder.now p.new.recorder (g.W.Sink.written c.args.sink.now) c.if-pass_motion.false
+    (p.ensures (g.W.Sink.written c.args.sink.now)) in
+    subst (λ (x : Recorder). HasFew (2 ^ 125) x) (sym e.1) c.requires.few
 
-pub ticks-preserved : goal.ticks-preserved
-ticks-preserved g c =
-    let more = tick_more _ _ _ _ _ _ _ _ _ _ c.in_default.is c.ticks.invariant.goes c.in-Ok.ensures.ticks in
-    let coasts = c.coast.ensures (g.W.Sink.written c.tick.new.sink) in
-    let spends = coasts.spends in
-    record {
-      goes = goes_both _ _ _ 0 0 0 0 0 0 _ _ _ _ _ _ _ _ _ more.0 coasts.goes (omega (arith, spends)) refl refl;
-      same = coasts.ring ∙ more.1.ring ∙ c.ticks.invariant.same;
-      running = coasts.running;
-      failures = search rules;
-    }
+pub returns-clause-goes : goal.returns-clause-goes
+returns-clause-goes g c =
+    let p = c.pass_motion in
+    let e = none_passed p.result c.args.controller.now p.new.controller c.args.recorder.now p.new.recorder (g.W.Sink.written c.args.sink.now) c.if-pass_motion.false
+    (p.ensures (g.W.Sink.written c.args.sink.now)) in
+    rw (← e.0, ← e.1) c.play_head.ensures.goes
 
-pub continue_after-requires-clause-few : goal.continue_after-requires-clause-few
-continue_after-requires-clause-few g c =
-    few_behind _ _ _ (2 ^ 125) (2 ^ 126) _ _ _ _ _ _
-    (tick_last _ _ _ _ _ _ _ _ _ _ _ c.in-Some.is c.ticks.invariant.same c.ticks.invariant.goes c.in-Ok.ensures.ticks).goes c.requires.few (omega arith)
-
-pub continue_after-requires-clause-stops : goal.continue_after-requires-clause-stops
-continue_after-requires-clause-stops g c =
-    (tick_last _ _ _ _ _ _ _ _ _ _ _ c.in-Some.is c.ticks.invariant.same c.ticks.invariant.goes c.in-Ok.ensures.ticks).stops
-
-pub returns-in-Some-clause-goes : goal.returns-in-Some-clause-goes
-returns-in-Some-clause-goes g c =
-    on_ok_weaker c.continue_after.result
-    (head_done _ _ _ _ _ _ _ _ _ _ (tick_last _ _ _ _ _ _ _ _ _ _ _ c.in-Some.is c.ticks.invariant.same c.ticks.invariant.goes c.in-Ok.ensures.ticks))
-    c.continue_after.ensures.goes
-
-pub returns-in-Some-clause-fault : goal.returns-in-Some-clause-fault
-returns-in-Some-clause-fault g c =
-    on_err_weaker c.continue_after.result
-    (breaks_later _ _ _ _ _ _ _ _ _ _
-    (tick_last _ _ _ _ _ _ _ _ _ _ _ c.in-Some.is c.ticks.invariant.same c.ticks.invariant.goes c.in-Ok.ensures.ticks).goes) c.continue_after.ensures.fault
+pub returns-clause-fault : goal.returns-clause-fault
+returns-clause-fault g c =
+    let p = c.pass_motion in
+    let e = none_passed p.result c.args.controller.now p.new.controller c.args.recorder.now p.new.recorder (g.W.Sink.written c.args.sink.now) c.if-pass_motion.false
+    (p.ensures (g.W.Sink.written c.args.sink.now)) in
+    rw (← e.0, ← e.1) c.play_head.ensures.fault

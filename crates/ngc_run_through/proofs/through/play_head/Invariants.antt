@@ -1,6 +1,6 @@
 use Rattle.std.proofs.Common.{◌≡◌, ◌-◌, false}
 use Rattle.ngc_run_through.specs.Stretches.{GoesBy, spent, SPENT_LIMIT}
-use Rattle.ngc_run_through.proofs.through.finish_head.Given as goal
+use Rattle.ngc_run_through.proofs.through.play_head.Given as goal
 
 abbrev pub invariant-ticks : goal.invariant-ticks
 invariant-ticks g l = record {
