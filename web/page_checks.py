@@ -530,13 +530,13 @@ def machine_and_zero(checks, page):
     page.example("slot.ngc")
     page.value("ngc.actions.place(); 0")
     page.wait("ngc.store.state.slots.place.status === 'done'", 120)
-    found = page.value("ngc.current(ngc.store.state, 'place').along.map(it => [it.from, it.to])")
+    found = page.value("ngc.current(ngc.store.state, 'place').along.map(it => it && [it.from, it.to])")
     placed = json.loads(page.native("place", "--json", files=("slot.ngc", "named_mill.toml", "tools.toml")).stdout)
     shifts = intervals_of(placed)
     checks.equal("the shifts are those of `ngc place`", found, shifts)
     page.do("ngc.actions.setDemands({ margin: 2e6, travelMargin: null, rapids: null }); ngc.actions.place()")
     placed = json.loads(page.native("place", "--json", "--margin", "2", files=("slot.ngc", "named_mill.toml", "tools.toml")).stdout)
-    checks.equal("with a margin they are those of `ngc place --margin`", page.value("ngc.current(ngc.store.state, 'place').along.map(it => [it.from, it.to])"), intervals_of(placed))
+    checks.equal("with a margin they are those of `ngc place --margin`", page.value("ngc.current(ngc.store.state, 'place').along.map(it => it && [it.from, it.to])"), intervals_of(placed))
     page.do("ngc.actions.setDemands({ margin: null, travelMargin: null, rapids: null })")
     page.edit(8, "X21 Y30")
     checks.equal("and are gone at the next edit", page.value("[ngc.current(ngc.store.state, 'place'), document.getElementById('place').textContent]"), [None, ""])
@@ -656,7 +656,7 @@ def intervals_of(facts):
     """The interval around 0 of each axis in the facts of `ngc place --json`."""
     found = []
     for axis in "XYZ":
-        along = [it for it in facts if it.get("axis") == axis and "from" in it and "to" in it]
+        along = [it for it in facts if it.get("axis") == axis and it.get("from") is not None]
         around = next((it for it in along if it["from"] <= 0 <= it["to"]), along[0] if along else None)
         found.append([around["from"], around["to"]] if around else None)
     return found

@@ -16,11 +16,12 @@ pub record IsCommandLine (text : List ℕ) : Type 0 where
   pub taken : IsTaken (lines text)
   pub changes : HaveChanges (subcommand_of ngc_app (lines text))
 
--- The words are executed: the result of `ngc` with the options that they mean.
+-- The words are executed: the result of `ngc` with the options that `clap` finds in them.
 pub record IsExecuted (files : FileBytes) (text : List ℕ) (output errors : Space) (status : ℕ) :
     Type 0 where
+  pub utf8 : IsUtf8 text
+  pub taken : IsTaken (lines text)
   pub options : Options
-  pub words : IsCommandLine text
   pub meant : AreOptions (subcommand_of ngc_app (lines text)) options
   pub told : IsResultIn files options output errors status
 
