@@ -2,8 +2,8 @@
 
    Each call writes the output of a command of `ngc` to the front of `output`, and the lines of its standard error to the front of
    `errors`, as far as there is space, and their whole lengths to `lengths`. It returns the command's exit status: 0 for done, 1 where
-   memory ends or a file is longer than 20,000,000 bytes, 3 for a file or a program that is refused, 4 for a certificate that is
-   refused or isn't made. Where a length is greater than the space, call again with more. Of standard error the first 65,536 bytes are
+   memory ends or a file is longer than 20,000,000 bytes, 2 for a command line that is refused, 3 for a file or a program that is
+   refused, 4 for a certificate that is refused or isn't made. Where a length is greater than the space, call again with more. Of standard error the first 65,536 bytes are
    kept.
 
    A text is a pointer, which isn't null, and a length in bytes. What is written must not overlap what is read. A call keeps nothing. It
@@ -27,6 +27,10 @@ typedef struct {
 #define NGC_TEXT(name) const uint8_t *name, size_t name##_length
 #define NGC_WRITTEN uint8_t *output, size_t output_length, uint8_t *errors, size_t errors_length, ngc_lengths *lengths
 
+/* Any command with any of its options: the words of its command line are the lines of `words`, as "report\n--margin=2". In them the
+   four files are named program, machine, tools and certificate, as in "--machine=machine"; a file that no word names may be empty.
+   The other calls are single commands with few options. */
+uint32_t ngc_command(NGC_TEXT(words), NGC_TEXT(program), NGC_TEXT(machine), NGC_TEXT(tools), NGC_TEXT(certificate), NGC_WRITTEN);
 /* The report of a part program; with `all` every command that nothing clears, with `json` as a JSON document. */
 uint32_t ngc_report(NGC_TEXT(program), NGC_TEXT(machine), NGC_TEXT(tools), bool all, bool json, NGC_WRITTEN);
 /* A picture as SVG, at a setting of block delete: from the front where `view` is 1, from the side where it is 2, else from the top. */

@@ -7,10 +7,16 @@
     True
     >>> ngc.report(b"G0 X1000\\nM2\\n", Path("clamped_mill.toml"), Path("tools.toml"))["fits"]
     False
+    >>> ngc.report(Path("slot.ngc"), Path("clamped_mill.toml"), Path("tools.toml"), margin="7")["fits"]
+    False
 
 A file is its bytes, or a path whose bytes are read. Every call but report gives an Answer: the exit status of the command of the same
-name, its output, and the lines of its standard error. The status is 0 for done, 1 where memory ends or a file is too long, 3 for a file
-or a program that is refused, 4 for a certificate that is refused or isn't made.
+name, its output, and the lines of its standard error. The status is 0 for done, 1 where memory ends or a file is too long, 2 for options
+that are refused, 3 for a file or a program that is refused, 4 for a certificate that is refused or isn't made.
+
+report, draw, commands, certify, check and pulses also take any other option of their command by name, as its text: margin="2",
+travel_margin="0.5", rapids="free", cuts="64", origin=["54=60,40,-140", "55=10,20,-30"]. True is an option without a value. Any command
+can be called by the words of its command line with command.
 """
 import ctypes
 import json
@@ -18,7 +24,8 @@ from pathlib import Path
 from typing import NamedTuple
 
 CONTROLS = ("linuxcnc", "grbl", "mach3", "fanuc")
-VIEWS = ("top", "front", "side")
+VIEWS = ("top", "front", "side", "iso")
+FILES = ("program", "machine", "tools", "certificate")
 ERRORS = 65_536
 
 _library = ctypes.CDLL(str(Path(__file__).resolve().parent / "libngc.so"))
@@ -55,42 +62,60 @@ def _call(name, texts, *others):
         space = lengths.output
 
 
-def report(program, machine, tools, every=False):
+def _words(options):
+    """The options as words of a command line."""
+    for name, value in options.items():
+        for it in value if isinstance(value, (list, tuple)) else [value]:
+            if it is not False and it is not None:
+                yield f"--{name.replace('_', '-')}" + ("" if it is True else f"={it}")
+
+
+def command(words, **files):
+    """Executes a command by the words of its command line, as ["report", "--margin=2"]. The files are program, machine, tools and
+    certificate; the words that name them are added."""
+    given = {name: _bytes(file) for name, file in files.items()}
+    if not given.keys() <= set(FILES):
+        raise TypeError(f"the files are {', '.join(FILES)}")
+    line = [*words, *(f"--{name}={name}" for name in FILES if name in given)]
+    if any("\n" in word for word in line):
+        raise ValueError("a word has no line feed")
+    return _call("ngc_command", ["\n".join(line).encode(), *(given.get(name, b"") for name in FILES)])
+
+
+def report(program, machine, tools, every=False, **options):
     """Reports whether a program fits: a dict of `status`, `fits` (None where the files or the program are refused), `facts`, the objects
     of the JSON report in order, and `errors`. With `every` each command that nothing clears is told, and not the first alone."""
-    answer = _call("ngc_report", [_bytes(program), _bytes(machine), _bytes(tools)], ctypes.c_bool(every), ctypes.c_bool(True))
+    words = ["report", *_words({"json": True, "all": every, **options})]
+    answer = command(words, program=program, machine=machine, tools=tools)
     facts = json.loads(answer.output) if answer.output else []
     verdicts = [fact["fits"] for fact in facts if fact["fact"] == "verdict"]
     return {"status": answer.status, "fits": all(verdicts) if verdicts else None, "facts": facts, "errors": answer.errors}
 
 
-def draw(program, machine, tools, view="top", block_delete=False):
-    """Draws a program from the top, the front or the side, as SVG."""
-    texts = [_bytes(program), _bytes(machine), _bytes(tools)]
-    return _call("ngc_draw", texts, ctypes.c_uint32(VIEWS.index(view)), ctypes.c_bool(block_delete))
+def draw(program, machine, tools, view="top", block_delete=False, **options):
+    """Draws a program from the top, the front, the side, or isometric (iso), as SVG."""
+    return command(["draw", *_words({"view": view, "delete": block_delete, **options})], program=program, machine=machine, tools=tools)
 
 
-def commands(program, machine, tools, block_delete=False):
+def commands(program, machine, tools, block_delete=False, **options):
     """Lists the commands that a program means (`ngc list`)."""
-    return _call("ngc_list", [_bytes(program), _bytes(machine), _bytes(tools)], ctypes.c_bool(block_delete))
+    return command(["list", *_words({"delete": block_delete, **options})], program=program, machine=machine, tools=tools)
 
 
-def certify(program, machine, tools, version=2):
+def certify(program, machine, tools, version=2, **options):
     """Makes a certificate, in version 1 or 2 of its text."""
-    if version not in (1, 2):
-        raise ValueError("the version of a certificate is 1 or 2")
-    return _call("ngc_certify", [_bytes(program), _bytes(machine), _bytes(tools)], ctypes.c_bool(version == 2))
+    return command(["certify", *_words({"format": version, **options})], program=program, machine=machine, tools=tools)
 
 
-def check(program, machine, tools, certificate):
+def check(program, machine, tools, certificate, **options):
     """Checks a certificate: status 0 where it shows that no path of the program leaves the travel or meets a fixture."""
-    return _call("ngc_check", [_bytes(program), _bytes(machine), _bytes(tools), _bytes(certificate)])
+    return command(["check", *_words(options)], program=program, machine=machine, tools=tools, certificate=certificate)
 
 
-def pulses(program, machine, tools, certificate, block_delete=False):
+def pulses(program, machine, tools, certificate, block_delete=False, **options):
     """Runs a program whose certificate is accepted to its end, and gives its pulses as a value change dump."""
-    texts = [_bytes(program), _bytes(machine), _bytes(tools), _bytes(certificate)]
-    return _call("ngc_pulses", texts, ctypes.c_bool(block_delete))
+    words = ["pulses", *_words({"delete": block_delete, **options})]
+    return command(words, program=program, machine=machine, tools=tools, certificate=certificate)
 
 
 def show(machine, tools):

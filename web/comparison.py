@@ -12,8 +12,19 @@ from browsers import Fault
 SETUPS = [("clamped_mill.toml", "tools.toml"), ("named_mill.toml", "tools.toml"), ("small_mill.toml", "tools.toml"), ("bench_mill.toml", "holder_tools.toml")]
 VIEWS = ("top", "front", "side", "iso")
 CONTROLS = ("linuxcnc", "grbl", "mach3", "fanuc")
-# Origins that the page's check at another zero and `--origin` are given.
-ORIGINS = ({"G54": (50, 46, -70)}, {"G54": (0, 0, 0)}, {"G54": (61.25, 60, -50), "G55": (10, 20, -30)})
+# What replaces keys of the machine file: in the page, in nanometres, and the same as options of the program.
+CHANGES = (
+    ({"origins": {"G54": (50000000, 46000000, -70000000)}}, ["--origin", "54=50,46,-70"]),
+    ({"origins": {"G54": (0, 0, 0)}}, ["--origin", "54=0,0,0"]),
+    ({"origins": {"G54": (61250000, 60000000, -50000000), "G55": (10000000, 20000000, -30000000)}}, ["--origin", "54=61.25,60,-50", "--origin", "55=10,20,-30"]),
+    ({"margin": 2000000}, ["--margin", "2"]),
+    ({"margin": 0, "travelMargin": 0}, ["--margin", "0", "--travel-margin", "0"]),
+    ({"rapids": "free"}, ["--rapids", "free"]),
+    ({"origins": {"G54": (50000000, 46000000, -60000000)}, "margin": 123456, "travelMargin": 500001, "rapids": "free"}, ["--origin", "54=50,46,-60", "--margin", "0.123456", "--travel-margin", "0.500001", "--rapids", "free"]),
+)
+# Command lines that are refused, and one that isn't a line of the program.
+REFUSED = (["report", "--margin=two"], ["report", "--margin=100.000001"], ["report", "--margin=1", "--margin=2"], ["certify", "--travel-margin=-1"], ["draw", "--rapids=bent"], ["list", "--origin=54=0,0"], ["list", "--origin=53=0,0,0"],
+           ["check", "--origin=54=0,0,0", "--origin=54=1,1,1"], ["report", "--cuts=0"], ["nothing"], ["report", "--help"], ["--version"], ["version"], ["help", "report"], ["explain", "304"])
 # What GRBL prints for $$, of a small router.
 SETTINGS = b"$13=0\n$22=1\n$23=3\n$27=1.000\n$100=250.000\n$101=250.000\n$102=250.000\n$110=500.000\n$111=500.000\n$112=300.000\n" \
     b"$120=10.000\n$121=10.000\n$122=10.000\n$130=200.000\n$131=180.000\n$132=45.000\nok\n"
@@ -21,6 +32,11 @@ HELPERS = """
 window.unpack = text => Uint8Array.from(atob(text), character => character.charCodeAt(0));
 window.pack = bytes => { let text = ''; for (let at = 0; at < bytes.length; at += 30000) text += String.fromCharCode(...bytes.subarray(at, at + 30000)); return btoa(text); };
 window.kept = {};
+window.commandOf = async (words, changes, names) => {
+  const given = Object.fromEntries(Object.entries(names).map(([kind, name]) => [kind, kept[name]]));
+  const { status, output, notes } = await ngc.jobs.run('test', 'test', 'command', { words, changes, given });
+  return [status, pack(output), pack(notes)];
+};
 window.outputOf = async (name, names, options) => {
   const { status, output, notes } = await ngc.jobs.run('test', 'test', 'output', { name, given: names.map(it => kept[it]), options });
   return [status, pack(output), pack(notes)];
@@ -42,8 +58,17 @@ class Comparison:
 
     def compare(self, export, names, options, words):
         """Compares a call with a command, and returns the command's output."""
+        return self.compare_call(f"outputOf({json.dumps(export)}, {json.dumps(names)}, {json.dumps(options)})", words)
+
+    def compare_command(self, words, files, changes={}, options=()):
+        """Compares a command line as the page makes it, with these files by their kinds and what replaces keys of the machine file, with
+        the same command of the program."""
+        named = [f"--{kind}={name}" for kind, name in files.items()]
+        return self.compare_call(f"commandOf({json.dumps(words)}, {json.dumps(changes)}, {json.dumps(files)})", [*words, *options, *named])
+
+    def compare_call(self, call, words):
         try:
-            status, output, errors = self.browser.value(f"outputOf({json.dumps(export)}, {json.dumps(names)}, {json.dumps(options)})")
+            status, output, errors = self.browser.value(call)
             ours = (status, base64.b64decode(output), base64.b64decode(errors))
         except Fault as fault:
             ours = (None, b"", str(fault).encode())
@@ -88,25 +113,21 @@ class Comparison:
         for delete in (0, 1) if has_pulses else ():
             self.compare("ngc_pulses", [*names, "made.cert"], [delete], ["pulses", *files, "--certificate", "made.cert", *["--delete"] * delete])
 
-    def origins(self, program, machine, tools):
-        """The page's verdict at other zeros is that of `--origin`. The page writes them into the machine file's text, so its report lacks
-        the facts `origin`, and its warnings are those of the machine file."""
+    def run_changes(self, program, machine, tools):
+        """Each command with other zeros, margins and ways of rapids."""
         files = {"program": program, "machine": machine, "tools": tools}
-        for kind, name in files.items():
-            self.browser.value(f"ngc.files.use('{kind}', {json.dumps(name)}, kept[{json.dumps(name)}], 'user'); 0")
-        left_out = ("origin", "warning")
-        for origins in ORIGINS:
-            nanometres = {system: [round(it * 1e6) for it in at] for system, at in origins.items()}
-            self.browser.value(f"ngc.actions.setOrigins({json.dumps(nanometres)}); 0")
-            self.browser.wait("ngc.current(ngc.store.state, 'report') !== null")
-            status, facts = self.browser.value("(it => [it.status, JSON.stringify(it.facts)])(ngc.current(ngc.store.state, 'report'))")
-            words = [word for system, at in origins.items() for word in ("--origin", f"{system[1:]}={','.join(map(str, at))}")]
-            command = ["report", "--json", *[word for kind, name in files.items() for word in (f"--{kind}", name)], *words]
-            made = subprocess.run([self.program, *command], cwd=self.folder, capture_output=True)
-            kind = ("report --origin", made.returncode)
-            self.seen[kind] = self.seen.get(kind, 0) + 1
-            ours, theirs = ([it for it in json.loads(text) if it["fact"] not in left_out] for text in (facts, made.stdout))
-            self.count((status, ours) == (made.returncode, theirs), f"{' '.join(command)}\n  page {status} {str(ours)[:300]}\n  program {made.returncode} {str(theirs)[:300]}")
+        for changes, options in CHANGES:
+            for words in (["report"], ["report", "--all", "--json"], ["draw", "--view=iso"], ["certify"], ["place", "--json", "--system=55"]):
+                self.compare_command(words, files, changes, options)
+            # `ngc list` has no margins.
+            self.compare_command(["list", "--delete"], files, changes, options[:2 * len(changes.get("origins", ()))])
+            certificate = self.compare_command(["certify", "--format=2"], files, changes, options)
+            self.give("made.cert", certificate)
+            self.compare_command(["check"], {**files, "certificate": "made.cert"}, changes, options)
+            if program in ("slot.ngc", "ring.ngc"):
+                self.compare_command(["pulses"], {**files, "certificate": "made.cert"}, changes, options)
+        # The certificate of the last changes, for the machine file as it is.
+        self.compare_command(["check"], {**files, "certificate": "made.cert"})
 
 
 def mutants(files, count):
@@ -148,7 +169,11 @@ def compare_all(comparison, examples, count):
         comparison.run_job(program, machine, tools)
     for name in ("slot.ngc", "low_slot.ngc", "holes.ngc", "facing.ngc", "block_delete.ngc"):
         for machine, tools in SETUPS:
-            comparison.origins(name, machine, tools)
+            comparison.run_changes(name, machine, tools)
+    for words in REFUSED:
+        reads = words[0] in ("report", "certify", "draw", "list", "check") and words[-1] != "--help"
+        files = {"program": "slot.ngc", "machine": "clamped_mill.toml", "tools": "tools.toml", **({"certificate": "made.cert"} if words[0] == "check" else {})}
+        comparison.compare_command(words, files if reads else {})
     for file in sorted((examples / "cam").iterdir()):
         comparison.give(file.name, file.read_bytes())
         for control in range(4):

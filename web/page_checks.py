@@ -530,26 +530,133 @@ def machine_and_zero(checks, page):
     page.example("slot.ngc")
     page.value("ngc.actions.place(); 0")
     page.wait("ngc.store.state.slots.place.status === 'done'", 120)
-    found = page.value("ngc.current(ngc.store.state, 'place').along.map(it => [it.from, it.to])")
+    found = page.value("ngc.current(ngc.store.state, 'place').along.map(it => it && [it.from, it.to])")
     placed = json.loads(page.native("place", "--json", files=("slot.ngc", "named_mill.toml", "tools.toml")).stdout)
     shifts = intervals_of(placed)
     checks.equal("the shifts are those of `ngc place`", found, shifts)
+    page.do("ngc.actions.setDemands({ margin: 2e6, travelMargin: null, rapids: null }); ngc.actions.place()")
+    placed = json.loads(page.native("place", "--json", "--margin", "2", files=("slot.ngc", "named_mill.toml", "tools.toml")).stdout)
+    checks.equal("with a margin they are those of `ngc place --margin`", page.value("ngc.current(ngc.store.state, 'place').along.map(it => it && [it.from, it.to])"), intervals_of(placed))
+    page.do("ngc.actions.setDemands({ margin: null, travelMargin: null, rapids: null })")
     page.edit(8, "X21 Y30")
     checks.equal("and are gone at the next edit", page.value("[ngc.current(ngc.store.state, 'place'), document.getElementById('place').textContent]"), [None, ""])
     page.settle()
-    page.value("ngc.actions.place(); 0")
-    page.wait("!document.getElementById('stop-place').hidden && ngc.jobs.isBusy('place')")
-    page.value("document.getElementById('stop-place').click(); 0")
+    # It is stopped as soon as its worker is busy with it.
+    page.value("new Promise(done => { ngc.actions.place(); const look = () => { if (ngc.jobs.isBusy('place') && !document.getElementById('stop-place').hidden) { document.getElementById('stop-place').click(); done(0); } else setTimeout(look, 0); }; look(); })")
     page.settle()
     checks.equal("trying shifts can be stopped", page.text("place"), "Stopped: the shifts are not known.")
     page.example("slot.ngc")
+
+
+# What is set in the fields, in nanometres, and the same as options of the program.
+DEMANDS = {
+    "a margin of 2 mm": ({"margin": 2e6}, ["--margin", "2"]), "a margin of 7 mm": ({"margin": 7e6}, ["--margin", "7"]), "a margin of 0": ({"margin": 0}, ["--margin", "0"]),
+    "a travel margin of 1 mm": ({"travelMargin": 1e6}, ["--travel-margin", "1"]), "free rapids": ({"rapids": "free"}, ["--rapids", "free"]), "straight rapids": ({"rapids": "straight"}, ["--rapids", "straight"]),
+    "all three": ({"margin": 123456, "travelMargin": 500001, "rapids": "free"}, ["--margin", "0.123456", "--travel-margin", "0.500001", "--rapids", "free"]),
+}
+NO_DEMANDS = {"margin": None, "travelMargin": None, "rapids": None}
+
+
+def facts_of(output):
+    """The facts of a report as the page has them. A machine that is refused for a margin has none."""
+    return json.dumps(json.loads(output or b"[]"), separators=(",", ":"), ensure_ascii=False)
+
+
+def margins(checks, page):
+    """Margins and the way of rapids: the fields, the sentences, what is kept, and the same bytes as the program's."""
+    page.value("localStorage.clear(); 0")
+    page.open()
+    form, about = "document.getElementById('demands').elements", "document.querySelector('.chip-machine .about').textContent"
+    apply = "document.querySelector('#demands button').click()"
+    page.do(f"ngc.actions.tab('shop'); {form}.margin.value = '2'; {apply}")
+    # 6 mm are left to the jaw without a margin.
+    checks.begins("with a margin the verdict names it", page.title, "Fits, 2 mm clear of every fixture: 72 mm left toward Z\u2212, 4 mm more from the front jaw of the vise, 0:35.")
+    checks.has("the strip says it too", page.value(about), "margin 2 mm")
+    checks.expect("a margin of an example machine isn't kept", page.value("localStorage.getItem('ngc demands')") is None)
+    page.do("ngc.store.dispatch({ type: 'set', values: { unit: 'in' } })")
+    checks.equal("in inches the field shows it rounded", page.value(f"{form}.margin.value"), "0.0787")
+    page.do(apply)
+    checks.equal("and a check with it keeps the exact value", page.value("ngc.store.state.demands.margin"), 2_000_000)
+    page.do(f"{form}.margin.value = '0.1'; {apply}")
+    checks.equal("a tenth of an inch is 2.54 mm", page.value("ngc.store.state.demands.margin"), 2_540_000)
+    page.do("ngc.store.dispatch({ type: 'set', values: { unit: 'mm' } })")
+    for typed in ("-1", "101", "1e9", "two"):
+        page.forget_notices()
+        page.value(f"{form}.margin.value = {json.dumps(typed)}; {apply}; 0")
+        checks.has(f"a margin of {typed} is refused with its range", page.notices, "A margin is from 0 to 100 mm.")
+    checks.equal("and the one before it stays", page.value("ngc.store.state.demands.margin"), 2_540_000)
+    page.do("document.getElementById('demands-reset').click()")
+    checks.begins("it can be taken back", page.title, "Fits: 72 mm left toward Z\u2212, 6 mm from the front jaw of the vise, 0:35.")
+    checks.expect("then there is nothing to take back", page.value("document.getElementById('demands-reset').hidden"))
+    page.example("low_slot.ngc")
+    page.do("ngc.actions.setDemands({ margin: 2e6, travelMargin: null, rapids: null })")
+    # Without a margin it is 5 mm too low and 14 mm too far.
+    checks.begins("a refusal says that it is the margin", page.title, "Line 15 is within the margin of 2 mm around the left clamp: raise it by 7 mm, or move it 16 mm toward X+ or Y+.")
+    # The clamp ends at X 60, and the tool's radius is 4 mm.
+    checks.equal("the tool stops where it meets the margin", page.value("ngc.contactNow(ngc.store.state).tip.map(it => Math.round(it * 1000) / 1000)"), [66, 90, -65])
+    page.do("ngc.actions.setDemands({ margin: null, travelMargin: 1e6, rapids: null })")
+    checks.begins("a start at the end of the travel is refused with a travel margin", page.title, "The machine file can't be used. ")
+    inner = re.sub(r"(?m)^(start|home28|home30) = .*$", r"\1 = [10_000_000, 10_000_000, -10_000_000]", page.read("named_mill.toml"))
+    (page.folder / "inner.toml").write_text(inner)
+    page.give({"inner.toml": inner, "far.ngc": "G21 G53 G0 X200\nG53 X300\nM2\n"})
+    checks.equal("a new machine file resets them", page.value("ngc.store.state.demands"), NO_DEMANDS)
+    checks.begins("a motion to the end of the travel fits", page.title, "Fits")
+    page.do("ngc.actions.setDemands({ margin: null, travelMargin: 1e6, rapids: null })")
+    checks.begins("and not with a travel margin of 1 mm", page.title, "Line 2 leaves the travel, with its margin of 1 mm, at X+ by 1 mm: move it 1 mm toward X\u2212.")
+    checks.equal("the picture stops there", page.value("Math.round(ngc.contactNow(ngc.store.state).tip[0] * 1000) / 1000"), 299)
+    # The left clamp begins at X 30 and Y 80. At X 30 the straight line is at Y 64, and a corner of the box of its ends is in the clamp.
+    page.give({"around.ngc": "G21 G53 G0 X20 Y84\nG53 Z-80\nG53 X32 Y60\nG53 Z-10\nM2\n"})
+    page.do("ngc.actions.setDemands({ margin: null, travelMargin: null, rapids: null })")
+    checks.begins("a straight rapid passes the corner of a clamp", page.title, "Fits")
+    page.do("ngc.actions.setDemands({ margin: null, travelMargin: null, rapids: 'free' })")
+    checks.begins("and one that may take any way doesn't", page.title, "Line 3 hits the left clamp")
+    checks.has("the detail says why", page.text("verdict-detail"), "Rapids may take any way within the box of their ends.")
+    for machine, name in (("named_mill.toml", "slot.ngc"), ("named_mill.toml", "low_slot.ngc"), (page.folder / "inner.toml", "plate.ngc")):
+        page.give({"m.toml": (page.examples / machine).read_text(), name: page.read(name)})
+        page.do("ngc.files.use('tools', 'tools.toml', new TextEncoder().encode(JSON.parse(document.getElementById('examples').textContent)['tools.toml']), 'user')")
+        for what, (demands, words) in DEMANDS.items():
+            page.do(f"ngc.actions.setDemands({json.dumps({**NO_DEMANDS, **demands})})")
+            made = page.native("report", "--json", *words, files=(name, machine, "tools.toml"))
+            checks.equal(f"{name} with {what} has the facts of `ngc report {' '.join(words)}`", page.value("JSON.stringify(ngc.current(ngc.store.state, 'report').facts)"), facts_of(made.stdout))
+    page.example("slot.ngc")
+    page.do("ngc.actions.setDemands({ margin: 2e6, travelMargin: null, rapids: 'free' }); document.querySelector('[data-view=iso]').click()")
+    save_each(checks, page, "slot.ngc", always=["--margin", "2", "--rapids", "free"])
+    certificate = page.native("certify", "--format", "2", "--margin", "2", files=("slot.ngc", "named_mill.toml", "tools.toml")).stdout.decode()
+    page.do("ngc.actions.setDemands({ margin: 2e6, travelMargin: null, rapids: null })")
+    page.give({"slot.cert": certificate})
+    badge = "document.querySelector('.chip.certificate .about').textContent"
+    checks.equal("a certificate made with the margin is accepted with it", page.value(badge), "accepted for these files")
+    page.do("ngc.actions.setDemands({ margin: 1e6, travelMargin: null, rapids: null })")
+    checks.equal("and with a smaller one", page.value(badge), "accepted for these files")
+    page.do("ngc.actions.setDemands({ margin: 7e6, travelMargin: null, rapids: null })")
+    checks.begins("and refused with a larger one", page.value(badge), "refused, fault 3")
+    page.value("ngc.actions.forgetCertificate(); 0")
+    page.do("ngc.actions.setDemands({ margin: null, travelMargin: null, rapids: null })")
+    page.give({"one.ngc": page.read("slot.ngc"), "two.ngc": page.read("ring.ngc")})
+    checks.equal("two programs fit", page.value("ngc.store.state.programs.map(it => it.verdict).join()"), "fits,fits")
+    page.do("ngc.actions.setDemands({ margin: 7e6, travelMargin: null, rapids: null })")
+    made = [page.native("report", "--margin", "7", files=(name, "named_mill.toml", "tools.toml")).returncode for name in ("slot.ngc", "ring.ngc")]
+    checks.equal("with a margin of 7 mm they have the verdicts of `ngc report --margin 7`", page.value("ngc.store.state.programs.map(it => it.verdict).join()"), ",".join("refused" if it else "fits" for it in made))
+    page.give({"mine.toml": page.read("named_mill.toml")})
+    page.do("ngc.actions.setDemands({ margin: 2e6, travelMargin: null, rapids: 'free' })")
+    page.do("ngc.actions.removeFixture(1)")
+    checks.equal("another text of the same machine keeps them", page.value("ngc.store.state.demands.margin"), 2_000_000)
+    page.open()
+    checks.equal("they are kept with the machine for the next visit", page.value("[ngc.store.state.files.machine.source, ngc.store.state.demands.margin, ngc.store.state.demands.rapids]"), ["kept", 2_000_000, "free"])
+    checks.equal("the fields show them", page.value(f"[{form}.margin.value, {form}.travel.value, {form}.rapids.value]"), ["2", "", "free"])
+    for broken in ('"{}"', '"null"', '"[1"', '\'{"margin":-1}\'', '\'{"rapids":"<b>"}\'', '\'{"margin":1.5}\''):
+        page.value(f"localStorage.setItem('ngc demands', {broken}); 0")
+        page.open()
+        checks.equal(f"with {broken} in the storage there is no margin", page.value("ngc.store.state.demands"), NO_DEMANDS)
+    page.value("localStorage.clear(); 0")
+    page.open()
 
 
 def intervals_of(facts):
     """The interval around 0 of each axis in the facts of `ngc place --json`."""
     found = []
     for axis in "XYZ":
-        along = [it for it in facts if it.get("axis") == axis and "from" in it and "to" in it]
+        along = [it for it in facts if it.get("axis") == axis and it.get("from") is not None]
         around = next((it for it in along if it["from"] <= 0 <= it["to"]), along[0] if along else None)
         found.append([around["from"], around["to"]] if around else None)
     return found
@@ -576,16 +683,17 @@ def saved_file(page, again, name, size=None):
     return wait_for(page.downloads / name, size)
 
 
-def save_each(checks, page, name, more=()):
+def save_each(checks, page, name, more=(), always=()):
     stem = name.rsplit(".", 1)[0]
     files = (name, "named_mill.toml", "tools.toml")
     for key, (end, words, has_delete) in SAVES.items():
         page.forget_notices()
-        made = page.native(*words, *(more if has_delete else ()), files=(None, *files[1:]) if key == "sheet" else files)
+        more_words = [*(more if has_delete else ()), *(always if key not in ("sheet", "list") else ())]
+        made = page.native(*words, *more_words, files=(None, *files[1:]) if key == "sheet" else files)
         click = f"document.querySelector('[data-save={key}]').click()"
         page.value(f"{click}; 0")
         page.wait("document.getElementById('notices').textContent !== ''")
-        said, what = page.notices, f"`{' '.join(['ngc', *words, *(more if has_delete else ())])}` of {name}"
+        said, what = page.notices, f"`{' '.join(['ngc', *words, *more_words])}` of {name}"
         if made.stdout:
             checks.equal(f"{stem}{end} is saved with the {len(made.stdout)} bytes of {what}", saved_file(page, click, f"{stem}{end}", len(made.stdout)), made.stdout)
             checks.begins("  and the page says so", said, f"Saved as {stem}{end}, ")
@@ -985,7 +1093,7 @@ def quiet(checks, page):
 
 
 PICTURED = ("picture_and_player", "paper", "access", "keyboard", "phone", "quiet")
-GROUPS = {it.__name__: it for it in (verdicts, block_delete, editing, races, file_kinds, machine_and_zero, save, picture_and_player, search, paper, keeping, hostile, stopped_workers, ended_memory, traps, unable, access, keyboard, contrast, phone, quiet)}
+GROUPS = {it.__name__: it for it in (verdicts, block_delete, editing, races, file_kinds, machine_and_zero, margins, save, picture_and_player, search, paper, keeping, hostile, stopped_workers, ended_memory, traps, unable, access, keyboard, contrast, phone, quiet)}
 
 
 def take_pictures(page, folder):

@@ -55,6 +55,7 @@ const actions = {
   stopPlace() { jobs.stop('place'); },
   setBlockDelete(blockDelete) { set({ blockDelete, time: null, isPlaying: false }); },
   setOrigins(origins) { set({ origins }); },
+  setDemands(demands) { set({ demands }); },
   place() { checks.place(parts.zero.system()); },
   async explain(number) {
     const out = id('explained');

@@ -1,11 +1,15 @@
 // The jobs that follow from the files in use. What a job returns is dropped if the files in use are others by then.
 
 import { ProgramText } from './core/program_text.js';
+import { changesOf } from './core/changes.js';
 import { current, inputsKey, keyOf } from './core/store.js';
 import { groupsNow } from './core/shown.js';
 
 const PAUSE = 180;   // ms without typing before a check
+const VIEWS = ['top', 'front', 'side', 'iso'];
 const LINE_QUERY = /^\s*(?:line|l|:)\s*\d/i;
+
+export const wordsOfDrawing = ({ drawing, blockDelete }) => ['draw', `--view=${VIEWS[drawing]}`, ...(blockDelete ? ['--delete'] : [])];
 
 export function makeChecks(store, jobs) {
   let typing = null;
@@ -15,15 +19,14 @@ export function makeChecks(store, jobs) {
     store.dispatch({ type: 'begun', slot, key });
     try { store.dispatch({ type: 'result', slot, key, value: await jobs.run(lane, slot, name, options) }); } catch (failure) { store.dispatch({ type: 'result', slot, key, failure }); }
   }
-  const inputs = () => ({ origins: store.state.origins });
+  const inputs = () => ({ changes: changesOf(store.state) });
   const beginPath = () => begin('path', 'path', 'path', { ...inputs(), blockDelete: store.state.blockDelete });
   function check() {
     begin('report', 'verdict', 'report', { ...inputs(), all: false });
     beginPath();
   }
   function drawPlain() {
-    const { drawing, blockDelete } = store.state;
-    begin('drawing', 'path', 'output', { ...inputs(), name: 'ngc_draw', options: [drawing, blockDelete ? 1 : 0], factor: 2 });
+    begin('drawing', 'path', 'command', { ...inputs(), words: wordsOfDrawing(store.state), factor: 2 });
   }
 
   function follow() {

@@ -1,9 +1,10 @@
 // The files in use: from drops, choices, examples and edits.
 
+import { NO_DEMANDS, changesOf } from './core/changes.js';
 import { ProgramText, startsOf } from './core/program_text.js';
 import { sentenceOfFailure } from './core/jobs.js';
 import { kindOf } from './core/sort_files.js';
-import { keepFile, keptFile } from './core/storage.js';
+import { keepDemands, keepFile, keptDemands, keptFile } from './core/storage.js';
 import { current } from './core/store.js';
 import { size } from './core/units.js';
 import { EXAMPLE_MACHINE, exampleBytes } from './examples.js';
@@ -84,7 +85,7 @@ export function makeFiles(store, getJobs, notice) {
     store.dispatch({ type: 'set', values: { programs: store.state.programs.map(it => ({ ...it, verdict: undefined })) } });
     for (const { name, bytes, blob } of store.state.programs.slice(0, MOST_CHECKED)) {
       let verdict = 'failed';
-      try { verdict = (await getJobs().run('batch', 'batch', 'fits', { program: blob })).fits ? 'fits' : 'refused'; } catch { /* It has no verdict. */ }
+      try { verdict = (await getJobs().run('batch', 'batch', 'fits', { program: blob, changes: changesOf(store.state) })).fits ? 'fits' : 'refused'; } catch { /* It has no verdict. */ }
       if (mine !== batches) return;
       mark(name, bytes, verdict);
     }
@@ -105,19 +106,23 @@ export function makeFiles(store, getJobs, notice) {
       store.dispatch({ type: 'set', values: { tab: 'shop' } });
     } catch (failure) { notice(`No machine file was made of ${from}. ${sentenceOfFailure(failure)}`, 'bad'); }
   }
-  // Changes the text of the machine file in use, and keeps the zeros of this check.
+  // Takes another text of the same machine, and keeps the zeros and margins of this check.
+  function keepingChanges(act) {
+    const { origins, demands } = store.state;
+    act();
+    store.dispatch({ type: 'set', values: { origins, demands } });
+  }
   function changeMachine(change, sentence) {
-    const { machine } = store.state.files, { origins } = store.state;
-    use('machine', machine.name, new TextEncoder().encode(change(new TextDecoder().decode(machine.bytes))), 'made');
-    store.dispatch({ type: 'set', values: { origins } });
-    notice(sentence, '', { label: 'Undo', act: () => putBack('machine', machine) });
+    const { machine } = store.state.files, bytes = new TextEncoder().encode(change(new TextDecoder().decode(machine.bytes)));
+    keepingChanges(() => use('machine', machine.name, bytes, 'made'));
+    notice(sentence, '', { label: 'Undo', act: () => keepingChanges(() => putBack('machine', machine)) });
   }
 
   // ---- examples, and what is kept for the next visit
 
-  // An example is as its file says: without the zeros that were tried before.
+  // An example is as its file says: without the zeros and margins that were tried before.
   function useExampleMachine() {
-    store.dispatch({ type: 'set', values: { origins: {} } });
+    store.dispatch({ type: 'set', values: { origins: {}, demands: NO_DEMANDS } });
     for (const [kind, name] of Object.entries(EXAMPLE_MACHINE)) {
       const file = store.state.files[kind];
       if (file?.source !== 'example') use(kind, name, exampleBytes(name), 'example');
@@ -136,14 +141,16 @@ export function makeFiles(store, getJobs, notice) {
       const kept = keptFile(kind);
       kept ? use(kind, kept.name, kept.bytes, 'kept') : use(kind, name, exampleBytes(name), 'example');
     }
+    if (store.state.files.machine.source === 'kept') store.dispatch({ type: 'set', values: { demands: keptDemands() } });
     use('program', 'slot.ngc', exampleBytes('slot.ngc'), 'example');
     // Only files that the checker reads are kept, and no examples.
-    store.watch(state => [current(state, 'scene'), state.files.machine, state.files.tools], (scene, machine, tools) => {
+    store.watch(state => [current(state, 'scene'), state.files.machine, state.files.tools, state.demands], (scene, machine, tools, demands) => {
       if (scene?.status !== 0) return;
+      if (machine.source !== 'example') keepDemands(demands);
       for (const [kind, file] of Object.entries({ machine, tools })) if (file.source !== 'example') keepFile(kind, file.name, file.bytes);
     });
-    // All dropped programs are checked again on another machine.
-    store.watch(state => [state.files.machine, state.files.tools], () => { if (store.state.programs.length) checkPrograms(); });
+    // All dropped programs are checked again on another machine, and with other zeros and margins.
+    store.watch(state => [state.files.machine, state.files.tools, state.origins, state.demands], () => { if (store.state.programs.length) checkPrograms(); });
   }
   return { use, putBack, edited, take, makeMachine, changeMachine, useExample, useExampleMachine, start };
 }

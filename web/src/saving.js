@@ -1,29 +1,32 @@
 // What the page saves: files in use, and what the exports write for them. What is saved belongs to what is shown; if that changes
 // meanwhile, nothing is saved.
 
+import { changesOf } from './core/changes.js';
 import { shownKey } from './core/store.js';
 import { sentenceOfFailure } from './core/jobs.js';
 import { size } from './core/units.js';
+import { wordsOfDrawing } from './checks.js';
 import { download } from './files.js';
 
 const bytesOfUrl = url => Uint8Array.from(atob(url.split(',')[1]), it => it.charCodeAt(0));
 const IN_USE = ['program', 'machine', 'tools'];
 const DRAWINGS = ['top', 'front', 'side', 'iso'];
 
-// The end of the file's name, the job, and its options, for each button.
-const outputs = ({ blockDelete, drawing }) => {
-  const off = blockDelete ? 1 : 0;
+// The end of the file's name, the words of the command, how much longer than the program what it writes may be, and the job, for each
+// button.
+const outputs = state => {
+  const off = state.blockDelete ? ['--delete'] : [];
   return {
-    report: ['.report.txt', 'output', { name: 'ngc_report', options: [0, 0] }],
-    every: ['.report.all.txt', 'output', { name: 'ngc_report', options: [1, 0] }],
-    json: ['.report.json', 'output', { name: 'ngc_report', options: [0, 1] }],
-    every_json: ['.report.all.json', 'output', { name: 'ngc_report', options: [1, 1] }],
-    drawing: [`.${DRAWINGS[drawing]}.svg`, 'output', { name: 'ngc_draw', options: [drawing, off], factor: 2 }],
-    list: ['.list.txt', 'output', { name: 'ngc_list', options: [off], factor: 5 }],
-    certificate: ['.cert', 'output', { name: 'ngc_certify', options: [1], factor: 4 }],
-    certificate_1: ['.1.cert', 'output', { name: 'ngc_certify', options: [0], factor: 8 }],
-    pulses: ['.vcd', 'pulses', { options: [off] }],
-    sheet: ['.setup.txt', 'output', { name: 'ngc_show', given: ['machine', 'tools'] }],
+    report: ['.report.txt', ['report']],
+    every: ['.report.all.txt', ['report', '--all']],
+    json: ['.report.json', ['report', '--json']],
+    every_json: ['.report.all.json', ['report', '--all', '--json']],
+    drawing: [`.${DRAWINGS[state.drawing]}.svg`, wordsOfDrawing(state), 2],
+    list: ['.list.txt', ['list', ...off], 5],
+    certificate: ['.cert', ['certify', '--format=2'], 4],
+    certificate_1: ['.1.cert', ['certify', '--format=1'], 8],
+    pulses: ['.vcd', ['pulses', ...off], 1, 'pulses'],
+    sheet: ['.setup.txt', [], 1, 'sheet'],
   };
 };
 
@@ -32,9 +35,9 @@ export function makeSaving(store, getJobs, parts, notice) {
   const stem = () => store.state.files.program.name.replace(/\.[^.]*$/, '');
 
   async function saveOutput(what) {
-    const { state } = store, key = shownKey(state), [end, job, options] = outputs(state)[what], name = `${stem()}${end}`;
+    const { state } = store, key = shownKey(state), [end, words, factor = 1, job = 'command'] = outputs(state)[what], name = `${stem()}${end}`;
     try {
-      const got = await getJobs().run('save', 'save', job, { ...options, origins: state.origins });
+      const got = await getJobs().run('save', 'save', job, { words, factor, changes: changesOf(state) });
       const notes = `${got.text.trim()}${got.isCut ? ' .. (the notes are longer, and end here)' : ''}`;
       if (key !== shownKey(store.state)) return notice('What is shown changed in the meantime: nothing was saved. Save again.', 'bad');
       if (!got.output.length) return notice(`There is nothing to save. ${notes}`, 'bad');

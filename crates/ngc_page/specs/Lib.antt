@@ -2,3 +2,4 @@ pub mod Passed
 pub mod Files
 pub mod Asked
 pub mod Answered
+pub mod Commanded

@@ -1,6 +1,6 @@
 //! The common part of every call, after its options are known.
 ghost use Rattle.std.specs.Prelude.{◌≡◌, length};
-ghost use Rattle.ngc_page.specs.Answered.{Holds, IsResult, IsResultIn, space};
+ghost use Rattle.ngc_page.specs.Answered.{Holds, IsResult, IsResultIn, Receives, space};
 ghost use Rattle.ngc_page.specs.Files.{bytes_of};
 
 use crate::files::PassedFiles;
@@ -48,6 +48,24 @@ fn copy_front(text: &[u8], space: &mut [u8])
     space[..count].copy_from_slice(&text[..count]);
 }
 
+/// Hands over a text as the output and lines as those of standard error: as much of each as there is
+/// space for, and their whole lengths.
+pub fn hand_over(
+    text: &[u8],
+    lines: &[u8],
+    output: &mut [u8],
+    errors: &mut [u8],
+    lengths: &mut Lengths,
+)
+    ensures output { Receives (space output.old output.new lengths.new.output) text.now }
+    ensures errors { Receives (space errors.old errors.new lengths.new.errors) lines.now }
+{
+    copy_front(text, output);
+    copy_front(lines, errors);
+    lengths.output = text.len();
+    lengths.errors = lines.len();
+}
+
 /// Executes a command. It writes its output and the lines of its standard error to the front of the
 /// two slices, as far as there is space, and returns the exit status.
 pub fn answer_into(
@@ -63,9 +81,7 @@ pub fn answer_into(
         (space errors.old errors.new lengths.new.errors) result }
 {
     let answer = answer_in_memory(alloc, options, files);
-    copy_front(answer.output.as_slice(), output);
-    copy_front(answer.errors.taken.as_slice(), errors);
-    lengths.output = answer.output.len();
-    lengths.errors = answer.errors.taken.len();
+    let (text, lines) = (answer.output.as_slice(), answer.errors.taken.as_slice());
+    hand_over(text, lines, output, errors, lengths);
     u32::from(answer.status)
 }

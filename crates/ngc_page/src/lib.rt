@@ -3,18 +3,23 @@
 //!
 //! Each call writes the command's output and the lines of its standard error to the front of two
 //! slices, as far as there is space, and their lengths to `lengths`. It returns the exit status of
-//! the program: 0 for done, 1 if memory runs out or a file is too long, 3 if a file or a program is
-//! refused, 4 if a certificate is refused or isn't made.
+//! the program: 0 for done, 1 if memory runs out or a file is too long, 2 if a command line is
+//! refused, 3 if a file or a program is refused, 4 if a certificate is refused or isn't made.
+//!
+//! `ngc_command` takes any command with any of its options, as the words of its command line. Each
+//! other call is one command with few of its options.
 #![tactic(auto)]
 
 ghost use Rattle.std.specs.Prelude.{[]};
 ghost use Rattle.ngc_page.specs.Answered.{Answered, space};
 ghost use Rattle.ngc_page.specs.Asked.{AsksAdapt, RequestsCertify, RequestsCheck, RequestsDraw, RequestsExplain};
 ghost use Rattle.ngc_page.specs.Asked.{RequestsList, RequestsMachine, RequestsPulses, RequestsReport, RequestsShow};
+ghost use Rattle.ngc_page.specs.Commanded.{Commanded};
 ghost use Rattle.ngc_page.specs.Passed.{passed};
 
 mod answering;
 mod asking;
+mod commanding;
 mod files;
 mod lines;
 #[cfg(test)]
@@ -26,9 +31,41 @@ use crate::asking::{
     adapt_options, certify_options, check_options, draw_options, list_options, machine_options,
     pulses_options, report_options, show_options,
 };
+use crate::commanding::command_into;
 use crate::files::PassedFiles;
 use ngc_command_line::Options;
 use std::alloc::Global;
+
+/// Executes the command whose words are the lines of `words`, as `report` and `--margin=2`. In them
+/// the four files are named `program`, `machine`, `tools` and `certificate`, so that an option is
+/// `--machine=machine`. Any other file and standard input are empty.
+///
+/// Returns 2 if the words aren't a command line of `ngc`; the errors are then the text that `ngc`
+/// writes for them.
+#[unsafe(no_mangle)]
+pub extern "C" fn ngc_command(
+    alloc: Global,
+    words: &[u8],
+    program: &[u8],
+    machine: &[u8],
+    tools: &[u8],
+    certificate: &[u8],
+    output: &mut [u8],
+    errors: &mut [u8],
+    lengths: &mut Lengths,
+) -> u32
+    ensures { Commanded (passed program.now machine.now tools.now certificate.now) words.now
+        (space output.old output.new lengths.new.output)
+        (space errors.old errors.new lengths.new.errors) result }
+{
+    let files = PassedFiles {
+        program,
+        machine,
+        tools,
+        certificate,
+    };
+    command_into(alloc, words, files, output, errors, lengths)
+}
 
 /// Writes the report of a part program on a machine with its tools. With `all` it has every command
 /// that isn't cleared, and not only the first one. With `json` it is a JSON document.

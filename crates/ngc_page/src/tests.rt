@@ -1,8 +1,8 @@
-//! Tests of the calls: each one once on files that it accepts, one with little space for its output,
-//! and one on a file that is refused.
+//! Tests of the calls: each one once on files that it accepts, command lines, one call with little
+//! space for its output, and calls on a file and on words that are refused.
 use crate::{
-    Lengths, ngc_adapt, ngc_certify, ngc_check, ngc_draw, ngc_explain, ngc_list, ngc_machine,
-    ngc_pulses, ngc_report, ngc_show,
+    Lengths, ngc_adapt, ngc_certify, ngc_check, ngc_command, ngc_draw, ngc_explain, ngc_list,
+    ngc_machine, ngc_pulses, ngc_report, ngc_show,
 };
 use std::alloc::{AllocError, Global};
 use std::process::Abort;
@@ -151,6 +151,15 @@ impl Space {
         ngc_machine(alloc, SETTINGS, output, errors, lengths)
     }
 
+    fn command(&mut self, alloc: Global, words: &[u8]) -> u32 {
+        let output = self.output.as_mut_slice();
+        let errors = self.errors.as_mut_slice();
+        let lengths = &mut self.lengths;
+        ngc_command(
+            alloc, words, PROGRAM, MACHINE, TOOLS, NO_MOTIONS, output, errors, lengths,
+        )
+    }
+
     fn explain(&mut self, alloc: Global) -> u32 {
         let output = self.output.as_mut_slice();
         let errors = self.errors.as_mut_slice();
@@ -172,6 +181,7 @@ enum Call {
     Adapt,
     Machine,
     Explain,
+    Command(&'static [u8]),
 }
 
 impl Call {
@@ -187,6 +197,7 @@ impl Call {
             Call::Adapt => space.adapt(alloc),
             Call::Machine => space.machine(alloc),
             Call::Explain => space.explain(alloc),
+            Call::Command(words) => space.command(alloc, words),
         }
     }
 }
@@ -259,6 +270,42 @@ const ROWS: &[Row] = &[
         part: b"113",
         is_whole: false,
     },
+    Row {
+        call: Call::Command(
+            b"report\n--machine=machine\n--tools=tools\n--program=program\n--margin=2",
+        ),
+        part: b"Margin: each fixture is 2 mm larger on every side",
+        is_whole: false,
+    },
+    // The origin is at 1 mm, so X 0.1 is at 1.1 mm.
+    Row {
+        call: Call::Command(b"list\n--machine=machine\n--program=program\n--origin=54=1,0,0\n"),
+        part: b"0 1 traverse 1100000 0 0 grid 110 0 0\n1 2 end\n",
+        is_whole: true,
+    },
+    Row {
+        call: Call::Command(b"version"),
+        part: b"ngc ",
+        is_whole: false,
+    },
+];
+
+/// Words that are refused, and a part of the message.
+const REFUSED: &[(&[u8], &[u8])] = &[
+    (
+        b"report\n--machine=machine\n--tools=tools\n--margin=two",
+        b"invalid value 'two' for '--margin <MM>'",
+    ),
+    (
+        b"list\n--origin=54=0,0,0\n--origin=54=1,1,1",
+        b"invalid value '54=1,1,1' for '--origin <PLACE>'",
+    ),
+    (
+        b"report\n--machine=machine\n--tools=tools\n--cuts=0",
+        b"--cuts",
+    ),
+    (b"nothing", b"nothing"),
+    (b"list\n\xff", b"UTF-8"),
 ];
 
 fn is_answered(row: &Row, status: u32, space: &Space) -> bool {
@@ -306,5 +353,18 @@ fn a_refused_file_has_its_fault_among_the_errors(rt: HostRuntime) -> Result<(), 
     let status = ngc_show(rt.alloc(), b"step = 1", b"", output, errors, lengths);
     let refused = status == 3 && has(space.errors.as_slice(), b"fault 269");
     assert!(&rt; refused);
+    Ok(())
+}
+
+#[test]
+fn refused_words_have_a_message_among_the_errors(rt: HostRuntime) -> Result<(), Fail> {
+    for (words, part) in REFUSED {
+        let mut space = Space::new(rt.alloc(), 10)?;
+        let status = space.command(rt.alloc(), words);
+        let refused = status == 2
+            && space.lengths.output == 0
+            && has(space.errors.as_slice(), part);
+        assert!(&rt; refused, "at {words:?}");
+    }
     Ok(())
 }

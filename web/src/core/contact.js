@@ -35,18 +35,20 @@ export function firstOutside(from, to, low, high) {
 }
 
 // Where the first command that is in the way is refused: the tip there, the share of the command that is done, the command's number if it
-// is in the path, and a label. Null if no command is in the way.
-export function contactOf(entry, path, scene) {
+// is in the path, and a label. Null if no command is in the way. The report's fixtures have the margin already.
+export function contactOf(entry, path, scene, travelMargin) {
   if (!entry || !scene) return null;
   const { command, obstacle } = entry, tool = scene.tools.find(it => it.number === command.tool), bottom = tool?.bottom ?? 0;
   const tipOf = at => [at[0] / 1e6, at[1] / 1e6, at[2] / 1e6 + bottom];
   if (command.fact === 'start') return { tip: tipOf(command.at), share: 1, command: null, label: 'start', tool };
   const { index } = command, isKnown = path !== null && index < path.count && path.lines[index] === command.line;
+  const margin = travelMargin / 1e6, lift = axis => (axis === 2 ? bottom : 0);
+  const limits = { low: scene.low.map((it, axis) => it + margin + lift(axis)), high: scene.high.map((it, axis) => it - margin + lift(axis)) };
   const pieces = isKnown && path.kinds[index] === ARC ? PIECES : 1;
   for (let piece = 0; piece < pieces; piece++) {
     const from = pieces === 1 ? tipOf(command.from) : tipAt(path, index, piece / pieces).tip, to = pieces === 1 ? tipOf(command.to) : tipAt(path, index, (piece + 1) / pieces).tip;
     const part = obstacle?.kind === 'fixture' ? firstTouch(from, to, tool, obstacle.low.map(it => it / 1e6), obstacle.high.map(it => it / 1e6))
-      : obstacle?.kind === 'travel' ? firstOutside(from, to, [scene.low[0], scene.low[1], scene.low[2] + bottom], [scene.high[0], scene.high[1], scene.high[2] + bottom]) : 1;
+      : obstacle?.kind === 'travel' ? firstOutside(from, to, limits.low, limits.high) : 1;
     if (part === 1 && piece < pieces - 1) continue;
     return { tip: from.map((it, axis) => it + (to[axis] - it) * part), share: (piece + part) / pieces, command: isKnown ? index : null,
       label: `line ${command.line}`, tool, from: tipOf(command.from), to: tipOf(command.to) };

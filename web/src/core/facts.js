@@ -5,6 +5,8 @@ const LISTS = { extent: 'extents', use: 'uses', use_time: 'useTimes', figures: '
 const newGroup = blockDelete => ({ blockDelete, fits: null, verdict: null, commands: [], faults: [], extents: [], uses: [], useTimes: [],
   figures: [], lowest: [], warnings: [], time: null, line: null, mark: null, reason: null, noOrigin: null, isUnreadable: false, hasNoFixtures: false });
 
+// Facts that belong to no setting of block delete.
+const ABOUT_CHECK = ['report', 'origin', 'margins', 'rapids', 'fault'];
 // What a fact says about the last command that is in the way.
 const ABOUT_COMMAND = ['obstacle', 'clear', 'coordinates'];
 
@@ -13,7 +15,7 @@ export function groupsOf(facts) {
   let group = null;
   for (const fact of facts) {
     const { fact: kind } = fact;
-    if (kind === 'report' || kind === 'origin' || kind === 'fault') continue;
+    if (ABOUT_CHECK.includes(kind)) continue;
     if (kind === 'setting') { groups.push(group = newGroup(fact.block_delete)); continue; }
     if (!group) groups.push(group = newGroup(null));
     if (LISTS[kind]) group[LISTS[kind]].push(fact);
@@ -29,6 +31,12 @@ export function groupsOf(facts) {
     } else if (['time', 'line', 'mark', 'reason'].includes(kind)) group[kind] = fact;
   }
   return groups;
+}
+
+// What a report keeps clear of: the margins in nanometres, and whether rapids may take any way.
+export function keptOf(facts) {
+  const { fixtures = 0, travel = 0 } = facts.find(it => it.fact === 'margins') ?? {};
+  return { fixtures, travel, hasFreeRapids: facts.some(it => it.fact === 'rapids' && it.way === 'free') };
 }
 
 // The group that is shown at a setting of block delete, or null if the report stopped before it.

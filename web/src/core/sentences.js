@@ -1,8 +1,10 @@
 // The verdict as a sentence. Every number is one of the proved report; this file only chooses the words.
 
+import { keptOf } from './facts.js';
 import { AXES } from './systems.js';
-import { atLeast, duration, enough } from './units.js';
+import { atLeast, duration, enough, length } from './units.js';
 
+const FREE_RAPIDS = ' Rapids may take any way within the box of their ends.';
 const direction = (axis, isPlus) => `${AXES[axis]}${isPlus ? '+' : '\u2212'}`;
 const capital = text => text.slice(0, 1).toUpperCase() + text.slice(1);
 // A sentence in the middle of another one: only a plain word loses its capital.
@@ -26,32 +28,34 @@ function waysOut(clear, unit) {
   return { up: enough(clear.plus[2], unit), aside: `${enough(least, unit)} toward ${nearest}` };
 }
 
-function fixtureSentence(who, isChange, { command, obstacle, clear }, unit) {
+function fixtureSentence(who, isChange, { command, obstacle, clear }, unit, kept) {
   const name = fixtureName(obstacle.fixture, obstacle.fixture_name);
-  if (!clear) return { title: `${who} is inside ${name}.`, note: `is inside ${name}`, detail: 'Move the start point in the machine file, or the fixture.' };
+  // With a margin the tool may be clear of the fixture itself.
+  const inMargin = kept.fixtures ? `is within the margin of ${length(kept.fixtures, unit)} around ${name}` : '';
+  if (!clear) return { title: `${who} ${inMargin || `is inside ${name}`}.`, note: inMargin || `is inside ${name}`, detail: 'Move the start point in the machine file, or the fixture.' };
   const { up, aside } = waysOut(clear, unit);
   const remedy = obstacle.over_from_z === null ? `nothing passes over it within the travel, so move it ${aside}`
     : isChange ? `change the tool ${up} higher, or ${aside}` : `raise it by ${up}, or move it ${aside}`;
-  return { title: `${who} hits ${name}: ${remedy}.`, note: `hits ${name}: raise by ${up}`,
-    detail: `${capital(toolName(command.tool, command.tool_name))} meets it on the way. The distances clear this obstacle only; the check runs again as you edit.` };
+  return { title: `${who} ${inMargin || `hits ${name}`}: ${remedy}.`, note: `${inMargin || `hits ${name}`}: raise by ${up}`,
+    detail: `${capital(toolName(command.tool, command.tool_name))} meets ${inMargin ? 'the margin' : 'it'} on the way. The distances clear this obstacle only; the check runs again as you edit.` };
 }
 
-function travelSentence(who, { obstacle, clear }, unit) {
+function travelSentence(who, { obstacle, clear }, unit, kept) {
   const side = direction(AXES.indexOf(obstacle.axis), obstacle.side === 'above'), beyond = enough(Math.abs(obstacle.left), unit);
-  const note = `leaves the travel at ${side} by ${beyond}`;
-  if (!clear) return { title: `${who} is outside the travel: at ${side} by ${beyond}.`, note, detail: 'Move the start point in the machine file.' };
+  const travel = kept.travel ? `the travel, with its margin of ${length(kept.travel, unit)},` : 'the travel', note = `leaves ${travel} at ${side} by ${beyond}`;
+  if (!clear) return { title: `${who} is outside ${travel.replace(/,$/, '')}: at ${side} by ${beyond}.`, note, detail: 'Move the start point in the machine file.' };
   const remedy = clear.distance === null ? 'it is too long for the travel' : `move it ${enough(clear.distance, unit)} toward ${clear.direction.replace('-', '\u2212')}`;
   return { title: `${who} ${note}: ${remedy}.`, note, detail: '' };
 }
 
 // What is in the way of one command: the sentence, the short note beside the line, and a detail.
-export function obstacleSentence(entry, unit) {
+export function obstacleSentence(entry, unit, kept) {
   const { command, obstacle } = entry;
   // A tool change is a command that doesn't move.
   const isChange = command.fact === 'command' && command.from.every((it, axis) => it === command.to[axis]);
   const who = command.fact === 'start' ? 'The start point' : isChange ? `The tool change in line ${command.line}` : `Line ${command.line}`;
-  if (obstacle?.kind === 'fixture') return fixtureSentence(who, isChange, entry, unit);
-  if (obstacle?.kind === 'travel') return travelSentence(who, entry, unit);
+  if (obstacle?.kind === 'fixture') return fixtureSentence(who, isChange, entry, unit, kept);
+  if (obstacle?.kind === 'travel') return travelSentence(who, entry, unit, kept);
   return { title: `${who} is too close to tell.`, note: 'too close to tell',
     detail: 'Nothing is in the way of the whole motion, but a box of the certificate is too large. More cuts for each motion may clear it: `ngc report --cuts 64`.' };
 }
@@ -85,16 +89,24 @@ function tightest(group, scene) {
   return least;
 }
 
-function fitSentence(group, scene, unit) {
+// What is kept besides fitting: `, 2 mm clear of every fixture and 1 mm inside the travel`.
+function marginWords(kept, hasFixtures, unit) {
+  const parts = [hasFixtures && kept.fixtures && `${length(kept.fixtures, unit)} clear of every fixture`, kept.travel && `${length(kept.travel, unit)} inside the travel`].filter(Boolean);
+  return parts.length ? `, ${parts.join(' and ')}` : '';
+}
+
+function fitSentence(group, scene, unit, kept) {
   const near = group.uses.filter(use => use.nearest_fixture !== null).sort((p, q) => p.distance - q.distance)[0];
   const least = tightest(group, scene), { verdict } = group, isNose = verdict.tested === 'nose';
-  const parts = [least && `${atLeast(least.left, unit)} left toward ${least.toward}`,
-    near && `${atLeast(near.distance, unit)} from ${fixtureName(near.nearest_fixture, near.fixture_name)}`, group.time && duration(group.time.seconds)].filter(Boolean);
+  // The report counts what is left from the margins on.
+  const parts = [least && `${atLeast(least.left, unit)} ${kept.travel ? 'more' : 'left'} toward ${least.toward}`,
+    near && `${atLeast(near.distance, unit)} ${kept.fixtures ? 'more ' : ''}from ${fixtureName(near.nearest_fixture, near.fixture_name)}`, group.time && duration(group.time.seconds)].filter(Boolean);
   const motions = `${verdict.motions} motion${verdict.motions === 1 ? '' : 's'}`;
   const detail = isNose ? `Without a tool only the spindle nose was tested, in ${motions} of lines ${verdict.first} to ${verdict.last}: mount a tool with M6.`
     : group.hasNoFixtures ? 'The machine file describes no fixtures: only the travel was checked.'
       : 'Every position is inside the travel and clear of every fixture, whatever the timing.';
-  return { kind: 'good', isNose, title: parts.length ? `Fits: ${parts.join(', ')}.` : 'Fits.', detail };
+  const fits = `Fits${marginWords(kept, !group.hasNoFixtures, unit)}`;
+  return { kind: 'good', isNose, title: parts.length ? `${fits}: ${parts.join(', ')}.` : `${fits}.`, detail: `${detail}${kept.hasFreeRapids ? FREE_RAPIDS : ''}` };
 }
 
 // Returns { kind, title, detail, line, column, note, isNose }. `kind` is 'good' or 'bad'.
@@ -105,9 +117,10 @@ export function verdictOf(report, group, scene, unit) {
     return { kind: 'bad', title: cause ? `${cause}.` : 'There is no verdict.', detail: remedy || report.errors };
   }
   if (!group) return { kind: 'bad', title: 'The program fits at neither setting of block delete.', detail: 'This setting is checked once the other one fits.' };
-  if (group.fits) return fitSentence(group, scene, unit);
+  const kept = keptOf(report.facts);
+  if (group.fits) return fitSentence(group, scene, unit, kept);
   if (!group.commands.length) return refusedSentence(report, group);
-  const { title, note, detail } = obstacleSentence(group.commands[0], unit);
+  const { title, note, detail } = obstacleSentence(group.commands[0], unit, kept);
   const origin = group.noOrigin ? `The machine file has no origin of ${group.noOrigin}: set one there, or try one under Zero. ` : '';
-  return { kind: 'bad', line: group.commands[0].command.line ?? 0, title, note, detail: origin + detail };
+  return { kind: 'bad', line: group.commands[0].command.line ?? 0, title, note, detail: `${origin}${detail}${kept.hasFreeRapids ? FREE_RAPIDS : ''}` };
 }

@@ -1,7 +1,7 @@
 // What the views show of the results that belong to the files in use. Each is computed once for the same results.
 
 import { contactOf } from './contact.js';
-import { groupAt, groupsOf } from './facts.js';
+import { groupAt, groupsOf, keptOf } from './facts.js';
 import { scaledTimes } from './motion.js';
 import { current } from './store.js';
 
@@ -13,18 +13,20 @@ function remembered(make) {
   };
 }
 const groupsOfReport = remembered(report => (report ? groupsOf(report.facts) : [])), groupsOfEvery = remembered(every => (every ? groupsOf(every.facts) : []));
-const contact = remembered(contactOf);
+const contact = remembered(contactOf), keptOfReport = remembered(report => keptOf(report?.facts ?? []));
 
 export const sceneNow = state => current(state, 'scene')?.scene ?? null;
 export const pathNow = state => current(state, 'path')?.path ?? null;
 // The report's groups, one for each setting of block delete that it covers.
 export const groupsNow = state => groupsOfReport(current(state, 'report'));
+// The margins and the way of rapids of the report.
+export const keptNow = state => keptOfReport(current(state, 'report'));
 // The group of the report of every place that belongs to the setting, or null.
 export const everyNow = state => groupAt(groupsOfEvery(current(state, 'every')), state.blockDelete);
 export const everyGroupsNow = state => groupsOfEvery(current(state, 'every'));
 // The group of the setting: the report's own, or that of every place if the report stopped before it.
 export const groupNow = state => groupAt(groupsNow(state), state.blockDelete) ?? (current(state, 'report') ? everyNow(state) : null);
 export const entryNow = state => { const group = groupNow(state); return group && !group.fits ? group.commands[0] ?? null : null; };
-export const contactNow = state => contact(entryNow(state), pathNow(state), sceneNow(state));
+export const contactNow = state => contact(entryNow(state), pathNow(state), sceneNow(state), keptNow(state).travel);
 // When each command of the path is done, in seconds: only with the report, since the estimates are scaled to it.
 export const timesNow = state => { const path = pathNow(state); return path?.count && current(state, 'report') ? scaledTimes(path, groupNow(state)) : null; };

@@ -1,5 +1,7 @@
-// What is kept for the next visit: the user's own machine file and tool table, and the colours. Each byte is kept as a character, since
+// What is kept for the next visit: the user's own machine file and tool table, the margins of the machine, and the colours. Each byte is kept as a character, since
 // not every file is text. Without storage the page works, and keeps nothing.
+
+import { NO_DEMANDS, demandsIn, hasDemands } from './changes.js';
 
 const MOST = 1 << 20;   // bytes
 
@@ -14,6 +16,10 @@ export function keptFile(kind) {
   } catch { /* Nothing is kept, or nothing that can be read. */ }
   return null;
 }
+export function keepDemands(demands) {
+  try { hasDemands(demands) ? localStorage.setItem('ngc demands', JSON.stringify(demands)) : localStorage.removeItem('ngc demands'); } catch { /* Nothing is kept. */ }
+}
+export function keptDemands() { try { return demandsIn(JSON.parse(localStorage.getItem('ngc demands'))); } catch { return NO_DEMANDS; } }
 export function keepTheme(theme) { try { localStorage.setItem('ngc theme', theme); } catch { /* Nothing is kept. */ } }
 export function keptTheme() {
   try { const theme = localStorage.getItem('ngc theme'); return ['dark', 'light'].includes(theme) ? theme : 'auto'; } catch { return 'auto'; }

@@ -1,6 +1,8 @@
 // The state of the page, in one place. Views read it, and only `reduce` changes it. Data flows one way:
 // files -> jobs in the workers -> results -> views.
 
+import { NO_DEMANDS, changesOf } from './changes.js';
+
 // Makes a store. `watch` calls `act` with what `select` returns: at once, and again whenever a part of it changes.
 export function makeStore(reduce, first) {
   let state = first, isScheduled = false;
@@ -36,6 +38,7 @@ export const firstState = {
   programs: [],                 // the programs that were dropped together
   text: null,                   // the program in use as a ProgramText
   origins: {},                  // origins for this check: system -> X, Y and Z in nanometres
+  demands: NO_DEMANDS,          // margins and the way of rapids for this check
   blockDelete: false,
   slots: Object.fromEntries(SLOTS.map(slot => [slot, EMPTY])),
   line: 0,                      // the chosen line, from 1
@@ -51,8 +54,8 @@ export const firstState = {
 };
 
 // What a result depends on. A result with another key is older than the files in use, and is never shown.
-export const inputsKey = ({ files, origins }) =>
-  `${[files.program, files.machine, files.tools].map(it => it?.version ?? 0).join('.')} ${JSON.stringify(origins)}`;
+export const inputsKey = state =>
+  `${[state.files.program, state.files.machine, state.files.tools].map(it => it?.version ?? 0).join('.')} ${JSON.stringify(changesOf(state))}`;
 export const shownKey = state => `${inputsKey(state)} ${state.blockDelete}`;
 export const keyOf = {
   report: inputsKey, every: inputsKey, place: inputsKey, path: shownKey,
@@ -79,7 +82,7 @@ export function reduce(state, action) {
     case 'file': {
       const next = { ...state, files: { ...state.files, [action.kind]: action.file } };
       if (action.kind === 'program') Object.assign(next, FRESH, { text: action.text });
-      if (action.kind === 'machine') next.origins = {};
+      if (action.kind === 'machine') Object.assign(next, { origins: {}, demands: NO_DEMANDS });
       return next;
     }
     case 'edited':

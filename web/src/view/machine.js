@@ -1,5 +1,6 @@
 // The machine and the tools as the checker read them, clamps that are added to them, and a machine file from figures.
 
+import { MOST_MARGIN, NO_DEMANDS, hasDemands, isMargin } from '../core/changes.js';
 import { current, failureOf } from '../core/store.js';
 import { sentenceOfFailure } from '../core/jobs.js';
 import { AXES } from '../core/systems.js';
@@ -7,6 +8,27 @@ import { inUnit, typedLength } from '../core/units.js';
 import { fill, h, id, table } from './dom.js';
 
 const listOf = text => text.trim().split(/[\s,;x\u00d7]+/).filter(Boolean);
+
+// The margins and the way of rapids of this check. An empty field leaves what the machine file says.
+function watchDemands(store, actions) {
+  const form = id('demands'), { margin, travel, rapids } = form.elements, reset = id('demands-reset');
+  const shown = (nm, unit) => (nm === null ? '' : inUnit(nm / 1e6, unit));
+  // What wasn't typed again is kept exactly, also where inches round it.
+  const typed = (field, before) => { const { unit } = store.state; return field.value === shown(before, unit) ? before : field.value.trim() ? typedLength(field.value, unit) : null; };
+  form.onsubmit = event => {
+    event.preventDefault();
+    const { demands } = store.state, fixtures = typed(margin, demands.margin), ends = typed(travel, demands.travelMargin);
+    if (![fixtures, ends].every(it => it === null || isMargin(it))) return actions.notice(`A margin is from 0 to ${inUnit(MOST_MARGIN / 1e6, store.state.unit)} ${store.state.unit}.`, 'bad');
+    actions.setDemands({ margin: fixtures, travelMargin: ends, rapids: rapids.value || null });
+  };
+  reset.onclick = () => actions.setDemands(NO_DEMANDS);
+  store.watch(state => [state.demands, state.unit], (demands, unit) => {
+    margin.value = shown(demands.margin, unit);
+    travel.value = shown(demands.travelMargin, unit);
+    rapids.value = demands.rapids ?? '';
+    reset.hidden = !hasDemands(demands);
+  });
+}
 
 export function makeMachine(store, actions) {
   const out = id('shop');
@@ -22,6 +44,7 @@ export function makeMachine(store, actions) {
       scene.warnings.length ? h('ul', { class: 'warned' }, scene.warnings.map(it => h('li', {}, it))) : null);
   });
 
+  watchDemands(store, actions);
   id('clamp').onsubmit = event => {
     event.preventDefault();
     const form = event.target, corner = name => listOf(form.elements[name].value).map(it => typedLength(it, store.state.unit)), low = corner('low'), high = corner('high');

@@ -1,7 +1,7 @@
 // The report in full: every place that is in the way, the tools, the lowest heights and the meaning of the fault.
 
 import { current, failureOf, isRunning } from '../core/store.js';
-import { everyNow, groupNow, sceneNow } from '../core/shown.js';
+import { everyNow, groupNow, keptNow, sceneNow } from '../core/shown.js';
 import { obstacleSentence } from '../core/sentences.js';
 import { fixtureName } from '../core/sentences.js';
 import { sentenceOfFailure } from '../core/jobs.js';
@@ -51,7 +51,7 @@ export function makeReport(store, actions) {
     const { commands = [], faults = [] } = every ?? {}, more = isCut || commands.length > MOST ? ': the first ones' : '';
     return [
       commands.length > 1 ? h('h3', {}, `${plural(commands.length, 'place')} in the way${more}`) : null,
-      commands.length > 1 ? h('ul', { class: 'places' }, commands.slice(0, MOST).map(it => h('li', {}, it.command.line ? lineLink(it.command.line) : 'start', ` ${obstacleSentence(it, unit).note}`))) : null,
+      commands.length > 1 ? h('ul', { class: 'places' }, commands.slice(0, MOST).map(it => h('li', {}, it.command.line ? lineLink(it.command.line) : 'start', ` ${obstacleSentence(it, unit, keptNow(store.state)).note}`))) : null,
       faults.length ? h('h3', {}, plural(faults.length, 'fault')) : null,
       faults.length ? h('ul', { class: 'places' }, faults.map(it => h('li', {}, it.line ? lineLink(it.line) : 'no line', ` ${it.reason} `, link(`fault ${it.number}`, () => explain(it.number)), it.isLater ? ' after earlier faults' : ''))) : null,
     ];

@@ -3,7 +3,7 @@
 import { current, failureOf } from '../core/store.js';
 import { sceneNow } from '../core/shown.js';
 import { sentenceOfFailure } from '../core/jobs.js';
-import { inUnit, plural, size } from '../core/units.js';
+import { inUnit, length, plural, size } from '../core/units.js';
 import { fill, h, id } from './dom.js';
 
 const BADGES = { example: ['badge', 'example'], edited: ['badge quiet', 'edited'], made: ['badge quiet', 'made here'], kept: ['badge quiet', 'from last time'] };
@@ -19,15 +19,21 @@ function certificateChip(certificate, verdict, failure, actions) {
     h('span', { class: 'about', title: verdict?.explanation ?? '' }, about), h('button', { class: 'close', type: 'button', 'aria-label': 'Forget the certificate', onclick: actions.forgetCertificate }, '\u00d7'));
 }
 
+// What this check replaces in the machine file.
+function changesIn(origins, demands, unit) {
+  const moved = Object.keys(origins), { margin, travelMargin, rapids } = demands;
+  return [moved.length ? `${moved.join(', ')} moved` : '', margin === null ? '' : `margin ${length(margin, unit)}`, travelMargin === null ? '' : `travel margin ${length(travelMargin, unit)}`, rapids === null ? '' : `rapids ${rapids}`];
+}
+
 export function makeStrip(store, actions) {
-  store.watch(state => [state.files.program, state.files.machine, state.files.tools, state.files.certificate, state.text?.count, sceneNow(state), current(state, 'certificate'), failureOf(state, 'certificate'), state.unit, state.programs, state.origins],
-    (program, machine, tools, certificate, lines, scene, verdict, failure, unit, programs, origins) => {
+  store.watch(state => [state.files.program, state.files.machine, state.files.tools, state.files.certificate, state.text?.count, sceneNow(state), current(state, 'certificate'), failureOf(state, 'certificate'), state.unit, state.programs, state.origins, state.demands],
+    (program, machine, tools, certificate, lines, scene, verdict, failure, unit, programs, origins, demands) => {
       const others = programs.length < 2 ? null : h('select', { 'aria-label': `The ${programs.length} programs that were dropped`, onchange: event => actions.useProgram(programs[Number(event.target.value)]) },
         h('option', { value: '', selected: true }, `${programs.length}`), programs.map((it, at) => h('option', { value: String(at) }, `${SIGNS[it.verdict] ?? ''}${it.name}`)));
       const span = scene ? [0, 1, 2].map(axis => inUnit(Math.round((scene.high[axis] - scene.low[axis]) * 1000) / 1000, unit)).join('\u2009\u00d7\u2009') : '';
-      const travel = scene ? `${span} ${unit}, ${plural(scene.fixtures.length, 'fixture')}` : '', moved = Object.keys(origins);
+      const travel = scene ? `${span} ${unit}, ${plural(scene.fixtures.length, 'fixture')}` : '';
       fill(id('strip'), chip('program', 'Program', program, !program ? '' : lines ? plural(lines, 'line') : size(program.size), others),
-        chip('machine', 'Machine', machine, moved.length ? `${travel}; ${moved.join(', ')} moved` : travel), chip('tools', 'Tools', tools, scene ? plural(scene.tools.length, 'tool') : ''),
+        chip('machine', 'Machine', machine, [travel, ...changesIn(origins, demands, unit)].filter(Boolean).join('; ')), chip('tools', 'Tools', tools, scene ? plural(scene.tools.length, 'tool') : ''),
         certificate ? certificateChip(certificate, verdict, failure, actions) : null);
     });
   const dismiss = it => store.dispatch({ type: 'dismiss', id: it.id });

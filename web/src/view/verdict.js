@@ -1,7 +1,7 @@
 // The verdict as a sentence, with the travel, the time, the warnings and both settings of block delete.
 
 import { current, failureOf, isRunning } from '../core/store.js';
-import { everyGroupsNow, everyNow, groupNow, groupsNow, sceneNow } from '../core/shown.js';
+import { everyGroupsNow, everyNow, groupNow, groupsNow, keptNow, sceneNow } from '../core/shown.js';
 import { obstacleSentence, verdictOf } from '../core/sentences.js';
 import { sentenceOfFailure } from '../core/jobs.js';
 import { duration, inUnit, length, plural } from '../core/units.js';
@@ -27,10 +27,10 @@ function cardOf(warning, actions) {
 }
 
 // The notes beside the lines: warnings, then what is in the way or at fault.
-function notesOf(group, every, verdict, unit) {
+function notesOf(group, every, verdict, unit, kept) {
   const notes = new Map(), add = (line, kind, text) => { if (line) notes.set(line, { kind, text }); };
   for (const { line, text } of group?.warnings ?? []) add(line, 'warned', [notes.get(line)?.text, text].filter(Boolean).join('; '));
-  for (const entry of every?.commands ?? []) add(entry.command.line, 'faulty', obstacleSentence(entry, unit).note);
+  for (const entry of every?.commands ?? []) add(entry.command.line, 'faulty', obstacleSentence(entry, unit, kept).note);
   for (const { line, reason, number } of every?.faults ?? []) add(line, 'faulty', reason || `fault ${number}`);
   add(verdict.line, 'faulty', verdict.note ?? '');
   return notes;
@@ -110,7 +110,7 @@ export function makeVerdict(store, actions, editor) {
     showSettings(groupsNow(store.state), everyGroupsNow(store.state));
     showFigures(group, scene, unit);
     fill(id('warnings'), warnings.slice(0, 40).map(it => cardOf(it, actions)));
-    editor.setNotes(notesOf(group, every, verdict, unit));
+    editor.setNotes(notesOf(group, every, verdict, unit, keptNow(store.state)));
     if (verdict.line && store.state.line === 0) actions.goTo(verdict.line, 'verdict');
   });
   store.watch(state => [state.files.machine?.source === 'example', state.files.tools?.source === 'example'], (isMachine, isTools) => {

@@ -3,8 +3,9 @@
 import { current, failureOf, isRunning } from '../core/store.js';
 import { sceneNow } from '../core/shown.js';
 import { sentenceOfFailure } from '../core/jobs.js';
+import { meaningOf } from '../core/sentences.js';
 import { AXES, SYSTEMS } from '../core/systems.js';
-import { atLeast, enough, inUnit, length, typedLength } from '../core/units.js';
+import { atLeast, enough, inUnit, length, plural, typedLength } from '../core/units.js';
 import { fill, h, id } from './dom.js';
 
 const FARTHEST = 1e9;   // nanometres
@@ -36,7 +37,7 @@ export function makeZero(store, actions) {
   function rowOf(found, axis, unit) {
     const interval = found.along[axis], ends = found.along.flatMap(it => (it ? [Math.abs(it.from), Math.abs(it.to)] : [])).filter(it => it < FARTHEST);
     const reach = Math.max(...ends, 1e7) * 1.15, part = nm => Math.min(100, Math.max(0, (nm / reach + 1) * 50));
-    if (!interval) return h('div', { class: 'shift' }, h('b', {}, AXES[axis]), h('span', { class: 'track', 'aria-hidden': 'true' }, h('em', {})), h('span', {}, 'no shift that was tried'));
+    if (!interval) return h('div', { class: 'shift' }, h('b', {}, AXES[axis]), h('span', { class: 'track', 'aria-hidden': 'true' }, h('em', {})), h('span', {}, found.isKnown[axis] ? 'no shift that was tried' : 'nothing is known'));
     const { from, to } = interval, shift = Math.abs(from) < Math.abs(to) ? from : to;
     const move = () => actions.setOrigins({ ...store.state.origins, [found.system]: found.at.map((it, other) => (other === axis ? it + shift : it)) });
     return h('div', { class: 'shift' }, h('b', {}, AXES[axis]),
@@ -49,8 +50,10 @@ export function makeZero(store, actions) {
     if (isWaiting) return fill(out, h('p', { class: 'quiet' }, 'Trying shifts\u2026'));
     if (failure) return fill(out, h('p', { class: 'bad' }, failure.kind === 'stopped' ? 'Stopped: the shifts are not known.' : sentenceOfFailure(failure)));
     if (!found) return fill(out);
+    if (found.status) return fill(out, h('p', { class: 'bad' }, `The shifts are not known. ${meaningOf(found.explanation)}`));
     fill(out, h('p', {}, sentenceOf(found)), AXES.map((_, axis) => rowOf(found, axis, unit)),
-      h('p', { class: 'quiet' }, `${found.tried} proved checks. Both ends of each interval were checked; shifts between them were not.`));
+      found.staying ? h('p', { class: 'quiet' }, `${plural(found.staying, 'motion')} of the program, as with G53 or G28, ${found.staying === 1 ? 'stays' : 'stay'} where the machine has them.`) : null,
+      h('p', { class: 'quiet' }, 'Found by ngc place. At both ends of each interval the whole program was checked. Between them it fits where its motions move with the zero or stay, as they do at the ends.'));
   });
   return { system: () => system.value };
 }

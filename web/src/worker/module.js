@@ -1,6 +1,7 @@
 // Calls the exports of the proved module. Each call has an instance of its own, so calls share no state.
 
 const NOTES = 1 << 16;   // bytes of notes that a call keeps at most
+const FILES = ['program', 'machine', 'tools', 'certificate'];
 
 export class Missing extends Error {}
 
@@ -32,7 +33,13 @@ export function call(module, name, files, options = [], space = 1 << 20) {
   };
 }
 
-const decoder = new TextDecoder();
+const encoder = new TextEncoder(), decoder = new TextDecoder();
+// Executes a command of `ngc` by the words of its command line. `files` maps the names of its files, as `machine`, to their bytes; the words
+// that name them are added here.
+export function execute(module, words, files, space) {
+  const named = FILES.filter(it => files[it]), line = [...words, ...named.map(it => `--${it}=${it}`)].join('\n');
+  return call(module, 'ngc_command', [line, ...FILES.map(it => files[it] ?? '')].map(it => (typeof it === 'string' ? encoder.encode(it) : it)), [], space);
+}
 export const textOf = bytes => decoder.decode(bytes);
 
 // The fault that a reader should look up is the last number of a message: `fault 311 setting off fault 102 line 1` wraps the program's own.

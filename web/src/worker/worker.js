@@ -1,19 +1,22 @@
 // The worker: each message is a job, and each job calls a function below. Its state is the module and the latest version of each file that
 // it was sent.
 
-import { call, failureOf, faultNumber, textOf } from './module.js';
+import { call, execute, failureOf, faultNumber, textOf } from './module.js';
 import { buffersOf, readListing } from './listing.js';
 import { readSheet } from './sheet.js';
-import { withOrigins } from './origins.js';
-import { intervalAlong } from './place.js';
 import { lineStarts, search } from './lines.js';
+import { optionsOf } from '../core/changes.js';
+import { AXES } from '../core/systems.js';
 
 const MOST_FACTS = 2000;       // facts of a report that the page shows at most
-const FARTHEST = 1e9;          // nanometres that an origin may be from zero
 const files = {};
 let module = null;
 
-const inUse = origins => [files.program, withOrigins(files.machine, origins), files.tools];
+const IN_USE = ['program', 'machine', 'tools'];
+// `ngc list` has no margins, since they change nothing that it prints.
+const withOptions = (words, changes) => [...words, ...optionsOf(words[0] === 'list' ? { origins: changes.origins } : changes)];
+// Executes a command on the files in use with what replaces keys of the machine file. `others` are files in their place, or more files.
+const command = (words, changes, { others = {}, factor = 1 } = {}) => execute(module, withOptions(words, changes), { ...files, ...others }, spaceFor(factor));
 const spaceFor = factor => (files.program?.length ?? 0) * factor + (1 << 20);
 const explanationOf = fault => (fault === null ? '' : textOf(call(module, 'ngc_explain', [], [fault]).output));
 
@@ -31,40 +34,55 @@ function factsOf(bytes) {
   return { facts, isCut: bytes.length - from > 3 };
 }
 
+// The machine and the tools as the files say, with the zeros of this check.
 function sceneOf(origins) {
-  const shown = call(module, 'ngc_show', inUse(origins).slice(1)), sheet = textOf(shown.output);
-  return { status: shown.status, sheet, scene: shown.status ? null : readSheet(sheet) };
+  const { machine, tools } = files, shown = execute(module, ['show'], { machine, tools }), sheet = textOf(shown.output);
+  if (shown.status) return { status: shown.status, sheet, scene: null };
+  const scene = readSheet(sheet);
+  for (const [system, at] of Object.entries(origins)) scene.origins[system] = at.map(it => it / 1e6);
+  return { status: 0, sheet, scene };
 }
+// The facts of `ngc place` as the interval of each axis, or null where none was found.
+function placeOf(facts) {
+  const of = name => facts.filter(it => it.fact === name), interval = it => (it?.fits ? { from: it.from, to: it.to } : null);
+  const [origin] = of('origin'), [here] = of('here'), along = AXES.map(axis => of('along').find(it => it.axis === axis));
+  return { fitsHere: here?.fits ?? false, at: origin?.at ?? [0, 0, 0], along: along.map(interval), isKnown: along.map(it => it?.moves ?? false), staying: Math.max(0, ...along.map(it => it?.staying ?? 0)) };
+}
+const saved = got => {
+  const output = got.output.slice(), notes = got.notes.slice();
+  return [{ status: got.status, output, notes, text: textOf(notes), isCut: got.isCut }, [output.buffer, notes.buffer]];
+};
 
 // Each job returns its value, and the buffers that are handed over with it.
 const JOBS = {
   // Calls an export with files and options, and returns what it writes. A file is bytes, or the kind of one that is in use.
-  output({ name, given = ['program', 'machine', 'tools'], options = [], origins = {}, factor = 1 }) {
-    const [program, machine, tools] = inUse(origins), known = { program, machine, tools };
-    const got = call(module, name, given.map(it => known[it] ?? it), options, spaceFor(factor));
-    const output = got.output.slice(), notes = got.notes.slice();
-    return [{ status: got.status, output, notes, text: textOf(notes), isCut: got.isCut }, [output.buffer, notes.buffer]];
+  output({ name, given = IN_USE, options = [], factor = 1 }) { return saved(call(module, name, given.map(it => files[it] ?? it), options, spaceFor(factor))); },
+  // Executes a command on the files in use, or on those of `given`, and returns what it writes.
+  command({ words, changes = {}, given = null, factor = 1 }) {
+    return saved(given ? execute(module, withOptions(words, changes), given, spaceFor(factor)) : command(words, changes, { factor }));
   },
   // The pulses of a run need a certificate that is accepted.
-  pulses({ options, origins }) {
-    const made = call(module, 'ngc_certify', inUse(origins), [1], spaceFor(4));
+  pulses({ words, changes }) {
+    const made = command(['certify', '--format=2'], changes, { factor: 4 });
     return made.status ? [{ status: made.status, output: new Uint8Array(0), text: textOf(made.notes), isCut: made.isCut }]
-      : this.output({ name: 'ngc_pulses', given: ['program', 'machine', 'tools', made.output.slice()], options, origins, factor: 8 });
+      : saved(command(words, changes, { others: { certificate: made.output.slice() }, factor: 8 }));
   },
-  report({ origins, all }) {
-    const got = call(module, 'ngc_report', inUse(origins), [all ? 1 : 0, 1]), errors = textOf(got.notes), fault = faultNumber(errors);
+  report({ changes, all }) {
+    const got = command(['report', '--json', ...(all ? ['--all'] : [])], changes), errors = textOf(got.notes), fault = faultNumber(errors);
     const refusedFile = /fault \d+ (machine|tools)/.exec(errors)?.[1] ?? null;
-    const sentence = refusedFile ? textOf(call(module, 'ngc_report', inUse(origins), [0, 0]).output) : '';
+    const sentence = refusedFile ? textOf(command(['report'], changes).output) : '';
     const { facts, isCut } = factsOf(got.output);
-    // A zero that was tried is an origin, though the stand-in's text of the file may have zeros there.
-    const known = facts.filter(it => it.fact !== 'no_origin' || !origins[it.system]);
-    return [{ status: got.status, facts: known, isCut, errors, fault, explanation: explanationOf(fault), refusedFile, sentence }];
+    return [{ status: got.status, facts, isCut, errors, fault, explanation: explanationOf(fault), refusedFile, sentence }];
   },
-  scene({ origins }) { return [sceneOf(origins)]; },
-  path({ origins, blockDelete }) {
-    const { status, scene } = sceneOf(origins);
+  scene({ changes }) { return [sceneOf(changes.origins)]; },
+  sheet() {
+    const { machine, tools } = files;
+    return saved(execute(module, ['show'], { machine, tools }));
+  },
+  path({ changes, blockDelete }) {
+    const { status, scene } = sceneOf(changes.origins);
     if (status) return [{ status, path: null }];
-    const got = call(module, 'ngc_list', inUse(origins), [blockDelete ? 1 : 0], spaceFor(5));
+    const got = command(['list', ...(blockDelete ? ['--delete'] : [])], changes, { factor: 5 });
     if (got.status) return [{ status: got.status, path: null }];
     const path = readListing(got.output, scene);
     return [{ status: 0, path }, buffersOf(path)];
@@ -77,31 +95,21 @@ const JOBS = {
     const found = search(files.program, query);
     return [found, [found.lines.buffer]];
   },
-  place({ origins, system }) {
-    const { status, scene } = sceneOf(origins);
-    if (status) return [{ fitsHere: false, along: [null, null, null], system, tried: 0 }];
-    const at = (origins[system] ?? (scene.origins[system] ?? [0, 0, 0]).map(it => it * 1e6)).map(Math.round);
-    let tried = 0;
-    const fits = shift => {
-      const moved = at.map((it, axis) => it + shift[axis]);
-      tried++;
-      return moved.every(it => Math.abs(it) <= FARTHEST) && call(module, 'ngc_report', inUse({ ...origins, [system]: moved }), [0, 0]).status === 0;
-    };
-    const fitsHere = fits([0, 0, 0]);
-    const along = [0, 1, 2].map(axis => intervalAlong(distance => fits([0, 1, 2].map(it => (it === axis ? distance : 0))), scene.step * 1e6, FARTHEST, fitsHere));
-    return [{ fitsHere, along, system, at, tried }];
+  place({ changes, system }) {
+    const got = command(['place', '--json', `--system=${system.slice(1)}`], changes), fault = faultNumber(textOf(got.notes));
+    return [{ ...placeOf(factsOf(got.output).facts), system, status: got.status, explanation: explanationOf(fault) }];
   },
   // Whether a program that isn't in use fits the machine and the tools in use.
-  async fits({ program }) {
+  async fits({ program, changes }) {
     const bytes = new Uint8Array(await program.arrayBuffer());
-    return [{ fits: call(module, 'ngc_report', [bytes, files.machine, files.tools], [0, 0]).status === 0 }];
+    return [{ fits: command(['report'], changes, { others: { program: bytes } }).status === 0 }];
   },
   explain({ number }) {
     const got = call(module, 'ngc_explain', [], [number]);
     return [{ text: textOf(got.output) || textOf(got.notes) }];
   },
-  certificate({ origins, bytes }) {
-    const got = call(module, 'ngc_check', [...inUse(origins), bytes]), fault = faultNumber(textOf(got.notes));
+  certificate({ changes, bytes }) {
+    const got = command(['check'], changes, { others: { certificate: bytes } }), fault = faultNumber(textOf(got.notes));
     return [{ isAccepted: got.status === 0, fault, explanation: explanationOf(fault) }];
   },
 };
