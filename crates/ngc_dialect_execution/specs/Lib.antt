@@ -1,0 +1,7 @@
+pub mod Faults
+pub mod Executed
+pub mod Taken
+pub mod Views
+pub mod Laws
+pub mod Text
+pub mod Program

@@ -1,0 +1,16 @@
+//! Executes programs for LinuxCNC, Grbl, Mach3 and Fanuc: each line becomes plain lines of our own
+//! language, and our own interpreter executes them.
+#![tactic(auto)]
+
+mod fault;
+mod fold;
+pub mod laws;
+mod lines;
+mod program;
+mod reading;
+mod words;
+
+pub use fault::{Cause, DialectFault, Refusal};
+pub use lines::DialectInterpreter;
+pub use program::interpret_dialect;
+pub use words::WordInterpreter;

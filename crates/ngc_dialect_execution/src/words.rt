@@ -1,0 +1,159 @@
+//! Words of another control, executed.
+ghost use Rattle.std.specs.Prelude.{◌≡◌, pos, IfOk};
+ghost use Rattle.ngc_line_reader.specs.declared.letter.Letter.TheVariants as letters;
+ghost use Rattle.ngc_machine_files.specs.Machine.{file_of};
+ghost use Rattle.ngc_canonical.specs.Interpreter.{setup_of};
+ghost use Rattle.ngc_dialect_execution.specs.Faults.{Says};
+ghost use Rattle.ngc_dialect_execution.specs.Taken as spec;
+ghost use Rattle.ngc_dialect_execution.specs.Views.{between_of};
+
+use crate::fault::{Cause, Refusal};
+use crate::fold::execute_plain;
+use arrayvec::ArrayVec;
+use ngc_canonical::{Command, Interpreter, Machine, Tools, Work};
+use ngc_dialect_parameters::Word;
+use ngc_dialect_reader::Dialect;
+use ngc_dialect_rules::{Front, Known, Plain, PlainLines, plain_lines};
+use ngc_fixed_length::Value;
+use ngc_line_reader::{Letter, Word as PlainWord};
+use std::alloc::{AllocError, Allocator};
+
+/// Executes words of another control, line by line: what the dialect and our own interpreter know
+/// between two lines, and the commands so far.
+#[derive(Drop)]
+pub struct WordInterpreter<A: Allocator> {
+    pub(crate) dialect: Dialect,
+    pub(crate) front: Front,
+    pub(crate) interpreter: Interpreter<A>,
+    plain: PlainLines,
+    work: Work,
+}
+
+// Returns the word M2.
+fn end_word() -> PlainWord
+    ensures { result ≡ record { letter = letters.M; value = pos 2000000 } }
+{
+    let value = match Value::from_millionths(2_000_000) {
+        Ok(value) => value,
+        Err(_) => Value::zero(),
+    };
+    PlainWord {
+        letter: Letter::M,
+        value,
+    }
+}
+
+impl<A: Allocator + Copy> WordInterpreter<A> {
+    /// Returns what is known before the first line.
+    pub fn new(
+        alloc: A,
+        dialect: Dialect,
+        machine: &Machine<A>,
+    ) -> Result<WordInterpreter<A>, AllocError>
+        ensures { IfOk result (λ i. between_of i ≡ spec.start dialect (file_of machine.now)) }
+    {
+        let Ok(interpreter) = Interpreter::new(alloc, machine) else {
+            return Err(AllocError);
+        };
+        Ok(WordInterpreter {
+            dialect,
+            front: Front::start(dialect, machine.home28, machine.home30),
+            interpreter,
+            plain: ArrayVec::new(),
+            work: Work::new(),
+        })
+    }
+
+    /// Returns the dialect.
+    pub fn dialect(&self) -> Dialect
+        ensures { result ≡ (between_of self.now).dialect }
+    {
+        self.dialect
+    }
+
+    /// Returns what the rules know before a line.
+    pub fn known(&self) -> Known
+        ensures { result ≡ spec.known_of (between_of self.now) }
+    {
+        Known {
+            dialect: self.dialect,
+            front: self.front,
+            modes: self.interpreter.modes(),
+            frames: *self.interpreter.frames(),
+            place: self.interpreter.place(),
+        }
+    }
+
+    /// Returns whether the program has ended. After that no plain line is executed.
+    pub fn is_ended(&self) -> bool
+        ensures { result ≡ (between_of self.now).state.ended }
+    {
+        self.interpreter.is_ended()
+    }
+
+    /// Executes the words of a line with this number, as their plain lines. A fault is the first one
+    /// of the rules or of a plain line; nothing is then stated of what is known.
+    #[tactic(auto, unfolding(crate::specs::Taken::words_taken))]
+    pub fn take_words(
+        &mut self,
+        machine: &Machine<A>,
+        tools: &Tools<A>,
+        line: u32,
+        words: &[Word],
+    ) -> Result<(), Refusal>
+        ensures { Says (λ _. between_of self.new) result (spec.words_taken
+            (setup_of machine.now tools.now) line words.now (between_of self.old)) }
+    {
+        let known = self.known();
+        let front = match plain_lines(&known, words, &mut self.plain) {
+            Ok(front) => front,
+            Err(fault) => return Err(Refusal::Because(Cause::Rule(fault))),
+        };
+        match execute_plain(
+            &mut self.interpreter,
+            machine,
+            tools,
+            line,
+            &self.plain,
+            &mut self.work,
+        ) {
+            Ok(()) => {
+                self.front = front;
+                Ok(())
+            }
+            Err(refusal) => Err(refusal),
+        }
+    }
+
+    /// Ends the program after its last line, whose number is `line`, as by M2. A fault is that of too
+    /// many commands; nothing is then stated of what is known.
+    pub fn end_at(
+        &mut self,
+        machine: &Machine<A>,
+        tools: &Tools<A>,
+        line: u32,
+    ) -> Result<(), Refusal>
+        ensures { Says (λ _. between_of self.new) result (spec.ended_at
+            (setup_of machine.now tools.now) line (between_of self.old)) }
+    {
+        self.plain.clear();
+        self.plain.push(Plain::Word(end_word()));
+        self.plain.push(Plain::End);
+        execute_plain(
+            &mut self.interpreter,
+            machine,
+            tools,
+            line,
+            &self.plain,
+            &mut self.work,
+        )
+    }
+
+    /// Returns the commands that were executed so far.
+    pub fn into_commands(self) -> Vec<Command, A>
+        ensures { result.items ≡ (between_of self).state.commands }
+    {
+        let WordInterpreter { interpreter, .. } = self;
+        interpreter.into_commands()
+    }
+}

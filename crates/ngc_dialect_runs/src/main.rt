@@ -1,0 +1,141 @@
+//! Executes programs of other controls, and compares their commands with those of their plain lines
+//! in our own language. Each line of standard input is a dialect, a colon, a program, ` = ` and its
+//! plain lines; lines are separated by ` | `. The word `mill` after the dialect's name selects a
+//! machine with an origin and a home; without it both are 0. It prints the number of commands, or
+//! the first that differs, or the first fault with its line.
+#![tactic(auto)]
+
+mod setting;
+
+use ngc_canonical::{Action, Command, Machine, Tools, interpret};
+use ngc_dialect_execution::{Cause, DialectFault, interpret_dialect};
+use ngc_dialect_reader::Dialect;
+use ngc_line_reader::Program;
+use ngc_text::Device;
+use setting::{machine_of, tools_of};
+use std::alloc::{AllocError, Global};
+use std::io;
+
+fn dialect_named(name: &str) -> Option<Dialect> {
+    match name.as_bytes() {
+        b"linuxcnc" => Some(Dialect::LinuxCnc),
+        b"grbl" => Some(Dialect::Grbl),
+        b"mach3" => Some(Dialect::Mach3),
+        b"fanuc" => Some(Dialect::Fanuc),
+        _ => None,
+    }
+}
+
+// Puts each line of a program on a line of its own.
+fn text_of(alloc: Global, program: &str) -> Result<String, AllocError> {
+    let mut text = String::new(alloc);
+    for line in program.split(" | ") {
+        text.push_str(line)?;
+        text.push_str("\n")?;
+    }
+    Ok(text)
+}
+
+fn first_difference(found: &[Command], plain: &[Command]) -> Option<usize> {
+    for index in 0..found.len() {
+        match (found.get(index), plain.get(index)) {
+            (Some(command), Some(other)) => {
+                if command.action != other.action {
+                    return Some(index);
+                }
+            }
+            _ => return Some(index),
+        }
+    }
+    if found.len() < plain.len() {
+        Some(found.len())
+    } else {
+        None
+    }
+}
+
+fn print_fault(rt: &impl Print, fault: &DialectFault) -> io::Result<()> {
+    let number = fault.number();
+    match fault {
+        DialectFault::At { line, cause } => match cause {
+            Cause::Reading(fault) => { println!(rt; "fault {number} line {line}: {fault}") }
+            Cause::Value(cause) => println!(rt; "fault {number} line {line}: {cause}"),
+            Cause::Rule(fault) => {
+                let cause = fault.cause;
+                println!(rt; "fault {number} line {line}: {cause}")
+            }
+            Cause::Plain(fault) => println!(rt; "fault {number} line {line}: {fault}"),
+            Cause::Flow => println!(rt; "fault {number} line {line}: flow"),
+            Cause::TooManyNames => println!(rt; "fault {number} line {line}: names"),
+        },
+        DialectFault::Memory => println!(rt; "no memory"),
+    }
+}
+
+fn commands_of(
+    alloc: Global,
+    text: &str,
+    machine: &Machine<Global>,
+    tools: &Tools<Global>,
+) -> Option<Vec<Command>> {
+    let program = Program::read(alloc, &mut Device::new(text.as_bytes())).ok()?;
+    interpret(alloc, &program, machine, tools, false).ok()
+}
+
+fn print_program(
+    rt: &impl Print,
+    alloc: Global,
+    dialect: Dialect,
+    on_mill: bool,
+    program: &str,
+    plain: &str,
+) -> io::Result<()> {
+    let (Some(machine), Some(tools)) = (machine_of(alloc, on_mill), tools_of(alloc)) else {
+        return println!(rt; "no machine");
+    };
+    let (Ok(text), Ok(plain)) = (text_of(alloc, program), text_of(alloc, plain)) else {
+        return println!(rt; "no memory");
+    };
+    let found = match interpret_dialect(
+        alloc,
+        dialect,
+        text.as_str().as_bytes(),
+        &machine,
+        &tools,
+        false,
+    ) {
+        Ok(commands) => commands,
+        Err(fault) => return print_fault(rt, &fault),
+    };
+    let Some(expected) = commands_of(alloc, plain.as_str(), &machine, &tools) else {
+        return println!(rt; "the plain lines are refused");
+    };
+    let count = found.len();
+    match first_difference(found.as_slice(), expected.as_slice()) {
+        None => println!(rt; "{count} commands"),
+        Some(index) => println!(rt; "command {index} of {count} differs"),
+    }
+}
+
+fn main(rt: HostRuntime) -> io::Result<()> {
+    for line in rt.lines(rt.alloc()) {
+        let line = line?;
+        let Some((front, rest)) = line.as_str().split_once(": ") else {
+            println!(rt; "no dialect")?;
+            continue;
+        };
+        let (program, plain) = match rest.split_once(" = ") {
+            Some((program, plain)) => (program, plain),
+            None => (rest, "M2"),
+        };
+        let (name, on_mill) = match front.split_once(" ") {
+            Some((name, _)) => (name, true),
+            None => (front, false),
+        };
+        match dialect_named(name) {
+            Some(dialect) => print_program(&rt, rt.alloc(), dialect, on_mill, program, plain)?,
+            None => println!(rt; "no dialect")?,
+        }
+    }
+    Ok(())
+}
