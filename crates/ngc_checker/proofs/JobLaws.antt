@@ -15,15 +15,12 @@ use Rattle.ngc_certificate.specs.Planned.{planned}
 use Rattle.ngc_job.specs.Job.{JobData, IsJobOf, IsRefusedAt, commands_in}
 use Rattle.ngc_checker.specs.declared.fault.CheckFault.{CheckFault}
 use Rattle.ngc_checker.specs.Accepted.{AcceptedData, Answers, IsFirst, Keeps}
-use Rattle.ngc_checker.specs.FirstRefusal.{first_refusal, settings_fault}
+use Rattle.ngc_checker.specs.FirstRefusal.{first_refusal, job_refusal, settings_fault}
 use Rattle.ngc_checker.specs.Held.{accepted_of, program_fault}
 use Rattle.ngc_checker.proofs.AnswerLaw.{first_is}
 
-abbrev pub job_fault : JobData → CertificateData → Option CheckFault
-job_fault j c = settings_fault j.machine (Ok j.off) (Ok (commands_in true j)) c
-
 pub first_of_job : (program : Program) (setup : Setup) (j : JobData) (c : CertificateData) → IsJobOf program setup j →
-    first_refusal program setup c ≡ job_fault j c
+    first_refusal program setup c ≡ job_refusal j c
 first_of_job program setup j c h =
     ap₂ (λ (off on : Result (List Command) ProgramFault). settings_fault setup.machine off on c) h.off h.on
     ∙ ap (λ (m : MachineFile). settings_fault m (Ok j.off) (Ok (commands_in true j)) c) (sym h.machine)
@@ -33,7 +30,7 @@ keeps_job program setup j h = record { machine = h.machine; tools = h.tools; off
 
 pub job_answered : (program : Program) (setup : Setup) (j : JobData) (c : CertificateData) (answer : Result AcceptedData CheckFault) →
     IsJobOf program setup j
-    → MatchResult answer (λ a. (job_fault j c ≡ None) × (a ≡ accepted_of j)) (λ fault. job_fault j c ≡ Some fault)
+    → MatchResult answer (λ a. (job_refusal j c ≡ None) × (a ≡ accepted_of j)) (λ fault. job_refusal j c ≡ Some fault)
     → Answers (λ a. a) program setup c answer
 job_answered program setup j c (Ok a) h said =
     (first_of_job program setup j c h ∙ said.0, subst (λ (x : AcceptedData). Keeps program setup x) (sym said.1) (keeps_job program setup j h))

@@ -15,7 +15,8 @@ use Rattle.ngc_checker.specs.declared.check_reader.CheckReader.{CheckReader}
 use Rattle.ngc_checker.specs.declared.fault.CheckFault.{CheckFault}
 use Rattle.ngc_checker.specs.Accepted.{AcceptedData, Answers, Keeps}
 use Rattle.ngc_checker.specs.Checked.{judged, accepted_by}
-use Rattle.ngc_checker.specs.FirstRefusal.{first_refusal}
+use Rattle.ngc_checker.specs.FirstRefusal.{first_refusal, job_refusal}
+use Rattle.ngc_job.specs.Job.{JobData}
 
 -- the result of a text: its fault, or else the first refusal of its certificate, or none
 abbrev pub Verdict : Type 0
@@ -23,6 +24,10 @@ Verdict = Result (Option CheckFault) CertificateFault
 
 abbrev pub text_verdict : Program → Setup → List ℕ → Verdict
 text_verdict program setup text = made_with (first_refusal program setup) (parsed_certificate text)
+
+-- the same of a certificate for a job
+abbrev pub job_verdict : JobData → List ℕ → Verdict
+job_verdict j text = made_with (job_refusal j) (parsed_certificate text)
 
 -- its result if these bytes follow those read so far, and no more
 abbrev pub outcome_in : {A : Type 0} → CheckReader A → List ℕ → Verdict

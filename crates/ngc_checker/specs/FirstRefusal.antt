@@ -21,6 +21,7 @@ use Rattle.ngc_certificate.specs.declared.fault.PieceRefusal.{PieceRefusal}
 use Rattle.ngc_certificate.specs.Chain.{are_several}
 use Rattle.ngc_certificate.specs.PieceFault.{pieces_fault, place_fault, ◌or◌}
 use Rattle.ngc_certificate.specs.Traverses.{takes_any_way}
+use Rattle.ngc_job.specs.Job.{JobData, commands_in}
 use Rattle.ngc_checker.specs.declared.fault.CheckFault.{CheckFault}
 use Rattle.ngc_checker.specs.declared.fault.CheckFault.TheVariants as faults
 
@@ -82,3 +83,7 @@ settings_fault machine (Ok off) (Ok on) c =
 abbrev pub first_refusal : Program → Setup → CertificateData → Option CheckFault
 first_refusal program setup c =
     settings_fault setup.machine (meaning program setup false) (meaning program setup true) c
+
+-- the same of a certificate for a job, whose program isn't refused
+abbrev pub job_refusal : JobData → CertificateData → Option CheckFault
+job_refusal j c = settings_fault j.machine (Ok j.off) (Ok (commands_in true j)) c

@@ -13,7 +13,8 @@ use std::marker::Model;
 
 /// A program that was accepted on a machine with its tools: its commands at both settings of block
 /// delete, and its own copies of machine and tools. There is a certificate that is valid for them.
-/// Only `check`, `check_job`, `check_plans`, `check_source` and `CheckReader` make one.
+/// Only `check`, `check_job`, `check_plans`, `check_source`, `check_job_source` and `CheckReader` make
+/// one.
 #[derive(Drop)]
 pub struct Accepted<A: Allocator> {
     job: Job<A>,

@@ -86,7 +86,9 @@ fn judge_of<A: Allocator + Copy>(
 impl<A: Allocator> CheckReader<A> {
     ghost use Rattle.ngc_certificate_text.specs.Parted.{firm};
     ghost use Rattle.ngc_certificate_text.specs.Reader.{AnswerIs, FaultIs};
-    ghost use Rattle.ngc_checker.specs.CheckView.{text_verdict, outcome_in, firm_in, refusal_in};
+    ghost use Rattle.ngc_checker.specs.CheckView.{text_verdict, job_verdict, outcome_in, firm_in};
+    ghost use Rattle.ngc_checker.specs.CheckView.{refusal_in};
+    ghost use Rattle.ngc_checker.specs.Held.{accepted_of};
     ghost use Rattle.ngc_checker.specs.CheckView.{accepted_in, room_in, VerdictResultIs};
 
     /// Returns a reader that has received no bytes. It executes the program at both settings of
@@ -123,6 +125,24 @@ impl<A: Allocator> CheckReader<A> {
                 refusal: None,
             }),
             Err(_) => Err(MemoryFault),
+        }
+    }
+
+    /// Returns a reader for the certificate of a job that has received no bytes. It allocates no
+    /// memory.
+    pub fn for_job(job: Job<A>) -> CheckReader<A>
+        ensures text { (bytes : List ℕ) → job_verdict job bytes ≡ outcome_in result bytes }
+        ensures firm { (bytes rest : List ℕ) →
+            job_verdict job (firm bytes ++ rest) ≡ firm_in result bytes rest }
+        ensures keeps { accepted_in result ≡ Some (accepted_of job) }
+        ensures going { refusal_in result ≡ None }
+    {
+        CheckReader {
+            text: JudgedLines {
+                lines: CertificateLines::new(),
+                judge: Ok(Judge::new(job)),
+            },
+            refusal: None,
         }
     }
 

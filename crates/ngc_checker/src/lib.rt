@@ -20,5 +20,5 @@ pub use check_reader::CheckReader;
 pub use checker::{check, check_job, check_plans};
 pub use fault::CheckFault;
 pub use ngc_certificate::MemoryFault;
-pub use read::check_source;
+pub use read::{check_job_source, check_source};
 pub use setting::setting_fault;

@@ -1,6 +1,6 @@
 -- The ticks up to the end of a motion, at once. Our own.
 use Rattle.std.specs.Prelude.{◌≡◌, ℕ, suc, List, [], ◌∷◌, length, drop, replicate, Some, Ok, Bool}
-use Rattle.std.specs.Prelude.{true}
+use Rattle.std.specs.Prelude.{true, false}
 use Rattle.std.specs.List.{AllByRecursion}
 use Rattle.ngc_planner.specs.Ramp.{RampState, TicksTo}
 use Rattle.ngc_planner.specs.Stretches.{Ticks}
@@ -10,9 +10,11 @@ use Rattle.ngc_events.specs.declared.reply.Ending.TheVariants.{Done}
 use Rattle.ngc_events.specs.declared.reply.Reply.TheVariants.{Ticked}
 use Rattle.ngc_machine_model.specs.State.{Job, Queued, State}
 use Rattle.ngc_machine_model.specs.Step.{Outcome, Step, MayTake}
-use Rattle.ngc_machine_model.specs.Progress.{GoesOn}
+use Rattle.ngc_machine_model.specs.Progress.{GoesOn, is_free}
 use Rattle.ngc_machine_model.specs.Run.{positions}
 use Rattle.ngc_machine_model.specs.Stretch.{Stretch}
+use Rattle.ngc_controller.specs.Drive.{is_head_by_place}
+use Rattle.ngc_controller.specs.Ring.{IsMoving}
 
 -- ---- of a ramp
 
@@ -37,6 +39,13 @@ pub record EndsLeg (n : ℕ) (old : RampState) (wish : ℕ) (new : RampState) : 
 abbrev pub TakePaths : Job → List Queued → Type 0
 TakePaths job ring =
     AllByRecursion (λ (l : Queued). MayTake job l.command.action l.path) ring
+
+-- the machine is free to travel, and the head is a motion with path steps whose target is the same at
+-- each of its places
+pub record MayFinish (job : Job) (s : State) : Type 0 where
+  pub free : is_free s ≡ true
+  pub moves : IsMoving s.ring
+  pub steady : is_head_by_place job.machine s.ring ≡ false
 
 -- nothing but the distance, the rate and the position has changed
 abbrev pub StaysOnHead : State → State → Type 0

@@ -1,5 +1,5 @@
 ghost use Rattle.std.specs.Prelude.{◌≡◌, ◌≤◌, ◌++◌, ◌∷◌, [], replicate, true, false, None, Ok};
-ghost use Rattle.std.specs.Prelude.{IfOk, IfErr, IfSome, OnErr};
+ghost use Rattle.std.specs.Prelude.{IfOk, IfErr, IfSome, IsSome, OnErr, ◌↔◌};
 ghost use Rattle.circular_buffer.specs.Buffer.{keep_last};
 ghost use Rattle.ngc_machine_model.specs.Headline.{job_of};
 ghost use Rattle.ngc_machine_model.specs.Progress.{GoesOn, TravelsAtLeast, is_free};
@@ -12,7 +12,7 @@ ghost use Rattle.ngc_events.specs.declared.reply.Reply.TheVariants.{Ticked};
 ghost use Rattle.ngc_controller.specs.Coasting.{coasted, CoastsFor};
 ghost use Rattle.ngc_controller.specs.Controller.{KEPT, from_the_last};
 ghost use Rattle.ngc_controller.specs.Drive.{is_head_by_place};
-ghost use Rattle.ngc_controller.specs.Finishing.{FinishesMotion, TakePaths};
+ghost use Rattle.ngc_controller.specs.Finishing.{FinishesMotion, MayFinish, TakePaths};
 ghost use Rattle.ngc_controller.specs.Fields.{DWELL_LIMIT, TravelsOn, IsServed};
 ghost use Rattle.ngc_controller.specs.Loaded.{AreShort, LoadsShort};
 ghost use Rattle.ngc_controller.specs.Ring.{IsMoving};
@@ -155,9 +155,9 @@ impl<K: ArcKernel + Drop, A: Allocator + Copy> Controller<K, A> {
 
     /// Makes the ticks up to the end of the motion at the head, at once, and reports only their number
     /// and that of their pulses. They are ticks of [`Controller::event`], but not among the latest
-    /// replies. It makes none and returns `None` if the head is no motion with path steps, if its
-    /// target depends on the place, if the machine is held or stopped, or if the override is 0. It
-    /// allocates no memory.
+    /// replies. It makes none and returns `None` exactly if the head is no motion with path steps, if
+    /// its target depends on the place, if the machine is held or stopped, or if the override is 0.
+    /// It allocates no memory.
     pub fn finish_motion(&mut self) -> Option<Passed>
         requires { TakePaths self.old.job self.old.state.ring }
         ensures job { self.new.job ≡ self.old.job }
@@ -165,6 +165,7 @@ impl<K: ArcKernel + Drop, A: Allocator + Copy> Controller<K, A> {
         ensures recent { self.new.recent ≡ self.old.recent }
         ensures finishes { IfSome result
             (λ p. FinishesMotion p.ticks p.path_steps self.old.job self.old.state self.new.state) }
+        ensures made { IsSome result ↔ MayFinish self.old.job self.old.state }
         ensures stays { result ≡ None → self.new ≡ self.old }
     {
         if !self.is_free() {

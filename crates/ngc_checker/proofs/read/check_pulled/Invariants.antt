@@ -2,7 +2,7 @@
 use Rattle.std.proofs.Common.{◌≡◌}
 use Rattle.ngc_checker.specs.CheckView.{accepted_in, outcome_in, room_in}
 use Rattle.ngc_checker.proofs.SourceLaws.{Goes}
-use Rattle.ngc_checker.proofs.read.check_source.Given as goal
+use Rattle.ngc_checker.proofs.read.check_pulled.Given as goal
 
 abbrev pub invariant-loop-count : goal.invariant-loop-count
 invariant-loop-count g l = record {
