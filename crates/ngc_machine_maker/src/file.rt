@@ -1,7 +1,8 @@
 //! The text of a machine file.
-ghost use Rattle.std.specs.Prelude.{◌≡◌, ◌+◌, ◌≤◌, ◌++◌, codes, length, OnOk, OnErr};
+ghost use Rattle.std.specs.Prelude.{◌≡◌, ◌++◌, codes, OnOk, OnErr};
 ghost use Rattle.std.specs.Io.KnownBytes.{Appends};
-ghost use Rattle.ngc_text.specs.Collected.{CHUNK_SIZE};
+ghost use Rattle.ngc_sentences.specs.Parts.{parts_text};
+ghost use Rattle.ngc_sentences.specs.Saying.{Says};
 ghost use Rattle.ngc_text.specs.Failures.{CountsFailure};
 ghost use Rattle.ngc_text.specs.Millimetres.{size_text};
 ghost use Rattle.ngc_text.specs.Written.{AppendsPrefix};
@@ -13,183 +14,202 @@ ghost use Rattle.ngc_machine_maker.specs.File.{corner_comment, jump_comment, rin
 ghost use Rattle.ngc_machine_maker.specs.File.{arcs_remark, file_text, notes_text};
 ghost use Rattle.ngc_machine_maker.specs.InFile.{AreInFile};
 ghost use Rattle.ngc_machine_maker.specs.Ranges.{IsScale};
-ghost use Rattle.ngc_machine_maker.specs.Texts.{axes_text};
+ghost use Rattle.ngc_machine_maker.specs.Texts.{axes_text, line_text};
+ghost use Rattle.ngc_machine_maker.specs.declared.line.Value.TheVariants as values;
+ghost use Rattle.ngc_machine_maker.specs.declared.line.Remark.TheVariants as remarks;
 
 use crate::figures::{Figures, PerAxis};
-use crate::line::{Remark, Value, add_line, add_thousandths};
+use crate::line::{Remark, Value, say_line};
 use crate::numbers::MachineNumbers;
 use crate::shop_units::{
     acceleration, arc_acceleration, errors, is_short, is_whole, motor_step, speed, speeds,
 };
-use ngc_text::{Chunk, Sink, WriteFault};
+use ngc_sentences::{Page, Part, say};
+use ngc_text::{Sink, WriteFault};
 
-fn add_steps(chunk: &mut Chunk, numbers: &MachineNumbers, figures: &Figures)
-    requires room { length chunk.old + 200 ≤ CHUNK_SIZE }
-    requires scale { IsScale (scale_in numbers.now figures.now) }
-    ensures text { chunk.new ≡ chunk.old ++ steps_text numbers.now figures.now }
-    ensures short { length chunk.new ≤ length chunk.old + 200 }
+#[tactic(auto, unfolding(crate::specs::File::steps_text))]
+fn steps(numbers: &MachineNumbers, figures: &Figures) -> [Part<'static>; 5]
+    requires { IsScale (scale_in numbers.now figures.now) }
+    ensures { parts_text result ≡ steps_text numbers.now figures.now }
 {
-    chunk.add_text(b"the motors' step is ");
-    add_thousandths(chunk, motor_step(figures));
-    chunk.add_text(b" nm, and the file's ");
-    chunk.add_number(numbers.step);
-    chunk.add_text(b" nm");
+    [
+        Part::Text(b"the motors' step is "),
+        Part::Thousandths(motor_step(figures)),
+        Part::Text(b" nm, and the file's "),
+        Part::Number(u128::from(numbers.step)),
+        Part::Text(b" nm"),
+    ]
 }
 
-fn add_sizes(chunk: &mut Chunk, sizes: &PerAxis<u128>)
-    requires { length chunk.old + 170 ≤ CHUNK_SIZE }
-    ensures text { chunk.new ≡ chunk.old
-        ++ axes_text (size_text sizes.now.x) (size_text sizes.now.y) (size_text sizes.now.z) }
-    ensures short { length chunk.new ≤ length chunk.old + 170 }
+fn sizes(sizes: &PerAxis<u128>) -> [Part<'static>; 6]
+    ensures { parts_text result
+        ≡ axes_text (size_text sizes.now.x) (size_text sizes.now.y) (size_text sizes.now.z) }
 {
-    chunk.add_text(b"X ");
-    chunk.add_size(sizes.x);
-    chunk.add_text(b", Y ");
-    chunk.add_size(sizes.y);
-    chunk.add_text(b", Z ");
-    chunk.add_size(sizes.z);
+    [
+        Part::Text(b"X "),
+        Part::Size(sizes.x),
+        Part::Text(b", Y "),
+        Part::Size(sizes.y),
+        Part::Text(b", Z "),
+        Part::Size(sizes.z),
+    ]
 }
 
 #[tactic(auto, unfolding(crate::specs::File::errors_text))]
-fn add_errors(chunk: &mut Chunk, numbers: &MachineNumbers, figures: &Figures)
-    requires room { length chunk.old + 170 ≤ CHUNK_SIZE }
+fn say_errors<W: Sink>(numbers: &MachineNumbers, figures: &Figures, page: &mut Page, output: &mut W)
     requires numbers { AreInFile numbers.now }
     requires scale { IsScale (scale_in numbers.now figures.now) }
-    ensures text { chunk.new ≡ chunk.old ++ errors_text numbers.now figures.now }
-    ensures short { length chunk.new ≤ length chunk.old + 170 }
+    ensures { Says (W.written output.old) (W.written output.new)
+        (W.failures output.old) (W.failures output.new) page.old page.new
+        (errors_text numbers.now figures.now) }
 {
-    add_sizes(chunk, &errors(numbers, figures));
+    page.say(output, &sizes(&errors(numbers, figures)));
 }
 
 fn direction(short: bool) -> &'static [u8]
-    ensures text { result.now ≡ direction_text short }
-    ensures length { length result.now ≤ 10 }
+    ensures { result.now ≡ direction_text short }
 {
     if short { b"less far" } else { b"farther" }
 }
 
-// Adds how far the axes go if the motor's step is no whole number of nanometres.
+// Says how far the axes go if the motor's step is no whole number of nanometres.
 #[tactic(auto, unfolding(crate::specs::File::scale_text))]
-fn add_scale(chunk: &mut Chunk, numbers: &MachineNumbers, figures: &Figures)
-    requires room { length chunk.old + 500 ≤ CHUNK_SIZE }
+fn say_scale<W: Sink>(numbers: &MachineNumbers, figures: &Figures, page: &mut Page, output: &mut W)
     requires numbers { AreInFile numbers.now }
     requires scale { IsScale (scale_in numbers.now figures.now) }
-    ensures text { chunk.new ≡ chunk.old ++ scale_text numbers.now figures.now }
-    ensures short { length chunk.new ≤ length chunk.old + 500 }
+    ensures { Says (W.written output.old) (W.written output.new)
+        (W.failures output.old) (W.failures output.new) page.old page.new
+        (scale_text numbers.now figures.now) }
 {
-    add_steps(chunk, numbers, figures);
-    chunk.add_text(b": over their travel the axes go ");
-    add_errors(chunk, numbers, figures);
-    chunk.add_text(b" mm ");
-    chunk.add_text(direction(is_short(numbers, figures)));
-    chunk.add_text(b" than the file says\n");
+    page.say(output, &steps(numbers, figures));
+    say!(page, output; b": over their travel the axes go ");
+    say_errors(numbers, figures, page, output);
+    say!(page, output; b" mm ");
+    say!(page, output; Part::Text(direction(is_short(numbers, figures))));
+    say!(page, output; b" than the file says\n");
 }
 
-// Adds a remark or a note, after its first word, on how far the axes go, if there is anything to
-// say.
-#[tactic(auto, unfolding(crate::specs::File::scale_after))]
-fn add_scale_after(chunk: &mut Chunk, before: &[u8], numbers: &MachineNumbers, figures: &Figures)
-    requires room { length chunk.old + 510 ≤ CHUNK_SIZE }
-    requires before { length before.now ≤ 10 }
+fn say_some_scale<W: Sink>(
+    before: &[u8],
+    numbers: &MachineNumbers,
+    figures: &Figures,
+    page: &mut Page,
+    output: &mut W,
+)
     requires numbers { AreInFile numbers.now }
     requires scale { IsScale (scale_in numbers.now figures.now) }
-    ensures text { chunk.new ≡ chunk.old ++ scale_after before.now numbers.now figures.now }
-    ensures short { length chunk.new ≤ length chunk.old + 510 }
+    ensures { Says (W.written output.old) (W.written output.new)
+        (W.failures output.old) (W.failures output.new) page.old page.new
+        (before.now ++ scale_text numbers.now figures.now) }
 {
-    if is_whole(numbers, figures) {
-        return;
+    say!(page, output; Part::Text(before));
+    say_scale(numbers, figures, page, output);
+}
+
+// Says a remark or a note, after its first word, on how far the axes go, if there is anything to
+// say.
+#[tactic(auto, unfolding(crate::specs::File::scale_after))]
+fn say_scale_after<W: Sink>(
+    before: &[u8],
+    numbers: &MachineNumbers,
+    figures: &Figures,
+    page: &mut Page,
+    output: &mut W,
+)
+    requires numbers { AreInFile numbers.now }
+    requires scale { IsScale (scale_in numbers.now figures.now) }
+    ensures { Says (W.written output.old) (W.written output.new)
+        (W.failures output.old) (W.failures output.new) page.old page.new
+        (scale_after before.now numbers.now figures.now) }
+{
+    if !is_whole(numbers, figures) {
+        say_some_scale(before, numbers, figures, page, output);
     }
-    chunk.add_text(before);
-    add_scale(chunk, numbers, figures);
 }
 
 #[tactic(auto, unfolding(crate::specs::File::heading))]
-fn add_heading(chunk: &mut Chunk)
-    requires { length chunk.old + 400 ≤ CHUNK_SIZE }
-    ensures text { chunk.new ≡ chunk.old ++ heading }
-    ensures short { length chunk.new ≤ length chunk.old + 400 }
+fn say_heading<W: Sink>(page: &mut Page, output: &mut W)
+    ensures { Says (W.written output.old) (W.written output.new)
+        (W.failures output.old) (W.failures output.new) page.old page.new
+        (heading) }
 {
-    chunk.add_text(
-        b"# Made by `ngc machine`. Lengths are nanometres, rates are millionths of a step in a\n",
-    );
-    chunk.add_text(b"# tick, three numbers are X, Y, Z, and remarks are in the units of a shop.\n");
+    say!(page, output; b"# Made by `ngc machine`. Lengths are nanometres, rates are millionths of a step in a\n", b"# tick, three numbers are X, Y, Z, and remarks are in the units of a shop.\n");
 }
 
 #[tactic(auto, unfolding(crate::specs::File::step_lines))]
-fn add_step_lines(chunk: &mut Chunk, numbers: &MachineNumbers)
-    requires { length chunk.old + 700 ≤ CHUNK_SIZE }
-    ensures text { chunk.new ≡ chunk.old ++ step_lines numbers.now }
-    ensures short { length chunk.new ≤ length chunk.old + 700 }
+fn say_step_lines<W: Sink>(numbers: &MachineNumbers, page: &mut Page, output: &mut W)
+    ensures { Says (W.written output.old) (W.written output.new)
+        (W.failures output.old) (W.failures output.new) page.old page.new
+        (step_lines numbers.now) }
 {
     let step = Value::Number(u64::from(numbers.step));
     let ticks = Value::Number(u64::from(numbers.ticks_per_second));
-    chunk.add_text(b"\nversion = 2\n");
-    add_line(chunk, b"step", step, Remark::Step(numbers.step));
-    add_line(chunk, b"ticks_per_second", ticks, Remark::Ticks);
+    say!(page, output; b"\nversion = 2\n");
+    say_line(b"step", step, Remark::Step(numbers.step), page, output);
+    say_line(b"ticks_per_second", ticks, Remark::Ticks, page, output);
 }
 
-// Adds the line of a key that is a rate.
-fn add_rate(chunk: &mut Chunk, key: &[u8], numbers: &MachineNumbers, rate: u32)
-    requires room { length chunk.old + 330 ≤ CHUNK_SIZE }
-    requires key { length key.now ≤ 20 }
-    requires numbers { AreInFile numbers.now }
-    ensures text { chunk.new ≡ chunk.old ++ rate_line key.now numbers.now rate }
-    ensures short { length chunk.new ≤ length chunk.old + 330 }
+// Says the line of a key that is a rate.
+fn say_rate<W: Sink>(
+    key: &[u8],
+    numbers: &MachineNumbers,
+    rate: u32,
+    page: &mut Page,
+    output: &mut W,
+)
+    requires { AreInFile numbers.now }
+    ensures { Says (W.written output.old) (W.written output.new)
+        (W.failures output.old) (W.failures output.new) page.old page.new
+        (rate_line key.now numbers.now rate) }
 {
     let value = Value::Number(u64::from(rate));
-    add_line(chunk, key, value, Remark::Speed(speed(numbers, rate)));
+    let remark = Remark::Speed(speed(numbers, rate));
+    say_line(key, value, remark, page, output);
 }
 
 #[tactic(auto, unfolding(crate::specs::File::speed_lines))]
-fn add_speed_lines(chunk: &mut Chunk, numbers: &MachineNumbers)
-    requires room { length chunk.old + 700 ≤ CHUNK_SIZE }
-    requires numbers { AreInFile numbers.now }
-    ensures text { chunk.new ≡ chunk.old ++ speed_lines numbers.now }
-    ensures short { length chunk.new ≤ length chunk.old + 700 }
+fn say_speed_lines<W: Sink>(numbers: &MachineNumbers, page: &mut Page, output: &mut W)
+    requires { AreInFile numbers.now }
+    ensures { Says (W.written output.old) (W.written output.new)
+        (W.failures output.old) (W.failures output.new) page.old page.new
+        (speed_lines numbers.now) }
 {
+    say_rate(b"max_rate", numbers, numbers.max_rate, page, output);
     let rates = Value::Rates(numbers.axis_rate);
-    add_rate(chunk, b"max_rate", numbers, numbers.max_rate);
-    add_line(chunk, b"axis_rate", rates, Remark::Speeds(speeds(numbers)));
+    let remark = Remark::Speeds(speeds(numbers));
+    say_line(b"axis_rate", rates, remark, page, output);
 }
 
 #[tactic(auto, unfolding(crate::specs::File::corner_comment))]
-fn add_corner_comment(chunk: &mut Chunk)
-    requires { length chunk.old + 200 ≤ CHUNK_SIZE }
-    ensures text { chunk.new ≡ chunk.old ++ corner_comment }
-    ensures short { length chunk.new ≤ length chunk.old + 200 }
+fn say_corner_comment<W: Sink>(page: &mut Page, output: &mut W)
+    ensures { Says (W.written output.old) (W.written output.new)
+        (W.failures output.old) (W.failures output.new) page.old page.new
+        (corner_comment) }
 {
-    chunk.add_text(
-        b"# `corner`: motions may meet at this speed at any angle. By default it is what the axis\n",
-    );
-    chunk.add_text(b"# with the least acceleration reaches in 5 ms, and at least 2 mm/s.\n");
+    say!(page, output; b"# `corner`: motions may meet at this speed at any angle. By default it is what the axis\n", b"# with the least acceleration reaches in 5 ms, and at least 2 mm/s.\n");
 }
 
 #[tactic(auto, unfolding(crate::specs::File::jump_comment))]
-fn add_jump_comment(chunk: &mut Chunk)
-    requires { length chunk.old + 200 ≤ CHUNK_SIZE }
-    ensures text { chunk.new ≡ chunk.old ++ jump_comment }
-    ensures short { length chunk.new ≤ length chunk.old + 200 }
+fn say_jump_comment<W: Sink>(page: &mut Page, output: &mut W)
+    ensures { Says (W.written output.old) (W.written output.new)
+        (W.failures output.old) (W.failures output.new) page.old page.new
+        (jump_comment) }
 {
-    chunk.add_text(
-        b"# `jump`: an axis may gain or lose this speed at once where motions meet. At the machine\n",
-    );
-    chunk.add_text(
-        b"# start with half of it, raise it until you hear lost steps, and keep two thirds.\n",
-    );
+    say!(page, output; b"# `jump`: an axis may gain or lose this speed at once where motions meet. At the machine\n", b"# start with half of it, raise it until you hear lost steps, and keep two thirds.\n");
 }
 
-// Adds the keys of the speeds at which two motions may meet.
+// Says the keys of the speeds at which two motions may meet.
 #[tactic(auto, unfolding(crate::specs::File::joint_lines))]
-fn add_joint_lines(chunk: &mut Chunk, numbers: &MachineNumbers)
-    requires room { length chunk.old + 1100 ≤ CHUNK_SIZE }
-    requires numbers { AreInFile numbers.now }
-    ensures text { chunk.new ≡ chunk.old ++ joint_lines numbers.now }
-    ensures short { length chunk.new ≤ length chunk.old + 1100 }
+fn say_joint_lines<W: Sink>(numbers: &MachineNumbers, page: &mut Page, output: &mut W)
+    requires { AreInFile numbers.now }
+    ensures { Says (W.written output.old) (W.written output.new)
+        (W.failures output.old) (W.failures output.new) page.old page.new
+        (joint_lines numbers.now) }
 {
-    add_corner_comment(chunk);
-    add_rate(chunk, b"corner", numbers, numbers.corner);
-    add_jump_comment(chunk);
-    add_rate(chunk, b"jump", numbers, numbers.jump);
+    say_corner_comment(page, output);
+    say_rate(b"corner", numbers, numbers.corner, page, output);
+    say_jump_comment(page, output);
+    say_rate(b"jump", numbers, numbers.jump, page, output);
 }
 
 // Returns the remark on the acceleration towards the centre of arcs.
@@ -204,97 +224,94 @@ fn arcs_remark(by_place: bool, acceleration: u128) -> Remark
 }
 
 #[tactic(auto, unfolding(crate::specs::File::acceleration_lines))]
-fn add_acceleration_lines(chunk: &mut Chunk, numbers: &MachineNumbers)
-    requires room { length chunk.old + 700 ≤ CHUNK_SIZE }
-    requires numbers { AreInFile numbers.now }
-    ensures text { chunk.new ≡ chunk.old ++ acceleration_lines numbers.now }
-    ensures short { length chunk.new ≤ length chunk.old + 700 }
+fn say_acceleration_lines<W: Sink>(numbers: &MachineNumbers, page: &mut Page, output: &mut W)
+    requires { AreInFile numbers.now }
+    ensures { Says (W.written output.old) (W.written output.new)
+        (W.failures output.old) (W.failures output.new) page.old page.new
+        (acceleration_lines numbers.now) }
 {
     let change = Value::Number(u64::from(numbers.change));
-    let turn = Value::Number(numbers.turn);
-    add_line(
-        chunk,
-        b"change",
-        change,
-        Remark::Acceleration(acceleration(numbers)),
-    );
+    let remark = Remark::Acceleration(acceleration(numbers));
+    say_line(b"change", change, remark, page, output);
     let arcs = arcs_remark(numbers.arc_feed, arc_acceleration(numbers));
-    add_line(chunk, b"turn", turn, arcs);
+    say_line(b"turn", Value::Number(numbers.turn), arcs, page, output);
 }
 
 #[tactic(auto, unfolding(crate::specs::File::ring_lines))]
-fn add_ring(chunk: &mut Chunk, ring: u32)
-    requires { length chunk.old + 430 ≤ CHUNK_SIZE }
-    ensures text { chunk.new ≡ chunk.old ++ ring_lines ring }
-    ensures short { length chunk.new ≤ length chunk.old + 430 }
+fn say_ring<W: Sink>(ring: u32, page: &mut Page, output: &mut W)
+    ensures { Says (W.written output.old) (W.written output.new)
+        (W.failures output.old) (W.failures output.new) page.old page.new
+        (ring_lines ring) }
 {
     let value = Value::Number(u64::from(ring));
-    chunk.add_text(
-        b"# `ring`: the controller looks ahead over this many. If short lines are slow, try 1024.\n",
-    );
-    add_line(chunk, b"ring", value, Remark::Ring);
+    say!(page, output; b"# `ring`: the controller looks ahead over this many. If short lines are slow, try 1024.\n");
+    say_line(b"ring", value, Remark::Ring, page, output);
 }
 
 #[tactic(auto, unfolding(crate::specs::File::arc_feed_comment))]
-fn add_arc_feed_comment(chunk: &mut Chunk)
-    requires { length chunk.old + 100 ≤ CHUNK_SIZE }
-    ensures text { chunk.new ≡ chunk.old ++ arc_feed_comment }
-    ensures short { length chunk.new ≤ length chunk.old + 100 }
+fn say_some_arc_feed<W: Sink>(page: &mut Page, output: &mut W)
+    ensures { Says (W.written output.old) (W.written output.new)
+        (W.failures output.old) (W.failures output.new) page.old page.new
+        (arc_feed_comment ++ line_text (codes "arc_feed") (values.Number 2) remarks.ArcFeed) }
 {
-    chunk.add_text(
-        b"# `arc_feed`: if arcs run roughly, try 0 here and half of `turn`. Then they are slower.\n",
-    );
+    say!(page, output; b"# `arc_feed`: if arcs run roughly, try 0 here and half of `turn`. Then they are slower.\n");
+    say_line(b"arc_feed", Value::Number(2), Remark::ArcFeed, page, output);
 }
 
-fn add_arc_feed(chunk: &mut Chunk, arc_feed: bool)
-    requires { length chunk.old + 430 ≤ CHUNK_SIZE }
-    ensures text { chunk.new ≡ chunk.old ++ arc_feed_lines arc_feed }
-    ensures short { length chunk.new ≤ length chunk.old + 430 }
+fn say_arc_feed<W: Sink>(arc_feed: bool, page: &mut Page, output: &mut W)
+    ensures { Says (W.written output.old) (W.written output.new)
+        (W.failures output.old) (W.failures output.new) page.old page.new
+        (arc_feed_lines arc_feed) }
 {
     if arc_feed {
-        add_arc_feed_comment(chunk);
-        add_line(chunk, b"arc_feed", Value::Number(2), Remark::ArcFeed);
+        say_some_arc_feed(page, output);
     }
 }
 
-// Adds the line of a key that is a place.
-fn add_place_line(chunk: &mut Chunk, key: &[u8], place: &PerAxis<i64>)
-    requires room { length chunk.old + 330 ≤ CHUNK_SIZE }
-    requires key { length key.now ≤ 20 }
-    ensures text { chunk.new ≡ chunk.old ++ place_line key.now place.now }
-    ensures short { length chunk.new ≤ length chunk.old + 330 }
+// Says the line of a key that is a place.
+fn say_place<W: Sink>(key: &[u8], place: &PerAxis<i64>, page: &mut Page, output: &mut W)
+    ensures { Says (W.written output.old) (W.written output.new)
+        (W.failures output.old) (W.failures output.new) page.old page.new
+        (place_line key.now place.now) }
 {
-    add_line(chunk, key, Value::Place(*place), Remark::Place(*place));
+    say_line(
+        key,
+        Value::Place(*place),
+        Remark::Place(*place),
+        page,
+        output,
+    );
 }
 
 #[tactic(auto, unfolding(crate::specs::File::place_lines))]
-fn add_place_lines(chunk: &mut Chunk, numbers: &MachineNumbers)
-    requires { length chunk.old + 1700 ≤ CHUNK_SIZE }
-    ensures text { chunk.new ≡ chunk.old ++ place_lines numbers.now }
-    ensures short { length chunk.new ≤ length chunk.old + 1700 }
+fn say_places<W: Sink>(numbers: &MachineNumbers, page: &mut Page, output: &mut W)
+    ensures { Says (W.written output.old) (W.written output.new)
+        (W.failures output.old) (W.failures output.new) page.old page.new
+        (place_lines numbers.now) }
 {
-    add_place_line(chunk, b"low", &numbers.low);
-    add_place_line(chunk, b"high", &numbers.high);
-    add_place_line(chunk, b"start", &numbers.start);
-    add_place_line(chunk, b"home28", &numbers.home28);
-    add_place_line(chunk, b"home30", &numbers.home30);
+    say_place(b"low", &numbers.low, page, output);
+    say_place(b"high", &numbers.high, page, output);
+    say_place(b"start", &numbers.start, page, output);
+    say_place(b"home28", &numbers.home28, page, output);
+    say_place(b"home30", &numbers.home30, page, output);
 }
 
-fn add_file(chunk: &mut Chunk, numbers: &MachineNumbers, figures: &Figures)
-    requires room { length chunk.old + 7000 ≤ CHUNK_SIZE }
+fn say_file<W: Sink>(numbers: &MachineNumbers, figures: &Figures, page: &mut Page, output: &mut W)
     requires numbers { AreInFile numbers.now }
     requires scale { IsScale (scale_in numbers.now figures.now) }
-    ensures { chunk.new ≡ chunk.old ++ file_text numbers.now figures.now }
+    ensures { Says (W.written output.old) (W.written output.new)
+        (W.failures output.old) (W.failures output.new) page.old page.new
+        (file_text numbers.now figures.now) }
 {
-    add_heading(chunk);
-    add_scale_after(chunk, b"# ", numbers, figures);
-    add_step_lines(chunk, numbers);
-    add_speed_lines(chunk, numbers);
-    add_joint_lines(chunk, numbers);
-    add_acceleration_lines(chunk, numbers);
-    add_ring(chunk, numbers.ring);
-    add_arc_feed(chunk, numbers.arc_feed);
-    add_place_lines(chunk, numbers);
+    say_heading(page, output);
+    say_scale_after(b"# ", numbers, figures, page, output);
+    say_step_lines(numbers, page, output);
+    say_speed_lines(numbers, page, output);
+    say_joint_lines(numbers, page, output);
+    say_acceleration_lines(numbers, page, output);
+    say_ring(numbers.ring, page, output);
+    say_arc_feed(numbers.arc_feed, page, output);
+    say_places(numbers, page, output);
 }
 
 /// Writes a machine file of version 2. After a fault a prefix of it is written, and the sink has
@@ -312,9 +329,9 @@ pub fn write_machine_file<W: Sink>(
         (file_text numbers.now figures.now)) }
     ensures counts { CountsFailure (W.failures sink.old) (W.failures sink.new) result }
 {
-    let mut chunk = Chunk::new();
-    add_file(&mut chunk, numbers, figures);
-    chunk.write_out(sink)
+    let mut page = Page::new();
+    say_file(numbers, figures, &mut page, sink);
+    page.finish(sink)
 }
 
 /// Writes the notes on the file: how far the axes go if the motors' step is no whole number of
@@ -332,7 +349,7 @@ pub fn write_notes<W: Sink>(
         (notes_text numbers.now figures.now)) }
     ensures counts { CountsFailure (W.failures sink.old) (W.failures sink.new) result }
 {
-    let mut chunk = Chunk::new();
-    add_scale_after(&mut chunk, b"note: ", numbers, figures);
-    chunk.write_out(sink)
+    let mut page = Page::new();
+    say_scale_after(b"note: ", numbers, figures, &mut page, sink);
+    page.finish(sink)
 }

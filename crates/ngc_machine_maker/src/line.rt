@@ -1,13 +1,15 @@
 //! The lines of a machine file.
-ghost use Rattle.std.specs.Prelude.{◌≡◌, ◌+◌, ◌≤◌, ◌<◌, ◌++◌, ◌^◌, codes, decimal, length};
+ghost use Rattle.std.specs.Prelude.{◌≡◌, ◌++◌, codes, decimal};
 ghost use Rattle.std.specs.Fmt.{signed_decimal};
-ghost use Rattle.ngc_text.specs.Collected.{CHUNK_SIZE};
+ghost use Rattle.ngc_sentences.specs.Parts.{part_text, parts_text};
+ghost use Rattle.ngc_sentences.specs.Saying.{Says};
 ghost use Rattle.ngc_text.specs.Millimetres.{length_text, size_text};
 ghost use Rattle.ngc_machine_maker.specs.Texts.{three_text, value_text, thousandths_text};
 ghost use Rattle.ngc_machine_maker.specs.Texts.{axes_text, remark_text, line_text};
 
 use crate::figures::PerAxis;
-use ngc_text::Chunk;
+use ngc_sentences::{Page, Part, say};
+use ngc_text::Sink;
 
 /// The value of a key.
 #[derive(Clone, Copy)]
@@ -40,151 +42,151 @@ pub(crate) enum Remark {
     Place(PerAxis<i64>),
 }
 
-fn add_rates(chunk: &mut Chunk, rates: &PerAxis<u32>)
-    requires { length chunk.old + 130 ≤ CHUNK_SIZE }
-    ensures text { chunk.new ≡ chunk.old
-        ++ three_text (decimal rates.now.x) (decimal rates.now.y) (decimal rates.now.z) }
-    ensures short { length chunk.new ≤ length chunk.old + 130 }
+fn signed(number: &i64) -> Part<'static>
+    ensures { part_text result ≡ signed_decimal number.now }
 {
-    chunk.add_text(b"[");
-    chunk.add_number(rates.x);
-    chunk.add_text(b", ");
-    chunk.add_number(rates.y);
-    chunk.add_text(b", ");
-    chunk.add_number(rates.z);
-    chunk.add_text(b"]");
+    Part::Signed(*number)
 }
 
-fn add_place(chunk: &mut Chunk, place: &PerAxis<i64>)
-    requires { length chunk.old + 130 ≤ CHUNK_SIZE }
-    ensures text { chunk.new ≡ chunk.old ++ three_text (signed_decimal place.now.x)
-        (signed_decimal place.now.y) (signed_decimal place.now.z) }
-    ensures short { length chunk.new ≤ length chunk.old + 130 }
+fn length(nanometres: &i64) -> Part<'static>
+    ensures { part_text result ≡ length_text nanometres.now }
 {
-    chunk.add_text(b"[");
-    chunk.add_number(place.x);
-    chunk.add_text(b", ");
-    chunk.add_number(place.y);
-    chunk.add_text(b", ");
-    chunk.add_number(place.z);
-    chunk.add_text(b"]");
+    Part::Length(*nanometres)
+}
+
+fn rates(rates: &PerAxis<u32>) -> [Part<'static>; 7]
+    ensures { parts_text result
+        ≡ three_text (decimal rates.now.x) (decimal rates.now.y) (decimal rates.now.z) }
+{
+    [
+        Part::Text(b"["),
+        Part::Number(u128::from(rates.x)),
+        Part::Text(b", "),
+        Part::Number(u128::from(rates.y)),
+        Part::Text(b", "),
+        Part::Number(u128::from(rates.z)),
+        Part::Text(b"]"),
+    ]
+}
+
+fn place(place: &PerAxis<i64>) -> [Part<'static>; 7]
+    ensures { parts_text result ≡ three_text (signed_decimal place.now.x)
+        (signed_decimal place.now.y) (signed_decimal place.now.z) }
+{
+    [
+        Part::Text(b"["),
+        signed(&place.x),
+        Part::Text(b", "),
+        signed(&place.y),
+        Part::Text(b", "),
+        signed(&place.z),
+        Part::Text(b"]"),
+    ]
+}
+
+fn speeds(speeds: &PerAxis<u128>) -> [Part<'static>; 7]
+    ensures { parts_text result ≡ axes_text (thousandths_text speeds.now.x)
+        (thousandths_text speeds.now.y) (thousandths_text speeds.now.z) ++ codes " mm/min" }
+{
+    [
+        Part::Text(b"X "),
+        Part::Thousandths(speeds.x),
+        Part::Text(b", Y "),
+        Part::Thousandths(speeds.y),
+        Part::Text(b", Z "),
+        Part::Thousandths(speeds.z),
+        Part::Text(b" mm/min"),
+    ]
+}
+
+fn coordinates(place: &PerAxis<i64>) -> [Part<'static>; 7]
+    ensures { parts_text result ≡ axes_text (length_text place.now.x) (length_text place.now.y)
+        (length_text place.now.z) ++ codes " mm" }
+{
+    [
+        Part::Text(b"X "),
+        length(&place.x),
+        Part::Text(b", Y "),
+        length(&place.y),
+        Part::Text(b", Z "),
+        length(&place.z),
+        Part::Text(b" mm"),
+    ]
 }
 
 #[tactic(auto, unfolding(crate::specs::Texts::value_text))]
-fn add_value(chunk: &mut Chunk, value: &Value)
-    requires { length chunk.old + 130 ≤ CHUNK_SIZE }
-    ensures text { chunk.new ≡ chunk.old ++ value_text value.now }
-    ensures short { length chunk.new ≤ length chunk.old + 130 }
+fn say_value<W: Sink>(value: &Value, page: &mut Page, output: &mut W)
+    ensures { Says (W.written output.old) (W.written output.new)
+        (W.failures output.old) (W.failures output.new) page.old page.new
+        (value_text value.now) }
 {
     match value {
-        Value::Number(number) => chunk.add_number(*number),
-        Value::Rates(rates) => add_rates(chunk, rates),
-        Value::Place(place) => add_place(chunk, place),
+        Value::Number(number) => say!(page, output; Part::Number(u128::from(*number))),
+        Value::Rates(each) => page.say(output, &rates(each)),
+        Value::Place(at) => page.say(output, &place(at)),
     }
 }
 
-pub(crate) fn add_thousandths(chunk: &mut Chunk, number: u128)
-    requires { length chunk.old + 47 ≤ CHUNK_SIZE }
-    ensures text { chunk.new ≡ chunk.old ++ thousandths_text number }
-    ensures short { length chunk.new ≤ length chunk.old + 47 }
+// Says a number of thousandths and its unit.
+fn say_rounded<W: Sink>(number: u128, unit: &[u8], page: &mut Page, output: &mut W)
+    ensures { Says (W.written output.old) (W.written output.new)
+        (W.failures output.old) (W.failures output.new) page.old page.new
+        (thousandths_text number ++ unit.now) }
 {
-    chunk.add_millionths(number / 1_000, 1_000 * (number % 1_000) as u32);
+    say!(page, output; Part::Thousandths(number), Part::Text(unit));
 }
 
-// Adds a number of thousandths and its unit.
-fn add_rounded(chunk: &mut Chunk, number: u128, unit: &[u8])
-    requires room { length chunk.old + 110 ≤ CHUNK_SIZE }
-    requires unit { length unit.now ≤ 60 }
-    ensures text { chunk.new ≡ chunk.old ++ (thousandths_text number ++ unit.now) }
-    ensures short { length chunk.new ≤ length chunk.old + 110 }
+fn say_step<W: Sink>(nanometres: u32, page: &mut Page, output: &mut W)
+    ensures { Says (W.written output.old) (W.written output.new)
+        (W.failures output.old) (W.failures output.new) page.old page.new
+        (size_text nanometres ++ codes " mm") }
 {
-    add_thousandths(chunk, number);
-    chunk.add_text(unit);
-}
-
-fn add_speeds(chunk: &mut Chunk, speeds: &PerAxis<u128>)
-    requires { length chunk.old + 170 ≤ CHUNK_SIZE }
-    ensures text { chunk.new ≡ chunk.old ++ (axes_text (thousandths_text speeds.now.x)
-        (thousandths_text speeds.now.y) (thousandths_text speeds.now.z) ++ codes " mm/min") }
-    ensures short { length chunk.new ≤ length chunk.old + 170 }
-{
-    chunk.add_text(b"X ");
-    add_thousandths(chunk, speeds.x);
-    chunk.add_text(b", Y ");
-    add_thousandths(chunk, speeds.y);
-    chunk.add_text(b", Z ");
-    add_thousandths(chunk, speeds.z);
-    chunk.add_text(b" mm/min");
-}
-
-fn add_coordinate(chunk: &mut Chunk, nanometres: i64)
-    requires { length chunk.old + 48 ≤ CHUNK_SIZE }
-    ensures text { chunk.new ≡ chunk.old ++ length_text nanometres }
-    ensures short { length chunk.new ≤ length chunk.old + 48 }
-{
-    chunk.add_length(i128::from(nanometres));
-}
-
-fn add_coordinates(chunk: &mut Chunk, place: &PerAxis<i64>)
-    requires { length chunk.old + 170 ≤ CHUNK_SIZE }
-    ensures text { chunk.new ≡ chunk.old ++ (axes_text (length_text place.now.x)
-        (length_text place.now.y) (length_text place.now.z) ++ codes " mm") }
-    ensures short { length chunk.new ≤ length chunk.old + 170 }
-{
-    chunk.add_text(b"X ");
-    add_coordinate(chunk, place.x);
-    chunk.add_text(b", Y ");
-    add_coordinate(chunk, place.y);
-    chunk.add_text(b", Z ");
-    add_coordinate(chunk, place.z);
-    chunk.add_text(b" mm");
-}
-
-fn add_step(chunk: &mut Chunk, nanometres: u32)
-    requires { length chunk.old + 60 ≤ CHUNK_SIZE }
-    ensures text { chunk.new ≡ chunk.old ++ (size_text nanometres ++ codes " mm") }
-    ensures short { length chunk.new ≤ length chunk.old + 60 }
-{
-    chunk.add_size(u128::from(nanometres));
-    chunk.add_text(b" mm");
+    say!(page, output; Part::Size(u128::from(nanometres)), b" mm");
 }
 
 #[tactic(auto, unfolding(crate::specs::Texts::remark_text))]
-fn add_remark(chunk: &mut Chunk, remark: &Remark)
-    requires { length chunk.old + 170 ≤ CHUNK_SIZE }
-    ensures text { chunk.new ≡ chunk.old ++ remark_text remark.now }
-    ensures short { length chunk.new ≤ length chunk.old + 170 }
+fn say_remark<W: Sink>(remark: &Remark, page: &mut Page, output: &mut W)
+    ensures { Says (W.written output.old) (W.written output.new)
+        (W.failures output.old) (W.failures output.new) page.old page.new
+        (remark_text remark.now) }
 {
     match remark {
-        Remark::Step(nanometres) => add_step(chunk, *nanometres),
-        Remark::Ticks => chunk.add_text(b"how often the controller may make steps"),
-        Remark::Speed(number) => add_rounded(chunk, *number, b" mm/min"),
-        Remark::Speeds(speeds) => add_speeds(chunk, speeds),
-        Remark::Acceleration(number) => add_rounded(chunk, *number, b" mm/s^2"),
-        Remark::Arcs(number) => add_rounded(chunk, *number, b" mm/s^2 on arcs at most"),
-        Remark::ArcsByPlace(number) => add_rounded(
-            chunk,
+        Remark::Step(nanometres) => say_step(*nanometres, page, output),
+        Remark::Ticks => say!(page, output; b"how often the controller may make steps"),
+        Remark::Speed(number) => say_rounded(*number, b" mm/min", page, output),
+        Remark::Speeds(each) => page.say(output, &speeds(each)),
+        Remark::Acceleration(number) => say_rounded(*number, b" mm/s^2", page, output),
+        Remark::Arcs(number) => say_rounded(*number, b" mm/s^2 on arcs at most", page, output),
+        Remark::ArcsByPlace(number) => say_rounded(
             *number,
             b" mm/s^2 on arcs, up to twice that while slowing down",
+            page,
+            output,
         ),
-        Remark::Ring => chunk.add_text(b"how many commands are loaded and not done at most"),
-        Remark::ArcFeed => chunk.add_text(b"arcs run at their feed and their turn at every place"),
-        Remark::Place(place) => add_coordinates(chunk, place),
+        Remark::Ring => { say!(page, output; b"how many commands are loaded and not done at most") }
+        Remark::ArcFeed => {
+            say!(page, output; b"arcs run at their feed and their turn at every place")
+        }
+        Remark::Place(at) => page.say(output, &coordinates(at)),
     }
 }
 
-/// Adds a line with a key of at most 20 characters. Space for 330 bytes must be free.
+/// Says the line of a key.
 #[tactic(auto, unfolding(crate::specs::Texts::line_text))]
-pub(crate) fn add_line(chunk: &mut Chunk, key: &[u8], value: Value, remark: Remark)
-    requires room { length chunk.old + 330 ≤ CHUNK_SIZE }
-    requires key { length key.now ≤ 20 }
-    ensures text { chunk.new ≡ chunk.old ++ line_text key.now value remark }
-    ensures short { length chunk.new ≤ length chunk.old + 330 }
+pub(crate) fn say_line<W: Sink>(
+    key: &[u8],
+    value: Value,
+    remark: Remark,
+    page: &mut Page,
+    output: &mut W,
+)
+    ensures { Says (W.written output.old) (W.written output.new)
+        (W.failures output.old) (W.failures output.new) page.old page.new
+        (line_text key.now value remark) }
 {
-    chunk.add_text(key);
-    chunk.add_text(b" = ");
-    add_value(chunk, &value);
-    chunk.add_text(b" # ");
-    add_remark(chunk, &remark);
-    chunk.add_text(b"\n");
+    say!(page, output; Part::Text(key), b" = ");
+    say_value(&value, page, output);
+    say!(page, output; b" # ");
+    say_remark(&remark, page, output);
+    say!(page, output; b"\n");
 }

@@ -1,7 +1,7 @@
 //! The texts of refusals.
-ghost use Rattle.std.specs.Prelude.{◌≡◌, ◌+◌, ◌≤◌, ◌++◌, decimal, length, OnOk, OnErr};
+ghost use Rattle.std.specs.Prelude.{◌≡◌, ◌++◌, OnOk, OnErr};
 ghost use Rattle.std.specs.Io.KnownBytes.{Appends};
-ghost use Rattle.ngc_text.specs.Collected.{CHUNK_SIZE};
+ghost use Rattle.ngc_sentences.specs.Saying.{Says};
 ghost use Rattle.ngc_text.specs.Failures.{CountsFailure};
 ghost use Rattle.ngc_text.specs.Written.{AppendsPrefix};
 ghost use Rattle.ngc_machine_maker.specs.declared.refusal.FigureRefusal.TheVariants as refusals;
@@ -10,12 +10,12 @@ ghost use Rattle.ngc_machine_maker.specs.Sentences.{refusal_line};
 
 use crate::figures::Axis;
 use crate::refusal::{Field, FigureRefusal, Stop};
-use ngc_text::{Chunk, Sink, WriteFault};
+use ngc_sentences::{Page, Part, say};
+use ngc_text::{Sink, WriteFault};
 
 #[tactic(auto, unfolding(crate::specs::Sentences::axis_text))]
 fn axis_name(axis: Axis) -> &'static [u8]
-    ensures text { result.now ≡ axis_text axis }
-    ensures short { length result.now ≤ 1 }
+    ensures { result.now ≡ axis_text axis }
 {
     match axis {
         Axis::X => b"X",
@@ -26,8 +26,7 @@ fn axis_name(axis: Axis) -> &'static [u8]
 
 #[tactic(auto, unfolding(crate::specs::Sentences::stop_text))]
 fn stop_name(stop: Stop) -> &'static [u8]
-    ensures text { result.now ≡ stop_text stop }
-    ensures short { length result.now ≤ 6 }
+    ensures { result.now ≡ stop_text stop }
 {
     match stop {
         Stop::Start => b"start",
@@ -36,155 +35,152 @@ fn stop_name(stop: Stop) -> &'static [u8]
     }
 }
 
-// Adds three texts.
-fn add_named(chunk: &mut Chunk, before: &[u8], name: &[u8], after: &[u8])
-    requires room { length chunk.old + 160 ≤ CHUNK_SIZE }
-    requires before { length before.now ≤ 20 }
-    requires name { length name.now ≤ 20 }
-    requires after { length after.now ≤ 100 }
-    ensures text { chunk.new ≡ chunk.old ++ (before.now ++ name.now ++ after.now) }
-    ensures short { length chunk.new ≤ length chunk.old + 160 }
+// Says three texts.
+fn say_named<W: Sink>(
+    before: &'static [u8],
+    name: &'static [u8],
+    after: &'static [u8],
+    page: &mut Page,
+    output: &mut W,
+)
+    ensures { Says (W.written output.old) (W.written output.new)
+        (W.failures output.old) (W.failures output.new) page.old page.new
+        (before.now ++ name.now ++ after.now) }
 {
-    chunk.add_text(before);
-    chunk.add_text(name);
-    chunk.add_text(after);
+    say!(page, output; Part::Text(before), Part::Text(name), Part::Text(after));
 }
 
 #[tactic(auto, unfolding(crate::specs::Sentences::field_text))]
-fn add_field(chunk: &mut Chunk, field: Field)
-    requires { length chunk.old + 160 ≤ CHUNK_SIZE }
-    ensures text { chunk.new ≡ chunk.old ++ field_text field }
-    ensures short { length chunk.new ≤ length chunk.old + 160 }
+fn say_field<W: Sink>(field: Field, page: &mut Page, output: &mut W)
+    ensures { Says (W.written output.old) (W.written output.new)
+        (W.failures output.old) (W.failures output.new) page.old page.new
+        (field_text field) }
 {
     match field {
-        Field::Steps => chunk.add_text(
-            b"--steps-per-mm is not one number for all axes with up to six decimals, as 188.976",
-        ),
-        Field::Travel => chunk.add_text(
-            b"--travel is not three lengths in mm, with at most six decimals, as 300,180,45",
-        ),
-        Field::Feed => chunk.add_text(
-            b"--feed is not three speeds in mm/min, with at most three decimals, as 1000,1000,600",
-        ),
-        Field::Acceleration => chunk.add_text(
-            b"--acceleration is not three numbers in mm/s^2 with up to three decimals, as 30,30,20",
-        ),
-        Field::Frame => chunk.add_text(b"--frame is neither low nor high"),
+        Field::Steps => {
+            say!(page, output; b"--steps-per-mm is not one number for all axes with up to six decimals, as 188.976")
+        }
+        Field::Travel => {
+            say!(page, output; b"--travel is not three lengths in mm, with at most six decimals, as 300,180,45")
+        }
+        Field::Feed => {
+            say!(page, output; b"--feed is not three speeds in mm/min, with at most three decimals, as 1000,1000,600")
+        }
+        Field::Acceleration => {
+            say!(page, output; b"--acceleration is not three numbers in mm/s^2 with up to three decimals, as 30,30,20")
+        }
+        Field::Frame => say!(page, output; b"--frame is neither low nor high"),
         Field::Corner => {
-            chunk.add_text(b"--corner is not a speed in mm/s, with at most three decimals, as 5")
+            say!(page, output; b"--corner is not a speed in mm/s, with at most three decimals, as 5")
         }
         Field::Jump => {
-            chunk.add_text(b"--jump is not a speed in mm/s, with at most three decimals, as 5")
+            say!(page, output; b"--jump is not a speed in mm/s, with at most three decimals, as 5")
         }
         Field::Arcs => {
-            chunk.add_text(b"--turn is not a number in mm/s^2, with at most three decimals, as 30")
+            say!(page, output; b"--turn is not a number in mm/s^2, with at most three decimals, as 30")
         }
-        Field::Ticks => chunk.add_text(b"--ticks is not a whole number, as 40000"),
-        Field::Ring => chunk.add_text(b"--ring is not a whole number, as 64"),
-        Field::Stop(stop) => add_named(
-            chunk,
+        Field::Ticks => say!(page, output; b"--ticks is not a whole number, as 40000"),
+        Field::Ring => say!(page, output; b"--ring is not a whole number, as 64"),
+        Field::Stop(stop) => say_named(
             b"--",
             stop_name(stop),
             b" is not three coordinates in mm, as 0,0,-1: below zero where zero is the high end",
+            page,
+            output,
         ),
     }
 }
 
 #[tactic(auto, unfolding(crate::specs::Sentences::refusal_text))]
-fn add_outside(chunk: &mut Chunk, stop: Stop, axis: Axis)
-    requires { length chunk.old + 160 ≤ CHUNK_SIZE }
-    ensures text { chunk.new ≡ chunk.old ++ refusal_text (refusals.Outside stop axis) }
-    ensures short { length chunk.new ≤ length chunk.old + 160 }
+fn say_outside<W: Sink>(stop: Stop, axis: Axis, page: &mut Page, output: &mut W)
+    ensures { Says (W.written output.old) (W.written output.new)
+        (W.failures output.old) (W.failures output.new) page.old page.new
+        (refusal_text (refusals.Outside stop axis)) }
 {
-    chunk.add_text(stop_name(stop));
-    chunk.add_text(b" is outside the travel of ");
-    chunk.add_text(axis_name(axis));
-    chunk.add_text(b": give a place within it");
+    say!(page, output; Part::Text(stop_name(stop)), b" is outside the travel of ", Part::Text(axis_name(axis)), b": give a place within it");
 }
 
 #[tactic(auto, unfolding(crate::specs::Sentences::refusal_text))]
-fn add_setting(chunk: &mut Chunk, number: u32, at: usize)
-    requires { length chunk.old + 160 ≤ CHUNK_SIZE }
-    ensures text { chunk.new ≡ chunk.old ++ refusal_text (refusals.Setting number at) }
-    ensures short { length chunk.new ≤ length chunk.old + 160 }
+fn say_setting<W: Sink>(number: u32, at: usize, page: &mut Page, output: &mut W)
+    ensures { Says (W.written output.old) (W.written output.new)
+        (W.failures output.old) (W.failures output.new) page.old page.new
+        (refusal_text (refusals.Setting number at)) }
 {
-    chunk.add_text(b"line ");
-    chunk.add_number(at);
-    chunk.add_text(b": the value of $");
-    chunk.add_number(number);
-    chunk.add_text(b" is not a number, as in $100=800.000");
+    say!(page, output; b"line ", Part::Number(at as u128), b": the value of $", Part::Number(u128::from(number)), b" is not a number, as in $100=800.000");
 }
 
 #[tactic(auto, unfolding(crate::specs::Sentences::refusal_text))]
-fn add_missing(chunk: &mut Chunk, number: u32)
-    requires { length chunk.old + 160 ≤ CHUNK_SIZE }
-    ensures text { chunk.new ≡ chunk.old ++ refusal_text (refusals.Missing number) }
-    ensures short { length chunk.new ≤ length chunk.old + 160 }
+fn say_missing<W: Sink>(number: u32, page: &mut Page, output: &mut W)
+    ensures { Says (W.written output.old) (W.written output.new)
+        (W.failures output.old) (W.failures output.new) page.old page.new
+        (refusal_text (refusals.Missing number)) }
 {
-    chunk.add_text(b"the setting $");
-    chunk.add_number(number);
-    chunk.add_text(b" is missing: give all lines that Grbl prints after $$");
+    say!(page, output; b"the setting $", Part::Number(u128::from(number)), b" is missing: give all lines that Grbl prints after $$");
 }
 
 #[tactic(auto, unfolding(crate::specs::Sentences::refusal_text))]
-fn add_refusal(chunk: &mut Chunk, refusal: FigureRefusal)
-    requires { length chunk.old + 160 ≤ CHUNK_SIZE }
-    ensures text { chunk.new ≡ chunk.old ++ refusal_text refusal }
-    ensures short { length chunk.new ≤ length chunk.old + 160 }
+fn say_refusal<W: Sink>(refusal: FigureRefusal, page: &mut Page, output: &mut W)
+    ensures { Says (W.written output.old) (W.written output.new)
+        (W.failures output.old) (W.failures output.new) page.old page.new
+        (refusal_text refusal) }
 {
     match refusal {
-        FigureRefusal::Unread(field) => add_field(chunk, field),
-        FigureRefusal::Step => chunk.add_text(
-            b"a step is not from 500 to 50000 nm: give from 20 to 2000 steps a mm",
-        ),
-        FigureRefusal::Ticks => chunk.add_text(
-            b"the ticks a second are not from 1 to 1000000: give a number between",
-        ),
-        FigureRefusal::Ring => {
-            chunk.add_text(b"the ring is not from 16 to 1024 commands: give a number between")
+        FigureRefusal::Unread(field) => say_field(field, page, output),
+        FigureRefusal::Step => {
+            say!(page, output; b"a step is not from 500 to 50000 nm: give from 20 to 2000 steps a mm")
         }
-        FigureRefusal::SlowFeed(axis) => add_named(
-            chunk,
+        FigureRefusal::Ticks => {
+            say!(page, output; b"the ticks a second are not from 1 to 1000000: give a number between")
+        }
+        FigureRefusal::Ring => {
+            say!(page, output; b"the ring is not from 16 to 1024 commands: give a number between")
+        }
+        FigureRefusal::SlowFeed(axis) => say_named(
             b"",
             axis_name(axis),
             b" has less than a millionth of a step in a tick: give a greater feed or fewer ticks",
+            page,
+            output,
         ),
-        FigureRefusal::FastFeed(axis) => add_named(
-            chunk,
+        FigureRefusal::FastFeed(axis) => say_named(
             b"",
             axis_name(axis),
             b" has more than a step in a tick: give a smaller feed or more ticks",
+            page,
+            output,
         ),
-        FigureRefusal::SlowCorner => chunk.add_text(
-            b"the corner speed is below a millionth of a step a tick: give more, or fewer ticks",
-        ),
-        FigureRefusal::LowAcceleration => chunk.add_text(
-            b"the acceleration is too small for a machine file: give more, or fewer ticks",
-        ),
-        FigureRefusal::LowArcs => chunk.add_text(
-            b"the acceleration on arcs is too small for a machine file: give more, or fewer ticks",
-        ),
-        FigureRefusal::Travel(axis) => add_named(
-            chunk,
+        FigureRefusal::SlowCorner => {
+            say!(page, output; b"the corner speed is below a millionth of a step a tick: give more, or fewer ticks")
+        }
+        FigureRefusal::LowAcceleration => {
+            say!(page, output; b"the acceleration is too small for a machine file: give more, or fewer ticks")
+        }
+        FigureRefusal::LowArcs => {
+            say!(page, output; b"the acceleration on arcs is too small for a machine file: give more, or fewer ticks")
+        }
+        FigureRefusal::Travel(axis) => say_named(
             b"the travel of ",
             axis_name(axis),
             b" is not from a step to 1000 mm: give a length between",
+            page,
+            output,
         ),
-        FigureRefusal::Outside(stop, axis) => add_outside(chunk, stop, axis),
-        FigureRefusal::Missing(number) => add_missing(chunk, number),
-        FigureRefusal::Setting(number, at) => add_setting(chunk, number, at),
-        FigureRefusal::UnequalSteps => chunk.add_text(
-            b"$100, $101 and $102 differ: one step serves all axes, so make them equal",
-        ),
+        FigureRefusal::Outside(stop, axis) => say_outside(stop, axis, page, output),
+        FigureRefusal::Missing(number) => say_missing(number, page, output),
+        FigureRefusal::Setting(number, at) => say_setting(number, at, page, output),
+        FigureRefusal::UnequalSteps => {
+            say!(page, output; b"$100, $101 and $102 differ: one step serves all axes, so make them equal")
+        }
     }
 }
 
-fn add_refusal_line(chunk: &mut Chunk, refusal: FigureRefusal)
-    requires { length chunk.old + 170 ≤ CHUNK_SIZE }
-    ensures { chunk.new ≡ chunk.old ++ refusal_line refusal }
+fn say_refusal_line<W: Sink>(refusal: FigureRefusal, page: &mut Page, output: &mut W)
+    ensures { Says (W.written output.old) (W.written output.new)
+        (W.failures output.old) (W.failures output.new) page.old page.new
+        (refusal_line refusal) }
 {
-    add_refusal(chunk, refusal);
-    chunk.add_text(b"\n");
+    say_refusal(refusal, page, output);
+    say!(page, output; b"\n");
 }
 
 /// Writes what is wrong and what to enter instead, on a line. After a fault a prefix of it is
@@ -196,7 +192,7 @@ pub fn write_refusal<W: Sink>(refusal: FigureRefusal, sink: &mut W) -> Result<()
         (AppendsPrefix (W.written sink.old) (W.written sink.new) (refusal_line refusal)) }
     ensures counts { CountsFailure (W.failures sink.old) (W.failures sink.new) result }
 {
-    let mut chunk = Chunk::new();
-    add_refusal_line(&mut chunk, refusal);
-    chunk.write_out(sink)
+    let mut page = Page::new();
+    say_refusal_line(refusal, &mut page, sink);
+    page.finish(sink)
 }

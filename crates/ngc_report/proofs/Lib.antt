@@ -12,8 +12,10 @@ pub mod Fitting
 pub mod ExtentInTravel
 -- The result over a list, one element further.
 pub mod Folds
--- The reported part of a list of lines, when other lines follow them.
+-- A whole text that is collected and written out.
 pub mod ReportPrefix
+-- Lines after others.
+pub mod Sentences
 -- The motions of a use, if there may be fewer.
 pub mod Cuts
 -- The line with a number, found one by one.

@@ -1,181 +1,81 @@
-//! How the lines of a report are written as facts of a JSON document.
-ghost use Rattle.std.specs.Prelude.{◌≡◌, ◌+◌, ◌≤◌, ◌++◌, codes, decimal, length};
+//! The facts of a report, as a JSON document.
+ghost use Rattle.std.specs.Prelude.{◌≡◌, ◌++◌, codes, decimal, flat_map};
 ghost use Rattle.std.specs.Fmt.{signed_decimal};
 ghost use Rattle.ngc_collision.specs.Inside.{place_of};
-ghost use Rattle.ngc_text.specs.Collected.{CHUNK_SIZE, HasSpaceForLine};
-ghost use Rattle.ngc_report.specs.Facts.{name_fact, tool_fact, triple, nearest_fact, along_fact};
-ghost use Rattle.ngc_report.specs.Facts.{use_fact};
-ghost use Rattle.ngc_report.specs.Facts.{side_fact, start_fact, command_fact, over_fact};
-ghost use Rattle.ngc_report.specs.Facts.{travel_fact, fixture_fact, obstacle_fact, warning_fact};
-ghost use Rattle.ngc_report.specs.Facts.{distances, passed_fact, distance_fact, inward_fact};
-ghost use Rattle.ngc_report.specs.Facts.{clearing_fact};
-ghost use Rattle.ngc_report.specs.Facts.{nose_fact, fits_fact, described_fact, verdict_fact};
-ghost use Rattle.ngc_report.specs.Facts.{line_fact};
-ghost use Rattle.ngc_report.specs.Words.{concern_text};
+ghost use Rattle.ngc_sentences.specs.Parts.{part_text, parts_text};
+ghost use Rattle.ngc_sentences.specs.Saying.{Says};
+ghost use Rattle.ngc_report.specs.Facts.{along_fact, clearing_fact, command_fact, described_fact};
+ghost use Rattle.ngc_report.specs.Facts.{distance_fact, distances, fits_fact, fixture_fact};
+ghost use Rattle.ngc_report.specs.Facts.{inward_fact, line_fact, name_fact, nearest_fact, nose_fact};
+ghost use Rattle.ngc_report.specs.Facts.{obstacle_fact, over_fact, passed_fact, side_fact, start_fact};
+ghost use Rattle.ngc_report.specs.Facts.{tool_fact, travel_fact, triple, use_fact, verdict_fact};
+ghost use Rattle.ngc_report.specs.Facts.{warning_fact};
+ghost use Rattle.ngc_report.specs.Quotes.{escaped};
 
 use crate::clearing::{Clearing, Inward, Passed};
 use crate::line::{Along, Line};
 use crate::margins::{Margin, Side};
 use crate::nearest::Nearest;
-use crate::quotes::add_string;
+use crate::quotes::say_string;
 use crate::scene::{Met, Obstacle, Scene};
 use crate::uses::ToolUse;
 use crate::warnings::Warning;
-use crate::words::{add_count, away, axis_name, concern_words};
+use crate::words::{away, axis_name, concern_words, sign};
 use ngc_collision::Place;
 use ngc_machine_files::{Name, Tool};
-use ngc_text::Chunk;
+use ngc_sentences::{Page, Part, say};
+use ngc_text::Sink;
 
-/// Adds a name with a number, if there is one.
-#[tactic(auto, unfolding(crate::specs::Facts::name_fact))]
-fn add_name(chunk: &mut Chunk, key: &[u8], name: &Name)
-    requires room { length chunk.old + 100 ≤ CHUNK_SIZE }
-    requires key { length key.now ≤ 12 }
-    ensures text { chunk.new ≡ chunk.old ++ name_fact key.now name.now }
-    ensures short { length chunk.new ≤ length chunk.old + 100 }
+// ---- parts
+
+fn signed(number: &i64) -> Part<'static>
+    ensures { part_text result ≡ signed_decimal number.now }
 {
-    let name = name.as_bytes();
-    if !name.is_empty() {
-        chunk.add_text(b",\"");
-        chunk.add_text(key);
-        chunk.add_text(b"\":\"");
-        add_string(chunk, name);
-        chunk.add_text(b"\"");
-    }
+    Part::Signed(*number)
 }
 
-#[tactic(auto, unfolding(crate::specs::Facts::tool_fact))]
-fn add_tool(chunk: &mut Chunk, tool: &Option<Tool>)
-    requires { length chunk.old + 120 ≤ CHUNK_SIZE }
-    ensures text { chunk.new ≡ chunk.old ++ tool_fact tool.now }
-    ensures short { length chunk.new ≤ length chunk.old + 120 }
+// Returns a distance that needn't fit in 64 bits.
+fn distance(nanometres: i128) -> [Part<'static>; 2]
+    ensures { parts_text result ≡ signed_decimal nanometres }
 {
-    match tool {
-        None => chunk.add_text(b"null"),
-        Some(tool) => {
-            add_count(chunk, tool.number as usize);
-            add_name(chunk, b"tool_name", &tool.name);
-        }
-    }
-}
-
-fn add_nanometres(chunk: &mut Chunk, nanometres: i64)
-    requires { length chunk.old + 40 ≤ CHUNK_SIZE }
-    ensures text { chunk.new ≡ chunk.old ++ signed_decimal nanometres }
-    ensures short { length chunk.new ≤ length chunk.old + 40 }
-{
-    chunk.add_number(nanometres);
+    [
+        Part::Text(sign(nanometres)),
+        Part::Number(nanometres.unsigned_abs()),
+    ]
 }
 
 #[tactic(auto, unfolding(crate::specs::Facts::triple))]
-fn add_triple(chunk: &mut Chunk, place: &Place)
-    requires { length chunk.old + 124 ≤ CHUNK_SIZE }
-    ensures text { chunk.new ≡ chunk.old ++ triple (place_of place.now) }
-    ensures short { length chunk.new ≤ length chunk.old + 124 }
+fn triple(place: &Place) -> [Part<'static>; 7]
+    ensures { parts_text result ≡ triple (place_of place.now) }
 {
-    chunk.add_text(b"[");
-    add_nanometres(chunk, place.x);
-    chunk.add_text(b",");
-    add_nanometres(chunk, place.y);
-    chunk.add_text(b",");
-    add_nanometres(chunk, place.z);
-    chunk.add_text(b"]");
+    [
+        Part::Text(b"["),
+        signed(&place.x),
+        Part::Text(b","),
+        signed(&place.y),
+        Part::Text(b","),
+        signed(&place.z),
+        Part::Text(b"]"),
+    ]
 }
 
-fn add_distance(chunk: &mut Chunk, nearest: &Nearest, name: &Name)
-    requires { HasSpaceForLine chunk.old }
-    ensures { chunk.new ≡ chunk.old
-        ++ (codes ",\"nearest_fixture\":" ++ decimal nearest.now.fixture
-        ++ name_fact (codes "fixture_name") name.now ++ codes ",\"distance\":"
-        ++ signed_decimal nearest.now.distance ++ codes "}") }
+#[tactic(auto, unfolding(crate::specs::Facts::distances))]
+fn distances(x: u128, y: u128, z: u128) -> [Part<'static>; 7]
+    ensures { parts_text result ≡ distances x y z }
 {
-    chunk.add_text(b",\"nearest_fixture\":");
-    chunk.add_number(nearest.fixture);
-    add_name(chunk, b"fixture_name", name);
-    chunk.add_text(b",\"distance\":");
-    chunk.add_number(nearest.distance);
-    chunk.add_text(b"}");
-}
-
-#[tactic(auto, unfolding(crate::specs::Facts::nearest_fact))]
-fn add_nearest(chunk: &mut Chunk, nearest: &Option<Nearest>, name: &Name)
-    requires { HasSpaceForLine chunk.old }
-    ensures { chunk.new ≡ chunk.old ++ nearest_fact nearest.now name.now }
-{
-    match nearest {
-        None => chunk.add_text(b",\"nearest_fixture\":null,\"distance\":null}"),
-        Some(nearest) => add_distance(chunk, nearest, name),
-    }
-}
-
-fn add_along(chunk: &mut Chunk, along: &Along)
-    requires { HasSpaceForLine chunk.old }
-    ensures { chunk.new ≡ chunk.old ++ along_fact along.now }
-{
-    chunk.add_text(b",\n{\"fact\":\"extent\",\"axis\":\"");
-    chunk.add_text(axis_name(along.axis));
-    chunk.add_text(b"\",\"low\":");
-    add_nanometres(chunk, along.low);
-    chunk.add_text(b",\"high\":");
-    add_nanometres(chunk, along.high);
-    chunk.add_text(b",\"left_below\":");
-    add_nanometres(chunk, along.room.below);
-    chunk.add_text(b",\"left_above\":");
-    add_nanometres(chunk, along.room.above);
-    chunk.add_text(b"}");
-}
-
-fn add_use(chunk: &mut Chunk, one: &ToolUse)
-    requires { HasSpaceForLine chunk.old }
-    ensures { chunk.new ≡ chunk.old ++ use_fact one.now }
-{
-    chunk.add_text(b",\n{\"fact\":\"use\",\"tool\":");
-    add_tool(chunk, &one.tool);
-    chunk.add_text(b",\"traverses\":");
-    add_count(chunk, one.traverses);
-    chunk.add_text(b",\"traverse_way\":");
-    chunk.add_number(one.traverse_way);
-    chunk.add_text(b",\"feeds\":");
-    add_count(chunk, one.feeds);
-    chunk.add_text(b",\"feed_way\":");
-    chunk.add_number(one.feed_way);
-    chunk.add_text(b",\"arcs\":");
-    add_count(chunk, one.arcs);
-    chunk.add_text(b",\"dwells\":");
-    add_count(chunk, one.dwells);
-    chunk.add_text(b",\"stops\":");
-    add_count(chunk, one.stops);
-}
-
-fn add_start(chunk: &mut Chunk, scene: &Scene)
-    requires { HasSpaceForLine chunk.old }
-    ensures { chunk.new ≡ chunk.old ++ start_fact scene.now }
-{
-    chunk.add_text(b",\n{\"fact\":\"start\",\"at\":");
-    add_triple(chunk, &scene.from);
-    chunk.add_text(b"}");
-}
-
-fn add_command(chunk: &mut Chunk, command: usize, scene: &Scene)
-    requires { HasSpaceForLine chunk.old }
-    ensures { chunk.new ≡ chunk.old ++ command_fact command scene.now }
-{
-    chunk.add_text(b",\n{\"fact\":\"command\",\"index\":");
-    chunk.add_number(command);
-    chunk.add_text(b",\"line\":");
-    chunk.add_number(scene.line);
-    chunk.add_text(b",\"tool\":");
-    add_tool(chunk, &scene.tool);
-    chunk.add_text(b",\"from\":");
-    add_triple(chunk, &scene.from);
-    chunk.add_text(b",\"to\":");
-    add_triple(chunk, &scene.to);
-    chunk.add_text(b"}");
+    [
+        Part::Text(b"["),
+        Part::Number(x),
+        Part::Text(b","),
+        Part::Number(y),
+        Part::Text(b","),
+        Part::Number(z),
+        Part::Text(b"]"),
+    ]
 }
 
 fn side_name(side: Side) -> &'static [u8]
-    ensures text { result.now ≡ side_fact side }
-    ensures short { length result.now ≤ 5 }
+    ensures { result.now ≡ side_fact side }
 {
     match side {
         Side::Below => b"below",
@@ -183,170 +83,8 @@ fn side_name(side: Side) -> &'static [u8]
     }
 }
 
-fn add_travel(chunk: &mut Chunk, margin: &Margin)
-    requires { HasSpaceForLine chunk.old }
-    ensures { chunk.new ≡ chunk.old ++ travel_fact margin.now }
-{
-    chunk.add_text(b",\n{\"fact\":\"obstacle\",\"kind\":\"travel\",\"axis\":\"");
-    chunk.add_text(axis_name(margin.axis));
-    chunk.add_text(b"\",\"side\":\"");
-    chunk.add_text(side_name(margin.side));
-    chunk.add_text(b"\",\"left\":");
-    add_nanometres(chunk, margin.left);
-    chunk.add_text(b"}");
-}
-
-#[tactic(auto, unfolding(crate::specs::Facts::over_fact))]
-fn add_over(chunk: &mut Chunk, over: &Option<i64>)
-    requires { length chunk.old + 41 ≤ CHUNK_SIZE }
-    ensures { chunk.new ≡ chunk.old ++ over_fact over.now }
-{
-    match over {
-        None => chunk.add_text(b"null}"),
-        Some(height) => {
-            add_nanometres(chunk, *height);
-            chunk.add_text(b"}");
-        }
-    }
-}
-
-fn add_fixture(chunk: &mut Chunk, met: &Met)
-    requires { HasSpaceForLine chunk.old }
-    ensures { chunk.new ≡ chunk.old ++ fixture_fact met.now }
-{
-    chunk.add_text(b",\n{\"fact\":\"obstacle\",\"kind\":\"fixture\",\"fixture\":");
-    add_count(chunk, met.number as usize);
-    add_name(chunk, b"fixture_name", &met.fixture.name);
-    chunk.add_text(b",\"low\":");
-    add_triple(chunk, &Place::at(&met.fixture.low));
-    chunk.add_text(b",\"high\":");
-    add_triple(chunk, &Place::at(&met.fixture.high));
-    chunk.add_text(b",\"over_from_z\":");
-    add_over(chunk, &met.over);
-}
-
-#[tactic(auto, unfolding(crate::specs::Facts::obstacle_fact))]
-fn add_obstacle(chunk: &mut Chunk, obstacle: &Option<Obstacle>)
-    requires { HasSpaceForLine chunk.old }
-    ensures { chunk.new ≡ chunk.old ++ obstacle_fact obstacle.now }
-{
-    match obstacle {
-        None => chunk.add_text(b",\n{\"fact\":\"obstacle\",\"kind\":null}"),
-        Some(Obstacle::Travel(margin)) => add_travel(chunk, margin),
-        Some(Obstacle::Fixture(met)) => add_fixture(chunk, met),
-    }
-}
-
-#[tactic(auto, unfolding(crate::specs::Facts::distances))]
-fn add_distances(chunk: &mut Chunk, x: u128, y: u128, z: u128)
-    requires { length chunk.old + 124 ≤ CHUNK_SIZE }
-    ensures text { chunk.new ≡ chunk.old ++ distances x y z }
-    ensures short { length chunk.new ≤ length chunk.old + 124 }
-{
-    chunk.add_text(b"[");
-    chunk.add_number(x);
-    chunk.add_text(b",");
-    chunk.add_number(y);
-    chunk.add_text(b",");
-    chunk.add_number(z);
-    chunk.add_text(b"]");
-}
-
-fn add_passed(chunk: &mut Chunk, passed: &Passed)
-    requires { HasSpaceForLine chunk.old }
-    ensures { chunk.new ≡ chunk.old ++ passed_fact passed.now }
-{
-    let shifts = &passed.shifts;
-    chunk.add_text(b",\n{\"fact\":\"clear\",\"kind\":\"fixture\",\"fixture\":");
-    add_count(chunk, passed.number as usize);
-    add_name(chunk, b"fixture_name", &passed.name);
-    chunk.add_text(b",\"plus\":");
-    add_distances(chunk, shifts.x.up, shifts.y.up, shifts.z.up);
-    chunk.add_text(b",\"minus\":");
-    add_distances(chunk, shifts.x.down, shifts.y.down, shifts.z.down);
-    chunk.add_text(b"}");
-}
-
-#[tactic(auto, unfolding(crate::specs::Facts::distance_fact))]
-fn add_shift(chunk: &mut Chunk, shift: Option<u128>)
-    requires { length chunk.old + 41 ≤ CHUNK_SIZE }
-    ensures { chunk.new ≡ chunk.old ++ distance_fact shift }
-{
-    match shift {
-        None => chunk.add_text(b"null}"),
-        Some(shift) => {
-            chunk.add_number(shift);
-            chunk.add_text(b"}");
-        }
-    }
-}
-
-fn add_inward(chunk: &mut Chunk, inward: &Inward)
-    requires { HasSpaceForLine chunk.old }
-    ensures { chunk.new ≡ chunk.old ++ inward_fact inward.now }
-{
-    chunk.add_text(b",\n{\"fact\":\"clear\",\"kind\":\"travel\",\"direction\":\"");
-    chunk.add_text(axis_name(inward.axis));
-    chunk.add_text(away(inward.side));
-    chunk.add_text(b"\",\"distance\":");
-    add_shift(chunk, inward.shift);
-}
-
-#[tactic(auto, unfolding(crate::specs::Facts::clearing_fact))]
-fn add_clearing(chunk: &mut Chunk, clearing: &Option<Clearing>)
-    requires { HasSpaceForLine chunk.old }
-    ensures { chunk.new ≡ chunk.old ++ clearing_fact clearing.now }
-{
-    match clearing {
-        None => {}
-        Some(Clearing::Fixture(passed)) => add_passed(chunk, passed),
-        Some(Clearing::Travel(inward)) => add_inward(chunk, inward),
-    }
-}
-
-fn add_warning(chunk: &mut Chunk, warning: &Warning)
-    requires { HasSpaceForLine chunk.old }
-    ensures { chunk.new ≡ chunk.old ++ warning_fact warning.now }
-{
-    chunk.add_text(b",\n{\"fact\":\"warning\",\"text\":\"");
-    chunk.add_text(concern_words(warning.concern));
-    chunk.add_text(b"\",\"count\":");
-    chunk.add_number(warning.count);
-    chunk.add_text(b",\"line\":");
-    chunk.add_number(warning.line);
-    chunk.add_text(b"}");
-}
-
-// Adds that a program fits, and the motions on which only the spindle nose was tested.
-fn add_nose(chunk: &mut Chunk, nose: &Warning)
-    requires { HasSpaceForLine chunk.old }
-    ensures text { chunk.new ≡ chunk.old ++ nose_fact nose.now }
-    ensures short { length chunk.new ≤ length chunk.old + 300 }
-{
-    chunk.add_text(b",\n{\"fact\":\"verdict\",\"fits\":true,\"tested\":\"nose\",\"motions\":");
-    chunk.add_number(nose.count);
-    chunk.add_text(b",\"first\":");
-    chunk.add_number(nose.line);
-    chunk.add_text(b",\"last\":");
-    chunk.add_number(nose.last);
-    chunk.add_text(b"}");
-}
-
-#[tactic(auto, unfolding(crate::specs::Facts::fits_fact))]
-fn add_fits(chunk: &mut Chunk, nose: &Option<Warning>)
-    requires { HasSpaceForLine chunk.old }
-    ensures text { chunk.new ≡ chunk.old ++ fits_fact nose.now }
-    ensures short { length chunk.new ≤ length chunk.old + 300 }
-{
-    match nose {
-        None => chunk.add_text(b",\n{\"fact\":\"verdict\",\"fits\":true}"),
-        Some(nose) => add_nose(chunk, nose),
-    }
-}
-
 fn described(described: bool) -> &'static [u8]
-    ensures text { result.now ≡ described_fact described }
-    ensures short { length result.now ≤ 60 }
+    ensures { result.now ≡ described_fact described }
 {
     if described {
         b""
@@ -355,30 +93,297 @@ fn described(described: bool) -> &'static [u8]
     }
 }
 
-fn add_verdict(chunk: &mut Chunk, nose: &Option<Warning>, is_described: bool)
-    requires { HasSpaceForLine chunk.old }
-    ensures { chunk.new ≡ chunk.old ++ verdict_fact nose.now is_described }
+// ---- names
+
+fn say_known_name<W: Sink>(key: &[u8], name: &[u8], page: &mut Page, output: &mut W)
+    ensures { Says (W.written output.old) (W.written output.new)
+        (W.failures output.old) (W.failures output.new) page.old page.new
+        (codes ",\"" ++ key.now ++ codes "\":\"" ++ flat_map escaped name.now ++ codes "\"") }
 {
-    add_fits(chunk, nose);
-    chunk.add_text(described(is_described));
+    say!(page, output; b",\"", Part::Text(key), b"\":\"");
+    say_string(name, page, output);
+    say!(page, output; b"\"");
 }
 
-/// Adds the fact of a line.
+// Says a name with a number, if there is one.
+#[tactic(auto, unfolding(crate::specs::Facts::name_fact))]
+fn say_name<W: Sink>(key: &[u8], name: &Name, page: &mut Page, output: &mut W)
+    ensures { Says (W.written output.old) (W.written output.new)
+        (W.failures output.old) (W.failures output.new) page.old page.new
+        (name_fact key.now name.now) }
+{
+    let name = name.as_bytes();
+    if !name.is_empty() {
+        say_known_name(key, name, page, output);
+    }
+}
+
+#[tactic(auto, unfolding(crate::specs::Facts::tool_fact))]
+fn say_tool<W: Sink>(tool: &Option<Tool>, page: &mut Page, output: &mut W)
+    ensures { Says (W.written output.old) (W.written output.new)
+        (W.failures output.old) (W.failures output.new) page.old page.new (tool_fact tool.now) }
+{
+    match tool {
+        None => say!(page, output; b"null"),
+        Some(tool) => {
+            say!(page, output; Part::Number(u128::from(tool.number)));
+            say_name(b"tool_name", &tool.name, page, output);
+        }
+    }
+}
+
+// ---- the program
+
+fn along(along: &Along) -> [Part<'static>; 11]
+    ensures { parts_text result ≡ along_fact along.now }
+{
+    [
+        Part::Text(b",\n{\"fact\":\"extent\",\"axis\":\""),
+        Part::Text(axis_name(along.axis)),
+        Part::Text(b"\",\"low\":"),
+        signed(&along.low),
+        Part::Text(b",\"high\":"),
+        signed(&along.high),
+        Part::Text(b",\"left_below\":"),
+        signed(&along.room.below),
+        Part::Text(b",\"left_above\":"),
+        signed(&along.room.above),
+        Part::Text(b"}"),
+    ]
+}
+
+fn say_use<W: Sink>(one: &ToolUse, page: &mut Page, output: &mut W)
+    ensures { Says (W.written output.old) (W.written output.new)
+        (W.failures output.old) (W.failures output.new) page.old page.new (use_fact one.now) }
+{
+    say!(page, output; b",\n{\"fact\":\"use\",\"tool\":");
+    say_tool(&one.tool, page, output);
+    say!(page, output; b",\"traverses\":", Part::Number(one.traverses as u128), b",\"traverse_way\":", Part::Number(one.traverse_way), b",\"feeds\":", Part::Number(one.feeds as u128), b",\"feed_way\":", Part::Number(one.feed_way), b",\"arcs\":", Part::Number(one.arcs as u128), b",\"dwells\":", Part::Number(one.dwells as u128), b",\"stops\":", Part::Number(one.stops as u128));
+}
+
+fn say_distance<W: Sink>(nearest: &Nearest, name: &Name, page: &mut Page, output: &mut W)
+    ensures { Says (W.written output.old) (W.written output.new)
+        (W.failures output.old) (W.failures output.new) page.old page.new
+        (codes ",\"nearest_fixture\":" ++ decimal nearest.now.fixture
+        ++ name_fact (codes "fixture_name") name.now ++ codes ",\"distance\":"
+        ++ signed_decimal nearest.now.distance ++ codes "}") }
+{
+    say!(page, output; b",\"nearest_fixture\":", Part::Number(u128::from(nearest.fixture)));
+    say_name(b"fixture_name", name, page, output);
+    say!(page, output; b",\"distance\":");
+    page.say(output, &distance(nearest.distance));
+    say!(page, output; b"}");
+}
+
+#[tactic(auto, unfolding(crate::specs::Facts::nearest_fact))]
+fn say_nearest<W: Sink>(nearest: &Option<Nearest>, name: &Name, page: &mut Page, output: &mut W)
+    ensures { Says (W.written output.old) (W.written output.new)
+        (W.failures output.old) (W.failures output.new) page.old page.new
+        (nearest_fact nearest.now name.now) }
+{
+    match nearest {
+        None => say!(page, output; b",\"nearest_fixture\":null,\"distance\":null}"),
+        Some(nearest) => say_distance(nearest, name, page, output),
+    }
+}
+
+fn warning(warning: &Warning) -> [Part<'static>; 7]
+    ensures { parts_text result ≡ warning_fact warning.now }
+{
+    [
+        Part::Text(b",\n{\"fact\":\"warning\",\"text\":\""),
+        Part::Text(concern_words(warning.concern)),
+        Part::Text(b"\",\"count\":"),
+        Part::Number(warning.count as u128),
+        Part::Text(b",\"line\":"),
+        Part::Number(u128::from(warning.line)),
+        Part::Text(b"}"),
+    ]
+}
+
+fn nose(nose: &Warning) -> [Part<'static>; 7]
+    ensures { parts_text result ≡ nose_fact nose.now }
+{
+    [
+        Part::Text(b",\n{\"fact\":\"verdict\",\"fits\":true,\"tested\":\"nose\",\"motions\":"),
+        Part::Number(nose.count as u128),
+        Part::Text(b",\"first\":"),
+        Part::Number(u128::from(nose.line)),
+        Part::Text(b",\"last\":"),
+        Part::Number(u128::from(nose.last)),
+        Part::Text(b"}"),
+    ]
+}
+
+#[tactic(auto, unfolding(crate::specs::Facts::fits_fact))]
+fn say_fits<W: Sink>(unmounted: &Option<Warning>, page: &mut Page, output: &mut W)
+    ensures { Says (W.written output.old) (W.written output.new)
+        (W.failures output.old) (W.failures output.new) page.old page.new (fits_fact unmounted.now) }
+{
+    match unmounted {
+        None => say!(page, output; b",\n{\"fact\":\"verdict\",\"fits\":true}"),
+        Some(warning) => page.say(output, &nose(warning)),
+    }
+}
+
+fn say_verdict<W: Sink>(nose: &Option<Warning>, is_described: bool, page: &mut Page, output: &mut W)
+    ensures { Says (W.written output.old) (W.written output.new)
+        (W.failures output.old) (W.failures output.new) page.old page.new
+        (verdict_fact nose.now is_described) }
+{
+    say_fits(nose, page, output);
+    say!(page, output; Part::Text(described(is_described)));
+}
+
+// ---- a command and its obstacle
+
+fn say_start<W: Sink>(scene: &Scene, page: &mut Page, output: &mut W)
+    ensures { Says (W.written output.old) (W.written output.new)
+        (W.failures output.old) (W.failures output.new) page.old page.new (start_fact scene.now) }
+{
+    say!(page, output; b",\n{\"fact\":\"start\",\"at\":");
+    page.say(output, &triple(&scene.from));
+    say!(page, output; b"}");
+}
+
+fn say_command<W: Sink>(command: usize, scene: &Scene, page: &mut Page, output: &mut W)
+    ensures { Says (W.written output.old) (W.written output.new)
+        (W.failures output.old) (W.failures output.new) page.old page.new
+        (command_fact command scene.now) }
+{
+    say!(page, output; b",\n{\"fact\":\"command\",\"index\":", Part::Number(command as u128), b",\"line\":", Part::Number(u128::from(scene.line)), b",\"tool\":");
+    say_tool(&scene.tool, page, output);
+    say!(page, output; b",\"from\":");
+    page.say(output, &triple(&scene.from));
+    say!(page, output; b",\"to\":");
+    page.say(output, &triple(&scene.to));
+    say!(page, output; b"}");
+}
+
+fn travel(margin: &Margin) -> [Part<'static>; 7]
+    ensures { parts_text result ≡ travel_fact margin.now }
+{
+    [
+        Part::Text(b",\n{\"fact\":\"obstacle\",\"kind\":\"travel\",\"axis\":\""),
+        Part::Text(axis_name(margin.axis)),
+        Part::Text(b"\",\"side\":\""),
+        Part::Text(side_name(margin.side)),
+        Part::Text(b"\",\"left\":"),
+        signed(&margin.left),
+        Part::Text(b"}"),
+    ]
+}
+
+fn say_travel<W: Sink>(margin: &Margin, page: &mut Page, output: &mut W)
+    ensures { Says (W.written output.old) (W.written output.new)
+        (W.failures output.old) (W.failures output.new) page.old page.new (travel_fact margin.now) }
+{
+    page.say(output, &travel(margin));
+}
+
+#[tactic(auto, unfolding(crate::specs::Facts::over_fact))]
+fn say_over<W: Sink>(over: &Option<i64>, page: &mut Page, output: &mut W)
+    ensures { Says (W.written output.old) (W.written output.new)
+        (W.failures output.old) (W.failures output.new) page.old page.new (over_fact over.now) }
+{
+    match over {
+        None => say!(page, output; b"null}"),
+        Some(height) => say!(page, output; signed(height), b"}"),
+    }
+}
+
+fn say_fixture<W: Sink>(met: &Met, page: &mut Page, output: &mut W)
+    ensures { Says (W.written output.old) (W.written output.new)
+        (W.failures output.old) (W.failures output.new) page.old page.new (fixture_fact met.now) }
+{
+    say!(page, output; b",\n{\"fact\":\"obstacle\",\"kind\":\"fixture\",\"fixture\":", Part::Number(u128::from(met.number)));
+    say_name(b"fixture_name", &met.fixture.name, page, output);
+    say!(page, output; b",\"low\":");
+    page.say(output, &triple(&Place::at(&met.fixture.low)));
+    say!(page, output; b",\"high\":");
+    page.say(output, &triple(&Place::at(&met.fixture.high)));
+    say!(page, output; b",\"over_from_z\":");
+    say_over(&met.over, page, output);
+}
+
+#[tactic(auto, unfolding(crate::specs::Facts::obstacle_fact))]
+fn say_obstacle<W: Sink>(obstacle: &Option<Obstacle>, page: &mut Page, output: &mut W)
+    ensures { Says (W.written output.old) (W.written output.new)
+        (W.failures output.old) (W.failures output.new) page.old page.new
+        (obstacle_fact obstacle.now) }
+{
+    match obstacle {
+        None => say!(page, output; b",\n{\"fact\":\"obstacle\",\"kind\":null}"),
+        Some(Obstacle::Travel(margin)) => say_travel(margin, page, output),
+        Some(Obstacle::Fixture(met)) => say_fixture(met, page, output),
+    }
+}
+
+fn say_passed<W: Sink>(passed: &Passed, page: &mut Page, output: &mut W)
+    ensures { Says (W.written output.old) (W.written output.new)
+        (W.failures output.old) (W.failures output.new) page.old page.new (passed_fact passed.now) }
+{
+    let shifts = &passed.shifts;
+    say!(page, output; b",\n{\"fact\":\"clear\",\"kind\":\"fixture\",\"fixture\":", Part::Number(u128::from(passed.number)));
+    say_name(b"fixture_name", &passed.name, page, output);
+    say!(page, output; b",\"plus\":");
+    page.say(output, &distances(shifts.x.up, shifts.y.up, shifts.z.up));
+    say!(page, output; b",\"minus\":");
+    page.say(
+        output,
+        &distances(shifts.x.down, shifts.y.down, shifts.z.down),
+    );
+    say!(page, output; b"}");
+}
+
+#[tactic(auto, unfolding(crate::specs::Facts::distance_fact))]
+fn say_shift<W: Sink>(shift: Option<u128>, page: &mut Page, output: &mut W)
+    ensures { Says (W.written output.old) (W.written output.new)
+        (W.failures output.old) (W.failures output.new) page.old page.new (distance_fact shift) }
+{
+    match shift {
+        None => say!(page, output; b"null}"),
+        Some(shift) => say!(page, output; Part::Number(shift), b"}"),
+    }
+}
+
+fn say_inward<W: Sink>(inward: &Inward, page: &mut Page, output: &mut W)
+    ensures { Says (W.written output.old) (W.written output.new)
+        (W.failures output.old) (W.failures output.new) page.old page.new (inward_fact inward.now) }
+{
+    say!(page, output; b",\n{\"fact\":\"clear\",\"kind\":\"travel\",\"direction\":\"", Part::Text(axis_name(inward.axis)), Part::Text(away(inward.side)), b"\",\"distance\":");
+    say_shift(inward.shift, page, output);
+}
+
+#[tactic(auto, unfolding(crate::specs::Facts::clearing_fact))]
+fn say_clearing<W: Sink>(clearing: &Option<Clearing>, page: &mut Page, output: &mut W)
+    ensures { Says (W.written output.old) (W.written output.new)
+        (W.failures output.old) (W.failures output.new) page.old page.new
+        (clearing_fact clearing.now) }
+{
+    match clearing {
+        None => {}
+        Some(Clearing::Fixture(passed)) => say_passed(passed, page, output),
+        Some(Clearing::Travel(inward)) => say_inward(inward, page, output),
+    }
+}
+
+/// Says the fact of a line.
 #[tactic(auto, unfolding(crate::specs::Facts::line_fact))]
-pub(crate) fn add_fact(chunk: &mut Chunk, line: &Line)
-    requires { HasSpaceForLine chunk.old }
-    ensures { chunk.new ≡ chunk.old ++ line_fact line.now }
+pub(crate) fn say_fact<W: Sink>(line: &Line, page: &mut Page, output: &mut W)
+    ensures { Says (W.written output.old) (W.written output.new)
+        (W.failures output.old) (W.failures output.new) page.old page.new (line_fact line.now) }
 {
     match line {
-        Line::Fits(nose, described) => add_verdict(chunk, nose, *described),
-        Line::Refused => chunk.add_text(b",\n{\"fact\":\"verdict\",\"fits\":false}"),
-        Line::Along(along) => add_along(chunk, along),
-        Line::Use(one) => add_use(chunk, one),
-        Line::Near(nearest, name) => add_nearest(chunk, nearest, name),
-        Line::Start(scene) => add_start(chunk, scene),
-        Line::Command(command, scene) => add_command(chunk, *command, scene),
-        Line::InTheWay(obstacle) => add_obstacle(chunk, obstacle),
-        Line::Clear(clearing) => add_clearing(chunk, clearing),
-        Line::Warned(warning) => add_warning(chunk, warning),
+        Line::Fits(nose, described) => say_verdict(nose, *described, page, output),
+        Line::Refused => say!(page, output; b",\n{\"fact\":\"verdict\",\"fits\":false}"),
+        Line::Along(one) => page.say(output, &along(one)),
+        Line::Use(one) => say_use(one, page, output),
+        Line::Near(nearest, name) => say_nearest(nearest, name, page, output),
+        Line::Start(scene) => say_start(scene, page, output),
+        Line::Command(command, scene) => say_command(*command, scene, page, output),
+        Line::InTheWay(obstacle) => say_obstacle(obstacle, page, output),
+        Line::Clear(clearing) => say_clearing(clearing, page, output),
+        Line::Warned(one) => page.say(output, &warning(one)),
     }
 }

@@ -1,5 +1,5 @@
 //! The word of a quoted line that a fault names, in a mark and a sentence below the line.
-ghost use Rattle.std.specs.Prelude.{◌≡◌, ◌+◌, ◌≤◌, ◌++◌, length, OnOk, OnErr};
+ghost use Rattle.std.specs.Prelude.{◌≡◌, codes, OnOk, OnErr, Some};
 ghost use Rattle.std.specs.Option.{option_map, option_or};
 ghost use Rattle.std.specs.Io.KnownBytes.{Appends};
 ghost use Rattle.ngc_text.specs.Failures.{CountsFailure};
@@ -8,12 +8,13 @@ ghost use Rattle.ngc_line_reader.specs.Letter.{letter_byte};
 ghost use Rattle.ngc_line_reader.specs.Program.{lines_of};
 ghost use Rattle.ngc_line_reader.specs.ProgramView.{text_in};
 ghost use Rattle.ngc_line_reader.specs.ScanLine.{parts_of};
-ghost use Rattle.ngc_text.specs.Collected.{CHUNK_SIZE, HasSpaceForLine};
+ghost use Rattle.ngc_sentences.specs.Parts.{part_text};
+ghost use Rattle.ngc_sentences.specs.Saying.{Says};
 ghost use Rattle.ngc_report.specs.Quotes.{bytes_with};
 ghost use Rattle.ngc_report.specs.Marks.{number_of, written_number, is_wanted, fits, first_word};
-ghost use Rattle.ngc_report.specs.Marks.{named_word, mark_of, mark_if, letter_text, unknown_text};
+ghost use Rattle.ngc_report.specs.Marks.{named_word, mark_of, mark_if, unknown_text};
 ghost use Rattle.ngc_report.specs.Marks.{idle_text, missing_text, phrase, has_phrase};
-ghost use Rattle.ngc_report.specs.Marks.{words_sentence, fact_sentence, sentence, named_line};
+ghost use Rattle.ngc_report.specs.Marks.{words_sentence, fact_sentence, sentence, named_line, content_by, named_below};
 ghost use Rattle.ngc_report.specs.Marks.{named_quote, is_whole_from, breaks_range, breaks_length};
 ghost use Rattle.ngc_report.specs.Marks.{breaks, word_breaks, breaking_word, sets_origin, tool_word};
 ghost use Rattle.ngc_report.specs.Marks.{as_written, written_word, written_of, range_text};
@@ -21,12 +22,13 @@ ghost use Rattle.ngc_report.specs.Marks.{large_text, tool_text, number_phrase};
 ghost use Rattle.ngc_text.specs.Millimetres.{length_text};
 
 use crate::form::Form;
-use crate::quotes::{line_bytes, quote_of};
-use crate::source_lines::{add_mark, source_line};
+use crate::quotes::{line_bytes, say_quote};
+use crate::source_lines::{say_mark, source_line};
 use ngc_canonical::Fault;
 use ngc_line_reader::{Letter, Line, Program, RawWord, Symbol, Token, read_line};
 use ngc_modal_state::{MissingWord, ModalFault};
-use ngc_text::{Chunk, Sink, WriteFault};
+use ngc_sentences::{Page, Part, say};
+use ngc_text::{Sink, WriteFault};
 use std::alloc::Allocator;
 
 /// Returns the byte of a letter, in upper case.
@@ -253,50 +255,10 @@ pub fn mark_of(bytes: &[u8], fault: &Fault) -> Option<u16>
     }
 }
 
-#[tactic(auto, unfolding(crate::specs::Marks::letter_text))]
-fn add_letter(chunk: &mut Chunk, letter: Letter)
-    requires { length chunk.old + 1 ≤ CHUNK_SIZE }
-    ensures text { chunk.new ≡ chunk.old ++ letter_text letter }
-    ensures short { length chunk.new ≡ length chunk.old + 1 }
+fn length<'a>(millionths: &i64) -> Part<'a>
+    ensures { part_text result ≡ length_text millionths.now }
 {
-    chunk.add_text(&[letter_byte(letter)]);
-}
-
-fn add_unknown(chunk: &mut Chunk, letter: Letter, millionths: i64)
-    requires { length chunk.old + 80 ≤ CHUNK_SIZE }
-    ensures text { chunk.new ≡ chunk.old ++ unknown_text letter millionths }
-    ensures short { length chunk.new ≤ length chunk.old + 80 }
-{
-    chunk.add_text(b"The code ");
-    add_letter(chunk, letter);
-    chunk.add_length(i128::from(millionths));
-    chunk.add_text(b" is unknown.");
-}
-
-fn add_idle(chunk: &mut Chunk, letter: Letter)
-    requires { length chunk.old + 80 ≤ CHUNK_SIZE }
-    ensures text { chunk.new ≡ chunk.old ++ idle_text letter }
-    ensures short { length chunk.new ≤ length chunk.old + 80 }
-{
-    chunk.add_text(b"Nothing uses the word ");
-    add_letter(chunk, letter);
-    chunk.add_text(b".");
-}
-
-#[tactic(auto, unfolding(crate::specs::Marks::missing_text))]
-fn add_missing(chunk: &mut Chunk, word: MissingWord)
-    requires { length chunk.old + 80 ≤ CHUNK_SIZE }
-    ensures text { chunk.new ≡ chunk.old ++ missing_text word }
-    ensures short { length chunk.new ≤ length chunk.old + 80 }
-{
-    match word {
-        MissingWord::Axis => chunk.add_text(b"An axis word is missing."),
-        MissingWord::Letter(letter) => {
-            chunk.add_text(b"The word ");
-            add_letter(chunk, letter);
-            chunk.add_text(b" is missing.");
-        }
-    }
+    Part::Length(*millionths)
 }
 
 // A word by its letter and the number as which it is written.
@@ -337,73 +299,100 @@ fn written_of(bytes: &[u8], fault: &Fault) -> Option<WrittenWord>
     }
 }
 
-fn add_word(chunk: &mut Chunk, word: &WrittenWord)
-    requires { length chunk.old + 50 ≤ CHUNK_SIZE }
-    ensures text { chunk.new ≡ chunk.old
-        ++ (letter_text word.now.letter ++ length_text word.now.millionths) }
-    ensures short { length chunk.new ≤ length chunk.old + 50 }
+#[tactic(auto, unfolding(crate::specs::Marks::letter_text))]
+fn say_unknown<W: Sink>(letter: Letter, millionths: &i64, page: &mut Page, output: &mut W)
+    ensures { Says (W.written output.old) (W.written output.new)
+        (W.failures output.old) (W.failures output.new) page.old page.new
+        (unknown_text letter millionths.now) }
 {
-    add_letter(chunk, word.letter);
-    chunk.add_length(i128::from(word.millionths));
+    say!(page, output; b"The code ", Part::Text(&[letter_byte(letter)]), length(millionths), b" is unknown.");
 }
 
-fn add_out_of_range(chunk: &mut Chunk, word: &WrittenWord)
-    requires { length chunk.old + 80 ≤ CHUNK_SIZE }
-    ensures text { chunk.new ≡ chunk.old ++ range_text word.now }
-    ensures short { length chunk.new ≤ length chunk.old + 80 }
+#[tactic(auto, unfolding(crate::specs::Marks::letter_text))]
+fn say_idle<W: Sink>(letter: Letter, page: &mut Page, output: &mut W)
+    ensures { Says (W.written output.old) (W.written output.new)
+        (W.failures output.old) (W.failures output.new) page.old page.new
+        (idle_text letter) }
 {
-    add_word(chunk, word);
-    chunk.add_text(b" is out of its range.");
+    say!(page, output; b"Nothing uses the word ", Part::Text(&[letter_byte(letter)]), b".");
 }
 
-fn add_too_large(chunk: &mut Chunk, word: &WrittenWord)
-    requires { length chunk.old + 80 ≤ CHUNK_SIZE }
-    ensures text { chunk.new ≡ chunk.old ++ large_text word.now }
-    ensures short { length chunk.new ≤ length chunk.old + 80 }
+#[tactic(auto, unfolding(crate::specs::Marks::letter_text, crate::specs::Marks::missing_text))]
+fn say_missing<W: Sink>(word: MissingWord, page: &mut Page, output: &mut W)
+    ensures { Says (W.written output.old) (W.written output.new)
+        (W.failures output.old) (W.failures output.new) page.old page.new
+        (missing_text word) }
 {
-    add_word(chunk, word);
-    chunk.add_text(b" is too large.");
+    match word {
+        MissingWord::Axis => say!(page, output; b"An axis word is missing."),
+        MissingWord::Letter(letter) =>
+            say!(page, output; b"The word ", Part::Text(&[letter_byte(letter)]), b" is missing."),
+    }
 }
 
-fn add_no_tool(chunk: &mut Chunk, tool: u32)
-    requires { length chunk.old + 80 ≤ CHUNK_SIZE }
-    ensures text { chunk.new ≡ chunk.old ++ tool_text tool }
-    ensures short { length chunk.new ≤ length chunk.old + 80 }
+#[tactic(auto, unfolding(crate::specs::Marks::letter_text))]
+fn say_out_of_range<W: Sink>(word: &WrittenWord, page: &mut Page, output: &mut W)
+    ensures { Says (W.written output.old) (W.written output.new)
+        (W.failures output.old) (W.failures output.new) page.old page.new
+        (range_text word.now) }
 {
-    chunk.add_text(b"Tool ");
-    chunk.add_number(tool);
-    chunk.add_text(b" isn't in the tool table.");
+    say!(page, output; Part::Text(&[letter_byte(word.letter)]), length(&word.millionths), b" is out of its range.");
 }
 
-// Adds the sentence about a word by its number.
-fn add_number_phrase(chunk: &mut Chunk, fault: &Fault, word: &WrittenWord)
-    requires { length chunk.old + 80 ≤ CHUNK_SIZE }
-    ensures text { chunk.new ≡ chunk.old ++ number_phrase fault.now word.now }
-    ensures short { length chunk.new ≤ length chunk.old + 80 }
+#[tactic(auto, unfolding(crate::specs::Marks::letter_text))]
+fn say_too_large<W: Sink>(word: &WrittenWord, page: &mut Page, output: &mut W)
+    ensures { Says (W.written output.old) (W.written output.new)
+        (W.failures output.old) (W.failures output.new) page.old page.new
+        (large_text word.now) }
+{
+    say!(page, output; Part::Text(&[letter_byte(word.letter)]), length(&word.millionths), b" is too large.");
+}
+
+fn say_no_feed<W: Sink>(page: &mut Page, output: &mut W)
+    ensures { Says (W.written output.old) (W.written output.new)
+        (W.failures output.old) (W.failures output.new) page.old page.new
+        (codes "No feed above 0 is set for this motion.") }
+{
+    say!(page, output; b"No feed above 0 is set for this motion.");
+}
+
+fn say_no_tool<W: Sink>(tool: u32, page: &mut Page, output: &mut W)
+    ensures { Says (W.written output.old) (W.written output.new)
+        (W.failures output.old) (W.failures output.new) page.old page.new
+        (tool_text tool) }
+{
+    say!(page, output; b"Tool ", Part::Number(u128::from(tool)), b" isn't in the tool table.");
+}
+
+// Says the sentence about a word by its number.
+fn say_number_phrase<W: Sink>(fault: &Fault, word: &WrittenWord, page: &mut Page, output: &mut W)
+    ensures { Says (W.written output.old) (W.written output.new)
+        (W.failures output.old) (W.failures output.new) page.old page.new
+        (number_phrase fault.now word.now) }
 {
     match fault {
-        Fault::Modal(ModalFault::OutOfRange) => add_out_of_range(chunk, word),
-        Fault::Length(_) => add_too_large(chunk, word),
+        Fault::Modal(ModalFault::OutOfRange) => say_out_of_range(word, page, output),
+        Fault::Length(_) => say_too_large(word, page, output),
         _ => {}
     }
 }
 
-fn add_phrase(chunk: &mut Chunk, fault: &Fault, word: &Option<WrittenWord>)
-    requires { length chunk.old + 80 ≤ CHUNK_SIZE }
-    ensures text { chunk.new ≡ chunk.old ++ phrase fault.now word.now }
-    ensures short { length chunk.new ≤ length chunk.old + 80 }
+fn say_phrase<W: Sink>(fault: &Fault, word: &Option<WrittenWord>, page: &mut Page, output: &mut W)
+    ensures { Says (W.written output.old) (W.written output.new)
+        (W.failures output.old) (W.failures output.new) page.old page.new
+        (phrase fault.now word.now) }
 {
     match fault {
-        Fault::FeedZero => chunk.add_text(b"No feed above 0 is set for this motion."),
-        Fault::NoSuchTool(tool) => add_no_tool(chunk, *tool),
+        Fault::FeedZero => say_no_feed(page, output),
+        Fault::NoSuchTool(tool) => say_no_tool(*tool, page, output),
         Fault::Modal(ModalFault::UnknownCode { letter, millionths }) => {
-            add_unknown(chunk, *letter, *millionths)
+            say_unknown(*letter, millionths, page, output)
         }
-        Fault::Modal(ModalFault::WithoutUse(letter)) => add_idle(chunk, *letter),
-        Fault::Modal(ModalFault::WordMissing(word)) => add_missing(chunk, *word),
+        Fault::Modal(ModalFault::WithoutUse(letter)) => say_idle(*letter, page, output),
+        Fault::Modal(ModalFault::WordMissing(word)) => say_missing(*word, page, output),
         _ => match word {
             None => {}
-            Some(word) => add_number_phrase(chunk, fault, word),
+            Some(word) => say_number_phrase(fault, word, page, output),
         },
     }
 }
@@ -423,67 +412,109 @@ fn has_phrase(fault: &Fault, word: &Option<WrittenWord>) -> bool
     }
 }
 
-fn add_words(chunk: &mut Chunk, fault: &Fault, word: &Option<WrittenWord>)
-    requires { HasSpaceForLine chunk.old }
-    ensures { chunk.new ≡ chunk.old ++ words_sentence fault.now word.now }
+fn say_words<W: Sink>(fault: &Fault, word: &Option<WrittenWord>, page: &mut Page, output: &mut W)
+    ensures { Says (W.written output.old) (W.written output.new)
+        (W.failures output.old) (W.failures output.new) page.old page.new
+        (words_sentence fault.now word.now) }
 {
-    add_phrase(chunk, fault, word);
-    chunk.add_text(b"\n");
+    say_phrase(fault, word, page, output);
+    say!(page, output; b"\n");
 }
 
-fn add_fact(chunk: &mut Chunk, fault: &Fault, word: &Option<WrittenWord>)
-    requires { HasSpaceForLine chunk.old }
-    ensures { chunk.new ≡ chunk.old ++ fact_sentence fault.now word.now }
+fn say_fact<W: Sink>(fault: &Fault, word: &Option<WrittenWord>, page: &mut Page, output: &mut W)
+    ensures { Says (W.written output.old) (W.written output.new)
+        (W.failures output.old) (W.failures output.new) page.old page.new
+        (fact_sentence fault.now word.now) }
 {
-    chunk.add_text(b",\n{\"fact\":\"reason\",\"text\":\"");
-    add_phrase(chunk, fault, word);
-    chunk.add_text(b"\"}");
+    say!(page, output; b",\n{\"fact\":\"reason\",\"text\":\"");
+    say_phrase(fault, word, page, output);
+    say!(page, output; b"\"}");
+}
+
+fn say_content<W: Sink>(
+    form: Form,
+    fault: &Fault,
+    word: &Option<WrittenWord>,
+    page: &mut Page,
+    output: &mut W,
+)
+    ensures { Says (W.written output.old) (W.written output.new)
+        (W.failures output.old) (W.failures output.new) page.old page.new
+        (content_by form fault.now word.now) }
+{
+    match form {
+        Form::Words => say_words(fault, word, page, output),
+        Form::Json => say_fact(fault, word, page, output),
+    }
 }
 
 #[tactic(auto, unfolding(crate::specs::Marks::sentence))]
-fn add_sentence(chunk: &mut Chunk, form: Form, fault: &Fault, word: &Option<WrittenWord>)
-    requires { HasSpaceForLine chunk.old }
-    ensures { chunk.new ≡ chunk.old ++ sentence form fault.now word.now }
+fn say_sentence<W: Sink>(
+    form: Form,
+    fault: &Fault,
+    word: &Option<WrittenWord>,
+    page: &mut Page,
+    output: &mut W,
+)
+    ensures { Says (W.written output.old) (W.written output.new)
+        (W.failures output.old) (W.failures output.new) page.old page.new
+        (sentence form fault.now word.now) }
 {
-    if !has_phrase(fault, word) {
-        return;
-    }
-    match form {
-        Form::Words => add_words(chunk, fault, word),
-        Form::Json => add_fact(chunk, fault, word),
+    if has_phrase(fault, word) {
+        say_content(form, fault, word, page, output);
     }
 }
 
 #[tactic(auto, unfolding(crate::specs::Marks::mark_if))]
-fn add_mark_if(chunk: &mut Chunk, form: Form, number: u32, column: Option<u16>)
-    requires { length chunk.old ≤ 1000 }
-    ensures text { chunk.new ≡ chunk.old ++ mark_if form number column }
-    ensures short { length chunk.new ≤ length chunk.old + 500 }
+fn say_mark_if<W: Sink>(
+    form: Form,
+    number: u32,
+    column: Option<u16>,
+    page: &mut Page,
+    output: &mut W,
+)
+    ensures { Says (W.written output.old) (W.written output.new)
+        (W.failures output.old) (W.failures output.new) page.old page.new
+        (mark_if form number column) }
 {
     match column {
         None => {}
-        Some(column) => add_mark(chunk, form, number, column),
+        Some(column) => say_mark(form, number, column, page, output),
     }
 }
 
-fn add_named(chunk: &mut Chunk, form: Form, number: u32, bytes: &[u8], fault: &Fault)
-    requires { length chunk.old ≤ 1000 }
-    ensures { chunk.new ≡ chunk.old
-        ++ (mark_if form number (mark_of bytes.now fault.now)
-        ++ sentence form fault.now (written_of bytes.now fault.now)) }
+// Says the word of a line that a fault is about, below the line.
+fn say_named<W: Sink>(
+    form: Form,
+    number: u32,
+    bytes: &[u8],
+    fault: &Fault,
+    page: &mut Page,
+    output: &mut W,
+)
+    ensures { Says (W.written output.old) (W.written output.new)
+        (W.failures output.old) (W.failures output.new) page.old page.new
+        (named_below form number fault.now (Some bytes.now)) }
 {
-    add_mark_if(chunk, form, number, mark_of(bytes, fault));
-    add_sentence(chunk, form, fault, &written_of(bytes, fault));
+    say_mark_if(form, number, mark_of(bytes, fault), page, output);
+    say_sentence(form, fault, &written_of(bytes, fault), page, output);
 }
 
-fn named<A: Allocator>(program: &Program<A>, form: Form, number: u32, fault: &Fault) -> Chunk
-    ensures { result ≡ named_line form number fault.now (text_in program.now).lines }
+fn say_named_if<W: Sink>(
+    form: Form,
+    number: u32,
+    bytes: Option<&[u8]>,
+    fault: &Fault,
+    page: &mut Page,
+    output: &mut W,
+)
+    ensures { Says (W.written output.old) (W.written output.new)
+        (W.failures output.old) (W.failures output.new) page.old page.new
+        (named_below form number fault.now (option_map (λ b. b.now) bytes.entry)) }
 {
-    let mut chunk = Chunk::new();
-    if let Some(bytes) = line_bytes(program, number) {
-        add_named(&mut chunk, form, number, bytes, fault);
+    if let Some(bytes) = bytes {
+        say_named(form, number, bytes, fault, page, output);
     }
-    chunk
 }
 
 /// Writes the word of a line that a fault is about, below what `write_line` writes of that line, by
@@ -518,19 +549,28 @@ pub fn write_named<A: Allocator, W: Sink>(
         (named_line form number fault.now (text_in program.now).lines)) }
     ensures counts { CountsFailure (W.failures sink.old) (W.failures sink.new) result }
 {
-    let mut chunk = named(program, form, number, fault);
-    chunk.write_out(sink)
+    let mut page = Page::new();
+    let bytes = line_bytes(program, number);
+    say_named_if(form, number, bytes, fault, &mut page, sink);
+    page.finish(sink)
 }
 
-fn named_quote(form: Form, number: u32, bytes: Option<&[u8]>, fault: &Fault) -> Chunk
-    ensures { result ≡ named_quote form number fault.now (option_map (λ b. b.now) bytes.entry) }
+fn say_named_quote<W: Sink>(
+    form: Form,
+    number: u32,
+    bytes: Option<&[u8]>,
+    fault: &Fault,
+    page: &mut Page,
+    output: &mut W,
+)
+    ensures { Says (W.written output.old) (W.written output.new)
+        (W.failures output.old) (W.failures output.new) page.old page.new
+        (named_quote form number fault.now (option_map (λ b. b.now) bytes.entry)) }
 {
-    let mut chunk = quote_of(form, number, bytes);
-    match bytes {
-        None => {}
-        Some(bytes) => add_named(&mut chunk, form, number, bytes, fault),
+    if let Some(bytes) = bytes {
+        say_quote(form, number, bytes, page, output);
+        say_named(form, number, bytes, fault, page, output);
     }
-    chunk
 }
 
 /// Writes a line of a program's text, by its number from 1, and below it the word that the fault is
@@ -552,6 +592,8 @@ pub fn write_named_source<W: Sink>(
         (named_quote form number fault.now (bytes_with number (lines_of text.now)))) }
     ensures counts { CountsFailure (W.failures sink.old) (W.failures sink.new) result }
 {
-    let mut chunk = named_quote(form, number, source_line(text, number), fault);
-    chunk.write_out(sink)
+    let mut page = Page::new();
+    let bytes = source_line(text, number);
+    say_named_quote(form, number, bytes, fault, &mut page, sink);
+    page.finish(sink)
 }

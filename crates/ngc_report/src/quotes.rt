@@ -1,16 +1,18 @@
 //! A line of a program as a report shows it.
-ghost use Rattle.std.specs.Prelude.{◌≡◌, ◌+◌, ◌*◌, ◌++◌, ◌≤◌, flat_map, length, OnOk, OnErr};
+ghost use Rattle.std.specs.Prelude.{◌≡◌, flat_map, OnOk, OnErr, Some};
 ghost use Rattle.std.specs.Option.{option_map};
 ghost use Rattle.std.specs.Io.KnownBytes.{Appends};
 ghost use Rattle.ngc_text.specs.Failures.{CountsFailure};
 ghost use Rattle.ngc_text.specs.Written.{AppendsPrefix};
 ghost use Rattle.ngc_line_reader.specs.ProgramView.{text_in};
-ghost use Rattle.ngc_text.specs.Collected.{CHUNK_SIZE};
+ghost use Rattle.ngc_text.specs.Shown.{shown_line};
+ghost use Rattle.ngc_sentences.specs.Saying.{Says};
 ghost use Rattle.ngc_report.specs.Quotes.{line_with, escaped, fact_quote, quote, quoted};
 
 use crate::form::Form;
 use ngc_line_reader::Program;
-use ngc_text::{Chunk, Sink, WriteFault, shown_bytes};
+use ngc_sentences::{Page, Part, say};
+use ngc_text::{Sink, WriteFault, shown_bytes};
 use std::alloc::Allocator;
 
 /// Returns the bytes of the line with this number in the file.
@@ -26,53 +28,81 @@ pub(crate) fn line_bytes<A: Allocator>(program: &Program<A>, number: u32) -> Opt
     None
 }
 
-fn add_escaped(chunk: &mut Chunk, byte: u8)
-    requires { length chunk.old + 2 ≤ CHUNK_SIZE }
-    ensures text { chunk.new ≡ chunk.old ++ escaped byte }
-    ensures short { length chunk.new ≤ length chunk.old + 2 }
+fn say_escaped<W: Sink>(byte: u8, page: &mut Page, output: &mut W)
+    ensures { Says (W.written output.old) (W.written output.new)
+        (W.failures output.old) (W.failures output.new) page.old page.new (escaped byte) }
 {
     if byte == b'"' || byte == b'\\' {
-        chunk.add_text(&[b'\\', byte]);
+        say!(page, output; Part::Text(&[b'\\', byte]));
     } else {
-        chunk.add_text(&[byte]);
+        say!(page, output; Part::Text(&[byte]));
     }
 }
 
-/// Adds a text whose quotation marks and backslashes are escaped.
-pub(crate) fn add_string(chunk: &mut Chunk, text: &[u8])
-    requires { length chunk.old + 2 * length text.now ≤ CHUNK_SIZE }
-    ensures text { chunk.new ≡ chunk.old ++ flat_map escaped text.now }
-    ensures short { length chunk.new ≤ length chunk.old + 2 * length text.now }
+/// Says a text whose quotation marks and backslashes are escaped.
+pub(crate) fn say_string<W: Sink>(text: &[u8], page: &mut Page, output: &mut W)
+    ensures { Says (W.written output.old) (W.written output.new)
+        (W.failures output.old) (W.failures output.new) page.old page.new
+        (flat_map escaped text.now) }
 {
     for byte in text {
-        add_escaped(chunk, *byte);
+        say_escaped(*byte, page, output);
     }
 }
 
-fn add_fact(chunk: &mut Chunk, number: u32, bytes: &[u8])
-    requires { length chunk.old + 700 ≤ CHUNK_SIZE }
-    ensures text { chunk.new ≡ chunk.old ++ fact_quote number bytes.now }
-    ensures short { length chunk.new ≤ length chunk.old + 700 }
+fn say_shown<W: Sink>(number: u32, bytes: &[u8], page: &mut Page, output: &mut W)
+    ensures { Says (W.written output.old) (W.written output.new)
+        (W.failures output.old) (W.failures output.new) page.old page.new
+        (shown_line number bytes.now) }
 {
-    chunk.add_text(b",\n{\"fact\":\"line\",\"number\":");
-    chunk.add_number(number);
-    chunk.add_text(b",\"text\":\"");
-    add_string(chunk, shown_bytes(bytes).as_slice());
-    chunk.add_text(b"\"}");
+    let shown = shown_bytes(bytes);
+    say!(page, output; b"Line ", Part::Number(u128::from(number)), b": ", Part::Text(shown.as_slice()), b"\n");
+}
+
+fn say_fact<W: Sink>(number: u32, bytes: &[u8], page: &mut Page, output: &mut W)
+    ensures { Says (W.written output.old) (W.written output.new)
+        (W.failures output.old) (W.failures output.new) page.old page.new
+        (fact_quote number bytes.now) }
+{
+    let shown = shown_bytes(bytes);
+    say!(page, output; b",\n{\"fact\":\"line\",\"number\":", Part::Number(u128::from(number)), b",\"text\":\"");
+    say_string(shown.as_slice(), page, output);
+    say!(page, output; b"\"}");
 }
 
 #[tactic(auto, unfolding(crate::specs::Quotes::quote))]
-pub(crate) fn quote_of(form: Form, number: u32, bytes: Option<&[u8]>) -> Chunk
-    ensures text { result ≡ quote form number (option_map (λ b. b.now) bytes.entry) }
-    ensures short { length result ≤ 1000 }
+pub(crate) fn say_quote<W: Sink>(
+    form: Form,
+    number: u32,
+    bytes: &[u8],
+    page: &mut Page,
+    output: &mut W,
+)
+    ensures { Says (W.written output.old) (W.written output.new)
+        (W.failures output.old) (W.failures output.new) page.old page.new
+        (quote form number (Some bytes.now)) }
 {
-    let mut chunk = Chunk::new();
-    match (form, bytes) {
-        (_, None) => {}
-        (Form::Words, Some(bytes)) => chunk.add_line(number as usize, bytes),
-        (Form::Json, Some(bytes)) => add_fact(&mut chunk, number, bytes),
+    match form {
+        Form::Words => say_shown(number, bytes, page, output),
+        Form::Json => say_fact(number, bytes, page, output),
     }
-    chunk
+}
+
+#[tactic(auto, unfolding(crate::specs::Quotes::quote))]
+fn say_quote_if<W: Sink>(
+    form: Form,
+    number: u32,
+    bytes: Option<&[u8]>,
+    page: &mut Page,
+    output: &mut W,
+)
+    ensures { Says (W.written output.old) (W.written output.new)
+        (W.failures output.old) (W.failures output.new) page.old page.new
+        (quote form number (option_map (λ b. b.now) bytes.entry)) }
+{
+    if let Some(bytes) = bytes {
+        say_quote(form, number, bytes, page, output);
+    }
 }
 
 /// Writes a line of a program as `Line 3: G0 X400`, by its number in the file, from 1. Bytes that a
@@ -94,6 +124,7 @@ pub fn write_line<A: Allocator, W: Sink>(
         (quoted form number (text_in program.now).lines)) }
     ensures counts { CountsFailure (W.failures sink.old) (W.failures sink.new) result }
 {
-    let mut chunk = quote_of(form, number, line_bytes(program, number));
-    chunk.write_out(sink)
+    let mut page = Page::new();
+    say_quote_if(form, number, line_bytes(program, number), &mut page, sink);
+    page.finish(sink)
 }

@@ -1,7 +1,9 @@
 //! Reports of all commands that are refused.
 ghost use Rattle.std.specs.Prelude.{◌≡◌, ◌≤◌, length, take, None};
-ghost use Rattle.ngc_text.specs.Failures.{CountsFailure};
 ghost use Rattle.ngc_machine_files.specs.Machine.{file_of};
+ghost use Rattle.ngc_sentences.specs.Saying.{Says};
+ghost use Rattle.ngc_text.specs.Failures.{CountsFailure};
+ghost use Rattle.ngc_report.specs.Forms.{report_text};
 ghost use Rattle.ngc_report.specs.Reports.{Prints, refusals_head, scene_lines, start_lines_if};
 ghost use Rattle.ngc_report.specs.Reports.{reported_extent, verdict_line};
 ghost use Rattle.ngc_report.specs.Scenes.{StandsAfter, scene_at, standing as standing_behind};
@@ -9,11 +11,12 @@ ghost use Rattle.ngc_report.specs.Scenes.{StandsAfter, scene_at, standing as sta
 use crate::bounds::{extent, extent_in_travel};
 use crate::form::Form;
 use crate::line::Line;
-use crate::report::{alongs, fit_line, write_all_reasons, write_scene, write_start_point};
+use crate::report::{alongs, fit_line, say_lines, say_scene, say_start_point};
 use crate::scene::{Scene, scene_of, standing};
 use ngc_commands::{Command, Reached};
 use ngc_fixed_length::GridBox;
 use ngc_machine_files::Machine;
+use ngc_sentences::Page;
 use ngc_text::{Chunk, Sink, WriteFault};
 use std::alloc::Allocator;
 
@@ -72,21 +75,19 @@ impl Standing {
     }
 }
 
-fn write_start_if<A: Allocator, W: Sink>(
-    chunk: &mut Chunk,
+fn say_start_if<A: Allocator, W: Sink>(
     form: Form,
     machine: &Machine<A>,
     start: bool,
-    sink: &mut W,
-) -> Result<(), WriteFault>
-    ensures told { Prints form (W.written sink.old) (W.written sink.new) chunk.old chunk.new result
-        (start_lines_if (file_of machine.now) start) }
-    ensures counts { CountsFailure (W.failures sink.old) (W.failures sink.new) result }
+    page: &mut Page,
+    output: &mut W,
+)
+    ensures { Says (W.written output.old) (W.written output.new)
+        (W.failures output.old) (W.failures output.new) page.old page.new
+        (report_text form (start_lines_if (file_of machine.now) start)) }
 {
     if start {
-        write_start_point(chunk, form, machine, None, sink)
-    } else {
-        write_all_reasons(chunk, form, &[], sink)
+        say_start_point(form, machine, None, page, output);
     }
 }
 
@@ -120,6 +121,27 @@ fn reported_extent<A: Allocator>(
     }
 }
 
+fn say_head<A: Allocator, W: Sink>(
+    form: Form,
+    machine: &Machine<A>,
+    commands: &[Command],
+    start: bool,
+    indices: &[u32],
+    page: &mut Page,
+    output: &mut W,
+)
+    ensures { Says (W.written output.old) (W.written output.new)
+        (W.failures output.old) (W.failures output.new) page.old page.new
+        (report_text form
+        (refusals_head (file_of machine.now) commands.now start indices.now)) }
+{
+    let line = verdict(machine, commands, start, indices);
+    say_lines(form, &[line], page, output);
+    let sides = alongs(machine, &reported_extent(machine, commands, start, indices));
+    say_lines(form, &sides, page, output);
+    say_start_if(form, machine, start, page, output);
+}
+
 /// Adds the head of the report of a program whose commands at these indices, from 0, are refused,
 /// and the start, if it is: the verdict, the extent along each axis, and the obstacle of the start.
 /// Without indices the program fits.
@@ -138,21 +160,13 @@ pub fn collect_refusals_head<A: Allocator, W: Sink>(
         (refusals_head (file_of machine.now) commands.now start indices.now) }
     ensures counts { CountsFailure (W.failures sink.old) (W.failures sink.new) result }
 {
-    match write_all_reasons(
-        chunk,
-        form,
-        &[verdict(machine, commands, start, indices)],
-        sink,
-    ) {
+    match chunk.write_out(sink) {
         Ok(()) => {}
         Err(fault) => return Err(fault),
     }
-    let sides = alongs(machine, &reported_extent(machine, commands, start, indices));
-    match write_all_reasons(chunk, form, &sides, sink) {
-        Ok(()) => {}
-        Err(fault) => return Err(fault),
-    }
-    write_start_if(chunk, form, machine, start, sink)
+    let mut page = Page::new();
+    say_head(form, machine, commands, start, indices, &mut page, sink);
+    page.finish(sink)
 }
 
 /// Adds the report of a refused command, by its index from 0: what it does, its obstacle, and how
@@ -177,5 +191,11 @@ pub fn collect_refused_command<A: Allocator, W: Sink>(
     ensures counts { CountsFailure (W.failures sink.old) (W.failures sink.new) result }
 {
     let scene = standing.scene(machine, commands, command);
-    write_scene(chunk, form, machine, command, None, &scene, sink)
+    match chunk.write_out(sink) {
+        Ok(()) => {}
+        Err(fault) => return Err(fault),
+    }
+    let mut page = Page::new();
+    say_scene(form, machine, command, None, &scene, &mut page, sink);
+    page.finish(sink)
 }

@@ -1,13 +1,12 @@
 //! How reports are written.
-ghost use Rattle.std.specs.Prelude.{◌≡◌, ◌++◌, min, OnOk, OnErr};
+ghost use Rattle.std.specs.Prelude.{◌≡◌, min, OnOk, OnErr};
 ghost use Rattle.std.specs.Io.KnownBytes.{Appends};
 ghost use Rattle.ngc_text.specs.Failures.{CountsFailure};
 ghost use Rattle.ngc_fixed_length.specs.Length.{IsStep};
 ghost use Rattle.ngc_text.specs.Written.{AppendsPrefix};
-ghost use Rattle.ngc_certificate_text.specs.Collects.{Collects};
 ghost use Rattle.ngc_machine_files.specs.Machine.{file_of};
-ghost use Rattle.ngc_text.specs.Collected.{HasSpaceForLine};
-ghost use Rattle.ngc_report.specs.Reports.{Prints, motions_in, along, alongs, use_lines, fit_lines};
+ghost use Rattle.ngc_sentences.specs.Saying.{Says};
+ghost use Rattle.ngc_report.specs.Reports.{motions_in, along, alongs, use_lines, fit_lines};
 ghost use Rattle.ngc_report.specs.Reports.{start_lines, scene_lines, cause_lines, refusal_lines};
 ghost use Rattle.ngc_report.specs.Reports.{fit_line, near_line};
 ghost use Rattle.ngc_report.specs.Uses.{tool_uses};
@@ -15,7 +14,7 @@ ghost use Rattle.ngc_report.specs.Forms.{spelled, report_text};
 
 use crate::bounds::{extent, fit_extent};
 use crate::clearing::Clearing;
-use crate::facts::add_fact;
+use crate::facts::say_fact;
 use crate::form::Form;
 use crate::line::{Along, Line};
 use crate::margins::Axis;
@@ -24,55 +23,34 @@ use crate::scene::Scene;
 use crate::travel::{AxisSpace, Room};
 use crate::uses::{ToolUse, ToolUses};
 use crate::warnings::{Concern, warning_about};
-use crate::words::add_line;
+use crate::words::say_line;
 use ngc_certificate_text::MotionList;
 use ngc_commands::Command;
 use ngc_fixed_length::{GridBox, Nm, nanometres_at};
 use ngc_machine_files::Machine;
-use ngc_text::{Chunk, Sink, WriteFault};
+use ngc_sentences::Page;
+use ngc_text::{Sink, WriteFault};
 use std::alloc::Allocator;
 
 #[tactic(auto, unfolding(crate::specs::Forms::spelled))]
-fn add_spelled(chunk: &mut Chunk, form: Form, line: &Line)
-    requires { HasSpaceForLine chunk.old }
-    ensures { chunk.new ≡ chunk.old ++ spelled form line.now }
+fn say_spelled<W: Sink>(form: Form, line: &Line, page: &mut Page, output: &mut W)
+    ensures { Says (W.written output.old) (W.written output.new)
+        (W.failures output.old) (W.failures output.new) page.old page.new (spelled form line.now) }
 {
     match form {
-        Form::Words => add_line(chunk, line),
-        Form::Json => add_fact(chunk, line),
+        Form::Words => say_line(line, page, output),
+        Form::Json => say_fact(line, page, output),
     }
 }
 
-fn tell<W: Sink>(chunk: &mut Chunk, form: Form, line: &Line, sink: &mut W) -> Result<(), WriteFault>
-    ensures text { Collects (W.written sink.old) (W.written sink.new) chunk.old chunk.new result
-        (spelled form line.now) }
-    ensures counts { CountsFailure (W.failures sink.old) (W.failures sink.new) result }
-{
-    match chunk.make_space(sink) {
-        Ok(()) => {}
-        Err(fault) => return Err(fault),
-    }
-    add_spelled(chunk, form, line);
-    Ok(())
-}
-
-pub(crate) fn write_all_reasons<W: Sink>(
-    chunk: &mut Chunk,
-    form: Form,
-    lines: &[Line],
-    sink: &mut W,
-) -> Result<(), WriteFault>
-    ensures told { Prints form (W.written sink.old)
-        (W.written sink.new) chunk.old chunk.new result lines.now }
-    ensures counts { CountsFailure (W.failures sink.old) (W.failures sink.new) result }
+pub(crate) fn say_lines<W: Sink>(form: Form, lines: &[Line], page: &mut Page, output: &mut W)
+    ensures { Says (W.written output.old) (W.written output.new)
+        (W.failures output.old) (W.failures output.new) page.old page.new
+        (report_text form lines.now) }
 {
     for line in lines {
-        match tell(chunk, form, line, sink) {
-            Ok(()) => {}
-            Err(fault) => return Err(fault),
-        }
+        say_spelled(form, line, page, output);
     }
-    Ok(())
 }
 
 fn along(axis: Axis, step: Nm, low: i32, high: i32, room: AxisSpace) -> Line
@@ -115,17 +93,18 @@ fn near_line<A: Allocator>(machine: &Machine<A>, nearest: &Option<Nearest>) -> L
     Line::Near(*nearest, nearest_name(machine, nearest))
 }
 
-fn write_uses<A: Allocator, M: MotionList, W: Sink>(
-    chunk: &mut Chunk,
+fn say_uses<A: Allocator, M: MotionList, W: Sink>(
     form: Form,
     machine: &Machine<A>,
     commands: &[Command],
     motions: &M,
-    sink: &mut W,
-) -> Result<(), WriteFault>
-    ensures told { Prints form (W.written sink.old) (W.written sink.new) chunk.old chunk.new result
-        (use_lines (file_of machine.now) (tool_uses commands.now) (M.entries motions.now)) }
-    ensures counts { CountsFailure (W.failures sink.old) (W.failures sink.new) result }
+    page: &mut Page,
+    output: &mut W,
+)
+    ensures { Says (W.written output.old) (W.written output.new)
+        (W.failures output.old) (W.failures output.new) page.old page.new
+        (report_text form
+        (use_lines (file_of machine.now) (tool_uses commands.now) (M.entries motions.now))) }
 {
     let mut uses = ToolUses::new(commands);
     let mut first = 0;
@@ -133,13 +112,9 @@ fn write_uses<A: Allocator, M: MotionList, W: Sink>(
         let end = first + motions_up_to(&one, motions.count() - first);
         let nearest = Nearest::over(machine, &one.tool, motions, first, end);
         let lines = [Line::Use(one), near_line(machine, &nearest)];
-        match write_all_reasons(chunk, form, &lines, sink) {
-            Ok(()) => {}
-            Err(fault) => return Err(fault),
-        }
+        say_lines(form, &lines, page, output);
         first = end;
     }
-    Ok(())
 }
 
 /// Returns the line that a program fits, with the motions on which only the spindle nose was tested,
@@ -151,132 +126,109 @@ pub(crate) fn fit_line<A: Allocator>(machine: &Machine<A>, commands: &[Command])
     Line::Fits(nose, !machine.fixtures.is_empty())
 }
 
-fn write_fit_figures<A: Allocator, M: MotionList, W: Sink>(
-    chunk: &mut Chunk,
+fn say_fit<A: Allocator, M: MotionList, W: Sink>(
     form: Form,
     machine: &Machine<A>,
     commands: &[Command],
     motions: &M,
-    sink: &mut W,
-) -> Result<(), WriteFault>
-    ensures told { Prints form (W.written sink.old) (W.written sink.new) chunk.old chunk.new result
-        (fit_lines (file_of machine.now) commands.now (M.entries motions.now)) }
-    ensures counts { CountsFailure (W.failures sink.old) (W.failures sink.new) result }
+    page: &mut Page,
+    output: &mut W,
+)
+    ensures { Says (W.written output.old) (W.written output.new)
+        (W.failures output.old) (W.failures output.new) page.old page.new
+        (report_text form
+        (fit_lines (file_of machine.now) commands.now (M.entries motions.now))) }
 {
-    match write_all_reasons(chunk, form, &[fit_line(machine, commands)], sink) {
-        Ok(()) => {}
-        Err(fault) => return Err(fault),
-    }
-    match write_all_reasons(
-        chunk,
-        form,
-        &alongs(machine, &fit_extent(machine, motions)),
-        sink,
-    ) {
-        Ok(()) => {}
-        Err(fault) => return Err(fault),
-    }
-    write_uses(chunk, form, machine, commands, motions, sink)
+    say_lines(form, &[fit_line(machine, commands)], page, output);
+    let sides = alongs(machine, &fit_extent(machine, motions));
+    say_lines(form, &sides, page, output);
+    say_uses(form, machine, commands, motions, page, output);
 }
 
-pub(crate) fn write_start_point<A: Allocator, W: Sink>(
-    chunk: &mut Chunk,
+pub(crate) fn say_start_point<A: Allocator, W: Sink>(
     form: Form,
     machine: &Machine<A>,
     fixture: Option<u32>,
-    sink: &mut W,
-) -> Result<(), WriteFault>
-    ensures told { Prints form (W.written sink.old) (W.written sink.new) chunk.old chunk.new result
-        (start_lines (file_of machine.now) fixture) }
-    ensures counts { CountsFailure (W.failures sink.old) (W.failures sink.new) result }
+    page: &mut Page,
+    output: &mut W,
+)
+    ensures { Says (W.written output.old) (W.written output.new)
+        (W.failures output.old) (W.failures output.new) page.old page.new
+        (report_text form (start_lines (file_of machine.now) fixture)) }
 {
     let scene = Scene::start(machine);
     let cause = scene.obstacle(machine, fixture);
-    write_all_reasons(
-        chunk,
-        form,
-        &[Line::Start(scene), Line::InTheWay(cause)],
-        sink,
-    )
+    let lines = [Line::Start(scene), Line::InTheWay(cause)];
+    say_lines(form, &lines, page, output);
 }
 
-pub(crate) fn write_scene<A: Allocator, W: Sink>(
-    chunk: &mut Chunk,
+pub(crate) fn say_scene<A: Allocator, W: Sink>(
     form: Form,
     machine: &Machine<A>,
     command: usize,
     fixture: Option<u32>,
     scene: &Option<Scene>,
-    sink: &mut W,
-) -> Result<(), WriteFault>
-    ensures told { Prints form (W.written sink.old) (W.written sink.new) chunk.old chunk.new result
-        (scene_lines (file_of machine.now) command fixture scene.now) }
-    ensures counts { CountsFailure (W.failures sink.old) (W.failures sink.new) result }
+    page: &mut Page,
+    output: &mut W,
+)
+    ensures { Says (W.written output.old) (W.written output.new)
+        (W.failures output.old) (W.failures output.new) page.old page.new
+        (report_text form
+        (scene_lines (file_of machine.now) command fixture scene.now)) }
 {
-    match scene {
-        None => write_all_reasons(chunk, form, &[], sink),
-        Some(scene) => {
-            let cause = scene.obstacle(machine, fixture);
-            let clearing = Clearing::of(machine, scene, &cause);
-            let lines = [
-                Line::Command(command, *scene),
-                Line::InTheWay(cause),
-                Line::Clear(clearing),
-            ];
-            write_all_reasons(chunk, form, &lines, sink)
-        }
+    if let Some(scene) = scene {
+        let cause = scene.obstacle(machine, fixture);
+        let clearing = Clearing::of(machine, scene, &cause);
+        let lines = [
+            Line::Command(command, *scene),
+            Line::InTheWay(cause),
+            Line::Clear(clearing),
+        ];
+        say_lines(form, &lines, page, output);
     }
 }
 
-fn write_cause_words<A: Allocator, W: Sink>(
-    chunk: &mut Chunk,
+fn say_cause<A: Allocator, W: Sink>(
     form: Form,
     machine: &Machine<A>,
     commands: &[Command],
     command: Option<usize>,
     fixture: Option<u32>,
-    sink: &mut W,
-) -> Result<(), WriteFault>
-    ensures told { Prints form (W.written sink.old) (W.written sink.new) chunk.old chunk.new result
-        (cause_lines (file_of machine.now) commands.now command fixture) }
-    ensures counts { CountsFailure (W.failures sink.old) (W.failures sink.new) result }
+    page: &mut Page,
+    output: &mut W,
+)
+    ensures { Says (W.written output.old) (W.written output.new)
+        (W.failures output.old) (W.failures output.new) page.old page.new
+        (report_text form
+        (cause_lines (file_of machine.now) commands.now command fixture)) }
 {
     match command {
-        None => write_start_point(chunk, form, machine, fixture, sink),
+        None => say_start_point(form, machine, fixture, page, output),
         Some(command) => {
             let scene = Scene::at(machine, commands, command);
-            write_scene(chunk, form, machine, command, fixture, &scene, sink)
+            say_scene(form, machine, command, fixture, &scene, page, output);
         }
     }
 }
 
-fn write_refusal_words<A: Allocator, W: Sink>(
-    chunk: &mut Chunk,
+fn say_refusal<A: Allocator, W: Sink>(
     form: Form,
     machine: &Machine<A>,
     commands: &[Command],
     command: Option<usize>,
     fixture: Option<u32>,
-    sink: &mut W,
-) -> Result<(), WriteFault>
-    ensures told { Prints form (W.written sink.old) (W.written sink.new) chunk.old chunk.new result
-        (refusal_lines (file_of machine.now) commands.now command fixture) }
-    ensures counts { CountsFailure (W.failures sink.old) (W.failures sink.new) result }
+    page: &mut Page,
+    output: &mut W,
+)
+    ensures { Says (W.written output.old) (W.written output.new)
+        (W.failures output.old) (W.failures output.new) page.old page.new
+        (report_text form
+        (refusal_lines (file_of machine.now) commands.now command fixture)) }
 {
-    match write_all_reasons(chunk, form, &[Line::Refused], sink) {
-        Ok(()) => {}
-        Err(fault) => return Err(fault),
-    }
-    match write_all_reasons(
-        chunk,
-        form,
-        &alongs(machine, &extent(machine, commands)),
-        sink,
-    ) {
-        Ok(()) => {}
-        Err(fault) => return Err(fault),
-    }
-    write_cause_words(chunk, form, machine, commands, command, fixture, sink)
+    say_lines(form, &[Line::Refused], page, output);
+    let sides = alongs(machine, &extent(machine, commands));
+    say_lines(form, &sides, page, output);
+    say_cause(form, machine, commands, command, fixture, page, output);
 }
 
 /// Writes the report of a program that fits, whose certificate has these motions: its extent along
@@ -300,11 +252,9 @@ pub fn write_fit<A: Allocator, M: MotionList, W: Sink>(
         (M.entries motions.now)))) }
     ensures counts { CountsFailure (W.failures sink.old) (W.failures sink.new) result }
 {
-    let mut chunk = Chunk::new();
-    match write_fit_figures(&mut chunk, form, machine, commands, motions, sink) {
-        Ok(()) => chunk.write_out(sink),
-        Err(fault) => Err(fault),
-    }
+    let mut page = Page::new();
+    say_fit(form, machine, commands, motions, &mut page, sink);
+    page.finish(sink)
 }
 
 /// Writes the report of a program that is refused at a command, by its index from 0, or at the
@@ -328,9 +278,7 @@ pub fn write_refusal<A: Allocator, W: Sink>(
         (report_text form (refusal_lines (file_of machine.now) commands.now command fixture))) }
     ensures counts { CountsFailure (W.failures sink.old) (W.failures sink.new) result }
 {
-    let mut chunk = Chunk::new();
-    match write_refusal_words(&mut chunk, form, machine, commands, command, fixture, sink) {
-        Ok(()) => chunk.write_out(sink),
-        Err(fault) => Err(fault),
-    }
+    let mut page = Page::new();
+    say_refusal(form, machine, commands, command, fixture, &mut page, sink);
+    page.finish(sink)
 }

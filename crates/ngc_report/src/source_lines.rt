@@ -1,18 +1,19 @@
 //! A line of a program's file as a report shows it, even if the file can't be read as a program.
-ghost use Rattle.std.specs.Prelude.{◌≡◌, ◌∷◌, ◌+◌, ◌++◌, ◌≤◌, ◌<◌, length, replicate, OnOk, OnErr};
+ghost use Rattle.std.specs.Prelude.{◌≡◌, ◌∷◌, ◌≤◌, ◌<◌, length, OnOk, OnErr};
 ghost use Rattle.std.specs.Option.{option_map};
 ghost use Rattle.std.specs.Io.KnownBytes.{Appends};
 ghost use Rattle.ngc_text.specs.Failures.{CountsFailure};
 ghost use Rattle.ngc_text.specs.Written.{AppendsPrefix};
 ghost use Rattle.ngc_line_reader.specs.Program.{lines_of, split_lines};
-ghost use Rattle.ngc_text.specs.Collected.{CHUNK_SIZE};
+ghost use Rattle.ngc_sentences.specs.Saying.{Says};
 ghost use Rattle.ngc_report.specs.Quotes.{bytes_with, fact_mark, indent, mark, marked, words_mark};
 
 use crate::form::Form;
-use crate::quotes::quote_of;
+use crate::quotes::say_quote;
 use itoa::Buffer;
 use memchr::memchr;
-use ngc_text::{Chunk, Sink, WriteFault};
+use ngc_sentences::{Page, Part, say};
+use ngc_text::{Sink, WriteFault};
 
 /// Returns the first line and the bytes after its line feed.
 fn cut_line(bytes: &[u8]) -> (&[u8], &[u8])
@@ -43,16 +44,6 @@ pub(crate) fn source_line(bytes: &[u8], number: u32) -> Option<&[u8]>
     None
 }
 
-fn add_spaces(chunk: &mut Chunk, count: usize)
-    requires few { count ≤ 320 }
-    requires room { length chunk.old + 320 ≤ CHUNK_SIZE }
-    ensures text { chunk.new ≡ chunk.old ++ replicate count 32 }
-    ensures short { length chunk.new ≤ length chunk.old + 320 }
-{
-    let spaces = [b' '; 320];
-    chunk.add_text(&spaces[..count]);
-}
-
 // Returns the number of columns before a column of a line that is shown after its number.
 fn indent(number: u32, column: u16) -> usize
     ensures value { result ≡ indent number column }
@@ -63,50 +54,59 @@ fn indent(number: u32, column: u16) -> usize
 }
 
 #[tactic(auto, unfolding(crate::specs::Quotes::words_mark))]
-fn add_words_mark(chunk: &mut Chunk, number: u32, column: u16)
-    requires { length chunk.old ≤ 1000 }
-    ensures text { chunk.new ≡ chunk.old ++ words_mark number column }
-    ensures short { length chunk.new ≤ length chunk.old + 400 }
+fn say_words_mark<W: Sink>(number: u32, column: u16, page: &mut Page, output: &mut W)
+    ensures { Says (W.written output.old) (W.written output.new)
+        (W.failures output.old) (W.failures output.new) page.old page.new
+        (words_mark number column) }
 {
-    add_spaces(chunk, indent(number, column));
-    chunk.add_text(b"^\n");
+    let spaces = [b' '; 320];
+    say!(page, output; Part::Text(&spaces[..indent(number, column)]), b"^\n");
 }
 
-fn add_fact_mark(chunk: &mut Chunk, number: u32, column: u16)
-    requires { length chunk.old ≤ 1000 }
-    ensures text { chunk.new ≡ chunk.old ++ fact_mark number column }
-    ensures short { length chunk.new ≤ length chunk.old + 400 }
+fn say_fact_mark<W: Sink>(number: u32, column: u16, page: &mut Page, output: &mut W)
+    ensures { Says (W.written output.old) (W.written output.new)
+        (W.failures output.old) (W.failures output.new) page.old page.new
+        (fact_mark number column) }
 {
-    chunk.add_text(b",\n{\"fact\":\"mark\",\"line\":");
-    chunk.add_number(number);
-    chunk.add_text(b",\"column\":");
-    chunk.add_number(column);
-    chunk.add_text(b"}");
+    say!(page, output; b",\n{\"fact\":\"mark\",\"line\":", Part::Number(u128::from(number)), b",\"column\":", Part::Number(u128::from(column)), b"}");
 }
 
-/// Adds a mark below a column of the line that is shown above it.
+/// Says a mark below a column of the line that is shown above it.
 #[tactic(auto, unfolding(crate::specs::Quotes::mark))]
-pub(crate) fn add_mark(chunk: &mut Chunk, form: Form, number: u32, column: u16)
-    requires { length chunk.old ≤ 1000 }
-    ensures text { chunk.new ≡ chunk.old ++ mark form number column }
-    ensures short { length chunk.new ≤ length chunk.old + 400 }
+pub(crate) fn say_mark<W: Sink>(
+    form: Form,
+    number: u32,
+    column: u16,
+    page: &mut Page,
+    output: &mut W,
+)
+    ensures { Says (W.written output.old) (W.written output.new)
+        (W.failures output.old) (W.failures output.new) page.old page.new
+        (mark form number column) }
 {
     match form {
-        Form::Words => add_words_mark(chunk, number, column),
-        Form::Json => add_fact_mark(chunk, number, column),
+        Form::Words => say_words_mark(number, column, page, output),
+        Form::Json => say_fact_mark(number, column, page, output),
     }
 }
 
 #[tactic(auto, unfolding(crate::specs::Quotes::marked))]
-fn marked_line(form: Form, number: u32, column: u16, bytes: Option<&[u8]>) -> Chunk
-    ensures { result ≡ marked form number column (option_map (λ b. b.now) bytes.entry) }
+fn say_marked<W: Sink>(
+    form: Form,
+    number: u32,
+    column: u16,
+    bytes: Option<&[u8]>,
+    page: &mut Page,
+    output: &mut W,
+)
+    ensures { Says (W.written output.old) (W.written output.new)
+        (W.failures output.old) (W.failures output.new) page.old page.new
+        (marked form number column (option_map (λ b. b.now) bytes.entry)) }
 {
-    let mut chunk = quote_of(form, number, bytes);
-    match bytes {
-        None => {}
-        Some(_) => add_mark(&mut chunk, form, number, column),
+    if let Some(bytes) = bytes {
+        say_quote(form, number, bytes, page, output);
+        say_mark(form, number, column, page, output);
     }
-    chunk
 }
 
 /// Writes a line of a program's text, by its number from 1, with a mark below the column, from 1,
@@ -129,6 +129,8 @@ pub fn write_source_line<W: Sink>(
         (marked form number column (bytes_with number (lines_of text.now)))) }
     ensures counts { CountsFailure (W.failures sink.old) (W.failures sink.new) result }
 {
-    let mut chunk = marked_line(form, number, column, source_line(text, number));
-    chunk.write_out(sink)
+    let mut page = Page::new();
+    let bytes = source_line(text, number);
+    say_marked(form, number, column, bytes, &mut page, sink);
+    page.finish(sink)
 }

@@ -4,97 +4,83 @@ ghost use Rattle.std.specs.Io.KnownBytes.{Appends};
 ghost use Rattle.ngc_text.specs.Failures.{CountsFailure};
 ghost use Rattle.ngc_text.specs.Written.{AppendsPrefix};
 ghost use Rattle.ngc_machine_files.specs.Machine.{file_of};
-ghost use Rattle.ngc_report.specs.Reports.{Prints};
+ghost use Rattle.ngc_sentences.specs.Saying.{Says};
 ghost use Rattle.ngc_report.specs.Warnings.{warned, traverse_lines, motion_lines, warning_lines};
 ghost use Rattle.ngc_report.specs.Forms.{report_text};
 
 use crate::form::Form;
 use crate::line::Line;
-use crate::report::write_all_reasons;
+use crate::report::say_lines;
 use crate::warnings::{Concern, warning_about};
 use ngc_commands::Command;
 use ngc_machine_files::Machine;
-use ngc_text::{Chunk, Sink, WriteFault};
+use ngc_sentences::Page;
+use ngc_text::{Sink, WriteFault};
 use std::alloc::Allocator;
 
-fn write_warned<A: Allocator, W: Sink>(
-    chunk: &mut Chunk,
+fn say_warned<A: Allocator, W: Sink>(
     form: Form,
     machine: &Machine<A>,
     concern: Concern,
     commands: &[Command],
-    sink: &mut W,
-) -> Result<(), WriteFault>
-    ensures told { Prints form (W.written sink.old) (W.written sink.new) chunk.old chunk.new result
-        (warned (file_of machine.now) concern commands.now) }
-    ensures counts { CountsFailure (W.failures sink.old) (W.failures sink.new) result }
+    page: &mut Page,
+    output: &mut W,
+)
+    ensures { Says (W.written output.old) (W.written output.new)
+        (W.failures output.old) (W.failures output.new) page.old page.new
+        (report_text form
+        (warned (file_of machine.now) concern commands.now)) }
 {
-    match warning_about(machine, concern, commands) {
-        None => write_all_reasons(chunk, form, &[], sink),
-        Some(warning) => write_all_reasons(chunk, form, &[Line::Warned(warning)], sink),
+    if let Some(warning) = warning_about(machine, concern, commands) {
+        say_lines(form, &[Line::Warned(warning)], page, output);
     }
 }
 
-fn write_traverses<A: Allocator, W: Sink>(
-    chunk: &mut Chunk,
+fn say_traverse_warnings<A: Allocator, W: Sink>(
     form: Form,
     machine: &Machine<A>,
     commands: &[Command],
-    sink: &mut W,
-) -> Result<(), WriteFault>
-    ensures told { Prints form (W.written sink.old) (W.written sink.new) chunk.old chunk.new result
-        (traverse_lines (file_of machine.now) commands.now) }
-    ensures counts { CountsFailure (W.failures sink.old) (W.failures sink.new) result }
+    page: &mut Page,
+    output: &mut W,
+)
+    ensures { Says (W.written output.old) (W.written output.new)
+        (W.failures output.old) (W.failures output.new) page.old page.new
+        (report_text form (traverse_lines (file_of machine.now) commands.now)) }
 {
-    match write_warned(chunk, form, machine, Concern::LowHome, commands, sink) {
-        Ok(()) => {}
-        Err(fault) => return Err(fault),
-    }
-    write_warned(chunk, form, machine, Concern::LowAcross, commands, sink)
+    say_warned(form, machine, Concern::LowHome, commands, page, output);
+    say_warned(form, machine, Concern::LowAcross, commands, page, output);
 }
 
-fn write_motion_warnings<A: Allocator, W: Sink>(
-    chunk: &mut Chunk,
+fn say_motion_warnings<A: Allocator, W: Sink>(
     form: Form,
     machine: &Machine<A>,
     commands: &[Command],
-    sink: &mut W,
-) -> Result<(), WriteFault>
-    ensures told { Prints form (W.written sink.old) (W.written sink.new) chunk.old chunk.new result
-        (motion_lines (file_of machine.now) commands.now) }
-    ensures counts { CountsFailure (W.failures sink.old) (W.failures sink.new) result }
+    page: &mut Page,
+    output: &mut W,
+)
+    ensures { Says (W.written output.old) (W.written output.new)
+        (W.failures output.old) (W.failures output.new) page.old page.new
+        (report_text form (motion_lines (file_of machine.now) commands.now)) }
 {
-    match write_warned(chunk, form, machine, Concern::FastFeed, commands, sink) {
-        Ok(()) => {}
-        Err(fault) => return Err(fault),
-    }
-    match write_warned(chunk, form, machine, Concern::NearlyFull, commands, sink) {
-        Ok(()) => {}
-        Err(fault) => return Err(fault),
-    }
-    write_traverses(chunk, form, machine, commands, sink)
+    say_warned(form, machine, Concern::FastFeed, commands, page, output);
+    say_warned(form, machine, Concern::NearlyFull, commands, page, output);
+    say_traverse_warnings(form, machine, commands, page, output);
 }
 
-fn write_command_warnings<A: Allocator, W: Sink>(
-    chunk: &mut Chunk,
+fn say_warnings<A: Allocator, W: Sink>(
     form: Form,
     machine: &Machine<A>,
     commands: &[Command],
-    sink: &mut W,
-) -> Result<(), WriteFault>
-    ensures told { Prints form (W.written sink.old) (W.written sink.new) chunk.old chunk.new result
-        (warning_lines (file_of machine.now) commands.now) }
-    ensures counts { CountsFailure (W.failures sink.old) (W.failures sink.new) result }
+    page: &mut Page,
+    output: &mut W,
+)
+    ensures { Says (W.written output.old) (W.written output.new)
+        (W.failures output.old) (W.failures output.new) page.old page.new
+        (report_text form (warning_lines (file_of machine.now) commands.now)) }
 {
-    match write_warned(chunk, form, machine, Concern::NoTool, commands, sink) {
-        Ok(()) => {}
-        Err(fault) => return Err(fault),
-    }
-    match write_warned(chunk, form, machine, Concern::IdleSpindle, commands, sink) {
-        Ok(()) => {}
-        Err(fault) => return Err(fault),
-    }
-    write_motion_warnings(chunk, form, machine, commands, sink)
+    say_warned(form, machine, Concern::NoTool, commands, page, output);
+    say_warned(form, machine, Concern::IdleSpindle, commands, page, output);
+    say_motion_warnings(form, machine, commands, page, output);
 }
 
 /// Writes the warnings about a program. They are: motions without a tool that leave the height of
@@ -122,9 +108,7 @@ pub fn write_warnings<A: Allocator, W: Sink>(
         (report_text form (warning_lines (file_of machine.now) commands.now))) }
     ensures counts { CountsFailure (W.failures sink.old) (W.failures sink.new) result }
 {
-    let mut chunk = Chunk::new();
-    match write_command_warnings(&mut chunk, form, machine, commands, sink) {
-        Ok(()) => chunk.write_out(sink),
-        Err(fault) => Err(fault),
-    }
+    let mut page = Page::new();
+    say_warnings(form, machine, commands, &mut page, sink);
+    page.finish(sink)
 }

@@ -1,4 +1,7 @@
+use Rattle.ngc_sentences.proofs.Said.{whole}
 use Rattle.ngc_machine_maker.proofs.sentences.write_refusal.Goals as goal
 
-pub returns-clause-fault : goal.returns-clause-fault
-returns-clause-fault g c = rw (c.add_refusal_line.ensures, c.new-chunk.ensures) at c.write_out.ensures.fault
+pub returns : goal.returns
+returns g c =
+    let all = whole c.new-page.ensures c.say_refusal_line.ensures c.finish.ensures in
+    record { ok = all.ok; fault = all.fault; counts = all.counts }

@@ -1,7 +1,0 @@
-use Rattle.std.proofs.lemmas.List.{append_assoc}
-use Rattle.ngc_machine_maker.specs.File.{heading}
-use Rattle.ngc_machine_maker.proofs.file.add_heading.Goals as goal
-
-pub returns-clause-text : goal.returns-clause-text
-unfolding heading
-returns-clause-text c = rw (c.add_text-2.ensures, c.add_text.ensures) (append_assoc c.args.chunk.now _ _)

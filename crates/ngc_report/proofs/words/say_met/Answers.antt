@@ -1,0 +1,10 @@
+use Rattle.std.proofs.Common.{ap, ◌∙◌}
+use Rattle.ngc_sentences.proofs.Said.{says_as, then}
+use Rattle.ngc_report.specs.Words.{place_text}
+use Rattle.ngc_report.proofs.words.say_met.Goals as goal
+
+pub returns : goal.returns
+returns g c =
+    rw (← c.from.ensures)
+    (then (then (then (then (then (then c.say.ensures c.say_bracketed.ensures) c.say-2.ensures) (says_as c.say-3.ensures (c.place.ensures ∙ ap place_text c.at.ensures))) c.say-4.ensures)
+    (says_as c.say-5.ensures (c.place-2.ensures ∙ ap place_text c.at-2.ensures))) c.say_over.ensures)
