@@ -67,33 +67,39 @@ abbrev FindsList : Option Text → Option Text → Option Text → Bool → Opti
 FindsList program machine tools delete None = ⊥
 FindsList program machine tools delete (Some found) = (found.0 ≡ codes "list") × (first_of (codes "program") found.1 ≡ program)
     × (first_of (codes "machine") found.1 ≡ machine) × (first_of (codes "tools") found.1 ≡ tools) × (is_set (codes "delete") found.1 ≡ delete)
-    × (change_texts found.1 ≡ no_texts)
+    × (change_texts found.1 ≡ no_texts) × (first_of (codes "dialect") found.1 ≡ None)
 
 list_spells : (program machine tools : Option Text) (delete : Bool) → Spells (list_words program machine tools delete) (FindsList program machine tools delete)
 unfolding clap_on_literals
-list_spells None None None false = (refl, (refl, refl, refl, refl, refl, refl))
-list_spells None None None true = (refl, (refl, refl, refl, refl, refl, refl))
-list_spells None None (Some tools) false = (refl, (refl, refl, refl, refl, refl, refl))
-list_spells None None (Some tools) true = (refl, (refl, refl, refl, refl, refl, refl))
-list_spells None (Some machine) None false = (refl, (refl, refl, refl, refl, refl, refl))
-list_spells None (Some machine) None true = (refl, (refl, refl, refl, refl, refl, refl))
-list_spells None (Some machine) (Some tools) false = (refl, (refl, refl, refl, refl, refl, refl))
-list_spells None (Some machine) (Some tools) true = (refl, (refl, refl, refl, refl, refl, refl))
-list_spells (Some program) None None false = (refl, (refl, refl, refl, refl, refl, refl))
-list_spells (Some program) None None true = (refl, (refl, refl, refl, refl, refl, refl))
-list_spells (Some program) None (Some tools) false = (refl, (refl, refl, refl, refl, refl, refl))
-list_spells (Some program) None (Some tools) true = (refl, (refl, refl, refl, refl, refl, refl))
-list_spells (Some program) (Some machine) None false = (refl, (refl, refl, refl, refl, refl, refl))
-list_spells (Some program) (Some machine) None true = (refl, (refl, refl, refl, refl, refl, refl))
-list_spells (Some program) (Some machine) (Some tools) false = (refl, (refl, refl, refl, refl, refl, refl))
-list_spells (Some program) (Some machine) (Some tools) true = (refl, (refl, refl, refl, refl, refl, refl))
+list_spells None None None false = (refl, (refl, refl, refl, refl, refl, refl, refl))
+list_spells None None None true = (refl, (refl, refl, refl, refl, refl, refl, refl))
+list_spells None None (Some tools) false = (refl, (refl, refl, refl, refl, refl, refl, refl))
+list_spells None None (Some tools) true = (refl, (refl, refl, refl, refl, refl, refl, refl))
+list_spells None (Some machine) None false = (refl, (refl, refl, refl, refl, refl, refl, refl))
+list_spells None (Some machine) None true = (refl, (refl, refl, refl, refl, refl, refl, refl))
+list_spells None (Some machine) (Some tools) false = (refl, (refl, refl, refl, refl, refl, refl, refl))
+list_spells None (Some machine) (Some tools) true = (refl, (refl, refl, refl, refl, refl, refl, refl))
+list_spells (Some program) None None false = (refl, (refl, refl, refl, refl, refl, refl, refl))
+list_spells (Some program) None None true = (refl, (refl, refl, refl, refl, refl, refl, refl))
+list_spells (Some program) None (Some tools) false = (refl, (refl, refl, refl, refl, refl, refl, refl))
+list_spells (Some program) None (Some tools) true = (refl, (refl, refl, refl, refl, refl, refl, refl))
+list_spells (Some program) (Some machine) None false = (refl, (refl, refl, refl, refl, refl, refl, refl))
+list_spells (Some program) (Some machine) None true = (refl, (refl, refl, refl, refl, refl, refl, refl))
+list_spells (Some program) (Some machine) (Some tools) false = (refl, (refl, refl, refl, refl, refl, refl, refl))
+list_spells (Some program) (Some machine) (Some tools) true = (refl, (refl, refl, refl, refl, refl, refl, refl))
 
 requested_list : (program machine tools : Option Text) (delete : Bool) (found : Option (Text × List Row)) (options : Options) →
     FindsList program machine tools delete found
     → AreOptions found options → IsListRequest program machine tools delete options
 requested_list program machine tools delete None options finds are = absurd finds
-requested_list program machine tools delete (Some found) (ToList list) finds are =
-    (are.1.program ∙ finds.1, are.1.machine ∙ finds.2, are.1.tools ∙ finds.3, are.1.delete ∙ finds.4, none_replaced found.1 list.changes are.1.changes finds.5)
+requested_list program machine tools delete (Some found) (ToList list) finds are = (
+  are.1.program ∙ finds.1,
+  are.1.machine ∙ finds.2,
+  are.1.tools ∙ finds.3,
+  are.1.delete ∙ finds.4,
+  none_replaced found.1 list.changes are.1.changes finds.5,
+  are.1.dialect ∙ finds.6,
+)
 requested_list program machine tools delete (Some found) (ToCertify certify) finds are =
     other_name (codes "list") (codes "certify") (sym finds.0 ∙ are.0) (λ lengths. omega (arith, lengths))
 requested_list program machine tools delete (Some found) (ToCheck check) finds are =
@@ -147,13 +153,13 @@ FindsCheck machine tools certificate program None = ⊥
 FindsCheck machine tools certificate program (Some found) = (found.0 ≡ codes "check") × (first_of (codes "machine") found.1 ≡ Some machine)
     × (first_of (codes "tools") found.1 ≡ Some tools) × (first_of (codes "certificate") found.1 ≡ Some certificate) ×
     (first_of (codes "program") found.1 ≡ program)
-    × (change_texts found.1 ≡ no_texts)
+    × (change_texts found.1 ≡ no_texts) × (first_of (codes "dialect") found.1 ≡ None)
 
 check_spells : (machine tools certificate : Text) (program : Option Text) →
     Spells (check_words machine tools certificate program) (FindsCheck machine tools certificate program)
 unfolding clap_on_literals
-check_spells machine tools certificate None = (refl, (refl, refl, refl, refl, refl, refl))
-check_spells machine tools certificate (Some program) = (refl, (refl, refl, refl, refl, refl, refl))
+check_spells machine tools certificate None = (refl, (refl, refl, refl, refl, refl, refl, refl))
+check_spells machine tools certificate (Some program) = (refl, (refl, refl, refl, refl, refl, refl, refl))
 
 pub same_text : (a b : Text) (o : Option Text) → Some a ≡ o → o ≡ Some b → a ≡ b
 same_text a b o first second = same_Some _ _ (first ∙ second)
@@ -167,6 +173,7 @@ requested_check machine tools certificate program (Some found) (ToCheck check) f
   same_text _ _ _ are.1.certificate finds.3,
   are.1.program ∙ finds.4,
   none_replaced found.1 check.changes are.1.changes finds.5,
+  are.1.dialect ∙ finds.6,
 )
 requested_check machine tools certificate program (Some found) (ToCertify certify) finds are =
     other_name (codes "check") (codes "certify") (sym finds.0 ∙ are.0) (λ lengths. omega (arith, lengths))
@@ -225,43 +232,43 @@ FindsRun recording machine tools certificate events program delete output (Some 
     × (first_of (codes "certificate") found.1 ≡ Some certificate) × (first_of (codes "events") found.1 ≡ events)
     × (first_of (codes "program") found.1 ≡ program) × (is_set (codes "delete") found.1 ≡ delete)
     × (first_of (codes "output") found.1 ≡ output) × (first_of (codes "inverted") found.1 ≡ None)
-    × (change_texts found.1 ≡ no_texts)
+    × (change_texts found.1 ≡ no_texts) × (first_of (codes "dialect") found.1 ≡ None)
 
 run_spells : (recording : Recording) (machine tools certificate : Text) (events program : Option Text) (delete : Bool) (output : Option Text)
     → Spells (run_words recording machine tools certificate events program delete output) (FindsRun recording machine tools certificate events program delete output)
 unfolding clap_on_literals
-run_spells Log machine tools certificate None None false None = (refl, (refl, refl, refl, refl, refl, refl, refl, refl, refl, refl))
-run_spells Log machine tools certificate None None false (Some output) = (refl, (refl, refl, refl, refl, refl, refl, refl, refl, refl, refl))
-run_spells Log machine tools certificate None None true None = (refl, (refl, refl, refl, refl, refl, refl, refl, refl, refl, refl))
-run_spells Log machine tools certificate None None true (Some output) = (refl, (refl, refl, refl, refl, refl, refl, refl, refl, refl, refl))
-run_spells Log machine tools certificate None (Some program) false None = (refl, (refl, refl, refl, refl, refl, refl, refl, refl, refl, refl))
-run_spells Log machine tools certificate None (Some program) false (Some output) = (refl, (refl, refl, refl, refl, refl, refl, refl, refl, refl, refl))
-run_spells Log machine tools certificate None (Some program) true None = (refl, (refl, refl, refl, refl, refl, refl, refl, refl, refl, refl))
-run_spells Log machine tools certificate None (Some program) true (Some output) = (refl, (refl, refl, refl, refl, refl, refl, refl, refl, refl, refl))
-run_spells Log machine tools certificate (Some events) None false None = (refl, (refl, refl, refl, refl, refl, refl, refl, refl, refl, refl))
-run_spells Log machine tools certificate (Some events) None false (Some output) = (refl, (refl, refl, refl, refl, refl, refl, refl, refl, refl, refl))
-run_spells Log machine tools certificate (Some events) None true None = (refl, (refl, refl, refl, refl, refl, refl, refl, refl, refl, refl))
-run_spells Log machine tools certificate (Some events) None true (Some output) = (refl, (refl, refl, refl, refl, refl, refl, refl, refl, refl, refl))
-run_spells Log machine tools certificate (Some events) (Some program) false None = (refl, (refl, refl, refl, refl, refl, refl, refl, refl, refl, refl))
-run_spells Log machine tools certificate (Some events) (Some program) false (Some output) = (refl, (refl, refl, refl, refl, refl, refl, refl, refl, refl, refl))
-run_spells Log machine tools certificate (Some events) (Some program) true None = (refl, (refl, refl, refl, refl, refl, refl, refl, refl, refl, refl))
-run_spells Log machine tools certificate (Some events) (Some program) true (Some output) = (refl, (refl, refl, refl, refl, refl, refl, refl, refl, refl, refl))
-run_spells Pulses machine tools certificate None None false None = (refl, (refl, refl, refl, refl, refl, refl, refl, refl, refl, refl))
-run_spells Pulses machine tools certificate None None false (Some output) = (refl, (refl, refl, refl, refl, refl, refl, refl, refl, refl, refl))
-run_spells Pulses machine tools certificate None None true None = (refl, (refl, refl, refl, refl, refl, refl, refl, refl, refl, refl))
-run_spells Pulses machine tools certificate None None true (Some output) = (refl, (refl, refl, refl, refl, refl, refl, refl, refl, refl, refl))
-run_spells Pulses machine tools certificate None (Some program) false None = (refl, (refl, refl, refl, refl, refl, refl, refl, refl, refl, refl))
-run_spells Pulses machine tools certificate None (Some program) false (Some output) = (refl, (refl, refl, refl, refl, refl, refl, refl, refl, refl, refl))
-run_spells Pulses machine tools certificate None (Some program) true None = (refl, (refl, refl, refl, refl, refl, refl, refl, refl, refl, refl))
-run_spells Pulses machine tools certificate None (Some program) true (Some output) = (refl, (refl, refl, refl, refl, refl, refl, refl, refl, refl, refl))
-run_spells Pulses machine tools certificate (Some events) None false None = (refl, (refl, refl, refl, refl, refl, refl, refl, refl, refl, refl))
-run_spells Pulses machine tools certificate (Some events) None false (Some output) = (refl, (refl, refl, refl, refl, refl, refl, refl, refl, refl, refl))
-run_spells Pulses machine tools certificate (Some events) None true None = (refl, (refl, refl, refl, refl, refl, refl, refl, refl, refl, refl))
-run_spells Pulses machine tools certificate (Some events) None true (Some output) = (refl, (refl, refl, refl, refl, refl, refl, refl, refl, refl, refl))
-run_spells Pulses machine tools certificate (Some events) (Some program) false None = (refl, (refl, refl, refl, refl, refl, refl, refl, refl, refl, refl))
-run_spells Pulses machine tools certificate (Some events) (Some program) false (Some output) = (refl, (refl, refl, refl, refl, refl, refl, refl, refl, refl, refl))
-run_spells Pulses machine tools certificate (Some events) (Some program) true None = (refl, (refl, refl, refl, refl, refl, refl, refl, refl, refl, refl))
-run_spells Pulses machine tools certificate (Some events) (Some program) true (Some output) = (refl, (refl, refl, refl, refl, refl, refl, refl, refl, refl, refl))
+run_spells Log machine tools certificate None None false None = (refl, (refl, refl, refl, refl, refl, refl, refl, refl, refl, refl, refl))
+run_spells Log machine tools certificate None None false (Some output) = (refl, (refl, refl, refl, refl, refl, refl, refl, refl, refl, refl, refl))
+run_spells Log machine tools certificate None None true None = (refl, (refl, refl, refl, refl, refl, refl, refl, refl, refl, refl, refl))
+run_spells Log machine tools certificate None None true (Some output) = (refl, (refl, refl, refl, refl, refl, refl, refl, refl, refl, refl, refl))
+run_spells Log machine tools certificate None (Some program) false None = (refl, (refl, refl, refl, refl, refl, refl, refl, refl, refl, refl, refl))
+run_spells Log machine tools certificate None (Some program) false (Some output) = (refl, (refl, refl, refl, refl, refl, refl, refl, refl, refl, refl, refl))
+run_spells Log machine tools certificate None (Some program) true None = (refl, (refl, refl, refl, refl, refl, refl, refl, refl, refl, refl, refl))
+run_spells Log machine tools certificate None (Some program) true (Some output) = (refl, (refl, refl, refl, refl, refl, refl, refl, refl, refl, refl, refl))
+run_spells Log machine tools certificate (Some events) None false None = (refl, (refl, refl, refl, refl, refl, refl, refl, refl, refl, refl, refl))
+run_spells Log machine tools certificate (Some events) None false (Some output) = (refl, (refl, refl, refl, refl, refl, refl, refl, refl, refl, refl, refl))
+run_spells Log machine tools certificate (Some events) None true None = (refl, (refl, refl, refl, refl, refl, refl, refl, refl, refl, refl, refl))
+run_spells Log machine tools certificate (Some events) None true (Some output) = (refl, (refl, refl, refl, refl, refl, refl, refl, refl, refl, refl, refl))
+run_spells Log machine tools certificate (Some events) (Some program) false None = (refl, (refl, refl, refl, refl, refl, refl, refl, refl, refl, refl, refl))
+run_spells Log machine tools certificate (Some events) (Some program) false (Some output) = (refl, (refl, refl, refl, refl, refl, refl, refl, refl, refl, refl, refl))
+run_spells Log machine tools certificate (Some events) (Some program) true None = (refl, (refl, refl, refl, refl, refl, refl, refl, refl, refl, refl, refl))
+run_spells Log machine tools certificate (Some events) (Some program) true (Some output) = (refl, (refl, refl, refl, refl, refl, refl, refl, refl, refl, refl, refl))
+run_spells Pulses machine tools certificate None None false None = (refl, (refl, refl, refl, refl, refl, refl, refl, refl, refl, refl, refl))
+run_spells Pulses machine tools certificate None None false (Some output) = (refl, (refl, refl, refl, refl, refl, refl, refl, refl, refl, refl, refl))
+run_spells Pulses machine tools certificate None None true None = (refl, (refl, refl, refl, refl, refl, refl, refl, refl, refl, refl, refl))
+run_spells Pulses machine tools certificate None None true (Some output) = (refl, (refl, refl, refl, refl, refl, refl, refl, refl, refl, refl, refl))
+run_spells Pulses machine tools certificate None (Some program) false None = (refl, (refl, refl, refl, refl, refl, refl, refl, refl, refl, refl, refl))
+run_spells Pulses machine tools certificate None (Some program) false (Some output) = (refl, (refl, refl, refl, refl, refl, refl, refl, refl, refl, refl, refl))
+run_spells Pulses machine tools certificate None (Some program) true None = (refl, (refl, refl, refl, refl, refl, refl, refl, refl, refl, refl, refl))
+run_spells Pulses machine tools certificate None (Some program) true (Some output) = (refl, (refl, refl, refl, refl, refl, refl, refl, refl, refl, refl, refl))
+run_spells Pulses machine tools certificate (Some events) None false None = (refl, (refl, refl, refl, refl, refl, refl, refl, refl, refl, refl, refl))
+run_spells Pulses machine tools certificate (Some events) None false (Some output) = (refl, (refl, refl, refl, refl, refl, refl, refl, refl, refl, refl, refl))
+run_spells Pulses machine tools certificate (Some events) None true None = (refl, (refl, refl, refl, refl, refl, refl, refl, refl, refl, refl, refl))
+run_spells Pulses machine tools certificate (Some events) None true (Some output) = (refl, (refl, refl, refl, refl, refl, refl, refl, refl, refl, refl, refl))
+run_spells Pulses machine tools certificate (Some events) (Some program) false None = (refl, (refl, refl, refl, refl, refl, refl, refl, refl, refl, refl, refl))
+run_spells Pulses machine tools certificate (Some events) (Some program) false (Some output) = (refl, (refl, refl, refl, refl, refl, refl, refl, refl, refl, refl, refl))
+run_spells Pulses machine tools certificate (Some events) (Some program) true None = (refl, (refl, refl, refl, refl, refl, refl, refl, refl, refl, refl, refl))
+run_spells Pulses machine tools certificate (Some events) (Some program) true (Some output) = (refl, (refl, refl, refl, refl, refl, refl, refl, refl, refl, refl, refl))
 
 -- no bits are turned over
 no_mask : (found : Option Text) (mask : ℕ) → IsMask found mask → found ≡ None → mask ≡ 0
@@ -291,6 +298,7 @@ requested_run recording machine tools certificate (Some events) program delete o
   are.1.output ∙ finds.7,
   no_mask _ run.inverted are.1.inverted finds.8,
   none_replaced found.1 run.changes are.1.changes finds.9,
+  are.1.dialect ∙ finds.10,
 )
 requested_run recording machine tools certificate None program delete output (Some found) (ToRun run) finds are = let h : Some run.events.now ≡ None =
     are.1.events ∙ finds.4 in cc
@@ -306,6 +314,7 @@ requested_run recording machine tools certificate None program delete output (So
   are.1.output ∙ finds.7,
   no_mask _ run.inverted are.1.inverted finds.8,
   none_replaced found.1 run.changes are.1.changes finds.9,
+  are.1.dialect ∙ finds.10,
 )
 requested_run recording machine tools certificate events program delete output (Some found) (ToList list) finds are =
     no_run (codes "list") recording (sym (are.0) ∙ finds.0) (λ three. omega (arith, three)) (λ six. omega (arith, six))
@@ -363,18 +372,19 @@ FindsLive machine tools certificate program delete output feed_ring (Some found)
     × (first_of (codes "program") found.1 ≡ Some program) × (is_set (codes "delete") found.1 ≡ delete)
     × (first_of (codes "output") found.1 ≡ output) × (first_of (codes "inverted") found.1 ≡ None) × (is_set (codes "feed-ring") found.1 ≡ feed_ring)
     × (is_set (codes "abort") found.1 ≡ false) × (change_texts found.1 ≡ no_texts)
+    × (first_of (codes "dialect") found.1 ≡ None)
 
 live_spells : (machine tools certificate program : Text) (delete : Bool) (output : Option Text) (feed_ring : Bool)
     → Spells (live_words machine tools certificate program delete output feed_ring) (FindsLive machine tools certificate program delete output feed_ring)
 unfolding clap_on_literals
-live_spells machine tools certificate program false None false = (refl, (refl, refl, refl, refl, refl, refl, refl, refl, refl, refl, refl))
-live_spells machine tools certificate program false None true = (refl, (refl, refl, refl, refl, refl, refl, refl, refl, refl, refl, refl))
-live_spells machine tools certificate program false (Some output) false = (refl, (refl, refl, refl, refl, refl, refl, refl, refl, refl, refl, refl))
-live_spells machine tools certificate program false (Some output) true = (refl, (refl, refl, refl, refl, refl, refl, refl, refl, refl, refl, refl))
-live_spells machine tools certificate program true None false = (refl, (refl, refl, refl, refl, refl, refl, refl, refl, refl, refl, refl))
-live_spells machine tools certificate program true None true = (refl, (refl, refl, refl, refl, refl, refl, refl, refl, refl, refl, refl))
-live_spells machine tools certificate program true (Some output) false = (refl, (refl, refl, refl, refl, refl, refl, refl, refl, refl, refl, refl))
-live_spells machine tools certificate program true (Some output) true = (refl, (refl, refl, refl, refl, refl, refl, refl, refl, refl, refl, refl))
+live_spells machine tools certificate program false None false = (refl, (refl, refl, refl, refl, refl, refl, refl, refl, refl, refl, refl, refl))
+live_spells machine tools certificate program false None true = (refl, (refl, refl, refl, refl, refl, refl, refl, refl, refl, refl, refl, refl))
+live_spells machine tools certificate program false (Some output) false = (refl, (refl, refl, refl, refl, refl, refl, refl, refl, refl, refl, refl, refl))
+live_spells machine tools certificate program false (Some output) true = (refl, (refl, refl, refl, refl, refl, refl, refl, refl, refl, refl, refl, refl))
+live_spells machine tools certificate program true None false = (refl, (refl, refl, refl, refl, refl, refl, refl, refl, refl, refl, refl, refl))
+live_spells machine tools certificate program true None true = (refl, (refl, refl, refl, refl, refl, refl, refl, refl, refl, refl, refl, refl))
+live_spells machine tools certificate program true (Some output) false = (refl, (refl, refl, refl, refl, refl, refl, refl, refl, refl, refl, refl, refl))
+live_spells machine tools certificate program true (Some output) true = (refl, (refl, refl, refl, refl, refl, refl, refl, refl, refl, refl, refl, refl))
 
 requested_live : (machine tools certificate program : Text) (delete : Bool) (output : Option Text) (feed_ring : Bool) (found : Option (Text × List Row)) (options : Options)
     → FindsLive machine tools certificate program delete output feed_ring found → AreOptions found options →
@@ -391,6 +401,7 @@ requested_live machine tools certificate program delete output feed_ring (Some f
   are.1.feed_ring ∙ finds.8,
   are.1.aborts ∙ finds.9,
   none_replaced found.1 live.changes are.1.changes finds.10,
+  are.1.dialect ∙ finds.11,
 )
 requested_live machine tools certificate program delete output feed_ring (Some found) (ToList list) finds are =
     other_third (codes "live") (codes "list") (sym finds.0 ∙ are.0) (λ thirds. omega (arith, thirds))
@@ -658,7 +669,7 @@ FindsCertify machine tools program cuts format None = ⊥
 FindsCertify machine tools program cuts format (Some found) = (found.0 ≡ codes "certify") × (first_of (codes "machine") found.1 ≡ Some machine)
     × (first_of (codes "tools") found.1 ≡ Some tools) × (first_of (codes "program") found.1 ≡ program) × (first_of (codes "cuts") found.1 ≡ cuts)
     × (first_of (codes "format") found.1 ≡ format)
-    × (change_texts found.1 ≡ no_texts)
+    × (change_texts found.1 ≡ no_texts) × (first_of (codes "dialect") found.1 ≡ None)
 
 -- a number as a text
 abbrev text_of : Option ℕ → Option Text
@@ -671,18 +682,18 @@ text_of_format format = option_map format_text format
 certify_finds : (machine tools : Text) (program : Option Text) (cuts : Option ℕ) (format : Option Format)
     → FindsCertify machine tools program (text_of cuts) (text_of_format format) (subcommand_of ngc_app (certify_words machine tools program cuts format))
 unfolding clap_on_literals
-certify_finds machine tools None None None = (refl, refl, refl, refl, refl, refl, refl)
-certify_finds machine tools None None (Some One) = (refl, refl, refl, refl, refl, refl, refl)
-certify_finds machine tools None None (Some Two) = (refl, refl, refl, refl, refl, refl, refl)
-certify_finds machine tools None (Some cuts) None = (refl, refl, refl, refl, refl, refl, refl)
-certify_finds machine tools None (Some cuts) (Some One) = (refl, refl, refl, refl, refl, refl, refl)
-certify_finds machine tools None (Some cuts) (Some Two) = (refl, refl, refl, refl, refl, refl, refl)
-certify_finds machine tools (Some program) None None = (refl, refl, refl, refl, refl, refl, refl)
-certify_finds machine tools (Some program) None (Some One) = (refl, refl, refl, refl, refl, refl, refl)
-certify_finds machine tools (Some program) None (Some Two) = (refl, refl, refl, refl, refl, refl, refl)
-certify_finds machine tools (Some program) (Some cuts) None = (refl, refl, refl, refl, refl, refl, refl)
-certify_finds machine tools (Some program) (Some cuts) (Some One) = (refl, refl, refl, refl, refl, refl, refl)
-certify_finds machine tools (Some program) (Some cuts) (Some Two) = (refl, refl, refl, refl, refl, refl, refl)
+certify_finds machine tools None None None = (refl, refl, refl, refl, refl, refl, refl, refl)
+certify_finds machine tools None None (Some One) = (refl, refl, refl, refl, refl, refl, refl, refl)
+certify_finds machine tools None None (Some Two) = (refl, refl, refl, refl, refl, refl, refl, refl)
+certify_finds machine tools None (Some cuts) None = (refl, refl, refl, refl, refl, refl, refl, refl)
+certify_finds machine tools None (Some cuts) (Some One) = (refl, refl, refl, refl, refl, refl, refl, refl)
+certify_finds machine tools None (Some cuts) (Some Two) = (refl, refl, refl, refl, refl, refl, refl, refl)
+certify_finds machine tools (Some program) None None = (refl, refl, refl, refl, refl, refl, refl, refl)
+certify_finds machine tools (Some program) None (Some One) = (refl, refl, refl, refl, refl, refl, refl, refl)
+certify_finds machine tools (Some program) None (Some Two) = (refl, refl, refl, refl, refl, refl, refl, refl)
+certify_finds machine tools (Some program) (Some cuts) None = (refl, refl, refl, refl, refl, refl, refl, refl)
+certify_finds machine tools (Some program) (Some cuts) (Some One) = (refl, refl, refl, refl, refl, refl, refl, refl)
+certify_finds machine tools (Some program) (Some cuts) (Some Two) = (refl, refl, refl, refl, refl, refl, refl, refl)
 
 -- digits have no sign before them
 no_plus : (ds : Text) → IsNumeral 10 ds → without_leading_plus ds ≡ ds
@@ -762,6 +773,7 @@ requested_certify machine tools program cuts format (Some found) (ToCertify cert
       cuts_read cuts certify.cuts range read,
       format_read format certify.format version,
       none_replaced found.1 certify.changes are.1.changes finds.6,
+      are.1.dialect ∙ finds.7,
     )
 requested_certify machine tools program cuts format (Some found) (ToList list) range finds are =
     other_name (codes "certify") (codes "list") (sym finds.0 ∙ are.0) (λ lengths. omega (arith, lengths))

@@ -100,7 +100,8 @@ certify_sound =
     let margin = set_is_sound FitsCuts _ refl refl refl (λ v none. no_cuts (codes "margin") v refl) in
     let from_travel = set_is_sound FitsCuts _ refl refl refl (λ v none. no_cuts (codes "travel-margin") v refl) in
     let rapids = set_is_sound FitsCuts _ refl refl refl (λ v none. no_cuts (codes "rapids") v refl) in
-    (machine, (tools, (program, (cuts, (format, (origin, (margin, (from_travel, (rapids, (help_is_sound FitsCuts _ refl refl, tt))))))))))
+    let dialect = set_is_sound FitsCuts _ refl refl refl (λ v none. no_cuts (codes "dialect") v refl) in
+    (machine, (tools, (program, (cuts, (format, (origin, (margin, (from_travel, (rapids, (dialect, (help_is_sound FitsCuts _ refl refl, tt)))))))))))
 
 no_format : (id text : Text) → bytes_eq id (codes "format") ≡ false → FitsFormat id text
 no_format = other_fits (codes "format") (IsUnsignedIn 1 2)
@@ -116,7 +117,8 @@ certify_format_sound =
     let margin = set_is_sound FitsFormat _ refl refl refl (λ v none. no_format (codes "margin") v refl) in
     let from_travel = set_is_sound FitsFormat _ refl refl refl (λ v none. no_format (codes "travel-margin") v refl) in
     let rapids = set_is_sound FitsFormat _ refl refl refl (λ v none. no_format (codes "rapids") v refl) in
-    (machine, (tools, (program, (cuts, (format, (origin, (margin, (from_travel, (rapids, (help_is_sound FitsFormat _ refl refl, tt))))))))))
+    let dialect = set_is_sound FitsFormat _ refl refl refl (λ v none. no_format (codes "dialect") v refl) in
+    (machine, (tools, (program, (cuts, (format, (origin, (margin, (from_travel, (rapids, (dialect, (help_is_sound FitsFormat _ refl refl, tt)))))))))))
 
 no_mask : (id text : Text) → bytes_eq id (codes "inverted") ≡ false → FitsMask id text
 no_mask = other_fits (codes "inverted") (IsUnsignedIn 0 255)
@@ -131,7 +133,8 @@ check_sound =
     let margin = set_is_sound FitsCuts _ refl refl refl (λ v none. no_cuts (codes "margin") v refl) in
     let from_travel = set_is_sound FitsCuts _ refl refl refl (λ v none. no_cuts (codes "travel-margin") v refl) in
     let rapids = set_is_sound FitsCuts _ refl refl refl (λ v none. no_cuts (codes "rapids") v refl) in
-    (machine, (tools, (certificate, (program, (origin, (margin, (from_travel, (rapids, (help_is_sound FitsCuts _ refl refl, tt)))))))))
+    let dialect = set_is_sound FitsCuts _ refl refl refl (λ v none. no_cuts (codes "dialect") v refl) in
+    (machine, (tools, (certificate, (program, (origin, (margin, (from_travel, (rapids, (dialect, (help_is_sound FitsCuts _ refl refl, tt))))))))))
 
 run_sound : AreSound FitsMask run_shape.rules
 run_sound =
@@ -147,7 +150,8 @@ run_sound =
     let margin = set_is_sound FitsMask _ refl refl refl (λ v none. no_mask (codes "margin") v refl) in
     let from_travel = set_is_sound FitsMask _ refl refl refl (λ v none. no_mask (codes "travel-margin") v refl) in
     let rapids = set_is_sound FitsMask _ refl refl refl (λ v none. no_mask (codes "rapids") v refl) in
-    (machine, (tools, (certificate, (events, (program, (delete, (output, (inverted, (origin, (margin, (from_travel, (rapids, (help_is_sound FitsMask _ refl refl, tt)))))))))))))
+    let dialect = set_is_sound FitsMask _ refl refl refl (λ v none. no_mask (codes "dialect") v refl) in
+    (machine, (tools, (certificate, (events, (program, (delete, (output, (inverted, (origin, (margin, (from_travel, (rapids, (dialect, (help_is_sound FitsMask _ refl refl, tt))))))))))))))
 
 certify_values : (words : List Text) → level_fault certify_shape [] nothing_held words false [] ≡ [] →
     HasCertifyValues (rows_after certify_shape.rules [] words)
@@ -215,7 +219,8 @@ live_sound =
     let margin = set_is_sound FitsMask _ refl refl refl (λ v none. no_mask (codes "margin") v refl) in
     let from_travel = set_is_sound FitsMask _ refl refl refl (λ v none. no_mask (codes "travel-margin") v refl) in
     let rapids = set_is_sound FitsMask _ refl refl refl (λ v none. no_mask (codes "rapids") v refl) in
-    (machine, (tools, (certificate, (program, (delete, (output, (inverted, (feeds, (aborts, (origin, (margin, (from_travel, (rapids, (help_is_sound FitsMask _ refl refl, tt))))))))))))))
+    let dialect = set_is_sound FitsMask _ refl refl refl (λ v none. no_mask (codes "dialect") v refl) in
+    (machine, (tools, (certificate, (program, (delete, (output, (inverted, (feeds, (aborts, (origin, (margin, (from_travel, (rapids, (dialect, (help_is_sound FitsMask _ refl refl, tt)))))))))))))))
 
 live_values : (words : List Text) → level_fault live_shape [] nothing_held words false [] ≡ [] → HasLiveValues (rows_after live_shape.rules [] words)
 live_values words none =

@@ -44,44 +44,49 @@ travel_margin_option = file_option (codes "travel-margin")
 abbrev pub rapids_option : Rule
 rapids_option = file_option (codes "rapids")
 
+-- `--dialect NAME`
+abbrev pub dialect_option : Rule
+dialect_option = file_option (codes "dialect")
+
 -- `--NAME`
 abbrev pub flag : Text → Rule
 flag name = record (new_rule name) { long = Some name; action = Some SetTrue }
 
--- `list [--program FILE] [--machine FILE] [--tools FILE] [--delete] [--origin SYSTEM=X,Y,Z]..`
+-- `list [--program FILE] [--machine FILE] [--tools FILE] [--delete] [--origin SYSTEM=X,Y,Z]..
+-- [--dialect NAME]`
 abbrev pub list_app : App
 list_app = fold with_rule (new_app (codes "list"))
     (file_option (codes "program") ∷ file_option (codes "machine") ∷ file_option (codes "tools")
-    ∷ flag (codes "delete") ∷ origin_option ∷ [])
+    ∷ flag (codes "delete") ∷ origin_option ∷ dialect_option ∷ [])
 
 -- In the commands below, the last two points stand for `[--margin MM] [--travel-margin MM]` and
 -- `[--rapids WAY]`.
 
 -- `certify --machine FILE --tools FILE [--program FILE] [--cuts N] [--format VERSION]
--- [--origin SYSTEM=X,Y,Z].. ..`
+-- [--origin SYSTEM=X,Y,Z].. .. [--dialect NAME]`
 abbrev pub certify_app : App
 certify_app = fold with_rule (new_app (codes "certify"))
     (required_file (codes "machine") ∷ required_file (codes "tools")
     ∷ file_option (codes "program") ∷ cuts_option ∷ format_option ∷ origin_option ∷ margin_option
-    ∷ travel_margin_option ∷ rapids_option ∷ [])
+    ∷ travel_margin_option ∷ rapids_option ∷ dialect_option ∷ [])
 
 -- `check --machine FILE --tools FILE --certificate FILE [--program FILE]
--- [--origin SYSTEM=X,Y,Z].. ..`
+-- [--origin SYSTEM=X,Y,Z].. .. [--dialect NAME]`
 abbrev pub check_app : App
 check_app = fold with_rule (new_app (codes "check"))
     (required_file (codes "machine") ∷ required_file (codes "tools")
     ∷ required_file (codes "certificate") ∷ file_option (codes "program") ∷ origin_option ∷ margin_option
-    ∷ travel_margin_option ∷ rapids_option ∷ [])
+    ∷ travel_margin_option ∷ rapids_option ∷ dialect_option ∷ [])
 
 -- `--machine FILE --tools FILE --certificate FILE [--events FILE] [--program FILE] [--delete]`
--- and `[--output FORM] [--inverted MASK] [--origin SYSTEM=X,Y,Z].. ..`
+-- and `[--output FORM] [--inverted MASK] [--origin SYSTEM=X,Y,Z].. .. [--dialect NAME]`
 abbrev pub with_run_rules : App → App
 with_run_rules app = fold with_rule app
     (required_file (codes "machine") ∷ required_file (codes "tools")
     ∷ required_file (codes "certificate") ∷ file_option (codes "events")
     ∷ file_option (codes "program") ∷ flag (codes "delete") ∷ file_option (codes "output")
     ∷ inverted_option ∷ origin_option ∷ margin_option
-    ∷ travel_margin_option ∷ rapids_option ∷ [])
+    ∷ travel_margin_option ∷ rapids_option ∷ dialect_option ∷ [])
 
 -- the name of a run's command, by its output
 abbrev pub run_name : Recording → Text
@@ -97,14 +102,14 @@ abbrev pub pulses_app : App
 pulses_app = with_run_rules (new_app (codes "pulses"))
 
 -- `live --machine FILE --tools FILE --certificate FILE --program FILE [--delete] [--output FORM]
--- [--inverted MASK] [--feed-ring] [--abort] [--origin SYSTEM=X,Y,Z].. ..`
+-- [--inverted MASK] [--feed-ring] [--abort] [--origin SYSTEM=X,Y,Z].. .. [--dialect NAME]`
 abbrev pub live_app : App
 live_app = fold with_rule (new_app (codes "live"))
     (required_file (codes "machine") ∷ required_file (codes "tools")
     ∷ required_file (codes "certificate") ∷ required_file (codes "program")
     ∷ flag (codes "delete") ∷ file_option (codes "output") ∷ inverted_option
     ∷ flag (codes "feed-ring") ∷ flag (codes "abort") ∷ origin_option ∷ margin_option
-    ∷ travel_margin_option ∷ rapids_option ∷ [])
+    ∷ travel_margin_option ∷ rapids_option ∷ dialect_option ∷ [])
 
 -- `draw --machine FILE --tools FILE [--certificate FILE] [--program FILE] [--view VIEW] [--delete]
 -- [--bodies] [--whole] [--origin SYSTEM=X,Y,Z].. ..`

@@ -104,6 +104,7 @@ pub record AreListOptions (rows : List Row) (options : ListOptions) : Type 0 whe
   pub machine : option_map (λ name. name.now) options.machine ≡ first_of (codes "machine") rows
   pub tools : option_map (λ name. name.now) options.tools ≡ first_of (codes "tools") rows
   pub delete : options.delete ≡ is_set (codes "delete") rows
+  pub dialect : option_map (λ name. name.now) options.dialect ≡ first_of (codes "dialect") rows
   pub changes : changes_in rows ≡ Some options.changes
 
 -- the number of cuts: 8 without a text, otherwise the number from 1 to 65,535 whose decimal the
@@ -138,6 +139,7 @@ pub record AreCertifyOptions (rows : List Row) (options : CertifyOptions) : Type
   pub program : option_map (λ name. name.now) options.program ≡ first_of (codes "program") rows
   pub cuts : AreCuts (first_of (codes "cuts") rows) options.cuts
   pub format : IsFormat (first_of (codes "format") rows) options.format
+  pub dialect : option_map (λ name. name.now) options.dialect ≡ first_of (codes "dialect") rows
   pub changes : changes_in rows ≡ Some options.changes
 
 -- the number whose decimal the text is; a plus sign may precede it
@@ -152,6 +154,7 @@ pub record AreCheckOptions (rows : List Row) (options : CheckOptions) : Type 0 w
   pub tools : Some options.tools.now ≡ first_of (codes "tools") rows
   pub certificate : Some options.certificate.now ≡ first_of (codes "certificate") rows
   pub program : option_map (λ name. name.now) options.program ≡ first_of (codes "program") rows
+  pub dialect : option_map (λ name. name.now) options.dialect ≡ first_of (codes "dialect") rows
   pub changes : changes_in rows ≡ Some options.changes
 
 -- each option of a run with events by the first value that was found under its own name
@@ -164,6 +167,7 @@ pub record AreRunOptions (rows : List Row) (options : RunOptions) : Type 0 where
   pub delete : options.delete ≡ is_set (codes "delete") rows
   pub output : option_map (λ name. name.now) options.output ≡ first_of (codes "output") rows
   pub inverted : IsMask (first_of (codes "inverted") rows) options.inverted
+  pub dialect : option_map (λ name. name.now) options.dialect ≡ first_of (codes "dialect") rows
   pub changes : changes_in rows ≡ Some options.changes
 
 -- and of a run without events
@@ -176,6 +180,7 @@ pub record AreRunThroughOptions (rows : List Row) (options : RunThroughOptions) 
   pub delete : options.delete ≡ is_set (codes "delete") rows
   pub output : option_map (λ name. name.now) options.output ≡ first_of (codes "output") rows
   pub inverted : IsMask (first_of (codes "inverted") rows) options.inverted
+  pub dialect : option_map (λ name. name.now) options.dialect ≡ first_of (codes "dialect") rows
   pub changes : changes_in rows ≡ Some options.changes
 
 -- the options are those of a run that writes this, with events or without
@@ -196,6 +201,7 @@ pub record AreLiveOptions (rows : List Row) (options : LiveOptions) : Type 0 whe
   pub inverted : IsMask (first_of (codes "inverted") rows) options.inverted
   pub feed_ring : options.feed_ring ≡ is_set (codes "feed-ring") rows
   pub aborts : options.aborts ≡ is_set (codes "abort") rows
+  pub dialect : option_map (λ name. name.now) options.dialect ≡ first_of (codes "dialect") rows
   pub changes : changes_in rows ≡ Some options.changes
 
 -- each option of `draw` by the first value that was found under its own name
@@ -378,6 +384,7 @@ IsListRequest program machine tools delete (ToList list) =
     × (option_map (λ name. name.now) list.machine ≡ machine)
     × (option_map (λ name. name.now) list.tools ≡ tools)
     × (list.delete ≡ delete) × (list.changes ≡ no_changes)
+    × (option_map (λ name. name.now) list.dialect ≡ None)
 IsListRequest program machine tools delete other = ⊥
 
 -- `certify` is requested, with these options, by default 8 cuts and version 1, and no key is
@@ -387,7 +394,7 @@ IsCertifyRequest machine tools program cuts format (ToCertify certify) =
     (certify.machine.now ≡ machine) × (certify.tools.now ≡ tools)
     × (option_map (λ name. name.now) certify.program ≡ program)
     × (certify.cuts ≡ unwrap_or cuts 8) × (certify.format ≡ unwrap_or format One)
-    × (certify.changes ≡ no_changes)
+    × (certify.changes ≡ no_changes) × (option_map (λ name. name.now) certify.dialect ≡ None)
 IsCertifyRequest machine tools program cuts format other = ⊥
 
 -- `check` is requested, with these options, and no key is replaced
@@ -396,6 +403,7 @@ IsCheckRequest machine tools certificate program (ToCheck check) =
     (check.machine.now ≡ machine) × (check.tools.now ≡ tools)
     × (check.certificate.now ≡ certificate)
     × (option_map (λ name. name.now) check.program ≡ program) × (check.changes ≡ no_changes)
+    × (option_map (λ name. name.now) check.dialect ≡ None)
 IsCheckRequest machine tools certificate program other = ⊥
 
 -- a run that writes this is requested, with these options, and no bits are inverted and no
@@ -407,13 +415,13 @@ IsRunRequest recording machine tools certificate (Some events) program delete ou
     × (run.certificate.now ≡ certificate) × (run.events.now ≡ events)
     × (option_map (λ name. name.now) run.program ≡ program) × (run.delete ≡ delete)
     × (option_map (λ name. name.now) run.output ≡ output) × (run.inverted ≡ 0)
-    × (run.changes ≡ no_changes)
+    × (run.changes ≡ no_changes) × (option_map (λ name. name.now) run.dialect ≡ None)
 IsRunRequest recording machine tools certificate None program delete output (ToRunThrough run) =
     (run.recording ≡ recording) × (run.machine.now ≡ machine) × (run.tools.now ≡ tools)
     × (run.certificate.now ≡ certificate)
     × (option_map (λ name. name.now) run.program ≡ program) × (run.delete ≡ delete)
     × (option_map (λ name. name.now) run.output ≡ output) × (run.inverted ≡ 0)
-    × (run.changes ≡ no_changes)
+    × (run.changes ≡ no_changes) × (option_map (λ name. name.now) run.dialect ≡ None)
 IsRunRequest recording machine tools certificate events program delete output other = ⊥
 
 -- `live` is requested, with these options; no bits are inverted, the run ends at rest, and no
@@ -424,7 +432,7 @@ IsLiveRequest machine tools certificate program delete output feed_ring (ToLive 
     × (live.certificate.now ≡ certificate) × (live.program.now ≡ program)
     × (live.delete ≡ delete) × (option_map (λ name. name.now) live.output ≡ output)
     × (live.inverted ≡ 0) × (live.feed_ring ≡ feed_ring) × (live.aborts ≡ false)
-    × (live.changes ≡ no_changes)
+    × (live.changes ≡ no_changes) × (option_map (λ name. name.now) live.dialect ≡ None)
 IsLiveRequest machine tools certificate program delete output feed_ring other = ⊥
 
 -- `draw` is requested, with these options, and no key is replaced

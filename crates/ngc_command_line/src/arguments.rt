@@ -110,6 +110,14 @@ pub(crate) const RAPIDS: Argument<'static> = Argument {
     help: "Way of a traverse: straight, or free within the box\nof its ends [default: the machine file's]",
 };
 
+pub(crate) const DIALECT: Argument<'static> = Argument {
+    name: "dialect",
+    is_named: true,
+    is_required: false,
+    takes: Takes::Text("NAME"),
+    help: "Language of the part program: linuxcnc, grbl, mach3\nor fanuc [default: our own]",
+};
+
 pub(crate) fn flag_is_set(found: &ArgMatches<'_>, name: &str) -> bool
     ensures { result ≡ is_set name.now (rows_of (found_of found.now)) }
 {

@@ -6,8 +6,8 @@ ghost use Rattle.ngc_command_line.specs.Meant.{AreCertifyOptions, AreCuts, HasCe
 ghost use Rattle.ngc_command_line.specs.Meant.{IsFormat, changes_in};
 
 use crate::arguments::{
-    CUTS, MARGIN, ORIGIN, PROGRAM, RAPIDS, REQUIRED_MACHINE, REQUIRED_TOOLS, TRAVEL_MARGIN,
-    help_end, required,
+    CUTS, DIALECT, MARGIN, ORIGIN, PROGRAM, RAPIDS, REQUIRED_MACHINE, REQUIRED_TOOLS,
+    TRAVEL_MARGIN, help_end, required,
 };
 use crate::options::{CertifyOptions, Format};
 use crate::table::{Argument, SubcommandRow, Takes};
@@ -39,6 +39,7 @@ pub(crate) static CERTIFY: SubcommandRow<'static> = SubcommandRow {
         MARGIN,
         TRAVEL_MARGIN,
         RAPIDS,
+        DIALECT,
     ],
 };
 
@@ -97,5 +98,6 @@ pub(crate) fn certify_options<'a>(found: &ArgMatches<'a>, changes: Changes) -> C
         cuts: cuts_of(found),
         format: format_of(found),
         changes,
+        dialect: found.get_str("dialect"),
     }
 }

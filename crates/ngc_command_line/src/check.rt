@@ -6,8 +6,8 @@ ghost use Rattle.ngc_command_line.specs.Meant.{AreCheckOptions, HasCheckValues, 
 
 use crate::CheckOptions;
 use crate::arguments::{
-    MARGIN, ORIGIN, PROGRAM, RAPIDS, REQUIRED_CERTIFICATE, REQUIRED_MACHINE, REQUIRED_TOOLS,
-    TRAVEL_MARGIN, help_end, required,
+    DIALECT, MARGIN, ORIGIN, PROGRAM, RAPIDS, REQUIRED_CERTIFICATE, REQUIRED_MACHINE,
+    REQUIRED_TOOLS, TRAVEL_MARGIN, help_end, required,
 };
 use crate::table::SubcommandRow;
 use clap::ArgMatches;
@@ -29,6 +29,7 @@ pub(crate) static CHECK: SubcommandRow<'static> = SubcommandRow {
         MARGIN,
         TRAVEL_MARGIN,
         RAPIDS,
+        DIALECT,
     ],
 };
 
@@ -43,5 +44,6 @@ pub(crate) fn check_options<'a>(found: &ArgMatches<'a>, changes: Changes) -> Che
         certificate: required(found, "certificate"),
         program: found.get_str("program"),
         changes,
+        dialect: found.get_str("dialect"),
     }
 }

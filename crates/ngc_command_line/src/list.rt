@@ -5,7 +5,7 @@ ghost use Rattle.clap.specs.Words.{found_of, rows_of};
 ghost use Rattle.ngc_command_line.specs.Meant.{AreListOptions, changes_in};
 
 use crate::ListOptions;
-use crate::arguments::{DELETE, ORIGIN, PROGRAM, flag_is_set, help_end};
+use crate::arguments::{DELETE, DIALECT, ORIGIN, PROGRAM, flag_is_set, help_end};
 use crate::table::{Argument, SubcommandRow, Takes};
 use clap::ArgMatches;
 use ngc_margins::Changes;
@@ -30,7 +30,7 @@ pub(crate) static LIST: SubcommandRow<'static> = SubcommandRow {
     name: "list",
     about: "Print the commands of a part program, one a line",
     help_end: help_end!("  ngc list --program examples/facing.ngc"),
-    arguments: &[PROGRAM, MACHINE, TOOLS, DELETE, ORIGIN],
+    arguments: &[PROGRAM, MACHINE, TOOLS, DELETE, ORIGIN, DIALECT],
 };
 
 pub(crate) fn list_options<'a>(found: &ArgMatches<'a>, changes: Changes) -> ListOptions<'a>
@@ -43,5 +43,6 @@ pub(crate) fn list_options<'a>(found: &ArgMatches<'a>, changes: Changes) -> List
         tools: found.get_str("tools"),
         delete: flag_is_set(found, "delete"),
         changes,
+        dialect: found.get_str("dialect"),
     }
 }

@@ -5,8 +5,8 @@ ghost use Rattle.clap.specs.Words.{found_of, rows_of};
 ghost use Rattle.ngc_command_line.specs.Meant.{AreLiveOptions, HasLiveValues, changes_in};
 
 use crate::arguments::{
-    DELETE, MARGIN, ORIGIN, RAPIDS, REQUIRED_CERTIFICATE, REQUIRED_MACHINE, REQUIRED_TOOLS,
-    TRAVEL_MARGIN, flag_is_set, help_end, required,
+    DELETE, DIALECT, MARGIN, ORIGIN, RAPIDS, REQUIRED_CERTIFICATE, REQUIRED_MACHINE,
+    REQUIRED_TOOLS, TRAVEL_MARGIN, flag_is_set, help_end, required,
 };
 use crate::options::LiveOptions;
 use crate::run::{INVERTED, LOG_OUTPUT, mask_of};
@@ -59,6 +59,7 @@ pub(crate) static LIVE: SubcommandRow<'static> = SubcommandRow {
         MARGIN,
         TRAVEL_MARGIN,
         RAPIDS,
+        DIALECT,
     ],
 };
 
@@ -78,5 +79,6 @@ pub(crate) fn live_options<'a>(found: &ArgMatches<'a>, changes: Changes) -> Live
         feed_ring: flag_is_set(found, "feed-ring"),
         aborts: flag_is_set(found, "abort"),
         changes,
+        dialect: found.get_str("dialect"),
     }
 }

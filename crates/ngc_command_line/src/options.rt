@@ -53,6 +53,8 @@ pub struct ListOptions<'a> {
     pub delete: bool,
     /// What replaces keys of the machine file.
     pub changes: Changes,
+    /// The control in whose language the program is written. Without one it is our own language.
+    pub dialect: Option<&'a str>,
 }
 
 /// The version of the text of a certificate.
@@ -80,6 +82,8 @@ pub struct CertifyOptions<'a> {
     pub format: Format,
     /// What replaces keys of the machine file.
     pub changes: Changes,
+    /// The control in whose language the program is written. Without one it is our own language.
+    pub dialect: Option<&'a str>,
     ghost some_cuts: { 1 ≤ cuts },
 }
 
@@ -96,6 +100,8 @@ pub struct CheckOptions<'a> {
     pub program: Option<&'a str>,
     /// What replaces keys of the machine file.
     pub changes: Changes,
+    /// The control in whose language the program is written. Without one it is our own language.
+    pub dialect: Option<&'a str>,
 }
 
 /// The output of a run.
@@ -131,6 +137,8 @@ pub struct RunOptions<'a> {
     pub inverted: u8,
     /// What replaces keys of the machine file.
     pub changes: Changes,
+    /// The control in whose language the program is written. Without one it is our own language.
+    pub dialect: Option<&'a str>,
 }
 
 /// The options of `ngc run` and `ngc pulses` without events.
@@ -155,6 +163,8 @@ pub struct RunThroughOptions<'a> {
     pub inverted: u8,
     /// What replaces keys of the machine file.
     pub changes: Changes,
+    /// The control in whose language the program is written. Without one it is our own language.
+    pub dialect: Option<&'a str>,
 }
 
 /// The options of `ngc live`. Its events arrive on standard input.
@@ -182,6 +192,8 @@ pub struct LiveOptions<'a> {
     pub aborts: bool,
     /// What replaces keys of the machine file.
     pub changes: Changes,
+    /// The control in whose language the program is written. Without one it is our own language.
+    pub dialect: Option<&'a str>,
 }
 
 /// The options of `ngc draw`.

@@ -5,7 +5,7 @@ ghost use Rattle.clap.specs.Words.{IsUnsignedIn, first_of, found_of, rows_of};
 ghost use Rattle.ngc_command_line.specs.Meant.{AreRunsOptions, HasRunValues, IsMask, changes_in};
 
 use crate::arguments::{
-    DELETE, MARGIN, ORIGIN, PROGRAM, RAPIDS, REQUIRED_CERTIFICATE, REQUIRED_MACHINE,
+    DELETE, DIALECT, MARGIN, ORIGIN, PROGRAM, RAPIDS, REQUIRED_CERTIFICATE, REQUIRED_MACHINE,
     REQUIRED_TOOLS, TRAVEL_MARGIN, flag_is_set, help_end, required,
 };
 use crate::options::{Options, Recording, RunOptions, RunThroughOptions};
@@ -65,6 +65,7 @@ pub(crate) static RUN: SubcommandRow<'static> = SubcommandRow {
         MARGIN,
         TRAVEL_MARGIN,
         RAPIDS,
+        DIALECT,
     ],
 };
 
@@ -88,6 +89,7 @@ pub(crate) static PULSES: SubcommandRow<'static> = SubcommandRow {
         MARGIN,
         TRAVEL_MARGIN,
         RAPIDS,
+        DIALECT,
     ],
 };
 
@@ -129,6 +131,7 @@ pub(crate) fn run_options<'a>(
     let delete = flag_is_set(found, "delete");
     let output = found.get_str("output");
     let inverted = mask_of(found);
+    let dialect = found.get_str("dialect");
     match found.get_str("events") {
         Some(events) => Options::Run(RunOptions {
             recording,
@@ -141,6 +144,7 @@ pub(crate) fn run_options<'a>(
             output,
             inverted,
             changes,
+            dialect,
         }),
         None => Options::RunThrough(RunThroughOptions {
             recording,
@@ -152,6 +156,7 @@ pub(crate) fn run_options<'a>(
             output,
             inverted,
             changes,
+            dialect,
         }),
     }
 }

@@ -1,6 +1,5 @@
 -- One plain line after another.
-use Rattle.std.proofs.Common.{◌≡◌, ℕ, ℤ, suc, ◌+◌, ◌<◌, ◌≤◌, Bool, true, false, List, [], ◌∷◌, ◌++◌, length, drop, get_or, Result, Ok, Err, refl, ap, sym, ◌∙◌, arith}
-use Rattle.std.specs.Prelude.{if◌then◌else◌}
+use Rattle.std.proofs.Common.{◌≡◌, ℕ, ℤ, suc, ◌+◌, ◌<◌, ◌≤◌, true, false, List, [], ◌∷◌, ◌++◌, length, drop, get_or, Result, Ok, Err, refl, ap, sym, ◌∙◌, arith}
 use Rattle.std.proofs.Math.Seq.{drop-cons}
 use Rattle.std.proofs.Math.ListN.{drop_of_length-le}
 use Rattle.std.proofs.lemmas.List.{length-append, map-append}
@@ -17,7 +16,7 @@ use Rattle.ngc_dialect_execution.specs.declared.fault.Cause.{Cause}
 use Rattle.ngc_dialect_execution.specs.declared.fault.Cause.TheVariants as causes
 use Rattle.ngc_dialect_execution.specs.declared.fault.Refusal.{Refusal}
 use Rattle.ngc_dialect_execution.specs.declared.fault.Refusal.TheVariants.{Because, TooManyNames, Memory}
-use Rattle.ngc_dialect_execution.specs.Executed.{PlainLine, execute_plain, executed, lines_from}
+use Rattle.ngc_dialect_execution.specs.Executed.{executed, lines_from}
 use Rattle.ngc_dialect_execution.specs.Faults.{Says, caused}
 
 -- executing the parts from an index on, where some words are begun

@@ -11,7 +11,7 @@ use Rattle.ngc_canonical.proofs.EndingSteps.{Left, left_open}
 use Rattle.ngc_canonical.proofs.JoinedLines.{start_holds, words_hold}
 use Rattle.ngc_canonical.proofs.JoinedMotions.{Holds, onward}
 use Rattle.ngc_dialect_execution.specs.Executed.{PlainLine, execute_plain, executed}
-use Rattle.ngc_dialect_execution.specs.Laws.{AreLawful, PlainLinesAreLawful, ListsAreInOrder}
+use Rattle.ngc_dialect_execution.specs.Laws.{PlainLinesAreLawful, ListsAreInOrder}
 
 executed_holds : (p : Point3) (setup : Setup) (lines : List PlainLine) (s : State) → Holds p s → IfOk (executed setup lines s) (Holds p)
 unfolding executed

@@ -10,3 +10,5 @@ pub mod FirstLine
 pub mod Reaching
 -- One line of a text after another.
 pub mod TextSteps
+-- What steps return, passed on; the moves of a cycle, one after another.
+pub mod Passing

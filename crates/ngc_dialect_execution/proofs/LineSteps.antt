@@ -1,5 +1,5 @@
 -- What a line says and sets, and its words.
-use Rattle.std.proofs.Common.{◌≡◌, ℕ, ℤ, List, Option, None, Result, Ok, Err, refl, sym, ◌∙◌, ap, subst}
+use Rattle.std.proofs.Common.{◌≡◌, ℕ, ℤ, List, Option, None, Result, Ok, Err, sym, ◌∙◌, ap, subst}
 use Rattle.std.proofs.Math.Path.{fun_ext}
 use Rattle.ngc_machine_files.specs.Machine.{MachineFile}
 use Rattle.ngc_canonical.specs.State.{Setup}

@@ -1,6 +1,6 @@
 -- What a program's plain lines lead to.
 use Rattle.std.proofs.Common.{◌≡◌, ℕ, List, [], ◌∷◌, ◌++◌, Bool, true, false, Result, Ok, Err, refl, sym, ◌∙◌, ap, subst}
-use Rattle.std.specs.Prelude.{if◌then◌else◌, ◌&&◌, IfOk}
+use Rattle.std.specs.Prelude.{if◌then◌else◌, ◌&&◌, IfOk, Option, Some, None}
 use Rattle.ngc_canonical.specs.declared.fault.Fault.{Fault}
 use Rattle.ngc_canonical.specs.declared.fault.Fault.TheVariants.{NoEnd}
 use Rattle.ngc_canonical.specs.State.{Setup, State, start_state}
@@ -11,7 +11,15 @@ use Rattle.ngc_dialect_reader.specs.declared.dialect.Dialect.{Dialect}
 use Rattle.ngc_dialect_reader.specs.declared.part.Part.{Part}
 use Rattle.ngc_dialect_reader.specs.Line.{line_of}
 use Rattle.ngc_dialect_reader.specs.Text.{text}
+use Rattle.ngc_canned_cycles.specs.declared.cycle.CycleMove.{CycleMove}
+use Rattle.ngc_dialect_drilling.specs.Holes.{cycle_of}
+use Rattle.ngc_dialect_drilling.specs.Moves.{move_lines, stop_lines}
+use Rattle.ngc_dialect_rules.specs.declared.code.Code.{Code}
 use Rattle.ngc_dialect_rules.specs.declared.front.Front.{Front}
+use Rattle.ngc_dialect_rules.specs.declared.front.KeptSeries.{KeptSeries}
+use Rattle.ngc_dialect_rules.specs.declared.plain.Plain.{Plain}
+use Rattle.ngc_dialect_rules.specs.declared.plan.LineCycle.{LineCycle}
+use Rattle.ngc_dialect_rules.specs.declared.plan.LineResult.{LineResult}
 use Rattle.ngc_dialect_rules.specs.Rules.{plain_lines}
 use Rattle.ngc_line_reader.specs.Program.{split_lines}
 use Rattle.ngc_dialect_execution.specs.declared.fault.Cause.{Cause}
@@ -24,7 +32,7 @@ use Rattle.ngc_dialect_execution.specs.Executed.{PlainLine, executed, lines_at}
 use Rattle.ngc_dialect_execution.specs.Faults.{◌>>=◌ as ◌>>=c◌, caused, ProgramSays}
 use Rattle.ngc_dialect_execution.specs.Laws.{AreLawful, AreExecuted, IsReached}
 use Rattle.ngc_dialect_execution.specs.Program.{at, is_end, commands_of, finished, go_on, lines_taken, marked_taken, meaning_in}
-use Rattle.ngc_dialect_execution.specs.Taken.{Between, Progress, END, ended_at, is_deleted, known_of, line_taken, parts_taken, said_at, start_progress, statements_taken, with_settings, with_state, words_taken}
+use Rattle.ngc_dialect_execution.specs.Taken.{Between, Progress, END, ended_at, is_deleted, known_of, line_taken, parts_taken, said_at, start_progress, statements_taken, with_state, words_taken, plain_taken, move_taken, moves_taken, with_series, start_taken, cycle_taken, cycle_if}
 use Rattle.ngc_dialect_execution.specs.Text.{first_byte, lines_after, mark_of, no_lines}
 use Rattle.ngc_dialect_execution.proofs.Lawful.{are_lawful, in_order}
 
@@ -65,12 +73,70 @@ caused_state : (setup : Setup) (lines : List PlainLine) (b : Between) (front : F
 caused_state setup lines b front (Ok s) e = record { lines = lines; leads = e }
 caused_state setup lines b front (Err fault) e = tt
 
+-- what is known leads on
+abbrev KnownLeads : Setup → State → Result Between Cause → Type 0
+KnownLeads setup s r = IfOk r (λ (c : Between). Leads setup s c.state)
+
+-- plain lines lead from a state to a second, and from that to a third
+on_leads : (setup : Setup) (s t u : State) → Leads setup s t → Leads setup t u → Leads setup s u
+on_leads setup s t u first more = record {
+  lines = first.lines ++ more.lines;
+  leads = in_order setup first.lines more.lines s ∙ ap (λ (r : Result State Fault). r >>= λ v. executed setup more.lines v) first.leads ∙ more.leads;
+}
+
+from_there : (setup : Setup) (s t : State) (r : Result Between Cause) → Leads setup s t → KnownLeads setup t r → KnownLeads setup s r
+from_there setup s t (Ok b) first leads = on_leads setup s t b.state first leads
+from_there setup s t (Err e) first leads = tt
+
+-- a second step goes on from where the first one leads
+chain : (setup : Setup) (s : State) (r : Result Between Cause) (f : Between → Result Between Cause) → KnownLeads setup s r →
+    ((c : Between) → KnownLeads setup c.state (f c)) → KnownLeads setup s (r >>=c f)
+chain setup s (Ok c) f leads rest = from_there setup s c.state (f c) leads (rest c)
+chain setup s (Err e) f leads rest = tt
+
+plain_lead : (setup : Setup) (line : ℕ) (ps : List Plain) (b : Between) → KnownLeads setup b.state (plain_taken setup line ps b)
+plain_lead setup line ps b = caused_state setup (lines_at line ps) b b.front (executed setup (lines_at line ps) b.state) refl
+
+move_leads : (setup : Setup) (line : ℕ) (m : CycleMove) (b : Between) → KnownLeads setup b.state (move_taken setup line m b)
+move_leads setup line m b =
+    after_any (λ (c : Between). Leads setup b.state c.state) (caused causes.Rule (move_lines (known_of b) m)) _ (λ ps. plain_lead setup line ps b)
+
+moves_lead : (setup : Setup) (line : ℕ) (ms : List CycleMove) (b : Between) → KnownLeads setup b.state (moves_taken setup line ms b)
+moves_lead setup line [] b = stays_there setup b.state
+moves_lead setup line (m ∷ ms) b =
+    chain setup b.state (move_taken setup line m b) (λ c. moves_taken setup line ms c) (move_leads setup line m b) (λ c. moves_lead setup line ms c)
+
+start_leads : (setup : Setup) (line : ℕ) (stop : Option Code) (kept : KeptSeries) (moves : List CycleMove) (b : Between) →
+    KnownLeads setup b.state (start_taken setup line stop kept moves b)
+unfolding start_taken
+start_leads setup line stop kept moves b =
+    chain setup b.state (moves_taken setup line moves (with_series kept b)) (λ c. plain_taken setup line (stop_lines stop) c)
+    (moves_lead setup line moves (with_series kept b)) (λ c. plain_lead setup line (stop_lines stop) c)
+
+cycle_leads : (setup : Setup) (line : ℕ) (words : List Word) (cycle : LineCycle) (b : Between) → KnownLeads setup b.state (cycle_taken setup line words cycle b)
+cycle_leads setup line words cycle b =
+    after_any (λ (c : Between). Leads setup b.state c.state) (caused causes.Rule (cycle_of (known_of b) cycle.code words)) _
+    (λ start. start_leads setup line cycle.stop start.0 start.1 b)
+
+cycle_if_leads : (setup : Setup) (line : ℕ) (words : List Word) (cycle : Option LineCycle) (b : Between) →
+    KnownLeads setup b.state (cycle_if setup line words cycle b)
+cycle_if_leads setup line words None b = stays_there setup b.state
+cycle_if_leads setup line words (Some cycle) b = cycle_leads setup line words cycle b
+
+after_plain : (setup : Setup) (line : ℕ) (words : List Word) (lines : List PlainLine) (made : LineResult) (b : Between) (r : Result State Fault) →
+    executed setup lines b.state ≡ r →
+    KnownLeads setup b.state (caused causes.Plain r >>=c λ s. cycle_if setup line words made.cycle (with_state b made.front s))
+after_plain setup line words lines made b (Ok s) e =
+    from_there setup b.state s (cycle_if setup line words made.cycle (with_state b made.front s)) (record { lines = lines; leads = e })
+    (cycle_if_leads setup line words made.cycle (with_state b made.front s))
+after_plain setup line words lines made b (Err fault) e = tt
+
 words_lead : (setup : Setup) (line : ℕ) (words : List Word) (b : Between) →
     IfOk (words_taken setup line words b) (λ (c : Between). Leads setup b.state c.state)
 unfolding words_taken
 words_lead setup line words b =
     after_any (λ (c : Between). Leads setup b.state c.state) (caused causes.Rule (plain_lines (known_of b) words)) _
-    (λ plain. caused_state setup (lines_at line plain.1) b plain.0 (executed setup (lines_at line plain.1) b.state) refl)
+    (λ made. after_plain setup line words (lines_at line made.1) made.0 b (executed setup (lines_at line made.1) b.state) refl)
 
 -- the result leads on
 abbrev LeadsOn : Setup → State → Result Progress Cause → Type 0

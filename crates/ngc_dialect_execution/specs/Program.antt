@@ -14,7 +14,7 @@ use Rattle.ngc_dialect_execution.specs.declared.program.Mark.{Mark}
 use Rattle.ngc_dialect_execution.specs.declared.program.Mark.TheVariants.{Begins, Ends, IsLine}
 use Rattle.ngc_dialect_execution.specs.declared.program.LinesBefore.{LinesBefore}
 use Rattle.ngc_dialect_execution.specs.Faults.{◌>>=◌}
-use Rattle.ngc_dialect_execution.specs.Taken.{Between, Progress, ended_at, line_taken}
+use Rattle.ngc_dialect_execution.specs.Taken.{Progress, ended_at, line_taken}
 use Rattle.ngc_dialect_execution.specs.Taken.{start_progress}
 use Rattle.ngc_dialect_execution.specs.Text.{first_byte, mark_of, lines_after, no_lines}
 

@@ -1,9 +1,11 @@
 -- A line of another control: its parts are read, its values computed, and its words become plain
 -- lines, which are executed. Our own.
-use Rattle.std.specs.Prelude.{ℕ, pos, ◌&&◌, List, [], ◌∷◌, ◌++◌, Bool, true, false, Option, None, Result, Ok, Err}
+use Rattle.std.specs.Prelude.{ℕ, pos, ◌&&◌, List, [], ◌∷◌, ◌++◌, Bool, true, false, Option, Some}
+use Rattle.std.specs.Prelude.{None, Result, Ok, Err}
 use Rattle.std.specs.Prelude.{if◌then◌else◌}
 use Rattle.ngc_machine_files.specs.Machine.{MachineFile}
 use Rattle.ngc_line_reader.specs.declared.letter.Letter.TheVariants as letters
+use Rattle.ngc_canned_cycles.specs.declared.cycle.CycleMove.{CycleMove}
 use Rattle.ngc_canonical.specs.State.{Setup, State, start_state}
 use Rattle.ngc_dialect_reader.specs.declared.dialect.Dialect.{Dialect}
 use Rattle.ngc_dialect_reader.specs.declared.part.Part.{Part}
@@ -18,8 +20,13 @@ use Rattle.ngc_dialect_parameters.specs.declared.statement.Word.{Word}
 use Rattle.ngc_dialect_parameters.specs.Known.{Known as Values}
 use Rattle.ngc_dialect_parameters.specs.Evaluation.{line_values}
 use Rattle.ngc_dialect_parameters.specs.Settings.{after_all, named_after_all}
+use Rattle.ngc_dialect_drilling.specs.Holes.{cycle_of}
+use Rattle.ngc_dialect_drilling.specs.Moves.{move_lines, stop_lines}
+use Rattle.ngc_dialect_rules.specs.declared.code.Code.{Code}
 use Rattle.ngc_dialect_rules.specs.declared.front.Front.{Front}
+use Rattle.ngc_dialect_rules.specs.declared.front.KeptSeries.{KeptSeries}
 use Rattle.ngc_dialect_rules.specs.declared.front.Known.{Known}
+use Rattle.ngc_dialect_rules.specs.declared.plan.LineCycle.{LineCycle}
 use Rattle.ngc_dialect_rules.specs.declared.plain.Plain.{Plain}
 use Rattle.ngc_dialect_rules.specs.declared.plain.Plain.TheVariants as plain
 use Rattle.ngc_dialect_rules.specs.Front.{start_front}
@@ -76,12 +83,50 @@ known_of b = record {
 abbrev pub with_state : Between → Front → State → Between
 with_state b front s = record b { front = front; state = s }
 
--- words of a line: what their plain lines do
+-- plain lines, executed
+abbrev pub plain_taken : Setup → ℕ → List Plain → Between → Result Between Cause
+plain_taken setup line ps b = do
+  s ← caused causes.Plain (executed setup (lines_at line ps) b.state)
+  Ok (with_state b b.front s)
+
+-- a move of a canned cycle, by what is known before it
+abbrev pub move_taken : Setup → ℕ → CycleMove → Between → Result Between Cause
+move_taken setup line m b = do
+  ps ← caused causes.Rule (move_lines (known_of b) m)
+  plain_taken setup line ps b
+
+-- moves in order
+abbrev pub moves_taken : Setup → ℕ → List CycleMove → Between → Result Between Cause
+moves_taken setup line [] b = Ok b
+moves_taken setup line (m ∷ ms) b =
+    move_taken setup line m b >>= λ c. moves_taken setup line ms c
+
+abbrev pub with_series : KeptSeries → Between → Between
+with_series kept b = record b { front = record b.front { series = Some kept } }
+
+-- the moves of a canned cycle that begins, and then the stop of its line
+unfoldable pub start_taken :
+    Setup → ℕ → Option Code → KeptSeries → List CycleMove → Between → Result Between Cause
+start_taken setup line stop kept moves b = do
+  c ← moves_taken setup line moves (with_series kept b)
+  plain_taken setup line (stop_lines stop) c
+
+-- the canned cycle of a line
+abbrev pub cycle_taken : Setup → ℕ → List Word → LineCycle → Between → Result Between Cause
+cycle_taken setup line words cycle b = do
+  start ← caused causes.Rule (cycle_of (known_of b) cycle.code words)
+  start_taken setup line cycle.stop start.0 start.1 b
+
+abbrev pub cycle_if : Setup → ℕ → List Word → Option LineCycle → Between → Result Between Cause
+cycle_if setup line words None b = Ok b
+cycle_if setup line words (Some cycle) b = cycle_taken setup line words cycle b
+
+-- words of a line: what their plain lines do, and then the moves of their canned cycle
 unfoldable pub words_taken : Setup → ℕ → List Word → Between → Result Between Cause
 words_taken setup line words b = do
-  plain ← caused causes.Rule (plain_lines (known_of b) words)
-  s ← caused causes.Plain (executed setup (lines_at line plain.1) b.state)
-  Ok (with_state b plain.0 s)
+  made ← caused causes.Rule (plain_lines (known_of b) words)
+  s ← caused causes.Plain (executed setup (lines_at line made.1) b.state)
+  cycle_if setup line words made.0.cycle (with_state b made.0.front s)
 
 -- M2, by which a program ends after its last line
 abbrev pub END : List Plain

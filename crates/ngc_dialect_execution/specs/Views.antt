@@ -1,5 +1,5 @@
 -- What the interpreters know.
-use Rattle.std.specs.Prelude.{ℕ, ℤ, List, Option, None}
+use Rattle.std.specs.Prelude.{ℕ, List, None}
 use Rattle.ngc_canonical.specs.Interpreter.{state_of}
 use Rattle.ngc_dialect_parameters.specs.Known.{Known as Values, known}
 use Rattle.ngc_dialect_execution.specs.declared.words.WordInterpreter.{WordInterpreter}

@@ -10,10 +10,13 @@ ghost use Rattle.ngc_dialect_execution.specs.Views.{between_of};
 use crate::fault::{Cause, Refusal};
 use crate::fold::execute_plain;
 use arrayvec::ArrayVec;
+use ngc_canned_cycles::CycleMove;
 use ngc_canonical::{Command, Interpreter, Machine, Tools, Work};
+use ngc_dialect_cycles::CycleMoves;
+use ngc_dialect_drilling::{CycleStart, cycle_of, write_move, write_stop};
 use ngc_dialect_parameters::Word;
 use ngc_dialect_reader::Dialect;
-use ngc_dialect_rules::{Front, Known, Plain, PlainLines, plain_lines};
+use ngc_dialect_rules::{Code, Front, Known, LineCycle, Plain, PlainLines, plain_lines};
 use ngc_fixed_length::Value;
 use ngc_line_reader::{Letter, Word as PlainWord};
 use std::alloc::{AllocError, Allocator};
@@ -91,8 +94,109 @@ impl<A: Allocator + Copy> WordInterpreter<A> {
         self.interpreter.is_ended()
     }
 
-    /// Executes the words of a line with this number, as their plain lines. A fault is the first one
-    /// of the rules or of a plain line; nothing is then stated of what is known.
+    // Executes the plain lines.
+    fn take_plain(
+        &mut self,
+        machine: &Machine<A>,
+        tools: &Tools<A>,
+        line: u32,
+    ) -> Result<(), Refusal>
+        ensures { Says (λ _. between_of self.new) result (spec.plain_taken
+            (setup_of machine.now tools.now) line self.old.plain.items (between_of self.old)) }
+    {
+        execute_plain(
+            &mut self.interpreter,
+            machine,
+            tools,
+            line,
+            &self.plain,
+            &mut self.work,
+        )
+    }
+
+    // Executes a move of a cycle.
+    fn take_move(
+        &mut self,
+        machine: &Machine<A>,
+        tools: &Tools<A>,
+        line: u32,
+        taken: &CycleMove,
+    ) -> Result<(), Refusal>
+        ensures { Says (λ _. between_of self.new) result (spec.move_taken
+            (setup_of machine.now tools.now) line taken.now (between_of self.old)) }
+    {
+        let known = self.known();
+        match write_move(&known, taken, &mut self.plain) {
+            Ok(()) => self.take_plain(machine, tools, line),
+            Err(fault) => Err(Refusal::Because(Cause::Rule(fault))),
+        }
+    }
+
+    // Executes the moves of a cycle, each as it is asked for.
+    fn take_moves(
+        &mut self,
+        machine: &Machine<A>,
+        tools: &Tools<A>,
+        line: u32,
+        mut moves: CycleMoves,
+    ) -> Result<(), Refusal>
+        ensures { Says (λ _. between_of self.new) result (spec.moves_taken
+            (setup_of machine.now tools.now) line moves (between_of self.old)) }
+    {
+        while let Some(taken) = moves.next_move() {
+            match self.take_move(machine, tools, line, &taken) {
+                Ok(()) => {}
+                Err(refusal) => return Err(refusal),
+            }
+        }
+        Ok(())
+    }
+
+    // Executes the moves of a cycle that begins, and then the stop of its line.
+    #[tactic(auto, unfolding(crate::specs::Taken::start_taken))]
+    fn take_start(
+        &mut self,
+        machine: &Machine<A>,
+        tools: &Tools<A>,
+        line: u32,
+        start: CycleStart,
+        stop: Option<Code>,
+    ) -> Result<(), Refusal>
+        ensures { Says (λ _. between_of self.new) result (spec.start_taken
+            (setup_of machine.now tools.now) line stop start.kept start.moves
+            (between_of self.old)) }
+    {
+        self.front.series = Some(start.kept);
+        match self.take_moves(machine, tools, line, start.moves) {
+            Ok(()) => {}
+            Err(refusal) => return Err(refusal),
+        }
+        write_stop(stop, &mut self.plain);
+        self.take_plain(machine, tools, line)
+    }
+
+    // Executes the cycle of a line, after the line's plain lines.
+    fn take_cycle(
+        &mut self,
+        machine: &Machine<A>,
+        tools: &Tools<A>,
+        line: u32,
+        words: &[Word],
+        cycle: &LineCycle,
+    ) -> Result<(), Refusal>
+        ensures { Says (λ _. between_of self.new) result (spec.cycle_taken
+            (setup_of machine.now tools.now) line words.now cycle.now (between_of self.old)) }
+    {
+        let known = self.known();
+        match cycle_of(&known, cycle.code, words) {
+            Ok(start) => self.take_start(machine, tools, line, start, cycle.stop),
+            Err(fault) => Err(Refusal::Because(Cause::Rule(fault))),
+        }
+    }
+
+    /// Executes the words of a line with this number, as their plain lines and the moves of their
+    /// canned cycle. A fault is the first one of the rules or of a plain line; nothing is then stated
+    /// of what is known.
     #[tactic(auto, unfolding(crate::specs::Taken::words_taken))]
     pub fn take_words(
         &mut self,
@@ -105,8 +209,8 @@ impl<A: Allocator + Copy> WordInterpreter<A> {
             (setup_of machine.now tools.now) line words.now (between_of self.old)) }
     {
         let known = self.known();
-        let front = match plain_lines(&known, words, &mut self.plain) {
-            Ok(front) => front,
+        let result = match plain_lines(&known, words, &mut self.plain) {
+            Ok(result) => result,
             Err(fault) => return Err(Refusal::Because(Cause::Rule(fault))),
         };
         match execute_plain(
@@ -117,11 +221,13 @@ impl<A: Allocator + Copy> WordInterpreter<A> {
             &self.plain,
             &mut self.work,
         ) {
-            Ok(()) => {
-                self.front = front;
-                Ok(())
-            }
-            Err(refusal) => Err(refusal),
+            Ok(()) => {}
+            Err(refusal) => return Err(refusal),
+        }
+        self.front = result.front;
+        match result.cycle {
+            None => Ok(()),
+            Some(cycle) => self.take_cycle(machine, tools, line, words, &cycle),
         }
     }
 

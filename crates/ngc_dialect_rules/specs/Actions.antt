@@ -1,6 +1,6 @@
 -- The motions and changes of origins that a line makes (LinuxCNC's documentation, "G-codes": G0,
 -- G1, G10, G28, G52, G53, G92).
-use Rattle.std.specs.Prelude.{ℕ, ◌==◌, ℤ, pos, Bool, true, false, not, ◌&&◌, ◌||◌, List, Option}
+use Rattle.std.specs.Prelude.{ℤ, Bool, true, false, not, ◌&&◌, ◌||◌, List, Option}
 use Rattle.std.specs.Prelude.{Some, None, Result, Ok, Err, is_some, is_none}
 use Rattle.std.specs.Prelude.{if◌then◌else◌}
 use Rattle.ngc_fixed_length.specs.Signed.{is_zero}
@@ -11,7 +11,7 @@ use Rattle.ngc_modal_state.specs.declared.code.MotionMode.{MotionMode}
 use Rattle.ngc_modal_state.specs.declared.code.MotionMode.TheVariants as motions
 use Rattle.ngc_offsets.specs.declared.given.AxisLengths.{AxisLengths}
 use Rattle.ngc_dialect_rules.specs.declared.code.Code.{Code}
-use Rattle.ngc_dialect_rules.specs.declared.code.Code.TheVariants.{G, M}
+use Rattle.ngc_dialect_rules.specs.declared.code.Code.TheVariants.{G}
 use Rattle.ngc_dialect_rules.specs.declared.plan.Action.{Action}
 use Rattle.ngc_dialect_parameters.specs.declared.statement.Word.{Word}
 use Rattle.ngc_dialect_rules.specs.declared.codes.TheConstants as codes

@@ -1,22 +1,21 @@
 -- A line's F, S, T, H and dwell (LinuxCNC's documentation, "G43", "G4"; NISTIR 6556, 3.7.1 to
 -- 3.7.3).
-use Rattle.std.specs.Prelude.{ℕ, ℤ, pos, ◌*ℤ◌, Bool, true, false, not, ◌&&◌, ◌||◌, List, Option}
+use Rattle.std.specs.Prelude.{ℤ, pos, not, ◌&&◌, List, Option}
 use Rattle.std.specs.Prelude.{Some, None, Result, Ok, Err}
-use Rattle.std.specs.Prelude.{is_some, if◌then◌else◌}
+use Rattle.std.specs.Prelude.{if◌then◌else◌}
 use Rattle.ngc_fixed_length.specs.Rounding.{nearest}
 use Rattle.ngc_fixed_length.specs.Signed.{is_zero}
 use Rattle.ngc_dialect_reader.specs.declared.dialect.Dialect.{Dialect}
-use Rattle.ngc_dialect_reader.specs.declared.dialect.Dialect.TheVariants as dialects
 use Rattle.ngc_dialect_parameters.specs.declared.statement.Word.{Word}
 use Rattle.ngc_dialect_rules.specs.declared.code.Code.{Code}
-use Rattle.ngc_dialect_rules.specs.declared.code.Code.TheVariants.{G, M}
+use Rattle.ngc_dialect_rules.specs.declared.code.Code.TheVariants.{G}
 use Rattle.ngc_dialect_rules.specs.declared.codes.TheConstants as codes
 use Rattle.ngc_dialect_rules.specs.declared.fault.Cause.TheVariants as causes
 use Rattle.ngc_dialect_rules.specs.declared.fault.Fault.{Fault}
 use Rattle.ngc_dialect_rules.specs.declared.front.Front.{Front}
 use Rattle.ngc_dialect_rules.specs.declared.front.Known.{Known}
 use Rattle.ngc_dialect_rules.specs.declared.plan.Amounts.{Amounts}
-use Rattle.ngc_dialect_rules.specs.Faults.{◌>>=◌, about_code, about_letter}
+use Rattle.ngc_dialect_rules.specs.Faults.{◌>>=◌, about_code}
 use Rattle.ngc_dialect_rules.specs.Tables.{has, code_in, is_fanuc, is_linuxcnc, or_else}
 use Rattle.ngc_dialect_rules.specs.Words.{amount, count, rounded, not_negative, millionths_of}
 use Rattle.ngc_dialect_rules.specs.Words.{word_of}

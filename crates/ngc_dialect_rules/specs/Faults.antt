@@ -1,5 +1,5 @@
 -- Faults and their numbers, and steps that may refuse a line. Our own.
-use Rattle.std.specs.Prelude.{ℕ, ◌≡◌, Option, Some, None, Result, Ok, Err, Bool, if◌then◌else◌}
+use Rattle.std.specs.Prelude.{ℕ, Option, Some, None, Result, Ok, Err, Bool, if◌then◌else◌}
 use Rattle.ngc_dialect_arcs.specs.Refusals.{refusal_number}
 use Rattle.ngc_dialect_rules.specs.declared.code.Code.{Code}
 use Rattle.ngc_dialect_rules.specs.declared.fault.Cause.{Cause}
@@ -13,6 +13,13 @@ fault_number (causes.LeftOut what) = 205
 fault_number causes.LengthTooLarge = 101
 fault_number causes.FeedZero = 252
 fault_number (causes.Arc refusal) = refusal_number refusal
+fault_number causes.CycleTooFar = 221
+fault_number causes.RetractBelowDepth = 231
+fault_number causes.HoleCount = 232
+fault_number causes.PeckNotAboveZero = 233
+fault_number causes.NegativeDwell = 234
+fault_number causes.SpindleOff = 235
+fault_number causes.CycleInInverseTime = 236
 fault_number _ = 211
 
 -- a fault with the word that it is about

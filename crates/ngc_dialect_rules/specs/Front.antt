@@ -1,13 +1,13 @@
 -- What is known before the first line. LinuxCNC's start modes are from a comparison with its
 -- interpreter, the others' from their documentation.
-use Rattle.std.specs.Prelude.{ℕ, ℤ, pos, Option, Some, None, false}
+use Rattle.std.specs.Prelude.{pos, Option, Some, None, false}
 use Rattle.ngc_fixed_length.specs.declared.points.Point3.{Point3}
 use Rattle.ngc_fixed_length.specs.declared.modes.RetractMode.{RetractMode}
 use Rattle.ngc_fixed_length.specs.declared.modes.RetractMode.TheVariants.{Series, Retract}
 use Rattle.ngc_dialect_reader.specs.declared.dialect.Dialect.{Dialect}
 use Rattle.ngc_dialect_reader.specs.declared.dialect.Dialect.TheVariants as dialects
 use Rattle.ngc_dialect_rules.specs.declared.code.Code.{Code}
-use Rattle.ngc_dialect_rules.specs.declared.code.Code.TheVariants.{G, M}
+use Rattle.ngc_dialect_rules.specs.declared.code.Code.TheVariants.{G}
 use Rattle.ngc_dialect_rules.specs.declared.front.Front.{Front}
 
 -- Grbl starts with G0, the others with no motion mode
@@ -31,4 +31,6 @@ start_front d home28 home30 = record {
   home30 = home30;
   selected = pos 0;
   mounted = pos 0;
+  spindle = None;
+  series = None;
 }

@@ -1,8 +1,8 @@
 -- Lengths of a line's words, and how they are written again. A length is rounded once, to the
 -- nanometre (our own).
-use Rattle.std.specs.Prelude.{ℕ, ℤ, pos, ◌+ℤ◌, ◌-ℤ◌, ◌*ℤ◌, Bool, true, false, not, ◌&&◌, ◌||◌}
+use Rattle.std.specs.Prelude.{ℕ, ℤ, pos, ◌+ℤ◌, ◌*ℤ◌, Bool, true, ◌&&◌}
 use Rattle.std.specs.Prelude.{Option, Some, None, Result, Ok, Err, List}
-use Rattle.std.specs.Prelude.{is_some, option_map, if◌then◌else◌}
+use Rattle.std.specs.Prelude.{is_some, if◌then◌else◌}
 use Rattle.ngc_fixed_length.specs.Length.{nanometres_in}
 use Rattle.ngc_fixed_length.specs.Limits.{LENGTH_LIMIT, nanometres_of}
 use Rattle.ngc_fixed_length.specs.NumberFault.{within}

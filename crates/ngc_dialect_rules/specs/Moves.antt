@@ -1,21 +1,21 @@
 -- The motion that a line makes, and the words that nothing uses (LinuxCNC's documentation, "Modal
 -- groups", "G53"; NISTIR 6556, 3.5).
-use Rattle.std.specs.Prelude.{ℕ, ◌==◌, ℤ, Bool, true, false, not, ◌&&◌, ◌||◌, List, [], ◌∷◌, Option}
+use Rattle.std.specs.Prelude.{ℕ, Bool, true, false, not, ◌&&◌, ◌||◌, List, Option}
 use Rattle.std.specs.Prelude.{Some, None, Result, Ok, Err}
-use Rattle.std.specs.Prelude.{is_some, if◌then◌else◌}
+use Rattle.std.specs.Prelude.{if◌then◌else◌}
 use Rattle.ngc_fixed_length.specs.declared.modes.Distance.{Distance}
 use Rattle.ngc_fixed_length.specs.declared.modes.Distance.TheVariants.{Absolute, Incremental}
 use Rattle.ngc_dialect_reader.specs.declared.dialect.Dialect.{Dialect}
 use Rattle.ngc_dialect_reader.specs.declared.dialect.Dialect.TheVariants as dialects
 use Rattle.ngc_dialect_parameters.specs.declared.statement.Word.{Word}
 use Rattle.ngc_dialect_rules.specs.declared.code.Code.{Code}
-use Rattle.ngc_dialect_rules.specs.declared.code.Code.TheVariants.{G, M}
+use Rattle.ngc_dialect_rules.specs.declared.code.Code.TheVariants.{G}
 use Rattle.ngc_dialect_rules.specs.declared.codes.TheConstants as codes
 use Rattle.ngc_dialect_rules.specs.declared.fault.Cause.TheVariants as causes
 use Rattle.ngc_dialect_rules.specs.declared.fault.Fault.{Fault}
 use Rattle.ngc_dialect_rules.specs.declared.plan.InForce.{InForce}
 use Rattle.ngc_dialect_rules.specs.declared.front.Known.{Known}
-use Rattle.ngc_dialect_rules.specs.Faults.{◌>>=◌, about_code, about_letter, refuse_of}
+use Rattle.ngc_dialect_rules.specs.Faults.{about_code, about_letter}
 use Rattle.ngc_dialect_rules.specs.Tables.{has, code_in, is_among, is_linuxcnc, is_fanuc, or_else}
 use Rattle.ngc_dialect_rules.specs.Words.{has_letter}
 use Rattle.ngc_dialect_rules.specs.Bytes as bytes

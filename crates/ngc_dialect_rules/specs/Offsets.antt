@@ -1,9 +1,9 @@
 -- Changes of origins, and ways home (LinuxCNC's documentation, "G10 L2", "G10 L20", "G28, G30",
 -- "G52", "G92"; that Fanuc's G10 L2 adds in G91 is from its
 -- documentation).
-use Rattle.std.specs.Prelude.{ℕ, ◌+◌, ◌*◌, ◌==◌, nat_le, ℤ, pos, ◌+ℤ◌, ◌-ℤ◌, unsigned_abs, Bool}
+use Rattle.std.specs.Prelude.{ℕ, ◌+◌, ◌*◌, ◌==◌, ℤ, pos, ◌+ℤ◌, ◌-ℤ◌, unsigned_abs, Bool}
 use Rattle.std.specs.Prelude.{true, false, not, ◌&&◌, ◌||◌}
-use Rattle.std.specs.Prelude.{List, Option, Some, None, Result, Ok, Err, is_some, if◌then◌else◌}
+use Rattle.std.specs.Prelude.{List, Option, Some, None, Result, Ok, Err, if◌then◌else◌}
 use Rattle.std.specs.Prelude.{◌/◌}
 use Rattle.ngc_fixed_length.specs.Limits.{MILLION}
 use Rattle.ngc_fixed_length.specs.Signed.{is_zero, same}
@@ -18,7 +18,7 @@ use Rattle.ngc_offsets.specs.declared.given.AxisLengths.{AxisLengths}
 use Rattle.ngc_offsets.specs.Frames.{index, origin_of}
 use Rattle.ngc_dialect_reader.specs.declared.dialect.Dialect.{Dialect}
 use Rattle.ngc_dialect_rules.specs.declared.code.Code.{Code}
-use Rattle.ngc_dialect_rules.specs.declared.code.Code.TheVariants.{G, M}
+use Rattle.ngc_dialect_rules.specs.declared.code.Code.TheVariants.{G}
 use Rattle.ngc_dialect_rules.specs.declared.plan.Action.{Action}
 use Rattle.ngc_dialect_parameters.specs.declared.statement.Word.{Word}
 use Rattle.ngc_dialect_rules.specs.declared.codes.TheConstants as codes

@@ -1,10 +1,10 @@
 -- Plain lines of our own language: their words in order, with a mark after the last word of each
 -- line.
-use Rattle.std.specs.Prelude.{ℕ, ◌-◌, ◌*◌, ◌==◌, ℤ, pos, Bool, true, false, List, [], ◌∷◌, ◌++◌}
-use Rattle.std.specs.Prelude.{Option, Some, None, option_map, is_some, ◌&&◌}
+use Rattle.std.specs.Prelude.{◌-◌, ◌*◌, ℤ, pos, Bool, true, false, List, [], ◌∷◌, ◌++◌}
+use Rattle.std.specs.Prelude.{Option, Some, None, option_map, ◌&&◌}
 use Rattle.std.specs.Prelude.{length, slice_get, if◌then◌else◌}
 use Rattle.ngc_fixed_length.specs.declared.units.Units.{Units}
-use Rattle.ngc_fixed_length.specs.declared.units.Units.TheVariants.{Millimetres, Inches}
+use Rattle.ngc_fixed_length.specs.declared.units.Units.TheVariants.{Millimetres}
 use Rattle.ngc_line_reader.specs.declared.letter.Letter.{Letter}
 use Rattle.ngc_line_reader.specs.declared.letter.Letter.TheVariants as letters
 use Rattle.ngc_line_reader.specs.declared.word.Word.{Word}

@@ -1,12 +1,14 @@
 -- A line of another control as plain lines of our own language, in LinuxCNC's order of execution
 -- (LinuxCNC's documentation, "Order of execution").
-use Rattle.std.specs.Prelude.{ℕ, ◌==◌, ℤ, Bool, true, false, not, ◌&&◌, ◌||◌, List, [], ◌∷◌, Option}
+use Rattle.std.specs.Prelude.{ℕ, ℤ, Bool, true, false, not, ◌&&◌, List, [], ◌∷◌, Option}
 use Rattle.std.specs.Prelude.{Some, None, Result, Ok, Err}
-use Rattle.std.specs.Prelude.{is_some, option_map, if◌then◌else◌}
+use Rattle.std.specs.Prelude.{is_some, if◌then◌else◌}
 use Rattle.ngc_fixed_length.specs.declared.units.Units.{Units}
 use Rattle.ngc_fixed_length.specs.declared.units.Units.TheVariants.{Millimetres, Inches}
 use Rattle.ngc_fixed_length.specs.declared.modes.FeedMode.{FeedMode}
 use Rattle.ngc_fixed_length.specs.declared.modes.FeedMode.TheVariants.{PerMinute, InverseTime}
+use Rattle.ngc_fixed_length.specs.declared.modes.Turn.{Turn}
+use Rattle.ngc_fixed_length.specs.declared.modes.Turn.TheVariants.{Clockwise, Counterclockwise}
 use Rattle.ngc_fixed_length.specs.declared.points.Point3.{Point3}
 use Rattle.ngc_line_reader.specs.declared.letter.Letter.TheVariants as letters
 use Rattle.ngc_line_reader.specs.declared.word.Word.{Word as PlainWord}
@@ -20,9 +22,13 @@ use Rattle.ngc_dialect_rules.specs.declared.codes.TheConstants as codes
 use Rattle.ngc_dialect_rules.specs.declared.fault.Cause.TheVariants as causes
 use Rattle.ngc_dialect_rules.specs.declared.fault.Fault.{Fault}
 use Rattle.ngc_dialect_rules.specs.declared.plan.InForce.{InForce}
+use Rattle.ngc_dialect_reader.specs.declared.dialect.Dialect.{Dialect}
 use Rattle.ngc_dialect_rules.specs.declared.front.Front.{Front}
+use Rattle.ngc_dialect_rules.specs.declared.front.KeptSeries.{KeptSeries}
 use Rattle.ngc_dialect_rules.specs.declared.front.Known.{Known}
 use Rattle.ngc_dialect_rules.specs.declared.plain.Plain.{Plain}
+use Rattle.ngc_dialect_rules.specs.declared.plan.LineCycle.{LineCycle}
+use Rattle.ngc_dialect_rules.specs.declared.plan.LineResult.{LineResult}
 use Rattle.ngc_dialect_rules.specs.declared.plan.Plan.{Plan}
 use Rattle.ngc_dialect_rules.specs.declared.plan.Amounts.{Amounts}
 use Rattle.ngc_dialect_rules.specs.Actions.{straight, is_mode, has_no_feed}
@@ -102,12 +108,18 @@ mode_words line words amounts =
 abbrev pub some_action : Result Action Fault → Result (Option Action) Fault
 some_action r = r >>= λ a. Ok (Some a)
 
+-- a canned cycle has moves of its own, and none in machine coordinates
+abbrev pub no_action : List Code → Result (Option Action) Fault
+no_action line =
+    if has codes.MACHINE_PLACE line then Err (about_code causes.NotStraight (G 530)) else Ok None
+
 abbrev pub motion_by :
     Known → List Code → List Word → InForce → Option ℤ → Option Code → Result (Option Action) Fault
 motion_by k line words force f None = Ok None
 motion_by k line words force f (Some code) =
-    some_action (if is_among codes.ARCS code then arc k line words force f code
-    else straight k line words force f code)
+    if is_among codes.ARCS code then some_action (arc k line words force f code) else (
+    if is_among codes.CYCLES code then no_action line
+    else some_action (straight k line words force f code))
 
 unfoldable pub first_action :
     Known → List Code → List Word → InForce → Option ℤ → Option Code → Result (Option Action) Fault
@@ -131,14 +143,19 @@ abbrev pub is_per_minute : FeedMode → Bool
 is_per_minute PerMinute = true
 is_per_minute InverseTime = false
 
+-- A cycle's code is never written, since its moves are. LinuxCNC refuses it without axis words.
+abbrev pub lone_cycle : Dialect → Code → Result (Option Code) Fault
+lone_cycle d code = if is_linuxcnc d then Err (about_code causes.WordMissing code) else Ok None
+
 abbrev pub lone_code : Known → List Code → InForce → Code → Result (Option Code) Fault
 lone_code k line force code =
+    if is_among codes.CYCLES code then lone_cycle k.dialect code else (
     if is_linuxcnc k.dialect && is_among codes.ARCS code
     then Err (about_code causes.WordMissing code) else (
     if is_mode (mode_then k line) code then Ok None else (
     if is_linuxcnc k.dialect && is_among codes.FEED_MOTION code && is_per_minute force.feed_mode
     && has_no_feed force.feed
-    then Err (about_code causes.FeedZero code) else Ok (Some code)))
+    then Err (about_code causes.FeedZero code) else Ok (Some code))))
 
 abbrev pub last_code : Known → List Code → InForce → Option Code → Result (Option Code) Fault
 last_code k line force None = Ok (if has codes.MOTION_END line then Some (G 800) else None)
@@ -148,8 +165,21 @@ abbrev pub code_after : Known → List Code → InForce → Option Code → Resu
 code_after k line force (Some moves) = Ok None
 code_after k line force None = last_code k line force (code_in codes.MOTIONS line)
 
-abbrev pub last_words : List Code → Option Code → List (Option PlainWord)
-last_words line code = a_code code ∷ a_code (code_in codes.STOPS line) ∷ []
+-- the canned cycle of a line, by the code of its motion
+abbrev pub cycle_by : List Code → Option Code → Option LineCycle
+cycle_by line None = None
+cycle_by line (Some code) =
+    if is_among codes.CYCLES code
+    then Some (record { code = code; stop = code_in codes.STOPS line })
+    else None
+
+-- a line's stop; that of a cycle's line follows the cycle's moves
+abbrev pub last_stop : List Code → Option LineCycle → Option Code
+last_stop line None = code_in codes.STOPS line
+last_stop line (Some cycle) = None
+
+abbrev pub last_words : List Code → Plan → List (Option PlainWord)
+last_words line plan = a_code plan.code ∷ a_code (last_stop line plan.cycle) ∷ []
 
 -- ---- the line
 
@@ -168,6 +198,7 @@ plan_of k line words = do
     first = first;
     second = second_action k words (code_in codes.HOMES line);
     code = code;
+    cycle = cycle_by line moves;
   })
 
 abbrev pub with_some_action : Units → Option Action → List Plain → List Plain
@@ -180,7 +211,7 @@ modes_written line words amounts ps =
 
 unfoldable pub motions_written : List Code → Plan → List Plain → List Plain
 motions_written line plan ps =
-    ended (with_words (last_words line plan.code)
+    ended (with_words (last_words line plan)
     (with_some_action plan.force.units plan.second (with_some_action plan.force.units plan.first ps)))
 
 unfoldable pub written : Known → List Code → List Word → Plan → List Plain
@@ -191,6 +222,24 @@ written k line words plan =
 abbrev pub motion_after : Option Code → List Code → Option Code → Option Code
 motion_after before line (Some code) = Some code
 motion_after before line None = if has codes.MOTION_END line then None else before
+
+-- a motion code that isn't a cycle's ends the series of cycles, and so does G80
+abbrev pub series_goes_on : List Code → Option Code → Bool
+series_goes_on line None = not (has codes.MOTION_END line)
+series_goes_on line (Some code) = is_among codes.CYCLES code
+
+abbrev pub series_after : Option KeptSeries → List Code → Option Code → Option KeptSeries
+series_after before line code = if series_goes_on line code then before else None
+
+-- the spindle's direction; M6 leaves it off
+abbrev pub turn_of : Code → Option Turn
+turn_of code =
+    if is_code code (M 3) then Some Clockwise else (
+    if is_code code (M 4) then Some Counterclockwise else None)
+
+abbrev pub spindle_after : Option Turn → List Code → Option Code → Option Turn
+spindle_after before line (Some code) = turn_of code
+spindle_after before line None = if has codes.TOOL_CHANGE line then None else before
 
 abbrev pub stored : Code → Point3 → Point3 → Option Code → Point3
 stored home before place None = before
@@ -207,21 +256,27 @@ front_after k line plan = record {
   home30 = stored (G 301) k.front.home30 k.place (code_in codes.HOME_STORES line);
   selected = selected_after k.front plan.amounts.tool;
   mounted = mounted_after k.front line plan.amounts.tool;
+  spindle = spindle_after k.front.spindle line (code_in codes.SPINDLE line);
+  series = series_after k.front.series line (code_in codes.MOTIONS line);
 }
+
+-- what a line does, besides its plain lines
+abbrev pub result_of : Known → List Code → Plan → LineResult
+result_of k line plan = record { front = front_after k line plan; cycle = plan.cycle }
 
 abbrev pub letter_fault : Option ℕ → Option Fault
 letter_fault None = None
 letter_fault (Some letter) = Some (about_letter causes.LetterTwice letter)
 
 -- of a line by its codes and words
-unfoldable pub lines_of : Known → List Code → List Word → Result (Front × List Plain) Fault
+unfoldable pub lines_of : Known → List Code → List Word → Result (LineResult × List Plain) Fault
 lines_of k line words = do
   once ← refuse_of (letter_fault (repeated words))
   taken ← refuse_of (refused_word k.dialect line words)
   plan ← plan_of k line words
-  Ok (front_after k line plan, written k line words plan)
+  Ok (result_of k line plan, written k line words plan)
 
-unfoldable pub plain_lines : Known → List Word → Result (Front × List Plain) Fault
+unfoldable pub plain_lines : Known → List Word → Result (LineResult × List Plain) Fault
 plain_lines k words = do
   line ← codes_of k.dialect words []
   lines_of k line words

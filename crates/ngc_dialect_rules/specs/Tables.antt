@@ -1,7 +1,7 @@
 -- The codes of a line: their modal groups, and those that a dialect lacks. The groups are those of
 -- LinuxCNC's documentation ("Modal groups"). The tables of
 -- codes are constants of the code.
-use Rattle.std.specs.Prelude.{ℕ, ◌==◌, nat_le, Bool, true, false, not, ◌&&◌, ◌||◌, List, Option}
+use Rattle.std.specs.Prelude.{◌==◌, nat_le, Bool, true, false, not, ◌&&◌, ◌||◌, List, Option}
 use Rattle.std.specs.Prelude.{Some, None, Result, Ok, Err, find, is_some, count_by}
 use Rattle.std.specs.Prelude.{length, ◌++◌, ◌∷◌, [], if◌then◌else◌}
 use Rattle.std.specs.List.{list_any}
@@ -71,8 +71,7 @@ left_out_motion d code =
     if is_among codes.BACK_BORING code then Some things.BackBoring else (
     if is_among codes.THREADS code then Some things.Threads else (
     if is_among codes.PROBING code then Some things.Probing else (
-    if not (is_fanuc d) && is_among codes.SPLINES code then Some things.Splines else (
-    if is_among codes.CYCLES code then Some things.Cycles else None)))))
+    if not (is_fanuc d) && is_among codes.SPLINES code then Some things.Splines else None))))
 
 -- modes
 unfoldable pub left_out_mode : Code → Option LeftOut

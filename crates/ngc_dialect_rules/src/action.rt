@@ -28,7 +28,7 @@ pub(crate) fn with_length(length: Nm, axes: &AxisLengths) -> Result<AxisLengths,
 }
 
 /// Returns whether the interpreter's motion mode is a code.
-pub(crate) fn is_mode(mode: MotionMode, code: Code) -> bool
+pub fn is_mode(mode: MotionMode, code: Code) -> bool
     ensures { result ≡ spec.is_mode mode code }
 {
     match mode {
@@ -40,7 +40,8 @@ pub(crate) fn is_mode(mode: MotionMode, code: Code) -> bool
     }
 }
 
-pub(crate) fn has_no_feed(feed: Option<Value>) -> bool
+/// Returns whether no feed is set, or 0.
+pub fn has_no_feed(feed: Option<Value>) -> bool
     ensures { result ≡ spec.has_no_feed feed }
 {
     match feed {
@@ -104,7 +105,7 @@ pub(crate) fn motion_lengths(
 }
 
 /// Returns no lengths.
-pub(crate) fn no_lengths() -> AxisLengths
+pub fn no_lengths() -> AxisLengths
     ensures { result ≡ spec.no_lengths }
 {
     AxisLengths {

@@ -81,9 +81,9 @@ fn offset_tool(
     }
 }
 
-// Returns a dwell's P in seconds.
+/// Returns a dwell's P in seconds; without a point Fanuc's is in milliseconds.
 #[tactic(auto, unfolding(crate::specs::Amounts::seconds))]
-fn seconds(dialect: Dialect, word: &Word) -> Value
+pub fn seconds(dialect: Dialect, word: &Word) -> Value
     ensures { result ≡ spec.seconds dialect word.now }
 {
     let value = word.value.to_value();

@@ -12,7 +12,7 @@ pub enum Code {
 
 impl Code {
     /// Returns whether two codes are the same.
-    pub(crate) fn is(self, other: Code) -> bool
+    pub fn is(self, other: Code) -> bool
         ensures { result ≡ spec.is_code self other }
     {
         match (self, other) {

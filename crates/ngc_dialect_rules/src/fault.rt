@@ -43,8 +43,8 @@ pub enum LeftOut {
     ModeSaving,
     #[error("subprograms")]
     Calls,
-    #[error("canned cycles")]
-    Cycles,
+    #[error("G73 by a distance back that a setting of the control decides")]
+    ChipBreaking,
     #[error("the tool table")]
     ToolTable,
     #[error("rotary and secondary axes, except at 0")]
@@ -99,6 +99,20 @@ pub enum Cause {
     LengthBeside,
     #[error("{0}")]
     Arc(ArcRefusal),
+    #[error("R is below the depth")]
+    RetractBelowDepth,
+    #[error("the number of holes isn't from 1 to 9,999")]
+    HoleCount,
+    #[error("a peck that isn't above 0")]
+    PeckNotAboveZero,
+    #[error("a dwell below 0")]
+    NegativeDwell,
+    #[error("the spindle does not turn")]
+    SpindleOff,
+    #[error("a canned cycle in G93")]
+    CycleInInverseTime,
+    #[error("a height or a hole over 100 metres away")]
+    CycleTooFar,
 }
 
 impl Cause {
@@ -114,6 +128,13 @@ impl Cause {
             Cause::LengthTooLarge => 101,
             Cause::FeedZero => 252,
             Cause::Arc(refusal) => refusal.number(),
+            Cause::CycleTooFar => 221,
+            Cause::RetractBelowDepth => 231,
+            Cause::HoleCount => 232,
+            Cause::PeckNotAboveZero => 233,
+            Cause::NegativeDwell => 234,
+            Cause::SpindleOff => 235,
+            Cause::CycleInInverseTime => 236,
             _ => 211,
         }
     }
@@ -135,7 +156,7 @@ pub struct Fault {
 }
 
 /// Returns a fault about a code.
-pub(crate) fn about_code(cause: Cause, code: Code) -> Fault
+pub fn about_code(cause: Cause, code: Code) -> Fault
     ensures { result ≡ spec.about_code cause code }
 {
     Fault {
@@ -145,7 +166,7 @@ pub(crate) fn about_code(cause: Cause, code: Code) -> Fault
 }
 
 /// Returns a fault about a letter.
-pub(crate) fn about_letter(cause: Cause, letter: u8) -> Fault
+pub fn about_letter(cause: Cause, letter: u8) -> Fault
     ensures { result ≡ spec.about_letter cause letter }
 {
     Fault {

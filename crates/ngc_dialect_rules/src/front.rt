@@ -3,10 +3,29 @@ ghost use Rattle.std.specs.Prelude.{◌≡◌};
 ghost use Rattle.ngc_dialect_rules.specs.Front as spec;
 
 use crate::code::Code;
+use ngc_dialect_numbers::Number;
 use ngc_dialect_reader::Dialect;
-use ngc_fixed_length::{Nm, Point3, RetractMode, Value};
+use ngc_fixed_length::{Nm, Point3, RetractMode, Turn, Value};
 use ngc_modal_state::Modes;
 use ngc_offsets::Frames;
+
+/// What a series of canned cycles keeps: numbers in units of the program, also after a change of the
+/// units or of an origin.
+#[derive(Clone, Copy)]
+pub struct KeptSeries {
+    /// The code of the series' last line.
+    pub code: Code,
+    /// The initial level: the height where the series began.
+    pub level: Number,
+    /// R: a height in G90, a distance from the initial level in G91.
+    pub retract: Number,
+    /// A height in G90, a distance from R in G91.
+    pub depth: Number,
+    /// P, in seconds.
+    pub dwell: Option<Value>,
+    /// Q.
+    pub peck: Option<Number>,
+}
 
 /// What a dialect knows before a line, beyond the state of our own interpreter.
 #[derive(Clone, Copy)]
@@ -27,6 +46,10 @@ pub struct Front {
     /// The numbers of the tool that T selected and of the one that M6 mounted.
     pub selected: Value,
     pub mounted: Value,
+    /// The direction in which the spindle turns, or `None` if it is off.
+    pub spindle: Option<Turn>,
+    /// The series of canned cycles that the next cycle goes on with.
+    pub series: Option<KeptSeries>,
 }
 
 /// What is known before a line.
@@ -64,6 +87,8 @@ impl Front {
             home30,
             selected: Value::zero(),
             mounted: Value::zero(),
+            spindle: None,
+            series: None,
         }
     }
 }

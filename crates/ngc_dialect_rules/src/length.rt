@@ -10,7 +10,7 @@ use ngc_fixed_length::{Nm, Units, Value, rounded_quotient};
 use ngc_offsets::AxisLengths;
 
 /// Returns a length in nanometres, or refuses it over 100 metres.
-pub(crate) fn limited(letter: u8, nanometres: i128) -> Result<Nm, Fault>
+pub fn limited(letter: u8, nanometres: i128) -> Result<Nm, Fault>
     ensures { result ≡ spec.limited letter nanometres }
 {
     match Nm::from_nanometres(nanometres) {
@@ -21,7 +21,7 @@ pub(crate) fn limited(letter: u8, nanometres: i128) -> Result<Nm, Fault>
 
 /// Returns the length of a value in a unit.
 #[tactic(auto, unfolding(crate::specs::Lengths::length_in))]
-pub(crate) fn length_in(units: Units, letter: u8, value: Number) -> Result<Nm, Fault>
+pub fn length_in(units: Units, letter: u8, value: Number) -> Result<Nm, Fault>
     ensures { result ≡ spec.length_in units letter value }
 {
     let in_unit: i128 = match units {

@@ -111,7 +111,8 @@ fn index_of(system: System) -> usize
     }
 }
 
-pub(crate) fn origin_of(frames: &Frames, system: System) -> Point3
+/// Returns the origin of a coordinate system.
+pub fn origin_of(frames: &Frames, system: System) -> Point3
     ensures { result ≡ origin_in frames.now system }
 {
     frames.origins[index_of(system)]

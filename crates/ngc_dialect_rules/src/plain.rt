@@ -42,7 +42,7 @@ fn small_value(millionths: u64) -> Value
 }
 
 /// Returns the word of a code.
-pub(crate) fn code_word(code: Code) -> Word
+pub fn code_word(code: Code) -> Word
     ensures { result ≡ spec.code_word code }
 {
     match code {
@@ -145,7 +145,7 @@ fn add_action_words(lines: &mut PlainLines, units: Units, action: &Action)
 /// Adds an action's words and ends the line. If inches can't write a length, the line is in
 /// millimetres, and a line with G20 follows.
 #[tactic(auto, unfolding(crate::specs::Plain::with_action))]
-pub(crate) fn add_action(lines: &mut PlainLines, units: Units, action: &Action)
+pub fn add_action(lines: &mut PlainLines, units: Units, action: &Action)
     requires { array_vec_len lines.old ≤ 48 }
     ensures items { lines.new.items ≡ spec.with_action units action.now lines.old.items }
     ensures room { array_vec_len lines.new ≤ array_vec_len lines.old + 16 }

@@ -1,5 +1,6 @@
 //! What a line becomes, before it is written.
 use crate::code::Code;
+use crate::front::Front;
 use ngc_fixed_length::{Distance, FeedMode, Nm, Units, Value};
 use ngc_offsets::AxisLengths;
 
@@ -29,17 +30,33 @@ pub(crate) struct InForce {
 
 /// A motion or a change of origins: what its plain line has.
 #[derive(Clone, Copy)]
-pub(crate) struct Action {
+pub struct Action {
     /// Whether the line has G53.
-    pub(crate) is_machine: bool,
+    pub is_machine: bool,
     /// The code, or `None` if the motion mode in force is meant.
-    pub(crate) code: Option<Code>,
-    pub(crate) l: Option<Value>,
-    pub(crate) p: Option<Value>,
-    pub(crate) axes: AxisLengths,
+    pub code: Option<Code>,
+    pub l: Option<Value>,
+    pub p: Option<Value>,
+    pub axes: AxisLengths,
     /// I, J and K of an arc, along X, Y and Z.
-    pub(crate) centre: AxisLengths,
-    pub(crate) f: Option<Value>,
+    pub centre: AxisLengths,
+    pub f: Option<Value>,
+}
+
+/// A canned cycle of a line: its code, and the stop of the line (M0, M1, M2, M30 or M60), which
+/// follows the cycle's moves.
+#[derive(Clone, Copy)]
+pub struct LineCycle {
+    pub code: Code,
+    pub stop: Option<Code>,
+}
+
+/// What a line does, besides its plain lines: what the dialect knows then, and the canned cycle whose
+/// moves follow the plain lines.
+#[derive(Clone, Copy)]
+pub struct LineResult {
+    pub front: Front,
+    pub cycle: Option<LineCycle>,
 }
 
 /// What a line becomes.
@@ -52,4 +69,5 @@ pub(crate) struct Plan {
     pub(crate) second: Option<Action>,
     /// A motion code without a motion.
     pub(crate) code: Option<Code>,
+    pub(crate) cycle: Option<LineCycle>,
 }

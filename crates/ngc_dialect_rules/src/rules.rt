@@ -12,16 +12,17 @@ use crate::code::Code;
 use crate::codes;
 use crate::fault::{Cause, Fault, about_code, about_letter};
 use crate::force::{centres_by, force_of, retract_by};
-use crate::front::{Front, Known};
+use crate::front::{Front, KeptSeries, Known};
 use crate::moves::{idle_fault, machine_place_fault, motion_of};
 use crate::offsets::{go_home, local_offset, set_offset, set_origin, way_home};
 use crate::plain::{PlainLines, a_code, a_word, add, add_action, end_line};
-use crate::plan::{Action, Amounts, InForce, Plan};
+use crate::plan::{Action, Amounts, InForce, LineCycle, LineResult, Plan};
 use crate::table::{code_in, has, is_among, is_linuxcnc};
 use crate::word::{add_codes, has_letter, refused_word, repeated};
 use arrayvec::ArrayVec;
 use ngc_dialect_parameters::Word;
-use ngc_fixed_length::{FeedMode, Point3, Units, Value};
+use ngc_dialect_reader::Dialect;
+use ngc_fixed_length::{FeedMode, Point3, Turn, Units, Value};
 use ngc_line_reader::Letter;
 use ngc_modal_state::MotionMode;
 
@@ -143,6 +144,18 @@ fn add_mode_words(lines: &mut PlainLines, line: &[Code], words: &[Word], amounts
     add(lines, a_code(code_in(&codes::OFFSET_CHANGES, line)));
 }
 
+// Returns that a canned cycle makes no motion of its plain line, or that it isn't one in machine
+// coordinates.
+fn no_action(line: &[Code]) -> Result<Option<Action>, Fault>
+    ensures { result ≡ spec.no_action line.now }
+{
+    if has(&codes::MACHINE_PLACE, line) {
+        Err(about_code(Cause::NotStraight, Code::G(530)))
+    } else {
+        Ok(None)
+    }
+}
+
 fn motion_by(
     known: &Known,
     line: &[Code],
@@ -158,6 +171,8 @@ fn motion_by(
         Some(code) => {
             if is_among(&codes::ARCS, code) {
                 some_action(arc(known, line, words, force, f, code))
+            } else if is_among(&codes::CYCLES, code) {
+                no_action(line)
             } else {
                 some_action(straight(known, line, words, force, f, code))
             }
@@ -223,6 +238,17 @@ fn is_per_minute(mode: FeedMode) -> bool
     matches!(mode, FeedMode::PerMinute)
 }
 
+// Returns that the code of a canned cycle isn't written.
+fn lone_cycle(dialect: Dialect, code: Code) -> Result<Option<Code>, Fault>
+    ensures { result ≡ spec.lone_cycle dialect code }
+{
+    if is_linuxcnc(dialect) {
+        Err(about_code(Cause::WordMissing, code))
+    } else {
+        Ok(None)
+    }
+}
+
 fn lone_code(
     known: &Known,
     line: &[Code],
@@ -231,6 +257,9 @@ fn lone_code(
 ) -> Result<Option<Code>, Fault>
     ensures { result ≡ spec.lone_code known.now line.now force.now code }
 {
+    if is_among(&codes::CYCLES, code) {
+        return lone_cycle(known.dialect, code);
+    }
     if is_linuxcnc(known.dialect) && is_among(&codes::ARCS, code) {
         return Err(about_code(Cause::WordMissing, code));
     }
@@ -281,12 +310,32 @@ fn code_after(
     }
 }
 
+// Returns the canned cycle of a line.
+fn cycle_by(line: &[Code], moves: Option<Code>) -> Option<LineCycle>
+    ensures { result ≡ spec.cycle_by line.now moves }
+{
+    match moves {
+        None => None,
+        Some(code) => {
+            if is_among(&codes::CYCLES, code) {
+                Some(LineCycle {
+                    code,
+                    stop: code_in(&codes::STOPS, line),
+                })
+            } else {
+                None
+            }
+        }
+    }
+}
+
 fn planned(
     amounts: Amounts,
     force: InForce,
     first: Option<Action>,
     second: Option<Action>,
     code: Option<Code>,
+    cycle: Option<LineCycle>,
 ) -> Plan
     ensures { result ≡ record {
       amounts = amounts;
@@ -294,6 +343,7 @@ fn planned(
       first = first;
       second = second;
       code = code;
+      cycle = cycle;
     } }
 {
     Plan {
@@ -302,6 +352,7 @@ fn planned(
         first,
         second,
         code,
+        cycle,
     }
 }
 
@@ -322,7 +373,8 @@ fn plan_of(known: &Known, line: &[Code], words: &[Word]) -> Result<Plan, Fault>
     let first = first_action(known, line, words, &force, amounts.feed, moves)?;
     let code = code_after(known, line, &force, moves)?;
     let second = second_action(known, words, code_in(&codes::HOMES, line));
-    Ok(planned(amounts, force, first, second, code))
+    let cycle = cycle_by(line, moves);
+    Ok(planned(amounts, force, first, second, code, cycle))
 }
 
 fn add_some_action(lines: &mut PlainLines, units: Units, action: &Option<Action>)
@@ -336,13 +388,24 @@ fn add_some_action(lines: &mut PlainLines, units: Units, action: &Option<Action>
     }
 }
 
-fn add_last_words(lines: &mut PlainLines, line: &[Code], code: Option<Code>)
+// Returns the stop of a line, unless it follows the moves of a cycle.
+fn last_stop(line: &[Code], cycle: Option<LineCycle>) -> Option<Code>
+    ensures { result ≡ spec.last_stop line.now cycle }
+{
+    match cycle {
+        None => code_in(&codes::STOPS, line),
+        Some(_) => None,
+    }
+}
+
+fn add_last_words(lines: &mut PlainLines, line: &[Code], plan: &Plan)
     requires { array_vec_len lines.old ≤ 60 }
-    ensures items { lines.new.items ≡ with_words (spec.last_words line.now code) lines.old.items }
+    ensures items { lines.new.items
+        ≡ with_words (spec.last_words line.now plan.now) lines.old.items }
     ensures room { array_vec_len lines.new ≤ array_vec_len lines.old + 2 }
 {
-    add(lines, a_code(code));
-    add(lines, a_code(code_in(&codes::STOPS, line)));
+    add(lines, a_code(plan.code));
+    add(lines, a_code(last_stop(line, plan.cycle)));
 }
 
 #[tactic(auto, unfolding(crate::specs::Rules::modes_written))]
@@ -363,7 +426,7 @@ fn write_motions(lines: &mut PlainLines, line: &[Code], plan: &Plan)
 {
     add_some_action(lines, plan.force.units, &plan.first);
     add_some_action(lines, plan.force.units, &plan.second);
-    add_last_words(lines, line, plan.code);
+    add_last_words(lines, line, plan);
     end_line(lines);
 }
 
@@ -385,6 +448,49 @@ fn motion_after(before: Option<Code>, line: &[Code], code: Option<Code>) -> Opti
         Some(code) => Some(code),
         None => {
             if has(&codes::MOTION_END, line) {
+                None
+            } else {
+                before
+            }
+        }
+    }
+}
+
+// Returns the series of cycles that goes on: another motion code ends it, and so does G80.
+fn series_after(
+    before: &Option<KeptSeries>,
+    line: &[Code],
+    code: Option<Code>,
+) -> Option<KeptSeries>
+    ensures { result ≡ spec.series_after before.now line.now code }
+{
+    let goes_on = match code {
+        Some(code) => is_among(&codes::CYCLES, code),
+        None => !has(&codes::MOTION_END, line),
+    };
+    if goes_on { *before } else { None }
+}
+
+fn turn_of(code: Code) -> Option<Turn>
+    ensures { result ≡ spec.turn_of code }
+{
+    if code.is(Code::M(3)) {
+        Some(Turn::Clockwise)
+    } else if code.is(Code::M(4)) {
+        Some(Turn::Counterclockwise)
+    } else {
+        None
+    }
+}
+
+// Returns the direction of the spindle. M6 leaves it off.
+fn spindle_after(before: Option<Turn>, line: &[Code], code: Option<Code>) -> Option<Turn>
+    ensures { result ≡ spec.spindle_after before line.now code }
+{
+    match code {
+        Some(code) => turn_of(code),
+        None => {
+            if has(&codes::TOOL_CHANGE, line) {
                 None
             } else {
                 before
@@ -418,22 +524,27 @@ fn front_after(known: &Known, line: &[Code], plan: &Plan) -> Front
         home30: stored(Code::G(301), front.home30, known.place, store),
         selected: selected_after(front, plan.amounts.tool),
         mounted: mounted_after(front, line, plan.amounts.tool),
+        spindle: spindle_after(front.spindle, line, code_in(&codes::SPINDLE, line)),
+        series: series_after(&front.series, line, code_in(&codes::MOTIONS, line)),
     }
 }
 
-// Writes the plain lines, and returns what the dialect knows after the line.
+// Writes the plain lines, and returns what the line does besides.
 fn carry_out(
     lines: &mut PlainLines,
     known: &Known,
     line: &[Code],
     words: &[Word],
     plan: &Plan,
-) -> Front
-    ensures front { result ≡ spec.front_after known.now line.now plan.now }
+) -> LineResult
+    ensures result { result ≡ spec.result_of known.now line.now plan.now }
     ensures lines { lines.new.items ≡ spec.written known.now line.now words.now plan.now }
 {
     write(lines, known, line, words, plan);
-    front_after(known, line, plan)
+    LineResult {
+        front: front_after(known, line, plan),
+        cycle: plan.cycle,
+    }
 }
 
 #[tactic(auto, unfolding(crate::specs::Rules::lines_of))]
@@ -442,8 +553,8 @@ fn lines_of(
     line: &[Code],
     words: &[Word],
     lines: &mut PlainLines,
-) -> Result<Front, Fault>
-    ensures { Gives (λ front. (front, lines.new.items)) result
+) -> Result<LineResult, Fault>
+    ensures { Gives (λ r. (r, lines.new.items)) result
         (spec.lines_of known.now line.now words.now) }
 {
     if let Some(letter) = repeated(words) {
@@ -459,11 +570,15 @@ fn lines_of(
 }
 
 /// Puts the plain lines of a line of words into `lines`, and returns what the dialect knows after
-/// the line. Returns the first refusal; the contents of `lines` are then unspecified.
+/// them, with the canned cycle whose moves follow. Returns the first refusal; the contents of `lines`
+/// are then unspecified.
 #[tactic(auto, unfolding(crate::specs::Rules::plain_lines))]
-pub fn plain_lines(known: &Known, words: &[Word], lines: &mut PlainLines) -> Result<Front, Fault>
-    ensures { Gives (λ front. (front, lines.new.items)) result
-        (spec.plain_lines known.now words.now) }
+pub fn plain_lines(
+    known: &Known,
+    words: &[Word],
+    lines: &mut PlainLines,
+) -> Result<LineResult, Fault>
+    ensures { Gives (λ r. (r, lines.new.items)) result (spec.plain_lines known.now words.now) }
 {
     let mut codes: ArrayVec<Code, 24> = ArrayVec::new();
     add_codes(known.dialect, words, &mut codes)?;

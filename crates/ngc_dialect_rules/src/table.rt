@@ -97,13 +97,15 @@ fn lacks(dialect: Dialect, code: Code) -> bool
     }
 }
 
-pub(crate) fn is_fanuc(dialect: Dialect) -> bool
+/// Returns whether a dialect is Fanuc's.
+pub fn is_fanuc(dialect: Dialect) -> bool
     ensures { result ≡ spec.is_fanuc dialect }
 {
     matches!(dialect, Dialect::Fanuc)
 }
 
-pub(crate) fn is_linuxcnc(dialect: Dialect) -> bool
+/// Returns whether a dialect is LinuxCNC's.
+pub fn is_linuxcnc(dialect: Dialect) -> bool
     ensures { result ≡ spec.is_linuxcnc dialect }
 {
     matches!(dialect, Dialect::LinuxCnc)
@@ -124,8 +126,6 @@ fn left_out_motion(dialect: Dialect, code: Code) -> Option<LeftOut>
         Some(LeftOut::Probing)
     } else if !is_fanuc(dialect) && is_among(&codes::SPLINES, code) {
         Some(LeftOut::Splines)
-    } else if is_among(&codes::CYCLES, code) {
-        Some(LeftOut::Cycles)
     } else {
         None
     }

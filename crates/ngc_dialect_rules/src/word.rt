@@ -104,7 +104,7 @@ pub(crate) fn is_letter(letter: u8, word: &Word) -> bool
 
 /// Returns a letter's word.
 #[tactic(auto, unfolding(crate::specs::Words::word_of))]
-pub(crate) fn word_of(letter: u8, words: &[Word]) -> Option<Word>
+pub fn word_of(letter: u8, words: &[Word]) -> Option<Word>
     ensures { result ≡ spec.word_of letter words.now }
 {
     words.iter().copied().find(|word| is_letter(letter, word))
@@ -112,13 +112,14 @@ pub(crate) fn word_of(letter: u8, words: &[Word]) -> Option<Word>
 
 /// Returns a letter's value.
 #[tactic(auto, unfolding(crate::specs::Words::value_of))]
-pub(crate) fn value_of(letter: u8, words: &[Word]) -> Option<Number>
+pub fn value_of(letter: u8, words: &[Word]) -> Option<Number>
     ensures { result ≡ spec.value_of letter words.now }
 {
     word_of(letter, words).map(|word| word.value)
 }
 
-pub(crate) fn has_letter(letter: u8, words: &[Word]) -> bool
+/// Returns whether a letter is on the line.
+pub fn has_letter(letter: u8, words: &[Word]) -> bool
     ensures { result ≡ spec.has_letter letter words.now }
 {
     value_of(letter, words).is_some()
@@ -222,7 +223,7 @@ pub(crate) fn amount(letter: u8, words: &[Word]) -> Result<Option<Value>, Fault>
 
 /// Returns a letter's value, which must be a whole number from 0 up.
 #[tactic(auto, unfolding(crate::specs::Words::count))]
-pub(crate) fn count(letter: u8, words: &[Word]) -> Result<Option<Value>, Fault>
+pub fn count(letter: u8, words: &[Word]) -> Result<Option<Value>, Fault>
     ensures { result ≡ spec.count letter words.now }
 {
     match amount(letter, words)? {

@@ -8,7 +8,8 @@
 mod setting;
 
 use ngc_canonical::{Action, Command, Machine, Tools, interpret};
-use ngc_dialect_execution::{Cause, DialectFault, interpret_dialect};
+use ngc_dialect_execution::{DialectFault, interpret_dialect};
+use ngc_dialect_faults::write_dialect_fault;
 use ngc_dialect_reader::Dialect;
 use ngc_line_reader::Program;
 use ngc_text::Device;
@@ -54,21 +55,18 @@ fn first_difference(found: &[Command], plain: &[Command]) -> Option<usize> {
     }
 }
 
-fn print_fault(rt: &impl Print, fault: &DialectFault) -> io::Result<()> {
-    let number = fault.number();
-    match fault {
-        DialectFault::At { line, cause } => match cause {
-            Cause::Reading(fault) => { println!(rt; "fault {number} line {line}: {fault}") }
-            Cause::Value(cause) => println!(rt; "fault {number} line {line}: {cause}"),
-            Cause::Rule(fault) => {
-                let cause = fault.cause;
-                println!(rt; "fault {number} line {line}: {cause}")
-            }
-            Cause::Plain(fault) => println!(rt; "fault {number} line {line}: {fault}"),
-            Cause::Flow => println!(rt; "fault {number} line {line}: flow"),
-            Cause::TooManyNames => println!(rt; "fault {number} line {line}: names"),
-        },
-        DialectFault::Memory => println!(rt; "no memory"),
+fn print_fault(rt: &impl Print, alloc: Global, fault: &DialectFault) -> io::Result<()> {
+    let DialectFault::At { line, cause } = fault else {
+        return println!(rt; "no memory");
+    };
+    let mut text = Device::new(Vec::new(alloc));
+    let Ok(()) = write_dialect_fault(None, *line, cause, &mut text) else {
+        return println!(rt; "no memory");
+    };
+    let text = text.into_inner();
+    match str::from_utf8(text.as_slice()) {
+        Ok(text) => print!(rt; "{text}"),
+        Err(_) => println!(rt; "no text"),
     }
 }
 
@@ -105,7 +103,7 @@ fn print_program(
         false,
     ) {
         Ok(commands) => commands,
-        Err(fault) => return print_fault(rt, &fault),
+        Err(fault) => return print_fault(rt, alloc, &fault),
     };
     let Some(expected) = commands_of(alloc, plain.as_str(), &machine, &tools) else {
         return println!(rt; "the plain lines are refused");

@@ -1,11 +1,12 @@
 //! The controller itself: its latest replies, its tool, and too little memory for it.
 use crate::checks::{holds, same};
-use crate::given::{NO_MOTIONS, TOOLS};
+use crate::given::NO_MOTIONS;
 use linked_list_allocator::LocalHeap;
 use ngc_line_reader::Program;
 use ngc_simulator::{
     Accepted, ArcPath, Certificate, Controller, Event, Reply, Tools, built_in_machine, check,
 };
+use ngc_test_devices::TOOLS;
 use ngc_text::Device;
 use std::alloc::{Allocator, Global};
 use std::process::Abort;

@@ -1,14 +1,13 @@
 //! Live runs: fed in pieces of any size, they write the output of a run over the same events at
 //! once.
 use crate::checks::{holds, same};
-use crate::given::{MACHINE, TOOLS};
 use ngc_line_reader::Program;
 use ngc_run_log::{LiveInput, feed_from, feed_next};
 use ngc_simulator::{
     Accepted, Certificate, EventsFault, Format, LiveFault, LiveForm, LiveRun, Machine, Tools,
     certify, check, read_events, run, write_samples, write_timed_log,
 };
-use ngc_test_devices::{EndlessSource, FailingSink, SlowSource};
+use ngc_test_devices::{EndlessSource, FailingSink, MACHINE, SlowSource, TOOLS};
 use ngc_text::Device;
 use std::alloc::Global;
 use std::process::Abort;

@@ -1,9 +1,10 @@
 //! Each growth of memory is refused in turn: the result is 900 with nothing written, and the wanted
 //! result when there is enough memory.
 use crate::checks::{holds, same};
-use crate::given::{End, Job, MACHINE, NO_MOTIONS, Shop, TOOLS};
+use crate::given::{End, Job, NO_MOTIONS, Shop};
 use bumpalo::Bump;
 use ngc_simulator::{Machine, Tools};
+use ngc_test_devices::{MACHINE, TOOLS};
 use ngc_text::Device;
 use std::alloc::Global;
 use std::process::Abort;

@@ -31,6 +31,10 @@ cycle_numbers = 231 ∷ 231 ∷ 232 ∷ 233 ∷ 233 ∷ 234 ∷ 235 ∷ 236 ∷ 
 abbrev pub arc_numbers : List ℕ
 arc_numbers = 241 ∷ 241 ∷ 242 ∷ 243 ∷ 244 ∷ 245 ∷ 246 ∷ 246 ∷ 252 ∷ []
 
+-- programs for other controls
+abbrev pub dialect_numbers : List ℕ
+dialect_numbers = 123 ∷ 134 ∷ 135 ∷ 139 ∷ 205 ∷ 211 ∷ 248 ∷ []
+
 -- machine file and tool table
 abbrev pub setup_numbers : List ℕ
 setup_numbers = 261 ∷ 261 ∷ 262 ∷ 263 ∷ 264 ∷ 265 ∷ 266 ∷ 267 ∷ 268 ∷ 269 ∷ 269 ∷ []
@@ -56,7 +60,7 @@ shell_numbers = 720 ∷ 721 ∷ 722 ∷ 723 ∷ 724 ∷ 725 ∷ 726 ∷ 727 ∷ 
 -- all of them
 abbrev pub fault_numbers : List ℕ
 fault_numbers = line_numbers ++ file_numbers ++ value_numbers ++ word_numbers ++ place_numbers
-    ++ cycle_numbers ++ arc_numbers
+    ++ cycle_numbers ++ arc_numbers ++ dialect_numbers
     ++ setup_numbers ++ certificate_numbers ++ event_numbers ++ log_numbers ++ shell_numbers
 
 -- whether a fault has the number

@@ -3,6 +3,7 @@
 //! The tables of the page docs/FAULTS.md and the text of `ngc explain` are printed from them.
 #![tactic(auto)]
 
+mod dialects;
 mod explaining;
 mod parts;
 mod programs;

@@ -2,6 +2,7 @@ ghost use Rattle.std.specs.Prelude.{◌≡◌};
 ghost use Rattle.ngc_fault_texts.specs.Numbers.{fault_numbers};
 ghost use Rattle.ngc_fault_texts.specs.Explanations.{numbers_of};
 
+use crate::dialects::dialects;
 use crate::programs::{places, values, words};
 use crate::reading::{files, lines};
 use crate::runs::{events, log, shell};
@@ -35,7 +36,7 @@ pub struct Part {
 }
 
 /// Returns the parts of the page in their order.
-pub fn page() -> [Part; 12]
+pub fn page() -> [Part; 13]
     ensures { numbers_of result ≡ fault_numbers }
 {
     [
@@ -73,6 +74,11 @@ pub fn page() -> [Part; 12]
             title: "Arcs",
             column: None,
             rows: arcs(),
+        },
+        Part {
+            title: "Programs for other controls",
+            column: None,
+            rows: dialects(),
         },
         Part {
             title: "Machine file and tool table",

@@ -110,7 +110,7 @@ pub(crate) fn shell() -> &'static [Row]
         },
         Row {
             number: 724,
-            rule: "`ngc adapt` has no control of this name: write `linuxcnc`, `grbl`, `mach3` or `fanuc` (our own).",
+            rule: "There is no control of this name: write `linuxcnc`, `grbl`, `mach3` or `fanuc` (our own).",
             example: "command `ngc adapt --from haas --program part.nc`",
             answer: "`ngc: fault 724`",
             place: Some("3"),

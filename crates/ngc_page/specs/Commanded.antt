@@ -30,14 +30,14 @@ pub record TellsOnly (lines : List ℕ) (output errors : Space) : Type 0 where
   pub nothing : Receives output []
   pub lines_handed : Receives errors lines
 
--- The words are refused, with the text that `ngc` writes for them, or nothing is executed because
--- memory ran out.
+-- The words are refused: nothing is executed, and standard error gets lines. Which lines isn't stated.
 pub record IsUsage (text : List ℕ) (output errors : Space) (status : ℕ) : Type 0 where
   pub wrong : ¬ IsCommandLine text
   pub says : status ≡ 2
   pub lines : List ℕ
   pub tells : TellsOnly lines output errors
 
+-- Memory ran out before the words were read: nothing is executed.
 pub record IsUnread (output errors : Space) (status : ℕ) : Type 0 where
   pub says : status ≡ 1
   pub tells : TellsOnly (codes "ngc: fault 900\n") output errors

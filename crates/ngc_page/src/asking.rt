@@ -64,6 +64,7 @@ pub fn list_options(delete: bool) -> Options<'static>
         tools: Some("tools"),
         delete,
         changes: Changes::none(),
+        dialect: None,
     })
 }
 
@@ -84,6 +85,7 @@ pub fn certify_options(second: bool) -> Options<'static>
         cuts: 8,
         format: requested_format(second),
         changes: Changes::none(),
+        dialect: None,
     })
 }
 
@@ -97,6 +99,7 @@ pub fn check_options() -> Options<'static>
         certificate: "certificate",
         program: Some("program"),
         changes: Changes::none(),
+        dialect: None,
     })
 }
 
@@ -114,6 +117,7 @@ pub fn pulses_options(delete: bool) -> Options<'static>
         output: None,
         inverted: 0,
         changes: Changes::none(),
+        dialect: None,
     })
 }
 

@@ -1,5 +1,7 @@
 -- Programs for other controls, adapted.
 mod AdaptLaws
+-- Programs for other controls, executed.
+mod DialectLaws
 -- A refused file is refused with changes too, and the report of it is the same.
 mod PlacedRefusals
 -- The result of listing a file, from the results of its parts.
@@ -26,3 +28,5 @@ pub mod PlaceLaws
 pub mod UnreadableLaws
 -- The result of writing all faults of a program.
 pub mod FaultsLaws
+-- The result of running a program for another control, from the results of its parts.
+pub mod DialectRunLaws

@@ -25,10 +25,10 @@ use Rattle.ngc_run_through.specs.declared.report.Report.{Report}
 use Rattle.ngc_run_through.specs.declared.report.RunFault.{RunFault}
 use Rattle.ngc_run_through.specs.declared.report.RunFault.TheVariants as runs
 use Rattle.ngc_inputs.specs.Faults.{of_run}
-use Rattle.ngc_simulator.specs.Answers.{IsTimeOf, IsTimeOn, RunsOn, RunsThroughOn}
+use Rattle.ngc_simulator.specs.Answers.{IsTimeOn, RunsOn, RunsThroughOn}
 use Rattle.ngc_inputs.specs.Jobs.{IsNoCertificate}
 use Rattle.ngc_inputs.specs.Judging.{IsVerdict, Verdict}
-use Rattle.ngc_simulator.specs.Running.{IsAcceptedJob, RunsOver, RunsWhole, AreNoEvents, Runs, RunsThrough, RecordsRun, RecordsThrough}
+use Rattle.ngc_simulator.specs.Running.{IsTimeOf, IsAcceptedJob, RunsOver, RunsWhole, AreNoEvents, Runs, RunsThrough, RecordsRun, RecordsThrough}
 use Rattle.ngc_inputs.specs.Setups.{FileBytes, KeepsFiles, KeepsNamed}
 use Rattle.ngc_inputs.specs.Shops.{PlacedResultIs}
 use Rattle.ngc_inputs.specs.declared.fault.AnswerFault.{AnswerFault}
@@ -40,7 +40,7 @@ use Rattle.ngc_inputs.proofs.SetupLaws.{on_placed}
 
 -- ---- of the verdict on two files, and of events
 
-no_events : (A : Type 0) (events : List ℕ) (fault : EventsFault) → EventsResultIs {A = A} (Err fault) (parsed_events events) → AreNoEvents events fault
+pub no_events : (A : Type 0) (events : List ℕ) (fault : EventsFault) → EventsResultIs {A = A} (Err fault) (parsed_events events) → AreNoEvents events fault
 no_events A events (texts.BadLine line) says = says
 no_events A events texts.TooManyLines says = says
 no_events A events texts.Memory says = tt

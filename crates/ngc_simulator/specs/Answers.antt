@@ -51,7 +51,8 @@ use Rattle.ngc_program_report.specs.declared.request.ReportRequest.{ReportReques
 use Rattle.ngc_inputs.specs.Jobs.{Certifies, Checks}
 use Rattle.ngc_run_log.specs.declared.live_form.LiveForm.{LiveForm}
 use Rattle.ngc_simulator.specs.Lives.{Lives, live_named}
-use Rattle.ngc_simulator.specs.Running.{Runs, RunsThrough}
+use Rattle.ngc_simulator.specs.DialectRuns.{LivesDialect, RunsDialect, RunsDialectThrough}
+use Rattle.ngc_simulator.specs.Running.{IsTimeOf, Runs, RunsThrough}
 use Rattle.ngc_canonical.specs.State.{Setup}
 use Rattle.ngc_inputs.specs.Setups.{FileBytes, OnPlaced, OnSetup}
 use Rattle.ngc_margins.specs.declared.changes.Changes.{Changes}
@@ -64,6 +65,8 @@ use Rattle.ngc_inputs.specs.Unread.{Input, OfProgram, OfCertificate, OfEvents, O
 use Rattle.ngc_adapt_program.specs.declared.request.Request.{Request}
 use Rattle.ngc_adapt_program.specs.Requests.{control_named, dropped_codes}
 use Rattle.ngc_simulator.specs.Adapting.{Adapts, IsRequest}
+use Rattle.ngc_simulator.specs.Dialects.{CertifiesDialect, ChecksDialect, ListsDialect, OnDialect}
+use Rattle.ngc_simulator.specs.Dialects.{StopsDialect}
 use Rattle.ngc_simulator.specs.Making.{Makes, OnDump, has_source}
 use Rattle.ngc_inputs.specs.Unread.{FailsByInput}
 
@@ -175,26 +178,99 @@ Comes Stops MayFail Does (Ok (RunThrough time)) = ⊥
 Comes Stops MayFail Does (Ok (WithNotes notes)) = ⊥
 Comes Stops MayFail Does (Err fault) = Stops fault ⊎ (MayFail fault × Does (Err fault))
 
-abbrev pub ListResult : FileBytes → ListOptions → Option (List ℕ) → Option (List ℕ) →
+abbrev pub OwnListResult : FileBytes → ListOptions → Option (List ℕ) → Option (List ℕ) →
     Result Done AnswerFault → Type 0
-ListResult bytes options old new outcome =
+OwnListResult bytes options old new outcome =
     Comes (StopsPlaced bytes (option_map (λ name. name.now) options.machine)
     (option_map (λ name. name.now) options.tools) options.changes old new) OfListing
     (ListsOn bytes options old new) outcome
 
-abbrev pub CertifyResult : FileBytes → CertifyOptions → Option (List ℕ) → Option (List ℕ) →
+-- A command on a program for another control: it stops before the program is executed, or it does its
+-- work.
+abbrev pub DialectComes : (AnswerFault → Type 0) → (Result Done AnswerFault → Type 0) →
+    Option (List ℕ) → Option (List ℕ) → Result Done AnswerFault → Type 0
+DialectComes Stops Does old new (Ok done) = Does (Ok done)
+DialectComes Stops Does old new (Err fault) = (Stops fault × Keeps old new) ⊎ Does (Err fault)
+
+abbrev pub DialectListResult : List ℕ → FileBytes → ListOptions → Option (List ℕ) →
+    Option (List ℕ) → Result Done AnswerFault → Type 0
+DialectListResult control bytes options old new outcome =
+    let machine : Option (List ℕ) = option_map (λ name. name.now) options.machine in
+    let tools : Option (List ℕ) = option_map (λ name. name.now) options.tools in
+    DialectComes (StopsDialect control bytes machine tools options.changes)
+    (λ o. OnDialect control bytes machine tools options.changes
+    (option_map (λ name. name.now) options.program)
+    (λ d setup source. ListsDialect d setup options.delete source old new o)) old new outcome
+
+abbrev pub ListResultIn : Option (List ℕ) → FileBytes → ListOptions → Option (List ℕ) →
+    Option (List ℕ) → Result Done AnswerFault → Type 0
+ListResultIn None bytes options old new outcome = OwnListResult bytes options old new outcome
+ListResultIn (Some control) bytes options old new outcome =
+    DialectListResult control bytes options old new outcome
+
+abbrev pub ListResult : FileBytes → ListOptions → Option (List ℕ) → Option (List ℕ) →
     Result Done AnswerFault → Type 0
-CertifyResult bytes options old new outcome =
+ListResult bytes options old new outcome =
+    ListResultIn (option_map (λ name. name.now) options.dialect) bytes options old new outcome
+
+abbrev pub OwnCertifyResult : FileBytes → CertifyOptions → Option (List ℕ) → Option (List ℕ) →
+    Result Done AnswerFault → Type 0
+OwnCertifyResult bytes options old new outcome =
     Comes (StopsPlaced bytes (Some options.machine.now) (Some options.tools.now) options.changes
     old new)
     OfCertifying (CertifiesOn bytes options old new) outcome
 
-abbrev pub CheckResult : FileBytes → CheckOptions → Option (List ℕ) → Option (List ℕ) →
+abbrev pub DialectCertifyResult : List ℕ → FileBytes → CertifyOptions → Option (List ℕ) →
+    Option (List ℕ) → Result Done AnswerFault → Type 0
+DialectCertifyResult control bytes options old new outcome =
+    let machine : Option (List ℕ) = Some options.machine.now in
+    let tools : Option (List ℕ) = Some options.tools.now in
+    DialectComes (StopsDialect control bytes machine tools options.changes)
+    (λ o. OnDialect control bytes machine tools options.changes
+    (option_map (λ name. name.now) options.program)
+    (λ d setup source. CertifiesDialect d setup source options.cuts options.format old new o))
+    old new outcome
+
+abbrev pub CertifyResultIn : Option (List ℕ) → FileBytes → CertifyOptions → Option (List ℕ) →
+    Option (List ℕ) → Result Done AnswerFault → Type 0
+CertifyResultIn None bytes options old new outcome = OwnCertifyResult bytes options old new outcome
+CertifyResultIn (Some control) bytes options old new outcome =
+    DialectCertifyResult control bytes options old new outcome
+
+abbrev pub CertifyResult : FileBytes → CertifyOptions → Option (List ℕ) → Option (List ℕ) →
     Result Done AnswerFault → Type 0
-CheckResult bytes options old new outcome =
+CertifyResult bytes options old new outcome =
+    CertifyResultIn (option_map (λ name. name.now) options.dialect) bytes options old new outcome
+
+abbrev pub OwnCheckResult : FileBytes → CheckOptions → Option (List ℕ) → Option (List ℕ) →
+    Result Done AnswerFault → Type 0
+OwnCheckResult bytes options old new outcome =
     Comes (StopsPlaced bytes (Some options.machine.now) (Some options.tools.now) options.changes
     old new)
     (OrOfReading OfChecking) (ChecksOn bytes options old new) outcome
+
+abbrev pub DialectCheckResult : List ℕ → FileBytes → CheckOptions → Option (List ℕ) →
+    Option (List ℕ) → Result Done AnswerFault → Type 0
+DialectCheckResult control bytes options old new outcome =
+    let machine : Option (List ℕ) = Some options.machine.now in
+    let tools : Option (List ℕ) = Some options.tools.now in
+    DialectComes (StopsDialect control bytes machine tools options.changes)
+    (λ o. OnDialect control bytes machine tools options.changes
+    (option_map (λ name. name.now) options.program)
+    (λ d setup source.
+    ChecksDialect d setup source (bytes (Some options.certificate.now)) old new o))
+    old new outcome
+
+abbrev pub CheckResultIn : Option (List ℕ) → FileBytes → CheckOptions → Option (List ℕ) →
+    Option (List ℕ) → Result Done AnswerFault → Type 0
+CheckResultIn None bytes options old new outcome = OwnCheckResult bytes options old new outcome
+CheckResultIn (Some control) bytes options old new outcome =
+    DialectCheckResult control bytes options old new outcome
+
+abbrev pub CheckResult : FileBytes → CheckOptions → Option (List ℕ) → Option (List ℕ) →
+    Result Done AnswerFault → Type 0
+CheckResult bytes options old new outcome =
+    CheckResultIn (option_map (λ name. name.now) options.dialect) bytes options old new outcome
 
 -- the output of a run, if the name of the form is known
 abbrev pub run_writing : RunOptions → Option Writing
@@ -211,15 +287,38 @@ abbrev pub WithReport : (Result Report AnswerFault → Type 0) →
 WithReport Does (Ok u) = (report : Report) × Does (Ok report)
 WithReport Does (Err fault) = Does (Err fault)
 
+abbrev pub OwnRunResult : FileBytes → RunOptions → Writing → Option (List ℕ) → Option (List ℕ) →
+    Result Done AnswerFault → Type 0
+OwnRunResult bytes options writing old new outcome =
+    Comes (StopsPlaced bytes (Some options.machine.now) (Some options.tools.now) options.changes
+    old new)
+    (OrOfReading OfRunning) (WithReport (RunsOn bytes options writing old new)) outcome
+
+abbrev pub DialectRunResult : List ℕ → FileBytes → RunOptions → Writing → Option (List ℕ) →
+    Option (List ℕ) → Result Done AnswerFault → Type 0
+DialectRunResult control bytes options writing old new outcome =
+    let machine : Option (List ℕ) = Some options.machine.now in
+    let tools : Option (List ℕ) = Some options.tools.now in
+    DialectComes (StopsDialect control bytes machine tools options.changes)
+    (λ o. OnDialect control bytes machine tools options.changes
+    (option_map (λ name. name.now) options.program)
+    (λ d setup source. RunsDialect writing d setup source (bytes (Some options.certificate.now))
+    (bytes (Some options.events.now)) options.delete old new o)) old new outcome
+
+abbrev pub RunResultIn : Option (List ℕ) → FileBytes → RunOptions → Writing → Option (List ℕ) →
+    Option (List ℕ) → Result Done AnswerFault → Type 0
+RunResultIn None bytes options writing old new outcome =
+    OwnRunResult bytes options writing old new outcome
+RunResultIn (Some control) bytes options writing old new outcome =
+    DialectRunResult control bytes options writing old new outcome
+
 -- a form that isn't known is rejected before a file is read
 abbrev pub RunResult : FileBytes → RunOptions → Option Writing → Option (List ℕ) →
     Option (List ℕ) → Result Done AnswerFault → Type 0
 RunResult bytes options None old new outcome =
     (outcome ≡ Err answers.UnknownForm) × Keeps old new
 RunResult bytes options (Some writing) old new outcome =
-    Comes (StopsPlaced bytes (Some options.machine.now) (Some options.tools.now) options.changes
-    old new)
-    (OrOfReading OfRunning) (WithReport (RunsOn bytes options writing old new)) outcome
+    RunResultIn (option_map (λ name. name.now) options.dialect) bytes options writing old new outcome
 
 -- a view that isn't known is rejected before a file is read
 abbrev pub DrawResult : FileBytes → DrawOptions → Option View → Option (List ℕ) → Option (List ℕ) →
@@ -304,30 +403,49 @@ PlaceResult bytes options (Some system) old new outcome =
 abbrev pub requested_system : PlaceOptions → Option System
 requested_system options = system_named (option_map (λ name. name.now) options.system)
 
--- the run's ticks, and the ticks per second of its machine
-pub record IsTimeOf (setup : Setup) (report : Report) (time : RunTime) : Type 0 where
-  pub ticks : time.ticks ≡ report.ticks
-  pub ticks_per_second : time.ticks_per_second ≡ setup.machine.ticks_per_second
-
 abbrev pub IsTimeOn : FileBytes → RunThroughOptions → Report → RunTime → Type 0
 IsTimeOn bytes options report time = OnPlaced bytes (Some options.machine.now)
     (Some options.tools.now) options.changes
     (λ setup. IsTimeOf setup report time)
 
--- the program reports the time of a run to the end; a form that isn't known is rejected before a
--- file is read
+-- the program reports the time of a run to the end
+abbrev pub OwnRunThroughResult : FileBytes → RunThroughOptions → Writing → Option (List ℕ) →
+    Option (List ℕ) → Result Done AnswerFault → Type 0
+OwnRunThroughResult bytes options writing old new (Ok Quietly) = ⊥
+OwnRunThroughResult bytes options writing old new (Ok (WithNotes notes)) = ⊥
+OwnRunThroughResult bytes options writing old new (Ok (RunThrough time)) =
+    (report : Report) × RunsThroughOn bytes options writing old new (Ok report) ×
+    IsTimeOn bytes options report time
+OwnRunThroughResult bytes options writing old new (Err fault) =
+    StopsPlaced bytes (Some options.machine.now) (Some options.tools.now) options.changes old
+    new fault ⊎ (OrOfReading OfRunning fault × RunsThroughOn bytes options writing old new (Err fault))
+
+abbrev pub DialectRunThroughResult : List ℕ → FileBytes → RunThroughOptions → Writing →
+    Option (List ℕ) → Option (List ℕ) → Result Done AnswerFault → Type 0
+DialectRunThroughResult control bytes options writing old new outcome =
+    let machine : Option (List ℕ) = Some options.machine.now in
+    let tools : Option (List ℕ) = Some options.tools.now in
+    DialectComes (StopsDialect control bytes machine tools options.changes)
+    (λ o. OnDialect control bytes machine tools options.changes
+    (option_map (λ name. name.now) options.program)
+    (λ d setup source. RunsDialectThrough writing d setup source
+    (bytes (Some options.certificate.now)) options.delete old new o)) old new outcome
+
+abbrev pub RunThroughResultIn : Option (List ℕ) → FileBytes → RunThroughOptions → Writing →
+    Option (List ℕ) → Option (List ℕ) → Result Done AnswerFault → Type 0
+RunThroughResultIn None bytes options writing old new outcome =
+    OwnRunThroughResult bytes options writing old new outcome
+RunThroughResultIn (Some control) bytes options writing old new outcome =
+    DialectRunThroughResult control bytes options writing old new outcome
+
+-- a form that isn't known is rejected before a file is read
 abbrev pub RunThroughResult : FileBytes → RunThroughOptions → Option Writing → Option (List ℕ) →
     Option (List ℕ) → Result Done AnswerFault → Type 0
 RunThroughResult bytes options None old new outcome =
     (outcome ≡ Err answers.UnknownForm) × Keeps old new
-RunThroughResult bytes options (Some writing) old new (Ok Quietly) = ⊥
-RunThroughResult bytes options (Some writing) old new (Ok (WithNotes notes)) = ⊥
-RunThroughResult bytes options (Some writing) old new (Ok (RunThrough time)) =
-    (report : Report) × RunsThroughOn bytes options writing old new (Ok report) ×
-    IsTimeOn bytes options report time
-RunThroughResult bytes options (Some writing) old new (Err fault) =
-    StopsPlaced bytes (Some options.machine.now) (Some options.tools.now) options.changes old
-    new fault ⊎ (OrOfReading OfRunning fault × RunsThroughOn bytes options writing old new (Err fault))
+RunThroughResult bytes options (Some writing) old new outcome =
+    RunThroughResultIn (option_map (λ name. name.now) options.dialect) bytes options writing old
+    new outcome
 
 -- ---- events on standard input
 
@@ -350,14 +468,36 @@ LivesOnFiles bytes options form old new outcome =
     Lives (live_request options form) setup text certificate options.delete (bytes None) rest old
     new outcome)))
 
+abbrev pub OwnLiveResult : FileBytes → LiveOptions → LiveForm → Option (List ℕ) →
+    Option (List ℕ) → Result Done AnswerFault → Type 0
+OwnLiveResult bytes options form old new outcome =
+    Comes (StopsPlaced bytes (Some options.machine.now) (Some options.tools.now) options.changes
+    old new)
+    (OrOfReading OfLiving) (LivesOnFiles bytes options form old new) outcome
+
+abbrev pub DialectLiveResult : List ℕ → FileBytes → LiveOptions → LiveForm → Option (List ℕ) →
+    Option (List ℕ) → Result Done AnswerFault → Type 0
+DialectLiveResult control bytes options form old new outcome =
+    let machine : Option (List ℕ) = Some options.machine.now in
+    let tools : Option (List ℕ) = Some options.tools.now in
+    DialectComes (StopsDialect control bytes machine tools options.changes)
+    (λ o. OnDialect control bytes machine tools options.changes (Some options.program.now)
+    (λ d setup source. LivesDialect (live_request options form) d setup source
+    (bytes (Some options.certificate.now)) (bytes None) options.delete old new o)) old new outcome
+
+abbrev pub LiveResultIn : Option (List ℕ) → FileBytes → LiveOptions → LiveForm → Option (List ℕ) →
+    Option (List ℕ) → Result Done AnswerFault → Type 0
+LiveResultIn None bytes options form old new outcome =
+    OwnLiveResult bytes options form old new outcome
+LiveResultIn (Some control) bytes options form old new outcome =
+    DialectLiveResult control bytes options form old new outcome
+
 -- a form that isn't known is rejected before a file is read
 abbrev pub LiveResult : FileBytes → LiveOptions → Option LiveForm → Option (List ℕ) →
     Option (List ℕ) → Result Done AnswerFault → Type 0
 LiveResult bytes options None old new outcome = (outcome ≡ Err answers.UnknownForm) × Keeps old new
 LiveResult bytes options (Some form) old new outcome =
-    Comes (StopsPlaced bytes (Some options.machine.now) (Some options.tools.now) options.changes
-    old new)
-    (OrOfReading OfLiving) (LivesOnFiles bytes options form old new) outcome
+    LiveResultIn (option_map (λ name. name.now) options.dialect) bytes options form old new outcome
 
 -- ---- programs for other controls
 
@@ -465,45 +605,114 @@ certificate_input name = record { kind = OfCertificate; name = Some name }
 abbrev pub events_input : List ℕ → Input
 events_input name = record { kind = OfEvents; name = Some name }
 
-abbrev pub list_inputs : ListOptions → List Input
-list_inputs options =
+-- a program for another control, by any bytes
+abbrev pub source_input : Option (List ℕ) → Input
+source_input name = record { kind = OfSource; name = name }
+
+abbrev pub own_list_inputs : ListOptions → List Input
+own_list_inputs options =
     shop_inputs (option_map (λ name. name.now) options.machine)
     (option_map (λ name. name.now) options.tools)
     ++ program_input (option_map (λ name. name.now) options.program) ∷ []
 
-abbrev pub certify_inputs : CertifyOptions → List Input
-certify_inputs options =
+-- a program for another control, on a machine with its tools
+abbrev pub dialect_inputs : Option (List ℕ) → Option (List ℕ) → Option (List ℕ) → List Input
+dialect_inputs machine tools program = shop_inputs machine tools ++ source_input program ∷ []
+
+abbrev pub list_inputs_in : Option (List ℕ) → ListOptions → List Input
+list_inputs_in None options = own_list_inputs options
+list_inputs_in (Some control) options =
+    dialect_inputs (option_map (λ name. name.now) options.machine)
+    (option_map (λ name. name.now) options.tools) (option_map (λ name. name.now) options.program)
+
+abbrev pub list_inputs : ListOptions → List Input
+list_inputs options = list_inputs_in (option_map (λ name. name.now) options.dialect) options
+
+abbrev pub own_certify_inputs : CertifyOptions → List Input
+own_certify_inputs options =
     shop_inputs (Some options.machine.now) (Some options.tools.now)
     ++ program_input (option_map (λ name. name.now) options.program) ∷ []
 
-abbrev pub check_inputs : CheckOptions → List Input
-check_inputs options =
+abbrev pub certify_inputs_in : Option (List ℕ) → CertifyOptions → List Input
+certify_inputs_in None options = own_certify_inputs options
+certify_inputs_in (Some control) options =
+    dialect_inputs (Some options.machine.now) (Some options.tools.now)
+    (option_map (λ name. name.now) options.program)
+
+abbrev pub certify_inputs : CertifyOptions → List Input
+certify_inputs options = certify_inputs_in (option_map (λ name. name.now) options.dialect) options
+
+abbrev pub own_check_inputs : CheckOptions → List Input
+own_check_inputs options =
     shop_inputs (Some options.machine.now) (Some options.tools.now)
     ++ program_input (option_map (λ name. name.now) options.program)
     ∷ certificate_input options.certificate.now ∷ []
+
+abbrev pub check_inputs_in : Option (List ℕ) → CheckOptions → List Input
+check_inputs_in None options = own_check_inputs options
+check_inputs_in (Some control) options =
+    dialect_inputs (Some options.machine.now) (Some options.tools.now)
+    (option_map (λ name. name.now) options.program)
+    ++ certificate_input options.certificate.now ∷ []
+
+abbrev pub check_inputs : CheckOptions → List Input
+check_inputs options = check_inputs_in (option_map (λ name. name.now) options.dialect) options
+
+abbrev pub own_run_inputs : RunOptions → List Input
+own_run_inputs options =
+    shop_inputs (Some options.machine.now) (Some options.tools.now)
+    ++ program_input (option_map (λ name. name.now) options.program)
+    ∷ certificate_input options.certificate.now ∷ events_input options.events.now ∷ []
+
+abbrev pub run_inputs_in : Option (List ℕ) → RunOptions → List Input
+run_inputs_in None options = own_run_inputs options
+run_inputs_in (Some control) options =
+    dialect_inputs (Some options.machine.now) (Some options.tools.now)
+    (option_map (λ name. name.now) options.program)
+    ++ certificate_input options.certificate.now ∷ events_input options.events.now ∷ []
 
 -- where the form is known
 abbrev pub run_inputs : RunOptions → Option Writing → List Input
 run_inputs options None = []
 run_inputs options (Some writing) =
-    shop_inputs (Some options.machine.now) (Some options.tools.now)
-    ++ program_input (option_map (λ name. name.now) options.program)
-    ∷ certificate_input options.certificate.now ∷ events_input options.events.now ∷ []
+    run_inputs_in (option_map (λ name. name.now) options.dialect) options
 
-abbrev pub run_through_inputs : RunThroughOptions → Option Writing → List Input
-run_through_inputs options None = []
-run_through_inputs options (Some writing) =
+abbrev pub own_run_through_inputs : RunThroughOptions → List Input
+own_run_through_inputs options =
     shop_inputs (Some options.machine.now) (Some options.tools.now)
     ++ program_input (option_map (λ name. name.now) options.program)
     ∷ certificate_input options.certificate.now ∷ []
 
-abbrev pub live_inputs : LiveOptions → Option LiveForm → List Input
-live_inputs options None = []
-live_inputs options (Some form) =
+abbrev pub run_through_inputs_in : Option (List ℕ) → RunThroughOptions → List Input
+run_through_inputs_in None options = own_run_through_inputs options
+run_through_inputs_in (Some control) options =
+    dialect_inputs (Some options.machine.now) (Some options.tools.now)
+    (option_map (λ name. name.now) options.program)
+    ++ certificate_input options.certificate.now ∷ []
+
+abbrev pub run_through_inputs : RunThroughOptions → Option Writing → List Input
+run_through_inputs options None = []
+run_through_inputs options (Some writing) =
+    run_through_inputs_in (option_map (λ name. name.now) options.dialect) options
+
+abbrev pub own_live_inputs : LiveOptions → List Input
+own_live_inputs options =
     shop_inputs (Some options.machine.now) (Some options.tools.now)
     ++ program_input (Some options.program.now)
     ∷ certificate_input options.certificate.now
     ∷ record { kind = OfSource; name = None } ∷ []
+
+abbrev pub live_inputs_in : Option (List ℕ) → LiveOptions → List Input
+live_inputs_in None options = own_live_inputs options
+live_inputs_in (Some control) options =
+    dialect_inputs (Some options.machine.now) (Some options.tools.now) (Some options.program.now)
+    ++ certificate_input options.certificate.now ∷ record { kind = OfSource; name = None } ∷ []
+
+-- where the form is known
+abbrev pub live_inputs : LiveOptions → Option LiveForm → List Input
+live_inputs options None = []
+live_inputs options (Some form) =
+    live_inputs_in (option_map (λ name. name.now) options.dialect) options
 
 abbrev pub certificate_inputs : Option (List ℕ) → List Input
 certificate_inputs None = []
@@ -532,10 +741,6 @@ place_inputs options None = []
 place_inputs options (Some system) =
     shop_inputs (Some options.machine.now) (Some options.tools.now)
     ++ program_input (option_map (λ name. name.now) options.program) ∷ []
-
--- a program for another control, by any bytes
-abbrev pub source_input : Option (List ℕ) → Input
-source_input name = record { kind = OfSource; name = name }
 
 -- where the request is known
 abbrev pub adapt_inputs : AdaptOptions → List Input
@@ -595,12 +800,12 @@ Takes sink text =
 
 -- the commands that print nothing on standard error when they are done
 abbrev pub IsQuiet : Options → Type 0
-IsQuiet (commands.List options) = Unit {0}
-IsQuiet (commands.Certify options) = Unit {0}
-IsQuiet (commands.Check options) = Unit {0}
-IsQuiet (commands.Run options) = Unit {0}
+IsQuiet (commands.List options) = options.dialect ≡ None
+IsQuiet (commands.Certify options) = options.dialect ≡ None
+IsQuiet (commands.Check options) = options.dialect ≡ None
+IsQuiet (commands.Run options) = options.dialect ≡ None
 IsQuiet (commands.RunThrough options) = ⊥
-IsQuiet (commands.Live options) = Unit {0}
+IsQuiet (commands.Live options) = options.dialect ≡ None
 IsQuiet (commands.Draw options) = Unit {0}
 IsQuiet (commands.Show options) = Unit {0}
 IsQuiet (commands.Report options) = Unit {0}

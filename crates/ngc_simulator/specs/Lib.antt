@@ -12,6 +12,8 @@ pub mod Making
 pub mod Mistaken
 pub mod Status
 pub mod Adapting
+pub mod Dialects
+pub mod DialectRuns
 pub mod Certifying
 pub mod Placing
 pub mod Answers

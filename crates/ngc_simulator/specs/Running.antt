@@ -28,6 +28,7 @@ use Rattle.ngc_inputs.specs.declared.fault.AnswerFault.TheVariants as answers
 use Rattle.ngc_simulator.specs.declared.writing.Writing.{Writing}
 use Rattle.ngc_simulator.specs.declared.writing.Writing.TheVariants.{Log, Times, Dump, Samples}
 use Rattle.ngc_inputs.specs.Jobs.{AreSent, IsNoCertificate}
+use Rattle.ngc_program_report.specs.declared.run_time.RunTime.{RunTime}
 
 -- the result of a run over events by its output, and the result of a run to the end
 abbrev pub RecordsRun : Writing → Job → List EventLine → Option (List ℕ) → Option (List ℕ) →
@@ -139,3 +140,8 @@ RunsThrough writing setup bytes text block_delete old new (Err answers.Memory) =
 RunsThrough writing setup bytes text block_delete old new (Err (answers.Write fault)) =
     RunsWhole writing setup bytes text block_delete old new (Err (runs.Write fault))
 RunsThrough writing setup bytes text block_delete old new (Err _) = ⊥
+
+-- the run's ticks, and the ticks per second of its machine
+pub record IsTimeOf (setup : Setup) (report : Report) (time : RunTime) : Type 0 where
+  pub ticks : time.ticks ≡ report.ticks
+  pub ticks_per_second : time.ticks_per_second ≡ setup.machine.ticks_per_second

@@ -1,5 +1,6 @@
 //! Programs for other controls, from the files that the command line names.
-ghost use Rattle.std.specs.Prelude.{◌≡◌, ◌++◌, ◌⊎◌, false, IfErr, IfOk, IfSome, MatchResult, OnOk, Ok, option_map};
+ghost use Rattle.std.specs.Prelude.{◌≡◌, ◌++◌, ◌⊎◌, false, IfErr, IfOk, IfSome, IsSome, MatchResult, OnOk, Ok};
+ghost use Rattle.std.specs.Prelude.{option_map};
 ghost use Rattle.ngc_adapt_program.specs.ToolNumbers.{table_text};
 ghost use Rattle.ngc_canonical.specs.Interpreter.{setup_of};
 ghost use Rattle.ngc_machine_files.specs.Machine.{file_of};
@@ -10,7 +11,7 @@ ghost use Rattle.ngc_simulator.specs.Adapting.{homes_of};
 ghost use Rattle.ngc_simulator.specs.Adapting.{IsOfProgram, IsTableFault, refused_text};
 ghost use Rattle.ngc_simulator.specs.Answers.{AdaptResult, NoRequest, adapt_inputs};
 ghost use Rattle.ngc_inputs.specs.Faults.{FailsByOutput, answer_status};
-ghost use Rattle.ngc_inputs.specs.Setups.{KeepsNamed};
+ghost use Rattle.ngc_inputs.specs.Setups.{KeepsFiles, KeepsNamed};
 ghost use Rattle.ngc_inputs.specs.Unread.{FailsByInput, SourceFails, ReportsUnread};
 
 use crate::done::{Done, Notes};
@@ -171,13 +172,15 @@ fn request_on(machine: &Machine<Global>, options: &AdaptOptions<'_>, asked: &Req
 }
 
 // Returns the bytes of the named file, or of standard input.
-fn source_bytes<F: Files>(
+pub(crate) fn source_bytes<F: Files>(
     alloc: Global,
     name: Option<&str>,
     files: &mut F,
 ) -> Result<Vec<u8>, InputFault>
     ensures value { IfSome (F.bytes files.old (option_map (λ n. n.now) name.entry))
         (λ bytes. IfOk result (λ v. v.items ≡ bytes)) }
+    ensures keeps { IsSome name.entry → KeepsFiles (F.bytes files.old) (F.bytes files.new) }
+    ensures named { KeepsNamed (F.bytes files.old) (F.bytes files.new) }
     ensures counts { OnOk result (F.failures files.new ≡ F.failures files.old) }
     ensures unread { IfErr result
         (ReportsUnread (SourceFails F.R.remaining F.R.failures)

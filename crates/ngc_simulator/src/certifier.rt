@@ -5,13 +5,15 @@ ghost use Rattle.ngc_certificate.specs.Plans.{both_planned};
 ghost use Rattle.ngc_certificate_text.specs.Certificate.{AreEntries};
 ghost use Rattle.ngc_text.specs.Failures.{Rises};
 ghost use Rattle.ngc_line_reader.specs.declared.program.fault.ReadFault.TheVariants.{Device};
-ghost use Rattle.ngc_simulator.specs.Answers.{CertifyResult, certify_inputs};
+ghost use Rattle.ngc_simulator.specs.Answers.{CertifyResult, OwnCertifyResult, certify_inputs};
+ghost use Rattle.ngc_simulator.specs.Answers.{own_certify_inputs};
 ghost use Rattle.ngc_inputs.specs.Faults.{FailsByOutput, OfCertifying};
 ghost use Rattle.ngc_inputs.specs.Jobs.{Certifies, IsMadeOf, IsUnmade, IsWrittenAs, refused_at};
 ghost use Rattle.ngc_inputs.specs.Unread.{FailsByInput, SourceFails};
 ghost use Rattle.ngc_job.specs.Job.{commands_in};
 ghost use Rattle.ngc_simulator.specs.Certifying.{WritesForm};
 
+use crate::dialect_certificates::certify_dialect;
 use crate::done::Done;
 use ngc_canonical::ProgramFault;
 use ngc_certificate::{MakeFault, Plans, Setting, common_motions, make_plans, make_plans_alike};
@@ -92,7 +94,7 @@ fn write_alike<A: Allocator, M: MotionList, W: Sink>(
 }
 
 // Writes the motions of a job's plans as a certificate, in a format.
-fn write_plans<A: Allocator + Copy, W: Sink>(
+pub(crate) fn write_plans<A: Allocator + Copy, W: Sink>(
     alloc: A,
     job: &Job<A>,
     plans: &Plans<A>,
@@ -157,18 +159,18 @@ pub fn certify<A: Allocator + Copy, R: Source, W: Sink>(
     write_plans(alloc, &job, &plans, format, output)
 }
 
-// Writes the certificate of a program.
-pub(crate) fn certify_files<F: Files, W: Sink>(
+// Writes the certificate of a program in our own language.
+fn certify_own<F: Files, W: Sink>(
     alloc: Global,
     options: &CertifyOptions<'_>,
     files: &mut F,
     output: &mut W,
 ) -> Result<Done, AnswerFault>
     requires { 1 ≤ options.now.cuts }
-    ensures comes { CertifyResult (F.bytes files.old) options.now (W.written output.old)
+    ensures comes { OwnCertifyResult (F.bytes files.old) options.now (W.written output.old)
         (W.written output.new) result }
     ensures unread { FailsByInput (SourceFails F.R.remaining F.R.failures) (F.bytes files.old)
-        (certify_inputs options.now) (F.failures files.old) (F.failures files.new) result }
+        (own_certify_inputs options.now) (F.failures files.old) (F.failures files.new) result }
     ensures sink { FailsByOutput result (W.failures output.old) (W.failures output.new) }
 {
     let shop = read_placed(
@@ -189,4 +191,24 @@ pub(crate) fn certify_files<F: Files, W: Sink>(
         output,
     )?;
     Ok(Done::Quietly)
+}
+
+// Writes the certificate of a program.
+pub(crate) fn certify_files<F: Files, W: Sink>(
+    alloc: Global,
+    options: &CertifyOptions<'_>,
+    files: &mut F,
+    output: &mut W,
+) -> Result<Done, AnswerFault>
+    requires { 1 ≤ options.now.cuts }
+    ensures comes { CertifyResult (F.bytes files.old) options.now (W.written output.old)
+        (W.written output.new) result }
+    ensures unread { FailsByInput (SourceFails F.R.remaining F.R.failures) (F.bytes files.old)
+        (certify_inputs options.now) (F.failures files.old) (F.failures files.new) result }
+    ensures sink { FailsByOutput result (W.failures output.old) (W.failures output.new) }
+{
+    match options.dialect {
+        None => certify_own(alloc, options, files, output),
+        Some(control) => certify_dialect(alloc, control, options, files, output),
+    }
 }

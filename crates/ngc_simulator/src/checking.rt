@@ -4,11 +4,13 @@ ghost use Rattle.ngc_certificate_text.specs.declared.fault.CertificateFault.TheV
 ghost use Rattle.ngc_text.specs.Failures.{Rises};
 ghost use Rattle.ngc_line_reader.specs.ProgramText.{program_of, HaveReadings};
 ghost use Rattle.ngc_line_reader.specs.ProgramView.{text_in};
-ghost use Rattle.ngc_simulator.specs.Answers.{CheckResult, check_inputs};
+ghost use Rattle.ngc_simulator.specs.Answers.{CheckResult, OwnCheckResult, check_inputs};
+ghost use Rattle.ngc_simulator.specs.Answers.{own_check_inputs};
 ghost use Rattle.ngc_inputs.specs.Faults.{FailsByOutput, OfChecking};
 ghost use Rattle.ngc_inputs.specs.Jobs.{Checks};
 ghost use Rattle.ngc_inputs.specs.Unread.{FailsByInput, SourceFails};
 
+use crate::dialect_certificates::check_dialect;
 use crate::done::Done;
 use ngc_command_line::CheckOptions;
 use ngc_inputs::{AnswerFault, Files, judge, open_file, read_placed, read_program};
@@ -49,17 +51,18 @@ pub fn check_program<A: Allocator + Copy, S: Source, W: Sink>(
     Ok(())
 }
 
-// Checks a certificate. The program is read before the certificate's file is opened.
-pub(crate) fn check_files<F: Files, W: Sink>(
+// Checks a certificate for a program in our own language. The program is read before the
+// certificate's file is opened.
+fn check_own<F: Files, W: Sink>(
     alloc: Global,
     options: &CheckOptions<'_>,
     files: &mut F,
     output: &mut W,
 ) -> Result<Done, AnswerFault>
-    ensures comes { CheckResult (F.bytes files.old) options.now (W.written output.old)
+    ensures comes { OwnCheckResult (F.bytes files.old) options.now (W.written output.old)
         (W.written output.new) result }
     ensures unread { FailsByInput (SourceFails F.R.remaining F.R.failures) (F.bytes files.old)
-        (check_inputs options.now) (F.failures files.old) (F.failures files.new) result }
+        (own_check_inputs options.now) (F.failures files.old) (F.failures files.new) result }
     ensures sink { FailsByOutput result (W.failures output.old) (W.failures output.new) }
 {
     let shop = read_placed(
@@ -80,4 +83,23 @@ pub(crate) fn check_files<F: Files, W: Sink>(
         output,
     )?;
     Ok(Done::Quietly)
+}
+
+// Checks a certificate.
+pub(crate) fn check_files<F: Files, W: Sink>(
+    alloc: Global,
+    options: &CheckOptions<'_>,
+    files: &mut F,
+    output: &mut W,
+) -> Result<Done, AnswerFault>
+    ensures comes { CheckResult (F.bytes files.old) options.now (W.written output.old)
+        (W.written output.new) result }
+    ensures unread { FailsByInput (SourceFails F.R.remaining F.R.failures) (F.bytes files.old)
+        (check_inputs options.now) (F.failures files.old) (F.failures files.new) result }
+    ensures sink { FailsByOutput result (W.failures output.old) (W.failures output.new) }
+{
+    match options.dialect {
+        None => check_own(alloc, options, files, output),
+        Some(control) => check_dialect(alloc, control, options, files, output),
+    }
 }

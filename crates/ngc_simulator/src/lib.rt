@@ -5,6 +5,10 @@
 mod adapting;
 mod certifier;
 mod checking;
+mod dialect_certificates;
+mod dialect_lister;
+mod dialect_runs;
+mod dialects;
 mod done;
 mod drawing;
 mod drawing_files;

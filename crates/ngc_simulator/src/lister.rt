@@ -2,11 +2,13 @@ ghost use Rattle.std.specs.Prelude.{◌≡◌, IfErr, IfSome, Err};
 ghost use Rattle.ngc_canonical.specs.Interpreter.{setup_of};
 ghost use Rattle.ngc_text.specs.Failures.{Rises};
 ghost use Rattle.ngc_line_reader.specs.declared.program.fault.ReadFault.TheVariants.{Device};
-ghost use Rattle.ngc_simulator.specs.Answers.{ListResult, list_inputs};
+ghost use Rattle.ngc_simulator.specs.Answers.{ListResult, OwnListResult, list_inputs};
+ghost use Rattle.ngc_simulator.specs.Answers.{own_list_inputs};
 ghost use Rattle.ngc_inputs.specs.Faults.{FailsByOutput, OfListing};
 ghost use Rattle.ngc_simulator.specs.Lists.{Lists};
 ghost use Rattle.ngc_inputs.specs.Unread.{FailsByInput, SourceFails};
 
+use crate::dialect_lister::list_dialect;
 use crate::done::Done;
 use ngc_canonical::interpret;
 use ngc_command_line::ListOptions;
@@ -45,17 +47,17 @@ pub fn list<A: Allocator + Copy, R: Source, W: Sink>(
     Ok(())
 }
 
-// Writes the listing of a program.
-pub(crate) fn list_files<F: Files, W: Sink>(
+// Writes the listing of a program in our own language.
+fn list_own<F: Files, W: Sink>(
     alloc: Global,
     options: &ListOptions<'_>,
     files: &mut F,
     output: &mut W,
 ) -> Result<Done, AnswerFault>
-    ensures comes { ListResult (F.bytes files.old) options.now (W.written output.old)
+    ensures comes { OwnListResult (F.bytes files.old) options.now (W.written output.old)
         (W.written output.new) result }
     ensures unread { FailsByInput (SourceFails F.R.remaining F.R.failures) (F.bytes files.old)
-        (list_inputs options.now) (F.failures files.old) (F.failures files.new) result }
+        (own_list_inputs options.now) (F.failures files.old) (F.failures files.new) result }
     ensures sink { FailsByOutput result (W.failures output.old) (W.failures output.new) }
 {
     let shop = read_placed(
@@ -75,4 +77,23 @@ pub(crate) fn list_files<F: Files, W: Sink>(
         output,
     )?;
     Ok(Done::Quietly)
+}
+
+// Writes the listing of a program.
+pub(crate) fn list_files<F: Files, W: Sink>(
+    alloc: Global,
+    options: &ListOptions<'_>,
+    files: &mut F,
+    output: &mut W,
+) -> Result<Done, AnswerFault>
+    ensures comes { ListResult (F.bytes files.old) options.now (W.written output.old)
+        (W.written output.new) result }
+    ensures unread { FailsByInput (SourceFails F.R.remaining F.R.failures) (F.bytes files.old)
+        (list_inputs options.now) (F.failures files.old) (F.failures files.new) result }
+    ensures sink { FailsByOutput result (W.failures output.old) (W.failures output.new) }
+{
+    match options.dialect {
+        None => list_own(alloc, options, files, output),
+        Some(name) => list_dialect(alloc, name, options, files, output),
+    }
 }

@@ -3,7 +3,10 @@ ghost use Rattle.std.specs.Prelude.{◌≡◌, ℕ, [], List, IfErr, Err, Option
 ghost use Rattle.std.specs.Io.KnownBytes.{IsAtEnd};
 ghost use Rattle.ngc_canonical.specs.State.{Setup};
 ghost use Rattle.ngc_text.specs.Failures.{Rises};
-ghost use Rattle.ngc_simulator.specs.Answers.{LiveResult, requested_live, live_inputs};
+ghost use Rattle.ngc_job.specs.Job.{JobData};
+ghost use Rattle.ngc_simulator.specs.Answers.{LiveResult, OwnLiveResult, live_inputs};
+ghost use Rattle.ngc_simulator.specs.Answers.{own_live_inputs, requested_live};
+ghost use Rattle.ngc_simulator.specs.DialectRuns.{IsJobVerdict, LivesJob};
 ghost use Rattle.ngc_inputs.specs.Faults.{FailsByOutput, OfLiving};
 ghost use Rattle.ngc_inputs.specs.Judging.{IsVerdict};
 ghost use Rattle.ngc_run_log.specs.Living.{FailsBeforeRest, FailsLive, IsLive, LivesOn, LivesToRest};
@@ -11,6 +14,7 @@ ghost use Rattle.ngc_run_log.specs.declared.live_form.LiveForm.{LiveForm as Writ
 ghost use Rattle.ngc_simulator.specs.Lives.{Lives, live_named};
 ghost use Rattle.ngc_inputs.specs.Unread.{FailsByInput, SourceFails};
 
+use crate::dialect_runs::live_dialect;
 use crate::done::Done;
 use crate::live_request::LiveRequest;
 use ngc_command_line::LiveOptions;
@@ -87,6 +91,10 @@ pub fn run_live<A: Allocator + Copy, S: Source, W: Sink>(
     ensures lives { (setup : Setup) (bytes text : List ℕ) → IsVerdict setup bytes text verdict →
         Lives request setup bytes text block_delete (S.remaining source.old) (S.remaining source.new)
         (W.written output.old) (W.written output.new) result }
+    // For any job and certificate that the verdict is about: the same of these.
+    ensures job { (j : JobData) (text : List ℕ) → IsJobVerdict j text verdict →
+        LivesJob request j text block_delete (S.remaining source.old) (S.remaining source.new)
+        (W.written output.old) (W.written output.new) result }
     // The source failed if the result says so.
     ensures source { result ≡ Err (AnswerFault.Input InputFault.Device) →
         Rises (S.failures source.old) (S.failures source.new) }
@@ -105,19 +113,19 @@ pub fn run_live<A: Allocator + Copy, S: Source, W: Sink>(
     Ok(())
 }
 
-// Makes a live run in this form. Each file is read before the next one is opened, and standard
-// input is opened once all are read.
-fn live_files<F: Files, W: Sink>(
+// Makes a live run of a program in our own language. Each file is read before the next one is opened,
+// and standard input is opened once all are read.
+fn live_own<F: Files, W: Sink>(
     alloc: Global,
     options: &LiveOptions<'_>,
     form: LiveForm,
     files: &mut F,
     output: &mut W,
 ) -> Result<Done, AnswerFault>
-    ensures comes { LiveResult (F.bytes files.old) options.now (Some form) (W.written output.old)
+    ensures comes { OwnLiveResult (F.bytes files.old) options.now form (W.written output.old)
         (W.written output.new) result }
     ensures unread { FailsByInput (SourceFails F.R.remaining F.R.failures) (F.bytes files.old)
-        (live_inputs options.now (Some form)) (F.failures files.old) (F.failures files.new) result }
+        (own_live_inputs options.now) (F.failures files.old) (F.failures files.new) result }
     ensures sink { FailsByOutput result (W.failures output.old) (W.failures output.new) }
 {
     let shop = read_placed(
@@ -156,5 +164,8 @@ pub(crate) fn requested_live<F: Files, W: Sink>(
     let Some(form) = live_form(options.output, options.inverted) else {
         return Err(AnswerFault::UnknownForm);
     };
-    live_files(alloc, options, form, files, output)
+    match options.dialect {
+        None => live_own(alloc, options, form, files, output),
+        Some(control) => live_dialect(alloc, control, options, form, files, output),
+    }
 }

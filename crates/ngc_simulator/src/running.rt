@@ -3,12 +3,16 @@ ghost use Rattle.ngc_canonical.specs.State.{Setup};
 ghost use Rattle.ngc_machine_model.specs.Headline.{job_of};
 ghost use Rattle.ngc_checker.specs.Accepted.{commands_at};
 ghost use Rattle.ngc_run_through.specs.Runs.{FailsByWriting};
-ghost use Rattle.ngc_simulator.specs.Answers.{RunResult, run_inputs, run_writing};
+ghost use Rattle.ngc_simulator.specs.Answers.{OwnRunResult, RunResult, own_run_inputs, run_inputs};
+ghost use Rattle.ngc_simulator.specs.Answers.{run_writing};
 ghost use Rattle.ngc_inputs.specs.Faults.{FailsByOutput, OfRunning};
 ghost use Rattle.ngc_inputs.specs.Judging.{IsVerdict};
+ghost use Rattle.ngc_job.specs.Job.{JobData};
+ghost use Rattle.ngc_simulator.specs.DialectRuns.{IsJobVerdict, RunsJob};
 ghost use Rattle.ngc_simulator.specs.Running.{Runs, RecordsRun};
 ghost use Rattle.ngc_inputs.specs.Unread.{FailsByInput, SourceFails};
 
+use crate::dialect_runs::run_dialect;
 use crate::done::Done;
 use crate::writing::{Writing, writing_of};
 use ngc_checker::Accepted;
@@ -62,6 +66,10 @@ pub fn run_program<A: Allocator + Copy, W: Sink>(
     ensures runs { (setup : Setup) (bytes text : List ℕ) → IsVerdict setup bytes text verdict →
         Runs writing setup bytes text events.now block_delete (W.written output.old)
         (W.written output.new) result }
+    // For any job and certificate that the verdict is about: the same of these.
+    ensures job { (j : JobData) (text : List ℕ) → IsJobVerdict j text verdict →
+        RunsJob writing j text events.now block_delete (W.written output.old)
+        (W.written output.new) result }
     ensures sink { FailsByOutput result (W.failures output.old) (W.failures output.new) }
     ensures faults { IfErr result OfRunning }
 {
@@ -78,19 +86,19 @@ pub fn run_program<A: Allocator + Copy, W: Sink>(
     Ok(report)
 }
 
-// Makes a run over events. Each file is read before the next one is opened. A refusal of the
-// certificate is returned only after the events are read and understood.
-fn run_files<F: Files, W: Sink>(
+// Makes a run of a program in our own language over events. Each file is read before the next one is
+// opened. A refusal of the certificate is returned only after the events are read and understood.
+fn run_own<F: Files, W: Sink>(
     alloc: Global,
     options: &RunOptions<'_>,
     writing: Writing,
     files: &mut F,
     output: &mut W,
 ) -> Result<Done, AnswerFault>
-    ensures comes { RunResult (F.bytes files.old) options.now (Some writing)
+    ensures comes { OwnRunResult (F.bytes files.old) options.now writing
         (W.written output.old) (W.written output.new) result }
     ensures unread { FailsByInput (SourceFails F.R.remaining F.R.failures) (F.bytes files.old)
-        (run_inputs options.now (Some writing)) (F.failures files.old) (F.failures files.new) result }
+        (own_run_inputs options.now) (F.failures files.old) (F.failures files.new) result }
     ensures sink { FailsByOutput result (W.failures output.old) (W.failures output.new) }
 {
     let shop = read_placed(
@@ -131,5 +139,8 @@ pub(crate) fn requested_run<F: Files, W: Sink>(
     let Some(writing) = writing_of(options.recording, options.output, options.inverted) else {
         return Err(AnswerFault::UnknownForm);
     };
-    run_files(alloc, options, writing, files, output)
+    match options.dialect {
+        None => run_own(alloc, options, writing, files, output),
+        Some(control) => run_dialect(alloc, control, options, writing, files, output),
+    }
 }

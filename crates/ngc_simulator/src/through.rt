@@ -3,12 +3,17 @@ ghost use Rattle.ngc_canonical.specs.State.{Setup};
 ghost use Rattle.ngc_machine_model.specs.Headline.{job_of};
 ghost use Rattle.ngc_checker.specs.Accepted.{commands_at};
 ghost use Rattle.ngc_run_through.specs.Runs.{FailsByWriting};
-ghost use Rattle.ngc_simulator.specs.Answers.{RunThroughResult, run_through_inputs, run_through_writing};
+ghost use Rattle.ngc_simulator.specs.Answers.{OwnRunThroughResult, RunThroughResult};
+ghost use Rattle.ngc_simulator.specs.Answers.{own_run_through_inputs, run_through_inputs};
+ghost use Rattle.ngc_simulator.specs.Answers.{run_through_writing};
 ghost use Rattle.ngc_inputs.specs.Faults.{FailsByOutput, OfRunning};
 ghost use Rattle.ngc_inputs.specs.Judging.{IsVerdict};
+ghost use Rattle.ngc_job.specs.Job.{JobData};
+ghost use Rattle.ngc_simulator.specs.DialectRuns.{IsJobVerdict, RunsJobThrough};
 ghost use Rattle.ngc_simulator.specs.Running.{RunsThrough, RecordsThrough};
 ghost use Rattle.ngc_inputs.specs.Unread.{FailsByInput, SourceFails};
 
+use crate::dialect_runs::run_through_dialect;
 use crate::done::Done;
 use crate::writing::{Writing, writing_of};
 use ngc_checker::Accepted;
@@ -60,6 +65,10 @@ pub fn run_program_through<A: Allocator + Copy, W: Sink>(
     ensures runs { (setup : Setup) (bytes text : List ℕ) → IsVerdict setup bytes text verdict →
         RunsThrough writing setup bytes text block_delete (W.written output.old)
         (W.written output.new) result }
+    // For any job and certificate that the verdict is about: the same of these.
+    ensures job { (j : JobData) (text : List ℕ) → IsJobVerdict j text verdict →
+        RunsJobThrough writing j text block_delete (W.written output.old) (W.written output.new)
+        result }
     ensures sink { FailsByOutput result (W.failures output.old) (W.failures output.new) }
     ensures faults { IfErr result OfRunning }
 {
@@ -68,18 +77,19 @@ pub fn run_program_through<A: Allocator + Copy, W: Sink>(
     Ok(report)
 }
 
-// Makes a run to the end, and returns its time. Each file is read before the next one is opened.
-fn run_through_files<F: Files, W: Sink>(
+// Makes a run to the end of a program in our own language, and returns its time. Each file is read
+// before the next one is opened.
+fn run_through_own<F: Files, W: Sink>(
     alloc: Global,
     options: &RunThroughOptions<'_>,
     writing: Writing,
     files: &mut F,
     output: &mut W,
 ) -> Result<Done, AnswerFault>
-    ensures comes { RunThroughResult (F.bytes files.old) options.now (Some writing)
+    ensures comes { OwnRunThroughResult (F.bytes files.old) options.now writing
         (W.written output.old) (W.written output.new) result }
     ensures unread { FailsByInput (SourceFails F.R.remaining F.R.failures) (F.bytes files.old)
-        (run_through_inputs options.now (Some writing)) (F.failures files.old) (F.failures files.new) result }
+        (own_run_through_inputs options.now) (F.failures files.old) (F.failures files.new) result }
     ensures sink { FailsByOutput result (W.failures output.old) (W.failures output.new) }
 {
     let shop = read_placed(
@@ -115,5 +125,8 @@ pub(crate) fn requested_run_through<F: Files, W: Sink>(
     let Some(writing) = writing_of(options.recording, options.output, options.inverted) else {
         return Err(AnswerFault::UnknownForm);
     };
-    run_through_files(alloc, options, writing, files, output)
+    match options.dialect {
+        None => run_through_own(alloc, options, writing, files, output),
+        Some(control) => { run_through_dialect(alloc, control, options, writing, files, output) }
+    }
 }

@@ -8,6 +8,7 @@ returns c = record {
   machine = c.required.ensures;
   tools = c.required-2.ensures;
   program = c.get_str.ensures ∙ first_value-rows (found_of c.args.found.now) (codes "program");
+  dialect = c.get_str-2.ensures ∙ first_value-rows (found_of c.args.found.now) (codes "dialect");
   cuts = c.cuts_of.ensures;
   format = c.format_of.ensures;
   changes = c.requires.changes;

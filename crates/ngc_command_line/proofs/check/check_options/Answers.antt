@@ -9,5 +9,6 @@ returns c = record {
   tools = c.required-2.ensures;
   certificate = c.required-3.ensures;
   program = c.get_str.ensures ∙ first_value-rows (found_of c.args.found.now) (codes "program");
+  dialect = c.get_str-2.ensures ∙ first_value-rows (found_of c.args.found.now) (codes "dialect");
   changes = c.requires.changes;
 }

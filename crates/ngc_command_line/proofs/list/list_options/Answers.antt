@@ -8,6 +8,7 @@ returns c = record {
   program = c.get_str.ensures ∙ first_value-rows (found_of c.args.found.now) (codes "program");
   machine = c.get_str-2.ensures ∙ first_value-rows (found_of c.args.found.now) (codes "machine");
   tools = c.get_str-3.ensures ∙ first_value-rows (found_of c.args.found.now) (codes "tools");
+  dialect = c.get_str-4.ensures ∙ first_value-rows (found_of c.args.found.now) (codes "dialect");
   delete = c.flag_is_set.ensures;
   changes = c.requires;
 }

@@ -14,5 +14,6 @@ returns c = record {
   inverted = c.mask_of.ensures;
   feed_ring = c.flag_is_set-2.ensures;
   aborts = c.flag_is_set-3.ensures;
+  dialect = c.get_str-2.ensures ∙ first_value-rows (found_of c.args.found.now) (codes "dialect");
   changes = c.requires.changes;
 }

@@ -17,6 +17,7 @@ returns-in-Some c = (
     output = c.get_str-output.ensures ∙ first_value-rows (found_of c.args.found.now) (codes "output");
     inverted = c.mask_of-inverted.ensures;
     changes = c.requires.changes;
+    dialect = c.get_str-dialect.ensures ∙ first_value-rows (found_of c.args.found.now) (codes "dialect");
   },
 )
 
@@ -33,5 +34,6 @@ returns-in-None c = (
     output = c.get_str-output.ensures ∙ first_value-rows (found_of c.args.found.now) (codes "output");
     inverted = c.mask_of-inverted.ensures;
     changes = c.requires.changes;
+    dialect = c.get_str-dialect.ensures ∙ first_value-rows (found_of c.args.found.now) (codes "dialect");
   },
 )

@@ -1,5 +1,4 @@
 use Rattle.std.proofs.Common.{sym, ap, ◌∙◌, Ok}
-use Rattle.ngc_canonical.specs.Interpreter.{setup_of}
 use Rattle.ngc_dialect_execution.specs.Views.{progress_in}
 use Rattle.ngc_dialect_execution.proofs.TextSteps.{at_end, ends_there, first_left, goes_on, no_lines_in, none_left, passes, refused_as, refused_there, said_as}
 use Rattle.ngc_dialect_execution.proofs.program.take_lines.Goals as goal

@@ -1,0 +1,5 @@
+pub mod Places
+pub mod Heights
+pub mod Kept
+pub mod Holes
+pub mod Moves

@@ -1,0 +1,176 @@
+-- What a step returns, passed on by the steps after it; and the moves of a canned cycle, one after another.
+use Rattle.std.proofs.Common.{◌≡◌, ℕ, List, [], ◌∷◌, Result, Ok, Err, refl, sym, ◌∙◌, ap, subst}
+use Rattle.std.specs.Prelude.{Option, Some, None}
+use Rattle.ngc_canned_cycles.specs.declared.cycle.CycleMove.{CycleMove}
+use Rattle.ngc_canonical.specs.State.{Setup, State}
+use Rattle.ngc_dialect_parameters.specs.declared.statement.Word.{Word}
+use Rattle.ngc_dialect_drilling.specs.Holes.{cycle_of}
+use Rattle.ngc_dialect_drilling.specs.Moves.{move_lines, stop_lines}
+use Rattle.ngc_dialect_rules.specs.declared.code.Code.{Code}
+use Rattle.ngc_dialect_rules.specs.declared.fault.Fault.{Fault as RuleFault}
+use Rattle.ngc_dialect_rules.specs.declared.front.KeptSeries.{KeptSeries}
+use Rattle.ngc_dialect_rules.specs.declared.plain.Plain.{Plain}
+use Rattle.ngc_dialect_rules.specs.declared.plan.LineCycle.{LineCycle}
+use Rattle.ngc_dialect_rules.specs.declared.plan.LineResult.{LineResult}
+use Rattle.ngc_dialect_rules.specs.Rules.{plain_lines}
+use Rattle.ngc_dialect_execution.specs.declared.fault.Cause.{Cause}
+use Rattle.ngc_dialect_execution.specs.declared.fault.Cause.TheVariants as causes
+use Rattle.ngc_dialect_execution.specs.declared.fault.Refusal.{Refusal}
+use Rattle.ngc_dialect_execution.specs.declared.fault.Refusal.TheVariants.{Because, TooManyNames, Memory}
+use Rattle.ngc_dialect_execution.specs.Executed.{executed, lines_at}
+use Rattle.ngc_dialect_execution.specs.Faults.{◌>>=◌, caused, Says}
+use Rattle.ngc_dialect_execution.specs.Taken.{Between, known_of, with_state, with_series, plain_taken, move_taken, moves_taken, start_taken, cycle_taken, cycle_if, words_taken}
+
+-- a step that always succeeds after another
+pub goes_on : {X Y Z : Type 0} (view : X → Y) (seen : X → Z) (f : Y → Result Z Cause) (r : Result X Refusal) (says : Result Y Cause) →
+    Says view r says → ((x : X) → f (view x) ≡ Ok (seen x)) → Says seen r (says >>= f)
+goes_on view seen f (Ok x) says e rest = ap (λ s. s >>= f) e ∙ rest x
+goes_on view seen f (Err (Because cause)) says e rest = ap (λ s. s >>= f) e
+goes_on view seen f (Err TooManyNames) says e rest = tt
+goes_on view seen f (Err Memory) says e rest = tt
+
+-- a refusal of the first step is one of both
+pub stops : {X Y Z W : Type 0} (view : X → Y) (seen : W → Z) (f : Y → Result Z Cause) (refusal : Refusal) (says : Result Y Cause) →
+    Says view (Err refusal) says → Says seen (Err refusal) (says >>= f)
+stops view seen f (Because cause) says e = ap (λ s. s >>= f) e
+stops view seen f TooManyNames says e = tt
+stops view seen f Memory says e = tt
+
+-- after a first step that succeeded both return what the second returns
+pub follows : {X Y Z : Type 0} (seen : X → Z) (f : Y → Result Z Cause) (r : Result X Refusal) (says : Result Y Cause) (y : Y) →
+    says ≡ Ok y → Says seen r (f y) → Says seen r (says >>= f)
+follows seen f r says y e h = subst (λ s. Says seen r s) (sym (ap (λ s. s >>= f) e)) h
+
+-- ---- plain lines, and moves
+
+pub plain_says : (setup : Setup) (line : ℕ) (ps : List Plain) (b : Between) (s : State) (r : Result (Unit {0}) Refusal) →
+    Says (λ (x : Unit {0}). s) r (caused causes.Plain (executed setup (lines_at line ps) b.state)) →
+    Says (λ (x : Unit {0}). with_state b b.front s) r (plain_taken setup line ps b)
+plain_says setup line ps b s r e =
+    goes_on (λ (x : Unit {0}). s) (λ (x : Unit {0}). with_state b b.front s) (λ t. Ok (with_state b b.front t)) r
+    (caused causes.Plain (executed setup (lines_at line ps) b.state)) e (λ x. refl)
+
+pub moves_next : (setup : Setup) (line : ℕ) (ms rest : List CycleMove) (m : CycleMove) (b c : Between) (whole : Result Between Cause) →
+    ms ≡ m ∷ rest → move_taken setup line m b ≡ Ok c → moves_taken setup line ms b ≡ whole → moves_taken setup line rest c ≡ whole
+moves_next setup line ms rest m b c whole is taken e =
+    sym (ap (λ (r : Result Between Cause). r >>= λ d. moves_taken setup line rest d) taken)
+    ∙ sym (ap (λ (l : List CycleMove). moves_taken setup line l b) is) ∙ e
+
+pub moves_stop : {W : Type 0} (setup : Setup) (line : ℕ) (ms rest : List CycleMove) (m : CycleMove) (b c : Between) (whole : Result Between Cause)
+    (seen : W → Between) (refusal : Refusal) →
+    ms ≡ m ∷ rest → Says (λ (x : Unit {0}). c) (Err refusal) (move_taken setup line m b) → moves_taken setup line ms b ≡ whole
+    → Says seen (Err refusal) whole
+moves_stop setup line ms rest m b c whole seen refusal is says e =
+    subst (λ (r : Result Between Cause). Says seen (Err refusal) r) (sym (ap (λ (l : List CycleMove). moves_taken setup line l b) is) ∙ e)
+    (stops (λ (x : Unit {0}). c) seen (λ d. moves_taken setup line rest d) refusal (move_taken setup line m b) says)
+
+pub moves_end : (setup : Setup) (line : ℕ) (ms : List CycleMove) (b : Between) (whole : Result Between Cause) →
+    ms ≡ [] → moves_taken setup line ms b ≡ whole → whole ≡ Ok b
+moves_end setup line ms b whole is e = sym e ∙ ap (λ (l : List CycleMove). moves_taken setup line l b) is
+
+pub move_refused : (setup : Setup) (line : ℕ) (m : CycleMove) (b : Between) (fault : RuleFault) →
+    move_lines (known_of b) m ≡ Err fault → move_taken setup line m b ≡ Err (causes.Rule fault)
+move_refused setup line m b fault e =
+    ap (λ (r : Result (List Plain) RuleFault). caused causes.Rule r >>= λ ps. plain_taken setup line ps b) e
+
+pub move_written : (setup : Setup) (line : ℕ) (m : CycleMove) (b c : Between) (ps : List Plain) (r : Result (Unit {0}) Refusal) →
+    move_lines (known_of b) m ≡ Ok ps → Says (λ (x : Unit {0}). c) r (plain_taken setup line ps b)
+    → Says (λ (x : Unit {0}). c) r (move_taken setup line m b)
+move_written setup line m b c ps r e says =
+    follows (λ (x : Unit {0}). c) (λ qs. plain_taken setup line qs b) r (caused causes.Rule (move_lines (known_of b) m)) ps
+    (ap (λ (q : Result (List Plain) RuleFault). caused causes.Rule q) e) says
+
+-- ---- a cycle
+
+pub start_stops : (setup : Setup) (line : ℕ) (stop : Option Code) (kept : KeptSeries) (moves : List CycleMove) (b c d : Between) (refusal : Refusal) →
+    Says (λ (x : Unit {0}). c) (Err refusal) (moves_taken setup line moves (with_series kept b))
+    → Says (λ (x : Unit {0}). d) (Err refusal) (start_taken setup line stop kept moves b)
+unfolding start_taken
+start_stops setup line stop kept moves b c d refusal says =
+    stops (λ (x : Unit {0}). c) (λ (x : Unit {0}). d) (λ e. plain_taken setup line (stop_lines stop) e) refusal
+    (moves_taken setup line moves (with_series kept b)) says
+
+pub start_follows : (setup : Setup) (line : ℕ) (stop : Option Code) (kept : KeptSeries) (moves : List CycleMove) (b c d : Between)
+    (r : Result (Unit {0}) Refusal) →
+    moves_taken setup line moves (with_series kept b) ≡ Ok c → Says (λ (x : Unit {0}). d) r (plain_taken setup line (stop_lines stop) c)
+    → Says (λ (x : Unit {0}). d) r (start_taken setup line stop kept moves b)
+unfolding start_taken
+start_follows setup line stop kept moves b c d r e says =
+    follows (λ (x : Unit {0}). d) (λ f. plain_taken setup line (stop_lines stop) f) r (moves_taken setup line moves (with_series kept b)) c e says
+
+pub start_written : (setup : Setup) (line : ℕ) (stop : Option Code) (kept : KeptSeries) (moves : List CycleMove) (b c d : Between) (ps : List Plain)
+    (r : Result (Unit {0}) Refusal) →
+    moves_taken setup line moves (with_series kept b) ≡ Ok c → ps ≡ stop_lines stop → Says (λ (x : Unit {0}). d) r (plain_taken setup line ps c)
+    → Says (λ (x : Unit {0}). d) r (start_taken setup line stop kept moves b)
+start_written setup line stop kept moves b c d ps r e is says =
+    start_follows setup line stop kept moves b c d r e
+    (subst (λ (qs : List Plain). Says (λ (x : Unit {0}). d) r (plain_taken setup line qs c)) is says)
+
+pub cycle_refused : (setup : Setup) (line : ℕ) (words : List Word) (cycle : LineCycle) (b : Between) (fault : RuleFault) →
+    cycle_of (known_of b) cycle.code words ≡ Err fault → cycle_taken setup line words cycle b ≡ Err (causes.Rule fault)
+cycle_refused setup line words cycle b fault e =
+    ap (λ (r : Result (KeptSeries × List CycleMove) RuleFault). caused causes.Rule r >>= λ start. start_taken setup line cycle.stop start.0 start.1 b) e
+
+pub cycle_starts : (setup : Setup) (line : ℕ) (words : List Word) (cycle : LineCycle) (b d : Between) (start : KeptSeries × List CycleMove)
+    (r : Result (Unit {0}) Refusal) →
+    cycle_of (known_of b) cycle.code words ≡ Ok start → Says (λ (x : Unit {0}). d) r (start_taken setup line cycle.stop start.0 start.1 b)
+    → Says (λ (x : Unit {0}). d) r (cycle_taken setup line words cycle b)
+cycle_starts setup line words cycle b d start r e says =
+    follows (λ (x : Unit {0}). d) (λ s. start_taken setup line cycle.stop s.0 s.1 b) r (caused causes.Rule (cycle_of (known_of b) cycle.code words)) start
+    (ap (λ (q : Result (KeptSeries × List CycleMove) RuleFault). caused causes.Rule q) e) says
+
+-- ---- the words of a line
+
+-- the plain lines, and then the cycle
+abbrev then_cycle : Setup → ℕ → List Word → Between → LineResult × List Plain → Result Between Cause
+then_cycle setup line words b made =
+    caused causes.Plain (executed setup (lines_at line made.1) b.state) >>= λ s. cycle_if setup line words made.0.cycle (with_state b made.0.front s)
+
+pub words_refused : (setup : Setup) (line : ℕ) (words : List Word) (b : Between) (fault : RuleFault) →
+    plain_lines (known_of b) words ≡ Err fault → words_taken setup line words b ≡ Err (causes.Rule fault)
+unfolding words_taken
+words_refused setup line words b fault e =
+    ap (λ (r : Result (LineResult × List Plain) RuleFault). caused causes.Rule r >>= λ made. then_cycle setup line words b made) e
+
+words_made : (setup : Setup) (line : ℕ) (words : List Word) (b : Between) (made : LineResult × List Plain) →
+    plain_lines (known_of b) words ≡ Ok made → words_taken setup line words b ≡ then_cycle setup line words b made
+unfolding words_taken
+words_made setup line words b made e =
+    ap (λ (r : Result (LineResult × List Plain) RuleFault). caused causes.Rule r >>= λ m. then_cycle setup line words b m) e
+
+pub words_stop : (setup : Setup) (line : ℕ) (words : List Word) (b d : Between) (s : State) (made : LineResult × List Plain) (refusal : Refusal) →
+    plain_lines (known_of b) words ≡ Ok made
+    → Says (λ (x : Unit {0}). s) (Err refusal) (caused causes.Plain (executed setup (lines_at line made.1) b.state))
+    → Says (λ (x : Unit {0}). d) (Err refusal) (words_taken setup line words b)
+words_stop setup line words b d s made refusal e says =
+    subst (λ (r : Result Between Cause). Says (λ (x : Unit {0}). d) (Err refusal) r) (sym (words_made setup line words b made e))
+    (stops (λ (x : Unit {0}). s) (λ (x : Unit {0}). d) (λ t. cycle_if setup line words made.0.cycle (with_state b made.0.front t)) refusal
+    (caused causes.Plain (executed setup (lines_at line made.1) b.state)) says)
+
+pub words_follow : (setup : Setup) (line : ℕ) (words : List Word) (b d : Between) (s : State) (made : LineResult × List Plain)
+    (r : Result (Unit {0}) Refusal) →
+    plain_lines (known_of b) words ≡ Ok made → caused causes.Plain (executed setup (lines_at line made.1) b.state) ≡ Ok s
+    → Says (λ (x : Unit {0}). d) r (cycle_if setup line words made.0.cycle (with_state b made.0.front s))
+    → Says (λ (x : Unit {0}). d) r (words_taken setup line words b)
+words_follow setup line words b d s made r e ok says =
+    subst (λ (q : Result Between Cause). Says (λ (x : Unit {0}). d) r q) (sym (words_made setup line words b made e))
+    (follows (λ (x : Unit {0}). d) (λ t. cycle_if setup line words made.0.cycle (with_state b made.0.front t)) r
+    (caused causes.Plain (executed setup (lines_at line made.1) b.state)) s ok says)
+
+-- without a cycle the plain lines are all
+pub words_end : (setup : Setup) (line : ℕ) (words : List Word) (b : Between) (s : State) (made : LineResult × List Plain) →
+    plain_lines (known_of b) words ≡ Ok made → caused causes.Plain (executed setup (lines_at line made.1) b.state) ≡ Ok s → made.0.cycle ≡ None
+    → words_taken setup line words b ≡ Ok (with_state b made.0.front s)
+words_end setup line words b s made e ok none =
+    words_made setup line words b made e
+    ∙ ap (λ (r : Result State Cause). r >>= λ t. cycle_if setup line words made.0.cycle (with_state b made.0.front t)) ok
+    ∙ ap (λ (o : Option LineCycle). cycle_if setup line words o (with_state b made.0.front s)) none
+
+pub words_go_on : (setup : Setup) (line : ℕ) (words : List Word) (b d : Between) (s : State) (made : LineResult × List Plain) (cycle : LineCycle)
+    (r : Result (Unit {0}) Refusal) →
+    plain_lines (known_of b) words ≡ Ok made → caused causes.Plain (executed setup (lines_at line made.1) b.state) ≡ Ok s → made.0.cycle ≡ Some cycle
+    → Says (λ (x : Unit {0}). d) r (cycle_taken setup line words cycle (with_state b made.0.front s))
+    → Says (λ (x : Unit {0}). d) r (words_taken setup line words b)
+words_go_on setup line words b d s made cycle r e ok is says =
+    words_follow setup line words b d s made r e ok
+    (subst (λ (o : Option LineCycle). Says (λ (x : Unit {0}). d) r (cycle_if setup line words o (with_state b made.0.front s))) (sym is) says)

@@ -1,0 +1,4 @@
+pub mod Lines
+pub mod Plain
+pub mod Rules
+pub mod Values

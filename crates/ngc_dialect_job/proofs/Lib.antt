@@ -1,0 +1,2 @@
+-- What is accepted of a program for another control runs safely.
+pub mod Headline

@@ -1,0 +1,82 @@
+//! Faults of programs for other controls.
+
+ghost use Rattle.std.specs.Prelude.{◌≡◌, map};
+ghost use Rattle.ngc_fault_texts.specs.Numbers.{dialect_numbers};
+
+use crate::parts::Row;
+
+// Returns the rows of "Programs for other controls".
+pub(crate) fn dialects() -> &'static [Row]
+    ensures { map (λ row. row.number) result.now ≡ dialect_numbers }
+{
+    const ROWS: &[Row] = &[
+        Row {
+            number: 123,
+            rule: "The control's language doesn't have this: correct the line from this column on, or name another\n\
+             control. The column is that of the first byte that can't be read (our own).",
+            example: "command with `--dialect linuxcnc`: `G0 X1 (a`",
+            answer: "`ngc: fault 123 line 1 column 7: comment not closed`",
+            place: None,
+            mend: "LinuxCNC and Mach3 have expressions, Fanuc has macros, GRBL has numbers alone. Names such as\n\
+             `#<depth>` are LinuxCNC's.",
+        },
+        Row {
+            number: 134,
+            rule: "This parameter has no value here: set it before, or write the number in its place.\n\
+             It isn't set, or only the control sets it or knows it (our own).",
+            example: "command with `--dialect linuxcnc`: `G0 X#<depth>`",
+            answer: "`ngc: fault 134 line 1: parameter is not set, or only the control knows it`",
+            place: None,
+            mend: "Names belong to one call unless they begin with `_`. Positions such as `#5420` are known to the\n\
+             control alone.",
+        },
+        Row {
+            number: 135,
+            rule: "This expression has no value: correct it.\n\
+             It divides by zero, takes the root of a number below zero, or is over 1,000,000,000 in size (our\n\
+             own).",
+            example: "command with `--dialect linuxcnc`: `G0 X[1/0]`",
+            answer: "`ngc: fault 135 line 1: division by zero`",
+            place: None,
+            mend: "Angles are in degrees.",
+        },
+        Row {
+            number: 139,
+            rule: "The program sets over 10,000 names: use fewer (our own).",
+            example: "command with `--dialect linuxcnc`: 10,001 lines `#<_a1>=1`, `#<_a2>=1`, ..",
+            answer: "`ngc: fault 139 line 10001: over 10,000 names`",
+            place: None,
+            mend: "Numbered parameters aren't counted.",
+        },
+        Row {
+            number: 205,
+            rule: "`ngc` doesn't execute this code, word or statement of the control: post without it (our own).",
+            example: "command with `--dialect linuxcnc`: `G0 A5`",
+            answer: "`ngc: fault 205 line 1: rotary and secondary axes, except at 0: not supported, at A`",
+            place: None,
+            mend: "Most CAM systems have settings for subprograms, compensation and the number of axes. Tap and\n\
+             probe by hand.",
+        },
+        Row {
+            number: 211,
+            rule: "The control doesn't allow these words together, or a word is missing: correct the line.\n\
+             The message names the word (our own).",
+            example: "command with `--dialect linuxcnc`: `G0 X1 P1`",
+            answer: "`ngc: fault 211 line 1: nothing uses the word, at P`",
+            place: None,
+            mend: "Mach3 and Fanuc leave out words that nothing uses.",
+        },
+        Row {
+            number: 248,
+            rule: "The start and the end of this arc aren't equally far from its centre: correct its end or its\n\
+             centre. The radii may differ as the control allows, and by what a centre within 0.025 mm evens\n\
+             out (our own).",
+            example: "command with `--dialect linuxcnc`: `G91 G2 X10 I4 F100`",
+            answer: "`ngc: fault 248 line 1: the radii differ by more than can be evened out, at G2`",
+            place: None,
+            mend: "If the program is right, its centres may be points: look for `G90.1` in the manual of the\n\
+             CAM system.",
+        },
+    ];
+    ROWS
+}

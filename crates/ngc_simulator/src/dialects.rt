@@ -1,0 +1,101 @@
+//! Programs for other controls that are executed in their own language: their files, and why they are
+//! refused.
+ghost use Rattle.std.specs.Prelude.{◌≡◌, false, IfErr, IfOk, IsSome, option_map};
+ghost use Rattle.ngc_dialect_faults.specs.Lines.{fault_line};
+ghost use Rattle.ngc_simulator.specs.Answers.{dialect_inputs};
+ghost use Rattle.ngc_simulator.specs.Dialects.{IsSent, StopsSending, named_dialect};
+ghost use Rattle.ngc_inputs.specs.Setups.{KeepsFiles, KeepsNamed};
+ghost use Rattle.ngc_inputs.specs.Unread.{FailsByInput, SourceFails};
+
+use crate::adapting::source_bytes;
+use crate::done::Notes;
+use ngc_certificate_text::Setting;
+use ngc_dialect_execution::Cause;
+use ngc_dialect_faults::write_dialect_fault;
+use ngc_dialect_reader::Dialect;
+use ngc_inputs::{AnswerFault, Files, Shop, read_placed};
+use ngc_margins::Changes;
+use ngc_text::Device;
+use std::alloc::Global;
+
+/// The names of a control and of the files for it.
+#[derive(Clone, Copy)]
+pub(crate) struct DialectFiles<'a> {
+    pub(crate) control: &'a str,
+    pub(crate) machine: Option<&'a str>,
+    pub(crate) tools: Option<&'a str>,
+    /// What replaces keys of the machine file.
+    pub(crate) changes: Changes,
+    pub(crate) program: Option<&'a str>,
+}
+
+/// The text of a program for another control, with the machine and its tools.
+#[derive(Drop)]
+pub(crate) struct Sent {
+    pub(crate) dialect: Dialect,
+    pub(crate) shop: Shop,
+    pub(crate) text: Vec<u8, Global>,
+}
+
+// Returns the dialect of a control.
+fn dialect_named(name: &str) -> Option<Dialect>
+    ensures { result ≡ named_dialect name.now }
+{
+    match name {
+        "linuxcnc" => Some(Dialect::LinuxCnc),
+        "grbl" => Some(Dialect::Grbl),
+        "mach3" => Some(Dialect::Mach3),
+        "fanuc" => Some(Dialect::Fanuc),
+        _ => None,
+    }
+}
+
+/// Reads the files for a control: 724 if it isn't known. The machine file is read first, and then
+/// the tool table and the program.
+pub(crate) fn read_sent<F: Files>(
+    alloc: Global,
+    names: &DialectFiles<'_>,
+    files: &mut F,
+) -> Result<Sent, AnswerFault>
+    ensures sent { IfOk result (IsSent names.now (F.bytes files.old)) }
+    ensures stops { IfErr result (StopsSending names.now (F.bytes files.old)) }
+    ensures keeps { IsSome names.now.program → KeepsFiles (F.bytes files.old) (F.bytes files.new) }
+    ensures named { KeepsNamed (F.bytes files.old) (F.bytes files.new) }
+    ensures unread { FailsByInput (SourceFails F.R.remaining F.R.failures) (F.bytes files.old)
+        (dialect_inputs (option_map (λ n. n.now) names.now.machine)
+        (option_map (λ n. n.now) names.now.tools) (option_map (λ n. n.now) names.now.program))
+        (F.failures files.old) (F.failures files.new) result }
+{
+    let Some(dialect) = dialect_named(names.control) else {
+        return Err(AnswerFault::UnknownControl);
+    };
+    let shop = read_placed(alloc, names.machine, names.tools, &names.changes, files)?;
+    let text = source_bytes(alloc, names.program, files)?;
+    Ok(Sent {
+        dialect,
+        shop,
+        text,
+    })
+}
+
+/// Returns the notes on a program that is refused, at a setting of block delete where a command needs
+/// both.
+pub(crate) fn refused(
+    alloc: Global,
+    setting: Option<Setting>,
+    line: u32,
+    cause: &Cause,
+) -> Result<Notes, AnswerFault>
+    ensures notes { IfOk result (λ notes. (notes.is_written ≡ false)
+        × (notes.text.items ≡ fault_line setting line cause.now)) }
+    ensures fault { IfErr result (λ e. e ≡ AnswerFault.Memory) }
+{
+    let mut text = Device::new(Vec::new(alloc));
+    match write_dialect_fault(setting, line, cause, &mut text) {
+        Ok(()) => Ok(Notes {
+            text: text.into_inner(),
+            is_written: false,
+        }),
+        Err(_) => Err(AnswerFault::Memory),
+    }
+}
