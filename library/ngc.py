@@ -72,11 +72,11 @@ def _words(options):
 
 def command(words, **files):
     """Executes a command by the words of its command line, as ["report", "--margin=2"]. The files are program, machine, tools and
-    certificate; the words that name them are added."""
+    certificate; the words that name them are put behind the command's name."""
     given = {name: _bytes(file) for name, file in files.items()}
     if not given.keys() <= set(FILES):
         raise TypeError(f"the files are {', '.join(FILES)}")
-    line = [*words, *(f"--{name}={name}" for name in FILES if name in given)]
+    line = [*words[:1], *(f"--{name}={name}" for name in FILES if name in given), *words[1:]]
     if any("\n" in word for word in line):
         raise ValueError("a word has no line feed")
     return _call("ngc_command", ["\n".join(line).encode(), *(given.get(name, b"") for name in FILES)])
