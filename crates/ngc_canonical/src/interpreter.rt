@@ -143,6 +143,13 @@ impl<A: Allocator> Interpreter<A> {
         self.go(Way::Line { start, end: *end }, Pace::Rapid)
     }
 
+    /// Returns the commands that were executed so far, in order.
+    pub fn commands(&self) -> &[Command]
+        ensures { result.now ≡ (state_of self.now).commands }
+    {
+        self.commands.as_slice()
+    }
+
     /// Returns the commands that were executed so far.
     pub fn into_commands(self) -> Vec<Command, A>
         ensures { result.items ≡ (state_of self).commands }
