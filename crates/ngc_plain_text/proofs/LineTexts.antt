@@ -138,7 +138,7 @@ are_items (w ∷ words) h = (numeral_is w.1 h.0, are_items words h.1)
 pub line_reads : (words : List (Letter × ℤ)) → AreValues words → Reads (line_text words) (reading_of words)
 line_reads words h = ((tt, are_items words h), append-nil (items_text (items_of words)) ∙ sym (text_of_line words h))
 
-within_limit : (words : List (Letter × ℤ)) → AreValues words → AllWithinLimit (items_of words)
+pub within_limit : (words : List (Letter × ℤ)) → AreValues words → AllWithinLimit (items_of words)
 within_limit [] h = tt
 within_limit (w ∷ words) h = (subst IsValue (sym (numeral_value_is w.1 h.0)) h.0, within_limit words h.1)
 
