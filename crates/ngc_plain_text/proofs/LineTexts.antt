@@ -1,15 +1,14 @@
 -- The text of words is a line that our own language reads as these words.
-use Rattle.std.proofs.Common.{◌≡◌, ◌≢◌, ℕ, zero, suc, ◌+◌, ◌<◌, ◌≤◌, ℤ, pos, negsuc, ap, subst, Bool, true, false, Option, Some, None, List, [], ◌∷◌, ◌++◌}
-use Rattle.std.proofs.Common.{length, map, Result, Ok, Err, refl, sym, ◌∙◌, arith, append_assoc}
+use Rattle.std.proofs.Common.{◌≡◌, ◌≢◌, ℕ, ◌≤◌, ℤ, pos, negsuc, ap, subst, Bool, true, false, Option, Some, None, List, [], ◌∷◌, ◌++◌}
+use Rattle.std.proofs.Common.{length, map, Result, Ok, Err, refl, sym, ◌∙◌, arith}
 use Rattle.std.proofs.lemmas.List.{append-nil}
 use Rattle.std.proofs.lemmas.Bool.{and_parts, leb-true, le-leb}
 use Rattle.std.proofs.lemmas.Bool.Decides.{nat_tests}
-use Rattle.std.specs.Prelude.{◌==◌, ◌&&◌, ◌||◌, nat_le, is_ok, IsOk, if◌then◌else◌, decimal, unsigned_abs}
+use Rattle.std.specs.Prelude.{◌==◌, nat_le, is_ok}
 use Rattle.std.specs.Char.{is_ascii_digit}
-use Rattle.std.specs.List.{AllByRecursion, join_with_byte}
+use Rattle.std.specs.List.{AllByRecursion}
 use Rattle.std.specs.Option.{option_to_list, option_map}
 use Rattle.ngc_fixed_length.specs.Limits.{IsValue}
-use Rattle.ngc_text.specs.Millimetres.{length_text}
 use Rattle.ngc_line_reader.specs.declared.letter.Letter.{Letter}
 use Rattle.ngc_line_reader.specs.declared.letter.Letter.TheVariants as letters
 use Rattle.ngc_line_reader.specs.declared.line.Line.{Line}
@@ -17,8 +16,8 @@ use Rattle.ngc_line_reader.specs.declared.fault.LineFault.{LineFault}
 use Rattle.ngc_line_reader.specs.declared.text.Place.TheVariants.{Outside}
 use Rattle.ngc_line_reader.specs.Letter.{letter_byte}
 use Rattle.ngc_line_reader.specs.Text.{text, text_from, kept, place_after, columns, place_in}
-use Rattle.ngc_line_reader.specs.Grammar.{Sign, bare, plus, minus, Numeral, number, Item, word, Reading, Reads, IsReading, IsItem, IsDigits, digits_of, IsNumeral}
-use Rattle.ngc_line_reader.specs.Grammar.{numeral_text, sign_text, optional_part, item_text, items_text, spelling}
+use Rattle.ngc_line_reader.specs.Grammar.{Sign, bare, plus, minus, number, Item, word, Reading, Reads, IsItem, IsDigits, digits_of}
+use Rattle.ngc_line_reader.specs.Grammar.{sign_text, optional_part, item_text, items_text}
 use Rattle.ngc_line_reader.specs.Numbers.{numeral_value}
 use Rattle.ngc_line_reader.specs.Held.{AllWithinLimit, word_count, WithinLimits}
 use Rattle.ngc_line_reader.specs.ScanLine.{ParsedLine, text_at}
@@ -27,7 +26,7 @@ use Rattle.ngc_line_reader.specs.Words.{number_words}
 use Rattle.ngc_line_reader.proofs.ReadLines.{finds_reading}
 use Rattle.ngc_plain_text.specs.Text.{word_text, line_text}
 use Rattle.ngc_plain_text.specs.Limits.{AreValues, is_short}
-use Rattle.ngc_plain_text.specs.Laws.{IsLineOf, WordsReadBack, LinesReadBack}
+use Rattle.ngc_plain_text.specs.Laws.{WordsReadBack, LinesReadBack}
 use Rattle.ngc_plain_text.proofs.Numerals.{numeral_of, numeral_is_text, numeral_is, numeral_value_is, value_short}
 
 -- ---- the bytes of words
@@ -116,9 +115,11 @@ pub word_is_bytes : (w : Letter × ℤ) → IsValue w.1 → AreWordBytes (word_t
 word_is_bytes w h =
     let n = numeral_of w.1 in
     let is = numeral_is w.1 h in
-    subst AreWordBytes (item_is_text w)
-    (letter_is_byte w.0, bytes_joined (sign_text n.sign) (n.whole ++ optional_part 46 n.decimals) (sign_is_bytes n.sign (not_plus w.1))
-    (bytes_joined n.whole (optional_part 46 n.decimals) (digits_are_bytes n.whole is.0) (decimals_are_bytes n.decimals is.1)))
+    subst AreWordBytes (item_is_text w) (
+      letter_is_byte w.0,
+      bytes_joined (sign_text n.sign) (n.whole ++ optional_part 46 n.decimals) (sign_is_bytes n.sign (not_plus w.1))
+          (bytes_joined n.whole (optional_part 46 n.decimals) (digits_are_bytes n.whole is.0) (decimals_are_bytes n.decimals is.1)),
+    )
 
 -- the text without the blanks
 pub text_of_line : (words : List (Letter × ℤ)) → AreValues words → text (line_text words) ≡ items_text (items_of words)

@@ -1,7 +1,7 @@
 -- The numeral that is written for a value has this value.
-use Rattle.std.proofs.Common.{◌≡◌, ℕ, zero, suc, ◌+◌, ◌-◌, ◌*◌, ◌/◌, ◌%◌, ◌^◌, ◌<◌, ◌≤◌, ℤ, pos, negsuc, ap, subst, Bool, true, false, Option, Some, None}
-use Rattle.std.proofs.Common.{List, [], ◌∷◌, ◌++◌, length, take, refl, sym, ◌∙◌, arith, append_assoc}
-use Rattle.std.specs.Prelude.{decimal, unsigned_abs, ◌==◌, nat_le, ◌&&◌, if◌then◌else◌}
+use Rattle.std.proofs.Common.{◌≡◌, ℕ, zero, suc, ◌+◌, ◌-◌, ◌*◌, ◌/◌, ◌%◌, ◌^◌, ◌<◌, ◌≤◌, ℤ, pos, negsuc, ap, Bool, true, false, Option, Some, None}
+use Rattle.std.proofs.Common.{List, [], ◌∷◌, ◌++◌, length, take, refl, ◌∙◌, arith}
+use Rattle.std.specs.Prelude.{decimal, unsigned_abs, ◌==◌, if◌then◌else◌}
 use Rattle.std.specs.Char.{is_ascii_digit}
 use Rattle.std.specs.List.{fold}
 use Rattle.std.proofs.lemmas.Bool.Decides.{nat_tests}
@@ -11,8 +11,7 @@ use Rattle.std.proofs.lemmas.Str.Parse.{IsNumeralModel, IsDigitsTest, FoldsDigit
 use Rattle.ngc_fixed_length.specs.Limits.{MILLION, VALUE_LIMIT, IsValue}
 use Rattle.ngc_fixed_length.specs.Rounding.{nearest_size}
 use Rattle.ngc_text.specs.Millimetres.{decimals, kept, number_text, size_text, length_text}
-use Rattle.ngc_text.specs.Millimetres.{sign_text as minus_text}
-use Rattle.ngc_line_reader.specs.Grammar.{Sign, bare, minus, Numeral, numeral_text, sign_text, optional_part, IsDigits, digits_of, IsNumeral}
+use Rattle.ngc_line_reader.specs.Grammar.{Sign, bare, minus, Numeral, numeral_text, optional_part, IsDigits, digits_of, IsNumeral}
 use Rattle.ngc_line_reader.specs.Numbers.{digits_value, signed, is_negative, numeral_value}
 use Rattle.ngc_line_reader.proofs.Rounded.{digits_value-append, nearest-whole, nearest-short}
 

@@ -1,26 +1,25 @@
 -- The text of lines is a text with these lines.
-use Rattle.std.proofs.Common.{◌≡◌, ◌≢◌, ℕ, zero, suc, ◌+◌, ◌<◌, ◌≤◌, ℤ, ap, Bool, true, false, Option, Some, None, List, [], ◌∷◌, ◌++◌, length, map}
-use Rattle.std.proofs.Common.{Result, Ok, Err, refl, sym, ◌∙◌, arith, append_assoc}
+use Rattle.std.proofs.Common.{◌≡◌, ℕ, suc, ◌+◌, ◌≤◌, ℤ, ap, Bool, true, false, None, List, [], ◌∷◌, length, map}
+use Rattle.std.proofs.Common.{Result, Ok, Err, refl, ◌∙◌, arith}
 use Rattle.std.proofs.lemmas.List.Sums.{take_while-cons}
 use Rattle.std.proofs.lemmas.Bool.{and_parts, leb-true, lt-leb}
 use Rattle.std.proofs.lemmas.Bool.Decides.{nat_tests}
 use Rattle.std.specs.Prelude.{◌==◌, ◌&&◌, nat_le, is_ok, not, take_while, if◌then◌else◌}
-use Rattle.std.specs.List.{AllByRecursion, list_all, list_any}
+use Rattle.std.specs.List.{AllByRecursion, list_all}
 use Rattle.ngc_line_reader.specs.declared.fault.LineFault.{LineFault}
 use Rattle.ngc_line_reader.specs.declared.letter.Letter.{Letter}
 use Rattle.ngc_line_reader.specs.Letter.{letter_byte}
 use Rattle.ngc_line_reader.specs.Text.{text}
 use Rattle.ngc_line_reader.specs.Grammar.{items_text}
 use Rattle.ngc_line_reader.specs.Load.{HasNoLineFeed}
-use Rattle.ngc_line_reader.specs.Program.{Line, split_lines, numbered, lines_of, is_blank_text, is_percent_text, is_percent_line, is_blank_line, is_marked, without_mark, read_lines, lacks_end}
-use Rattle.ngc_line_reader.specs.ProgramText.{Outcome, refusal_in, fault_of, first_fault, fault_or, text_of_lines, program_of}
+use Rattle.ngc_line_reader.specs.Program.{Line, split_lines, numbered, is_percent_text, is_percent_line, is_blank_line, is_marked, without_mark, read_lines}
+use Rattle.ngc_line_reader.specs.ProgramText.{refusal_in, fault_of, first_fault, fault_or, text_of_lines}
 use Rattle.ngc_line_reader.specs.ReadLine.{line_read}
 use Rattle.ngc_line_reader.specs.ScanLine.{ParsedLine}
-use Rattle.ngc_line_reader.specs.declared.program.fault.ReadFault.{ReadFault}
 use Rattle.ngc_line_reader.proofs.Feeds.{split_parts, feedless_both}
 use Rattle.ngc_line_reader.proofs.LetterLemmas.{letter_bounds}
 use Rattle.ngc_plain_text.specs.Text.{word_text, line_text, program_text}
-use Rattle.ngc_plain_text.specs.Limits.{AreValues, is_short, are_few}
+use Rattle.ngc_plain_text.specs.Limits.{AreValues, is_short}
 use Rattle.ngc_plain_text.specs.Laws.{TextsReadBack}
 use Rattle.ngc_plain_text.proofs.LineTexts.{AreWordBytes, word_is_bytes, items_of, text_of_line, line_reads_back}
 

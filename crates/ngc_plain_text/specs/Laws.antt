@@ -1,6 +1,6 @@
 -- How our own language reads the text of plain lines. No text has two readings, by a law of
 -- ngc_line_reader.
-use Rattle.std.specs.Prelude.{◌≡◌, ℕ, ℤ, List, [], ◌∷◌, map, Some, Ok, is_ok, Bool, true, false}
+use Rattle.std.specs.Prelude.{◌≡◌, ℕ, ℤ, List, [], ◌∷◌, map, Some, Ok, is_ok, true, false}
 use Rattle.std.specs.List.{AllByRecursion}
 use Rattle.ngc_fixed_length.specs.Limits.{IsValue}
 use Rattle.ngc_line_reader.specs.declared.letter.Letter.{Letter}

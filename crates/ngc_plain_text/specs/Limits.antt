@@ -1,5 +1,5 @@
 -- The limits of a text that our own language reads.
-use Rattle.std.specs.Prelude.{ℕ, ℤ, ◌&&◌, nat_le, Bool, List, length}
+use Rattle.std.specs.Prelude.{ℤ, ◌&&◌, nat_le, Bool, List, length}
 use Rattle.std.specs.List.{AllByRecursion, list_all}
 use Rattle.ngc_fixed_length.specs.Limits.{IsValue}
 use Rattle.ngc_line_reader.specs.declared.letter.Letter.{Letter}
