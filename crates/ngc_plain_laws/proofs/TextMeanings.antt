@@ -24,7 +24,7 @@ use Rattle.ngc_plain_text.specs.Text.{line_text, program_text}
 use Rattle.ngc_plain_text.specs.Limits.{AreValues, is_short, are_few}
 use Rattle.ngc_plain_text.proofs.LineTexts.{reading_of, items_of, line_reads, line_says, within_limit, line_reads_back}
 use Rattle.ngc_plain_text.proofs.ProgramTexts.{texts_read_back}
-use Rattle.ngc_plain_laws.specs.Executed.{PlainLine, execute_plain, executed}
+use Rattle.ngc_dialect_execution.specs.Executed.{PlainLine, execute_plain, executed}
 use Rattle.ngc_plain_laws.specs.Laws.{LinesDoWords, Means, words_in, text_of, IsPrintable, in_text, HasCommands, TextsHaveCommands, TextsLackEnd, HasFault, TextsHaveFaults}
 use Rattle.ngc_plain_laws.proofs.LineNumbers.{bare, bared, same_actions, words_same}
 

@@ -16,7 +16,7 @@ use Rattle.ngc_canonical.specs.Meaning.{after_line, at_line, execute_words, mean
 use Rattle.ngc_canonical.specs.State.{Setup, State, start_state}
 use Rattle.ngc_plain_text.specs.Text.{line_text, program_text}
 use Rattle.ngc_plain_text.specs.Limits.{AreValues, are_few}
-use Rattle.ngc_plain_laws.specs.Executed.{PlainLine, execute_plain, executed}
+use Rattle.ngc_dialect_execution.specs.Executed.{PlainLine, execute_plain, executed}
 
 -- A line that is the text of words does what the words do, with the line's number. Block delete
 -- doesn't take it out.

@@ -1,5 +1,5 @@
--- The text of plain lines: the words of each line in order, every value as the shortest decimal
--- number. Our own.
+-- The text of plain lines: the words of each line in order, every value as a decimal number without
+-- zeros at its end. Our own.
 use Rattle.std.specs.Prelude.{ℕ, ℤ, List, [], ◌∷◌, ◌++◌, map}
 use Rattle.std.specs.List.{join_with_byte}
 use Rattle.ngc_line_reader.specs.declared.letter.Letter.{Letter}
